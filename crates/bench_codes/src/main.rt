@@ -1,0 +1,164 @@
+//! Encodes and decodes blocks of 128 bytes, and tells whether the answers agree with what was done to them.
+//! With a number of rounds as its argument it times the work.
+#![tactic(auto)]
+
+ghost use Rattle.std.specs.Prelude.{◌≡◌, ◌≤◌, length};
+
+use arrayvec::ArrayVec;
+use rs_encode::Parity;
+use rs_errors::{Decoded, Fix, decode, decode_with};
+use std::rt::Clock;
+use std::time::Instant;
+use std::{env, io};
+
+/// 11, 48, 85 and so on, each 37 more than the last.
+fn ramp() -> [u8; 128] {
+    let mut block = [0u8; 128];
+    let mut next = 11u8;
+    for byte in block.iter_mut() {
+        *byte = next;
+        next = next.wrapping_add(37);
+    }
+    block
+}
+
+/// Damages the first byte, the third and so on.
+fn damage(block: &mut [u8], errors: usize)
+    requires few { errors ≤ 63 }
+    requires len { length block.old ≡ 128 }
+{
+    for i in 0..errors {
+        block[2 * i] ^= 1 + i as u8;
+    }
+}
+
+/// The sum of the first parity bytes of many blocks.
+fn encode_many(coder: &Parity, r: usize, rounds: u32) -> u8
+    requires coder { coder.now ≡ r }
+    requires some { 1 ≤ r }
+    requires few { r ≤ 127 }
+{
+    let mut block = ramp();
+    let mut parity = [0u8; 127];
+    let mut sum = 0u8;
+    for i in 0..rounds {
+        block[(i % 128) as usize] = (i % 251) as u8;
+        coder.parity(&block, &mut parity[..r]);
+        sum ^= parity[0];
+    }
+    sum
+}
+
+/// How many of the rounds correct a block with so many errors whole.
+fn decode_many(coder: &Parity, r: usize, errors: usize, rounds: u32) -> u32
+    requires coder { coder.now ≡ r }
+    requires some { 1 ≤ r }
+    requires few { r ≤ 127 }
+    requires errors { errors ≤ 63 }
+{
+    let block = ramp();
+    let mut parity = [0u8; 127];
+    coder.parity(&block, &mut parity[..r]);
+    let mut damaged = block;
+    damage(&mut damaged, errors);
+    let mut fixes: ArrayVec<Fix, 63> = ArrayVec::new();
+    let mut right = 0u32;
+    for _ in 0..rounds {
+        let mut word = damaged;
+        let answer = decode_with(coder, &mut word, &parity[..r], &mut fixes);
+        if is_right(answer, errors) && word == block && fixes.len() == errors {
+            right = right.wrapping_add(1);
+        }
+    }
+    right
+}
+
+fn is_right(answer: Decoded, errors: usize) -> bool {
+    match answer {
+        Decoded::Clean => errors == 0,
+        Decoded::Fixed(count) => count as usize == errors,
+        Decoded::Bad => false,
+    }
+}
+
+/// The same with an encoder made for each block.
+fn decode_many_plain(r: usize, errors: usize, rounds: u32) -> u32
+    requires some { 1 ≤ r }
+    requires few { r ≤ 127 }
+    requires errors { errors ≤ 63 }
+{
+    let block = ramp();
+    let mut parity = [0u8; 127];
+    Parity::new(r).parity(&block, &mut parity[..r]);
+    let mut damaged = block;
+    damage(&mut damaged, errors);
+    let mut fixes: ArrayVec<Fix, 63> = ArrayVec::new();
+    let mut right = 0u32;
+    for _ in 0..rounds {
+        let mut word = damaged;
+        let answer = decode(&mut word, &parity[..r], &mut fixes);
+        if is_right(answer, errors) && word == block && fixes.len() == errors {
+            right = right.wrapping_add(1);
+        }
+    }
+    right
+}
+
+/// Whether the answers agree for `r` parity symbols, clean and with as many errors as can be corrected.
+fn agrees(r: usize) -> bool
+    requires some { 1 ≤ r }
+    requires few { r ≤ 127 }
+{
+    let coder = Parity::new(r);
+    decode_many(&coder, r, 0, 2) == 2
+        && decode_many(&coder, r, r / 2, 2) == 2
+        && decode_many_plain(r, 0, 2) == 2
+        && decode_many_plain(r, r / 2, 2) == 2
+}
+
+/// Megabytes a second.
+fn speed(rounds: u32, micros: u128) -> u128 {
+    let bytes = rounds as u128 * 128;
+    bytes.checked_div(micros).unwrap_or(0)
+}
+
+fn time(rt: &(impl Print + Clock), r: usize, rounds: u32) -> io::Result<()>
+    requires some { 1 ≤ r }
+    requires few { r ≤ 127 }
+{
+    let coder = Parity::new(r);
+    let start = Instant::now(rt)?;
+    let sum = encode_many(&coder, r, rounds);
+    let rate = speed(rounds, start.elapsed(rt)?.as_micros());
+    println!(rt; "r {r}: encoding {rate} MB/s (sum {sum})")?;
+    for errors in [0, 1, r / 4, r / 2] {
+        let start = Instant::now(rt)?;
+        let right = decode_many(&coder, r, errors.min(63), rounds);
+        let micros = start.elapsed(rt)?.as_micros();
+        let rate = speed(rounds, micros);
+        println!(rt;
+            "r {r}: decoding {errors} errors {rate} MB/s, {micros} us for {right} right of {rounds}"
+        )?;
+    }
+    let start = Instant::now(rt)?;
+    let right = decode_many_plain(r, 0, rounds);
+    let rate = speed(rounds, start.elapsed(rt)?.as_micros());
+    println!(rt;
+        "r {r}: decoding 0 errors, an encoder for each block, {rate} MB/s, {right} right of {rounds}"
+    )?;
+    Ok(())
+}
+
+fn main(rt: HostRuntime) -> io::Result<()> {
+    if agrees(16) && agrees(127) && agrees(7) {
+        println!(rt; "the answers agree")?;
+    } else {
+        println!(rt; "the answers differ")?;
+    }
+    for word in env::args(&rt)?.skip(1) {
+        let rounds: u32 = word.parse().unwrap_or(0);
+        time(&rt, 16, rounds)?;
+        time(&rt, 127, rounds)?;
+    }
+    Ok(())
+}

@@ -1,0 +1,205 @@
+//! The header and the blocks of a zone with their parity: how each reads, and the parity of what stands
+//! (`fs/pstore/ram_core.c`, `persistent_ram_decode_rs8` and `persistent_ram_encode_rs8`).
+#![tactic(auto)]
+
+ghost use Rattle.std.specs.Prelude.{◌≡◌, ◌+◌, ◌*◌, ◌-◌, ◌^◌, ◌<◌, ◌≤◌, ℕ, List, ◌++◌, length, take, min, slice_range, unwrap_or};
+ghost use Rattle.code_spec.specs.Code.{nearest, parity_of};
+ghost use Rattle.rs_errors.specs.Decoding.{decoded_by, fixes_by};
+ghost use Rattle.zone_spec.specs.Zones.{IsValidZone};
+ghost use Rattle.zone_spec.specs.Parts.{Header, Block, part_at, part_len, part_parity_at, part_bytes, words_in};
+ghost use Rattle.std.specs.Int.{from_le_bytes};
+ghost use Rattle.std.proofs.Common.{w32};
+ghost use Rattle.zone_spec.specs.PartReadings.{part_reading, words_read};
+ghost use Rattle.block_ecc.specs.Outcomes.{outcome, part_word_fixes, CountsAre};
+
+use arrayvec::ArrayVec;
+use ram_region::Span;
+use rs_encode::Parity;
+use rs_errors::decode;
+pub use rs_errors::{Decoded, Fix};
+use zone_spec::{Words, Zone};
+
+/// What a header reads.
+#[derive(Clone, Copy, Debug, PartialEq, Eq)]
+pub struct HeaderReading {
+    /// The nearest codeword's words, else those that stand.
+    pub words: Words,
+    pub outcome: Decoded,
+}
+
+/// Where a part's bytes and its parity lie in a zone.
+#[derive(Clone, Copy)]
+struct Place {
+    at: u32,
+    len: u32,
+    parity_at: u32,
+}
+
+fn header_place(zone: &Zone) -> Place
+    requires { IsValidZone zone.now }
+    ensures at { result.at ≡ part_at zone.now Header }
+    ensures len { result.len ≡ part_len zone.now Header }
+    ensures parity_at { result.parity_at ≡ part_parity_at zone.now Header }
+    ensures within { result.at + result.len ≤ zone.now.size }
+    ensures parity_within { result.parity_at + zone.now.parity ≤ zone.now.size }
+{
+    Place {
+        at: 0,
+        len: 12,
+        parity_at: 12 + zone.cap + zone.blocks * zone.parity,
+    }
+}
+
+fn block_place(zone: &Zone, b: u32) -> Place
+    requires valid { IsValidZone zone.now }
+    requires block { zone.now.block * b < zone.now.cap }
+    ensures at { result.at ≡ part_at zone.now (Block b) }
+    ensures len { result.len ≡ part_len zone.now (Block b) }
+    ensures parity_at { result.parity_at ≡ part_parity_at zone.now (Block b) }
+    ensures within { result.at + result.len ≤ zone.now.size }
+    ensures some { 1 ≤ result.len }
+    ensures few { result.len ≤ 128 }
+    ensures parity_within { result.parity_at + zone.now.parity ≤ zone.now.size }
+{
+    let start = zone.block * b;
+    Place {
+        at: 12 + start,
+        len: zone.block.min(zone.cap - start),
+        parity_at: 12 + zone.cap + b * zone.parity,
+    }
+}
+
+fn bytes_at(span: &Span, at: u32, len: u32) -> &[u8]
+    requires { at + len ≤ length span.now }
+    ensures { result.now ≡ slice_range span.now at (at + len) }
+{
+    &span.bytes()[at as usize..at as usize + len as usize]
+}
+
+fn copy(bytes: &[u8], out: &mut ArrayVec<u8, 255>)
+    requires { length bytes.now ≤ 255 }
+    ensures { out.new.items ≡ bytes.now }
+{
+    out.clear();
+    let _room = out.try_extend_from_slice(bytes);
+}
+
+/// Corrects the bytes in `out` by their parity. Without parity they are as they should be.
+fn correct(out: &mut ArrayVec<u8, 255>, par: &[u8], fixes: &mut ArrayVec<Fix, 63>) -> Decoded
+    requires some { 1 ≤ length out.old.items }
+    requires few { length out.old.items ≤ 128 }
+    requires few_par { length par.now ≤ 127 }
+    ensures len { length out.new.items ≡ length out.old.items }
+    ensures answer { let word = out.old.items ++ par.now in result ≡ decoded_by word (nearest (length par.now) word) }
+    ensures data { let word = out.old.items ++ par.now in out.new.items ≡ take (length out.old.items) (unwrap_or (nearest (length par.now) word) word) }
+    ensures fixes { let word = out.old.items ++ par.now in fixes.new.items ≡ fixes_by word (nearest (length par.now) word) }
+{
+    if par.is_empty() {
+        fixes.clear();
+        return Decoded::Clean;
+    }
+    decode(out.as_mut_slice(), par, fixes)
+}
+
+/// The parity of the bytes.
+fn parity(bytes: &[u8], r: u32, out: &mut ArrayVec<u8, 127>)
+    requires few { r ≤ 127 }
+    requires fits { length bytes.now ≤ 128 }
+    ensures { out.new.items ≡ parity_of r bytes.now }
+{
+    out.clear();
+    if r == 0 {
+        return;
+    }
+    let _room = out.try_extend_from_slice(&[0; 127][..r as usize]);
+    Parity::new(r as usize).parity(bytes, out.as_mut_slice());
+}
+
+/// The words in a header's 12 bytes.
+fn words_of(bytes: &[u8]) -> Words
+    requires { length bytes.now ≡ 12 }
+    ensures { result ≡ words_in bytes.now }
+{
+    Words {
+        sig: word_at(&bytes[0..4]),
+        start: word_at(&bytes[4..8]),
+        size: word_at(&bytes[8..12]),
+    }
+}
+
+fn word_at(bytes: &[u8]) -> u32
+    requires { length bytes.now ≡ 4 }
+    ensures { result ≡ from_le_bytes w32 bytes.now }
+{
+    u32::from_le_bytes([bytes[0], bytes[1], bytes[2], bytes[3]])
+}
+
+/// Reads a zone's header. `fixes` becomes the places of its 12 bytes and their parity that differ from the nearest
+/// codeword, rising: those below 12 are of the header's bytes.
+pub fn read_header(span: &Span, zone: &Zone, fixes: &mut ArrayVec<Fix, 63>) -> HeaderReading
+    requires valid { IsValidZone zone.now }
+    requires size { length span.now ≡ zone.now.size }
+    ensures words { result.words ≡ words_read zone.now span.now }
+    ensures outcome { result.outcome ≡ outcome zone.now span.now Header }
+    ensures counts { CountsAre result.outcome (part_reading zone.now span.now Header) }
+    ensures fixes { fixes.new.items ≡ part_word_fixes zone.now span.now Header }
+{
+    let place = header_place(zone);
+    let mut out: ArrayVec<u8, 255> = ArrayVec::new();
+    copy(bytes_at(span, place.at, place.len), &mut out);
+    let outcome = correct(
+        &mut out,
+        bytes_at(span, place.parity_at, zone.parity),
+        fixes,
+    );
+    HeaderReading {
+        words: words_of(out.as_slice()),
+        outcome,
+    }
+}
+
+/// Reads block `b`: `out` becomes its bytes. `fixes` becomes the places of the bytes and their parity that differ from
+/// the nearest codeword, rising: those below the number of bytes are of the bytes.
+pub fn read_block(
+    span: &Span,
+    zone: &Zone,
+    b: u32,
+    out: &mut ArrayVec<u8, 255>,
+    fixes: &mut ArrayVec<Fix, 63>,
+) -> Decoded
+    requires valid { IsValidZone zone.now }
+    requires size { length span.now ≡ zone.now.size }
+    requires block { zone.now.block * b < zone.now.cap }
+    ensures data { out.new.items ≡ (part_reading zone.now span.now (Block b)).bytes }
+    ensures outcome { result ≡ outcome zone.now span.now (Block b) }
+    ensures counts { CountsAre result (part_reading zone.now span.now (Block b)) }
+    ensures fixes { fixes.new.items ≡ part_word_fixes zone.now span.now (Block b) }
+{
+    let place = block_place(zone, b);
+    copy(bytes_at(span, place.at, place.len), out);
+    correct(out, bytes_at(span, place.parity_at, zone.parity), fixes)
+}
+
+/// The parity of block `b` as its bytes stand.
+pub fn block_parity(span: &Span, zone: &Zone, b: u32, out: &mut ArrayVec<u8, 127>)
+    requires valid { IsValidZone zone.now }
+    requires size { length span.now ≡ zone.now.size }
+    requires block { zone.now.block * b < zone.now.cap }
+    ensures { out.new.items ≡ parity_of zone.now.parity (part_bytes zone.now span.now (Block b)) }
+{
+    let place = block_place(zone, b);
+    parity(bytes_at(span, place.at, place.len), zone.parity, out);
+}
+
+/// The parity of the header's 12 bytes as they stand.
+pub fn header_parity(span: &Span, zone: &Zone, out: &mut ArrayVec<u8, 127>)
+    requires valid { IsValidZone zone.now }
+    requires size { length span.now ≡ zone.now.size }
+    ensures { out.new.items ≡ parity_of zone.now.parity (part_bytes zone.now span.now Header) }
+{
+    let place = header_place(zone);
+    parity(bytes_at(span, place.at, place.len), zone.parity, out);
+}
+
+#[cfg(test)]
+mod tests;

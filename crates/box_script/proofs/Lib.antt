@@ -1,0 +1,9 @@
+pub mod Back
+pub mod Counts
+pub mod Cuts
+pub mod Inside
+pub mod Joined
+pub mod Loop
+pub mod Numbers
+pub mod Round
+pub mod Solid

@@ -1,0 +1,5 @@
+use Rattle.code_laws.proofs.Laws.{nearest_is as law}
+use Rattle.code_laws.proofs.nearest_is.Goals as goal
+
+pub returns : goal.returns
+returns c = law

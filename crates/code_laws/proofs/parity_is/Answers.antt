@@ -1,0 +1,5 @@
+use Rattle.code_laws.proofs.Laws.{parity_is as law}
+use Rattle.code_laws.proofs.parity_is.Goals as goal
+
+pub returns : goal.returns
+returns c = law

@@ -1,0 +1,5 @@
+use Rattle.damage_laws.proofs.CutNumbers.{boot_cut_report_is_exact as law}
+use Rattle.damage_laws.proofs.boot_cut_report_is_exact.Goals as goal
+
+pub returns : goal.returns
+returns c = law

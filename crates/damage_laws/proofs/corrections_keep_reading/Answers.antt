@@ -1,0 +1,5 @@
+use Rattle.damage_laws.proofs.Corrections.{corrections_keep_reading as law}
+use Rattle.damage_laws.proofs.corrections_keep_reading.Goals as goal
+
+pub returns : goal.returns
+returns c = law

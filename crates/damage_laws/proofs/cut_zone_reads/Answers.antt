@@ -1,0 +1,5 @@
+use Rattle.damage_laws.proofs.CutHeader.{cut_zone_reads as law}
+use Rattle.damage_laws.proofs.cut_zone_reads.Goals as goal
+
+pub returns : goal.returns
+returns c = law

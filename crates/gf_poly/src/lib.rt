@@ -1,0 +1,164 @@
+//! Polynomials over the field of 256 elements, as lists of coefficients with that of the highest power first, and the values of words.
+#![tactic(auto)]
+
+ghost use Rattle.std.specs.Prelude.{◌≡◌, ◌≢◌, ◌+◌, ◌≤◌, ◌<◌, ℕ, ◌++◌, [], length, slice_index};
+ghost use Rattle.code_spec.specs.Field.{gf_add, gf_mul, gf_pow};
+ghost use Rattle.code_spec.specs.Code.{value_of};
+ghost use Rattle.code_spec.specs.Polynomials.{poly};
+ghost use Rattle.code_spec.specs.Series.{times, plus, scale};
+
+use arrayvec::ArrayVec;
+use gf256::{add, alpha_pow, inv, mul};
+
+/// The value of `word` at `x`.
+pub fn value(word: &[u8], x: u8) -> u8
+    ensures { result ≡ value_of word.now x }
+{
+    let mut sum = 0u8;
+    for c in word {
+        sum = add(mul(sum, x), *c);
+    }
+    sum
+}
+
+/// Adds `factor` times `other` to the last symbols of `word`, from `start` on.
+pub fn add_scaled(word: &mut [u8], start: usize, factor: u8, other: &[u8])
+    requires { start + length other.now ≡ length word.old }
+    ensures front { (k : ℕ) → k < start → slice_index word.new k ≡ slice_index word.old k }
+    ensures rest { (k : ℕ) → k < length other.now →
+        slice_index word.new (start + k) ≡ gf_add (slice_index word.old (start + k)) (gf_mul factor (slice_index other.now k)) }
+{
+    for i in 0..other.len() {
+        word[start + i] = add(word[start + i], mul(factor, other[i]));
+    }
+}
+
+/// The value of `word` with `start` before it.
+fn value_on(start: u8, word: &[u8], x: u8) -> u8
+    ensures { result ≡ gf_add (gf_mul start (gf_pow x (length word.now))) (value_of word.now x) }
+{
+    let mut sum = start;
+    for c in word {
+        sum = add(mul(sum, x), *c);
+    }
+    sum
+}
+
+/// The values of `msg` and then `par`, as one word, at 2 to the 0, 1 and so on: `out[i]` is that at 2 to the i.
+pub fn syndromes(msg: &[u8], par: &[u8], out: &mut [u8])
+    requires lengths { length out.old ≡ length par.now }
+    requires fits { length msg.now + length par.now ≤ 255 }
+    ensures { (i : ℕ) → i < length out.new → slice_index out.new i ≡ value_of (msg.now ++ par.now) (gf_pow 2 i) }
+{
+    for i in 0..out.len() {
+        let x = alpha_pow(i as u8);
+        out[i] = value_on(value(msg, x), par, x);
+    }
+}
+
+/// The product of `a` and `b`.
+pub fn product(a: &[u8], b: &[u8], out: &mut ArrayVec<u8, 255>)
+    requires some_a { 0 < length a.now }
+    requires some_b { 0 < length b.now }
+    requires fits { length a.now + length b.now ≤ 256 }
+    ensures len { length out.new.items + 1 ≡ length a.now + length b.now }
+    ensures product { poly out.new.items ≡ times (poly a.now) (poly b.now) }
+{
+    out.clear();
+    for _ in 1..b.len() {
+        out.push(0);
+    }
+    for (i, c) in a.iter().enumerate() {
+        out.push(0);
+        add_scaled(out.as_mut_slice(), i, *c, b);
+    }
+}
+
+fn first(word: &[u8]) -> u8
+    requires { 0 < length word.now }
+    ensures { result ≡ slice_index word.now 0 }
+{
+    word[0]
+}
+
+/// Takes the first coefficient of `rest`, times the inverse of that of `b`, from it: answers the quotient's coefficient.
+fn divide_step(b: &[u8], inverse: u8, rest: &mut ArrayVec<u8, 255>) -> u8
+    requires some { 0 < length b.now }
+    requires inverse { gf_mul (slice_index b.now 0) inverse ≡ 1 }
+    requires len { length rest.old.items ≡ length b.now }
+    ensures len { length rest.new.items + 1 ≡ length b.now }
+    ensures rest { poly rest.new.items ≡ plus (poly rest.old.items) (scale result (poly b.now)) }
+{
+    let leading = first(rest.as_slice());
+    let factor = mul(leading, inverse);
+    add_scaled(rest.as_mut_slice(), 0, factor, b);
+    rest.remove(0);
+    factor
+}
+
+/// Divides `a` by `b`, whose first coefficient is not 0: `a` is `b` times `quotient`, plus `rest`.
+/// Where `a` is the shorter, `quotient` becomes empty and `rest` is `a`; else `rest` has one coefficient less than `b`.
+pub fn divide(a: &[u8], b: &[u8], quotient: &mut ArrayVec<u8, 255>, rest: &mut ArrayVec<u8, 255>)
+    requires fits { length a.now ≤ 255 }
+    requires some_a { 0 < length a.now }
+    requires some_b { 0 < length b.now }
+    requires leading { slice_index b.now 0 ≢ 0 }
+    ensures short { length a.now < length b.now → (quotient.new.items ≡ []) × (rest.new.items ≡ a.now) }
+    ensures long { length b.now ≤ length a.now → length quotient.new.items + length b.now ≡ length a.now + 1 }
+    ensures long_rest { length b.now ≤ length a.now → length rest.new.items + 1 ≡ length b.now }
+    ensures value { poly a.now ≡ plus (times (poly b.now) (poly quotient.new.items)) (poly rest.new.items) }
+{
+    quotient.clear();
+    rest.clear();
+    if a.len() < b.len() {
+        for c in a {
+            rest.push(*c);
+        }
+    } else {
+        let inverse = inv(b[0]);
+        let start = b.len() - 1;
+        for i in 0..start {
+            rest.push(a[i]);
+        }
+        for i in start..a.len() {
+            rest.push(a[i]);
+            let factor = divide_step(b, inverse, rest);
+            quotient.push(factor);
+        }
+    }
+}
+
+#[cfg(test)]
+mod tests {
+    use super::*;
+
+    /// 2^2 + 3 * 2 + 2 by hand, and the two values of a header whose start word was changed.
+    #[test]
+    fn values_of_words(rt: HostRuntime) {
+        assert_eq!(rt; value(&[1, 3, 2], 2), 0);
+        assert_eq!(rt; value(&[1, 3, 2], 1), 0);
+        assert_eq!(rt; value(&[], 7), 0);
+        let header = [0x44, 0x42, 0x47, 0x43, 5, 6, 0, 0, 178, 15, 0, 0];
+        let mut out = [0u8; 2];
+        syndromes(&header, &[155, 36], &mut out);
+        assert_eq!(rt; out, [3, 0x9c]);
+    }
+
+    /// The generators of two and of four parity symbols.
+    #[test]
+    fn products_and_quotients(rt: HostRuntime) {
+        let mut out = ArrayVec::new();
+        product(&[1, 1], &[1, 2], &mut out);
+        assert_eq!(rt; out.as_slice(), [1, 3, 2].as_slice());
+        product(&[1, 3, 2], &[1, 12, 32], &mut out);
+        assert_eq!(rt; out.as_slice(), [1, 15, 54, 120, 64].as_slice());
+        let mut rest = ArrayVec::new();
+        rest.push(9);
+        divide(&[1, 15, 54, 120, 65], &[1, 3, 2], &mut out, &mut rest);
+        assert_eq!(rt; out.as_slice(), [1, 12, 32].as_slice());
+        assert_eq!(rt; rest.as_slice(), [0, 1].as_slice());
+        divide(&[5], &[1, 3, 2], &mut out, &mut rest);
+        assert_eq!(rt; out.len(), 0);
+        assert_eq!(rt; rest.as_slice(), [5].as_slice());
+    }
+}

@@ -1,0 +1,249 @@
+// Whole runs over the objects in memory: what is put, what is stored and what is answered.
+ghost use Rattle.std.specs.Prelude.{◌≡◌, IfOk};
+
+use crate::run;
+use box_io::{Bytes, Calls, MemSink, MemSource, MemStore};
+use std::alloc::{AllocError, Global};
+use std::test::Fail;
+
+const CONSOLE: &str = "image run mem_size=4096 record_size=0 ftrace_size=0 pmsg_size=0";
+
+const FIRST_RECORD: &str =
+    "boot\nwrite console 616263\nstop\nboot\nlist\nextract console-ramoops-0\n";
+
+const FIRST_TEXT: &str = "boot console unsigned start 0 size 0 corrected 0 bad 0 nothing told\n\
+    boot console found start 3 size 3 corrected 0 bad 0 as told\n\
+    records 1\nconsole-ramoops-0 3\nconsole-ramoops-0 3\nabc\n";
+
+/// The calls that fail, of the script, the image and the output.
+#[derive(Clone, Copy)]
+struct Fails {
+    script: &'static [u32],
+    image: &'static [u32],
+    out: &'static [u32],
+}
+
+const NONE: Fails = Fails {
+    script: &[],
+    image: &[],
+    out: &[],
+};
+
+/// What a run answered, put and left.
+#[derive(Drop)]
+struct Ended {
+    status: u8,
+    text: Vec<u8>,
+    image: Vec<u8>,
+}
+
+fn words_of(alloc: Global, line: &str) -> Result<Vec<String>, AllocError> {
+    let mut words = Vec::new(alloc);
+    for word in line.split(' ') {
+        words.push(String::from_str(alloc, word)?)?;
+    }
+    Ok(words)
+}
+
+fn outcome(
+    alloc: Global,
+    line: &str,
+    script: &[u8],
+    image: &[u8],
+    fails: Fails,
+) -> Result<Ended, Fail> {
+    let words = words_of(alloc, line)?;
+    let text = Bytes::copy_of(alloc, script)?;
+    let mut script = MemSource::new(text, 7, Calls::new(alloc, fails.script)?);
+    let held = Bytes::copy_of(alloc, image)?;
+    let limit = u32::try_from(image.len())?;
+    let mut image = MemStore::new(held, limit, Calls::new(alloc, fails.image)?)?;
+    let mut out = MemSink::new(alloc, 100_000, Calls::new(alloc, fails.out)?)?;
+    let status = run(alloc, &words, &mut script, &mut image, &mut out);
+    Ok(Ended {
+        status,
+        text: Vec::from_slice(alloc, out.bytes())?,
+        image: Vec::from_slice(alloc, image.bytes())?,
+    })
+}
+
+#[test]
+fn the_first_console_record_is_listed(rt: HostRuntime) -> Result<(), Fail> {
+    let alloc = rt.alloc();
+    let ran = outcome(alloc, CONSOLE, FIRST_RECORD.as_bytes(), &[0; 4096], NONE)?;
+    assert_eq!(rt; ran.status, 0);
+    assert_eq!(rt; ran.text.as_slice(), FIRST_TEXT.as_bytes());
+    assert!(rt;
+        ran.image
+            .starts_with(b"DBGC\0\0\0\0\0\0\0\0abc\0".as_slice())
+    );
+    Ok(())
+}
+
+// A full ring and one byte more; and one append of more bytes than the ring holds.
+#[test]
+fn a_ring_wraps(rt: HostRuntime) -> Result<(), Fail> {
+    let alloc = rt.alloc();
+    let full = "61".repeat(alloc, 4084)?;
+    let script = format!(in alloc;
+        "boot\nwrite console {full}\nwrite console 62\nstop\nboot\nextract console-ramoops-0\n"
+    )?;
+    let ran = outcome(alloc, CONSOLE, script.as_bytes(), &[0; 4096], NONE)?;
+    assert_eq!(rt; ran.status, 0);
+    let log = "a".repeat(alloc, 4083)?;
+    let text = format!(in alloc;
+        "boot console unsigned start 0 size 0 corrected 0 bad 0 nothing told\nboot console found start 1 size 4084 corrected 0 bad 0 as told\nconsole-ramoops-0 4084\n{log}b\n"
+    )?;
+    assert_eq!(rt; ran.text.as_slice(), text.as_bytes());
+    let long = format!(in alloc;
+        "boot\nwrite console {}{full}\nstop\nboot\nextract console-ramoops-0\n",
+        "78".repeat(alloc, 916)?
+    )?;
+    let ran = outcome(alloc, CONSOLE, long.as_bytes(), &[0; 4096], NONE)?;
+    let text = format!(in alloc;
+        "boot console unsigned start 0 size 0 corrected 0 bad 0 nothing told\nboot console found start 0 size 4084 corrected 0 bad 0 as told\nconsole-ramoops-0 4084\n{log}a\n"
+    )?;
+    assert_eq!(rt; ran.text.as_slice(), text.as_bytes());
+    Ok(())
+}
+
+// Words, parameters, images and scripts that are refused: the status and the last line, and the image untouched.
+#[test]
+fn each_refusal_is_told(rt: HostRuntime) -> Result<(), Fail> {
+    let alloc = rt.alloc();
+    let cases = [
+        (
+            "image",
+            "",
+            2,
+            "usage: oopsbox IMAGE COMMAND key=value ..\n",
+        ),
+        (
+            "image walk mem_size=4096",
+            "",
+            2,
+            "usage: oopsbox IMAGE COMMAND key=value ..\n",
+        ),
+        (
+            "x run mem_size=4096 mem_size=1",
+            "",
+            3,
+            "parameter fault 2 at word 4\n",
+        ),
+        ("x run mem_size=16777217", "", 3, "layout fault 3\n"),
+        ("x run", "", 3, "layout fault 1\n"),
+        (CONSOLE, "boot", 9, "bad line 1\n"),
+        (CONSOLE, "boot\nwipe\n", 9, "bad line 2\n"),
+        (
+            CONSOLE,
+            "write console 61\n",
+            10,
+            "line 1 refused: is off\n",
+        ),
+        (CONSOLE, "list\n", 10, "line 1 refused: is off\n"),
+        (
+            "x run mem_size=8192 console_size=8192 record_size=0 ftrace_size=0 pmsg_size=0",
+            "",
+            4,
+            "image has 4096 bytes, 8192 needed\n",
+        ),
+    ];
+    for (line, script, status, text) in cases {
+        let ran = outcome(alloc, line, script.as_bytes(), &[0; 4096], NONE)?;
+        assert_eq!(rt; ran.status, status, "{line}");
+        assert_eq!(rt; ran.text.as_slice(), text.as_bytes(), "{line}");
+        assert!(rt; ran.image.iter().all(|byte| *byte == 0), "{line}");
+    }
+    Ok(())
+}
+
+#[test]
+fn a_refused_line_follows_the_finished_ones(rt: HostRuntime) -> Result<(), Fail> {
+    let alloc = rt.alloc();
+    let script = b"boot\nextract pmsg-ramoops-0\n".as_slice();
+    let ran = outcome(alloc, CONSOLE, script, &[0; 4096], NONE)?;
+    assert_eq!(rt; ran.status, 10);
+    let text =
+        b"boot console unsigned start 0 size 0 corrected 0 bad 0 nothing told\nline 2 refused: no record\n".as_slice();
+    assert_eq!(rt; ran.text.as_slice(), text);
+    Ok(())
+}
+
+// Strange headers, and what a boot says of them.
+#[test]
+fn strange_headers_are_reported(rt: HostRuntime) -> Result<(), Fail> {
+    let alloc = rt.alloc();
+    let ran = outcome(alloc, CONSOLE, b"boot\n".as_slice(), &[0xff; 4096], NONE)?;
+    let text =
+        b"boot console unsigned start 4294967295 size 4294967295 corrected 0 bad 0 nothing told\n".as_slice();
+    assert_eq!(rt; ran.text.as_slice(), text);
+    let mut image = [0; 4096];
+    image[..12].copy_from_slice(b"DBGC\x05\0\0\0\xf5\x0f\0\0".as_slice());
+    let ran = outcome(alloc, CONSOLE, b"boot\n".as_slice(), &image, NONE)?;
+    let text =
+        b"boot console invalid start 5 size 4085 corrected 0 bad 0 nothing told\n".as_slice();
+    assert_eq!(rt; ran.text.as_slice(), text);
+    image[..12].copy_from_slice(b"DBGC\xf4\x0f\0\0\xf4\x0f\0\0".as_slice());
+    let ran = outcome(alloc, CONSOLE, b"boot\n".as_slice(), &image, NONE)?;
+    let text =
+        b"boot console found start 4084 size 4084 corrected 0 bad 0 nothing told\n".as_slice();
+    assert_eq!(rt; ran.text.as_slice(), text);
+    Ok(())
+}
+
+// The image's calls are its size, its bytes and the write back; a put that fails ends the run at once.
+#[test]
+fn faults_are_told(rt: HostRuntime) -> Result<(), Fail> {
+    let alloc = rt.alloc();
+    let zeros = [0; 4096];
+    let script = FIRST_RECORD.as_bytes();
+    for call in [&[1], &[2]] {
+        let ran = outcome(
+            alloc,
+            CONSOLE,
+            script,
+            &zeros,
+            Fails {
+                image: call,
+                ..NONE
+            },
+        )?;
+        assert_eq!(rt; ran.status, 6);
+        assert_eq!(rt; ran.text.as_slice(), b"image fault\n".as_slice());
+        assert_eq!(rt; ran.image.as_slice(), zeros.as_slice());
+    }
+    let ran = outcome(
+        alloc,
+        CONSOLE,
+        script,
+        &zeros,
+        Fails {
+            image: &[3],
+            ..NONE
+        },
+    )?;
+    assert_eq!(rt; ran.status, 6);
+    let text = format!(in alloc; "{FIRST_TEXT}image fault\n")?;
+    assert_eq!(rt; ran.text.as_slice(), text.as_bytes());
+    assert!(rt;
+        ran.image
+            .starts_with(b"DBGC\0\0\0\0\0\0\0\0abc\0".as_slice())
+    );
+    let ran = outcome(
+        alloc,
+        CONSOLE,
+        script,
+        &zeros,
+        Fails {
+            script: &[1],
+            ..NONE
+        },
+    )?;
+    assert_eq!(rt; ran.status, 5);
+    assert_eq!(rt; ran.text.as_slice(), b"script fault\n".as_slice());
+    let ran = outcome(alloc, CONSOLE, script, &zeros, Fails { out: &[1], ..NONE })?;
+    assert_eq!(rt; ran.status, 7);
+    assert!(rt; FIRST_TEXT.as_bytes().starts_with(&ran.text));
+    assert_eq!(rt; ran.image.as_slice(), zeros.as_slice());
+    Ok(())
+}

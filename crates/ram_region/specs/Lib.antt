@@ -1,0 +1,4 @@
+pub mod CutRegion
+pub mod Row
+pub mod Chain
+pub mod Shell

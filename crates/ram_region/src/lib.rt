@@ -1,0 +1,13 @@
+//! A region of bytes in one allocation, cut into one span for each zone of a layout.
+//!
+//! A span points to its bytes in the region: cutting and joining copy none. All `unsafe` code of the repository is in
+//! the module `block`.
+#![tactic(auto)]
+
+mod block;
+mod spans;
+
+pub use spans::{Region, Span, Spans};
+
+#[cfg(test)]
+mod tests;

@@ -1,0 +1,17 @@
+pub mod Images
+pub mod RingBytes
+pub mod AppendLaw
+pub mod RingLaw
+pub mod ReadingLaw
+pub mod PartsLaw
+pub mod RunLaw
+pub mod EveryParity
+pub mod PartWords
+pub mod CallLaw
+pub mod StoreBytes
+pub mod Fixes
+pub mod States
+pub mod BootLaw
+pub mod BootRing
+pub mod HeaderWords
+pub mod Laws

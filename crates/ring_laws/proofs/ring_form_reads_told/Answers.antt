@@ -1,0 +1,5 @@
+use Rattle.ring_laws.proofs.Laws.{ring_form_reads_told as law}
+use Rattle.ring_laws.proofs.ring_form_reads_told.Goals as goal
+
+pub returns : goal.returns
+returns c = law

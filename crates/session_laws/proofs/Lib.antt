@@ -1,0 +1,13 @@
+pub mod Lists
+pub mod Zones
+pub mod TimeLines
+pub mod Targets
+pub mod LiveStates
+pub mod OffStates
+pub mod PartedStates
+pub mod Operations
+pub mod Sessions
+pub mod Logs
+pub mod CutBoot
+pub mod Headline
+pub mod Boots

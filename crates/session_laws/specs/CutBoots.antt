@@ -1,0 +1,58 @@
+-- What a boot that is cut leaves of each zone
+use Rattle.std.specs.Prelude.{◌≡◌, ℕ, ◌+◌, ◌<◌, ◌≤◌, ◌⊎◌, List, length, take, drop, slice_get, Some, None}
+use Rattle.zone_spec.specs.declared.Zone.{Zone}
+use Rattle.zone_spec.specs.Parts.{Part, IsPartOf}
+use Rattle.zone_spec.specs.Stores.{after_stores}
+use Rattle.zone_spec.specs.Reading.{zone_reading}
+use Rattle.zone_spec.specs.Boot.{boot_fixes, boot_stores, told_by_boot}
+use Rattle.zone_spec.specs.Damage.{IsWithinBounds, IsNotDamagedFurther}
+use Rattle.zone_spec.specs.Layouts.{IsLayout, zones_end}
+use Rattle.session_spec.specs.Zones.{zone_bytes}
+use Rattle.session_spec.specs.States.{OffZone, OffState, Off}
+use Rattle.session_spec.specs.BootPart.{boot_parted, boot_count, boot_cut, left_at, IsWithinErasure}
+use Rattle.session_spec.specs.Sound.{IsState}
+use Rattle.ring_laws.specs.Laws.{ReadsTold}
+
+-- of the first k boot stores each zone has its own made, and no other
+abbrev pub CutBootMakesStores : Type 0
+CutBootMakesStores = (layout : List Zone) (mem : ℕ) (off : OffState) (k i : ℕ) (z : Zone) → IsLayout layout mem → IsState layout mem (Off off) → slice_get layout i ≡ Some z
+    → let now = zone_bytes z off.image in
+    zone_bytes z (boot_parted layout k off).image ≡ after_stores now (take (left_at layout off.image k i) (boot_stores z now))
+
+-- the bytes behind the last zone are left
+abbrev pub CutBootLeavesRest : Type 0
+CutBootLeavesRest = (layout : List Zone) (mem : ℕ) (off : OffState) (k : ℕ) → IsLayout layout mem → IsState layout mem (Off off)
+    → drop (zones_end layout) (boot_parted layout k off).image ≡ drop (zones_end layout) off.image
+
+-- what is held of a zone, of whose own stores and those behind it n were made: it was finished, by its last store, by one behind it or by all; it was within its erasure; or neither
+abbrev pub CutBootHolds : Type 0
+CutBootHolds = (layout : List Zone) (mem : ℕ) (off : OffState) (k i : ℕ) (z : Zone) (old new : OffZone) → IsLayout layout mem → IsState layout mem (Off off)
+    → slice_get layout i ≡ Some z → slice_get off.zones i ≡ Some old → slice_get (boot_parted layout k off).zones i ≡ Some new
+    → let now = zone_bytes z off.image in let later = zone_bytes z (boot_parted layout k off).image in let n = left_at layout off.image k i in
+    ((boot_count layout off.image ≤ k) ⊎ ((0 < n) × (length (boot_stores z now) ≤ n)) → (new.told ≡ Some (told_by_boot z now)) × (new.cut ≡ None) × (new.stop ≡ later))
+    × (IsWithinErasure z now n → (new.told ≡ old.told) × (new.cut ≡ Some (boot_cut z now n)) × (new.stop ≡ later))
+    × (k < boot_count layout off.image → n ≤ length (boot_fixes z now) → (n ≡ 0) ⊎ (n < length (boot_stores z now)) → new ≡ old)
+
+-- a zone reads the same until its erasure has begun, but that each store made is a correction less; and what the boot kept, once it has finished
+abbrev pub CutBootReads : Type 0
+CutBootReads = (layout : List Zone) (mem : ℕ) (off : OffState) (k i : ℕ) (z : Zone) → IsLayout layout mem → IsState layout mem (Off off) → slice_get layout i ≡ Some z
+    → let now = zone_bytes z off.image in let later = zone_bytes z (boot_parted layout k off).image in let n = left_at layout off.image k i in
+    let before = zone_reading z now in let after = zone_reading z later in
+    (n ≤ length (boot_fixes z now) → (after.state ≡ before.state) × (after.words ≡ before.words) × (after.log ≡ before.log) × (after.corrected + n ≡ before.corrected))
+    × (length (boot_stores z now) ≤ n → ReadsTold z later (told_by_boot z now))
+
+-- what is held of a zone is as before, and damage from before and after the boot counts together; or the boot's end is the zone's stop
+abbrev pub IsLeftOrStopped : OffState → OffState → Zone → OffZone × OffZone → Type 0
+IsLeftOrStopped off after z (old, new) =
+    let now = zone_bytes z off.image in let later = zone_bytes z after.image in
+    ((new ≡ old) × ((part : Part) → IsPartOf z part → IsWithinBounds z old.stop now part → IsWithinBounds z old.stop later part)
+    × (IsNotDamagedFurther z old.stop now → IsNotDamagedFurther z old.stop later))
+    ⊎ (new.stop ≡ later)
+
+-- so it is of each zone, and the state that a cut boot leaves is sound
+abbrev pub CutBootKeepsStops : Type 0
+CutBootKeepsStops = (layout : List Zone) (mem : ℕ) (off : OffState) (k : ℕ) → IsLayout layout mem → IsState layout mem (Off off)
+    → let after = boot_parted layout k off in
+    IsState layout mem (Off after)
+    × ((i : ℕ) (z : Zone) (old new : OffZone) → slice_get layout i ≡ Some z → slice_get off.zones i ≡ Some old → slice_get after.zones i ≡ Some new
+    → IsLeftOrStopped off after z (old, new))

@@ -1,0 +1,4 @@
+pub mod Sessions
+pub mod Logs
+pub mod Boots
+pub mod CutBoots

@@ -1,0 +1,15 @@
+pub mod Zones
+pub mod States
+pub mod Off
+pub mod ZoneCalls
+pub mod LiveZones
+pub mod LiveCalls
+pub mod Erasures
+pub mod Stop
+pub mod Boot
+pub mod Report
+pub mod BootPart
+pub mod Operations
+pub mod Sound
+pub mod Headline
+pub mod Boots

@@ -1,0 +1,10 @@
+pub mod Computing
+pub mod Values
+pub mod Given
+pub mod Stores
+pub mod Reading
+pub mod Clean
+pub mod Fixes
+pub mod TwoParityBytes
+pub mod SixteenParityBytes
+pub mod LeftAway

@@ -1,0 +1,13 @@
+use Rattle.std.proofs.Common.{refl, [], ◌∷◌, replicate}
+use Rattle.spec_rows.proofs.Computing.{computing}
+use Rattle.spec_rows.proofs.Given.{given_parity}
+use Rattle.spec_rows.proofs.codes.parities.Goals as goal
+
+pub returns : goal.returns
+unfolding computing
+returns c = (
+  given_parity 2 (1 ∷ []) (3 ∷ 2 ∷ []) refl,
+  given_parity 4 (1 ∷ []) (15 ∷ 54 ∷ 120 ∷ 64 ∷ []) refl,
+  given_parity 8 (1 ∷ []) (255 ∷ 11 ∷ 81 ∷ 54 ∷ 239 ∷ 173 ∷ 200 ∷ 24 ∷ []) refl,
+  given_parity 8 (replicate 12 0) (replicate 8 0) refl,
+)

@@ -1,0 +1,5 @@
+use Rattle.std.proofs.Common.{arith}
+use Rattle.spec_rows.proofs.counts.start_at_cap.Goals as goal
+
+pub returns : goal.returns
+returns c = (tt, λ h. absurd (omega (arith, h.0)))

@@ -1,0 +1,15 @@
+use Rattle.std.specs.Prelude.{replicate, Some, None}
+use Rattle.std.proofs.Common.{ap, ◌∙◌}
+use Rattle.zone_spec.specs.Reading.{zone_reading}
+use Rattle.zone_spec.specs.Verdicts.{verdict_of}
+use Rattle.spec_rows.specs.Zones.{console, console_of_sixteen}
+use Rattle.spec_rows.specs.Scenes.{abc}
+use Rattle.spec_rows.specs.Damage.{flipped_from}
+use Rattle.spec_rows.specs.Shown.{shown_by}
+use Rattle.spec_rows.proofs.SixteenParityBytes.{three-is, block_flipped-reads}
+use Rattle.spec_rows.proofs.damage.eight_flips_in_block.Goals as goal
+
+pub returns : goal.returns
+returns c =
+    let reads = ap (λ image. zone_reading console_of_sixteen (flipped_from 12 (replicate 8 1) image)) three-is ∙ block_flipped-reads in
+    (ap (λ r. shown_by r (record { name = console; verdict = verdict_of (Some (abc)) r.log; cut = None })) reads, ap (λ r. r.log) reads)

@@ -1,0 +1,21 @@
+use Rattle.std.specs.Prelude.{replicate, Some}
+use Rattle.std.proofs.Common.{refl, ap, ◌∙◌}
+use Rattle.zone_spec.specs.Reading.{ZoneReading, zone_reading}
+use Rattle.zone_spec.specs.Verdicts.{verdict_of}
+use Rattle.zone_spec.specs.Told.{Append}
+use Rattle.session_spec.specs.Report.{report_cut}
+use Rattle.spec_rows.specs.Zones.{console, console_of_two}
+use Rattle.spec_rows.specs.Damage.{cut_zone, full_ring}
+use Rattle.spec_rows.specs.Shown.{Shown, shown_by}
+use Rattle.spec_rows.proofs.Computing.{computing}
+use Rattle.spec_rows.proofs.TwoParityBytes.{foreign-is, foreign-reads}
+use Rattle.spec_rows.proofs.damage.foreign_header.Goals as goal
+
+shown_of : ZoneReading → Shown
+shown_of r = shown_by r (record { name = console; verdict = verdict_of (Some (replicate 4018 0x61)) r.log; cut = report_cut console_of_two r (cut_zone console_of_two full_ring (replicate 4018 0x61) (Append (replicate 1541 0x62)) 1).cut })
+
+pub returns : goal.returns
+unfolding computing shown_of
+returns c =
+    let reads = ap (zone_reading console_of_two) foreign-is ∙ foreign-reads in
+    (ap shown_of reads ∙ refl, ap (λ r. r.words.sig) reads)

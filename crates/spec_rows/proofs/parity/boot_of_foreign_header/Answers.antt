@@ -1,0 +1,8 @@
+use Rattle.std.proofs.Common.{ap, ◌∙◌}
+use Rattle.zone_spec.specs.Boot.{boot_stores}
+use Rattle.spec_rows.specs.Zones.{console_of_two}
+use Rattle.spec_rows.proofs.TwoParityBytes.{foreign-is, foreign-boots}
+use Rattle.spec_rows.proofs.parity.boot_of_foreign_header.Goals as goal
+
+pub returns : goal.returns
+returns c = ap (boot_stores console_of_two) foreign-is ∙ foreign-boots

@@ -1,0 +1,8 @@
+use Rattle.std.proofs.Common.{refl, ap, ◌∙◌, slice_range}
+use Rattle.spec_rows.proofs.Computing.{computing}
+use Rattle.spec_rows.proofs.TwoParityBytes.{booted-is}
+use Rattle.spec_rows.proofs.parity.parity_of_first_boot.Goals as goal
+
+pub returns : goal.returns
+unfolding computing
+returns c = ap (λ image. slice_range image 4094 4096) booted-is ∙ refl

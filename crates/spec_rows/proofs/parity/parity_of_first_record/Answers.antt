@@ -1,0 +1,12 @@
+use Rattle.std.proofs.Common.{refl, ap, ◌∙◌, slice_range}
+use Rattle.spec_rows.proofs.Computing.{computing}
+use Rattle.spec_rows.proofs.TwoParityBytes.{three-is}
+use Rattle.spec_rows.proofs.parity.parity_of_first_record.Goals as goal
+
+pub returns : goal.returns
+unfolding computing
+returns c = (
+  ap (λ image. slice_range image 0 15) three-is ∙ refl,
+  ap (λ image. slice_range image 4030 4032) three-is ∙ refl,
+  ap (λ image. slice_range image 4094 4096) three-is ∙ refl,
+)

@@ -1,0 +1,16 @@
+pub mod Zones
+pub mod Shown
+pub mod Scenes
+pub mod Layouts
+pub mod Calls
+pub mod Counts
+pub mod Boots
+pub mod Dumps
+pub mod Ftrace
+pub mod Refusals
+pub mod Notices
+pub mod Lines
+pub mod Damage
+pub mod Bounds
+pub mod Parity
+pub mod Codes

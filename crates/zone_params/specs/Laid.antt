@@ -1,0 +1,11 @@
+-- What a layout is seen as: the parameters that it was made from, and its zones
+use Rattle.std.specs.Prelude.{List}
+use Rattle.zone_spec.specs.declared.params.Params.{Params}
+use Rattle.zone_spec.specs.declared.Zone.{Zone}
+use Rattle.zone_params.specs.declared.types.Layout.{Layout}
+
+abbrev pub params_of : Layout → Params
+params_of l = l.params
+
+abbrev pub zones_of : Layout → List Zone
+zones_of l = l.zones.items

@@ -1,0 +1,5 @@
+pub mod Faults
+pub mod Numbers
+pub mod Words
+pub mod Layouts
+pub mod Laid

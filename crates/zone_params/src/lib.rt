@@ -1,0 +1,17 @@
+//! The parameters of a store, read from words, and the layout of its zones.
+#![tactic(auto)]
+
+mod faults;
+pub mod laws;
+mod laying;
+mod params;
+mod rows;
+pub mod types;
+
+pub use faults::{LayoutError, ParamFault};
+pub use laying::layout;
+pub use params::{number, read_words};
+pub use zone_spec::{Kind, LayoutFault, Params, Zone, ZoneName};
+
+#[cfg(test)]
+mod tests;

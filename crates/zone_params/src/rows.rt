@@ -1,0 +1,230 @@
+// The zones of each kind, and what is wrong with them.
+ghost use Rattle.std.specs.Prelude.{◌≡◌, ◌≤◌, ◌<◌, ◌^◌, ◌==◌, ◌&&◌, ◌+◌, ◌*◌, ◌||◌, not, List, [], ◌∷◌, ◌++◌, nat_lt, IsTrue, map, OnOk, None};
+ghost use Rattle.std.specs.List.{All, list_any, list_all};
+ghost use Rattle.zone_spec.specs.Layout.{rounded as rounded_of, parity_bytes, ecc_of, rows as rows_of, zone_at as zone_of, parameter_faults, first_fault, zone_faults, zones_from, dump_memory, tag_of};
+ghost use Rattle.zone_spec.specs.Zones.{blocks_in as blocks_of};
+
+use zone_spec::{Kind, LayoutFault, Params, Row, Zone, ZoneName};
+
+const SIGNATURE: u32 = 0x43474244;
+
+const MOST_MEMORY: u64 = 16_777_216;
+
+const LEAST_ZONE: u64 = 256;
+
+const LEAST_CAPACITY: u32 = 64;
+
+const HEADER: u64 = 12;
+
+// A size rounded down to a power of two.
+pub fn rounded(size: u64) -> u64
+    ensures { result ≡ rounded_of size }
+{
+    if size == 0 { 0 } else { 1 << size.ilog2() }
+}
+
+fn ecc(p: &Params, kind: Kind) -> u64
+    ensures { result ≡ ecc_of p.now kind }
+{
+    match kind {
+        Kind::Dump => p.ecc_dump,
+        Kind::Console => p.ecc_console,
+        Kind::Ftrace => p.ecc_ftrace,
+        Kind::Pmsg => p.ecc_pmsg,
+    }
+}
+
+// The parity bytes that an ecc value asks for.
+pub fn parity_bytes(ecc: u64) -> u64
+    ensures { result ≡ parity_bytes ecc }
+{
+    if ecc == 1 { 16 } else { ecc }
+}
+
+pub fn parity(p: &Params, kind: Kind) -> u64
+    ensures { result ≡ parity_bytes (ecc_of p.now kind) }
+{
+    parity_bytes(ecc(p, kind))
+}
+
+// The first fault that holds.
+fn first(faults: &[(bool, LayoutFault)]) -> Option<LayoutFault>
+    ensures { result ≡ first_fault faults.now }
+{
+    for (holds, fault) in faults {
+        if *holds {
+            return Some(*fault);
+        }
+    }
+    None
+}
+
+fn is_empty(p: &Params) -> bool
+    ensures { result ≡ list_all (λ size. rounded_of size == 0) (p.now.dump ∷ p.now.console ∷ p.now.ftrace ∷ p.now.pmsg ∷ []) }
+{
+    rounded(p.dump) == 0
+        && rounded(p.console) == 0
+        && rounded(p.ftrace) == 0
+        && rounded(p.pmsg) == 0
+}
+
+fn is_ecc_large(p: &Params) -> bool
+    ensures { result ≡ list_any (nat_lt 127) (p.now.ecc ∷ p.now.ecc_dump ∷ p.now.ecc_console ∷ p.now.ecc_ftrace ∷ p.now.ecc_pmsg ∷ []) }
+{
+    p.ecc > 127 || p.ecc_dump > 127 || p.ecc_console > 127 || p.ecc_ftrace > 127 || p.ecc_pmsg > 127
+}
+
+fn is_block(size: u64) -> bool
+    ensures { result ≡ list_any (λ k. size == k) (32 ∷ 64 ∷ 128 ∷ []) }
+{
+    size == 32 || size == 64 || size == 128
+}
+
+fn lacks_room(p: &Params) -> bool
+    ensures { result ≡ (nat_lt (rounded_of p.now.mem) (rounded_of p.now.console + rounded_of p.now.ftrace + rounded_of p.now.pmsg)
+        || (nat_lt 0 (dump_memory p.now) && nat_lt (dump_memory p.now) (rounded_of p.now.dump))) }
+{
+    let mem = rounded(p.mem);
+    let console = rounded(p.console);
+    let ftrace = rounded(p.ftrace);
+    let pmsg = rounded(p.pmsg);
+    let dumps = mem
+        .saturating_sub(console)
+        .saturating_sub(ftrace)
+        .saturating_sub(pmsg);
+    u128::from(console) + u128::from(ftrace) + u128::from(pmsg) > u128::from(mem)
+        || (dumps > 0 && dumps < rounded(p.dump))
+}
+
+// The first fault of the parameters, before any zone is looked at.
+pub fn parameter_fault(p: &Params) -> Option<LayoutFault>
+    ensures { result ≡ first_fault (parameter_faults p.now) }
+{
+    first(&[
+        (p.mem == 0, LayoutFault::NoMemory),
+        (is_empty(p), LayoutFault::NoZone),
+        (p.mem > MOST_MEMORY, LayoutFault::TooLarge),
+        (is_ecc_large(p), LayoutFault::EccTooLarge),
+        (!is_block(p.block), LayoutFault::BlockBad),
+        (p.cpus == 0 || p.cpus > 64, LayoutFault::CpusBad),
+        (lacks_room(p), LayoutFault::NoRoom),
+    ])
+}
+
+// The zones of each kind: dump, console, ftrace, pmsg.
+pub fn rows(p: &Params) -> [Row; 4]
+    requires { first_fault (parameter_faults p.now) ≡ None }
+    ensures { result ≡ rows_of p.now }
+{
+    let console = rounded(p.console);
+    let ftrace = rounded(p.ftrace);
+    let pmsg = rounded(p.pmsg);
+    let record = rounded(p.dump);
+    let memory = rounded(p.mem) - console - ftrace - pmsg;
+    let dumps = if record == 0 { 0 } else { memory / record };
+    let dump = if dumps == 0 { 0 } else { memory / dumps };
+    [
+        Row {
+            kind: Kind::Dump,
+            count: dumps,
+            size: dump / 2 * 2,
+        },
+        Row {
+            kind: Kind::Console,
+            count: u64::from(console != 0),
+            size: console,
+        },
+        Row {
+            kind: Kind::Ftrace,
+            count: if ftrace == 0 { 0 } else { p.cpus },
+            size: ftrace / p.cpus / 2 * 2,
+        },
+        Row {
+            kind: Kind::Pmsg,
+            count: u64::from(pmsg != 0),
+            size: pmsg,
+        },
+    ]
+}
+
+fn tag(p: &Params, kind: Kind) -> u32
+    ensures { result ≡ tag_of p.now kind }
+{
+    match kind {
+        Kind::Ftrace => p.ftrace_sig,
+        Kind::Dump | Kind::Console | Kind::Pmsg => 0,
+    }
+}
+
+// The parity blocks of a zone of this size.
+fn blocks_in(size: u64, parity: u64, block: u64) -> u64
+    requires size { size ≤ 2 ^ 24 }
+    requires parity { parity ≤ 127 }
+    requires positive { 0 < block }
+    requires block { block ≤ 128 }
+    ensures value { result ≡ blocks_of size parity block }
+    ensures bound { result ≤ 2 ^ 24 + 256 }
+{
+    let part = block + parity;
+    (size.saturating_sub(HEADER).saturating_sub(parity) + part - 1) / part
+}
+
+// A zone of this size from this place on, with the parity of its kind.
+pub fn zone_at(p: &Params, kind: Kind, size: u64, index: u64, at: u64) -> Zone
+    requires faultless { first_fault (parameter_faults p.now) ≡ None }
+    requires size { size ≤ 2 ^ 24 }
+    requires index { index < 2 ^ 32 }
+    requires at { at < 2 ^ 32 }
+    ensures { result ≡ zone_of p.now kind size index at }
+{
+    let parity = parity(p, kind);
+    let blocks = blocks_in(size, parity, p.block);
+    let cap = size
+        .saturating_sub(HEADER)
+        .saturating_sub((blocks + 1) * parity);
+    Zone {
+        name: ZoneName {
+            kind,
+            index: index as u32,
+        },
+        at: at as u32,
+        size: size as u32,
+        cap: cap as u32,
+        blocks: blocks as u32,
+        parity: parity as u32,
+        sig: SIGNATURE ^ tag(p, kind),
+        block: p.block as u32,
+    }
+}
+
+fn has_small(rows: &[Row]) -> bool
+    ensures { result ≡ list_any (λ row. nat_lt 0 row.count && nat_lt row.size 256) rows.now }
+{
+    rows.iter()
+        .any(|row| row.count > 0 && row.size < LEAST_ZONE)
+}
+
+fn has_tight(p: &Params, rows: &[Row]) -> bool
+    requires faultless { first_fault (parameter_faults p.now) ≡ None }
+    requires sizes { All (λ row. row.size ≤ 2 ^ 24) rows.now }
+    ensures { result ≡ list_any (λ row. nat_lt 0 row.count && nat_lt (zone_of p.now row.kind row.size 0 0).cap 64) rows.now }
+{
+    for row in rows {
+        if row.count > 0 && zone_at(p, row.kind, row.size, 0, 0).cap < LEAST_CAPACITY {
+            return true;
+        }
+    }
+    false
+}
+
+// The first fault of the zones of these rows.
+pub fn zone_fault(p: &Params, rows: &[Row]) -> Option<LayoutFault>
+    requires faultless { first_fault (parameter_faults p.now) ≡ None }
+    requires rows { rows.now ≡ rows_of p.now }
+    ensures { result ≡ first_fault (zone_faults (zones_from p.now 0 (rows_of p.now))) }
+{
+    first(&[
+        (has_small(rows), LayoutFault::ZoneTooSmall),
+        (has_tight(p, rows), LayoutFault::EccInvalid),
+    ])
+}

@@ -1,0 +1,82 @@
+//! The layout of a store's zones.
+ghost use Rattle.std.specs.Prelude.{◌≡◌, ◌^◌, ◌<◌, Ok};
+ghost use Rattle.zone_spec.specs.Layouts.{zone_place, is_zone, IsLayout};
+ghost use Rattle.zone_spec.specs.Layout.{layout_of, rounded as rounded_of, parity_bytes, ecc_of};
+
+use crate::rows;
+use zone_spec::{Kind, Params, Zone, ZoneName};
+
+/// The zones of a parameter list, in their order: dump zones, console, ftrace zones, pmsg.
+#[derive(Drop)]
+pub struct Layout {
+    params: Params,
+    zones: Vec<Zone>,
+    ghost laid: { layout_of params ≡ Ok zones.items },
+    ghost tagged: { params.ftrace_sig < 2 ^ 32 },
+}
+
+impl Layout {
+    ghost use Rattle.zone_params.specs.Laid.{params_of, zones_of};
+
+    pub(crate) fn new(params: Params, zones: Vec<Zone>) -> Layout
+        requires { layout_of params ≡ Ok zones.items }
+        ensures params { params_of result ≡ params }
+        ensures zones { zones_of result ≡ zones.items }
+    {
+        Layout { params, zones }
+    }
+
+    /// The bytes of the image.
+    pub fn mem(&self) -> u32
+        ensures { result ≡ rounded_of (params_of self.now).mem }
+    {
+        rows::rounded(self.params.mem) as u32
+    }
+
+    /// The parity bytes of the parameter `ecc`, also where no kind has them.
+    pub fn parity(&self) -> u32
+        ensures { result ≡ parity_bytes (params_of self.now).ecc }
+    {
+        rows::parity_bytes(self.params.ecc) as u32
+    }
+
+    /// The parity bytes of each part of a zone of this kind, also where there is no such zone.
+    pub fn parity_of(&self, kind: Kind) -> u32
+        ensures { result ≡ parity_bytes (ecc_of (params_of self.now) kind) }
+    {
+        rows::parity(&self.params, kind) as u32
+    }
+
+    /// The zones, in the order in which they lie.
+    pub fn zones(&self) -> &[Zone]
+        ensures value { result.now ≡ zones_of self.now }
+        ensures laid_out { IsLayout result.now (rounded_of (params_of self.now).mem) }
+    {
+        &self.zones
+    }
+
+    /// The place of the zone of this name in the list.
+    pub fn find(&self, name: ZoneName) -> Option<u32>
+        ensures { result ≡ zone_place (zones_of self.now) name }
+    {
+        for (i, zone) in self.zones.iter().enumerate() {
+            if is_named(zone, name) {
+                return Some(i as u32);
+            }
+        }
+        None
+    }
+}
+
+fn is_named(zone: &Zone, name: ZoneName) -> bool
+    ensures { result ≡ is_zone name zone.now }
+{
+    let same = match (name.kind, zone.name.kind) {
+        (Kind::Dump, Kind::Dump)
+        | (Kind::Console, Kind::Console)
+        | (Kind::Ftrace, Kind::Ftrace)
+        | (Kind::Pmsg, Kind::Pmsg) => true,
+        _ => false,
+    };
+    same && zone.name.index == name.index
+}

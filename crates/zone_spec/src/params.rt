@@ -1,0 +1,83 @@
+// The parameters of a layout, and the causes for which there is none.
+ghost use Rattle.std.specs.Prelude.{◌≡◌};
+ghost use Rattle.zone_spec.specs.Layout.{fault_number};
+
+use crate::Kind;
+use thiserror::Error;
+
+/// The parameters of a layout as they are given (`Documentation/admin-guide/ramoops.rst`), before any rounding.
+///
+/// Sizes are in bytes: `mem` is the image's, `dump` the wanted one of a dump zone, `console`, `ftrace` and `pmsg` those
+/// of the other zones, `ftrace` for all ftrace zones together. `ecc` and the four values of a kind are 0 for no
+/// parity, 1 for 16 parity bytes, else the number of parity bytes. `cpus` is the number of ftrace zones,
+/// `ftrace_sig` their tag, and `block` the data bytes of one parity block.
+#[derive(Clone, Copy, Debug, PartialEq, Eq)]
+pub struct Params {
+    pub mem: u64,
+    pub dump: u64,
+    pub console: u64,
+    pub ftrace: u64,
+    pub pmsg: u64,
+    pub ecc: u64,
+    pub cpus: u64,
+    pub ftrace_sig: u32,
+    pub block: u64,
+    pub ecc_dump: u64,
+    pub ecc_console: u64,
+    pub ecc_ftrace: u64,
+    pub ecc_pmsg: u64,
+}
+
+/// Zones of one kind and size, one behind another: how many, and the bytes of each.
+#[derive(Clone, Copy, Debug, PartialEq, Eq)]
+pub struct Row {
+    pub kind: Kind,
+    pub count: u64,
+    pub size: u64,
+}
+
+/// Why parameters have no layout.
+#[derive(Clone, Copy, Debug, PartialEq, Eq, Error)]
+pub enum LayoutFault {
+    #[error("the memory has no byte")]
+    NoMemory,
+    #[error("no zone has a size")]
+    NoZone,
+    #[error("the memory is above 16777216 bytes")]
+    TooLarge,
+    #[error("a zone would have more than 127 parity bytes")]
+    EccTooLarge,
+    #[error("the zones do not fit the memory")]
+    NoRoom,
+    #[error("a zone has fewer than 256 bytes")]
+    ZoneTooSmall,
+    #[error("parity leaves a zone too little room")]
+    EccInvalid,
+    #[error("the number of processors is not 1 to 64")]
+    CpusBad,
+    /// Of the block store alone.
+    #[error("a size is no multiple of 4096")]
+    NotPage,
+    #[error("the block size is not 32, 64 or 128")]
+    BlockBad,
+}
+
+impl LayoutFault {
+    /// The fault's number in the tool's texts.
+    pub fn number(self) -> u32
+        ensures { result ≡ fault_number self }
+    {
+        match self {
+            LayoutFault::NoMemory => 1,
+            LayoutFault::NoZone => 2,
+            LayoutFault::TooLarge => 3,
+            LayoutFault::EccTooLarge => 4,
+            LayoutFault::NoRoom => 5,
+            LayoutFault::ZoneTooSmall => 6,
+            LayoutFault::EccInvalid => 7,
+            LayoutFault::CpusBad => 8,
+            LayoutFault::NotPage => 9,
+            LayoutFault::BlockBad => 11,
+        }
+    }
+}
