@@ -13,7 +13,8 @@ ProductByShifts = (a b : ℕ) → a < 256 → b < 256 → mul_bits a b 8 ≡ gf_
 abbrev pub LawOfDistance : Type 0
 LawOfDistance = (r n : ℕ) (c d : List ℕ) → n ≤ 255 → IsWord n c → IsWord n d → IsCodeword r c → IsCodeword r d → c ≢ d → r + 1 ≤ distance c d
 
--- nearest gives a codeword of the word's length within half the parity, it is the only one, and where there is one nearest gives it
+-- nearest gives a codeword of the word's length within half the parity, it is the only one, and where
+-- there is one nearest gives it
 abbrev pub NearestIs : Type 0
 NearestIs = (r : ℕ) (w c : List ℕ) → length w ≤ 255 → IsWord (length w) w
     → (nearest r w ≡ Some c) ↔ (IsWord (length w) c × IsCodeword r c × (distance w c ≤ r / 2))

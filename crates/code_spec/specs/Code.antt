@@ -1,4 +1,5 @@
--- The Reed-Solomon code whose generator has the roots 2^0 .. 2^(r-1). A word is a list of bytes, the highest power first
+-- The Reed-Solomon code whose generator has the roots 2^0 .. 2^(r-1). A word is a list of bytes, the
+-- highest power first
 use Rattle.std.specs.Prelude.{◌≡◌, ℕ, zero, suc, ◌+◌, ◌/◌, ◌<◌, ◌≤◌, Bool, true, false, ◌&&◌, if◌then◌else◌, nat_le, ◌==◌, IsTrue, List, [], ◌∷◌, ◌++◌, length, map, flat_map, find, Option, Some, unwrap_or}
 use Rattle.std.specs.List.{range_with_len, AllByRecursion}
 use Rattle.code_spec.specs.Field.{gf_add, gf_mul, gf_pow}
@@ -31,7 +32,8 @@ unfoldable pub words_of : ℕ → List (List ℕ)
 words_of zero = [] ∷ []
 words_of (suc n) = flat_map (λ b. map (λ w. b ∷ w) (words_of n)) (range_with_len 0 256)
 
--- the word of n bytes that passes the test, where there is one (where there are more, the first). Never computed
+-- the word of n bytes that passes the test, where there is one (where there are more, the first). Never
+-- computed
 unfoldable pub the_word : ℕ → (List ℕ → Bool) → Option (List ℕ)
 the_word n test = find test (words_of n)
 
@@ -39,7 +41,8 @@ the_word n test = find test (words_of n)
 unfoldable pub is_near : ℕ → List ℕ → List ℕ → Bool
 is_near r w c = is_codeword r c && nat_le (distance w c) (r / 2)
 
--- the codeword of w's length within half the parity of it, where there is one; w itself where it is a codeword
+-- the codeword of w's length within half the parity of it, where there is one; w itself where it is a
+-- codeword
 abbrev pub nearest_if : Bool → ℕ → List ℕ → Option (List ℕ)
 nearest_if true r w = Some w
 nearest_if false r w = the_word (length w) (is_near r w)

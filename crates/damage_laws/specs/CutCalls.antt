@@ -23,8 +23,10 @@ abbrev pub IsNearHeader : Zone → List ℕ → List ℕ → Type 0
 IsNearHeader z now c = distance (part_word z now Header) c ≤ z.parity / 2
 
 -- What a header reads that is not damaged further:
--- what stood at the stop was a pair of the call with the zone's signature, and the header reads now as it did then;
--- near the opening codeword of the current part it reads the opening words, near the closing codeword the closing words,
+-- what stood at the stop was a pair of the call with the zone's signature, and the header reads now as
+-- it did then;
+-- near the opening codeword of the current part it reads the opening words, near the closing codeword
+-- the closing words,
 -- and else the standing words, or those of another codeword near it
 pub record HeaderReads (z : Zone) (cut : Cut) (stop now : List ℕ) : Type 0 where
   pub stood : ((standing_words stop).sig ≡ z.sig) × Contains (cut_pairs cut) (pair_of (standing_words stop))
@@ -51,7 +53,8 @@ abbrev pub RisesFrom : ℕ → List (ℕ × ℕ) → Type 0
 RisesFrom a [] = Unit {0}
 RisesFrom a (run ∷ runs) = (a ≤ run.0) × (run.0 ≤ run.1) × RisesFrom (run.1 + 2) runs
 
--- a report of a cut is exact: the call's kind, the stores made and in all, the pair that the header reads, and the touched blocks in runs that are as long as can be
+-- a report of a cut is exact: the call's kind, the stores made and in all, the pair that the header
+-- reads, and the touched blocks in runs that are as long as can be
 pub record IsExactReport (z : Zone) (reading : ZoneReading) (cut : Cut) (call : CallKind) (stored all : ℕ) (r : CutReport) : Type 0 where
   pub kind : r.kind ≡ call
   pub made : r.made ≡ stored

@@ -1,4 +1,5 @@
--- What a zone reads in which a boot was cut. Now is its bytes when that boot began, of whose stores in the zone k were made
+-- What a zone reads in which a boot was cut. Now is its bytes when that boot began, of whose stores in
+-- the zone k were made
 use Rattle.std.specs.Prelude.{◌≡◌, ℕ, ◌+◌, ◌-◌, ◌≤◌, List, [], length, map, take}
 use Rattle.std.specs.List.{range_with_len}
 use Rattle.zone_spec.specs.declared.Zone.{Zone}
@@ -28,8 +29,10 @@ CorrectionsKeepReading = (z : Zone) (now : List ℕ) (k : ℕ) → IsValidZone z
     → let before = zone_reading z now in let after = zone_reading z (after_boot_stores z now k) in
     (after.state ≡ before.state) × (after.words ≡ before.words) × (after.log ≡ before.log) × (after.corrected + k ≡ before.corrected)
 
--- What a zone reads whose erasure was begun and not finished, later being what stands when the next boot begins: pair 0 is the words that the boot read;
--- the header as of a cut call; and where the boot found a log, and its blocks are within bounds, that log for pair 0,
+-- What a zone reads whose erasure was begun and not finished, later being what stands when the next boot
+-- begins: pair 0 is the words that the boot read;
+-- the header as of a cut call; and where the boot found a log, and its blocks are within bounds, that
+-- log for pair 0,
 -- the same data from place 0 on for pair 1, and nothing for pair 2
 pub record BootCutReads (z : Zone) (now stop later : List ℕ) (cut : Cut) : Type 0 where
   pub before : words_before cut ≡ (zone_reading z now).words

@@ -1,4 +1,5 @@
--- What damage within bounds leaves of a part, and of a zone that was told something and whose call no stop cut
+-- What damage within bounds leaves of a part, and of a zone that was told something and whose call no
+-- stop cut
 use Rattle.std.specs.Prelude.{◌≡◌, ℕ, ◌*◌, ◌/◌, ◌<◌, if◌then◌else◌, ◌==◌, List, length, slice_get, Some}
 use Rattle.zone_spec.specs.declared.Zone.{Zone}
 use Rattle.zone_spec.specs.declared.State.TheVariants.{Empty, Found}
@@ -20,7 +21,8 @@ PartReadsAsAtStop = (z : Zone) (stop now : List ℕ) (part : Part) → IsValidZo
 abbrev pub BlocksWithinBounds : Zone → List ℕ → List ℕ → ℕ → Type 0
 BlocksWithinBounds z stop now x = (b : ℕ) → z.block * b < x → IsWithinBounds z stop now (Block b)
 
--- the log has the told length, its places in blocks within bounds read their told bytes, and the whole is as told where the blocks within the told length are within bounds
+-- the log has the told length, its places in blocks within bounds read their told bytes, and the whole
+-- is as told where the blocks within the told length are within bounds
 pub record IdleReads (z : Zone) (stop now told : List ℕ) : Type 0 where
   pub size : length (zone_reading z now).log ≡ length told
   pub places : (i place : ℕ) → slice_get (log_places (words_read z now).start (words_read z now).size) i ≡ Some place

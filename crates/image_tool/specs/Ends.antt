@@ -3,7 +3,7 @@ use Rattle.std.specs.Prelude.{◌≡◌, ◌≢◌, ◌⊎◌, ℕ, ◌+◌, ◌
 use Rattle.std.specs.Fmt.{decimal}
 use Rattle.std.specs.Io.KnownBytes.{Appends}
 use Rattle.box_io.specs.Outside.{Rose, AppendsFront}
-use Rattle.zone_spec.specs.Layout.{fault_number}
+use Rattle.zone_spec.specs.LayoutFaults.{fault_number}
 use Rattle.zone_params.specs.declared.faults.ParamFault.{ParamFault}
 use Rattle.zone_params.specs.declared.faults.ParamFault.TheVariants.{UnknownKey, Twice, NotANumber}
 use Rattle.image_tool.specs.declared.stop.Stop.{Stop}
@@ -36,7 +36,8 @@ cause_text OutOfImage = codes "out of image"
 cause_text NoRecord = codes "no record"
 cause_text NotHere = codes "not here"
 
--- a parameter's fault with its word, counted from 1 over all words: two words stand before the first parameter
+-- a parameter's fault with its word, counted from 1 over all words: two words stand before the first
+-- parameter
 abbrev pub param_text : ParamFault → List ℕ
 param_text (UnknownKey n) = codes "1 at word " ++ decimal (n + 3)
 param_text (Twice n) = codes "2 at word " ++ decimal (n + 3)

@@ -23,7 +23,8 @@ pub record SamePlace (p p' : Piece) : Type 0 where
   pub at : slots_ptr p'.slots ≡ slots_ptr p.slots
   pub long : slots_len p'.slots ≡ slots_len p.slots
 
--- the first piece begins at the one place, each other where the one before it ends, and the last ends at the other place
+-- the first piece begins at the one place, each other where the one before it ends, and the last ends at
+-- the other place
 abbrev pub Chain : Ptr → List Piece → Ptr → Type 0
 Chain from [] to = from ≡ to
 Chain from (p ∷ ps) to = (slots_ptr p.slots ≡ from) × Chain (from +ₚ slots_len p.slots) ps to

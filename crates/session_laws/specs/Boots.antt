@@ -33,7 +33,8 @@ pub record IsExactVerdict (told : Option (List ℕ)) (log : List ℕ) : Type 0 w
 abbrev pub VerdictIsExact : Type 0
 VerdictIsExact = (told : Option (List ℕ)) (log : List ℕ) → IsExactVerdict told log
 
--- the verdict is on the told list and the log, and the report of a cut is exact, with the numbers of a flight or of a boot's erasure
+-- the verdict is on the told list and the log, and the report of a cut is exact, with the numbers of a
+-- flight or of a boot's erasure
 pub record ReportsExactly (z : Zone) (zone : OffZone) (now : List ℕ) : Type 0 where
   pub verdict : (zone_report z zone now).verdict ≡ verdict_of zone.told (zone_reading z now).log
   pub whole : zone.cut ≡ None → (zone_report z zone now).cut ≡ None
@@ -48,7 +49,8 @@ pub record ReportsExactly (z : Zone) (zone : OffZone) (now : List ℕ) : Type 0 
 abbrev pub ReportIsExact : Type 0
 ReportIsExact = (layout : List Zone) (mem : ℕ) (off : OffState) → IsLayout layout mem → IsState layout mem (Off off) → EachOffZone layout off ReportsExactly
 
--- a zone whose call a stop cut reads as such a zone does; a zone cut within its erasure reads as such a zone does, before being its bytes when that boot began
+-- a zone whose call a stop cut reads as such a zone does; a zone cut within its erasure reads as such a
+-- zone does, before being its bytes when that boot began
 pub record ReadsCut (z : Zone) (zone : OffZone) (now : List ℕ) : Type 0 where
   pub call : (told : List ℕ) (cut : Cut) → zone.told ≡ Some told → zone.cut ≡ Some cut → cut.by_boot ≡ false → IsNotDamagedFurther z zone.stop now
       → CutReads z cut told zone.stop now

@@ -24,7 +24,8 @@ abbrev pub CutBootLeavesRest : Type 0
 CutBootLeavesRest = (layout : List Zone) (mem : ℕ) (off : OffState) (k : ℕ) → IsLayout layout mem → IsState layout mem (Off off)
     → drop (zones_end layout) (boot_parted layout k off).image ≡ drop (zones_end layout) off.image
 
--- what is held of a zone, of whose own stores and those behind it n were made: it was finished, by its last store, by one behind it or by all; it was within its erasure; or neither
+-- what is held of a zone, of whose own stores and those behind it n were made: it was finished, by its
+-- last store, by one behind it or by all; it was within its erasure; or neither
 abbrev pub CutBootHolds : Type 0
 CutBootHolds = (layout : List Zone) (mem : ℕ) (off : OffState) (k i : ℕ) (z : Zone) (old new : OffZone) → IsLayout layout mem → IsState layout mem (Off off)
     → slice_get layout i ≡ Some z → slice_get off.zones i ≡ Some old → slice_get (boot_parted layout k off).zones i ≡ Some new
@@ -33,7 +34,8 @@ CutBootHolds = (layout : List Zone) (mem : ℕ) (off : OffState) (k i : ℕ) (z 
     × (IsWithinErasure z now n → (new.told ≡ old.told) × (new.cut ≡ Some (boot_cut z now n)) × (new.stop ≡ later))
     × (k < boot_count layout off.image → n ≤ length (boot_fixes z now) → (n ≡ 0) ⊎ (n < length (boot_stores z now)) → new ≡ old)
 
--- a zone reads the same until its erasure has begun, but that each store made is a correction less; and what the boot kept, once it has finished
+-- a zone reads the same until its erasure has begun, but that each store made is a correction less; and
+-- what the boot kept, once it has finished
 abbrev pub CutBootReads : Type 0
 CutBootReads = (layout : List Zone) (mem : ℕ) (off : OffState) (k i : ℕ) (z : Zone) → IsLayout layout mem → IsState layout mem (Off off) → slice_get layout i ≡ Some z
     → let now = zone_bytes z off.image in let later = zone_bytes z (boot_parted layout k off).image in let n = left_at layout off.image k i in
@@ -41,7 +43,8 @@ CutBootReads = (layout : List Zone) (mem : ℕ) (off : OffState) (k i : ℕ) (z 
     (n ≤ length (boot_fixes z now) → (after.state ≡ before.state) × (after.words ≡ before.words) × (after.log ≡ before.log) × (after.corrected + n ≡ before.corrected))
     × (length (boot_stores z now) ≤ n → ReadsTold z later (told_by_boot z now))
 
--- what is held of a zone is as before, and damage from before and after the boot counts together; or the boot's end is the zone's stop
+-- what is held of a zone is as before, and damage from before and after the boot counts together; or the
+-- boot's end is the zone's stop
 abbrev pub IsLeftOrStopped : OffState → OffState → Zone → OffZone × OffZone → Type 0
 IsLeftOrStopped off after z (old, new) =
     let now = zone_bytes z off.image in let later = zone_bytes z after.image in

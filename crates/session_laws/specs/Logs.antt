@@ -9,7 +9,8 @@ use Rattle.zone_spec.specs.PartReadings.{part_reading, words_read}
 use Rattle.zone_spec.specs.Reading.{zone_reading, log_places, blocks_below}
 use Rattle.zone_spec.specs.Records.{Saved, listed_of, found}
 
--- each byte of a log is that of its block's nearest codeword, or stands in the image, in a block that is counted bad
+-- each byte of a log is that of its block's nearest codeword, or stands in the image, in a block that is
+-- counted bad
 abbrev pub LogBytesCome : Type 0
 LogBytesCome = (z : Zone) (now : List ℕ) (i place : ℕ) → IsValidZone z → length now ≡ z.size → (zone_reading z now).state ≡ Found
     → slice_get (log_places (words_read z now).start (words_read z now).size) i ≡ Some place

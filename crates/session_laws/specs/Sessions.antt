@@ -38,7 +38,8 @@ abbrev pub AppendsTellLastBytes : Type 0
 AppendsTellLastBytes = (cap : ℕ) (told : List ℕ) (payloads : List (List ℕ)) → length told ≤ cap
     → fold (λ before payload. told_after cap (Append payload) before) told payloads ≡ last_items cap (told ++ flat_map (λ payload. payload) payloads)
 
--- a zone whose bytes are those at its stop reads as told, and at its old ring places where a stop cut its call
+-- a zone whose bytes are those at its stop reads as told, and at its old ring places where a stop cut
+-- its call
 pub record ReadsAsAtStop (z : Zone) (zone : OffZone) (now : List ℕ) : Type 0 where
   pub idle : (told : List ℕ) → zone.told ≡ Some told → zone.cut ≡ None → now ≡ zone.stop → verdict_of zone.told (zone_reading z now).log ≡ AsTold
   pub places : (told : List ℕ) (cut : Cut) → zone.told ≡ Some told → zone.cut ≡ Some cut → cut.by_boot ≡ false → now ≡ zone.stop → OldPlacesRead z cut told zone.stop now

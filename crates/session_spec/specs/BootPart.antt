@@ -25,7 +25,8 @@ boot_count layout image = length (image_boot_stores layout image)
 abbrev pub IsWithinErasure : Zone → List ℕ → ℕ → Type 0
 IsWithinErasure z bytes count = (length (boot_fixes z bytes) < count) × (count < length (boot_stores z bytes))
 
--- the erasure that a boot began, and did not finish, as a cut: its header is that after the corrections, with the words that were read
+-- the erasure that a boot began, and did not finish, as a cut: its header is that after the corrections,
+-- with the words that were read
 abbrev pub boot_cut : Zone → List ℕ → ℕ → Cut
 boot_cut z bytes count = record {
   kind = Erase;
@@ -44,7 +45,8 @@ abbrev pub zone_cut : Zone → List ℕ → ℕ → OffZone → OffZone
 zone_cut z bytes count zone =
     record { stop = after_stores bytes (take count (boot_stores z bytes)); told = zone.told; cut = Some (boot_cut z bytes count) }
 
--- a zone, where so many of the stores made come at or behind it: finished, where the boot ends in its last store or behind it; cut, within its erasure; else as it was
+-- a zone, where so many of the stores made come at or behind it: finished, where the boot ends in its
+-- last store or behind it; cut, within its erasure; else as it was
 abbrev pub zone_parted : Zone → List ℕ → Bool → ℕ → OffZone → OffZone
 zone_parted z bytes all count zone =
     if all || (nat_lt 0 count && nat_le (length (boot_stores z bytes)) count) then zone_finished z bytes

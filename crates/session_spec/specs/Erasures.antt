@@ -1,4 +1,5 @@
--- The erasure of a record: all its zones are erased, and their saved logs forgotten (fs/pstore/ram.c, ramoops_pstore_erase; that it takes all ftrace zones is the project's own)
+-- The erasure of a record: all its zones are erased, and their saved logs forgotten (fs/pstore/ram.c,
+-- ramoops_pstore_erase; that it takes all ftrace zones is the project's own)
 use Rattle.std.specs.Prelude.{if◌then◌else◌, List, map, zip, None}
 use Rattle.zone_spec.specs.declared.Zone.{Zone}
 use Rattle.zone_spec.specs.declared.Name.{Name}

@@ -1,4 +1,5 @@
--- What a boot reads of what was told. Of one zone: its stop, what it was told, its cut, and its bytes as they stand now
+-- What a boot reads of what was told. Of one zone: its stop, what it was told, its cut, and its bytes as
+-- they stand now
 use Rattle.std.specs.Prelude.{◌≡◌, ℕ, ◌/◌, ◌≤◌, ◌↔◌, true, false, List, slice_get, Contains, Some, None}
 use Rattle.zone_spec.specs.declared.Zone.{Zone}
 use Rattle.zone_spec.specs.declared.HeaderSeen.TheVariants.{Pair as SeenPair}
@@ -29,7 +30,8 @@ NoOtherPlaces z cut now =
 abbrev pub RunsAreTouched : Zone → Cut → List (ℕ × ℕ) → Type 0
 RunsAreTouched z cut runs = (b : ℕ) → (is_touched z cut b ≡ true) ↔ ((lo hi : ℕ) × Contains runs (lo, hi) × (lo ≤ b) × (b ≤ hi))
 
--- an idle zone reads the last bytes written that fit; in a zone whose call a stop cut, only touched blocks and the header, both reported, make a difference
+-- an idle zone reads the last bytes written that fit; in a zone whose call a stop cut, only touched
+-- blocks and the header, both reported, make a difference
 pub record ReadsLastWritten (z : Zone) (zone : OffZone) (now : List ℕ) : Type 0 where
   pub idle : (told : List ℕ) → zone.told ≡ Some told → zone.cut ≡ None → IsZoneWithinBounds z zone.stop now
       → (zone_reading z now).log ≡ told

@@ -51,7 +51,8 @@ abbrev pub flies_dump : Option Flight → Bool
 flies_dump None = false
 flies_dump (Some f) = is_dump f.call
 
--- a zone's new standing; a dump whose last store was made moves the cursor, round the dump zones (fs/pstore/ram.c, ramoops_pstore_write)
+-- a zone's new standing; a dump whose last store was made moves the cursor, round the dump zones
+-- (fs/pstore/ram.c, ramoops_pstore_write)
 abbrev pub with_zone : List Zone → LiveState → ℕ → LiveZone → LiveZone → LiveState
 with_zone layout live i old new = record live {
   zones = slice_set live.zones i new;

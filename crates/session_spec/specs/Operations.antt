@@ -16,7 +16,8 @@ use Rattle.session_spec.specs.Stop.{stopped}
 use Rattle.session_spec.specs.Boot.{booted}
 use Rattle.session_spec.specs.BootPart.{boot_parted}
 
--- off: a flip of a byte, a boot, a boot that is cut; live: a call begun, a call begun and finished, stores of a flight, all that are left of one, the erasure of a record, a stop
+-- off: a flip of a byte, a boot, a boot that is cut; live: a call begun, a call begun and finished,
+-- stores of a flight, all that are left of one, the erasure of a record, a stop
 pub data Operation : Type 0 where
   Flip : (place mask : ℕ) → Operation
   Boot : Operation
@@ -28,7 +29,8 @@ pub data Operation : Type 0 where
   EraseRecord : (name : Name) → Operation
   Stop : Operation
 
--- why an operation is refused: the state has no such operation, no record of this name is listed, or the store refuses it
+-- why an operation is refused: the state has no such operation, no record of this name is listed, or the
+-- store refuses it
 pub data Cause : Type 0 where
   WrongState : Cause
   NoRecord : Cause

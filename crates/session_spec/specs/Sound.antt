@@ -17,7 +17,8 @@ use Rattle.session_spec.specs.Stop.{cut_of, session_image}
 use Rattle.session_spec.specs.BootPart.{IsWithinErasure, boot_cut}
 use Rattle.session_spec.specs.Operations.{Operation, Flip, Begin, Make, session_after}
 
--- a zone's image is that after the stores made of a flight that began on a zone in ring form, and stores are left
+-- a zone's image is that after the stores made of a flight that began on a zone in ring form, and stores
+-- are left
 pub record IsInFlight (z : Zone) (image told : List ℕ) (f : Flight) : Type 0 where
   pub size : IsImage z f.image
   pub ring : IsRingForm z f.image told
@@ -35,7 +36,8 @@ pub record IsLiveZone (z : Zone) (zone : LiveZone) : Type 0 where
   pub size : IsImage z zone.image
   pub stands : Stands z zone.image zone.told zone.flight
 
--- a zone with a told list and no cut was at its stop in ring form with that list; a zone cut by a flight was at its stop in that flight; a zone cut by a boot's erasure was at its stop within it
+-- a zone with a told list and no cut was at its stop in ring form with that list; a zone cut by a flight
+-- was at its stop in that flight; a zone cut by a boot's erasure was at its stop within it
 pub record IsOffZone (z : Zone) (zone : OffZone) : Type 0 where
   pub size : IsImage z zone.stop
   pub idle : (told : List ℕ) → zone.told ≡ Some told → zone.cut ≡ None → IsRingForm z zone.stop told

@@ -21,13 +21,15 @@ pub record OffState : Type 0 where
   pub image : List ℕ
   pub zones : List OffZone
 
--- a zone while the machine is live: its bytes, the list that it was told, which is that from before a flight, and its flight
+-- a zone while the machine is live: its bytes, the list that it was told, which is that from before a
+-- flight, and its flight
 pub record LiveZone : Type 0 where
   pub image : List ℕ
   pub told : List ℕ
   pub flight : Option Flight
 
--- each zone in layout order, the bytes behind the last zone, the number of the dump zone that the next dump goes to, and the logs that the last boot saved, None where one was forgotten
+-- each zone in layout order, the bytes behind the last zone, the number of the dump zone that the next
+-- dump goes to, and the logs that the last boot saved, None where one was forgotten
 pub record LiveState : Type 0 where
   pub zones : List LiveZone
   pub rest : List ℕ

@@ -15,7 +15,8 @@ begun z call live =
 abbrev pub total_stores : Zone → Flight → ℕ
 total_stores z f = length (call_stores z f.call f.image)
 
--- the next k stores of a zone's flight, or all that are left; with the last one the flight is gone and the told list is the new one
+-- the next k stores of a zone's flight, or all that are left; with the last one the flight is gone and
+-- the told list is the new one
 abbrev pub stepped_by : Option Flight → Zone → ℕ → LiveZone → LiveZone
 stepped_by None z k live = live
 stepped_by (Some f) z k live =

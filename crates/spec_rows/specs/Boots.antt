@@ -82,7 +82,8 @@ BootWithoutStores =
     run small_console (then_zeros 256 signature) (BootPart 0 ∷ Boot ∷ [])
     ≡ Stops 0 ∷ Boots (boot console Empty 0 0 0 0 AsTold ∷ []) ∷ []
 
--- a zone that was told nothing since its erasure reads as told, also where its signature is gone, or its size above the capacity
+-- a zone that was told nothing since its erasure reads as told, also where its signature is gone, or its
+-- size above the capacity
 abbrev pub UnsignedAsTold : Type 0
 UnsignedAsTold =
     (run small_console (replicate 256 0) (Boot ∷ Stop ∷ Flip 0 1 ∷ Boot ∷ [])
@@ -100,7 +101,8 @@ UnknownHeaders =
     × (state_of (plain_zone console 0) (record { sig = 0x43474244; start = 5; size = 4 }) ≡ Invalid)
     × (state_of (plain_zone console 0) (record { sig = 0x43474244; start = 0; size = 0 }) ≡ Empty)
 
--- the stops of the zones: a zone that a cut boot finished or was erasing stops with its end, every other stays as it was at the last stop
+-- the stops of the zones: a zone that a cut boot finished or was erasing stops with its end, every other
+-- stays as it was at the last stop
 abbrev pub stops : Session → List (List ℕ)
 stops (Live live) = []
 stops (Off off) = map (λ (zone : OffZone). zone.stop) off.zones

@@ -23,7 +23,8 @@ NineFlipsOutOfBounds =
     let stop = zone_written console_of_sixteen (replicate 200 0x61) in
     IsWithinBounds console_of_sixteen stop (flipped_from 12 nine_masks stop) (Block 0) → ⊥
 
--- the words before and after the part that holds the last store made of a dump: an erasure of 2 stores, a line of 17, a body of 3
+-- the words before and after the part that holds the last store made of a dump: an erasure of 2 stores,
+-- a line of 17, a body of 3
 abbrev pub words_of_window : Option Window → List Pair
 words_of_window None = []
 words_of_window (Some w) = pair_of w.opening ∷ pair_of w.closing ∷ []

@@ -75,7 +75,8 @@ PayloadLongerThanRing =
     (told_after 4084 (Append long) [] ≡ drop 916 long)
     × (call_stages (plain_zone console 0) (ring 0 0) (Append long) ≡ SizeWord 4084 ∷ StartWord 0 ∷ Run 0 (drop 916 long) ∷ map (λ b. ParityOf (Block b)) (range_with_len 0 32) ++ ParityOf Header ∷ [])
 
--- of 256 bytes: a full ring that is appended all its bytes stores start, and the parity of the block that both runs meet twice
+-- of 256 bytes: a full ring that is appended all its bytes stores start, and the parity of the block
+-- that both runs meet twice
 abbrev pub FullRingOverwritten : Type 0
 FullRingOverwritten =
     (call_stages (small_zone console 1788) (ring 100 244) (Append (replicate 244 0x61))

@@ -82,7 +82,8 @@ CutBetweenWords =
     ≡ and_cut (boot console Found 6 6 0 1 (Differs 3 6 3)) AppendCall 2 9 (Pair 2) ((0, 0) ∷ []))
     × ((zone_reading console_of_two now).log ≡ 0x61 ∷ 0x62 ∷ 0x63 ∷ 0 ∷ 0 ∷ 0 ∷ [])
 
--- a full ring's header, with its parity, after the start word of an append: the nearest codeword has another signature
+-- a full ring's header, with its parity, after the start word of an append: the nearest codeword has
+-- another signature
 abbrev pub full_ring : List ℕ
 full_ring = signature ++ 0 ∷ 0 ∷ 0 ∷ 0 ∷ 0xb2 ∷ 0x0f ∷ 0 ∷ 0 ∷ replicate 4018 0x61 ++ replicate 64 0 ++ 155 ∷ 36 ∷ []
 

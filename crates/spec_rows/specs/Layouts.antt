@@ -90,7 +90,8 @@ WorkedFaults =
     × (layout_of (with_ecc 127 (record default { mem = 256; dump = 0; console = 256; ftrace = 0; pmsg = 0 })) ≡ Err EccInvalid)
     × (layout_of (record four { block = 100 }) ≡ Err BlockBad)
 
--- of two faults the first of these: no memory, no zone, too large, parity, block size, processors, room, small zones, parity in a zone
+-- of two faults the first of these: no memory, no zone, too large, parity, block size, processors, room,
+-- small zones, parity in a zone
 abbrev pub FaultsInOrder : Type 0
 FaultsInOrder =
     (layout_of (record default { dump = 0; console = 0; ftrace = 0; pmsg = 0 }) ≡ Err NoMemory)
@@ -102,7 +103,8 @@ FaultsInOrder =
     × (layout_of (record default { mem = 4096; dump = 0; console = 4096; ftrace = 128; pmsg = 0 }) ≡ Err NoRoom)
     × (layout_of (with_ecc 127 (record default { mem = 256; dump = 0; console = 128; ftrace = 0; pmsg = 0 })) ≡ Err ZoneTooSmall)
 
--- the memory is too large as it is given, also where it would be rounded; the parity of a kind that has no zone counts; dumps need room for one
+-- the memory is too large as it is given, also where it would be rounded; the parity of a kind that has
+-- no zone counts; dumps need room for one
 abbrev pub FaultsDecided : Type 0
 FaultsDecided =
     (layout_of (record default { mem = 16777216 + 1; console = 0 }) ≡ Err TooLarge)

@@ -52,14 +52,16 @@ StoppedErasureWithParity =
     ≡ and_cut (boot console Found 3 3 1 0 AsTold) Erase 1 18 (Pair 0) [])
     × ((zone_reading console_of_sixteen now).log ≡ abc)
 
--- a byte of a block that begins below size is corrected, also where it lies behind size; a byte of its parity is counted, and stays
+-- a byte of a block that begins below size is corrected, also where it lies behind size; a byte of its
+-- parity is counted, and stays
 abbrev pub CorrectionsAreOfData : Type 0
 CorrectionsAreOfData =
     (boot_fixes console_of_two (flipped_from 62 (1 ∷ []) (zone_written console_of_two abc)) ≡ record { place = 62; bytes = 0 ∷ [] } ∷ [])
     × (boot_fixes console_of_two (flipped_from 4030 (1 ∷ []) (zone_written console_of_two abc)) ≡ [])
     × ((zone_reading console_of_two (flipped_from 4030 (1 ∷ []) (zone_written console_of_two abc))).corrected ≡ 1)
 
--- the header's correction comes first, then the signature, and then the erasure: start, size, and the header's parity
+-- the header's correction comes first, then the signature, and then the erasure: start, size, and the
+-- header's parity
 abbrev pub BootOfForeignHeader : Type 0
 BootOfForeignHeader =
     boot_stores console_of_two foreign_header
@@ -71,7 +73,8 @@ BootOfForeignHeader =
     ∷ record { place = 4095; bytes = 0xe3 ∷ [] }
     ∷ []
 
--- the cut of such a boot behind the signature: its header is the corrected one, the store of the signature counts, and makes no pair
+-- the cut of such a boot behind the signature: its header is the corrected one, the store of the
+-- signature counts, and makes no pair
 abbrev pub CutOfForeignHeader : Type 0
 CutOfForeignHeader =
     let cut = boot_cut console_of_two foreign_header 2 in

@@ -45,7 +45,8 @@ NoSuchZone =
     ≡ None ∷ Some (Refused NoZone) ∷ Some (Refused NoZone) ∷ Some (Refused NoZone) ∷ Some (Refused NoZone) ∷ Some (Refused NoZone) ∷ [])
     × (refused four_small_zones 1024 (Boot ∷ time_five ∷ Begin (Append (dump 0) abc) ∷ []) ≡ None ∷ None ∷ Some (Refused NoZone) ∷ [])
 
--- steps want a flight, also none of them; an append of no bytes is refused in a busy zone, and else leaves no flight
+-- steps want a flight, also none of them; an append of no bytes is refused in a busy zone, and else
+-- leaves no flight
 abbrev pub IdleAndEmpty : Type 0
 IdleAndEmpty =
     (refused small_console 256 (Boot ∷ Step console 0 ∷ Finish console ∷ []) ≡ None ∷ Some (Refused Idle) ∷ Some (Refused Idle) ∷ [])

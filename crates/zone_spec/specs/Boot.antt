@@ -1,4 +1,5 @@
--- What a boot stores in a zone, and whether it keeps it (fs/pstore/ram_core.c, persistent_ram_post_init; fs/pstore/ram.c)
+-- What a boot stores in a zone, and whether it keeps it (fs/pstore/ram_core.c, persistent_ram_post_init;
+-- fs/pstore/ram.c)
 use Rattle.std.specs.Prelude.{ℕ, ◌+◌, Bool, true, false, not, ◌&&◌, ◌||◌, if◌then◌else◌, ◌==◌, List, [], ◌∷◌, ◌++◌, flat_map}
 use Rattle.zone_spec.specs.declared.Zone.{Zone}
 use Rattle.zone_spec.specs.declared.Kind.{Kind}
@@ -24,7 +25,8 @@ fix_stores place (b ∷ bs) (c ∷ cs) =
 abbrev pub part_fixes : Zone → List ℕ → Part → List Store
 part_fixes z image part = fix_stores (part_at z part) (part_bytes z image part) (part_reading z image part).bytes
 
--- whether a zone that was found is kept: a dump with a time line, and, by the project's own choice, an ftrace ring that can be appended to
+-- whether a zone that was found is kept: a dump with a time line, and, by the project's own choice, an
+-- ftrace ring that can be appended to
 abbrev pub is_kept : Zone → ZoneReading → Kind → Bool
 is_kept z reading Dump = has_line reading.log
 is_kept z reading Console = false

@@ -1,4 +1,5 @@
--- Calls as stores, in the order of fs/pstore/ram_core.c (persistent_ram_write, persistent_ram_zap; a dump as ramoops_pstore_write)
+-- Calls as stores, in the order of fs/pstore/ram_core.c (persistent_ram_write, persistent_ram_zap; a
+-- dump as ramoops_pstore_write)
 use Rattle.std.specs.Prelude.{◌≡◌, ℕ, ◌+◌, ◌-◌, ◌%◌, ◌<◌, min, if◌then◌else◌, ◌==◌, List, [], ◌∷◌, ◌++◌, length, take, drop, map, flat_map}
 use Rattle.zone_spec.specs.declared.Zone.{Zone}
 use Rattle.zone_spec.specs.declared.Words.{Words}
@@ -28,7 +29,8 @@ append_stages z start size (b ∷ bs) =
 abbrev pub erase_stages : List Stage
 erase_stages = StartWord 0 ∷ SizeWord 0 ∷ ParityOf Header ∷ []
 
--- the parts of a call, each with its stages: a dump erases, and then appends the line and the body's front, to a ring that is not full
+-- the parts of a call, each with its stages: a dump erases, and then appends the line and the body's
+-- front, to a ring that is not full
 abbrev pub call_parts : Zone → Words → Call → List (List Stage)
 call_parts z w (Append payload) = append_stages z w.start w.size (last_items z.cap payload) ∷ []
 call_parts z w Erase = erase_stages ∷ []
@@ -47,7 +49,8 @@ call_stores z call image = stores_in_turn z (call_stages z (standing_words image
 abbrev pub image_after : Zone → Call → List ℕ → ℕ → List ℕ
 image_after z call image k = after_stores image (take k (call_stores z call image))
 
--- what a call asks of a zone in ring form: an append wants a ring that can be appended to, a dump a line shorter than the zone
+-- what a call asks of a zone in ring form: an append wants a ring that can be appended to, a dump a line
+-- shorter than the zone
 abbrev pub CanBegin : Zone → List ℕ → Call → Type 0
 CanBegin z image (Append payload) = IsOpen (standing_words image) z.cap × AreBytes payload
 CanBegin z image Erase = Unit {0}

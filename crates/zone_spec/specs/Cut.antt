@@ -12,7 +12,8 @@ use Rattle.zone_spec.specs.Stages.{Stage, stage_count}
 use Rattle.zone_spec.specs.Pairs.{pairs_from, pair_of, header_seen}
 use Rattle.zone_spec.specs.Touched.{touched_by, runs_of}
 
--- the call's kind, whether it is a boot's erasure, its parts, the header with its parity before its first store, and how many stores were made
+-- the call's kind, whether it is a boot's erasure, its parts, the header with its parity before its
+-- first store, and how many stores were made
 pub record Cut : Type 0 where
   pub kind : CallKind
   pub by_boot : Bool
@@ -36,7 +37,8 @@ cut_pairs cut = pairs_from (pair_of (words_before cut)) (cut_stages cut)
 abbrev pub is_touched : Zone → Cut → ℕ → Bool
 is_touched z cut b = list_any (λ c. c == b) (touched_by z (cut_stages cut))
 
--- what a boot reports of a cut: the stores made and in all, the pair that the header reads, and the runs of the touched blocks
+-- what a boot reports of a cut: the stores made and in all, the pair that the header reads, and the runs
+-- of the touched blocks
 pub record CutReport : Type 0 where
   pub kind : CallKind
   pub made : ℕ

@@ -1,4 +1,5 @@
--- Damage since a zone's stop. A zone's stop is its bytes at the moment since which damage counts; now is its bytes as they stand
+-- Damage since a zone's stop. A zone's stop is its bytes at the moment since which damage counts; now is
+-- its bytes as they stand
 use Rattle.std.specs.Prelude.{◌≡◌, ℕ, ◌+◌, ◌/◌, ◌<◌, ◌≤◌, ◌⊎◌, List, slice_index, Some}
 use Rattle.zone_spec.specs.declared.Zone.{Zone}
 use Rattle.code_spec.specs.Code.{distance, nearest}
@@ -8,7 +9,8 @@ use Rattle.zone_spec.specs.Parts.{Part, Header, IsPartOf, part_word}
 abbrev pub StoodFor : Zone → List ℕ → Part → List ℕ → Type 0
 StoodFor z stop part c = nearest z.parity (part_word z stop part) ≡ Some c
 
--- a part that was sound and differs from what it stood for in at most half the parity, or that stands as at the stop
+-- a part that was sound and differs from what it stood for in at most half the parity, or that stands as
+-- at the stop
 abbrev pub IsWithinBounds : Zone → List ℕ → List ℕ → Part → Type 0
 IsWithinBounds z stop now part =
     ((c : List ℕ) × StoodFor z stop part c × (distance (part_word z now part) c ≤ z.parity / 2))
@@ -18,7 +20,8 @@ IsWithinBounds z stop now part =
 abbrev pub IsZoneWithinBounds : Zone → List ℕ → List ℕ → Type 0
 IsZoneWithinBounds z stop now = (part : Part) → IsPartOf z part → IsWithinBounds z stop now part
 
--- each byte of the header is as at the stop, or as in the codeword that the header then stood for: corrections are no damage
+-- each byte of the header is as at the stop, or as in the codeword that the header then stood for:
+-- corrections are no damage
 abbrev pub IsNotDamagedFurther : Zone → List ℕ → List ℕ → Type 0
 IsNotDamagedFurther z stop now = (i : ℕ) → i < 12 + z.parity →
     (slice_index (part_word z now Header) i ≡ slice_index (part_word z stop Header) i)

@@ -7,7 +7,7 @@ use Rattle.zone_spec.specs.declared.Zone.{Zone}
 use Rattle.zone_spec.specs.declared.params.Params.{Params}
 use Rattle.zone_spec.specs.declared.params.Row.{Row}
 use Rattle.zone_spec.specs.declared.params.LayoutFault.{LayoutFault}
-use Rattle.zone_spec.specs.declared.params.LayoutFault.TheVariants.{NoMemory, NoZone, TooLarge, EccTooLarge, NoRoom, ZoneTooSmall, EccInvalid, CpusBad, NotPage, BlockBad}
+use Rattle.zone_spec.specs.declared.params.LayoutFault.TheVariants.{NoMemory, NoZone, TooLarge, EccTooLarge, NoRoom, ZoneTooSmall, EccInvalid, CpusBad, BlockBad}
 use Rattle.zone_spec.specs.Zones.{blocks_in}
 
 -- the greatest of 1, 2, 4 .. 2 ^ k that is at most n; 0 for 0
@@ -112,16 +112,3 @@ ok_unless (Some fault) zones = Err fault
 
 unfoldable pub layout_of : Params → Result (List Zone) LayoutFault
 layout_of p = ok_unless (first_fault (parameter_faults p ++ zone_faults (zones_of p))) (zones_of p)
-
--- the faults' numbers
-abbrev pub fault_number : LayoutFault → ℕ
-fault_number NoMemory = 1
-fault_number NoZone = 2
-fault_number TooLarge = 3
-fault_number EccTooLarge = 4
-fault_number NoRoom = 5
-fault_number ZoneTooSmall = 6
-fault_number EccInvalid = 7
-fault_number CpusBad = 8
-fault_number NotPage = 9
-fault_number BlockBad = 11

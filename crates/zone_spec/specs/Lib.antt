@@ -21,3 +21,4 @@ pub mod Records
 pub mod Notices
 pub mod Layout
 pub mod Layouts
+pub mod LayoutFaults

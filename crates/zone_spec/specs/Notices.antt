@@ -21,7 +21,8 @@ notice_text corrected bad =
     10 ∷ (if corrected + bad == 0 then codes "ECC: No errors detected"
     else codes "ECC: " ++ decimal corrected ++ codes " Corrected bytes, " ++ decimal bad ++ codes " unrecoverable blocks") ++ 10 ∷ []
 
--- a record's notice: what header and blocks of its zones that were found count; none where its zones have no parity
+-- a record's notice: what header and blocks of its zones that were found count; none where its zones
+-- have no parity
 abbrev pub notice : List Saved → Name → List ℕ
 notice zones name =
     let own = filter (λ (zone : Saved). is_in name zone.0) zones in

@@ -1,11 +1,13 @@
--- How a part reads (fs/pstore/ram_core.c, persistent_ram_decode_rs8); a project's own is that no more than half the parity is corrected
+-- How a part reads (fs/pstore/ram_core.c, persistent_ram_decode_rs8); a project's own is that no more
+-- than half the parity is corrected
 use Rattle.std.specs.Prelude.{ℕ, List, length, take, Option, Some, None}
 use Rattle.zone_spec.specs.declared.Zone.{Zone}
 use Rattle.zone_spec.specs.declared.Words.{Words}
 use Rattle.code_spec.specs.Code.{distance, nearest}
 use Rattle.zone_spec.specs.Parts.{Part, Header, part_bytes, part_word, words_in}
 
--- the bytes that a part reads as, the corrected bytes of its word with its parity, and whether it could not be read
+-- the bytes that a part reads as, the corrected bytes of its word with its parity, and whether it could
+-- not be read
 pub record PartReading : Type 0 where
   pub bytes : List ℕ
   pub corrected : ℕ

@@ -22,7 +22,8 @@ abbrev pub IsOpenUnlessDump : Kind → Words → ℕ → Type 0
 IsOpenUnlessDump Dump w cap = Unit {0}
 IsOpenUnlessDump other w cap = IsOpen w cap
 
--- the standing words are a ring with the zone's signature, the log places have the told bytes, and header and blocks read as they stand
+-- the standing words are a ring with the zone's signature, the log places have the told bytes, and
+-- header and blocks read as they stand
 pub record IsRingForm (z : Zone) (image told : List ℕ) : Type 0 where
   pub ring : IsRing (standing_words image) z.cap
   pub signed : (standing_words image).sig ≡ z.sig

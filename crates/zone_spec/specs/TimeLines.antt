@@ -1,4 +1,5 @@
--- The line that a dump begins with: `====`, seconds, `.`, microseconds, `-D` or `-C`, and a newline (fs/pstore/ram.c)
+-- The line that a dump begins with: `====`, seconds, `.`, microseconds, `-D` or `-C`, and a newline
+-- (fs/pstore/ram.c)
 use Rattle.std.specs.Prelude.{ℕ, ◌+◌, ◌-◌, ◌*◌, ◌^◌, Bool, true, false, ◌&&◌, if◌then◌else◌, nat_lt, nat_le, is_some, List, [], ◌∷◌, ◌++◌, length, take, drop, take_while, fold, codes, decimal, bytes_eq, Option, Some, None}
 use Rattle.zone_spec.specs.declared.Time.{Time}
 use Rattle.zone_spec.specs.declared.TimeLine.{TimeLine}
@@ -40,7 +41,8 @@ line_ending secs micros rest =
     else (if begins_with (codes "-C" ++ 10 ∷ []) rest then Some (line_with secs micros true 3)
     else None))
 
--- the time line that a log begins with: 1 to 19 digits of a number below 2^63, and 1 to 9 digits taken as a whole number. A project's own, stricter than ramoops_read_kmsg_hdr
+-- the time line that a log begins with: 1 to 19 digits of a number below 2^63, and 1 to 9 digits taken
+-- as a whole number. A project's own, stricter than ramoops_read_kmsg_hdr
 unfoldable pub read_line : List ℕ → Option TimeLine
 read_line log =
     let secs = digits_of (drop 4 log) in

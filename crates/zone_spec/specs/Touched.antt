@@ -9,7 +9,8 @@ touched_by z [] = []
 touched_by z (Run place bytes ∷ gs) = blocks_met z place (length bytes) ++ touched_by z gs
 touched_by z (g ∷ gs) = touched_by z gs
 
--- a number put before the runs of higher numbers: it joins the first run where that begins with the next number
+-- a number put before the runs of higher numbers: it joins the first run where that begins with the next
+-- number
 abbrev pub before_runs : ℕ → List (ℕ × ℕ) → List (ℕ × ℕ)
 before_runs b [] = (b, b) ∷ []
 before_runs b (run ∷ runs) = if b + 1 == run.0 then (b, run.1) ∷ runs else (b, b) ∷ run ∷ runs

@@ -22,7 +22,8 @@ abbrev pub header_codeword : ℕ → Words → List ℕ
 header_codeword r w =
     let bytes = to_le_bytes w32 w.sig ++ to_le_bytes w32 w.start ++ to_le_bytes w32 w.size in bytes ++ parity_of r bytes
 
--- a part of a call: its number of stores, the words before it and after its last store, the nearest codeword of the header before it, and the header after it with its parity
+-- a part of a call: its number of stores, the words before it and after its last store, the nearest
+-- codeword of the header before it, and the header after it with its parity
 pub record Window : Type 0 where
   pub stores : ℕ
   pub opening : Words

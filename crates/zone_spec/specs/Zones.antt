@@ -2,11 +2,13 @@
 use Rattle.std.specs.Prelude.{◌≡◌, ℕ, ◌+◌, ◌-◌, ◌*◌, ◌/◌, ◌^◌, ◌<◌, ◌≤◌, ◌⊎◌}
 use Rattle.zone_spec.specs.declared.Zone.{Zone}
 
--- the parity blocks of a zone of this size with r parity bytes and blocks of k bytes (fs/pstore/ram_core.c, persistent_ram_init_ecc)
+-- the parity blocks of a zone of this size with r parity bytes and blocks of k bytes
+-- (fs/pstore/ram_core.c, persistent_ram_init_ecc)
 abbrev pub blocks_in : ℕ → ℕ → ℕ → ℕ
 blocks_in size r k = (((size - 12) - r) + (k + r) - 1) / (k + r)
 
--- block size, size and parity are within the project's own limits, blocks and capacity follow from them, and the signature is a word of 32 bits
+-- block size, size and parity are within the project's own limits, blocks and capacity follow from them,
+-- and the signature is a word of 32 bits
 pub record IsValidZone (z : Zone) : Type 0 where
   pub block : (z.block ≡ 32) ⊎ (z.block ≡ 64) ⊎ (z.block ≡ 128)
   pub at_least : 256 ≤ z.size

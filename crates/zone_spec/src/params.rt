@@ -1,6 +1,6 @@
 // The parameters of a layout, and the causes for which there is none.
 ghost use Rattle.std.specs.Prelude.{◌≡◌};
-ghost use Rattle.zone_spec.specs.Layout.{fault_number};
+ghost use Rattle.zone_spec.specs.LayoutFaults.{fault_number};
 
 use crate::Kind;
 use thiserror::Error;
