@@ -1,71 +1,100 @@
+// The worked parities of a header and a block, read back from a console zone of 4096 bytes with two parity bytes:
+// capacity 4018, 32 blocks of 128 bytes, the block's parity at 4030, the header's at 4094.
+ghost use Rattle.std.specs.Prelude.{◌≡◌, length, IfOk, IfSome};
+ghost use Rattle.zone_spec.specs.Zones.{IsValidZone};
+
 use crate::{Decoded, Fix, block_parity, header_parity, read_block, read_header};
 use arrayvec::ArrayVec;
 use box_io::Bytes;
-use ram_region::Region;
+use ram_region::{Region, Spans};
+use std::alloc::{AllocError, Global};
 use std::test::Fail;
+use zone_params::types::Layout;
 use zone_params::{Params, layout};
+use zone_spec::Zone;
 
-// One console zone of 4096 bytes, with two parity bytes: capacity 4018 and 32 blocks of 128 bytes.
-fn params() -> Params {
-    Params {
-        mem: 4096,
-        dump: 0,
-        console: 4096,
-        ftrace: 0,
-        pmsg: 0,
-        ecc: 2,
-        cpus: 1,
-        ftrace_sig: 0,
-        block: 128,
-        ecc_dump: 2,
-        ecc_console: 2,
-        ecc_ftrace: 2,
-        ecc_pmsg: 2,
+const PARAMS: Params = Params {
+    mem: 4096,
+    dump: 0,
+    console: 4096,
+    ftrace: 0,
+    pmsg: 0,
+    ecc: 2,
+    cpus: 1,
+    ftrace_sig: 0,
+    block: 128,
+    ecc_dump: 2,
+    ecc_console: 2,
+    ecc_ftrace: 2,
+    ecc_pmsg: 2,
+};
+
+// A record of `abc` with its parities, under this start and size.
+fn image(count: u8) -> [u8; 4096] {
+    let mut image = [0; 4096];
+    image[..4].copy_from_slice(b"DBGC".as_slice());
+    (image[4], image[8]) = (count, count);
+    image[12..15].copy_from_slice(b"abc".as_slice());
+    (image[4030], image[4031]) = (0xe3, 0x83);
+    (image[4094], image[4095]) = (0xfb, 0xf9);
+    image
+}
+
+fn spans_of(alloc: Global, layout: &Layout, image: &[u8]) -> Result<Option<Spans>, AllocError> {
+    let bytes = Bytes::copy_of(alloc, image)?;
+    if image.len() != layout.mem() as usize {
+        return Ok(None);
+    }
+    Ok(Region::from_bytes(bytes).cut(layout).ok())
+}
+
+fn zone_of(layout: &Layout) -> Option<Zone>
+    ensures { IfSome result IsValidZone }
+{
+    match layout.zones() {
+        [zone, ..] => Some(*zone),
+        [] => None,
     }
 }
 
 #[test]
-#[tactic(auto, using(ram_region::proofs::Cuts::stores))]
-fn parity_of_a_first_record(rt: HostRuntime) -> Result<(), Fail> {
-    let layout = match layout(rt.alloc(), &params()) {
-        Ok(layout) => layout,
-        Err(_) => panic!(rt; "no layout"),
-    };
-    let bytes = Bytes::from_vec(Vec::from_elem(rt.alloc(), 0u8, 4096)?);
-    if let Ok(mut spans) = Region::from_bytes(bytes).cut(&layout) {
-        assert_eq!(rt; layout.zones().len(), 1);
-        assert_eq!(rt; spans.all().len(), 1);
-        let zone = layout.zones()[0];
-        assert_eq!(rt; zone.cap, 4018);
-        assert_eq!(rt; zone.size, 4096);
-        assert_eq!(rt; zone.block, 128);
-        assert_eq!(rt; spans.all()[0].len(), 4096);
-        spans.store_word(0, 0, 0x4347_4244);
-        let mut out: ArrayVec<u8, 127> = ArrayVec::new();
-        header_parity(&spans.all()[0], &zone, &mut out);
-        assert!(rt; out.as_slice() == [0xe1, 0xe3].as_slice());
-        spans.store_word(0, 4, 3);
-        spans.store_word(0, 8, 3);
-        header_parity(&spans.all()[0], &zone, &mut out);
-        assert!(rt; out.as_slice() == [0xfb, 0xf9].as_slice());
-        spans.store(0, 4094, 0xfb);
-        spans.store(0, 4095, 0xf9);
-        spans.store(0, 12, 0x61);
-        spans.store(0, 13, 0x62);
-        spans.store(0, 14, 0x63);
-        block_parity(&spans.all()[0], &zone, 0, &mut out);
-        assert!(rt; out.as_slice() == [0xe3, 0x83].as_slice());
-        let mut fixes: ArrayVec<Fix, 63> = ArrayVec::new();
-        let mut block: ArrayVec<u8, 255> = ArrayVec::new();
-        spans.store(0, 4030, 0xe3);
-        spans.store(0, 4031, 0x83);
-        assert!(rt; read_block(&spans.all()[0], &zone, 0, &mut block, &mut fixes) == Decoded::Clean);
-        spans.store(0, 13, 0x63);
-        assert!(rt; read_block(&spans.all()[0], &zone, 0, &mut block, &mut fixes) == Decoded::Fixed(1));
-        assert!(rt; block.as_slice()[..3] == [0x61, 0x62, 0x63]);
-        let reading = read_header(&spans.all()[0], &zone, &mut fixes);
-        assert!(rt; reading.outcome == Decoded::Clean);
-        assert!(rt; reading.words.start == 3);
-    }
+fn parities_of_a_first_record(rt: HostRuntime) -> Result<(), Fail> {
+    let alloc = rt.alloc();
+    let layout = layout(alloc, &PARAMS).map_err(|_| "no layout")?;
+    let zone = zone_of(&layout).ok_or("no zone")?;
+    let mut out = ArrayVec::new();
+    let spans = spans_of(alloc, &layout, &image(3))?.ok_or("no spans")?;
+    assert_eq!(rt; (spans.all().len(), zone.cap, zone.block), (1, 4018, 128));
+    assert_eq!(rt; spans.all()[0].len(), zone.size);
+    header_parity(&spans.all()[0], &zone, &mut out);
+    assert_eq!(rt; out.as_slice(), [0xfb, 0xf9].as_slice());
+    block_parity(&spans.all()[0], &zone, 0, &mut out);
+    assert_eq!(rt; out.as_slice(), [0xe3, 0x83].as_slice());
+    let spans = spans_of(alloc, &layout, &image(0))?.ok_or("no spans")?;
+    assert_eq!(rt; spans.all().len(), 1);
+    assert_eq!(rt; spans.all()[0].len(), zone.size);
+    header_parity(&spans.all()[0], &zone, &mut out);
+    assert_eq!(rt; out.as_slice(), [0xe1, 0xe3].as_slice());
+    Ok(())
+}
+
+#[test]
+fn a_changed_byte_is_read_as_it_was(rt: HostRuntime) -> Result<(), Fail> {
+    let alloc = rt.alloc();
+    let layout = layout(alloc, &PARAMS).map_err(|_| "no layout")?;
+    let zone = zone_of(&layout).ok_or("no zone")?;
+    let mut image = image(3);
+    image[13] = b'-';
+    let spans = spans_of(alloc, &layout, &image)?.ok_or("no spans")?;
+    assert_eq!(rt; (spans.all().len(), zone.cap, zone.block), (1, 4018, 128));
+    assert_eq!(rt; spans.all()[0].len(), zone.size);
+    let mut fixes: ArrayVec<Fix, 63> = ArrayVec::new();
+    let mut block = ArrayVec::new();
+    let outcome = read_block(&spans.all()[0], &zone, 0, &mut block, &mut fixes);
+    assert_eq!(rt; outcome, Decoded::Fixed(1));
+    assert!(rt; block.as_slice().starts_with(b"abc".as_slice()));
+    let reading = read_header(&spans.all()[0], &zone, &mut fixes);
+    assert_eq!(rt; reading.outcome, Decoded::Clean);
+    assert_eq!(rt; (reading.words.start, reading.words.size), (3, 3));
     Ok(())
 }

@@ -69,7 +69,7 @@ pub enum CallKind {
 }
 
 /// A start word and a size word.
-#[derive(Clone, Copy, Debug, PartialEq, Eq)]
+#[derive(Clone, Copy, Debug, Default, PartialEq, Eq)]
 pub struct Pair {
     pub start: u32,
     pub size: u32,

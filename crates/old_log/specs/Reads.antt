@@ -1,0 +1,33 @@
+-- The bytes at the front of a zone's data as their blocks read, and what the blocks count
+use Rattle.std.specs.Prelude.{ℕ, List, map, sum_by}
+use Rattle.std.specs.List.{range_with_len}
+use Rattle.zone_spec.specs.declared.Zone.{Zone}
+use Rattle.zone_spec.specs.Parts.{Block}
+use Rattle.zone_spec.specs.PartReadings.{part_reading}
+use Rattle.zone_spec.specs.Reading.{byte_read, blocks_below}
+use Rattle.rs_errors.specs.declared.Decoded.{Decoded}
+use Rattle.rs_errors.specs.declared.Decoded.TheVariants.{Clean, Fixed, Bad}
+
+-- the bytes that the first n data places read
+unfoldable pub bytes_read : Zone → List ℕ → ℕ → List ℕ
+bytes_read z image n = map (λ place. byte_read z image place) (range_with_len 0 n)
+
+-- the corrected bytes of an outcome
+abbrev pub corrected_of : Decoded → ℕ
+corrected_of Clean = 0
+corrected_of (Fixed n) = n
+corrected_of Bad = 0
+
+-- 1 where a part could not be read
+abbrev pub bad_of : Decoded → ℕ
+bad_of Clean = 0
+bad_of (Fixed n) = 0
+bad_of Bad = 1
+
+-- the corrected bytes of the blocks that begin below n
+abbrev pub corrected_below : Zone → List ℕ → ℕ → ℕ
+corrected_below z image n = sum_by (λ b. (part_reading z image (Block b)).corrected) (blocks_below z n)
+
+-- how many of these blocks could not be read
+abbrev pub bad_below : Zone → List ℕ → ℕ → ℕ
+bad_below z image n = sum_by (λ b. (part_reading z image (Block b)).bad) (blocks_below z n)

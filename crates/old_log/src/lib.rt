@@ -1,0 +1,15 @@
+//! What a boot reads of a zone, what it stores there, and the readings that it saves (`fs/pstore/ram_core.c`,
+//! `persistent_ram_post_init` and `persistent_ram_save_old`).
+#![tactic(auto)]
+
+mod logs;
+mod reading;
+mod settling;
+
+pub use logs::Logs;
+pub use reading::{Reading, keeps, read_zone};
+pub use settling::{Settled, settle};
+pub use zone_spec::{State, Words};
+
+#[cfg(test)]
+mod tests;

@@ -1,0 +1,188 @@
+// The reading of a zone, and whether a boot keeps the zone that has it.
+ghost use Rattle.std.specs.Prelude.{◌≡◌, ◌+◌, ◌*◌, ◌≤◌, ◌<◌, ◌^◌, length, IfOk};
+ghost use Rattle.zone_spec.specs.Zones.{IsValidZone};
+ghost use Rattle.zone_spec.specs.Reading.{zone_reading, state_of as state_for, log_read, IsRing};
+ghost use Rattle.zone_spec.specs.Boot.{keeps as keeps_zone, is_kept as is_kept_zone};
+ghost use Rattle.old_log.specs.Reads.{bytes_read, corrected_of, bad_of, corrected_below, bad_below};
+
+use arrayvec::ArrayVec;
+use block_ecc::{Decoded, Fix, read_block, read_header};
+use box_io::Bytes;
+use dump_records::read_line;
+use ram_region::Span;
+use std::alloc::{AllocError, Global};
+use std::marker::Model;
+use zone_spec::{Kind, State, Words, Zone};
+
+/// What a boot reads of a zone: its state, the words of its header, its log, and how many bytes of header and blocks
+/// were corrected (of their parity too) and how many of these parts could not be.
+#[derive(Drop)]
+pub struct Reading {
+    pub state: State,
+    pub words: Words,
+    /// Empty but for a zone that was found.
+    pub log: Bytes,
+    pub corrected: u32,
+    pub bad: u32,
+}
+
+impl Model for Reading {
+    ghost use Rattle.zone_spec.specs.Reading.{ZoneReading};
+
+    ghost Value = { ZoneReading };
+
+    ghost view = { λ r. record { state = r.state; words = r.words; log = r.log; corrected = r.corrected; bad = r.bad } };
+}
+
+/// Corrected bytes, and parts that could not be read.
+#[derive(Clone, Copy)]
+struct Counts {
+    corrected: u32,
+    bad: u32,
+}
+
+fn counts_of(outcome: Decoded) -> Counts
+    ensures corrected { result.corrected ≡ corrected_of outcome }
+    ensures bad { result.bad ≡ bad_of outcome }
+    ensures few { result.corrected < 256 }
+    ensures one { result.bad ≤ 1 }
+{
+    match outcome {
+        Decoded::Clean => Counts {
+            corrected: 0,
+            bad: 0,
+        },
+        Decoded::Fixed(places) => Counts {
+            corrected: places as u32,
+            bad: 0,
+        },
+        Decoded::Bad => Counts {
+            corrected: 0,
+            bad: 1,
+        },
+    }
+}
+
+fn state_of(zone: &Zone, words: Words) -> State
+    ensures { result ≡ state_for zone.now words }
+{
+    if words.sig != zone.sig {
+        State::Unsigned
+    } else if words.size == 0 && words.start == 0 {
+        State::Empty
+    } else if words.size > zone.cap || words.start > words.size {
+        State::Invalid
+    } else {
+        State::Found
+    }
+}
+
+/// The first `size` data bytes as their blocks read, and what these blocks count.
+fn read_bytes(
+    alloc: Global,
+    span: &Span,
+    zone: &Zone,
+    size: u32,
+) -> Result<(Vec<u8>, Counts), AllocError>
+    requires valid { IsValidZone zone.now }
+    requires len { length span.now ≡ zone.now.size }
+    requires within { size ≤ zone.now.cap }
+    ensures bytes { IfOk result (λ r. r.0.items ≡ bytes_read zone.now span.now size) }
+    ensures corrected { IfOk result (λ r. r.1.corrected ≡ corrected_below zone.now span.now size) }
+    ensures bad { IfOk result (λ r. r.1.bad ≡ bad_below zone.now span.now size) }
+    ensures few { IfOk result (λ r. (r.1.corrected ≤ 255 * size) × (r.1.bad ≤ size)) }
+{
+    let _len = span.len();
+    let mut bytes = Vec::with_capacity(alloc, size as usize)?;
+    let mut counts = Counts {
+        corrected: 0,
+        bad: 0,
+    };
+    let mut block: ArrayVec<u8, 255> = ArrayVec::new();
+    let mut fixes: ArrayVec<Fix, 63> = ArrayVec::new();
+    for b in 0..size.div_ceil(zone.block) {
+        let outcome = read_block(span, zone, b, &mut block, &mut fixes);
+        let len = zone.block.min(size - zone.block * b);
+        bytes.extend_from_slice(&block.as_slice()[..len as usize])?;
+        let more = counts_of(outcome);
+        counts.corrected += more.corrected;
+        counts.bad += more.bad;
+    }
+    Ok((bytes, counts))
+}
+
+/// The log of a ring, and what its blocks count. The log's bytes are the only memory taken.
+fn read_log(
+    alloc: Global,
+    span: &Span,
+    zone: &Zone,
+    words: Words,
+) -> Result<(Bytes, Counts), AllocError>
+    requires valid { IsValidZone zone.now }
+    requires len { length span.now ≡ zone.now.size }
+    requires ring { IsRing words zone.now.cap }
+    ensures log { IfOk result (λ r. r.0 ≡ log_read zone.now span.now words) }
+    ensures corrected { IfOk result (λ r. r.1.corrected ≡ corrected_below zone.now span.now words.size) }
+    ensures bad { IfOk result (λ r. r.1.bad ≡ bad_below zone.now span.now words.size) }
+    ensures few { IfOk result (λ r. (r.1.corrected ≤ 255 * words.size) × (r.1.bad ≤ words.size)) }
+{
+    let (mut log, counts) = read_bytes(alloc, span, zone, words.size)?;
+    log.rotate_left(words.start as usize);
+    Ok((Bytes::from_vec(log), counts))
+}
+
+/// Reads a zone as a boot does, and stores nothing. The log is the only memory taken.
+pub fn read_zone(alloc: Global, span: &Span, zone: &Zone) -> Result<Reading, AllocError>
+    requires valid { IsValidZone zone.now }
+    requires size { length span.now ≡ zone.now.size }
+    ensures { IfOk result (λ r. r ≡ zone_reading zone.now span.now) }
+{
+    let mut fixes: ArrayVec<Fix, 63> = ArrayVec::new();
+    let header = read_header(span, zone, &mut fixes);
+    let counts = counts_of(header.outcome);
+    let words = header.words;
+    match state_of(zone, words) {
+        State::Found => {
+            let (log, more) = read_log(alloc, span, zone, words)?;
+            Ok(Reading {
+                state: State::Found,
+                words,
+                log,
+                corrected: counts.corrected + more.corrected,
+                bad: counts.bad + more.bad,
+            })
+        }
+        state => Ok(Reading {
+            state,
+            words,
+            log: Bytes::empty(alloc),
+            corrected: counts.corrected,
+            bad: counts.bad,
+        }),
+    }
+}
+
+/// Tells whether a boot leaves the zone with this reading without erasing it (`fs/pstore/ram.c`). That an ftrace ring
+/// which cannot be appended to is erased is the project's own choice.
+pub fn keeps(zone: &Zone, reading: &Reading) -> bool
+    ensures { result ≡ keeps_zone zone.now reading.now }
+{
+    match reading.state {
+        State::Found => is_kept(zone, reading),
+        State::Empty => true,
+        State::Invalid | State::Unsigned => false,
+    }
+}
+
+fn is_kept(zone: &Zone, reading: &Reading) -> bool
+    ensures { result ≡ is_kept_zone zone.now reading.now zone.now.name.kind }
+{
+    let words = reading.words;
+    match zone.name.kind {
+        Kind::Dump => read_line(reading.log.as_slice()).is_some(),
+        Kind::Console | Kind::Pmsg => false,
+        Kind::Ftrace => {
+            (words.start == words.size || words.size == zone.cap) && words.start != zone.cap
+        }
+    }
+}

@@ -1,0 +1,135 @@
+// One call on one zone.
+ghost use Rattle.std.specs.Prelude.{◌≡◌, ◌+◌, ◌-◌, ◌<◌, ◌≤◌, List, ℕ, length, ◌↔◌};
+ghost use Rattle.zone_spec.specs.Zones.{IsValidZone};
+ghost use Rattle.zone_spec.specs.Parts.{standing_words};
+ghost use Rattle.zone_spec.specs.Reading.{IsRing};
+ghost use Rattle.zone_spec.specs.Told.{kind_of};
+ghost use Rattle.ram_region.specs.CutRegion.{span, with_span};
+ghost use Rattle.zone_flight.specs.Calls.{told_call};
+ghost use Rattle.zone_flight.specs.Counts.{pairs_of, touched_runs};
+ghost use Rattle.zone_flight.specs.Machine.{IsOpenFor, IsSameCall, StandsFor, total_of};
+
+use crate::call::{Call, Step};
+use crate::counts::{call_pairs, call_runs, call_total};
+use crate::progress::Progress;
+use arrayvec::ArrayVec;
+use ram_region::{Span, Spans};
+use std::marker::Model;
+use zone_spec::{CallKind, Pair, Zone};
+
+/// A call on a zone, of which some stores are made. It keeps no bytes of the zone, and takes no memory.
+#[derive(Drop)]
+pub struct Flight {
+    progress: Progress,
+}
+
+impl Model for Flight {
+    ghost use Rattle.zone_flight.specs.Flying.{Flying, seen};
+
+    ghost Value = { Flying };
+
+    ghost use Rattle.zone_flight.specs.Machine.{IsKept};
+
+    ghost view = { λ f. seen f.progress };
+
+    ghost invariant = { λ f. IsKept (seen f.progress) };
+}
+
+impl Flight {
+    /// Begins the call on a zone whose bytes are the span's. Makes no store. An append of no bytes has none at all.
+    pub fn begin(zone: Zone, span: &Span, call: Call) -> Flight
+        requires valid { IsValidZone zone }
+        requires len { length span.now ≡ zone.size }
+        requires ring { IsRing (standing_words span.now) zone.cap }
+        requires is_open { IsOpenFor (told_call call) (standing_words span.now) zone.cap }
+        ensures zone { result.zone ≡ zone }
+        ensures words { result.words ≡ standing_words span.now }
+        ensures call { result.call ≡ told_call call }
+        ensures made { result.made ≡ 0 }
+        ensures stands { StandsFor result span.now span.now }
+    {
+        Flight {
+            progress: Progress::begin(zone, span, call),
+        }
+    }
+
+    /// Makes the next store of the call in span `i`.
+    pub fn step(&mut self, spans: &mut Spans, i: u32) -> Step
+        requires left { self.old.made < total_of self.old }
+        requires has { i < length spans.old.spans }
+        requires len { length (span spans.old i) ≡ self.old.zone.size }
+        ensures same { IsSameCall self.old self.new }
+        ensures made { self.new.made ≡ self.old.made + 1 }
+        ensures stands { (before : List ℕ) → StandsFor self.old (span spans.old i) before → StandsFor self.new (span spans.new i) before }
+        ensures others { spans.new ≡ with_span spans.old i (span spans.new i) }
+        ensures len { length (span spans.new i) ≡ length (span spans.old i) }
+        ensures done { (result ≡ Step.Done) ↔ (self.new.made ≡ total_of self.new) }
+    {
+        if self.progress.step(spans, i) {
+            Step::Done
+        } else {
+            Step::Stored
+        }
+    }
+
+    pub fn kind(&self) -> CallKind
+        ensures { result ≡ kind_of self.now.call }
+    {
+        self.progress.call.kind()
+    }
+
+    /// The stores made.
+    pub fn made(&self) -> u64
+        ensures value { result ≡ self.now.made }
+        ensures most { result ≤ total_of self.now }
+    {
+        self.progress.made
+    }
+
+    /// The stores that are left.
+    pub fn left(&self) -> u64
+        ensures { result + self.now.made ≡ total_of self.now }
+    {
+        self.total() - self.made()
+    }
+
+    /// All stores of the call.
+    pub fn total(&self) -> u64
+        ensures { result ≡ total_of self.now }
+    {
+        call_total(
+            &self.progress.zone,
+            &self.progress.words,
+            &self.progress.call,
+        )
+    }
+
+    /// Pair 0 is the words before the call, pair j those after its j-th store of a start or size word, made or not.
+    pub fn pairs(&self) -> ArrayVec<Pair, 8>
+        ensures { result.items ≡ pairs_of self.now }
+    {
+        call_pairs(
+            &self.progress.zone,
+            &self.progress.words,
+            &self.progress.call,
+        )
+    }
+
+    /// The first and the last of each run of blocks that the data stores of the whole call meet, rising.
+    pub fn runs(&self) -> ArrayVec<(u32, u32), 2>
+        ensures { result.items ≡ touched_runs self.now }
+    {
+        call_runs(
+            &self.progress.zone,
+            &self.progress.words,
+            &self.progress.call,
+        )
+    }
+
+    /// The call that was begun.
+    pub fn call(&self) -> &Call
+        ensures { told_call result.now ≡ self.now.call }
+    {
+        &self.progress.call
+    }
+}

@@ -1,0 +1,497 @@
+// The machine of phases: what the next store of a call is.
+ghost use Rattle.std.specs.Prelude.{◌≡◌, ◌+◌, ◌-◌, ◌*◌, ◌/◌, ◌%◌, ◌<◌, ◌≤◌, ◌^◌, ◌∷◌, [], ◌⊎◌, false, slice_index, List, ℕ, length, IsTrue, ◌↔◌, min};
+ghost use Rattle.code_spec.specs.Code.{parity_of};
+ghost use Rattle.zone_spec.specs.Parts.{Header, Block, part_bytes, part_parity_at, standing_words};
+ghost use Rattle.zone_spec.specs.Zones.{IsValidZone};
+ghost use Rattle.zone_spec.specs.Stores.{put};
+ghost use Rattle.ram_region.specs.CutRegion.{span, with_span};
+ghost use Rattle.zone_spec.specs.Reading.{IsRing};
+ghost use Rattle.zone_flight.specs.Calls.{told_call, line_of, front_of, last_of};
+ghost use Rattle.zone_flight.specs.Machine.{IsOpenFor};
+ghost use Rattle.zone_flight.specs.First.{first_place, append_phase, erasure};
+
+use crate::call::Call;
+use crate::counts::call_total;
+use arrayvec::ArrayVec;
+use block_ecc::{block_parity, header_parity};
+use ram_region::{Span, Spans};
+use ring_header::RingWords;
+use zone_spec::{Words, Zone};
+
+/// What a part of a call does: it erases, or appends the bytes of an append, a dump's line or its body's front.
+#[derive(Clone, Copy, Debug, PartialEq, Eq)]
+pub enum Leg {
+    Erasure,
+    Payload,
+    Line,
+    Body,
+}
+
+/// What the next store belongs to.
+#[derive(Clone, Copy, Debug, PartialEq, Eq)]
+pub enum Phase {
+    ZeroStart,
+    ZeroSize,
+    Size,
+    Start,
+    First,
+    FirstParity,
+    Second,
+    SecondParity,
+    Header,
+    Finished,
+}
+
+/// Where a call is: its part, the ring at the part's begin, the phase, the block whose parity is stored, and the number
+/// within the phase.
+#[derive(Clone, Copy, Debug, PartialEq, Eq)]
+pub struct Place {
+    pub leg: Leg,
+    pub start: u32,
+    pub size: u32,
+    pub phase: Phase,
+    pub block: u32,
+    pub number: u32,
+}
+
+/// A call on a zone with these words at its begin, the number of stores made, and the parity of the part that is being
+/// stored.
+#[derive(Drop)]
+pub struct Progress {
+    pub zone: Zone,
+    pub words: Words,
+    pub call: Call,
+    pub made: u64,
+    pub place: Place,
+    pub parity: ArrayVec<u8, 127>,
+}
+
+impl Progress {
+    ghost use Rattle.zone_flight.specs.Flying.{Flying, seen, at_place};
+    ghost use Rattle.zone_flight.specs.Flying.{payload, later};
+    ghost use Rattle.zone_flight.specs.Calls.{told_call, body_stages};
+    ghost use Rattle.zone_flight.specs.Phases.{IsSound, IsFinished, IsDone, first_len, second_len, first_end, second_end, phase_len};
+    ghost use Rattle.zone_flight.specs.Machine.{Enters, Stores, IsKept, StandsFor, IsSettled, IsSameCall, total_of};
+
+    /// The call before its first store.
+    pub fn begin(zone: Zone, span: &Span, call: Call) -> Progress
+        requires valid { IsValidZone zone }
+        requires len { length span.now ≡ zone.size }
+        requires ring { IsRing (standing_words span.now) zone.cap }
+        requires is_open { IsOpenFor (told_call call) (standing_words span.now) zone.cap }
+        ensures kept { IsKept (seen result) }
+        ensures zone { result.zone ≡ zone }
+        ensures words { result.words ≡ standing_words span.now }
+        ensures call { told_call result.call ≡ told_call call }
+        ensures made { result.made ≡ 0 }
+        ensures stands { StandsFor (seen result) span.now span.now }
+    {
+        let words = Words::read(span);
+        let _total = call_total(&zone, &words, &call);
+        let place = first_place(&zone, &words, &call);
+        Progress {
+            zone,
+            words,
+            call,
+            made: 0,
+            place,
+            parity: ArrayVec::new(),
+        }
+    }
+
+    fn payload(&self) -> &[u8]
+        requires { 36 ≤ self.now.zone.cap }
+        ensures { result.now ≡ payload (seen self.now) }
+    {
+        match self.place.leg {
+            Leg::Erasure => &[],
+            Leg::Payload => last_bytes(&self.call, self.zone.cap),
+            Leg::Line => line_bytes(&self.call),
+            Leg::Body => front_bytes(&self.call, self.zone.cap),
+        }
+    }
+
+    fn payload_len(&self) -> u32
+        requires { IsSound (seen self.now) }
+        ensures { result ≡ length (payload (seen self.now)) }
+    {
+        self.payload().len() as u32
+    }
+
+    fn first_len(&self) -> u32
+        requires { IsSound (seen self.now) }
+        ensures { result ≡ first_len (seen self.now) }
+    {
+        let room = self.zone.cap - self.place.start;
+        room.min(self.payload_len())
+    }
+
+    fn second_len(&self) -> u32
+        requires { IsSound (seen self.now) }
+        ensures { result ≡ second_len (seen self.now) }
+    {
+        self.payload_len() - self.first_len()
+    }
+
+    /// The first block behind the first run.
+    fn first_end(&self) -> u32
+        requires { IsSound (seen self.now) }
+        ensures { result ≡ first_end (seen self.now) }
+    {
+        (self.place.start + self.first_len() + self.zone.block - 1) / self.zone.block
+    }
+
+    fn second_end(&self) -> u32
+        requires { IsSound (seen self.now) }
+        ensures { result ≡ second_end (seen self.now) }
+    {
+        (self.second_len() + self.zone.block - 1) / self.zone.block
+    }
+
+    fn phase_len(&self) -> u32
+        requires { IsSound (seen self.now) }
+        ensures { result ≡ phase_len (seen self.now) self.now.place.phase }
+    {
+        match self.place.phase {
+            Phase::ZeroStart => 1,
+            Phase::ZeroSize => 1,
+            Phase::Size => 1,
+            Phase::Start => 1,
+            Phase::First => self.first_len(),
+            Phase::FirstParity => self.zone.parity,
+            Phase::Second => self.second_len(),
+            Phase::SecondParity => self.zone.parity,
+            Phase::Header => self.zone.parity,
+            Phase::Finished => 0,
+        }
+    }
+
+    pub fn is_finished(&self) -> bool
+        ensures { IsTrue result ↔ IsFinished (seen self.now) }
+    {
+        match self.place.phase {
+            Phase::Finished => true,
+            _ => false,
+        }
+    }
+
+    fn enter_header(&mut self, span: &Span)
+        requires sound { IsSound (seen self.old) }
+        requires len { length span.now ≡ self.old.zone.size }
+        ensures same { seen self.new ≡ record (at_place (seen self.old) (record self.old.place { phase = Phase.Header; number = 0 })) { parity = self.new.parity.items } }
+        ensures value { self.new.parity.items ≡ parity_of self.old.zone.parity (part_bytes self.old.zone span.now Header) }
+        ensures len { length self.new.parity.items ≡ self.old.zone.parity }
+    {
+        let _bytes = span.len();
+        header_parity(span, &self.zone, &mut self.parity);
+        self.place.phase = Phase::Header;
+        self.place.number = 0;
+    }
+
+    fn enter_block(&mut self, span: &Span, phase: Phase, block: u32)
+        requires sound { IsSound (seen self.old) }
+        requires len { length span.now ≡ self.old.zone.size }
+        requires block { self.old.zone.block * block < self.old.zone.cap }
+        ensures same { seen self.new ≡ record (at_place (seen self.old) (record self.old.place { phase = phase; block = block; number = 0 })) { parity = self.new.parity.items } }
+        ensures value { self.new.parity.items ≡ parity_of self.old.zone.parity (part_bytes self.old.zone span.now (Block block)) }
+        ensures len { length self.new.parity.items ≡ self.old.zone.parity }
+    {
+        let _bytes = span.len();
+        block_parity(span, &self.zone, block, &mut self.parity);
+        self.place.phase = phase;
+        self.place.block = block;
+        self.place.number = 0;
+    }
+
+    /// Begins a later part, at the ring of this start and size.
+    fn enter_leg(&mut self, leg: Leg, at: u32)
+        ensures place { seen self.new ≡ at_place (seen self.old) (record { leg = leg; start = at; size = at; phase = Phase.Size; block = 0; number = 0 }) }
+    {
+        self.place = Place {
+            leg,
+            start: at,
+            size: at,
+            phase: Phase::Size,
+            block: 0,
+            number: 0,
+        };
+    }
+
+    fn enter_phase(&mut self, phase: Phase)
+        ensures place { seen self.new ≡ at_place (seen self.old) (record self.old.place { phase = phase; number = 0 }) }
+    {
+        self.place.phase = phase;
+        self.place.number = 0;
+    }
+
+    /// Goes on behind a dump's line, or behind its erasure where the line is empty.
+    fn enter_body(&mut self)
+        requires sound { IsSound (seen self.old) }
+        requires done { IsDone (seen self.old) }
+        requires header { self.old.place.phase ≡ Phase.Header }
+        requires behind { later (seen self.old) ≡ body_stages self.old.zone (told_call self.old.call) }
+        ensures sound { IsSound (seen self.new) }
+        ensures enters { (image : List ℕ) → Enters (seen self.old) (seen self.new) image }
+    {
+        let line = line_bytes(&self.call).len() as u32;
+        if front_bytes(&self.call, self.zone.cap).is_empty() {
+            self.enter_phase(Phase::Finished);
+        } else {
+            self.enter_leg(Leg::Body, line);
+        }
+    }
+
+    /// Goes on behind the header's parity: to the next part that has bytes, or to the end.
+    fn enter_next_leg(&mut self)
+        requires sound { IsSound (seen self.old) }
+        requires done { IsDone (seen self.old) }
+        requires header { self.old.place.phase ≡ Phase.Header }
+        ensures sound { IsSound (seen self.new) }
+        ensures enters { (image : List ℕ) → Enters (seen self.old) (seen self.new) image }
+    {
+        match self.place.leg {
+            Leg::Erasure => {
+                if line_bytes(&self.call).is_empty() {
+                    self.enter_body();
+                } else {
+                    self.enter_leg(Leg::Line, 0);
+                }
+            }
+            Leg::Line => self.enter_body(),
+            Leg::Payload => self.enter_phase(Phase::Finished),
+            Leg::Body => self.enter_phase(Phase::Finished),
+        }
+    }
+
+    /// Goes on to the next phase.
+    fn enter(&mut self, span: &Span)
+        requires sound { IsSound (seen self.old) }
+        requires len { length span.now ≡ self.old.zone.size }
+        requires done { IsDone (seen self.old) }
+        requires more { IsFinished (seen self.old) → ⊥ }
+        ensures sound { IsSound (seen self.new) }
+        ensures enters { Enters (seen self.old) (seen self.new) span.now }
+    {
+        match self.place.phase {
+            Phase::ZeroStart => self.enter_phase(Phase::ZeroSize),
+            Phase::ZeroSize => self.enter_header(span),
+            Phase::Size => self.enter_phase(Phase::Start),
+            Phase::Start => self.enter_phase(Phase::First),
+            Phase::First => {
+                let block = self.place.start / self.zone.block;
+                self.enter_block(span, Phase::FirstParity, block);
+            }
+            Phase::FirstParity => {
+                let block = self.place.block + 1;
+                if block < self.first_end() {
+                    self.enter_block(span, Phase::FirstParity, block);
+                } else if self.second_len() > 0 {
+                    self.enter_phase(Phase::Second);
+                } else {
+                    self.enter_header(span);
+                }
+            }
+            Phase::Second => self.enter_block(span, Phase::SecondParity, 0),
+            Phase::SecondParity => {
+                let block = self.place.block + 1;
+                if block < self.second_end() {
+                    self.enter_block(span, Phase::SecondParity, block);
+                } else {
+                    self.enter_header(span);
+                }
+            }
+            Phase::Header => self.enter_next_leg(),
+            Phase::Finished => {}
+        }
+    }
+
+    /// Makes the next store of the phase.
+    fn store(&self, spans: &mut Spans, i: u32)
+        requires sound { IsSound (seen self.now) }
+        requires has { i < length spans.old.spans }
+        requires len { length (span spans.old i) ≡ self.now.zone.size }
+        requires ready { self.now.place.number < phase_len (seen self.now) self.now.place.phase }
+        ensures { Stores (seen self.now) spans.old i spans.new }
+    {
+        let number = self.place.number;
+        match self.place.phase {
+            Phase::ZeroStart => spans.store_word(i, 4, 0),
+            Phase::ZeroSize => spans.store_word(i, 8, 0),
+            Phase::Size => {
+                let size = self.zone.cap.min(self.place.size + self.payload_len());
+                spans.store_word(i, 8, size)
+            }
+            Phase::Start => {
+                let start = (self.place.start + self.payload_len()) % self.zone.cap;
+                spans.store_word(i, 4, start)
+            }
+            Phase::First => self.store_byte(spans, i, 12 + self.place.start + number, number),
+            Phase::FirstParity => self.store_parity(spans, i, self.parity_at(self.place.block)),
+            Phase::Second => {
+                let first = self.first_len();
+                self.store_byte(spans, i, 12 + number, first + number)
+            }
+            Phase::SecondParity => self.store_parity(spans, i, self.parity_at(self.place.block)),
+            Phase::Header => self.store_parity(spans, i, self.parity_at(self.zone.blocks)),
+            Phase::Finished => {}
+        }
+    }
+
+    /// Where the parity of a block begins; that of the header is behind the last block's.
+    fn parity_at(&self, block: u32) -> u32
+        requires sound { IsSound (seen self.now) }
+        requires block { block ≤ self.now.zone.blocks }
+        ensures { result ≡ 12 + self.now.zone.cap + block * self.now.zone.parity }
+    {
+        12 + self.zone.cap + block * self.zone.parity
+    }
+
+    /// Stores a byte of the payload.
+    fn store_byte(&self, spans: &mut Spans, i: u32, at: u32, from: u32)
+        requires has { i < length spans.old.spans }
+        requires at { at < length (span spans.old i) }
+        requires from { from < length (payload (seen self.now)) }
+        requires room { 36 ≤ self.now.zone.cap }
+        ensures { spans.new ≡ with_span spans.old i (put (span spans.old i) at (slice_index (payload (seen self.now)) from ∷ [])) }
+    {
+        let byte = self.payload()[from as usize];
+        spans.store(i, at, byte);
+    }
+
+    /// Stores a byte of the parity that is kept.
+    fn store_parity(&self, spans: &mut Spans, i: u32, at: u32)
+        requires has { i < length spans.old.spans }
+        requires number { self.now.place.number < length self.now.parity.items }
+        requires at { at + self.now.place.number < length (span spans.old i) }
+        requires small { length (span spans.old i) < 2 ^ 25 }
+        ensures { spans.new ≡ with_span spans.old i (put (span spans.old i) (at + self.now.place.number) (slice_index self.now.parity.items self.now.place.number ∷ [])) }
+    {
+        let byte = byte_of(self.parity.as_slice(), self.place.number);
+        spans.store(i, at + self.place.number, byte);
+    }
+
+    /// Goes on to the phase of the next store.
+    fn settle(&mut self, span: &Span)
+        requires sound { IsSound (seen self.old) }
+        requires len { length span.now ≡ self.old.zone.size }
+        ensures sound { IsSound (seen self.new) }
+        ensures settled { IsSettled (seen self.old) (seen self.new) span.now }
+    {
+        while !self.is_finished() && self.place.number == self.phase_len() {
+            self.enter(span);
+        }
+    }
+
+    /// Makes the next store, and tells whether it was the last.
+    pub fn step(&mut self, spans: &mut Spans, i: u32) -> bool
+        requires kept { IsKept (seen self.old) }
+        requires left { self.old.made < total_of (seen self.old) }
+        requires has { i < length spans.old.spans }
+        requires len { length (span spans.old i) ≡ self.old.zone.size }
+        ensures kept { IsKept (seen self.new) }
+        ensures same { IsSameCall (seen self.old) (seen self.new) }
+        ensures made { self.new.made ≡ self.old.made + 1 }
+        ensures stands { (before : List ℕ) → StandsFor (seen self.old) (span spans.old i) before → StandsFor (seen self.new) (span spans.new i) before }
+        ensures others { spans.new ≡ with_span spans.old i (span spans.new i) }
+        ensures len { length (span spans.new i) ≡ length (span spans.old i) }
+        ensures done { IsTrue result ↔ (self.new.made ≡ total_of (seen self.new)) }
+    {
+        self.store(spans, i);
+        self.place.number += 1;
+        self.made += 1;
+        self.settle(&spans.all()[i as usize]);
+        self.is_finished()
+    }
+}
+
+fn byte_of(bytes: &[u8], at: u32) -> u8
+    requires { at < length bytes.now }
+    ensures { result ≡ slice_index bytes.now at }
+{
+    bytes[at as usize]
+}
+
+/// Where the call begins.
+fn first_place(zone: &Zone, words: &Words, call: &Call) -> Place
+    ensures { result ≡ first_place zone.now words.now (told_call call.now) }
+{
+    match call {
+        Call::Append(_) => Place {
+            leg: Leg::Payload,
+            start: words.start,
+            size: words.size,
+            phase: append_phase(zone, words, last_bytes(call, zone.cap).len()),
+            block: 0,
+            number: 0,
+        },
+        Call::Erase => erasure(),
+        Call::Dump(_, _) => erasure(),
+    }
+}
+
+fn append_phase(zone: &Zone, words: &Words, len: usize) -> Phase
+    ensures { result ≡ append_phase len words.now.size zone.now.cap }
+{
+    if len == 0 {
+        Phase::Finished
+    } else if words.size == zone.cap {
+        Phase::Start
+    } else {
+        Phase::Size
+    }
+}
+
+fn erasure() -> Place
+    ensures { result ≡ erasure }
+{
+    Place {
+        leg: Leg::Erasure,
+        start: 0,
+        size: 0,
+        phase: Phase::ZeroStart,
+        block: 0,
+        number: 0,
+    }
+}
+
+/// The last `cap` bytes of an append; nothing where the call is another.
+pub fn last_bytes(call: &Call, cap: u32) -> &[u8]
+    ensures { result.now ≡ last_of cap (told_call call.now) }
+{
+    match call {
+        Call::Append(bytes) => {
+            let bytes = bytes.as_slice();
+            &bytes[bytes.len().saturating_sub(cap as usize)..]
+        }
+        Call::Erase => &[],
+        Call::Dump(_, _) => &[],
+    }
+}
+
+/// The line of a dump; nothing where the call is another.
+pub fn line_bytes(call: &Call) -> &[u8]
+    ensures value { result.now ≡ line_of (told_call call.now) }
+    ensures fits { length result.now ≤ 36 }
+{
+    match call {
+        Call::Append(_) => &[],
+        Call::Erase => &[],
+        Call::Dump(line, _) => line.as_str().as_bytes(),
+    }
+}
+
+/// The front of a dump's body that fits behind its line; nothing where the call is another.
+pub fn front_bytes(call: &Call, cap: u32) -> &[u8]
+    requires { 36 ≤ cap }
+    ensures { result.now ≡ front_of cap (told_call call.now) }
+{
+    match call {
+        Call::Append(_) => &[],
+        Call::Erase => &[],
+        Call::Dump(line, body) => {
+            let body = body.as_slice();
+            let room = cap as usize - line.as_str().len();
+            &body[..room.min(body.len())]
+        }
+    }
+}
