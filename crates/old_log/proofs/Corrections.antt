@@ -1,6 +1,6 @@
 -- The corrections of a zone's parts, when others were made before
-use Rattle.std.proofs.Common.{◌≡◌, ℕ, zero, suc, ◌+◌, ◌-◌, ◌*◌, ◌/◌, ◌%◌, ◌<◌, ◌≤◌, min, List, [], ◌∷◌, ◌++◌, length, take, drop, get_or, slice_range, flat_map, refl, sym, ap, ap₂, ◌∙◌, arith, length-take, length-drop, take-append-drop, take_all, w32, if◌then◌else◌, ◌==◌, Bool, true, false, append_assoc}
-use Rattle.std.specs.Int.{to_le_bytes, from_le_bytes}
+use Rattle.std.proofs.Common.{◌≡◌, ℕ, zero, suc, ◌+◌, ◌-◌, ◌*◌, ◌<◌, ◌≤◌, min, List, [], ◌∷◌, ◌++◌, length, take, drop, slice_range, flat_map, refl, sym, ap, ap₂, ◌∙◌, arith, length-take, length-drop, take-append-drop, take_all, w32, append_assoc}
+use Rattle.std.specs.Int.{to_le_bytes}
 use Rattle.std.specs.List.{AllByRecursion, range_with_len}
 use Rattle.std.proofs.Math.Seq.{drop-nil}
 use Rattle.std.proofs.Math.Nat.{mul-le-mul_left}
@@ -13,13 +13,13 @@ use Rattle.zone_spec.specs.declared.Words.{Words}
 use Rattle.zone_spec.specs.declared.State.{State}
 use Rattle.zone_spec.specs.declared.State.TheVariants.{Unsigned, Empty, Invalid, Found}
 use Rattle.zone_spec.specs.Zones.{IsValidZone}
-use Rattle.zone_spec.specs.Parts.{AreBytes, Part, Header, Block, part_at, part_len, part_parity_at, part_bytes, part_word, words_in}
+use Rattle.zone_spec.specs.Parts.{AreBytes, Part, Header, Block, part_at, part_parity_at, part_bytes, part_word, words_in}
 use Rattle.zone_spec.specs.PartReadings.{PartReading, part_reading, reading_by, words_read}
 use Rattle.zone_spec.specs.Reading.{ZoneReading, zone_reading, reading_in, state_of, blocks_below}
 use Rattle.zone_spec.specs.Stores.{Store}
 use Rattle.zone_spec.specs.Boot.{fix_stores, part_fixes, boot_fixes, blocks_read}
-use Rattle.old_log.proofs.Images.{reading-bytes, block-length, header-length, taken-bytes, slice_range-bytes}
-use Rattle.old_log.proofs.Fronts.{range-append, range-front}
+use Rattle.old_log.proofs.Images.{reading-bytes, block-length, header-length, slice_range-bytes}
+use Rattle.old_log.proofs.Fronts.{range-front}
 use Rattle.old_log.proofs.Storing.{IsBelow, all-append, fix-below}
 
 -- ---- images that are the same from a place on

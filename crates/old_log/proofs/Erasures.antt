@@ -1,22 +1,21 @@
 -- The stores of a boot's erasure
-use Rattle.std.proofs.Common.{◌≡◌, ℕ, zero, suc, ◌+◌, ◌-◌, ◌*◌, ◌<◌, ◌≤◌, List, [], ◌∷◌, ◌++◌, length, take, drop, get_or, set, flat_map, refl, sym, ap, ap₂, ◌∙◌, subst, arith, length-take, length-drop, length-append, w32, if◌then◌else◌, ◌==◌, Bool, true, false}
+use Rattle.std.proofs.Common.{◌≡◌, ℕ, zero, suc, ◌+◌, ◌<◌, List, [], ◌∷◌, ◌++◌, length, set, flat_map, refl, sym, ap, ap₂, ◌∙◌, arith, length-append, w32, if◌then◌else◌, ◌==◌, Bool, true, false}
 use Rattle.std.specs.Int.{to_le_bytes}
-use Rattle.std.specs.List.{AllByRecursion, range_with_len}
+use Rattle.std.specs.List.{AllByRecursion}
 use Rattle.std.proofs.lemmas.List.{append-nil}
-use Rattle.code_spec.specs.Code.{IsWord, parity_of}
+use Rattle.code_spec.specs.Code.{parity_of}
 use Rattle.code_laws.proofs.Laws.{parity_made}
 use Rattle.zone_spec.specs.declared.Zone.{Zone}
 use Rattle.zone_spec.specs.declared.State.{State}
 use Rattle.zone_spec.specs.declared.State.TheVariants.{Unsigned, Empty, Invalid, Found}
-use Rattle.zone_spec.specs.Parts.{AreBytes, Part, Header, Block, part_at, part_len, part_bytes, part_parity_at}
-use Rattle.zone_spec.specs.PartReadings.{part_reading}
+use Rattle.zone_spec.specs.Parts.{AreBytes, Header, Block, part_bytes, part_parity_at}
 use Rattle.zone_spec.specs.Stores.{Store, put, after_stores, byte_stores, word_store}
 use Rattle.zone_spec.specs.Stages.{stage_stores, stores_in_turn}
 use Rattle.zone_spec.specs.Calls.{erase_stages}
 use Rattle.zone_spec.specs.Reading.{ZoneReading, zone_reading}
 use Rattle.zone_spec.specs.Boot.{fix_stores, part_fixes, boot_fixes, blocks_read, boot_erasure, boot_stores, signing, keeps}
 use Rattle.old_log.proofs.Images.{reading-bytes, bytes-all, bytes-each, slice_range-bytes}
-use Rattle.old_log.proofs.Storing.{all-append, all-take, byte-length}
+use Rattle.old_log.proofs.Storing.{all-append, byte-length}
 
 -- ---- stores of bytes leave bytes
 abbrev pub HasBytes : Store → Type 0

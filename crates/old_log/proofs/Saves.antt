@@ -24,6 +24,12 @@ module _ {A B : Type 0} where
   zip-second (x ∷ xs) (y ∷ ys) zero b l h = h
   zip-second (x ∷ xs) (y ∷ ys) (suc i) b l h = zip-second xs ys i b (omega arith) h
 
+  pub zip-length : (xs : List A) (ys : List B) → length ys ≤ length xs → length (zip xs ys) ≡ length ys
+  zip-length [] [] l = refl
+  zip-length (x ∷ xs) [] l = refl
+  zip-length [] (y ∷ ys) l = absurd (omega arith)
+  zip-length (x ∷ xs) (y ∷ ys) l = ap (λ (n : ℕ). suc n) (zip-length xs ys (omega arith))
+
 -- the saved reading at a place, beside its zone
 pub zone-beside : (logs : SavedLogs) (i : ℕ) (z : Zone) → z ≡ get_or logs.zones i z → i < length logs.readings → length logs.readings ≤ length logs.zones → slice_get (saved logs) i ≡ Some (z, get_or logs.readings i None)
 zone-beside logs i z at some room =

@@ -1,11 +1,10 @@
 -- Stores that are made up to a limit, one after another
-use Rattle.std.proofs.Common.{◌≡◌, ℕ, zero, suc, ◌+◌, ◌-◌, ◌*◌, ◌<◌, ◌≤◌, min, ◌⊎◌, List, [], ◌∷◌, ◌++◌, length, take, drop, get_or, set, slice_range, Bool, true, false, cond, ◌==◌, if◌then◌else◌, refl, sym, ap, ap₂, ◌∙◌, subst, arith, inl, inr, length-take, length-drop, length-append, get_or-take, get_or-drop, append_assoc, true≢false}
+use Rattle.std.proofs.Common.{◌≡◌, ℕ, zero, suc, ◌+◌, ◌-◌, ◌<◌, ◌≤◌, List, [], ◌∷◌, ◌++◌, length, take, drop, get_or, slice_range, Bool, true, false, ◌==◌, if◌then◌else◌, refl, sym, ap, ap₂, ◌∙◌, subst, arith, inl, inr, length-take, length-append, get_or-take, get_or-drop, append_assoc}
 use Rattle.std.specs.List.{AllByRecursion}
 use Rattle.std.proofs.lemmas.Bool.{cases_lt}
 use Rattle.std.proofs.lemmas.List.{get_or_default, set-get_or, drop-set-lt, take-append-le, take_all}
 use Rattle.std.proofs.lemmas.Bool.Decides.{nat_tests}
-use Rattle.std.proofs.Math.Seq.{take-append-add}
-use Rattle.zone_spec.specs.Stores.{Store, put, after_stores, byte_stores, word_store}
+use Rattle.zone_spec.specs.Stores.{Store, put, after_stores, byte_stores}
 use Rattle.zone_spec.specs.Boot.{fix_stores}
 use Rattle.ram_region.specs.CutRegion.{CutRegion, span, with_span}
 use Rattle.ram_region.proofs.Cuts.{with_span-again, span-with_span, spans-length, put-length}

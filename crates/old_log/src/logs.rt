@@ -49,7 +49,8 @@ impl Logs {
 
     /// The number of zones whose readings were saved, the forgotten ones too.
     pub fn len(&self) -> u32
-        ensures { result ≡ length self.now.readings }
+        ensures readings { result ≡ length self.now.readings }
+        ensures saved { result ≡ length (saved self.now) }
     {
         self.readings.len() as u32
     }

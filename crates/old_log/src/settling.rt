@@ -26,7 +26,8 @@ pub struct Settled {
     pub erase_at: u64,
 }
 
-/// Stores as they come: the first `limit` are made, and all are counted.
+/// Stores as they come: the first `limit` are made, and all are counted. A span's length is asked where the proof needs
+/// that its members are bytes.
 #[derive(Drop)]
 struct Tally {
     limit: u64,

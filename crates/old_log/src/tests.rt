@@ -82,7 +82,7 @@ fn zeros(alloc: Global, p: &Params) -> Result<(Layout, Spans), AllocError> {
     }
 }
 
-fn store(spans: &mut Spans, i: usize, at: usize, b: u8) {
+fn store_byte(spans: &mut Spans, i: usize, at: usize, b: u8) {
     let all = spans.all();
     if i < all.len() && i < 4 && at < 4096 {
         if (at as u32) < all[i].len() {
@@ -95,7 +95,7 @@ fn store(spans: &mut Spans, i: usize, at: usize, b: u8) {
 fn image(alloc: Global, p: &Params, i: usize, bytes: &[u8]) -> Result<(Layout, Spans), AllocError> {
     let (layout, mut spans) = zeros(alloc, p)?;
     for (at, b) in bytes.iter().enumerate() {
-        store(&mut spans, i, at, *b);
+        store_byte(&mut spans, i, at, *b);
     }
     Ok((layout, spans))
 }

@@ -17,10 +17,11 @@ use Rattle.zone_flight.specs.declared.progress.Leg.TheVariants.{Erasure, Payload
 use Rattle.zone_flight.specs.declared.progress.Place.{Place}
 use Rattle.zone_flight.specs.declared.progress.Phase.{Phase}
 use Rattle.zone_flight.specs.declared.progress.Phase.TheVariants.{ZeroStart, Size, Start, Finished}
-use Rattle.zone_flight.specs.Calls.{last_of, line_of, front_of}
+use Rattle.zone_flight.specs.Calls.{last_of, line_of, front_of, IsOpenFor}
 use Rattle.zone_flight.specs.Flying.{Flying, payload}
 use Rattle.zone_flight.specs.Phases.{IsSound, IsWithin, IsFinished, phase_len}
-use Rattle.zone_flight.specs.Machine.{stores_of, behind, stores_left, count_left, total_of, IsKept, IsOpenFor, StandsFor}
+use Rattle.zone_flight.specs.Machine.{stores_of, behind, stores_left, count_left, IsKept, StandsFor}
+use Rattle.zone_flight.specs.Counts.{total_of}
 use Rattle.zone_flight.specs.First.{first_place, append_phase, erasure}
 use Rattle.zone_flight.proofs.Left.{counted, left_begun, count_begun, in_turn_next}
 use Rattle.zone_flight.proofs.Parts.{append_begins_ne, append_begins_full}

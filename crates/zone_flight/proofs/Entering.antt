@@ -10,9 +10,9 @@ use Rattle.zone_spec.specs.Stages.{Stage, StartWord, SizeWord, Run, ParityOf, st
 use Rattle.zone_spec.specs.Calls.{run_stages}
 use Rattle.zone_flight.specs.declared.progress.Phase.{Phase}
 use Rattle.zone_flight.specs.declared.progress.Phase.TheVariants.{ZeroStart, ZeroSize, Size, Start, First, FirstParity, Second, SecondParity, Header as HeaderPhase, Finished}
-use Rattle.zone_flight.specs.Flying.{Flying, payload, later}
+use Rattle.zone_flight.specs.Flying.{Flying, payload, later, IsSameCall}
 use Rattle.zone_flight.specs.Phases.{IsDone, IsSound, IsWithin, phase_len, first_run, second_run, first_len, second_len, first_end, second_end}
-use Rattle.zone_flight.specs.Machine.{stores_of, behind, closing, stores_left, count_left, Enters, phases_left, parities_between, IsSameCall}
+use Rattle.zone_flight.specs.Machine.{stores_of, behind, closing, stores_left, count_left, Enters, phases_left, parities_between}
 use Rattle.zone_flight.proofs.Left.{AllStored, left_begun, left_done, count_begun, count_done, enters_by}
 
 -- the flight in another phase, at its begin

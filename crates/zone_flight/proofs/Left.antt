@@ -9,9 +9,9 @@ use Rattle.zone_spec.specs.Stores.{Store, after_stores, byte_stores}
 use Rattle.zone_spec.specs.Stages.{Stage, stage_stores, stage_count, stores_in_turn}
 use Rattle.zone_flight.specs.declared.progress.Phase.{Phase}
 use Rattle.zone_flight.specs.declared.progress.Phase.TheVariants.{ZeroStart, ZeroSize, Size, Start, First, FirstParity, Second, SecondParity, Header as HeaderPhase, Finished}
-use Rattle.zone_flight.specs.Flying.{Flying, payload}
+use Rattle.zone_flight.specs.Flying.{Flying, payload, IsSameCall}
 use Rattle.zone_flight.specs.Phases.{IsDone, IsSound, IsWithin, phase_len, first_run, second_run}
-use Rattle.zone_flight.specs.Machine.{stores_of, behind, stores_left, count_left, phases_left, Enters, IsSameCall}
+use Rattle.zone_flight.specs.Machine.{stores_of, behind, stores_left, count_left, phases_left, Enters}
 
 -- every store of the phase is made
 abbrev pub AllStored : Flying → Type 0

@@ -9,3 +9,4 @@ pub mod Beginning
 pub mod PairLists
 pub mod Runs
 pub mod TouchedBlocks
+pub mod Standing

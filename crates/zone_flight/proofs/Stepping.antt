@@ -10,9 +10,11 @@ use Rattle.zone_spec.specs.Reading.{IsRing}
 use Rattle.zone_spec.specs.Calls.{call_stores, call_stages, IsUnderway}
 use Rattle.zone_flight.specs.declared.progress.Phase.{Phase}
 use Rattle.zone_flight.specs.declared.progress.Phase.TheVariants.{ZeroStart, ZeroSize, Size, Start, First, FirstParity, Second, SecondParity, Header as HeaderPhase, Finished}
-use Rattle.zone_flight.specs.Flying.{Flying, payload}
+use Rattle.zone_flight.specs.Flying.{Flying, payload, IsSameCall}
 use Rattle.zone_flight.specs.Phases.{phase_len, IsFinished, IsSound, IsWithin}
-use Rattle.zone_flight.specs.Machine.{stores_of, behind, stores_left, count_left, StandsFor, IsSameCall, IsSettled, IsKept, IsOpenFor, total_of}
+use Rattle.zone_flight.specs.Machine.{stores_of, behind, stores_left, count_left, StandsFor, IsSettled, IsKept}
+use Rattle.zone_flight.specs.Calls.{IsOpenFor}
+use Rattle.zone_flight.specs.Counts.{total_of}
 
 after_stores-append : (image : List ℕ) (xs ys : List Store) → after_stores image (xs ++ ys) ≡ after_stores (after_stores image xs) ys
 unfolding after_stores

@@ -2,6 +2,8 @@
 use Rattle.std.specs.Prelude.{ℕ, ◌-◌, List, [], ◌++◌, length, take}
 use Rattle.zone_spec.specs.declared.Zone.{Zone}
 use Rattle.zone_spec.specs.Told.{Call, Append, Erase, Dump, last_items}
+use Rattle.zone_spec.specs.declared.Words.{Words}
+use Rattle.zone_spec.specs.Ring.{IsOpen}
 use Rattle.zone_spec.specs.Stages.{Stage}
 use Rattle.zone_spec.specs.Calls.{append_stages}
 use Rattle.zone_flight.specs.declared.call.Call.{Call as RustCall}
@@ -13,6 +15,12 @@ abbrev pub told_call : RustCall → Call
 told_call (RustAppend payload) = Append payload
 told_call RustErase = Erase
 told_call (RustDump line body) = Dump line body
+
+-- an append is to a ring that can be appended to
+abbrev pub IsOpenFor : Call → Words → ℕ → Type 0
+IsOpenFor (Append payload) w cap = IsOpen w cap
+IsOpenFor Erase w cap = Unit {0}
+IsOpenFor (Dump line body) w cap = Unit {0}
 
 -- the bytes that an append stores, those of a dump's line, and the front of its body; nothing where the call is another
 unfoldable pub last_of : ℕ → Call → List ℕ

@@ -1,11 +1,16 @@
 -- What a flight tells of its whole call
-use Rattle.std.specs.Prelude.{ℕ, ◌-◌, max, if◌then◌else◌, nat_lt, ◌==◌, List, [], ◌∷◌, filter}
+use Rattle.std.specs.Prelude.{ℕ, ◌-◌, max, if◌then◌else◌, nat_lt, ◌==◌, List, [], ◌∷◌, filter, sum_by}
 use Rattle.std.specs.List.{range_with_len, list_any}
 use Rattle.zone_spec.specs.declared.Pair.{Pair}
+use Rattle.zone_spec.specs.Stages.{stage_count}
 use Rattle.zone_spec.specs.Calls.{call_stages}
 use Rattle.zone_spec.specs.Pairs.{pairs_from, pair_of}
 use Rattle.zone_spec.specs.Touched.{touched_by, runs_of}
 use Rattle.zone_flight.specs.Flying.{Flying}
+
+-- how many stores the whole call has
+abbrev pub total_of : Flying → ℕ
+total_of f = sum_by (stage_count f.zone) (call_stages f.zone f.words f.call)
 
 -- the words before it, and after each store of a start or size word
 abbrev pub pairs_of : Flying → List Pair

@@ -1,5 +1,5 @@
 -- What a contract sees of a flight
-use Rattle.std.specs.Prelude.{ℕ, List, length}
+use Rattle.std.specs.Prelude.{◌≡◌, ℕ, List}
 use Rattle.zone_spec.specs.declared.Zone.{Zone}
 use Rattle.zone_spec.specs.declared.Words.{Words}
 use Rattle.zone_spec.specs.Told.{Call}
@@ -19,6 +19,12 @@ pub record Flying : Type 0 where
 
 abbrev pub seen : Progress → Flying
 seen p = record { zone = p.zone; words = p.words; call = told_call p.call; made = p.made; place = p.place; parity = p.parity.items }
+
+-- the same call on the same zone
+pub record IsSameCall (f g : Flying) : Type 0 where
+  pub zone : g.zone ≡ f.zone
+  pub words : g.words ≡ f.words
+  pub call : g.call ≡ f.call
 
 -- the same flight at another place
 abbrev pub at_place : Flying → Place → Flying

@@ -2,17 +2,16 @@
 use Rattle.std.specs.Prelude.{◌≡◌, ℕ, ◌+◌, ◌-◌, ◌/◌, ◌%◌, ◌^◌, ◌<◌, min, ◌⊎◌, List, [], ◌∷◌, ◌++◌, length, drop, map, sum_by, slice_get, Some}
 use Rattle.std.specs.List.{range_with_len}
 use Rattle.zone_spec.specs.Parts.{Header, Block, part_parity_at, standing_words}
-use Rattle.zone_spec.specs.Told.{Call, Append, Erase, Dump}
 use Rattle.zone_spec.specs.Reading.{IsRing}
-use Rattle.zone_spec.specs.Ring.{IsOpen}
-use Rattle.zone_spec.specs.declared.Words.{Words}
 use Rattle.zone_spec.specs.Stores.{Store, after_stores, byte_stores, put, word_store}
 use Rattle.zone_spec.specs.Stages.{Stage, StartWord, SizeWord, ParityOf, stage_count, stores_in_turn}
-use Rattle.zone_spec.specs.Calls.{run_stages, call_stages, IsUnderway}
+use Rattle.zone_spec.specs.Calls.{run_stages, IsUnderway}
 use Rattle.ram_region.specs.CutRegion.{CutRegion, span, with_span}
 use Rattle.zone_flight.specs.declared.progress.Phase.{Phase}
 use Rattle.zone_flight.specs.declared.progress.Phase.TheVariants.{ZeroStart, ZeroSize, Size, Start, First, FirstParity, Second, SecondParity, Header as HeaderPhase, Finished}
-use Rattle.zone_flight.specs.Flying.{Flying, payload, later}
+use Rattle.zone_flight.specs.Calls.{IsOpenFor}
+use Rattle.zone_flight.specs.Counts.{total_of}
+use Rattle.zone_flight.specs.Flying.{Flying, IsSameCall, payload, later}
 use Rattle.zone_flight.specs.Phases.{first_run, second_run, first_end, second_end, phase_len, IsFinished, IsSound}
 
 -- all stores of a phase
@@ -58,16 +57,6 @@ stores_left f image =
 abbrev pub count_left : Flying → ℕ
 count_left f = (phase_len f f.place.phase - f.place.number) + sum_by (stage_count f.zone) (behind f f.place.phase)
 
--- how many stores the whole call has
-abbrev pub total_of : Flying → ℕ
-total_of f = sum_by (stage_count f.zone) (call_stages f.zone f.words f.call)
-
--- an append is to a ring that can be appended to
-abbrev pub IsOpenFor : Call → Words → ℕ → Type 0
-IsOpenFor (Append payload) w cap = IsOpen w cap
-IsOpenFor Erase w cap = Unit {0}
-IsOpenFor (Dump line body) w cap = Unit {0}
-
 -- what is so of every flight
 pub record IsKept (f : Flying) : Type 0 where
   pub sound : IsSound f
@@ -86,12 +75,6 @@ pub record StandsFor (f : Flying) (now before : List ℕ) : Type 0 where
 abbrev pub phases_left : Flying → Phase → ℕ
 phases_left f Finished = 0
 phases_left f p = length (behind f p) + 1
-
--- the same call on the same zone
-pub record IsSameCall (f g : Flying) : Type 0 where
-  pub zone : g.zone ≡ f.zone
-  pub words : g.words ≡ f.words
-  pub call : g.call ≡ f.call
 
 -- the flight at a later phase, with the same stores left
 pub record Enters (f g : Flying) (image : List ℕ) : Type 0 where

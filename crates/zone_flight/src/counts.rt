@@ -7,8 +7,7 @@ ghost use Rattle.zone_spec.specs.Calls.{append_stages, call_stages, erase_stages
 ghost use Rattle.zone_spec.specs.Pairs.{pairs_from, pair_of};
 ghost use Rattle.zone_spec.specs.Touched.{runs_of, touched_by};
 ghost use Rattle.zone_spec.specs.Reading.{IsRing};
-ghost use Rattle.zone_flight.specs.Calls.{told_call, line_of, front_of, last_of};
-ghost use Rattle.zone_flight.specs.Machine.{IsOpenFor};
+ghost use Rattle.zone_flight.specs.Calls.{told_call, line_of, front_of, last_of, IsOpenFor};
 ghost use Rattle.zone_flight.specs.Counts.{runs_between};
 ghost use Rattle.zone_flight.specs.PairSteps.{AppendsPairs, pair_after};
 

@@ -4,10 +4,12 @@ ghost use Rattle.zone_spec.specs.Zones.{IsValidZone};
 ghost use Rattle.zone_spec.specs.Parts.{standing_words};
 ghost use Rattle.zone_spec.specs.Reading.{IsRing};
 ghost use Rattle.zone_spec.specs.Told.{kind_of};
+ghost use Rattle.zone_spec.specs.Calls.{call_stores, image_after};
 ghost use Rattle.ram_region.specs.CutRegion.{span, with_span};
-ghost use Rattle.zone_flight.specs.Calls.{told_call};
-ghost use Rattle.zone_flight.specs.Counts.{pairs_of, touched_runs};
-ghost use Rattle.zone_flight.specs.Machine.{IsOpenFor, IsSameCall, StandsFor, total_of};
+ghost use Rattle.zone_flight.specs.Calls.{told_call, IsOpenFor};
+ghost use Rattle.zone_flight.specs.Counts.{pairs_of, touched_runs, total_of};
+ghost use Rattle.zone_flight.specs.Machine.{StandsFor};
+ghost use Rattle.zone_flight.specs.Flying.{IsSameCall};
 
 use crate::call::{Call, Step};
 use crate::counts::{call_pairs, call_runs, call_total};
@@ -78,10 +80,13 @@ impl Flight {
         self.progress.call.kind()
     }
 
-    /// The stores made.
+    /// The stores made. After them the zone's bytes are the image before with just these stores of the call, and where
+    /// all are made the call has no more.
     pub fn made(&self) -> u64
         ensures value { result ≡ self.now.made }
         ensures most { result ≤ total_of self.now }
+        ensures image { (now before : List ℕ) → StandsFor self.now now before → now ≡ image_after self.now.zone self.now.call before result }
+        ensures last { (now before : List ℕ) → StandsFor self.now now before → result ≡ total_of self.now → result ≡ length (call_stores self.now.zone self.now.call before) }
     {
         self.progress.made
     }

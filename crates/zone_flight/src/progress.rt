@@ -6,8 +6,7 @@ ghost use Rattle.zone_spec.specs.Zones.{IsValidZone};
 ghost use Rattle.zone_spec.specs.Stores.{put};
 ghost use Rattle.ram_region.specs.CutRegion.{span, with_span};
 ghost use Rattle.zone_spec.specs.Reading.{IsRing};
-ghost use Rattle.zone_flight.specs.Calls.{told_call, line_of, front_of, last_of};
-ghost use Rattle.zone_flight.specs.Machine.{IsOpenFor};
+ghost use Rattle.zone_flight.specs.Calls.{told_call, line_of, front_of, last_of, IsOpenFor};
 ghost use Rattle.zone_flight.specs.First.{first_place, append_phase, erasure};
 
 use crate::call::Call;
@@ -67,11 +66,11 @@ pub struct Progress {
 }
 
 impl Progress {
-    ghost use Rattle.zone_flight.specs.Flying.{Flying, seen, at_place};
-    ghost use Rattle.zone_flight.specs.Flying.{payload, later};
+    ghost use Rattle.zone_flight.specs.Flying.{Flying, seen, at_place, payload, later, IsSameCall};
     ghost use Rattle.zone_flight.specs.Calls.{told_call, body_stages};
     ghost use Rattle.zone_flight.specs.Phases.{IsSound, IsFinished, IsDone, first_len, second_len, first_end, second_end, phase_len};
-    ghost use Rattle.zone_flight.specs.Machine.{Enters, Stores, IsKept, StandsFor, IsSettled, IsSameCall, total_of};
+    ghost use Rattle.zone_flight.specs.Machine.{Enters, Stores, IsKept, StandsFor, IsSettled};
+    ghost use Rattle.zone_flight.specs.Counts.{total_of};
 
     /// The call before its first store.
     pub fn begin(zone: Zone, span: &Span, call: Call) -> Progress

@@ -1,9 +1,8 @@
-use Rattle.std.proofs.Common.{◌≡◌, ℕ, List, ◌+◌, ◌-◌, ◌*◌, ◌<◌, ◌≤◌, ◌++◌, min, length, take, arith, refl, sym, ap, ap₂, ◌∙◌, subst, length-take-le}
+use Rattle.std.proofs.Common.{◌≡◌, ℕ, List, ◌+◌, ◌<◌, ◌++◌, length, take, arith, refl, sym, ap, ap₂, ◌∙◌, subst, length-take-le}
 use Rattle.zone_spec.specs.Parts.{Block}
 use Rattle.zone_spec.specs.PartReadings.{part_reading}
-use Rattle.old_log.specs.Reads.{bytes_read}
 use Rattle.old_log.proofs.Images.{block_some}
-use Rattle.old_log.proofs.Fronts.{below-ceil, ceil-is, ceil-past, bytes_read-next, bytes_read-none, sum_by-next, counted-corrected, counted-bad}
+use Rattle.old_log.proofs.Fronts.{below-ceil, bytes_read-next, bytes_read-none, sum_by-next, counted-corrected, counted-bad}
 use Rattle.old_log.proofs.reading.read_bytes.Goals as goal
 
 pub loop-b-init : goal.loop-b-init

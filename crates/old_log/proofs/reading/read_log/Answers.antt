@@ -1,4 +1,4 @@
-use Rattle.std.proofs.Common.{List, ℕ, ◌≡◌, ◌++◌, drop, take, length, ap, ◌∙◌, arith}
+use Rattle.std.proofs.Common.{List, ℕ, ◌++◌, drop, take, length, ap, ◌∙◌, arith}
 use Rattle.old_log.proofs.Fronts.{log-turned, bytes_read-length}
 use Rattle.old_log.proofs.reading.read_log.Goals as goal
 

@@ -4,9 +4,8 @@ use Rattle.std.specs.List.{range_with_len}
 use Rattle.zone_spec.specs.Told.{Call, Append, Erase, Dump}
 use Rattle.zone_spec.specs.Calls.{call_stages}
 use Rattle.zone_spec.specs.Touched.{touched_by, runs_of}
-use Rattle.zone_flight.specs.Calls.{told_call, last_of, line_of, front_of}
+use Rattle.zone_flight.specs.Calls.{told_call, last_of, line_of, front_of, IsOpenFor}
 use Rattle.zone_flight.specs.Counts.{runs_between}
-use Rattle.zone_flight.specs.Machine.{IsOpenFor}
 use Rattle.zone_flight.proofs.Runs.{has}
 use Rattle.zone_flight.proofs.TouchedBlocks.{runs_append, runs_dump, runs_none, runs_erase, dump_fits, behind_run}
 use Rattle.zone_flight.proofs.counts.call_runs.Goals as goal

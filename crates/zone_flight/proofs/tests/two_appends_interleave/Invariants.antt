@@ -2,4 +2,4 @@ use Rattle.std.proofs.Common.{◌≡◌, ℕ}
 use Rattle.zone_flight.proofs.tests.two_appends_interleave.Given as goal
 
 abbrev pub invariant-loop-i : goal.invariant-loop-i
-invariant-loop-i l = (l.console.zone.size ≡ 4096) × (l.pmsg.zone.size ≡ 4096)
+invariant-loop-i g l = (l.console.zone.size ≡ 4096) × (l.pmsg.zone.size ≡ 4096)

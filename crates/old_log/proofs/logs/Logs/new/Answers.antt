@@ -1,4 +1,4 @@
-use Rattle.std.proofs.Common.{arith, ap, length, ◌∙◌, rules}
+use Rattle.std.proofs.Common.{arith, ap, length}
 use Rattle.old_log.proofs.Saves.{layout-few}
 use Rattle.old_log.proofs.logs.Logs.new.Goals as goal
 

@@ -1,4 +1,4 @@
-use Rattle.std.proofs.Common.{◌≡◌, ◌+◌, ◌-◌, ◌<◌, List, ℕ, length, take, slice_range, get_or, sym, ◌∙◌, arith, refl, length-take}
+use Rattle.std.proofs.Common.{◌≡◌, ◌+◌, ◌<◌, List, ℕ, length, take, slice_range, sym, ◌∙◌, arith, refl, length-take}
 use Rattle.ram_region.specs.CutRegion.{span}
 use Rattle.old_log.proofs.Images.{slice_length}
 use Rattle.old_log.proofs.Storing.{makes-none, makes-same, makes-append, makes-length, makes-keep, fix-none, fix-next, fix-length, fix-below, byte-same, slice_byte}

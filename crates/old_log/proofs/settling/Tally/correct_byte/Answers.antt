@@ -1,4 +1,4 @@
-use Rattle.std.proofs.Common.{◌≡◌, List, ℕ, sym, ◌∙◌, ap, slice_index}
+use Rattle.std.proofs.Common.{List, ℕ, sym, ◌∙◌, ap, slice_index}
 use Rattle.old_log.proofs.Storing.{makes-none, makes-same, fix-equal, fix-differs, span-is}
 use Rattle.old_log.proofs.settling.Tally.correct_byte.Goals as goal
 

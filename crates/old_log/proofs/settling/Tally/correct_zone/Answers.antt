@@ -1,7 +1,7 @@
-use Rattle.std.proofs.Common.{◌≡◌, ◌+◌, ◌-◌, ◌<◌, ◌≤◌, List, ℕ, length, take, drop, slice_range, ap, sym, ◌∙◌, subst, arith, length-take}
+use Rattle.std.proofs.Common.{◌+◌, ◌-◌, List, ℕ, length, drop, slice_range, ap, sym, ◌∙◌, subst, arith, length-take}
 use Rattle.zone_spec.specs.declared.Words.{Words}
 use Rattle.zone_spec.specs.Parts.{AreBytes}
-use Rattle.zone_spec.specs.Reading.{ZoneReading, zone_reading, blocks_below}
+use Rattle.zone_spec.specs.Reading.{ZoneReading, blocks_below}
 use Rattle.zone_spec.specs.PartReadings.{words_read}
 use Rattle.ram_region.specs.CutRegion.{span}
 use Rattle.old_log.proofs.Fronts.{ring-found}

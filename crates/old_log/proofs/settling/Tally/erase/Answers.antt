@@ -1,9 +1,7 @@
-use Rattle.std.proofs.Common.{◌≡◌, ◌+◌, ◌*◌, ◌<◌, List, ℕ, length, ap, sym, ◌∙◌, subst, arith, add-mul}
-use Rattle.code_spec.specs.Code.{parity_of}
-use Rattle.zone_spec.specs.Parts.{AreBytes, Header, part_bytes, part_parity_at}
-use Rattle.zone_spec.specs.Stores.{byte_stores, after_stores}
+use Rattle.std.proofs.Common.{◌≡◌, List, ℕ, length, ap, ◌∙◌, subst, arith, add-mul}
+use Rattle.zone_spec.specs.Parts.{AreBytes, Header, part_parity_at}
+use Rattle.zone_spec.specs.Stores.{byte_stores}
 use Rattle.ram_region.specs.CutRegion.{span}
-use Rattle.old_log.specs.Making.{Makes}
 use Rattle.old_log.proofs.Storing.{makes-same, makes-append, makes-then, makes-length, makes-spans, span-is}
 use Rattle.old_log.proofs.Erasures.{word_stores, words-bytes, parity_stores, parity-long, parity-length, after-bytes, erasure-is}
 use Rattle.old_log.proofs.settling.Tally.erase.Goals as goal

@@ -1,7 +1,7 @@
 use Rattle.std.proofs.Common.{◌≡◌, List, ℕ, length}
-use Rattle.zone_flight.specs.Flying.{seen}
+use Rattle.zone_flight.specs.Flying.{seen, IsSameCall}
 use Rattle.zone_flight.specs.Phases.{IsSound}
-use Rattle.zone_flight.specs.Machine.{stores_left, count_left, phases_left, IsSameCall}
+use Rattle.zone_flight.specs.Machine.{stores_left, count_left, phases_left}
 use Rattle.zone_flight.proofs.progress.Progress.settle.Given as goal
 
 abbrev pub invariant-loop-self : goal.invariant-loop-self

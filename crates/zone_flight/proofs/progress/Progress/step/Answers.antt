@@ -5,7 +5,8 @@ use Rattle.ram_region.specs.CutRegion.{CutRegion, span, with_span}
 use Rattle.ram_region.proofs.Cuts.{span-with_span, put-length}
 use Rattle.zone_flight.specs.Flying.{Flying, seen}
 use Rattle.zone_flight.specs.Phases.{IsFinished, phase_len}
-use Rattle.zone_flight.specs.Machine.{IsKept, IsSettled, StandsFor, Stores, total_of}
+use Rattle.zone_flight.specs.Machine.{IsKept, IsSettled, StandsFor, Stores}
+use Rattle.zone_flight.specs.Counts.{total_of}
 use Rattle.zone_flight.proofs.Stepping.{later_by_one, stands_next, kept_next, ends, is_ready}
 use Rattle.zone_flight.proofs.progress.Progress.step.Goals as goal
 

@@ -1,0 +1,9 @@
+use Rattle.std.proofs.Common.{length, ap, sym, ◌∙◌}
+use Rattle.old_log.specs.Saving.{SavedLogs, saved}
+use Rattle.old_log.proofs.Saves.{zip-length}
+use Rattle.old_log.proofs.logs.Logs.len.Goals as goal
+
+pub returns-clause-saved : goal.returns-clause-saved
+returns-clause-saved c =
+    c.len.ensures ∙ c.self.inside.readings.ok.0 ∙ sym (zip-length c.self.inside.zones.items c.self.inside.readings.items c.self.invariant.below)
+    ∙ ap (λ (l : SavedLogs). length (saved l)) c.self.view_is
