@@ -227,9 +227,14 @@ fn ftrace_zones_have_the_tag(rt: HostRuntime) {
 fn each_layout_fault_comes_in_its_order(rt: HostRuntime) {
     for (line, want) in [
         ("mem_size=0 console_size=0", 1),
+        ("mem_size=0 console_size=0 ftrace_size=0 pmsg_size=0", 1),
         (
             "mem_size=0 record_size=0 console_size=0 ftrace_size=0 pmsg_size=0",
             1,
+        ),
+        (
+            "mem_size=4096 record_size=0 console_size=0 ftrace_size=0 pmsg_size=0",
+            2,
         ),
         (
             "mem_size=16777217 record_size=0 console_size=0 ftrace_size=0 pmsg_size=0",
