@@ -231,6 +231,28 @@ fn an_append_is_stopped_behind_its_size_word(rt: HostRuntime) -> Result<(), Fail
 }
 
 #[test]
+fn an_append_with_parity_is_stopped_behind_its_words(rt: HostRuntime) -> Result<(), Fail> {
+    let mut spans = signed_spans(&rt, rt.alloc())?;
+    make(
+        &rt,
+        zone(&rt, 2),
+        &mut spans,
+        0,
+        append(rt.alloc(), b"abc")?,
+    );
+    let mut flight = begin(&rt, zone(&rt, 2), &spans, 0, append(rt.alloc(), b"def")?);
+    steps(&rt, &mut flight, &mut spans, 0, 2);
+    assert!(rt; words(&rt, &spans, 0) == (SIG, 6, 6));
+    assert_eq!(rt; flight.made(), 2);
+    assert_eq!(rt; flight.total(), 9);
+    assert!(rt; flight.pairs().as_slice() == [pair(3, 3), pair(3, 6), pair(6, 6)].as_slice());
+    assert!(rt; stands(&spans, 0, 12, &[0x61, 0x62, 0x63, 0, 0, 0]));
+    assert!(rt; stands(&spans, 0, 4030, &[0xe3, 0x83]));
+    assert!(rt; stands(&spans, 0, 4094, &[0xfb, 0xf9]));
+    Ok(())
+}
+
+#[test]
 fn an_append_is_stopped_before_the_parity_of_the_header(rt: HostRuntime) -> Result<(), Fail> {
     let mut spans = signed_spans(&rt, rt.alloc())?;
     make(
