@@ -15,8 +15,9 @@ ghost use Rattle.block_ecc.specs.Outcomes.{outcome, part_word_fixes, CountsAre};
 use arrayvec::ArrayVec;
 use ram_region::Span;
 use rs_encode::Parity;
-use rs_errors::decode;
+use rs_errors::decode_with;
 pub use rs_errors::{Decoded, Fix};
+use std::marker::Model;
 use zone_spec::{Words, Zone};
 
 /// What a header reads.
@@ -84,37 +85,6 @@ fn copy(bytes: &[u8], out: &mut ArrayVec<u8, 255>)
     let _room = out.try_extend_from_slice(bytes);
 }
 
-/// Corrects the bytes in `out` by their parity. Without parity they are as they should be.
-fn correct(out: &mut ArrayVec<u8, 255>, par: &[u8], fixes: &mut ArrayVec<Fix, 63>) -> Decoded
-    requires some { 1 ≤ length out.old.items }
-    requires few { length out.old.items ≤ 128 }
-    requires few_par { length par.now ≤ 127 }
-    ensures len { length out.new.items ≡ length out.old.items }
-    ensures answer { let word = out.old.items ++ par.now in result ≡ decoded_by word (nearest (length par.now) word) }
-    ensures data { let word = out.old.items ++ par.now in out.new.items ≡ take (length out.old.items) (unwrap_or (nearest (length par.now) word) word) }
-    ensures fixes { let word = out.old.items ++ par.now in fixes.new.items ≡ fixes_by word (nearest (length par.now) word) }
-{
-    if par.is_empty() {
-        fixes.clear();
-        return Decoded::Clean;
-    }
-    decode(out.as_mut_slice(), par, fixes)
-}
-
-/// The parity of the bytes.
-fn parity(bytes: &[u8], r: u32, out: &mut ArrayVec<u8, 127>)
-    requires few { r ≤ 127 }
-    requires fits { length bytes.now ≤ 128 }
-    ensures { out.new.items ≡ parity_of r bytes.now }
-{
-    out.clear();
-    if r == 0 {
-        return;
-    }
-    let _room = out.try_extend_from_slice(&[0; 127][..r as usize]);
-    Parity::new(r as usize).parity(bytes, out.as_mut_slice());
-}
-
 /// The words in a header's 12 bytes.
 fn words_of(bytes: &[u8]) -> Words
     requires { length bytes.now ≡ 12 }
@@ -134,6 +104,149 @@ fn word_at(bytes: &[u8]) -> u32
     u32::from_le_bytes([bytes[0], bytes[1], bytes[2], bytes[3]])
 }
 
+/// The encoder of a zone's parts, none where the zone has no parity. It holds some 4 KiB; a caller with many parts keeps
+/// one.
+#[derive(Drop)]
+pub struct Coder(Option<Parity>);
+
+impl Model for Coder {
+    ghost use Rattle.std.specs.Prelude.{ℕ, ◌≤◌, IfSome, unwrap_or};
+
+    ghost Value = { ℕ };
+
+    ghost view = { λ c. unwrap_or c.0 0 };
+
+    ghost invariant = { λ c. IfSome c.0 (λ r. (1 ≤ r) × (r ≤ 127)) };
+}
+
+impl Coder {
+    pub fn new(zone: &Zone) -> Coder
+        requires { IsValidZone zone.now }
+        ensures { result ≡ zone.now.parity }
+    {
+        if zone.parity == 0 {
+            Coder(None)
+        } else {
+            Coder(Some(Parity::new(zone.parity as usize)))
+        }
+    }
+
+    /// Corrects the bytes in `out` by their parity. Without parity they are as they should be.
+    fn correct(
+        &self,
+        out: &mut ArrayVec<u8, 255>,
+        par: &[u8],
+        fixes: &mut ArrayVec<Fix, 63>,
+    ) -> Decoded
+        requires coder { self.now ≡ length par.now }
+        requires some { 1 ≤ length out.old.items }
+        requires few { length out.old.items ≤ 128 }
+        ensures len { length out.new.items ≡ length out.old.items }
+        ensures answer { let word = out.old.items ++ par.now in result ≡ decoded_by word (nearest (length par.now) word) }
+        ensures data { let word = out.old.items ++ par.now in out.new.items ≡ take (length out.old.items) (unwrap_or (nearest (length par.now) word) word) }
+        ensures fixes { let word = out.old.items ++ par.now in fixes.new.items ≡ fixes_by word (nearest (length par.now) word) }
+    {
+        match &self.0 {
+            Some(parity) => decode_with(parity, out.as_mut_slice(), par, fixes),
+            None => {
+                fixes.clear();
+                Decoded::Clean
+            }
+        }
+    }
+
+    /// The `r` parity bytes of the bytes.
+    fn parity(&self, bytes: &[u8], r: u32, out: &mut ArrayVec<u8, 127>)
+        requires coder { self.now ≡ r }
+        requires fits { length bytes.now ≤ 128 }
+        ensures { out.new.items ≡ parity_of r bytes.now }
+    {
+        out.clear();
+        match &self.0 {
+            Some(parity) => {
+                let _room = out.try_extend_from_slice(&[0; 127][..r as usize]);
+                parity.parity(bytes, out.as_mut_slice());
+            }
+            None => {}
+        }
+    }
+
+    /// As [`read_header`], with an encoder for as many parity bytes as the zone's parts have.
+    pub fn read_header(
+        &self,
+        span: &Span,
+        zone: &Zone,
+        fixes: &mut ArrayVec<Fix, 63>,
+    ) -> HeaderReading
+        requires coder { self.now ≡ zone.now.parity }
+        requires valid { IsValidZone zone.now }
+        requires size { length span.now ≡ zone.now.size }
+        ensures words { result.words ≡ words_read zone.now span.now }
+        ensures outcome { result.outcome ≡ outcome zone.now span.now Header }
+        ensures counts { CountsAre result.outcome (part_reading zone.now span.now Header) }
+        ensures fixes { fixes.new.items ≡ part_word_fixes zone.now span.now Header }
+    {
+        let place = header_place(zone);
+        let mut out: ArrayVec<u8, 255> = ArrayVec::new();
+        copy(bytes_at(span, place.at, place.len), &mut out);
+        let outcome = self.correct(
+            &mut out,
+            bytes_at(span, place.parity_at, zone.parity),
+            fixes,
+        );
+        HeaderReading {
+            words: words_of(out.as_slice()),
+            outcome,
+        }
+    }
+
+    /// As [`read_block`], with an encoder for as many parity bytes as the zone's parts have.
+    pub fn read_block(
+        &self,
+        span: &Span,
+        zone: &Zone,
+        b: u32,
+        out: &mut ArrayVec<u8, 255>,
+        fixes: &mut ArrayVec<Fix, 63>,
+    ) -> Decoded
+        requires coder { self.now ≡ zone.now.parity }
+        requires valid { IsValidZone zone.now }
+        requires size { length span.now ≡ zone.now.size }
+        requires block { zone.now.block * b < zone.now.cap }
+        ensures data { out.new.items ≡ (part_reading zone.now span.now (Block b)).bytes }
+        ensures outcome { result ≡ outcome zone.now span.now (Block b) }
+        ensures counts { CountsAre result (part_reading zone.now span.now (Block b)) }
+        ensures fixes { fixes.new.items ≡ part_word_fixes zone.now span.now (Block b) }
+    {
+        let place = block_place(zone, b);
+        copy(bytes_at(span, place.at, place.len), out);
+        self.correct(out, bytes_at(span, place.parity_at, zone.parity), fixes)
+    }
+
+    /// As [`block_parity`], with an encoder for as many parity bytes as the zone's parts have.
+    pub fn block_parity(&self, span: &Span, zone: &Zone, b: u32, out: &mut ArrayVec<u8, 127>)
+        requires coder { self.now ≡ zone.now.parity }
+        requires valid { IsValidZone zone.now }
+        requires size { length span.now ≡ zone.now.size }
+        requires block { zone.now.block * b < zone.now.cap }
+        ensures { out.new.items ≡ parity_of zone.now.parity (part_bytes zone.now span.now (Block b)) }
+    {
+        let place = block_place(zone, b);
+        self.parity(bytes_at(span, place.at, place.len), zone.parity, out);
+    }
+
+    /// As [`header_parity`], with an encoder for as many parity bytes as the zone's parts have.
+    pub fn header_parity(&self, span: &Span, zone: &Zone, out: &mut ArrayVec<u8, 127>)
+        requires coder { self.now ≡ zone.now.parity }
+        requires valid { IsValidZone zone.now }
+        requires size { length span.now ≡ zone.now.size }
+        ensures { out.new.items ≡ parity_of zone.now.parity (part_bytes zone.now span.now Header) }
+    {
+        let place = header_place(zone);
+        self.parity(bytes_at(span, place.at, place.len), zone.parity, out);
+    }
+}
+
 /// Reads a zone's header. `fixes` becomes the places of its 12 bytes and their parity that differ from the nearest
 /// codeword, rising: those below 12 are of the header's bytes.
 pub fn read_header(span: &Span, zone: &Zone, fixes: &mut ArrayVec<Fix, 63>) -> HeaderReading
@@ -144,18 +257,7 @@ pub fn read_header(span: &Span, zone: &Zone, fixes: &mut ArrayVec<Fix, 63>) -> H
     ensures counts { CountsAre result.outcome (part_reading zone.now span.now Header) }
     ensures fixes { fixes.new.items ≡ part_word_fixes zone.now span.now Header }
 {
-    let place = header_place(zone);
-    let mut out: ArrayVec<u8, 255> = ArrayVec::new();
-    copy(bytes_at(span, place.at, place.len), &mut out);
-    let outcome = correct(
-        &mut out,
-        bytes_at(span, place.parity_at, zone.parity),
-        fixes,
-    );
-    HeaderReading {
-        words: words_of(out.as_slice()),
-        outcome,
-    }
+    Coder::new(zone).read_header(span, zone, fixes)
 }
 
 /// Reads block `b`: `out` becomes its bytes. `fixes` becomes the places of the bytes and their parity that differ from
@@ -175,9 +277,7 @@ pub fn read_block(
     ensures counts { CountsAre result (part_reading zone.now span.now (Block b)) }
     ensures fixes { fixes.new.items ≡ part_word_fixes zone.now span.now (Block b) }
 {
-    let place = block_place(zone, b);
-    copy(bytes_at(span, place.at, place.len), out);
-    correct(out, bytes_at(span, place.parity_at, zone.parity), fixes)
+    Coder::new(zone).read_block(span, zone, b, out, fixes)
 }
 
 /// The parity of block `b` as its bytes stand.
@@ -187,8 +287,7 @@ pub fn block_parity(span: &Span, zone: &Zone, b: u32, out: &mut ArrayVec<u8, 127
     requires block { zone.now.block * b < zone.now.cap }
     ensures { out.new.items ≡ parity_of zone.now.parity (part_bytes zone.now span.now (Block b)) }
 {
-    let place = block_place(zone, b);
-    parity(bytes_at(span, place.at, place.len), zone.parity, out);
+    Coder::new(zone).block_parity(span, zone, b, out);
 }
 
 /// The parity of the header's 12 bytes as they stand.
@@ -197,8 +296,7 @@ pub fn header_parity(span: &Span, zone: &Zone, out: &mut ArrayVec<u8, 127>)
     requires size { length span.now ≡ zone.now.size }
     ensures { out.new.items ≡ parity_of zone.now.parity (part_bytes zone.now span.now Header) }
 {
-    let place = header_place(zone);
-    parity(bytes_at(span, place.at, place.len), zone.parity, out);
+    Coder::new(zone).header_parity(span, zone, out);
 }
 
 #[cfg(test)]

@@ -7,6 +7,7 @@ mod printing;
 mod reading;
 mod rows;
 
+pub use fields::number;
 pub use line::{Line, Lines};
 pub use printing::{print, printed_is_read};
 pub use reading::{ParseFault, parse};

@@ -38,7 +38,7 @@ bytes-each (x ∷ xs) h zero = h.0
 bytes-each (x ∷ xs) h (suc i) = bytes-each xs h.1 i
 
 -- ---- how many bytes a part reads
-word-IsWord : (z : Zone) (x : List ℕ) (p : Part) → AreBytes x → IsWord (length (part_word z x p)) (part_word z x p)
+pub word-IsWord : (z : Zone) (x : List ℕ) (p : Part) → AreBytes x → IsWord (length (part_word z x p)) (part_word z x p)
 unfolding part_word part_bytes
 word-IsWord z x p h = (refl, bytes-append _ _ (bytes-all _ (slice_range-bytes x (part_at z p) (part_at z p + part_len z p) h)) (bytes-all _ (slice_range-bytes x (part_parity_at z p) (part_parity_at z p + z.parity) h)))
 
@@ -46,11 +46,11 @@ length-word : (z : Zone) (x : List ℕ) (p : Part) → length (part_bytes z x p)
 unfolding part_word
 length-word z x p = omega (arith, length-append (part_bytes z x p) (slice_range x (part_parity_at z p) (part_parity_at z p + z.parity)))
 
-reading_near : (z : Zone) (x : List ℕ) (p : Part) (c : List ℕ) → nearest z.parity (part_word z x p) ≡ Some c → (part_reading z x p).bytes ≡ take (length (part_bytes z x p)) c
+pub reading_near : (z : Zone) (x : List ℕ) (p : Part) (c : List ℕ) → nearest z.parity (part_word z x p) ≡ Some c → (part_reading z x p).bytes ≡ take (length (part_bytes z x p)) c
 unfolding part_reading
 reading_near z x p c e = ap (λ (o : Option (List ℕ)). (reading_by (part_bytes z x p) (part_word z x p) o).bytes) e
 
-reading_none : (z : Zone) (x : List ℕ) (p : Part) → nearest z.parity (part_word z x p) ≡ None → (part_reading z x p).bytes ≡ part_bytes z x p
+pub reading_none : (z : Zone) (x : List ℕ) (p : Part) → nearest z.parity (part_word z x p) ≡ None → (part_reading z x p).bytes ≡ part_bytes z x p
 unfolding part_reading
 reading_none z x p e = ap (λ (o : Option (List ℕ)). (reading_by (part_bytes z x p) (part_word z x p) o).bytes) e
 

@@ -4,3 +4,4 @@ pub mod Saves
 pub mod Storing
 pub mod Corrections
 pub mod Erasures
+pub mod Uncorrected

@@ -6,7 +6,7 @@ ghost use Rattle.zone_spec.specs.Boot.{keeps as keeps_zone, is_kept as is_kept_z
 ghost use Rattle.old_log.specs.Reads.{bytes_read, corrected_of, bad_of, corrected_below, bad_below};
 
 use arrayvec::ArrayVec;
-use block_ecc::{Decoded, Fix, read_block, read_header};
+use block_ecc::{Coder, Decoded, Fix};
 use box_io::Bytes;
 use dump_records::read_line;
 use ram_region::Span;
@@ -80,10 +80,12 @@ fn state_of(zone: &Zone, words: Words) -> State
 /// The first `size` data bytes as their blocks read, and what these blocks count.
 fn read_bytes(
     alloc: Global,
+    coder: &Coder,
     span: &Span,
     zone: &Zone,
     size: u32,
 ) -> Result<(Vec<u8>, Counts), AllocError>
+    requires coder { coder.now ≡ zone.now.parity }
     requires valid { IsValidZone zone.now }
     requires len { length span.now ≡ zone.now.size }
     requires within { size ≤ zone.now.cap }
@@ -101,7 +103,7 @@ fn read_bytes(
     let mut block: ArrayVec<u8, 255> = ArrayVec::new();
     let mut fixes: ArrayVec<Fix, 63> = ArrayVec::new();
     for b in 0..size.div_ceil(zone.block) {
-        let outcome = read_block(span, zone, b, &mut block, &mut fixes);
+        let outcome = coder.read_block(span, zone, b, &mut block, &mut fixes);
         let len = zone.block.min(size - zone.block * b);
         bytes.extend_from_slice(&block.as_slice()[..len as usize])?;
         let more = counts_of(outcome);
@@ -114,10 +116,12 @@ fn read_bytes(
 /// The log of a ring, and what its blocks count. The log's bytes are the only memory taken.
 fn read_log(
     alloc: Global,
+    coder: &Coder,
     span: &Span,
     zone: &Zone,
     words: Words,
 ) -> Result<(Bytes, Counts), AllocError>
+    requires coder { coder.now ≡ zone.now.parity }
     requires valid { IsValidZone zone.now }
     requires len { length span.now ≡ zone.now.size }
     requires ring { IsRing words zone.now.cap }
@@ -126,7 +130,7 @@ fn read_log(
     ensures bad { IfOk result (λ r. r.1.bad ≡ bad_below zone.now span.now words.size) }
     ensures few { IfOk result (λ r. (r.1.corrected ≤ 255 * words.size) × (r.1.bad ≤ words.size)) }
 {
-    let (mut log, counts) = read_bytes(alloc, span, zone, words.size)?;
+    let (mut log, counts) = read_bytes(alloc, coder, span, zone, words.size)?;
     log.rotate_left(words.start as usize);
     Ok((Bytes::from_vec(log), counts))
 }
@@ -138,12 +142,13 @@ pub fn read_zone(alloc: Global, span: &Span, zone: &Zone) -> Result<Reading, All
     ensures { IfOk result (λ r. r ≡ zone_reading zone.now span.now) }
 {
     let mut fixes: ArrayVec<Fix, 63> = ArrayVec::new();
-    let header = read_header(span, zone, &mut fixes);
+    let coder = Coder::new(zone);
+    let header = coder.read_header(span, zone, &mut fixes);
     let counts = counts_of(header.outcome);
     let words = header.words;
     match state_of(zone, words) {
         State::Found => {
-            let (log, more) = read_log(alloc, span, zone, words)?;
+            let (log, more) = read_log(alloc, &coder, span, zone, words)?;
             Ok(Reading {
                 state: State::Found,
                 words,

@@ -13,7 +13,7 @@ ghost use Rattle.ram_region.specs.CutRegion.{span, with_span};
 
 use crate::reading::{Reading, keeps};
 use arrayvec::ArrayVec;
-use block_ecc::{Fix, header_parity, read_block};
+use block_ecc::{Coder, Fix};
 use ram_region::Spans;
 use zone_spec::{State, Words, Zone};
 
@@ -102,7 +102,8 @@ impl Tally {
     }
 
     /// Corrects the blocks that begin below `size`.
-    fn correct_blocks(&mut self, spans: &mut Spans, i: u32, zone: &Zone, size: u32)
+    fn correct_blocks(&mut self, coder: &Coder, spans: &mut Spans, i: u32, zone: &Zone, size: u32)
+        requires coder { coder.now ≡ zone.now.parity }
         requires valid { IsValidZone zone.now }
         requires span { i < length spans.old.spans }
         requires len { length (span spans.old i) ≡ zone.now.size }
@@ -116,13 +117,22 @@ impl Tally {
         for b in 0..size.div_ceil(zone.block) {
             let bytes = &spans.all()[i as usize];
             let _len = bytes.len();
-            let _outcome = read_block(bytes, zone, b, &mut block, &mut fixes);
+            let _outcome = coder.read_block(bytes, zone, b, &mut block, &mut fixes);
             self.correct(spans, i, 12 + zone.block * b, block.as_slice());
         }
     }
 
-    /// Corrects the header, and the blocks that a boot reads.
-    fn correct_zone(&mut self, spans: &mut Spans, i: u32, zone: &Zone, reading: &Reading)
+    /// Corrects the header, and the blocks that a boot reads. A reading without corrections has none to store, and no
+    /// block is decoded again.
+    fn correct_zone(
+        &mut self,
+        coder: &Coder,
+        spans: &mut Spans,
+        i: u32,
+        zone: &Zone,
+        reading: &Reading,
+    )
+        requires coder { coder.now ≡ zone.now.parity }
         requires valid { IsValidZone zone.now }
         requires span { i < length spans.old.spans }
         requires len { length (span spans.old i) ≡ zone.now.size }
@@ -132,9 +142,12 @@ impl Tally {
         ensures few { self.new.count ≤ 2 ^ 32 }
     {
         let _len = spans.all()[i as usize].len();
+        if reading.corrected == 0 {
+            return;
+        }
         self.correct(spans, i, 0, bytes_of(reading.words).as_slice());
         if let State::Found = reading.state {
-            self.correct_blocks(spans, i, zone, reading.words.size);
+            self.correct_blocks(coder, spans, i, zone, reading.words.size);
         }
     }
 
@@ -152,7 +165,8 @@ impl Tally {
     }
 
     /// Erases the zone, one without its signature behind the store of the signature.
-    fn erase(&mut self, spans: &mut Spans, i: u32, zone: &Zone, state: State)
+    fn erase(&mut self, coder: &Coder, spans: &mut Spans, i: u32, zone: &Zone, state: State)
+        requires coder { coder.now ≡ zone.now.parity }
         requires valid { IsValidZone zone.now }
         requires span { i < length spans.old.spans }
         requires len { length (span spans.old i) ≡ zone.now.size }
@@ -166,13 +180,21 @@ impl Tally {
         let mut parity: ArrayVec<u8, 127> = ArrayVec::new();
         let bytes = &spans.all()[i as usize];
         let _len = bytes.len();
-        header_parity(bytes, zone, &mut parity);
+        coder.header_parity(bytes, zone, &mut parity);
         let at = 12 + zone.cap + zone.blocks * zone.parity;
         self.store_all(spans, i, at, parity.as_slice());
     }
 
     /// Erases the zone unless the boot keeps it.
-    fn erase_unless_kept(&mut self, spans: &mut Spans, i: u32, zone: &Zone, reading: &Reading)
+    fn erase_unless_kept(
+        &mut self,
+        coder: &Coder,
+        spans: &mut Spans,
+        i: u32,
+        zone: &Zone,
+        reading: &Reading,
+    )
+        requires coder { coder.now ≡ zone.now.parity }
         requires valid { IsValidZone zone.now }
         requires span { i < length spans.old.spans }
         requires len { length (span spans.old i) ≡ zone.now.size }
@@ -180,7 +202,7 @@ impl Tally {
         ensures { Makes (stores_in_turn zone.now (if keeps_zone zone.now reading.now then [] else signing zone.now reading.now.state ++ erase_stages) (span spans.old i)) i self.old spans.old self.new spans.new }
     {
         if !keeps(zone, reading) {
-            self.erase(spans, i, zone, reading.state);
+            self.erase(coder, spans, i, zone, reading.state);
         }
     }
 }
@@ -208,10 +230,11 @@ pub fn settle(spans: &mut Spans, i: u32, zone: &Zone, reading: &Reading, limit: 
     ensures erase_at { result.erase_at ≡ length (boot_fixes zone.now (span spans.old i)) }
 {
     let _len = spans.all()[i as usize].len();
+    let coder = Coder::new(zone);
     let mut tally = Tally { limit, count: 0 };
-    tally.correct_zone(spans, i, zone, reading);
+    tally.correct_zone(&coder, spans, i, zone, reading);
     let erase_at = tally.count;
-    tally.erase_unless_kept(spans, i, zone, reading);
+    tally.erase_unless_kept(&coder, spans, i, zone, reading);
     Settled {
         made: limit.min(tally.count),
         all: tally.count,

@@ -249,7 +249,7 @@ module _ (z : Zone) (valid : IsValidZone z) where
         | inr b ↦ inr (b.0, sym (header_toward z stop now valid hs hn h).stands.same ∙ b.1, b.2)
       ]
 
-count_within : (image : List ℕ) (zs : List Zone) (i : ℕ) (z : Zone) → slice_get zs i ≡ Some z → boot_count (take i zs) image + length (boot_stores z (zone_bytes z image)) ≤ boot_count zs image
+pub count_within : (image : List ℕ) (zs : List Zone) (i : ℕ) (z : Zone) → slice_get zs i ≡ Some z → boot_count (take i zs) image + length (boot_stores z (zone_bytes z image)) ≤ boot_count zs image
 count_within image [] i z e = (let b : Some z ≡ None = sym e in cc)
 count_within image (y ∷ ys) zero z e =
     let s : y ≡ z = cc in
@@ -347,7 +347,7 @@ cut_boot_reads layout mem off k i z lies state hz =
     )
 
 -- a zone of the state that a cut boot leaves
-new_zone : (layout : List Zone) (off : OffState) (k i : ℕ) (z : Zone) (old new : OffZone) → slice_get layout i ≡ Some z → slice_get off.zones i ≡ Some old → slice_get (boot_parted layout k off).zones i ≡ Some new
+pub new_zone : (layout : List Zone) (off : OffState) (k i : ℕ) (z : Zone) (old new : OffZone) → slice_get layout i ≡ Some z → slice_get off.zones i ≡ Some old → slice_get (boot_parted layout k off).zones i ≡ Some new
     → zone_parted z (zone_bytes z off.image) (nat_le (boot_count layout off.image) k) (left_at layout off.image k i) old ≡ new
 new_zone layout off k i z old new hz ho hv =
     let image : List ℕ = off.image in

@@ -45,7 +45,7 @@ module _ (layout : List Zone) (mem : ℕ) (lies : IsLayout layout mem) where
       )
 
   -- a zone's standing replaced by a sound one
-  with_zone-sound : (live : LiveState) (t : Target) (new : LiveZone) → IsState layout mem (Live live) → IsAt layout live t → IsLiveZone t.zone new
+  pub with_zone-sound : (live : LiveState) (t : Target) (new : LiveZone) → IsState layout mem (Live live) → IsAt layout live t → IsLiveZone t.zone new
       → IsState layout mem (Live (with_zone layout live t.place t.live new))
   with_zone-sound live t new state at zone =
       let rest = rest_of live state in

@@ -13,11 +13,16 @@ use Rattle.session_spec.specs.BootPart.{boot_parted, boot_count, boot_cut, left_
 use Rattle.session_spec.specs.Sound.{IsState}
 use Rattle.ring_laws.specs.Laws.{ReadsTold}
 
--- of the first k boot stores each zone has its own made, and no other
+-- of the first k boot stores the i-th zone has its own made, and no other
+abbrev pub MakesOwnStores : List Zone → OffState → ℕ → ℕ → Zone → Type 0
+MakesOwnStores layout off k i z =
+    let now = zone_bytes z off.image in
+    zone_bytes z (boot_parted layout k off).image ≡ after_stores now (take (left_at layout off.image k i) (boot_stores z now))
+
+-- so has each zone
 abbrev pub CutBootMakesStores : Type 0
 CutBootMakesStores = (layout : List Zone) (mem : ℕ) (off : OffState) (k i : ℕ) (z : Zone) → IsLayout layout mem → IsState layout mem (Off off) → slice_get layout i ≡ Some z
-    → let now = zone_bytes z off.image in
-    zone_bytes z (boot_parted layout k off).image ≡ after_stores now (take (left_at layout off.image k i) (boot_stores z now))
+    → MakesOwnStores layout off k i z
 
 -- the bytes behind the last zone are left
 abbrev pub CutBootLeavesRest : Type 0
@@ -26,22 +31,32 @@ CutBootLeavesRest = (layout : List Zone) (mem : ℕ) (off : OffState) (k : ℕ) 
 
 -- what is held of a zone, of whose own stores and those behind it n were made: it was finished, by its
 -- last store, by one behind it or by all; it was within its erasure; or neither
-abbrev pub CutBootHolds : Type 0
-CutBootHolds = (layout : List Zone) (mem : ℕ) (off : OffState) (k i : ℕ) (z : Zone) (old new : OffZone) → IsLayout layout mem → IsState layout mem (Off off)
-    → slice_get layout i ≡ Some z → slice_get off.zones i ≡ Some old → slice_get (boot_parted layout k off).zones i ≡ Some new
-    → let now = zone_bytes z off.image in let later = zone_bytes z (boot_parted layout k off).image in let n = left_at layout off.image k i in
+abbrev pub HoldsAfter : List Zone → OffState → ℕ → ℕ → Zone → OffZone → OffZone → Type 0
+HoldsAfter layout off k i z old new =
+    let now = zone_bytes z off.image in let later = zone_bytes z (boot_parted layout k off).image in let n = left_at layout off.image k i in
     ((boot_count layout off.image ≤ k) ⊎ ((0 < n) × (length (boot_stores z now) ≤ n)) → (new.told ≡ Some (told_by_boot z now)) × (new.cut ≡ None) × (new.stop ≡ later))
     × (IsWithinErasure z now n → (new.told ≡ old.told) × (new.cut ≡ Some (boot_cut z now n)) × (new.stop ≡ later))
     × (k < boot_count layout off.image → n ≤ length (boot_fixes z now) → (n ≡ 0) ⊎ (n < length (boot_stores z now)) → new ≡ old)
 
+-- so it is of each zone
+abbrev pub CutBootHolds : Type 0
+CutBootHolds = (layout : List Zone) (mem : ℕ) (off : OffState) (k i : ℕ) (z : Zone) (old new : OffZone) → IsLayout layout mem → IsState layout mem (Off off)
+    → slice_get layout i ≡ Some z → slice_get off.zones i ≡ Some old → slice_get (boot_parted layout k off).zones i ≡ Some new
+    → HoldsAfter layout off k i z old new
+
 -- a zone reads the same until its erasure has begun, but that each store made is a correction less; and
 -- what the boot kept, once it has finished
-abbrev pub CutBootReads : Type 0
-CutBootReads = (layout : List Zone) (mem : ℕ) (off : OffState) (k i : ℕ) (z : Zone) → IsLayout layout mem → IsState layout mem (Off off) → slice_get layout i ≡ Some z
-    → let now = zone_bytes z off.image in let later = zone_bytes z (boot_parted layout k off).image in let n = left_at layout off.image k i in
+abbrev pub ReadsAfter : List Zone → OffState → ℕ → ℕ → Zone → Type 0
+ReadsAfter layout off k i z =
+    let now = zone_bytes z off.image in let later = zone_bytes z (boot_parted layout k off).image in let n = left_at layout off.image k i in
     let before = zone_reading z now in let after = zone_reading z later in
     (n ≤ length (boot_fixes z now) → (after.state ≡ before.state) × (after.words ≡ before.words) × (after.log ≡ before.log) × (after.corrected + n ≡ before.corrected))
     × (length (boot_stores z now) ≤ n → ReadsTold z later (told_by_boot z now))
+
+-- so reads each zone
+abbrev pub CutBootReads : Type 0
+CutBootReads = (layout : List Zone) (mem : ℕ) (off : OffState) (k i : ℕ) (z : Zone) → IsLayout layout mem → IsState layout mem (Off off) → slice_get layout i ≡ Some z
+    → ReadsAfter layout off k i z
 
 -- what is held of a zone is as before, and damage from before and after the boot counts together; or the
 -- boot's end is the zone's stop

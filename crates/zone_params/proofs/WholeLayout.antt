@@ -17,7 +17,7 @@ use Rattle.zone_spec.specs.declared.params.LayoutFault.{LayoutFault}
 use Rattle.zone_spec.specs.Zones.{IsValidZone}
 use Rattle.zone_spec.specs.Layouts.{zones_end, IsLayout}
 use Rattle.zone_spec.specs.Layout.{rounded, rows, zone_at, zones_from, parameter_faults, zone_faults, first_fault, ok_unless, layout_of, parity_bytes, ecc_of, tag_of}
-use Rattle.zone_params.proofs.Faultless.{IsFaultless, faultless, rows_total, mem_small, rows_within, taken, all_taken, parity_at_most, parity_within, each_clear, or_clear, small_rows, any_in_rows}
+use Rattle.zone_params.proofs.Faultless.{IsFaultless, faultless, rows_total, mem_small, rows_within, taken, all_taken, parity_at_most, parity_within, block_at_most, each_clear, or_clear, small_rows, any_in_rows}
 use Rattle.zone_params.proofs.LaidOut.{by_faults, of_row, drop_next}
 use Rattle.zone_params.proofs.Texts.{if_true, if_false}
 
@@ -45,6 +45,9 @@ layout_parity_small p zones h = parity_at_most p.ecc (faultless p (no_fault p zo
 
 pub layout_kind_small : (p : Params) (zones : List Zone) (kind : Kind) → layout_of p ≡ Ok zones → parity_bytes (ecc_of p kind) ≤ 127
 layout_kind_small p zones kind h = parity_within p kind (faultless p (no_fault p zones h).of_parameters)
+
+pub layout_block_small : (p : Params) (zones : List Zone) → layout_of p ≡ Ok zones → p.block ≤ 128
+layout_block_small p zones h = block_at_most p (faultless p (no_fault p zones h).of_parameters)
 
 abbrev all_count : List Row → ℕ
 all_count [] = 0

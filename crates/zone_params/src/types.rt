@@ -47,6 +47,13 @@ impl Layout {
         rows::parity(&self.params, kind) as u32
     }
 
+    /// The data bytes of one parity block, also where no part has parity.
+    pub fn block(&self) -> u32
+        ensures { result ≡ (params_of self.now).block }
+    {
+        self.params.block as u32
+    }
+
     /// The zones, in the order in which they lie.
     pub fn zones(&self) -> &[Zone]
         ensures value { result.now ≡ zones_of self.now }

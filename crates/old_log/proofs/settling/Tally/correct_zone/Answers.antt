@@ -5,9 +5,22 @@ use Rattle.zone_spec.specs.Reading.{ZoneReading, blocks_below}
 use Rattle.zone_spec.specs.PartReadings.{words_read}
 use Rattle.ram_region.specs.CutRegion.{span}
 use Rattle.old_log.proofs.Fronts.{ring-found}
-use Rattle.old_log.proofs.Storing.{makes-same, makes-append, makes-length, makes-keep, span-is, fix-length, fix-below}
+use Rattle.old_log.proofs.Storing.{makes-none, makes-same, makes-append, makes-length, makes-keep, span-is, fix-length, fix-below}
 use Rattle.old_log.proofs.Corrections.{header-fixes, boot_fixes-found, boot_fixes-other, blocks-same, words-of, state-of}
+use Rattle.old_log.proofs.Uncorrected.{boot_fixes-none}
 use Rattle.old_log.proofs.settling.Tally.correct_zone.Goals as goal
+
+pub returns-then-reading-eq0 : goal.returns-then-reading-eq0
+returns-then-reading-eq0 c =
+    let z = c.args.zone.now in
+    let x : List ℕ = span c.args.spans.now c.args.i in
+    let read = c.reading.view_is ∙ c.requires.reading in
+    let was : AreBytes x = subst AreBytes (span-is c.args.spans.now c.args.i c.all.result.now c.index-all-i.result c.all.ensures c.index-all-i.is c.requires.span) c.len-len.ensures.bytes in
+    let b = c.requires.begun in
+    record {
+      stores = makes-same (boot_fixes-none z x was (sym (ap (λ (r : ZoneReading). r.corrected) read) ∙ c.if-reading-eq0.true)) (makes-none c.args.i c.args.self.now c.args.spans.now);
+      few = omega (arith, b);
+    }
 
 pub correct_blocks-requires-clause-len : goal.correct_blocks-requires-clause-len
 correct_blocks-requires-clause-len c = makes-length c.correct.ensures c.requires.span ∙ c.requires.len

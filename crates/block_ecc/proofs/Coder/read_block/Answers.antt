@@ -1,7 +1,7 @@
 use Rattle.std.proofs.Common.{◌∙◌, arith}
 use Rattle.zone_spec.specs.Parts.{Block}
 use Rattle.block_ecc.proofs.Readings.{IsPart, is_part, answer_is, fixes_are, data_is, counts_are}
-use Rattle.block_ecc.proofs.read_block.Goals as goal
+use Rattle.block_ecc.proofs.Coder.read_block.Goals as goal
 
 part : (c : goal.After-correct) → IsPart c.args.zone.now c.args.span.now (Block c.args.b) c.copy.new.out.items c.bytes_at-2.result.now
 part c =

@@ -2,7 +2,7 @@ use Rattle.std.proofs.Common.{List, ℕ, ap, ◌∙◌}
 use Rattle.code_spec.specs.Code.{parity_of}
 use Rattle.zone_spec.specs.Parts.{Block}
 use Rattle.block_ecc.proofs.Readings.{own_is}
-use Rattle.block_ecc.proofs.block_parity.Goals as goal
+use Rattle.block_ecc.proofs.Coder.block_parity.Goals as goal
 
 pub returns : goal.returns
 returns c =

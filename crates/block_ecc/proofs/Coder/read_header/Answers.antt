@@ -1,7 +1,7 @@
 use Rattle.std.proofs.Common.{List, ℕ, ap, ◌∙◌, arith}
 use Rattle.zone_spec.specs.Parts.{Header, words_in}
 use Rattle.block_ecc.proofs.Readings.{IsPart, is_part, answer_is, fixes_are, data_is, counts_are}
-use Rattle.block_ecc.proofs.read_header.Goals as goal
+use Rattle.block_ecc.proofs.Coder.read_header.Goals as goal
 
 part : (c : goal.After-words_of) → IsPart c.args.zone.now c.args.span.now Header c.copy.new.out.items c.bytes_at-2.result.now
 part c =

@@ -1,0 +1,6 @@
+use Rattle.std.proofs.Common.{arith}
+use Rattle.zone_params.proofs.WholeLayout.{layout_block_small}
+use Rattle.zone_params.proofs.types.Layout.block.Goals as goal
+
+pub overflow_cast-result : goal.overflow_cast-result
+overflow_cast-result c = omega (arith, layout_block_small c.args.self.now.params c.args.self.now.zones.items c.args.self.now.laid)
