@@ -1,0 +1,9 @@
+pub mod Steps
+pub mod Additive
+pub mod Lengths
+pub mod Merges
+pub mod Texts
+pub mod Named
+pub mod Finding
+pub mod Given
+pub mod Tabled

@@ -1,0 +1,21 @@
+//! The records that a boot's saved logs list: their names, their times, and their contents with notices
+//! (`fs/pstore/ram.c` and `fs/pstore/inode.c`).
+#![tactic(auto)]
+
+mod listing;
+mod merging;
+mod naming;
+mod notices;
+mod records;
+mod table;
+pub mod types;
+mod zones;
+
+pub use listing::names;
+pub use naming::{find, name_text};
+pub use records::{ContentFault, content, length, time};
+pub use table::{Entry, listed};
+pub use zone_spec::{Name, Time};
+
+#[cfg(test)]
+mod tests;

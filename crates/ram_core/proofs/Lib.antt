@@ -1,0 +1,16 @@
+pub mod Lists
+pub mod Prefixes
+pub mod Starting
+pub mod Storing
+pub mod Changes
+pub mod Begun
+pub mod Running
+pub mod Flown
+pub mod Stepped
+pub mod Stopping
+pub mod Preparing
+pub mod Settling
+pub mod Boots
+pub mod Parting
+pub mod Passing
+pub mod PartBoots

@@ -1,0 +1,82 @@
+-- A flight that begins stands for the call begun
+use Rattle.std.proofs.Common.{◌≡◌, ℕ, ◌<◌, Bool, true, false, cond, ◌==◌, List, length, refl, sym, ap, ◌∙◌, subst, arith, Some}
+use Rattle.std.proofs.lemmas.Bool.Decides.{nat_tests}
+use Rattle.std.specs.List.{sum_by}
+use Rattle.zone_spec.specs.declared.Zone.{Zone}
+use Rattle.zone_spec.specs.declared.Words.{Words}
+use Rattle.zone_spec.specs.Zones.{IsValidZone}
+use Rattle.zone_spec.specs.Parts.{IsImage, standing_words}
+use Rattle.zone_spec.specs.Told.{Call}
+use Rattle.zone_spec.specs.Stages.{stage_count}
+use Rattle.zone_spec.specs.Calls.{call_stages, call_stores, CanBegin}
+use Rattle.damage_laws.proofs.CutNumbers.{length-stores}
+use Rattle.ring_laws.proofs.StoreBytes.{call-all}
+use Rattle.session_spec.specs.States.{LiveZone}
+use Rattle.session_spec.specs.ZoneCalls.{begun}
+use Rattle.zone_flight.specs.Flying.{Flying}
+use Rattle.zone_flight.specs.Counts.{total_of}
+use Rattle.zone_flight.specs.Machine.{StandsFor}
+use Rattle.ram_core.specs.declared.zones.HeldZone.{HeldZone}
+use Rattle.ram_core.specs.LiveSeen.{StandsForZone}
+
+-- a call's number of stores is that which a flight counts
+call_count : (z : Zone) (call : Call) (bytes : List ℕ) → IsValidZone z → IsImage z bytes → CanBegin z bytes call
+    → length (call_stores z call bytes) ≡ sum_by (stage_count z) (call_stages z (standing_words bytes) call)
+unfolding call_stores
+call_count z call bytes valid im can = length-stores z valid (call_stages z (standing_words bytes) call) bytes im.1 (call-all z valid bytes call can)
+
+-- a flight at its begin on a zone's bytes
+pub record Begins (z : Zone) (bytes : List ℕ) (call : Call) (seen : Flying) : Type 0 where
+  pub valid : IsValidZone z
+  pub image : IsImage z bytes
+  pub can : CanBegin z bytes call
+  pub zone : seen.zone ≡ z
+  pub words : seen.words ≡ standing_words bytes
+  pub of_call : seen.call ≡ call
+  pub made : seen.made ≡ 0
+  pub stands : StandsFor seen bytes bytes
+
+total_is : (z : Zone) (bytes : List ℕ) (call : Call) (seen : Flying) → Begins z bytes call seen → total_of seen ≡ length (call_stores z call bytes)
+total_is z bytes call seen b =
+    ap (λ (y : Zone). sum_by (stage_count y) (call_stages y seen.words seen.call)) b.zone
+    ∙ ap (λ (w : Words). sum_by (stage_count z) (call_stages z w seen.call)) b.words
+    ∙ ap (λ (c : Call). sum_by (stage_count z) (call_stages z (standing_words bytes) c)) b.of_call
+    ∙ sym (call_count z call bytes b.valid b.image b.can)
+
+-- stores are left: the flight stands
+pub begun_some : (z : Zone) (bytes : List ℕ) (call : Call) (seen : Flying) (old new : HeldZone) (live : LiveZone) → Begins z bytes call seen → 0 < total_of seen
+    → new ≡ record { told = old.told; flight = Some seen } → StandsForZone z bytes old live → StandsForZone z bytes new (begun z call live)
+begun_some z bytes call seen old new live b some e stands =
+    subst (λ (h : HeldZone). StandsForZone z bytes h (begun z call live)) (sym e) (by (length (call_stores z call live.image) == 0) refl)
+  where
+    counted : total_of seen ≡ length (call_stores z call live.image)
+    counted = total_is z bytes call seen b ∙ ap (λ (im : List ℕ). length (call_stores z call im)) (sym stands.image)
+
+    by : (t : Bool) → (length (call_stores z call live.image) == 0) ≡ t
+        → StandsForZone z bytes (record { told = old.told; flight = Some seen }) (cond t live (record live { flight = Some (record { image = live.image; call = call; made = 0 }) }))
+    by true h = absurd (let c = counted in grind (arith, nat_tests))
+    by false h = record {
+      image = stands.image;
+      told = stands.told;
+      flight = record {
+        zone = b.zone;
+        call = b.of_call;
+        made = b.made;
+        total = counted;
+        image = subst (λ (im : List ℕ). StandsFor seen bytes im) (sym stands.image) b.stands;
+      };
+    }
+
+-- no store is left: the call is finished
+pub begun_none : (z : Zone) (bytes : List ℕ) (call : Call) (seen : Flying) (old new : HeldZone) (live : LiveZone) → Begins z bytes call seen → total_of seen ≡ 0
+    → new ≡ old → StandsForZone z bytes old live → StandsForZone z bytes new (begun z call live)
+begun_none z bytes call seen old new live b none e stands =
+    subst (λ (h : HeldZone). StandsForZone z bytes h (begun z call live)) (sym e) (by (length (call_stores z call live.image) == 0) refl)
+  where
+    counted : total_of seen ≡ length (call_stores z call live.image)
+    counted = total_is z bytes call seen b ∙ ap (λ (im : List ℕ). length (call_stores z call im)) (sym stands.image)
+
+    by : (t : Bool) → (length (call_stores z call live.image) == 0) ≡ t
+        → StandsForZone z bytes old (cond t live (record live { flight = Some (record { image = live.image; call = call; made = 0 }) }))
+    by true h = stands
+    by false h = absurd (let c = counted in grind (arith, nat_tests))

@@ -1,0 +1,6 @@
+use Rattle.zone_params.specs.Laid.{zones_of}
+use Rattle.ram_core.specs.Booting.{PreparesTo}
+use Rattle.ram_core.proofs.booting.prepare.Given as goal
+
+abbrev pub invariant-loop-i : goal.invariant-loop-i
+invariant-loop-i l = PreparesTo (zones_of l.layout) l.spans.spans l.known l.i l.prepared

@@ -1,0 +1,14 @@
+pub mod LiveSeen
+pub mod Storing
+pub mod Asks
+pub mod Running
+pub mod Places
+pub mod Cursors
+pub mod SeenCut
+pub mod OffSeen
+pub mod Stopped
+pub mod Reports
+pub mod Booting
+pub mod Booted
+pub mod Parting
+pub mod Parted

@@ -1,0 +1,60 @@
+// What may be asked of a live machine.
+ghost use Rattle.std.specs.Prelude.{◌≡◌, ◌≤◌, ◌<◌, length};
+ghost use Rattle.zone_flight.specs.Calls.{told_call};
+ghost use Rattle.session_spec.specs.LiveCalls.{call_of as call_asked};
+ghost use Rattle.session_spec.specs.Sound.{IsAsk};
+ghost use Rattle.ram_core.specs.Asks.{told_ask, CanBeAsked};
+
+use arrayvec::ArrayString;
+use box_io::Bytes;
+use dump_records::line;
+use zone_flight::{Call, Line36};
+use zone_spec::{Refusal, Time, ZoneName};
+
+/// A call that is asked for.
+#[derive(Drop)]
+pub enum Ask {
+    /// Bytes for a console, ftrace or pmsg zone.
+    Append(ZoneName, Bytes),
+    Erase(ZoneName),
+    /// A dump at a time, compressed or not, into the next dump zone.
+    Dump(Time, bool, Bytes),
+}
+
+/// Why a call was not begun, and what was asked.
+#[derive(Drop)]
+pub struct Refused {
+    pub why: Refusal,
+    pub ask: Ask,
+}
+
+impl Ask {
+    /// Tells that the payload is of bytes.
+    pub(crate) fn check(&self)
+        requires { CanBeAsked self.now }
+        ensures { IsAsk (told_ask self.now) }
+    {
+        match self {
+            Ask::Append(_, payload) | Ask::Dump(_, _, payload) => {
+                let _len = payload.len();
+            }
+            Ask::Erase(_) => {}
+        }
+    }
+
+    /// The call that it is, a dump with its time line.
+    pub(crate) fn into_call(self) -> Call
+        requires { CanBeAsked self }
+        ensures { told_call result ≡ call_asked (told_ask self) }
+    {
+        match self {
+            Ask::Append(_, payload) => Call::Append(payload),
+            Ask::Erase(_) => Call::Erase,
+            Ask::Dump(time, packed, body) => {
+                let mut text = ArrayString::new();
+                line(time, packed, &mut text);
+                Call::Dump(Line36::from_text(&text), body)
+            }
+        }
+    }
+}

@@ -1,0 +1,328 @@
+// The machine while it is live.
+ghost use Rattle.std.specs.Prelude.{◌≡◌, ◌<◌, ℕ, true, false, List, [], map, ◌≤◌, ◌^◌, Some, None, length, slice_get, is_some, ◌||◌, Ok, Err, IfOk, IfErr, IfSome, OnErr, ◌↔◌};
+ghost use Rattle.zone_spec.specs.Layouts.{zone_place};
+ghost use Rattle.zone_params.specs.Laid.{zones_of};
+ghost use Rattle.session_spec.specs.States.{LiveState};
+ghost use Rattle.session_spec.specs.LiveCalls.{asked_name, begin as begins, step as steps};
+ghost use Rattle.ram_core.specs.Asks.{told_ask, CanBeAsked};
+ghost use Rattle.zone_spec.specs.Records.{is_of};
+ghost use Rattle.zone_spec.specs.declared.Kind.TheVariants.{Dump as DumpKind};
+ghost use Rattle.ram_core.specs.Places.{ring_at, name_of, place_asked, dump_flies, barred, flies_at, flies_in};
+ghost use Rattle.std.specs.Option.{option_map};
+ghost use Rattle.session_spec.specs.Zones.{dump_zones};
+ghost use Rattle.session_spec.specs.LiveZones.{Target, target};
+ghost use Rattle.ram_core.specs.Storing.{is_next, is_last_of_dump, stores_left_of};
+ghost use Rattle.session_spec.specs.ZoneCalls.{stores_left};
+ghost use Rattle.ram_core.specs.Cursors.{cursor_at, cursor_after, IsTurning};
+ghost use Rattle.zone_spec.specs.declared.Zone.{Zone as AZone};
+ghost use Rattle.session_spec.specs.Stop.{stopped as stopped_state};
+ghost use Rattle.std.specs.Vec.{vec_capacity};
+ghost use Rattle.ram_core.specs.Stopped.{stop_zone};
+ghost use Rattle.ram_core.specs.OffSeen.{StandsOff};
+ghost use Rattle.ram_core.specs.LiveSeen.{StandsLive, Leaves, StoresNext, RingOf};
+
+use crate::known::KnownZone;
+use crate::zones::{HeldZone, Stored, start, store_next};
+use crate::{Ask, Off, Refused, Told};
+use dump_records::Cursor;
+use ram_region::Spans;
+use std::alloc::Global;
+use std::marker::Model;
+use zone_flight::Step;
+use zone_params::types::Layout;
+use zone_spec::{CallKind, Kind, Refusal, Zone, ZoneName};
+
+/// A live store: calls are begun in its zones, and made one store at a time in any order.
+#[derive(Drop)]
+pub struct Live {
+    pub(crate) alloc: Global,
+    pub(crate) layout: Layout,
+    pub(crate) spans: Spans,
+    pub(crate) zones: Vec<HeldZone>,
+    pub(crate) cursor: Option<Cursor>,
+    // Room for what a stop tells of the zones, so that a stop takes no memory.
+    pub(crate) stopped: Vec<KnownZone>,
+}
+
+impl Model for Live {
+    ghost use Rattle.zone_spec.specs.Layout.{rounded};
+    ghost use Rattle.zone_params.specs.Laid.{params_of, zones_of};
+    ghost use Rattle.ram_core.specs.LiveSeen.{LiveSeen};
+
+    ghost Value = { LiveSeen };
+
+    ghost use Rattle.ram_core.specs.Cursors.{cursor_at, IsTurning};
+    ghost use Rattle.ram_core.specs.Running.{IsRunning};
+    ghost use Rattle.ram_core.specs.Stopped.{HasRoom};
+
+    ghost view = { λ l. record { layout = zones_of l.layout; mem = rounded (params_of l.layout).mem; spans = l.spans; zones = l.zones.items; cursor = cursor_at l.cursor } };
+
+    ghost invariant = { λ l. IsRunning (record { layout = zones_of l.layout; mem = rounded (params_of l.layout).mem; spans = l.spans; zones = l.zones.items; cursor = cursor_at l.cursor }) × IsTurning (zones_of l.layout) l.cursor × HasRoom (zones_of l.layout) l.stopped };
+}
+
+// The place of a console, ftrace or pmsg zone.
+fn ring_place(layout: &Layout, name: ZoneName) -> Option<u32>
+    ensures { result ≡ ring_at (zones_of layout.now) (zone_place (zones_of layout.now) name) }
+{
+    let i = layout.find(name)?;
+    match layout.zones()[i as usize].name.kind {
+        Kind::Dump => None,
+        Kind::Console | Kind::Ftrace | Kind::Pmsg => Some(i),
+    }
+}
+
+// Tells whether a flight stands in a dump zone.
+fn flies_in_dump_zone(zones: &[Zone], held: &[HeldZone]) -> bool
+    ensures { result ≡ dump_flies zones.now held.now }
+{
+    zones
+        .iter()
+        .zip(held)
+        .any(|(zone, held)| is_of_dump(zone) && held.flight.is_some())
+}
+
+fn is_of_dump(zone: &Zone) -> bool
+    ensures { result ≡ is_of DumpKind zone.now.name.kind }
+{
+    match zone.name.kind {
+        Kind::Dump => true,
+        Kind::Console | Kind::Ftrace | Kind::Pmsg => false,
+    }
+}
+
+// A cursor at the first dump zone, if there is one.
+pub(crate) fn first_dump(zones: &[Zone]) -> Option<Cursor>
+    requires { length zones.now < 2 ^ 32 }
+    ensures turning { IsTurning zones.now result }
+    ensures first { cursor_at result ≡ 0 }
+{
+    match zones.iter().filter(|zone| is_of_dump(zone)).count() {
+        0 => None,
+        count => Some(Cursor::new(count as u32)),
+    }
+}
+
+// The dump zone that the next dump goes to.
+fn next_dump(cursor: &Option<Cursor>) -> u32
+    ensures { result ≡ cursor_at cursor.now }
+{
+    match cursor {
+        Some(cursor) => cursor.at(),
+        None => 0,
+    }
+}
+
+// Goes to the next dump zone behind a dump's last store.
+fn turn(cursor: &mut Option<Cursor>, stored: Option<Stored>)
+    ensures { (layout : List Zone) → IsTurning layout cursor.old → (is_last_of_dump stored ≡ true → 0 < dump_zones layout)
+        → (cursor_at cursor.new ≡ cursor_after layout stored (cursor_at cursor.old)) × IsTurning layout cursor.new }
+{
+    if let Some(Stored::Last(CallKind::Dump)) = stored {
+        if let Some(cursor) = cursor {
+            cursor.advance();
+        }
+    }
+}
+
+// What is known of the zones after a stop, put where there is room for it.
+fn stop_all(zones: Vec<HeldZone>, mut stopped: Vec<KnownZone>) -> Vec<KnownZone>
+    requires none { stopped.items ≡ [] }
+    requires room { length zones.items ≤ vec_capacity stopped }
+    ensures { result.items ≡ map stop_zone zones.items }
+{
+    for zone in zones {
+        stopped.push_reserved(zone.stopped());
+    }
+    stopped
+}
+
+fn stores_left(held: &HeldZone) -> u64
+    ensures { result ≡ stores_left_of held.now.flight }
+{
+    match &held.flight {
+        Some(flight) => flight.left(),
+        None => 0,
+    }
+}
+
+impl Live {
+    // The name of the zone that the call goes to.
+    fn name_asked(&self, ask: &Ask) -> ZoneName
+        ensures { result ≡ name_of self.now.cursor (told_ask ask.now) }
+    {
+        match ask {
+            Ask::Append(name, _) | Ask::Erase(name) => *name,
+            Ask::Dump(_, _, _) => ZoneName {
+                kind: Kind::Dump,
+                index: next_dump(&self.cursor),
+            },
+        }
+    }
+
+    // Its place.
+    fn place_asked(&self, ask: &Ask) -> Option<u32>
+        ensures place { result ≡ place_asked self.now.layout self.now.cursor (told_ask ask.now) }
+        ensures within { IfSome result (λ i. (i < length self.now.layout) × (i < length self.now.zones)) }
+    {
+        let name = self.name_asked(ask);
+        match ask {
+            Ask::Append(_, _) => ring_place(&self.layout, name),
+            Ask::Erase(_) | Ask::Dump(_, _, _) => self.layout.find(name),
+        }
+    }
+
+    // Tells whether a flight is in the call's way, in zone `i` or, for a dump, in a dump zone.
+    fn is_busy(&self, i: u32, ask: &Ask) -> bool
+        requires { i < length self.now.zones }
+        ensures { result ≡ (barred self.now.layout self.now.zones (told_ask ask.now) || flies_at (slice_get self.now.zones i)) }
+    {
+        let is_barred = match ask {
+            Ask::Dump(_, _, _) => flies_in_dump_zone(self.layout.zones(), &self.zones),
+            Ask::Append(_, _) | Ask::Erase(_) => false,
+        };
+        is_barred || self.zones[i as usize].flight.is_some()
+    }
+
+    // Begins the call in zone `i`, where nothing is in its way.
+    fn start(&mut self, i: u32, ask: Ask)
+        requires asked { CanBeAsked ask }
+        requires place { place_asked self.old.layout self.old.cursor (told_ask ask) ≡ Some i }
+        requires within { i < length self.old.layout }
+        requires free { (barred self.old.layout self.old.zones (told_ask ask) || flies_at (slice_get self.old.zones i)) ≡ false }
+        ensures { (layout : List Zone) (mem : ℕ) (s : LiveState) → StandsLive layout mem self.old s → Leaves layout mem (begins layout s (told_ask ask)) self.new }
+    {
+        ask.check();
+        let zone = self.layout.zones()[i as usize];
+        let span = &self.spans.all()[i as usize];
+        let _len = span.len();
+        start(zone, span, &mut self.zones[i as usize], ask.into_call());
+    }
+
+    /// Begins a call, and makes no store. An append of no bytes is finished at once. A refusal changes nothing, and hands
+    /// back what was asked. Takes no memory.
+    pub fn begin(&mut self, ask: Ask) -> Result<ZoneName, Refused>
+        requires { CanBeAsked ask }
+        ensures begun { IfOk result (λ name. (layout : List Zone) (mem : ℕ) (s : LiveState) → StandsLive layout mem self.old s
+            → (name ≡ asked_name s (told_ask ask)) × Leaves layout mem (begins layout s (told_ask ask)) self.new) }
+        ensures refused { IfErr result (λ r. (layout : List Zone) (mem : ℕ) (s : LiveState) → StandsLive layout mem self.old s → begins layout s (told_ask ask) ≡ Err r.why) }
+        ensures unchanged { IfErr result (λ r. (r.ask ≡ ask) × (self.new ≡ self.old)) }
+    {
+        let Some(i) = self.place_asked(&ask) else {
+            return Err(Refused {
+                why: Refusal::NoZone,
+                ask,
+            });
+        };
+        if self.is_busy(i, &ask) {
+            return Err(Refused {
+                why: Refusal::Busy,
+                ask,
+            });
+        }
+        let name = self.name_asked(&ask);
+        self.start(i, ask);
+        Ok(name)
+    }
+
+    // Makes the next store of the flight in zone `i`, if one stands there.
+    fn store(&mut self, i: u32) -> Option<Stored>
+        requires { i < length self.old.layout }
+        ensures layout { self.new.layout ≡ self.old.layout }
+        ensures idle { result ≡ None → self.new ≡ self.old }
+        ensures flies { flies_at (slice_get self.old.zones i) ≡ is_some result }
+        ensures goes_on { flies_at (slice_get self.new.zones i) ≡ is_next result }
+        ensures stored { StoresNext i self.old self.new }
+    {
+        let stored = store_next(&mut self.spans, i, &mut self.zones[i as usize]);
+        turn(&mut self.cursor, stored);
+        stored
+    }
+
+    // The place of the zone of this name.
+    fn place(&self, zone: ZoneName) -> Option<u32>
+        ensures place { result ≡ zone_place self.now.layout zone }
+        ensures within { IfSome result (λ i. (i < length self.now.layout) × (i < length self.now.zones)) }
+    {
+        self.layout.find(zone)
+    }
+
+    /// Makes the next store of a zone's flight. It is done with the last one: then no flight stands there, the told list is
+    /// what the call means, and a dump's moves the cursor. Takes no memory.
+    pub fn step(&mut self, zone: ZoneName) -> Result<Step, Refusal>
+        ensures stepped { IfOk result (λ step. (layout : List Zone) (mem : ℕ) (s : LiveState) → StandsLive layout mem self.old s → Leaves layout mem (steps layout s zone 1) self.new) }
+        ensures done { IfOk result (λ step. (step ≡ Step.Done) ↔ (flies_in self.new zone ≡ false)) }
+        ensures refused { IfErr result (λ why. (layout : List Zone) (mem : ℕ) (s : LiveState) → StandsLive layout mem self.old s → steps layout s zone 1 ≡ Err why) }
+        ensures unchanged { OnErr result (self.new ≡ self.old) }
+    {
+        let Some(i) = self.place(zone) else {
+            return Err(Refusal::NoZone);
+        };
+        match self.store(i) {
+            None => Err(Refusal::Idle),
+            Some(Stored::Next) => Ok(Step::Stored),
+            Some(Stored::Last(_)) => Ok(Step::Done),
+        }
+    }
+
+    /// The list that a zone was told; during a flight the one from before it.
+    pub fn told(&self, zone: ZoneName) -> Result<&Told, Refusal>
+        ensures told { IfOk result (λ told. (layout : List Zone) (mem : ℕ) (s : LiveState) → StandsLive layout mem self.now s
+            → option_map (λ (t : Target). t.live.told) (target layout s zone) ≡ Some told.now.items) }
+        ensures ring { IfOk result (λ told. RingOf self.now zone told.now) }
+        ensures refused { IfErr result (λ why. (why ≡ Refusal.NoZone) × (zone_place self.now.layout zone ≡ None)) }
+    {
+        let _layout = &self.layout;
+        match self.place(zone) {
+            Some(i) => Ok(&self.zones[i as usize].told),
+            None => Err(Refusal::NoZone),
+        }
+    }
+
+    /// Tells whether a flight stands in a zone.
+    pub fn flies(&self, zone: ZoneName) -> Result<bool, Refusal>
+        ensures flies { IfOk result (λ flies. (layout : List Zone) (mem : ℕ) (s : LiveState) → StandsLive layout mem self.now s
+            → option_map (λ (t : Target). is_some t.live.flight) (target layout s zone) ≡ Some flies) }
+        ensures refused { IfErr result (λ why. (why ≡ Refusal.NoZone) × (zone_place self.now.layout zone ≡ None)) }
+    {
+        let _layout = &self.layout;
+        match self.place(zone) {
+            Some(i) => Ok(self.zones[i as usize].flight.is_some()),
+            None => Err(Refusal::NoZone),
+        }
+    }
+
+    /// How many stores are left of a zone's flight; none where no flight stands.
+    pub fn left(&self, zone: ZoneName) -> Result<u64, Refusal>
+        ensures left { IfOk result (λ left. (layout : List Zone) (mem : ℕ) (s : LiveState) → StandsLive layout mem self.now s
+            → option_map (λ (t : Target). stores_left t.live.flight t.zone) (target layout s zone) ≡ Some left) }
+        ensures refused { IfErr result (λ why. (why ≡ Refusal.NoZone) × (zone_place self.now.layout zone ≡ None)) }
+    {
+        let _layout = &self.layout;
+        match self.place(zone) {
+            Some(i) => Ok(stores_left(&self.zones[i as usize])),
+            None => Err(Refusal::NoZone),
+        }
+    }
+
+    /// The machine is off: this moment is the stop of every zone, and each flight becomes a cut, also with no store made.
+    /// Takes no memory.
+    pub fn stop(self) -> Off
+        ensures { (layout : List AZone) (mem : ℕ) (s : LiveState) → StandsLive layout mem self s → StandsOff layout mem result (stopped_state layout s) }
+    {
+        let _zones = self.layout.zones();
+        let Live {
+            alloc,
+            layout,
+            spans,
+            zones,
+            cursor: _,
+            stopped,
+        } = self;
+        Off {
+            alloc,
+            layout,
+            image: spans.join().into_bytes(),
+            zones: stop_all(zones, stopped),
+        }
+    }
+}

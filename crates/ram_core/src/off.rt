@@ -1,0 +1,272 @@
+// The machine while it is off.
+ghost use Rattle.std.specs.Prelude.{◌≡◌, ◌≤◌, ◌<◌, ◌^◌, ◌++◌, ℕ, List, [], length, map, IfOk, IfErr, OnOk, OnErr};
+ghost use Rattle.zone_spec.specs.declared.Zone.{Zone as AZone};
+ghost use Rattle.zone_spec.specs.Layout.{rounded};
+ghost use Rattle.zone_params.specs.Laid.{params_of, zones_of};
+ghost use Rattle.session_spec.specs.States.{OffState};
+ghost use Rattle.session_spec.specs.Off.{fresh as fresh_state, flipped};
+ghost use Rattle.ram_core.specs.OffSeen.{OffSeen, StandsOff, AreUnknown};
+ghost use Rattle.ram_core.specs.Booting.{IsOpen, SpansFit, Prepares, seen_off, seen_booted};
+ghost use Rattle.std.specs.List.{concat};
+ghost use Rattle.old_log.specs.Saving.{saved};
+ghost use Rattle.ram_core.specs.Stopped.{HasRoom};
+ghost use Rattle.ram_core.specs.Running.{IsRunning};
+ghost use Rattle.ram_core.specs.Reports.{told_report};
+ghost use Rattle.ram_core.specs.Booted.{Booted, BootedInPart};
+ghost use Rattle.std.specs.Vec.{vec_capacity};
+
+use crate::booting::{Passed, Prepared, prepare, settle_all, settle_part};
+use crate::known::{KnownZone, pass_all};
+use crate::live::first_dump;
+use crate::zones::HeldZone;
+use crate::{Live, Report};
+use box_io::Bytes;
+use old_log::Logs;
+use ram_region::{Region, Spans};
+use std::alloc::{AllocError, Global};
+use std::marker::Model;
+use zone_params::types::Layout;
+use zone_spec::Refusal;
+
+/// A store that is off: its image can be damaged, and booted.
+#[derive(Drop)]
+pub struct Off {
+    pub(crate) alloc: Global,
+    pub(crate) layout: Layout,
+    pub(crate) image: Bytes,
+    pub(crate) zones: Vec<KnownZone>,
+}
+
+impl Model for Off {
+    ghost use Rattle.std.specs.Prelude.{◌≡◌, length};
+    ghost use Rattle.zone_spec.specs.Layout.{rounded};
+    ghost use Rattle.zone_params.specs.Laid.{params_of, zones_of};
+    ghost use Rattle.ram_core.specs.OffSeen.{OffSeen};
+
+    ghost Value = { OffSeen };
+
+    ghost view = { λ o. record { layout = zones_of o.layout; mem = rounded (params_of o.layout).mem; image = o.image; zones = o.zones.items } };
+
+    ghost invariant = { λ o. (length o.image ≡ rounded (params_of o.layout).mem) × (length o.zones.items ≡ length (zones_of o.layout)) };
+}
+
+/// A machine that is off, whose image is cut into the zones' spans.
+#[derive(Drop)]
+pub struct OpenOff {
+    pub(crate) alloc: Global,
+    pub(crate) layout: Layout,
+    pub(crate) spans: Spans,
+    pub(crate) zones: Vec<KnownZone>,
+}
+
+impl OpenOff {
+    // The image whole again.
+    fn close(self) -> Off
+        requires size { length (concat self.spans.spans ++ self.spans.rest) ≡ rounded (params_of self.layout).mem }
+        requires known { length self.zones.items ≡ length (zones_of self.layout) }
+        ensures { result ≡ seen_off self }
+    {
+        let OpenOff {
+            alloc,
+            layout,
+            spans,
+            zones,
+        } = self;
+        Off {
+            alloc,
+            layout,
+            image: spans.join().into_bytes(),
+            zones,
+        }
+    }
+
+    // All that a boot reads and takes before its first store, with room for what the next stop tells of the zones.
+    fn prepare(&self) -> Result<(Prepared, Vec<KnownZone>), AllocError>
+        requires spans { SpansFit (zones_of self.now.layout) self.now.spans.spans }
+        requires known { length self.now.zones.items ≡ length (zones_of self.now.layout) }
+        ensures prepared { IfOk result (λ r. Prepares (zones_of self.now.layout) self.now.spans.spans self.now.zones.items r.0) }
+        ensures room { IfOk result (λ r. HasRoom (zones_of self.now.layout) r.1) }
+    {
+        let prepared = prepare(self.alloc, &self.layout, &self.spans, &self.zones)?;
+        let stopped = Vec::with_capacity(self.alloc, self.layout.zones().len())?;
+        Ok((prepared, stopped))
+    }
+
+    // The same for a boot that is cut, with room for how it passes the zones.
+    fn prepare_part(&self) -> Result<(Prepared, Vec<Passed>), AllocError>
+        requires spans { SpansFit (zones_of self.now.layout) self.now.spans.spans }
+        requires known { length self.now.zones.items ≡ length (zones_of self.now.layout) }
+        ensures prepared { IfOk result (λ r. Prepares (zones_of self.now.layout) self.now.spans.spans self.now.zones.items r.0) }
+        ensures none { IfOk result (λ r. r.1.items ≡ []) }
+        ensures room { IfOk result (λ r. length (zones_of self.now.layout) ≤ vec_capacity r.1) }
+    {
+        let prepared = prepare(self.alloc, &self.layout, &self.spans, &self.zones)?;
+        let passed = Vec::with_capacity(self.alloc, self.layout.zones().len())?;
+        Ok((prepared, passed))
+    }
+
+    // The machine after a boot that has made all its stores.
+    fn live(self, zones: Vec<HeldZone>, stopped: Vec<KnownZone>) -> Live
+        requires running { IsRunning (seen_booted self zones.items) }
+        requires room { HasRoom (zones_of self.layout) stopped }
+        requires few { length (zones_of self.layout) < 2 ^ 32 }
+        ensures { result ≡ seen_booted self zones.items }
+    {
+        let cursor = first_dump(self.layout.zones());
+        let OpenOff {
+            alloc,
+            layout,
+            spans,
+            zones: _,
+        } = self;
+        Live {
+            alloc,
+            layout,
+            spans,
+            zones,
+            cursor,
+            stopped,
+        }
+    }
+}
+
+// Zones of which nothing is known.
+fn unknown(alloc: Global, count: usize) -> Result<Vec<KnownZone>, AllocError>
+    ensures len { IfOk result (λ zones. length zones.items ≡ count) }
+    ensures none { IfOk result (λ zones. AreUnknown zones.items) }
+{
+    let mut zones = Vec::with_capacity(alloc, count)?;
+    'zones: for _ in 0..count {
+        zones.push(KnownZone {
+            told: None,
+            cut: None,
+        })?;
+    }
+    Ok(zones)
+}
+
+impl Off {
+    /// An image of the layout's `mem` bytes, of which nothing is known.
+    pub fn fresh(alloc: Global, layout: Layout, image: Bytes) -> Result<Off, AllocError>
+        requires { length image ≡ rounded (params_of layout).mem }
+        ensures { IfOk result (λ off. StandsOff (zones_of layout) (rounded (params_of layout).mem) off (fresh_state (zones_of layout) image)) }
+    {
+        let zones = unknown(alloc, layout.zones().len())?;
+        Ok(Off {
+            alloc,
+            layout,
+            image,
+            zones,
+        })
+    }
+
+    pub fn image(&self) -> &[u8]
+        ensures { result.now ≡ self.now.image }
+    {
+        self.image.as_slice()
+    }
+
+    pub fn into_image(self) -> Bytes
+        ensures { result ≡ self.image }
+    {
+        self.image
+    }
+
+    /// Exclusive-ors the byte at `at` with a mask. Takes no memory.
+    pub fn flip(&mut self, at: u32, mask: u8) -> Result<(), Refusal>
+        ensures flipped { OnOk result ((layout : List AZone) (mem : ℕ) (s : OffState) → StandsOff layout mem self.old s → StandsOff layout mem self.new (flipped s at mask)) }
+        ensures within { OnOk result (at < self.old.mem) }
+        ensures refused { IfErr result (λ why. (why ≡ Refusal.OutOfImage) × (self.old.mem ≤ at)) }
+        ensures unchanged { OnErr result (self.new ≡ self.old) }
+    {
+        let bytes = self.image.as_slice();
+        if at as usize >= bytes.len() {
+            return Err(Refusal::OutOfImage);
+        }
+        let flipped = bytes[at as usize] ^ mask;
+        self.image.set(at, flipped);
+        Ok(())
+    }
+
+    // Cuts the image. On a refusal the machine is as it was.
+    fn open(self) -> Result<OpenOff, (Off, AllocError)>
+        ensures open { IfOk result (λ o. IsOpen self o) }
+        ensures refused { IfErr result (λ e. e.0 ≡ self) }
+    {
+        let _len = self.image.len();
+        let _zones = self.layout.zones();
+        let Off {
+            alloc,
+            layout,
+            image,
+            zones,
+        } = self;
+        match Region::from_bytes(image).cut(&layout) {
+            Ok(spans) => Ok(OpenOff {
+                alloc,
+                layout,
+                spans,
+                zones,
+            }),
+            Err((region, refused)) => Err((
+                Off {
+                    alloc,
+                    layout,
+                    image: region.into_bytes(),
+                    zones,
+                },
+                refused,
+            )),
+        }
+    }
+
+    /// Boots: each zone is read, its log saved and told against its told list, and its boot stores are made. All memory is
+    /// taken before the first store; on a refusal the machine is as it was.
+    pub fn boot(self) -> Result<(Live, Logs, Report), (Off, AllocError)>
+        ensures booted { IfOk result (λ r. (layout : List AZone) (mem : ℕ) (s : OffState) → StandsOff layout mem self s → Booted layout mem s r.0 (saved r.1) (map told_report r.2)) }
+        ensures refused { IfErr result (λ e. e.0 ≡ self) }
+    {
+        let mut open = self.open()?;
+        match open.prepare() {
+            Ok((prepared, stopped)) => {
+                settle_all(&mut open.spans, &open.layout, &prepared.logs);
+                let Prepared {
+                    logs,
+                    reports,
+                    held,
+                } = prepared;
+                Ok((open.live(held, stopped), logs, Report::from_vec(reports)))
+            }
+            Err(refused) => Err((open.close(), refused)),
+        }
+    }
+
+    /// Makes the first `limit` stores of a boot, or all, and tells how many. Zones in front of the last store made are
+    /// finished, and its own zone where that was its last; a zone within its erasure has that for its cut. All memory is
+    /// taken before the first store; on a refusal the machine is as it was.
+    pub fn boot_part(self, limit: u64) -> Result<(Off, u64), (Off, AllocError)>
+        ensures parted { IfOk result (λ r. (layout : List AZone) (mem : ℕ) (s : OffState) → StandsOff layout mem self s → BootedInPart layout mem s limit r.0 r.1) }
+        ensures refused { IfErr result (λ e. e.0 ≡ self) }
+    {
+        let mut open = self.open()?;
+        match open.prepare_part() {
+            Ok((prepared, mut passed)) => {
+                let Prepared {
+                    logs,
+                    reports: _,
+                    held,
+                } = prepared;
+                let progress = settle_part(
+                    &mut open.spans,
+                    &open.layout,
+                    &logs,
+                    limit,
+                    &mut passed,
+                );
+                pass_all(&mut open.zones, held, &passed, progress.is_whole);
+                Ok((open.close(), limit - progress.left))
+            }
+            Err(refused) => Err((open.close(), refused)),
+        }
+    }
+}
