@@ -1,0 +1,10 @@
+pub mod Zones
+pub mod Standing
+pub mod Rings
+pub mod Appends
+pub mod Apart
+pub mod Cuts
+pub mod Listings
+pub mod Sessions
+pub mod Lines
+pub mod CutSessions

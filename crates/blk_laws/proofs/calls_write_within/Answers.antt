@@ -1,0 +1,5 @@
+use Rattle.blk_laws.proofs.Apart.{append-within, dump-within, header-within}
+use Rattle.blk_laws.proofs.calls_write_within.Goals as goal
+
+pub returns : goal.returns
+returns c = (append-within, dump-within, header-within)

@@ -1,0 +1,5 @@
+use Rattle.blk_laws.proofs.Standing.{cut-append}
+use Rattle.blk_laws.proofs.cut_append_lists_before.Goals as goal
+
+pub returns : goal.returns
+returns c = cut-append

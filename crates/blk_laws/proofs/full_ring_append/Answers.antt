@@ -1,0 +1,7 @@
+use Rattle.std.proofs.Common.{refl}
+use Rattle.blk_spec.specs.Rings.{append_writes, kept_writes}
+use Rattle.blk_laws.proofs.full_ring_append.Goals as goal
+
+pub returns : goal.returns
+unfolding append_writes kept_writes
+returns c = refl

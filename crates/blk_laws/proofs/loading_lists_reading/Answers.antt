@@ -1,0 +1,5 @@
+use Rattle.blk_laws.proofs.Standing.{loading}
+use Rattle.blk_laws.proofs.loading_lists_reading.Goals as goal
+
+pub returns : goal.returns
+returns c = λ l s e. loading l s.store s.blk e

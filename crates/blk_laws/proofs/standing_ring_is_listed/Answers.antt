@@ -1,0 +1,5 @@
+use Rattle.blk_laws.proofs.Standing.{standing-listed}
+use Rattle.blk_laws.proofs.standing_ring_is_listed.Goals as goal
+
+pub returns : goal.returns
+returns c = standing-listed

@@ -1,0 +1,5 @@
+use Rattle.blk_laws.proofs.Sessions.{whole-session}
+use Rattle.blk_laws.proofs.whole_session_lists_told.Goals as goal
+
+pub returns : goal.returns
+returns c = whole-session

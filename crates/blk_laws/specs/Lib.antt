@@ -1,0 +1,5 @@
+pub mod Standing
+pub mod Apart
+pub mod Laws
+pub mod Sessions
+pub mod Rows

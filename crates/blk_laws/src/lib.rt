@@ -1,0 +1,81 @@
+//! Laws of the block store over its definitions alone: what rings stand for, and what a loading lists after a cut.
+#![tactic(auto)]
+
+ghost use Rattle.blk_laws.specs.Rows.{FirstAppend, FullRingAppend, FirstDump, FirstRingRead};
+ghost use Rattle.blk_laws.specs.Laws.{LoadingListsReading, StandingRingIsListed, ErasedRingIsEmpty, AppendKeepsLastBytes, CutAppendListsBefore, CallsWriteWithin, OtherZonesStay};
+ghost use Rattle.blk_laws.specs.Sessions.{EveryLoadingListsReading, WholeSessionListsTold, EarlyCutListsBefore};
+
+/// Every loading lists the reading of the store's bytes, whatever was done before it.
+pub fn loading_lists_reading()
+    ensures { LoadingListsReading }
+{}
+
+/// A ring that stands for a list is listed as that list, or not at all where the list is empty.
+pub fn standing_ring_is_listed()
+    ensures { StandingRingIsListed }
+{}
+
+/// An erasure leaves a ring that stands for the empty list.
+pub fn erased_ring_is_empty()
+    ensures { ErasedRingIsEmpty }
+{}
+
+/// An append to a ring that stands for a list leaves one that stands for the last bytes of that list and the payload, as
+/// many as the ring holds.
+pub fn append_keeps_last_bytes()
+    ensures { AppendKeepsLastBytes }
+{}
+
+/// An append to a ring that was not full, cut among its data bytes before its first header, leaves what the ring stood
+/// for.
+pub fn cut_append_lists_before()
+    ensures { CutAppendListsBefore }
+{}
+
+/// An append, a dump and an erasure write within their own zone alone.
+pub fn calls_write_within()
+    ensures { CallsWriteWithin }
+{}
+
+/// Writes within a zone, whole or cut after any byte, leave the bytes of every zone that shares none with it.
+pub fn other_zones_stay()
+    ensures { OtherZonesStay }
+{}
+
+/// After any lines of a session, a loading lists the reading of the store's bytes as they then stand.
+pub fn every_loading_lists_reading()
+    ensures { EveryLoadingListsReading }
+{}
+
+/// Where no call was cut since the last loading, the next one lists of each ring the last bytes that it was told since
+/// then, or since its erasure where that came later, as many as the ring holds.
+pub fn whole_session_lists_told()
+    ensures { WholeSessionListsTold }
+{}
+
+/// Where the first call that is cut since the last loading is an append to a ring that is not full, and the cut falls
+/// among its data bytes before its first header, the next loading lists of that ring what it would have listed before the
+/// append.
+pub fn early_cut_lists_before()
+    ensures { EarlyCutListsBefore }
+{}
+
+/// Worked: the writes of a first append of three bytes.
+pub fn first_append()
+    ensures { FirstAppend }
+{}
+
+/// Worked: one byte more to a full ring is a data byte, a shorter header and the full one.
+pub fn full_ring_append()
+    ensures { FullRingAppend }
+{}
+
+/// Worked: the bytes of a first dump.
+pub fn first_dump()
+    ensures { FirstDump }
+{}
+
+/// Worked: the log that is saved of a first append.
+pub fn first_ring_read()
+    ensures { FirstRingRead }
+{}

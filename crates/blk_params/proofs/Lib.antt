@@ -1,0 +1,3 @@
+pub mod WordLaws
+pub mod Apart
+pub mod LayoutLaws

@@ -1,0 +1,9 @@
+use Rattle.std.proofs.Common.{◌∙◌, sym}
+use Rattle.blk_params.proofs.LayoutLaws.{faulted, faultless}
+use Rattle.blk_params.proofs.layout.blk_layout.Goals as goal
+
+pub returns-in-Some-clause-layout : goal.returns-in-Some-clause-layout
+returns-in-Some-clause-layout c = faulted c.args.p.now c.in-Some.fault (sym c.first_fault.ensures ∙ c.in-Some.is)
+
+pub returns-clause-layout : goal.returns-clause-layout
+returns-clause-layout c = faultless c.args.p.now _ (sym c.first_fault.ensures ∙ c.in_default.is) cc

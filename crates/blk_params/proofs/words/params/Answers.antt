@@ -1,0 +1,4 @@
+use Rattle.blk_params.proofs.words.params.Goals as goal
+
+pub returns : goal.returns
+returns c = cc

@@ -1,0 +1,10 @@
+pub mod Layout
+pub mod Reasons
+pub mod Writes
+pub mod Rings
+pub mod Dumps
+pub mod Reading
+pub mod Names
+pub mod States
+pub mod Answers
+pub mod Session

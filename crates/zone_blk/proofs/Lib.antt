@@ -1,0 +1,9 @@
+pub mod Effects
+pub mod Sequences
+pub mod Turns
+pub mod Readings
+pub mod Finding
+pub mod Texts
+pub mod Clearing
+pub mod Contents
+pub mod DumpWrite

@@ -1,0 +1,271 @@
+// What a loading reads of the store.
+ghost use Rattle.std.specs.Prelude.{◌≡◌, ℕ, ◌+◌, ◌-◌, ◌^◌, ◌<◌, ◌≤◌, length, drop, slice_range, IfOk, IfErr, IfSome, OnOk, ◌++◌, option_to_list, vec_len, None, nat_lt, ◌&&◌};
+ghost use Rattle.std.specs.List.{All};
+ghost use Rattle.std.specs.Int.{from_le_bytes};
+ghost use Rattle.std.proofs.Common.{w32, w64};
+ghost use Rattle.blk_spec.specs.Layout.{IsLayout};
+ghost use Rattle.blk_spec.specs.Answers.{HasRoom};
+ghost use Rattle.blk_spec.specs.Reading.{zone_bytes, header_words as words_of, is_valid as is_valid_zone, is_dump as is_dump_zone, saved_ring as saved_of, listed_dump as dump_of, dumps_listed, greatest_counter as greatest_of};
+ghost use Rattle.zone_blk.specs.Fits.{IsZone};
+ghost use Rattle.zone_blk.specs.Loading.{IsReadFault, IsIn};
+
+use crate::zones::dump_zone;
+use blk_spec::{BlkFault, BlkLayout, BlkTime, BlkZone};
+use box_io::{Bytes, Failed, Store};
+use std::alloc::{AllocError, Global};
+use std::marker::Model;
+use zone_spec::Words;
+
+const MAGIC: u32 = 0x4dfc3ae5;
+
+const HEADER: usize = 12;
+
+const DUMP_HEADER: u32 = 40;
+
+const NANOS: u64 = 1_000_000_000;
+
+/// A listed dump. `index` is its zone's, `reason` the number in its header.
+#[derive(Drop)]
+pub struct Dump {
+    pub index: u32,
+    pub time: BlkTime,
+    pub packed: bool,
+    pub counter: u32,
+    pub reason: u32,
+    pub body: Bytes,
+}
+
+impl Model for Dump {
+    ghost use Rattle.blk_spec.specs.Reading.{BlkDump};
+
+    ghost Value = { BlkDump };
+
+    ghost view = { λ d. record { index = d.index; time = d.time; packed = d.packed; counter = d.counter; reason = d.reason; body = d.body } };
+}
+
+fn word_at(bytes: &[u8], at: usize) -> u32
+    requires { at + 4 ≤ length bytes.now }
+    ensures { result ≡ from_le_bytes w32 (slice_range bytes.now at (at + 4)) }
+{
+    let word = &bytes[at..at + 4];
+    u32::from_le_bytes([word[0], word[1], word[2], word[3]])
+}
+
+fn long_at(bytes: &[u8], at: usize) -> u64
+    requires { at + 8 ≤ length bytes.now }
+    ensures { result ≡ from_le_bytes w64 (slice_range bytes.now at (at + 8)) }
+{
+    let long = &bytes[at..at + 8];
+    u64::from_le_bytes([
+        long[0], long[1], long[2], long[3], long[4], long[5], long[6], long[7],
+    ])
+}
+
+fn header_words(bytes: &[u8]) -> Words
+    requires { 12 ≤ length bytes.now }
+    ensures { result ≡ words_of bytes.now }
+{
+    Words {
+        sig: word_at(bytes, 0),
+        size: word_at(bytes, 4),
+        start: word_at(bytes, 8),
+    }
+}
+
+fn is_valid(zone: BlkZone, words: Words) -> bool
+    requires { 12 ≤ zone.size }
+    ensures { result ≡ is_valid_zone zone words }
+{
+    words.sig == zone.sig && words.size <= zone.size - 12 && words.start <= words.size
+}
+
+fn has_log(zone: BlkZone, words: Words) -> bool
+    requires { 12 ≤ zone.size }
+    ensures { result ≡ (is_valid_zone zone words && nat_lt 0 words.size) }
+{
+    is_valid(zone, words) && words.size > 0
+}
+
+/// The saved log of a ring whose zone has these bytes.
+fn saved_ring(alloc: Global, zone: BlkZone, bytes: &[u8]) -> Result<Option<Bytes>, AllocError>
+    requires zone { IsZone zone }
+    requires sig { 0 < zone.sig }
+    requires len { length bytes.now ≡ zone.size }
+    ensures { IfOk result (λ saved. saved ≡ saved_of zone bytes.now) }
+{
+    if bytes.len() < HEADER {
+        return Ok(None);
+    }
+    let words = header_words(bytes);
+    let (_header, data) = bytes.split_at(HEADER);
+    if !has_log(zone, words) {
+        return Ok(None);
+    }
+    let mut log = Vec::from_slice(alloc, &data[..words.size as usize])?;
+    log.rotate_left(words.start as usize);
+    Ok(Some(Bytes::from_vec(log)))
+}
+
+fn is_dump(words: Words, data: &[u8]) -> bool
+    requires { 40 ≤ length data.now }
+    ensures { result ≡ is_dump_zone words data.now }
+{
+    words.size >= DUMP_HEADER
+        && word_at(data, 0) == MAGIC
+        && long_at(data, 8) < 1 << 63
+        && long_at(data, 16) < NANOS
+}
+
+fn is_listed(zone: BlkZone, words: Words, data: &[u8]) -> bool
+    requires sized { 12 ≤ zone.size }
+    requires header { 40 ≤ length data.now }
+    ensures { result ≡ (is_valid_zone zone words && is_dump_zone words data.now) }
+{
+    is_valid(zone, words) && is_dump(words, data)
+}
+
+/// The dump of a zone with these bytes, where it is listed.
+fn listed_dump(
+    alloc: Global,
+    index: u32,
+    zone: BlkZone,
+    bytes: &[u8],
+) -> Result<Option<Dump>, AllocError>
+    requires sized { 4096 ≤ zone.size }
+    requires len { length bytes.now ≡ zone.size }
+    ensures { IfOk result (λ dump. dump ≡ dump_of index zone bytes.now) }
+{
+    let words = header_words(bytes);
+    let (_header, data) = bytes.split_at(HEADER);
+    if !is_listed(zone, words, data) {
+        return Ok(None);
+    }
+    Ok(Some(Dump {
+        index,
+        time: BlkTime {
+            secs: long_at(data, 8),
+            nanos: long_at(data, 16) as u32,
+        },
+        packed: data[24] != 0,
+        counter: word_at(data, 28),
+        reason: word_at(data, 32),
+        body: Bytes::copy_of(alloc, &data[40..words.size as usize])?,
+    }))
+}
+
+/// Reads a zone's bytes.
+fn read_zone<M: Store>(alloc: Global, store: &mut M, zone: BlkZone) -> Result<Vec<u8>, BlkFault>
+    requires zone { IsZone zone }
+    requires room { HasRoom (zone.at + zone.size) (M.holds store.old) }
+    ensures bytes { IfOk result (λ v. IfSome (M.holds store.old) (λ bs. v.items ≡ zone_bytes bs zone)) }
+    ensures len { IfOk result (λ v. vec_len v ≡ zone.size) }
+    ensures fault { IfErr result (λ e. IsReadFault e (M.faults store.old) (M.faults store.new)) }
+    ensures same { M.holds store.new ≡ M.holds store.old }
+    ensures later { M.faults store.old ≤ M.faults store.new }
+{
+    let mut bytes = vec![in alloc; 0u8; zone.size as usize]?;
+    match store.read_at(zone.at as u64, &mut bytes) {
+        Ok(()) => Ok(bytes),
+        Err(Failed) => Err(BlkFault::StoreFault),
+    }
+}
+
+/// Reads the saved log of a ring.
+pub fn read_ring<M: Store>(
+    alloc: Global,
+    store: &mut M,
+    zone: BlkZone,
+) -> Result<Option<Bytes>, BlkFault>
+    requires zone { IsZone zone }
+    requires sig { 0 < zone.sig }
+    requires room { HasRoom (zone.at + zone.size) (M.holds store.old) }
+    ensures saved { IfOk result (λ saved. IfSome (M.holds store.old) (λ bs. saved ≡ saved_of zone (zone_bytes bs zone))) }
+    ensures none { IfOk result (λ saved. zone.size ≡ 0 → saved ≡ None) }
+    ensures fault { IfErr result (λ e. IsReadFault e (M.faults store.old) (M.faults store.new)) }
+    ensures same { M.holds store.new ≡ M.holds store.old }
+    ensures later { M.faults store.old ≤ M.faults store.new }
+{
+    let bytes = match read_zone(alloc, store, zone) {
+        Ok(bytes) => bytes,
+        Err(fault) => return Err(fault),
+    };
+    match saved_ring(alloc, zone, &bytes) {
+        Ok(saved) => Ok(saved),
+        Err(AllocError) => Err(BlkFault::Memory),
+    }
+}
+
+fn read_dump<M: Store>(
+    alloc: Global,
+    store: &mut M,
+    index: u32,
+    zone: BlkZone,
+) -> Result<Option<Dump>, BlkFault>
+    requires zone { IsZone zone }
+    requires sized { 4096 ≤ zone.size }
+    requires room { HasRoom (zone.at + zone.size) (M.holds store.old) }
+    ensures dump { IfOk result (λ dump. IfSome (M.holds store.old) (λ bs. dump ≡ dump_of index zone (zone_bytes bs zone))) }
+    ensures index { IfOk result (λ dump. IfSome dump (λ d. d.index ≡ index)) }
+    ensures fault { IfErr result (λ e. IsReadFault e (M.faults store.old) (M.faults store.new)) }
+    ensures same { M.holds store.new ≡ M.holds store.old }
+    ensures later { M.faults store.old ≤ M.faults store.new }
+{
+    let bytes = match read_zone(alloc, store, zone) {
+        Ok(bytes) => bytes,
+        Err(fault) => return Err(fault),
+    };
+    match listed_dump(alloc, index, zone, &bytes) {
+        Ok(dump) => Ok(dump),
+        Err(AllocError) => Err(BlkFault::Memory),
+    }
+}
+
+fn add_dump(dumps: &mut Vec<Dump>, dump: Option<Dump>) -> Result<(), AllocError>
+    ensures { OnOk result (dumps.new.items ≡ dumps.old.items ++ option_to_list dump) }
+{
+    if let Some(dump) = dump {
+        dumps.push(dump)?;
+    }
+    Ok(())
+}
+
+/// Reads the listed dumps, by rising number.
+pub fn read_dumps<M: Store>(
+    alloc: Global,
+    store: &mut M,
+    layout: BlkLayout,
+) -> Result<Vec<Dump>, BlkFault>
+    requires layout { IsLayout layout }
+    requires room { HasRoom layout.total (M.holds store.old) }
+    ensures dumps { IfOk result (λ v. IfSome (M.holds store.old) (λ bs. v.items ≡ dumps_listed layout bs)) }
+    ensures inside { IfOk result (λ v. All (IsIn layout) v.items) }
+    ensures fault { IfErr result (λ e. IsReadFault e (M.faults store.old) (M.faults store.new)) }
+    ensures same { M.holds store.new ≡ M.holds store.old }
+    ensures later { M.faults store.old ≤ M.faults store.new }
+{
+    let mut dumps = Vec::new(alloc);
+    for index in 0..layout.dumps {
+        let dump = match read_dump(alloc, store, index, dump_zone(layout, index)) {
+            Ok(dump) => dump,
+            Err(fault) => return Err(fault),
+        };
+        match add_dump(&mut dumps, dump) {
+            Ok(()) => (),
+            Err(AllocError) => return Err(BlkFault::Memory),
+        }
+    }
+    Ok(dumps)
+}
+
+/// The greatest counter of the dumps with this reason, or 0.
+pub fn greatest_counter(dumps: &[Dump], reason: u32) -> u32
+    ensures { result ≡ greatest_of reason dumps.now }
+{
+    let mut most: u32 = 0;
+    for dump in dumps {
+        if dump.reason == reason {
+            most = most.max(dump.counter);
+        }
+    }
+    most
+}
