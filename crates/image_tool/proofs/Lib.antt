@@ -1,2 +1,2 @@
-pub mod Consumed
-pub mod Pieces
+pub mod Shown
+pub mod WorkEnds

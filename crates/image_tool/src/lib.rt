@@ -1,14 +1,13 @@
 //! The image tool: a command with its parameters, a script or none, an image, and the text that comes of them.
 #![tactic(auto)]
 
-mod lines;
+mod commands;
+mod layout_text;
 mod machine;
-mod stages;
-mod stop;
-mod words;
+mod playing;
 mod work;
 
-pub use stop::{Cause, Stop};
+pub use tool_frame::{Cause, Stop};
 pub use work::run;
 
 #[cfg(test)]

@@ -1,11 +1,11 @@
 // The machine that a script drives: one console zone without parity, over the whole image.
 ghost use Rattle.std.specs.Prelude.{◌≡◌, ◌+◌, ◌-◌, ◌≤◌, ◌<◌, ◌^◌, length};
 
-use crate::Cause;
 use box_io::Bytes;
 use box_script::Line;
 use std::alloc::{AllocError, Global};
 use std::fmt;
+use tool_frame::Cause;
 use zone_spec::{Kind, ZoneName};
 
 const SIGNATURE: u32 = 0x4347_4244;

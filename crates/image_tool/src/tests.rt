@@ -131,6 +131,18 @@ fn each_refusal_is_told(rt: HostRuntime) -> Result<(), Fail> {
             "parameter fault 2 at word 4\n",
         ),
         ("x run mem_size=16777217", "", 3, "layout fault 3\n"),
+        (
+            "x extract run mem_size=4096 mem_size=1",
+            "",
+            3,
+            "parameter fault 2 at word 5\n",
+        ),
+        (
+            "x make 01 mem_size=4096",
+            "",
+            2,
+            "usage: oopsbox IMAGE COMMAND key=value ..\n",
+        ),
         ("x run", "", 3, "layout fault 1\n"),
         (CONSOLE, "boot", 9, "bad line 1\n"),
         (CONSOLE, "boot\nwipe\n", 9, "bad line 2\n"),
@@ -245,5 +257,63 @@ fn faults_are_told(rt: HostRuntime) -> Result<(), Fail> {
     assert_eq!(rt; ran.status, 7);
     assert!(rt; FIRST_TEXT.as_bytes().starts_with(&ran.text));
     assert_eq!(rt; ran.image.as_slice(), zeros.as_slice());
+    Ok(())
+}
+
+// The worked layouts, each on an image of no bytes and with a script that would be refused.
+#[test]
+fn layouts_are_shown(rt: HostRuntime) -> Result<(), Fail> {
+    let alloc = rt.alloc();
+    let cases = [
+        (
+            "x layout mem_size=16384 ftrace_size=0 ecc=1",
+            "mem 16384 parity 16 zones 4\n\
+             dump-0 at 0 size 4096 cap 3604 blocks 29\n\
+             dump-1 at 4096 size 4096 cap 3604 blocks 29\n\
+             console at 8192 size 4096 cap 3604 blocks 29\n\
+             pmsg at 12288 size 4096 cap 3604 blocks 29\n",
+        ),
+        (
+            "x layout mem_size=16384 ftrace_size=0 ecc=1 block_size=32 ecc_dump=0",
+            "mem 16384 parity 16 zones 4\n\
+             dump-0 at 0 size 4096 cap 4084 blocks 128 parity 0 block 32\n\
+             dump-1 at 4096 size 4096 cap 4084 blocks 128 parity 0 block 32\n\
+             console at 8192 size 4096 cap 2708 blocks 85 parity 16 block 32\n\
+             pmsg at 12288 size 4096 cap 2708 blocks 85 parity 16 block 32\n",
+        ),
+    ];
+    for (line, text) in cases {
+        let ran = outcome(alloc, line, b"wipe".as_slice(), &[], NONE)?;
+        assert_eq!(rt; ran.status, 0, "{line}");
+        assert_eq!(rt; ran.text.as_slice(), text.as_bytes(), "{line}");
+        assert!(rt; ran.image.is_empty(), "{line}");
+    }
+    Ok(())
+}
+
+// A blank image over another, of which the bytes behind stay; and one whose write fails.
+#[test]
+fn an_image_is_made_blank(rt: HostRuntime) -> Result<(), Fail> {
+    let alloc = rt.alloc();
+    let line = "x blank mem_size=4096 record_size=0 ftrace_size=0 pmsg_size=0";
+    let ran = outcome(alloc, line, b"wipe".as_slice(), &[7; 4100], NONE)?;
+    assert_eq!(rt; ran.status, 0);
+    assert!(rt; ran.text.is_empty());
+    assert!(rt; ran.image.iter().take(4096).all(|byte| *byte == 0));
+    assert!(rt; ran.image.ends_with([7; 4].as_slice()));
+    let ran = outcome(
+        alloc,
+        line,
+        &[],
+        &[7; 4100],
+        Fails {
+            image: &[1],
+            ..NONE
+        },
+    )?;
+    assert_eq!(rt; ran.status, 6);
+    assert_eq!(rt; ran.text.as_slice(), b"image fault\n".as_slice());
+    assert!(rt; ran.image.iter().take(2048).all(|byte| *byte == 0));
+    assert!(rt; ran.image.iter().skip(2048).all(|byte| *byte == 7));
     Ok(())
 }

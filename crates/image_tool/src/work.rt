@@ -1,33 +1,16 @@
 // The run of a command.
-ghost use Rattle.std.specs.Prelude.{◌≡◌, ◌≢◌, ◌≤◌, ◌<◌, ◌-◌, ◌^◌, length, vec_len, IfOk, IfErr};
+ghost use Rattle.std.specs.Prelude.{◌≡◌, ◌≢◌, ◌≤◌};
 ghost use Rattle.box_io.specs.Outside.{Rose};
-ghost use Rattle.image_tool.specs.Ends.{outside, Later, Caused, Untouched};
-ghost use Rattle.image_tool.specs.Stages.{IsNoFault};
+ghost use Rattle.tool_spec.specs.Commands.{plan_of};
+ghost use Rattle.tool_spec.specs.Answers.{outside, Later};
+ghost use Rattle.tool_frame.specs.Words.{texts};
+ghost use Rattle.tool_frame.specs.Ended.{Caused, KeptAt};
+ghost use Rattle.image_tool.specs.Built.{WholeEnds, WholeAnswers};
 
-use crate::lines::finish;
-use crate::machine::first_unknown;
-use crate::stages::{load, play, read_script, save};
-use crate::stop::Stop;
-use crate::words::read_plan;
-use box_io::{Bytes, Failed, Sink, Source, Store};
-use box_script::{Lines, ParseFault, parse};
+use crate::commands::{Built, as_built, blank, run_script, show_layout};
+use box_io::{Sink, Source, Store};
 use std::alloc::Global;
-
-// The lines of a script.
-fn lines_of(alloc: Global, script: &[u8]) -> Result<Lines, Stop>
-    requires { length script.now < 2 ^ 32 }
-    ensures { IfErr result IsNoFault }
-{
-    let lines = match parse(alloc, script) {
-        Ok(lines) => lines,
-        Err(ParseFault::Memory) => return Err(Stop::Memory),
-        Err(ParseFault::BadLine(line)) => return Err(Stop::BadLine(line)),
-    };
-    match first_unknown(lines.as_slice()) {
-        None => Ok(lines),
-        Some(line) => Err(Stop::BadLine(line)),
-    }
-}
+use tool_frame::{Stop, finish, read_plan};
 
 // Does what the words ask for, but for the last line.
 fn do_work<S: Source, M: Store, O: Sink>(
@@ -41,32 +24,20 @@ fn do_work<S: Source, M: Store, O: Sink>(
         (outside (S.left script.new) (S.faults script.new) (M.holds image.new) (M.faults image.new) (O.given out.new) (O.faults out.new)) }
     ensures caused { Caused (outside (S.left script.old) (S.faults script.old) (M.holds image.old) (M.faults image.old) (O.given out.old) (O.faults out.old))
         (outside (S.left script.new) (S.faults script.new) (M.holds image.new) (M.faults image.new) (O.given out.new) (O.faults out.new)) result }
-    ensures untouched { Untouched (outside (S.left script.old) (S.faults script.old) (M.holds image.old) (M.faults image.old) (O.given out.old) (O.faults out.old))
-        (outside (S.left script.new) (S.faults script.new) (M.holds image.new) (M.faults image.new) (O.given out.new) (O.faults out.new)) result }
+    ensures kept { KeptAt (M.holds image.old) (M.holds image.new) result }
+    ensures ended { let before = outside (S.left script.old) (S.faults script.old) (M.holds image.old) (M.faults image.old) (O.given out.old) (O.faults out.old) in
+        let after = outside (S.left script.new) (S.faults script.new) (M.holds image.new) (M.faults image.new) (O.given out.new) (O.faults out.new) in
+        WholeEnds (plan_of (texts words.now)) before after result }
 {
-    let mem = match read_plan(alloc, words) {
-        Ok(mem) => mem,
+    let plan = match read_plan(alloc, words) {
+        Ok(plan) => plan,
         Err(stop) => return Err(stop),
     };
-    let bytes = match load(alloc, image, mem) {
-        Ok(bytes) => bytes,
-        Err(stop) => return Err(stop),
-    };
-    let text = match read_script(alloc, script) {
-        Ok(text) => text,
-        Err(stop) => return Err(stop),
-    };
-    let lines = match lines_of(alloc, &text) {
-        Ok(lines) => lines,
-        Err(stop) => return Err(stop),
-    };
-    let machine = match play(alloc, Bytes::from_vec(bytes), lines.as_slice(), out) {
-        Ok(machine) => machine,
-        Err(stop) => return Err(stop),
-    };
-    match save(image, machine.image()) {
-        Ok(()) => Ok(()),
-        Err(Failed) => Err(Stop::ImageFault),
+    match as_built(plan.command) {
+        Some(Built::Run) => run_script(alloc, &plan.layout, script, image, out),
+        Some(Built::Layout) => show_layout(alloc, &plan.layout, out),
+        Some(Built::Blank) => blank(image, plan.layout.mem()),
+        None => Err(Stop::Usage),
     }
 }
 
@@ -88,6 +59,9 @@ pub fn run<S: Source, M: Store, O: Sink>(
     ensures image_fault { result ≡ 6 → Rose (M.faults image.old) (M.faults image.new) }
     ensures sink_fault { result ≡ 7 → Rose (O.faults out.old) (O.faults out.new) }
     ensures untouched { result ≢ 0 → result ≢ 6 → result ≢ 7 → M.holds image.new ≡ M.holds image.old }
+    ensures answers { let before = outside (S.left script.old) (S.faults script.old) (M.holds image.old) (M.faults image.old) (O.given out.old) (O.faults out.old) in
+        let after = outside (S.left script.new) (S.faults script.new) (M.holds image.new) (M.faults image.new) (O.given out.new) (O.faults out.new) in
+        WholeAnswers (plan_of (texts words.now)) before after result }
 {
     let end = do_work(alloc, words, script, image, out);
     finish(end, out)

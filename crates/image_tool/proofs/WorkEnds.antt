@@ -1,0 +1,55 @@
+-- How the work of each command ends
+use Rattle.std.proofs.Common.{◌≡◌, ℕ, [], ◌∷◌, Result, Ok, Err, replicate}
+use Rattle.tool_spec.specs.Ends.{End}
+use Rattle.tool_spec.specs.Texts.{layout_text}
+use Rattle.tool_spec.specs.Commands.{Command, RunScript, ShowLayout, BlankImage, Plan, mem_of, shows, leaves}
+use Rattle.tool_spec.specs.Answers.{Outside, NoScript, NoImage}
+use Rattle.tool_spec.specs.declared.Stop.{Stop}
+use Rattle.tool_spec.specs.declared.Stop.TheVariants.{Memory, Usage, Param, Layout, Short, ScriptFault, ImageFault, SinkFault, TooLong, BadLine, Refused}
+use Rattle.tool_frame.specs.Ends.{Finished}
+use Rattle.tool_frame.specs.Words.{PlanStop, IsNoFault}
+use Rattle.tool_frame.specs.Ended.{EndedAt, CausedAt, PlanEnds, Nothing}
+use Rattle.tool_frame.proofs.Tool.{plan_stopped, tool_answers}
+use Rattle.image_tool.specs.Built.{IsWhole, WholeEnds, WholeAnswers}
+
+-- a stop that no fault of the outside makes has its cause
+pub no_fault_caused : (s : Stop) (f g h : ℕ) → IsNoFault s → CausedAt f f g g h h (Err s)
+no_fault_caused Memory f g h n = tt
+no_fault_caused Usage f g h n = tt
+no_fault_caused (Param x y) f g h n = tt
+no_fault_caused (Layout x) f g h n = tt
+no_fault_caused (Short x y) f g h n = tt
+no_fault_caused ScriptFault f g h n = absurd n
+no_fault_caused ImageFault f g h n = absurd n
+no_fault_caused SinkFault f g h n = absurd n
+no_fault_caused TooLong f g h n = tt
+no_fault_caused (BadLine x) f g h n = tt
+no_fault_caused (Refused x y) f g h n = tt
+
+-- words of which no plan was read
+pub read_stopped : (r : Result Plan Stop) (s : Stop) (a b : Outside) → PlanStop s r → Nothing a b → WholeEnds r a b (Err s)
+read_stopped (Ok plan) s a b h n = λ whole. plan_stopped (Ok plan) s a b h n
+read_stopped (Err f) s a b h n = plan_stopped (Err f) s a b h n
+
+-- a command whose work was done, and one of which nothing is said
+pub read_done : (r : Result Plan Stop) (plan : Plan) (e : End) (a b : Outside) → r ≡ Ok plan → PlanEnds plan.command plan a b e → WholeEnds r a b e
+read_done r plan e a b h k = rw h (λ whole. k)
+
+pub read_other : (r : Result Plan Stop) (plan : Plan) (e : End) (a b : Outside) → r ≡ Ok plan → (IsWhole plan.command → ⊥) → WholeEnds r a b e
+read_other r plan e a b h k = rw h (λ whole. absurd (k whole))
+
+pub run_is_other : (c : Command) → c ≡ RunScript → IsWhole c → ⊥
+run_is_other c is = rw is (λ whole. whole)
+
+-- the layout was shown
+pub layout_shown : (plan : Plan) (e : End) (a b : Outside) → plan.command ≡ ShowLayout → NoScript a b → NoImage a b → EndedAt (shows (layout_text plan.params plan.zones ∷ [])) a.given b.given a.holds a.holds e → PlanEnds plan.command plan a b e
+layout_shown plan e a b is script image ended = rw is (record { whole = rw image.holds ended; script = script; image = image })
+
+-- a blank image was written
+pub blank_left : (plan : Plan) (mem : ℕ) (e : End) (a b : Outside) → mem ≡ mem_of plan → plan.command ≡ BlankImage → NoScript a b → b.given ≡ a.given → EndedAt (leaves (replicate mem 0)) a.given a.given a.holds b.holds e → PlanEnds plan.command plan a b e
+blank_left plan mem e a b same is script given ended = rw is (record { whole = rw (given, ← same) ended; script = script })
+
+-- and what is answered
+pub whole_answers : (r : Result Plan Stop) (a m b : Outside) (e : End) (status : ℕ) → NoScript m b → NoImage m b → WholeEnds r a m e → Finished e m.given b.given m.sink_faults b.sink_faults status → WholeAnswers r a b status
+whole_answers (Ok plan) a m b e status script image h f = λ whole. tool_answers (Ok plan) a m b e status script image (h whole) f
+whole_answers (Err s) a m b e status script image h f = tool_answers (Err s) a m b e status script image h f

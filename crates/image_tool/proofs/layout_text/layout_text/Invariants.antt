@@ -1,0 +1,9 @@
+use Rattle.std.proofs.Common.{◌≡◌, ◌++◌, drop, flat_map}
+use Rattle.tool_spec.specs.Texts.{layout_line, layout_text}
+use Rattle.zone_params.specs.Laid.{params_of, zones_of}
+use Rattle.image_tool.proofs.layout_text.layout_text.Given as goal
+
+-- the text so far, and then the lines of the zones that are left
+abbrev pub invariant-loop-zone : goal.invariant-loop-zone
+invariant-loop-zone l =
+    l.text.items ++ flat_map (λ z. layout_line l.uniform z) (drop l.zone-index (zones_of l.layout)) ≡ layout_text (params_of l.layout) (zones_of l.layout)

@@ -1,0 +1,4 @@
+pub mod Answers
+pub mod Sessions
+pub mod Records
+pub mod Playing

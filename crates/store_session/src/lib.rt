@@ -1,0 +1,20 @@
+//! A script's session on the store: calls made by their stores, and lines of a script as they are done.
+#![tactic(auto)]
+
+mod calls;
+mod lines;
+mod live_lines;
+mod machine;
+mod off_lines;
+mod playing;
+mod record_lines;
+mod state_lines;
+
+pub use calls::{begin, finish, make, step};
+pub use lines::do_line;
+pub use machine::{LineError, Machine};
+pub use playing::play;
+pub use record_lines::content_of;
+
+#[cfg(test)]
+mod tests;

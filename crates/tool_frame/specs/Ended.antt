@@ -1,0 +1,112 @@
+-- How the work of a run ends, before its last line
+use Rattle.std.specs.Prelude.{◌≡◌, ◌⊎◌, ⊤, ℕ, ◌≤◌, ◌<◌, List, [], length, Option, Result, Ok, Err, IsOk}
+use Rattle.std.specs.Io.KnownBytes.{Appends}
+use Rattle.box_io.specs.Outside.{Rose, AppendsFront}
+use Rattle.box_script.specs.Fields.{Text}
+use Rattle.box_script.specs.Lines.{script_of}
+use Rattle.tool_spec.specs.Ends.{End}
+use Rattle.tool_spec.specs.Commands.{Command, RunScript, ListRecords, ExtractRecord, EraseRecord, ShowLayout, BlankImage, MakeImage, Plan, Wanted, wanted, mem_of, script_limit}
+use Rattle.tool_spec.specs.Answers.{Outside, IfHolds, IfLeft, IfTold, NoScript, NoImage, front, whole, WritesAll, WritesSome}
+use Rattle.tool_spec.specs.declared.Stop.{Stop}
+use Rattle.tool_spec.specs.declared.Stop.TheVariants.{Memory, Short, ScriptFault, ImageFault, SinkFault, TooLong, BadLine}
+
+-- some first texts were put
+pub record PutTexts (texts : List Text) (old new : Option (List ℕ)) : Type 0 where
+  pub count : ℕ
+  pub bytes : Appends old new (front texts count)
+
+-- a front of some first texts was put
+pub record PutSome (texts : List Text) (old new : Option (List ℕ)) : Type 0 where
+  pub count : ℕ
+  pub bytes : AppendsFront old new (front texts count)
+
+-- the output and the image after the work of a command that wants this
+abbrev pub EndedAt : Wanted → Option (List ℕ) → Option (List ℕ) → Option (List ℕ) → Option (List ℕ) → End → Type 0
+EndedAt w given given' holds holds' (Ok u) = (w.end ≡ Ok tt) × Appends given given' (whole w.texts) × WritesAll w.writes holds holds'
+EndedAt w given given' holds holds' (Err Memory) = PutTexts w.texts given given' × (holds' ≡ holds)
+EndedAt w given given' holds holds' (Err ScriptFault) = (given' ≡ given) × (holds' ≡ holds)
+EndedAt w given given' holds holds' (Err ImageFault) =
+    ((given' ≡ given) × (holds' ≡ holds)) ⊎ ((w.end ≡ Ok tt) × Appends given given' (whole w.texts) × WritesSome w.writes holds holds')
+EndedAt w given given' holds holds' (Err SinkFault) = PutSome w.texts given given' × (holds' ≡ holds)
+EndedAt w given given' holds holds' (Err s) = (w.end ≡ Err s) × Appends given given' (whole w.texts) × (holds' ≡ holds)
+
+abbrev pub Ended : Wanted → Outside → Outside → End → Type 0
+Ended w a b e = EndedAt w a.given b.given a.holds b.holds e
+
+-- a fault is told only where its count rose: of the source, of the store, of the sink
+abbrev pub CausedAt : ℕ → ℕ → ℕ → ℕ → ℕ → ℕ → End → Type 0
+CausedAt f f' g g' h h' (Err ScriptFault) = Rose f f'
+CausedAt f f' g g' h h' (Err ImageFault) = Rose g g'
+CausedAt f f' g g' h h' (Err SinkFault) = Rose h h'
+CausedAt f f' g g' h h' e = ⊤
+
+abbrev pub Caused : Outside → Outside → End → Type 0
+Caused a b e = CausedAt a.source_faults b.source_faults a.store_faults b.store_faults a.sink_faults b.sink_faults e
+
+-- the image stays, but where all was done or writing it failed
+abbrev pub KeptAt : Option (List ℕ) → Option (List ℕ) → End → Type 0
+KeptAt holds holds' (Ok u) = ⊤
+KeptAt holds holds' (Err ImageFault) = ⊤
+KeptAt holds holds' (Err s) = holds' ≡ holds
+
+-- an image of this size: too short, or long enough for what comes behind its reading
+abbrev pub ShortAt : ℕ → ℕ → End → Type 0
+ShortAt mem size (Err Memory) = ⊤
+ShortAt mem size (Err ImageFault) = ⊤
+ShortAt mem size (Err (Short has needed)) = size < mem
+ShortAt mem size e = mem ≤ size
+
+-- a script: too long, bad in a line, or good for what comes behind its reading
+abbrev pub ScriptAt : List ℕ → Option (List ℕ) → Option (List ℕ) → End → Type 0
+ScriptAt script given given' (Err Memory) = ⊤
+ScriptAt script given given' (Err (Short has needed)) = ⊤
+ScriptAt script given given' (Err ScriptFault) = ⊤
+ScriptAt script given given' (Err ImageFault) = ⊤
+ScriptAt script given given' (Err SinkFault) = ⊤
+ScriptAt script given given' (Err TooLong) = (script_limit < length script) × (given' ≡ given)
+ScriptAt script given given' (Err (BadLine n)) = (length script ≤ script_limit) × (script_of script ≡ Err n) × (given' ≡ given)
+ScriptAt script given given' e = (length script ≤ script_limit) × IsOk (script_of script)
+
+-- how each command's work ends, as far as the outside tells what it uses
+pub record RunEnds (plan : Plan) (a b : Outside) (e : End) : Type 0 where
+  pub whole : IfTold a (λ bytes script. Ended (wanted plan bytes script) a b e)
+  pub image : IfHolds a (λ bytes. ShortAt (mem_of plan) (length bytes) e)
+  pub script : IfLeft a (λ script. ScriptAt script a.given b.given e)
+
+pub record ImageEnds (plan : Plan) (a b : Outside) (e : End) : Type 0 where
+  pub whole : IfHolds a (λ bytes. Ended (wanted plan bytes []) a b e)
+  pub script : NoScript a b
+
+pub record ReadEnds (plan : Plan) (a b : Outside) (e : End) : Type 0 where
+  pub whole : IfHolds a (λ bytes. Ended (wanted plan bytes []) a b e)
+  pub script : NoScript a b
+  pub image : b.holds ≡ a.holds
+
+pub record MakeEnds (plan : Plan) (a b : Outside) (e : End) : Type 0 where
+  pub whole : Ended (wanted plan [] []) a b e
+  pub script : NoScript a b
+
+pub record ShowEnds (plan : Plan) (a b : Outside) (e : End) : Type 0 where
+  pub whole : Ended (wanted plan [] []) a b e
+  pub script : NoScript a b
+  pub image : NoImage a b
+
+abbrev pub PlanEnds : Command → Plan → Outside → Outside → End → Type 0
+PlanEnds RunScript plan a b e = RunEnds plan a b e
+PlanEnds ListRecords plan a b e = ReadEnds plan a b e
+PlanEnds (ExtractRecord name) plan a b e = ReadEnds plan a b e
+PlanEnds (EraseRecord name) plan a b e = ImageEnds plan a b e
+PlanEnds ShowLayout plan a b e = ShowEnds plan a b e
+PlanEnds BlankImage plan a b e = MakeEnds plan a b e
+PlanEnds (MakeImage n) plan a b e = MakeEnds plan a b e
+
+-- nothing was touched or put
+pub record Nothing (a b : Outside) : Type 0 where
+  pub script : NoScript a b
+  pub image : NoImage a b
+  pub given : b.given ≡ a.given
+
+-- the work of a plan, or of none
+abbrev pub WorkEnds : Result Plan Stop → Outside → Outside → End → Type 0
+WorkEnds (Ok plan) a b e = PlanEnds plan.command plan a b e
+WorkEnds (Err s) a b e = (e ≡ Err s) × Nothing a b

@@ -1,0 +1,5 @@
+pub mod Words
+pub mod Ends
+pub mod Stages
+pub mod Ended
+pub mod Playing

@@ -1,0 +1,32 @@
+-- Doing the lines of a script
+use Rattle.std.specs.Prelude.{◌≡◌, ℕ, List, length, take, Option, None, Err}
+use Rattle.std.specs.Io.KnownBytes.{Appends}
+use Rattle.box_io.specs.Outside.{Rose}
+use Rattle.zone_spec.specs.declared.Zone.{Zone}
+use Rattle.session_spec.specs.States.{Session}
+use Rattle.box_script.specs.declared.line.Line.{Line}
+use Rattle.tool_spec.specs.Scripts.{ran}
+use Rattle.tool_spec.specs.Commands.{script_end}
+use Rattle.tool_spec.specs.Answers.{whole}
+use Rattle.tool_frame.specs.Ended.{PutTexts, PutSome}
+use Rattle.tool_spec.specs.declared.Stop.{Stop}
+use Rattle.tool_spec.specs.declared.Stop.TheVariants.{Memory, SinkFault, Refused}
+
+-- a script whose lines were all done
+pub record Played (layout : List Zone) (image : List ℕ) (lines : List Line) (session : Session) (old new : Option (List ℕ)) : Type 0 where
+  pub state : (ran layout image lines).session ≡ session
+  pub none : (ran layout image lines).refused ≡ None
+  pub texts : Appends old new (whole (ran layout image lines).texts)
+
+-- the first i lines of a script were done
+pub record PlayedTo (layout : List Zone) (image : List ℕ) (lines : List Line) (i : ℕ) (session : Session) (old new : Option (List ℕ)) : Type 0 where
+  pub count : length (ran layout image (take i lines)).texts ≡ i
+  pub so_far : Played layout image (take i lines) session old new
+
+-- why the lines of a script stop: the texts of the lines before were put, or some front of them and the next
+abbrev pub PlayStop : Stop → List Zone → List ℕ → List Line → Option (List ℕ) → Option (List ℕ) → ℕ → ℕ → Type 0
+PlayStop Memory layout image lines old new before now = PutTexts (ran layout image lines).texts old new
+PlayStop SinkFault layout image lines old new before now = Rose before now × PutSome (ran layout image lines).texts old new
+PlayStop (Refused n cause) layout image lines old new before now =
+    (script_end (length (ran layout image lines).texts) (ran layout image lines).refused ≡ Err (Refused n cause)) × Appends old new (whole (ran layout image lines).texts)
+PlayStop s layout image lines old new before now = ⊥

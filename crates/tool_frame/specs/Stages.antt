@@ -1,0 +1,27 @@
+-- Why a stage of a run stops
+use Rattle.std.specs.Prelude.{◌≡◌, ℕ, ◌<◌, List, length, ⊤, Option, IfSome, Result, Err}
+use Rattle.box_io.specs.Outside.{Rose}
+use Rattle.box_script.specs.declared.line.Line.{Line}
+use Rattle.tool_spec.specs.Commands.{script_limit}
+use Rattle.tool_spec.specs.declared.Stop.{Stop}
+use Rattle.tool_spec.specs.declared.Stop.TheVariants.{Memory, ScriptFault, ImageFault, TooLong, Short, BadLine}
+
+-- reading a script
+abbrev pub ScriptStop : Stop → Option (List ℕ) → ℕ → ℕ → Type 0
+ScriptStop Memory left before now = ⊤
+ScriptStop ScriptFault left before now = Rose before now
+ScriptStop TooLong left before now = IfSome left (λ bs. script_limit < length bs)
+ScriptStop s left before now = ⊥
+
+-- reading an image of this size
+abbrev pub LoadStop : Stop → ℕ → Option (List ℕ) → ℕ → ℕ → Type 0
+LoadStop Memory mem holds before now = ⊤
+LoadStop ImageFault mem holds before now = Rose before now
+LoadStop (Short has needed) mem holds before now = (needed ≡ mem) × (has < mem) × IfSome holds (λ bs. has ≡ length bs)
+LoadStop s mem holds before now = ⊥
+
+-- reading the lines of a script
+abbrev pub ParseStop : Stop → Result (List Line) ℕ → Type 0
+ParseStop Memory read = ⊤
+ParseStop (BadLine n) read = read ≡ Err n
+ParseStop s read = ⊥

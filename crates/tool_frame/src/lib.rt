@@ -1,0 +1,11 @@
+//! The frame of a run of the image tool: its words, what it reads and writes, and its last line.
+#![tactic(auto)]
+
+mod ending;
+mod stages;
+mod words;
+
+pub use ending::finish;
+pub use stages::{fill, lines, load, read_script, save};
+pub use tool_spec::{Cause, Stop};
+pub use words::{Command, Plan, read_plan};

@@ -1,0 +1,134 @@
+// The stages of a run that meet the outside.
+ghost use Rattle.std.specs.Prelude.{◌≡◌, replicate, ℕ, ◌+◌, ◌-◌, ◌<◌, ◌≤◌, ◌^◌, List, [], ◌++◌, length, take, vec_len, None, Ok, IfOk, IfErr, OnOk, IfSome, MatchResult, MatchOption};
+ghost use Rattle.std.specs.Io.KnownBytes.{IsAtEnd, Appends};
+ghost use Rattle.box_io.specs.Outside.{HasCause, Writes, WritesFront};
+ghost use Rattle.box_script.specs.Lines.{script_of};
+ghost use Rattle.box_script.specs.Printed.{AllHaveFields};
+ghost use Rattle.tool_spec.specs.Commands.{script_limit};
+ghost use Rattle.tool_frame.specs.Stages.{ScriptStop, LoadStop, ParseStop};
+
+use crate::Stop;
+use box_io::{Failed, Sink, Source, Store};
+use box_script::{Lines, ParseFault, parse};
+use std::alloc::Global;
+
+const SCRIPT_LIMIT: usize = 4_194_304;
+
+const PIECE: usize = 65_536;
+
+/// Reads a script to its end.
+#[tactic(auto, using(crate::proofs::Consumed::consumed))]
+pub fn read_script<S: Source>(alloc: Global, script: &mut S) -> Result<Vec<u8>, Stop>
+    ensures ok { IfOk result (λ v. (vec_len v ≤ script_limit) × IfSome (S.left script.old) (λ bs. v.items ≡ bs)) }
+    ensures end { OnOk result (IsAtEnd (S.left script.new)) }
+    ensures err { IfErr result (λ s. ScriptStop s (S.left script.old) (S.faults script.old) (S.faults script.new)) }
+    ensures later { S.faults script.old ≤ S.faults script.new }
+{
+    let mut bytes = Vec::new(alloc);
+    let mut piece = [0u8; 4096];
+    'pieces: loop {
+        let count = match script.take(&mut piece) {
+            Ok(count) => count,
+            Err(Failed) => return Err(Stop::ScriptFault),
+        };
+        if count == 0 {
+            return Ok(bytes);
+        }
+        if count > SCRIPT_LIMIT - bytes.len() {
+            return Err(Stop::TooLong);
+        }
+        bytes.extend_from_slice(&piece[..count])?;
+    }
+}
+
+// Reads the first `mem` bytes in rising pieces.
+#[tactic(auto, using(crate::proofs::Pieces::piece_read))]
+fn read_pieces<M: Store>(alloc: Global, image: &mut M, mem: u32) -> Result<Vec<u8>, Stop>
+    requires { IfSome (M.holds image.old) (λ bs. mem ≤ length bs) }
+    ensures ok { IfOk result (λ v. (vec_len v ≡ mem) × IfSome (M.holds image.old) (λ bs. v.items ≡ take mem bs)) }
+    ensures err { IfErr result (λ s. LoadStop s mem (M.holds image.old) (M.faults image.old) (M.faults image.new)) }
+    ensures same { M.holds image.new ≡ M.holds image.old }
+    ensures later { M.faults image.old ≤ M.faults image.new }
+{
+    let size = mem as usize;
+    let mut bytes = Vec::new(alloc);
+    let mut piece = [0u8; PIECE];
+    'pieces: while bytes.len() < size {
+        let at = bytes.len();
+        let count = PIECE.min(size - at);
+        match image.read_at(at as u64, &mut piece[..count]) {
+            Ok(()) => (),
+            Err(Failed) => return Err(Stop::ImageFault),
+        }
+        bytes.extend_from_slice(&piece[..count])?;
+    }
+    Ok(bytes)
+}
+
+/// Reads an image of `mem` bytes from the front of a store.
+pub fn load<M: Store>(alloc: Global, image: &mut M, mem: u32) -> Result<Vec<u8>, Stop>
+    ensures ok { IfOk result (λ v. (vec_len v ≡ mem) × IfSome (M.holds image.old) (λ bs. (mem ≤ length bs) × (v.items ≡ take mem bs))) }
+    ensures err { IfErr result (λ s. LoadStop s mem (M.holds image.old) (M.faults image.old) (M.faults image.new)) }
+    ensures same { M.holds image.new ≡ M.holds image.old }
+    ensures later { M.faults image.old ≤ M.faults image.new }
+{
+    let has = match image.size() {
+        Ok(has) => has,
+        Err(Failed) => return Err(Stop::ImageFault),
+    };
+    if has < u64::from(mem) {
+        return Err(Stop::Short { has, needed: mem });
+    }
+    read_pieces(alloc, image, mem)
+}
+
+/// Writes an image to the front of a store in rising pieces.
+#[tactic(auto, using(crate::proofs::Pieces::written_reach, crate::proofs::Pieces::written_short, crate::proofs::Pieces::written_none, crate::proofs::Pieces::written_next))]
+pub fn save<M: Store>(image: &mut M, bytes: &[u8]) -> Result<(), Failed>
+    ensures bytes { MatchResult result (λ _. Writes (M.holds image.old) (M.holds image.new) 0 bytes.now)
+        (λ _. WritesFront (M.holds image.old) (M.holds image.new) 0 bytes.now) }
+    ensures cause { HasCause (M.faults image.old) (M.faults image.new) result }
+{
+    let mut at = 0;
+    'pieces: while at < bytes.len() {
+        let count = PIECE.min(bytes.len() - at);
+        match image.write_at(at as u64, &bytes[at..at + count]) {
+            Ok(()) => at += count,
+            Err(Failed) => return Err(Failed),
+        }
+    }
+    Ok(())
+}
+
+/// The lines of a script.
+pub fn lines(alloc: Global, script: &[u8]) -> Result<Lines, Stop>
+    requires { length script.now < 2 ^ 32 }
+    ensures read { MatchResult result (λ lines. script_of script.now ≡ Ok lines) (λ stop. ParseStop stop (script_of script.now)) }
+    ensures fields { IfOk result AllHaveFields }
+{
+    match parse(alloc, script) {
+        Ok(lines) => Ok(lines),
+        Err(ParseFault::Memory) => Err(Stop::Memory),
+        Err(ParseFault::BadLine(line)) => Err(Stop::BadLine(line)),
+    }
+}
+
+/// Writes so many zeros to the front of a store in rising pieces.
+#[tactic(auto, using(crate::proofs::Pieces::written_reach, crate::proofs::Pieces::written_none, crate::proofs::Pieces::zeros_short, crate::proofs::Pieces::zeros_next))]
+pub fn fill<M: Store>(image: &mut M, mem: u32) -> Result<(), Failed>
+    ensures bytes { MatchResult result (λ _. Writes (M.holds image.old) (M.holds image.new) 0 (replicate mem 0))
+        (λ _. WritesFront (M.holds image.old) (M.holds image.new) 0 (replicate mem 0)) }
+    ensures cause { HasCause (M.faults image.old) (M.faults image.new) result }
+{
+    let size = mem as usize;
+    let zeros = [0u8; PIECE];
+    let mut at = 0;
+    'pieces: while at < size {
+        let count = PIECE.min(size - at);
+        match image.write_at(at as u64, &zeros[..count]) {
+            Ok(()) => at += count,
+            Err(Failed) => return Err(Failed),
+        }
+    }
+    Ok(())
+}

@@ -1,0 +1,148 @@
+// The words of the command line.
+ghost use Rattle.std.specs.Prelude.{◌≡◌, [], ◌∷◌, MatchResult, MatchOption, None, Some, Ok, IfErr};
+ghost use Rattle.tool_spec.specs.Commands.{asked, asked_by, with_name, with_number, plan_of, ExtractRecord, EraseRecord};
+ghost use Rattle.tool_frame.specs.Words.{asked_seen, plan_seen, command_seen, texts, PlanStop, IsNoFault};
+
+use crate::Stop;
+use std::alloc::Global;
+use zone_params::types::Layout;
+use zone_params::{LayoutError, layout, read_words};
+
+/// What the tool is asked to do.
+#[derive(Clone, Copy, Debug, PartialEq, Eq)]
+pub enum Command<'a> {
+    /// A script on an image.
+    Run,
+    List,
+    /// The content of the record of this name.
+    Extract(&'a str),
+    /// The erasure of the record of this name.
+    Erase(&'a str),
+    Layout,
+    Blank,
+    /// The generated session of this number.
+    Make(u32),
+}
+
+/// A command, how many words stand before its parameters, and these.
+#[derive(Clone, Copy)]
+struct Asked<'a> {
+    command: Command<'a>,
+    before: u32,
+    params: &'a [String],
+}
+
+/// What the words ask for.
+#[derive(Drop)]
+pub struct Plan<'a> {
+    pub command: Command<'a>,
+    pub layout: Layout,
+}
+
+// A command that only parameters follow.
+fn plain<'a>(command: Command<'a>, params: &'a [String]) -> Asked<'a>
+    ensures { asked_seen result ≡ record { command = command_seen command.entry; before = 2; params = texts params.now } }
+{
+    Asked {
+        command,
+        before: 2,
+        params,
+    }
+}
+
+// The name behind a command, and the parameters behind it.
+fn split_name(words: &[String]) -> Option<(&str, &[String])>
+    ensures { MatchOption result (texts words.now ≡ []) (λ parts. texts words.now ≡ parts.0.now ∷ texts parts.1.now) }
+{
+    match words {
+        [name, params @ ..] => Some((name.as_str(), params)),
+        [] => None,
+    }
+}
+
+fn extract(words: &[String]) -> Option<Asked<'_>>
+    ensures { MatchOption result (with_name ExtractRecord (texts words.now) ≡ None) (λ a. with_name ExtractRecord (texts words.now) ≡ Some (asked_seen a)) }
+{
+    let (name, params) = split_name(words)?;
+    Some(Asked {
+        command: Command::Extract(name),
+        before: 3,
+        params,
+    })
+}
+
+fn erase(words: &[String]) -> Option<Asked<'_>>
+    ensures { MatchOption result (with_name EraseRecord (texts words.now) ≡ None) (λ a. with_name EraseRecord (texts words.now) ≡ Some (asked_seen a)) }
+{
+    let (name, params) = split_name(words)?;
+    Some(Asked {
+        command: Command::Erase(name),
+        before: 3,
+        params,
+    })
+}
+
+fn make(words: &[String]) -> Option<Asked<'_>>
+    ensures { MatchOption result (with_number (texts words.now) ≡ None) (λ a. with_number (texts words.now) ≡ Some (asked_seen a)) }
+{
+    let (number, params) = split_name(words)?;
+    let number = box_script::number(number.as_bytes())?;
+    Some(Asked {
+        command: Command::Make(number),
+        before: 3,
+        params,
+    })
+}
+
+// The command that a word names, with the words behind it.
+fn asked_by<'a>(word: &str, words: &'a [String]) -> Option<Asked<'a>>
+    ensures { MatchOption result (asked_by word.now (texts words.now) ≡ None) (λ a. asked_by word.now (texts words.now) ≡ Some (asked_seen a)) }
+{
+    match word {
+        "run" => Some(plain(Command::Run, words)),
+        "list" => Some(plain(Command::List, words)),
+        "extract" => extract(words),
+        "erase" => erase(words),
+        "layout" => Some(plain(Command::Layout, words)),
+        "blank" => Some(plain(Command::Blank, words)),
+        "make" => make(words),
+        _ => None,
+    }
+}
+
+fn read_command(words: &[String]) -> Option<Asked<'_>>
+    ensures { MatchOption result (asked (texts words.now) ≡ None) (λ a. asked (texts words.now) ≡ Some (asked_seen a)) }
+{
+    match words {
+        [_, word, rest @ ..] => asked_by(word.as_str(), rest),
+        _ => None,
+    }
+}
+
+/// What the words ask for: a command and the layout of its parameters. Want of memory comes only where they have no
+/// fault.
+pub fn read_plan(alloc: Global, words: &[String]) -> Result<Plan<'_>, Stop>
+    ensures plan { MatchResult result (λ plan. plan_of (texts words.now) ≡ Ok (plan_seen plan)) (λ stop. PlanStop stop (plan_of (texts words.now))) }
+    ensures stops { IfErr result IsNoFault }
+{
+    let Some(asked) = read_command(words) else {
+        return Err(Stop::Usage);
+    };
+    let params = match read_words(asked.params) {
+        Ok(params) => params,
+        Err(fault) => {
+            return Err(Stop::Param {
+                fault,
+                before: asked.before,
+            });
+        }
+    };
+    match layout(alloc, &params) {
+        Ok(layout) => Ok(Plan {
+            command: asked.command,
+            layout,
+        }),
+        Err(LayoutError::Fault(fault)) => Err(Stop::Layout(fault)),
+        Err(LayoutError::Memory) => Err(Stop::Memory),
+    }
+}

@@ -1,0 +1,5 @@
+use Rattle.tool_laws.proofs.Steps.{finish_is_steps as law}
+use Rattle.tool_laws.proofs.finish_is_steps.Goals as goal
+
+pub returns : goal.returns
+returns c = law

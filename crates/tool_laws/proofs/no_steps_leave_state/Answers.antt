@@ -1,0 +1,5 @@
+use Rattle.tool_laws.proofs.Steps.{no_steps_leave_state as law}
+use Rattle.tool_laws.proofs.no_steps_leave_state.Goals as goal
+
+pub returns : goal.returns
+returns c = law

@@ -1,0 +1,5 @@
+use Rattle.tool_laws.proofs.Steps.{steps_add_up as law}
+use Rattle.tool_laws.proofs.steps_add_up.Goals as goal
+
+pub returns : goal.returns
+returns c = law

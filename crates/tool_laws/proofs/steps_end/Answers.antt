@@ -1,0 +1,5 @@
+use Rattle.tool_laws.proofs.Steps.{steps_end as law}
+use Rattle.tool_laws.proofs.steps_end.Goals as goal
+
+pub returns : goal.returns
+returns c = law

@@ -1,0 +1,20 @@
+-- What holds of every script
+use Rattle.std.specs.Prelude.{◌≡◌, ℕ, List, length, take}
+use Rattle.zone_spec.specs.declared.Zone.{Zone}
+use Rattle.zone_spec.specs.Parts.{AreBytes}
+use Rattle.zone_spec.specs.Layouts.{IsLayout}
+use Rattle.session_spec.specs.Sound.{IsState}
+use Rattle.box_script.specs.declared.line.Line.{Line}
+use Rattle.box_script.specs.Printed.{AllHaveFields}
+use Rattle.tool_spec.specs.Scripts.{ran}
+use Rattle.tool_spec.specs.Headline.{ScriptReadsLastWritten}
+
+-- every state of a script is sound
+abbrev pub ScriptStatesAreSound : Type 0
+ScriptStatesAreSound = (layout : List Zone) (mem : ℕ) (image : List ℕ) (lines : List Line) → IsLayout layout mem → length image ≡ mem → AreBytes image → AllHaveFields lines
+    → (k : ℕ) → IsState layout mem (ran layout image (take k lines)).session
+
+-- and the headline holds at each of its boots
+abbrev pub ScriptsReadLastWritten : Type 0
+ScriptsReadLastWritten = (layout : List Zone) (mem : ℕ) (image : List ℕ) (lines : List Line) → IsLayout layout mem → length image ≡ mem → AreBytes image → AllHaveFields lines
+    → ScriptReadsLastWritten layout image lines

@@ -1,0 +1,46 @@
+//! The laws of scripts. Each law is a function whose contract it is.
+#![tactic(auto)]
+
+ghost use Rattle.tool_laws.specs.Steps.{StepsAddUp, StepsEnd, CallsKeepLogs, NoStepsLeaveState, FinishIsSteps, MakeIsBeginAndSteps};
+ghost use Rattle.tool_laws.specs.Scripts.{ScriptStatesAreSound, ScriptsReadLastWritten};
+
+/// Every state that a script leads to is sound.
+pub fn script_states_are_sound()
+    ensures { ScriptStatesAreSound }
+{}
+
+/// At each boot of a script each idle zone within bounds reads the last bytes written since its erasure that fit, and in a
+/// zone whose call a stop cut only touched blocks and the header, both reported, make a difference.
+pub fn scripts_read_last_written()
+    ensures { ScriptsReadLastWritten }
+{}
+
+/// Some steps of a flight and then one more are so many and one.
+pub fn steps_add_up()
+    ensures { StepsAddUp }
+{}
+
+/// Where no further step of a flight can be made, further steps change nothing.
+pub fn steps_end()
+    ensures { StepsEnd }
+{}
+
+/// Calls and steps leave the saved logs.
+pub fn calls_keep_logs()
+    ensures { CallsKeepLogs }
+{}
+
+/// No steps of a flight leave a sound state as it is.
+pub fn no_steps_leave_state()
+    ensures { NoStepsLeaveState }
+{}
+
+/// A flight is finished by as many steps as stores are left.
+pub fn finish_is_steps()
+    ensures { FinishIsSteps }
+{}
+
+/// A call is made by its begin and the steps that are left.
+pub fn make_is_begin_and_steps()
+    ensures { MakeIsBeginAndSteps }
+{}

@@ -1,0 +1,186 @@
+-- What a run answers: its status, the text that it put, and what the image then holds
+use Rattle.std.specs.Prelude.{◌≡◌, ◌≢◌, ◌⊎◌, ⊤, ℕ, ◌≤◌, ◌<◌, List, [], ◌++◌, length, take, flat_map, Option, None, Some, Result, Ok, Err}
+use Rattle.std.specs.Io.KnownBytes.{Appends}
+use Rattle.box_io.specs.Outside.{AppendsFront, Writes, WritesFront}
+use Rattle.box_script.specs.Fields.{Text}
+use Rattle.box_script.specs.Lines.{script_of}
+use Rattle.tool_spec.specs.Ends.{End, status_of, last_line}
+use Rattle.tool_spec.specs.Commands.{Command, RunScript, ListRecords, ExtractRecord, EraseRecord, ShowLayout, BlankImage, MakeImage, Plan, Wanted, wanted, mem_of, script_limit}
+use Rattle.tool_spec.specs.declared.Stop.{Stop}
+use Rattle.tool_spec.specs.declared.Stop.TheVariants.{Memory, ScriptFault, ImageFault, SinkFault, TooLong, BadLine}
+
+-- ---- the outside
+
+-- what is left of the script, what the image holds and what the output was given at one moment, each where
+-- it is told, with the counts of faults
+pub record Outside : Type 0 where
+  pub left : Option (List ℕ)
+  pub source_faults : ℕ
+  pub holds : Option (List ℕ)
+  pub store_faults : ℕ
+  pub given : Option (List ℕ)
+  pub sink_faults : ℕ
+
+abbrev pub outside : Option (List ℕ) → ℕ → Option (List ℕ) → ℕ → Option (List ℕ) → ℕ → Outside
+outside left f holds g given h = record { left = left; source_faults = f; holds = holds; store_faults = g; given = given; sink_faults = h }
+
+-- P of the bytes of the image, where they are told
+pub record IfHolds (a : Outside) (P : List ℕ → Type 0) : Type 0 where
+  pub told : (bytes : List ℕ) → a.holds ≡ Some bytes → P bytes
+
+-- P of the bytes of the script, where they are told
+pub record IfLeft (a : Outside) (P : List ℕ → Type 0) : Type 0 where
+  pub told : (script : List ℕ) → a.left ≡ Some script → P script
+
+-- P of both, where both are told
+pub record IfTold (a : Outside) (P : List ℕ → List ℕ → Type 0) : Type 0 where
+  pub told : (bytes script : List ℕ) → a.holds ≡ Some bytes → a.left ≡ Some script → P bytes script
+
+-- the script was not touched
+pub record NoScript (a b : Outside) : Type 0 where
+  pub left : b.left ≡ a.left
+  pub source : b.source_faults ≡ a.source_faults
+
+-- nor was the image
+pub record NoImage (a b : Outside) : Type 0 where
+  pub holds : b.holds ≡ a.holds
+  pub store : b.store_faults ≡ a.store_faults
+
+-- no count of faults falls
+pub record Later (a b : Outside) : Type 0 where
+  pub source : a.source_faults ≤ b.source_faults
+  pub store : a.store_faults ≤ b.store_faults
+  pub sink : a.sink_faults ≤ b.sink_faults
+
+-- ---- text and image
+
+-- the first k texts end to end
+abbrev pub front : List Text → ℕ → Text
+front texts k = flat_map (λ text. text) (take k texts)
+
+-- all of them
+abbrev pub whole : List Text → Text
+whole texts = flat_map (λ text. text) texts
+
+-- some first texts were put, and then a last line
+pub record PutThen (texts : List Text) (old new : Option (List ℕ)) (last : Text) : Type 0 where
+  pub count : ℕ
+  pub bytes : Appends old new (front texts count ++ last)
+
+-- the stops that can come where a command wants something else, and the one that it wants
+abbrev pub CanStop : End → Stop → Type 0
+CanStop end Memory = ⊤
+CanStop end ScriptFault = ⊤
+CanStop end ImageFault = ⊤
+CanStop end SinkFault = ⊤
+CanStop end s = end ≡ Err s
+
+-- a front of some first texts and a last line was put
+pub record PutFront (texts : List Text) (end : End) (old new : Option (List ℕ)) : Type 0 where
+  pub count : ℕ
+  pub last : Stop
+  pub can : CanStop end last
+  pub bytes : AppendsFront old new (front texts count ++ last_line last)
+
+-- all that is wanted was written to the image's front, and else nothing
+abbrev pub WritesAll : Option (List ℕ) → Option (List ℕ) → Option (List ℕ) → Type 0
+WritesAll None old new = new ≡ old
+WritesAll (Some bytes) old new = Writes old new 0 bytes
+
+-- a front of what is wanted was written
+abbrev pub WritesSome : Option (List ℕ) → Option (List ℕ) → Option (List ℕ) → Type 0
+WritesSome None old new = ⊥
+WritesSome (Some bytes) old new = WritesFront old new 0 bytes
+
+-- ---- answers
+
+-- the statuses that come beside a wanted one: want of memory, and a fault of the script, the image, the output
+abbrev pub IsFree : ℕ → Type 0
+IsFree status = (status ≡ 1) ⊎ ((status ≡ 5) ⊎ ((status ≡ 6) ⊎ (status ≡ 7)))
+
+-- the image is as it was, or a front of what is wanted was written to it where all else was done
+abbrev pub UnwrittenOrPart : Wanted → Outside → Outside → Type 0
+UnwrittenOrPart w a b = (b.holds ≡ a.holds) ⊎ ((w.end ≡ Ok tt) × WritesSome w.writes a.holds b.holds)
+
+-- what is answered where a command wants this
+pub record Answers (w : Wanted) (a b : Outside) (status : ℕ) : Type 0 where
+  -- the status that is wanted, but for want of memory and faults
+  pub exact : (status ≡ status_of w.end) ⊎ IsFree status
+  -- all was done: the whole text was put, and what is to be written was
+  pub done : status ≡ 0 → (w.end ≡ Ok tt) × Appends a.given b.given (whole w.texts) × WritesAll w.writes a.holds b.holds
+  -- a refusal: the texts before it, and the last line
+  pub refused : (s : Stop) → w.end ≡ Err s → (IsFree status → ⊥) → Appends a.given b.given (whole w.texts ++ last_line s)
+  -- want of memory and faults: some first texts, and the last line
+  pub memory : status ≡ 1 → PutThen w.texts a.given b.given (last_line Memory)
+  pub script_fault : status ≡ 5 → Appends a.given b.given (last_line ScriptFault)
+  pub image_fault : status ≡ 6 → (Appends a.given b.given (last_line ImageFault) × (b.holds ≡ a.holds))
+      ⊎ ((w.end ≡ Ok tt) × Appends a.given b.given (whole w.texts ++ last_line ImageFault) × WritesSome w.writes a.holds b.holds)
+  pub sink_fault : status ≡ 7 → PutFront w.texts w.end a.given b.given
+  -- the image is untouched, but for a fault in writing it, which also a fault of the last line can follow
+  pub kept : status ≢ 0 → status ≢ 6 → status ≢ 7 → b.holds ≡ a.holds
+  pub unwritten : status ≢ 0 → UnwrittenOrPart w a b
+
+-- where the words, the parameters or the layout are at fault: the status and the last line, and nothing touched
+pub record FaultAnswers (s : Stop) (a b : Outside) (status : ℕ) : Type 0 where
+  pub exact : (status ≡ status_of (Err s)) ⊎ (status ≡ 7)
+  pub shown : status ≢ 7 → Appends a.given b.given (last_line s)
+  pub sink_fault : status ≡ 7 → AppendsFront a.given b.given (last_line s)
+  pub script : NoScript a b
+  pub image : NoImage a b
+
+-- an image of this size that is read: status 4 exactly where it is too short, but for what comes before
+pub record ShortAnswers (mem : ℕ) (bytes : List ℕ) (status : ℕ) : Type 0 where
+  pub short : status ≡ 4 → length bytes < mem
+  pub told : length bytes < mem → (status ≡ 4) ⊎ IsFree status
+
+-- a script that is read: status 8 exactly where it is too long, and 9 exactly where it has a bad line, but
+-- for what comes before
+pub record ScriptAnswers (script : List ℕ) (a b : Outside) (status : ℕ) : Type 0 where
+  pub long : status ≡ 8 → (script_limit < length script) × Appends a.given b.given (last_line TooLong)
+  pub bad : status ≡ 9 → (n : ℕ) × (script_of script ≡ Err n) × Appends a.given b.given (last_line (BadLine n))
+  pub told_long : script_limit < length script → (status ≡ 8) ⊎ (status ≡ 4) ⊎ IsFree status
+  pub told_bad : (n : ℕ) → script_of script ≡ Err n → length script ≤ script_limit → (status ≡ 9) ⊎ (status ≡ 4) ⊎ IsFree status
+
+-- a command reads a script, and what it wants stands on both the image and the script; what may be said
+-- where one of them is not told is said besides
+pub record RunAnswers (plan : Plan) (a b : Outside) (status : ℕ) : Type 0 where
+  pub whole : IfTold a (λ bytes script. Answers (wanted plan bytes script) a b status)
+  pub image : IfHolds a (λ bytes. ShortAnswers (mem_of plan) bytes status)
+  pub script : IfLeft a (λ script. ScriptAnswers script a b status)
+
+-- a command that reads the image and leaves the script
+pub record ImageAnswers (plan : Plan) (a b : Outside) (status : ℕ) : Type 0 where
+  pub whole : IfHolds a (λ bytes. Answers (wanted plan bytes []) a b status)
+  pub script : NoScript a b
+
+-- the same, and it leaves the image as it is
+pub record ReadAnswers (plan : Plan) (a b : Outside) (status : ℕ) : Type 0 where
+  pub whole : IfHolds a (λ bytes. Answers (wanted plan bytes []) a b status)
+  pub script : NoScript a b
+  pub image : b.holds ≡ a.holds
+
+-- a command that reads nothing
+pub record MakeAnswers (plan : Plan) (a b : Outside) (status : ℕ) : Type 0 where
+  pub whole : Answers (wanted plan [] []) a b status
+  pub script : NoScript a b
+
+-- and does not look at the image
+pub record ShowAnswers (plan : Plan) (a b : Outside) (status : ℕ) : Type 0 where
+  pub whole : Answers (wanted plan [] []) a b status
+  pub script : NoScript a b
+  pub image : NoImage a b
+
+-- what each command answers
+abbrev pub PlanAnswers : Command → Plan → Outside → Outside → ℕ → Type 0
+PlanAnswers RunScript plan a b status = RunAnswers plan a b status
+PlanAnswers ListRecords plan a b status = ReadAnswers plan a b status
+PlanAnswers (ExtractRecord name) plan a b status = ReadAnswers plan a b status
+PlanAnswers (EraseRecord name) plan a b status = ImageAnswers plan a b status
+PlanAnswers ShowLayout plan a b status = ShowAnswers plan a b status
+PlanAnswers BlankImage plan a b status = MakeAnswers plan a b status
+PlanAnswers (MakeImage n) plan a b status = MakeAnswers plan a b status
+
+-- what the words answer: a command of its plan, or the first fault
+abbrev pub ToolAnswers : Result Plan Stop → Outside → Outside → ℕ → Type 0
+ToolAnswers (Ok plan) a b status = PlanAnswers plan.command plan a b status
+ToolAnswers (Err s) a b status = FaultAnswers s a b status

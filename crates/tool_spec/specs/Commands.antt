@@ -1,0 +1,193 @@
+-- The words that the tool takes, and what each command wants
+use Rattle.std.specs.Prelude.{ℕ, ◌+◌, Bool, true, false, ◌&&◌, if◌then◌else◌, nat_lt, List, [], ◌∷◌, length, take, replicate, codes, bytes_eq, Option, Some, None, Result, Ok, Err}
+use Rattle.zone_spec.specs.declared.Zone.{Zone}
+use Rattle.zone_spec.specs.declared.params.Params.{Params}
+use Rattle.zone_spec.specs.declared.params.LayoutFault.{LayoutFault}
+use Rattle.zone_spec.specs.Layout.{rounded, layout_of}
+use Rattle.zone_spec.specs.Records.{Listed}
+use Rattle.zone_spec.specs.Notices.{content}
+use Rattle.session_spec.specs.States.{LiveState}
+use Rattle.session_spec.specs.Off.{fresh}
+use Rattle.session_spec.specs.Boot.{booted}
+use Rattle.session_spec.specs.Stop.{stopped, session_image}
+use Rattle.session_spec.specs.Erasures.{saved_logs, erased}
+use Rattle.zone_params.specs.declared.faults.ParamFault.{ParamFault}
+use Rattle.zone_params.specs.Words.{first_fault, params_of, ok_unless}
+use Rattle.box_script.specs.Fields.{Text, number}
+use Rattle.box_script.specs.Lines.{script_of}
+use Rattle.box_script.specs.declared.line.Line.{Line}
+use Rattle.tool_spec.specs.Texts.{layout_text, listing}
+use Rattle.tool_spec.specs.Scripts.{Ran, ran, named}
+use Rattle.tool_spec.specs.Generated.{Generated, generated, summary}
+use Rattle.tool_spec.specs.Ends.{End}
+use Rattle.tool_spec.specs.declared.Cause.{Cause}
+use Rattle.tool_spec.specs.declared.Cause.TheVariants.{NoRecord}
+use Rattle.tool_spec.specs.declared.Stop.{Stop}
+use Rattle.tool_spec.specs.declared.Stop.TheVariants.{Usage, Param, Layout as LayoutStop, Short, TooLong, BadLine, Refused}
+
+-- ---- words
+
+pub data Command : Type 0 where
+  RunScript : Command
+  ListRecords : Command
+  ExtractRecord : (name : Text) → Command
+  EraseRecord : (name : Text) → Command
+  ShowLayout : Command
+  BlankImage : Command
+  MakeImage : (n : ℕ) → Command
+
+-- a command, how many words stand before its parameters, and these
+pub record Asked : Type 0 where
+  pub command : Command
+  pub before : ℕ
+  pub params : List Text
+
+abbrev pub plain : Command → List Text → Option Asked
+plain command words = Some (record { command = command; before = 2; params = words })
+
+-- a command with a NAME, a word of any form
+abbrev pub with_name : (Text → Command) → List Text → Option Asked
+with_name command [] = None
+with_name command (name ∷ words) = Some (record { command = command name; before = 3; params = words })
+
+abbrev pub numbered : Option ℕ → List Text → Option Asked
+numbered None words = None
+numbered (Some n) words = Some (record { command = MakeImage n; before = 3; params = words })
+
+-- `make` with N, a decimal number below 2^32
+abbrev pub with_number : List Text → Option Asked
+with_number [] = None
+with_number (n ∷ words) = numbered (number n) words
+
+-- the command that a word names, with the words behind it
+abbrev pub asked_by : Text → List Text → Option Asked
+asked_by word words =
+    if bytes_eq word (codes "run") then plain RunScript words
+    else if bytes_eq word (codes "list") then plain ListRecords words
+    else if bytes_eq word (codes "extract") then with_name ExtractRecord words
+    else if bytes_eq word (codes "erase") then with_name EraseRecord words
+    else if bytes_eq word (codes "layout") then plain ShowLayout words
+    else if bytes_eq word (codes "blank") then plain BlankImage words
+    else if bytes_eq word (codes "make") then with_number words
+    else None
+
+-- IMAGE COMMAND and what stands behind it; None where the words are outside the grammar
+abbrev pub asked : List Text → Option Asked
+asked (image ∷ word ∷ words) = asked_by word words
+asked other = None
+
+-- a command with its parameters and their layout
+pub record Plan : Type 0 where
+  pub command : Command
+  pub params : Params
+  pub zones : List Zone
+
+abbrev pub with_layout : Command → Params → Result (List Zone) LayoutFault → Result Plan Stop
+with_layout command params (Ok zones) = Ok (record { command = command; params = params; zones = zones })
+with_layout command params (Err fault) = Err (LayoutStop fault)
+
+abbrev pub with_params : Asked → Result Params ParamFault → Result Plan Stop
+with_params a (Ok params) = with_layout a.command params (layout_of params)
+with_params a (Err fault) = Err (Param fault a.before)
+
+abbrev pub planned : Option Asked → Result Plan Stop
+planned None = Err Usage
+planned (Some a) = with_params a (ok_unless (first_fault [] a.params) (params_of a.params))
+
+-- what the words ask for, or the first fault: of the words, of a parameter, of the layout
+abbrev pub plan_of : List Text → Result Plan Stop
+plan_of words = planned (asked words)
+
+-- the bytes of the image
+abbrev pub mem_of : Plan → ℕ
+mem_of plan = rounded plan.params.mem
+
+-- ---- what a command wants
+
+-- where no fault of the outside and no want of memory comes in its way: the pieces of text that it puts in
+-- order, how it ends, and the bytes that it then writes to the front of the image
+pub record Wanted : Type 0 where
+  pub texts : List Text
+  pub end : End
+  pub writes : Option (List ℕ)
+
+-- it puts these, and writes nothing
+abbrev pub shows : List Text → Wanted
+shows texts = record { texts = texts; end = Ok tt; writes = None }
+
+-- it puts nothing, and writes these bytes
+abbrev pub leaves : List ℕ → Wanted
+leaves image = record { texts = []; end = Ok tt; writes = Some image }
+
+-- it is refused before any text
+abbrev pub stops : Stop → Wanted
+stops stop = record { texts = []; end = Err stop; writes = None }
+
+-- the bytes that a script has at most
+abbrev pub script_limit : ℕ
+script_limit = 4194304
+
+-- a script that ran to its end, or to a refused line
+abbrev pub script_end : ℕ → Option Cause → End
+script_end done None = Ok tt
+script_end done (Some cause) = Err (Refused (done + 1) cause)
+
+abbrev pub wanted_lines : Ran → Wanted
+wanted_lines r = record { texts = r.texts; end = script_end (length r.texts) r.refused; writes = Some (session_image r.session) }
+
+abbrev pub wanted_script : List Zone → List ℕ → Result (List Line) ℕ → Wanted
+wanted_script layout image (Ok lines) = wanted_lines (ran layout image lines)
+wanted_script layout image (Err n) = stops (BadLine n)
+
+-- a script on an image
+abbrev pub wanted_run : List Zone → List ℕ → List ℕ → Wanted
+wanted_run layout image script =
+    if nat_lt script_limit (length script) then stops TooLong else wanted_script layout image (script_of script)
+
+-- the store after a boot of an image of which nothing is known: what the commands `list`, `extract` and
+-- `erase` speak of
+abbrev pub after_boot : List Zone → List ℕ → LiveState
+after_boot layout image = booted layout (fresh layout image)
+
+-- the commands put no boot lines, and refuse a name as the second line of a script would
+abbrev pub unlisted : Wanted
+unlisted = stops (Refused 2 NoRecord)
+
+-- `extract` puts the content alone
+abbrev pub wanted_extract : List Zone → LiveState → Option Listed → Wanted
+wanted_extract layout live None = unlisted
+wanted_extract layout live (Some r) = shows (content (saved_logs layout live) r ∷ [])
+
+-- `erase` is a boot, the erasure of a record, and a stop; after a boot no call is in its way
+abbrev pub wanted_erase : List Zone → LiveState → Option Listed → Wanted
+wanted_erase layout live None = unlisted
+wanted_erase layout live (Some r) = leaves (stopped layout (erased layout live r.name)).image
+
+abbrev pub wanted_make : ℕ → List Zone → Generated → Wanted
+wanted_make n layout made = record { texts = summary n layout made ∷ []; end = Ok tt; writes = Some (session_image made.session) }
+
+-- what each command wants of an image of mem bytes and a script
+abbrev pub wanted_of : Params → List Zone → List ℕ → List ℕ → Command → Wanted
+wanted_of params layout image script RunScript = wanted_run layout image script
+wanted_of params layout image script ListRecords = shows (listing (saved_logs layout (after_boot layout image)) ∷ [])
+wanted_of params layout image script (ExtractRecord name) =
+    let live = after_boot layout image in wanted_extract layout live (named (saved_logs layout live) name)
+wanted_of params layout image script (EraseRecord name) =
+    let live = after_boot layout image in wanted_erase layout live (named (saved_logs layout live) name)
+wanted_of params layout image script ShowLayout = shows (layout_text params layout ∷ [])
+wanted_of params layout image script BlankImage = leaves (replicate (rounded params.mem) 0)
+wanted_of params layout image script (MakeImage n) = wanted_make n layout (generated layout (rounded params.mem) n)
+
+-- whether a command reads the image
+abbrev pub reads_image : Command → Bool
+reads_image ShowLayout = false
+reads_image BlankImage = false
+reads_image (MakeImage n) = false
+reads_image other = true
+
+-- and the same of a store's bytes, of which it takes the first mem, and of a script: an image that it reads
+-- and that is too short is refused first
+abbrev pub wanted : Plan → List ℕ → List ℕ → Wanted
+wanted plan bytes script =
+    if (reads_image plan.command && nat_lt (length bytes) (mem_of plan)) then stops (Short (length bytes) (mem_of plan))
+    else wanted_of plan.params plan.zones (take (mem_of plan) bytes) script plan.command

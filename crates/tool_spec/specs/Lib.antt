@@ -1,0 +1,7 @@
+pub mod Texts
+pub mod Ends
+pub mod Scripts
+pub mod Generated
+pub mod Commands
+pub mod Answers
+pub mod Headline

@@ -1,0 +1,138 @@
+-- The texts that the tool puts, as bytes; each line ends with a newline
+use Rattle.std.specs.Prelude.{ℕ, Bool, ◌&&◌, ◌==◌, if◌then◌else◌, List, [], ◌∷◌, ◌++◌, length, flat_map, zip, codes, decimal, Option, Some, None}
+use Rattle.std.specs.List.{list_all}
+use Rattle.zone_spec.specs.declared.Kind.TheVariants.{Dump, Console, Ftrace, Pmsg}
+use Rattle.zone_spec.specs.declared.ZoneName.{ZoneName}
+use Rattle.zone_spec.specs.declared.Zone.{Zone}
+use Rattle.zone_spec.specs.declared.State.{State}
+use Rattle.zone_spec.specs.declared.State.TheVariants.{Unsigned, Empty, Invalid, Found}
+use Rattle.zone_spec.specs.declared.CallKind.{CallKind}
+use Rattle.zone_spec.specs.declared.CallKind.TheVariants.{Append, Erase as EraseKind, Dump as DumpKind}
+use Rattle.zone_spec.specs.declared.HeaderSeen.{HeaderSeen}
+use Rattle.zone_spec.specs.declared.HeaderSeen.TheVariants.{Pair, Foreign}
+use Rattle.zone_spec.specs.declared.Verdict.{Verdict}
+use Rattle.zone_spec.specs.declared.Verdict.TheVariants.{NothingTold, AsTold, Differs}
+use Rattle.zone_spec.specs.declared.Time.{Time}
+use Rattle.zone_spec.specs.declared.params.Params.{Params}
+use Rattle.zone_spec.specs.Layout.{rounded, parity_bytes, ecc_of}
+use Rattle.zone_spec.specs.Reading.{ZoneReading}
+use Rattle.zone_spec.specs.TimeLines.{six_digits}
+use Rattle.zone_spec.specs.Names.{name_text}
+use Rattle.zone_spec.specs.Records.{Saved, Listed, listed_of}
+use Rattle.zone_spec.specs.Notices.{content}
+use Rattle.zone_spec.specs.Cut.{CutReport}
+use Rattle.session_spec.specs.Report.{ZoneReport}
+use Rattle.box_script.specs.Fields.{Text}
+use Rattle.box_script.specs.Printed.{zone_text}
+
+abbrev pub newline : Text
+newline = 10 ∷ []
+
+-- ---- a layout
+
+-- blocks have 128 bytes, and each kind has the parity that `ecc` asks for
+abbrev pub is_uniform : Params → Bool
+is_uniform p =
+    (p.block == 128) && list_all (λ kind. parity_bytes (ecc_of p kind) == parity_bytes p.ecc) (Dump ∷ Console ∷ Ftrace ∷ Pmsg ∷ [])
+
+-- ` parity R block K`, where parameters are not uniform
+abbrev pub own_parity : Bool → Zone → Text
+own_parity uniform z = if uniform then [] else codes " parity " ++ decimal z.parity ++ codes " block " ++ decimal z.block
+
+-- `ZONE at A size S cap C blocks B`
+abbrev pub layout_line : Bool → Zone → Text
+layout_line uniform z =
+    zone_text z.name ++ codes " at " ++ decimal z.at ++ codes " size " ++ decimal z.size
+    ++ codes " cap " ++ decimal z.cap ++ codes " blocks " ++ decimal z.blocks ++ own_parity uniform z ++ newline
+
+-- `mem M parity R zones Z`, and a line for each zone
+abbrev pub layout_text : Params → List Zone → Text
+layout_text p zones =
+    codes "mem " ++ decimal (rounded p.mem) ++ codes " parity " ++ decimal (parity_bytes p.ecc)
+    ++ codes " zones " ++ decimal (length zones) ++ newline ++ flat_map (λ z. layout_line (is_uniform p) z) zones
+
+-- ---- a boot
+
+abbrev pub state_text : State → Text
+state_text Unsigned = codes "unsigned"
+state_text Empty = codes "empty"
+state_text Invalid = codes "invalid"
+state_text Found = codes "found"
+
+abbrev pub verdict_text : Verdict → Text
+verdict_text NothingTold = codes "nothing told"
+verdict_text AsTold = codes "as told"
+verdict_text (Differs told seen first) =
+    codes "differs told " ++ decimal told ++ codes " read " ++ decimal seen ++ codes " first " ++ decimal first
+
+-- `boot ZONE STATE start S size Z corrected X bad Y VERDICT`
+abbrev pub boot_line : ZoneName → ZoneReading → Verdict → Text
+boot_line name reading verdict =
+    codes "boot " ++ zone_text name ++ codes " " ++ state_text reading.state
+    ++ codes " start " ++ decimal reading.words.start ++ codes " size " ++ decimal reading.words.size
+    ++ codes " corrected " ++ decimal reading.corrected ++ codes " bad " ++ decimal reading.bad
+    ++ codes " " ++ verdict_text verdict ++ newline
+
+abbrev pub call_text : CallKind → Text
+call_text Append = codes "write"
+call_text EraseKind = codes "erase"
+call_text DumpKind = codes "dump"
+
+abbrev pub seen_text : HeaderSeen → Text
+seen_text (Pair j) = codes "pair " ++ decimal j
+seen_text Foreign = codes "foreign"
+
+-- a run of blocks: `A-B`, or the number of one block alone
+abbrev pub run_text : ℕ × ℕ → Text
+run_text run = if run.0 == run.1 then decimal run.0 else decimal run.0 ++ codes "-" ++ decimal run.1
+
+-- runs, joined by commas, or `none`
+abbrev pub runs_text : List (ℕ × ℕ) → Text
+runs_text [] = codes "none"
+runs_text (run ∷ runs) = run_text run ++ flat_map (λ next. codes "," ++ run_text next) runs
+
+-- `cut ZONE CALL K of N header H blocks B`
+abbrev pub cut_line : ZoneName → CutReport → Text
+cut_line name cut =
+    codes "cut " ++ zone_text name ++ codes " " ++ call_text cut.kind
+    ++ codes " " ++ decimal cut.made ++ codes " of " ++ decimal cut.total
+    ++ codes " header " ++ seen_text cut.header ++ codes " blocks " ++ runs_text cut.runs ++ newline
+
+-- the line of a cut, where the zone has one
+abbrev pub cut_text : ZoneName → Option CutReport → Text
+cut_text name None = []
+cut_text name (Some cut) = cut_line name cut
+
+-- the lines of a zone by its saved reading and its report
+abbrev pub zone_lines : Option ZoneReading → ZoneReport → Text
+zone_lines None report = []
+zone_lines (Some reading) report = boot_line report.name reading report.verdict ++ cut_text report.name report.cut
+
+-- the lines of a boot by the logs that it saved and what it reports, both in layout order
+abbrev pub boot_text : List Saved → List ZoneReport → Text
+boot_text zones reports = flat_map (λ (pair : Saved × ZoneReport). zone_lines pair.0.1 pair.1) (zip zones reports)
+
+-- `boot stopped after K stores`
+abbrev pub part_text : ℕ → Text
+part_text made = codes "boot stopped after " ++ decimal made ++ codes " stores" ++ newline
+
+-- ---- records
+
+-- ` SECS.MICROS`, where a record has a time
+abbrev pub time_text : Option Time → Text
+time_text None = []
+time_text (Some time) = codes " " ++ decimal time.secs ++ codes "." ++ six_digits time.micros
+
+-- `NAME LENGTH`: the length is that of the content with its notice
+abbrev pub record_text : List Saved → Listed → Text
+record_text zones r = name_text r.name ++ codes " " ++ decimal (length (content zones r))
+
+-- `records N`, and a line for each record
+abbrev pub listing : List Saved → Text
+listing zones =
+    codes "records " ++ decimal (length (listed_of zones)) ++ newline
+    ++ flat_map (λ r. record_text zones r ++ time_text r.time ++ newline) (listed_of zones)
+
+-- a record's name, length and content
+abbrev pub extract_text : List Saved → Listed → Text
+extract_text zones r = record_text zones r ++ newline ++ content zones r ++ newline

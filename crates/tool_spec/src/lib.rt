@@ -1,0 +1,49 @@
+//! The image tool's words: what each command wants, what a script's lines do, how a run ends, and the texts that are
+//! put. Plain types that definitions and code share, and in `specs/` the definitions that contracts cite.
+#![tactic(auto)]
+
+use std::alloc::AllocError;
+use zone_params::{LayoutFault, ParamFault};
+
+/// Why a line of a script was refused.
+#[derive(Clone, Copy, Debug, PartialEq, Eq)]
+pub enum Cause {
+    IsOff,
+    IsLive,
+    NoZone,
+    Busy,
+    Idle,
+    OutOfImage,
+    NoRecord,
+    NotHere,
+}
+
+/// Why a run ends before its work is done.
+#[derive(Clone, Copy, Debug, PartialEq, Eq)]
+pub enum Stop {
+    Memory,
+    Usage,
+    /// A faulty parameter, and how many words stand before the first parameter.
+    Param { fault: ParamFault, before: u32 },
+    Layout(LayoutFault),
+    /// The image has fewer bytes than the layout needs.
+    Short { has: u64, needed: u32 },
+    ScriptFault,
+    ImageFault,
+    SinkFault,
+    TooLong,
+    /// The first line outside the grammar, counted from 1.
+    BadLine(u32),
+    Refused { line: u32, cause: Cause },
+}
+
+impl From<AllocError> for Stop {
+    ghost use Rattle.std.specs.Prelude.{◌≡◌};
+    ghost use Rattle.tool_spec.specs.declared.Stop.TheVariants.{Memory};
+
+    ghost from_gives = { λ _ e. e ≡ Memory };
+
+    fn from(_e: AllocError) -> Stop {
+        Stop::Memory
+    }
+}
