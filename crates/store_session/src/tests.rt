@@ -1,8 +1,7 @@
 // Calls in a booted store of one console zone.
 ghost use Rattle.std.specs.Prelude.{◌≡◌, length, IfOk};
 
-use crate::{LineError, Machine, begin, finish, make, step};
-use crate::{live_lines, record_lines, state_lines};
+use crate::{LineError, Machine, begin, finish, live_lines, make, record_lines, state_lines, step};
 use box_io::Bytes;
 use old_log::Logs;
 use ram_core::{Ask, Live, Off, Refusal};
