@@ -13,6 +13,7 @@ mod zones;
 
 pub use listing::names;
 pub use naming::{find, name_text};
+pub use notices::is_in;
 pub use records::{ContentFault, content, length, time};
 pub use table::{Entry, listed};
 pub use zone_spec::{Name, Time};

@@ -26,8 +26,8 @@ const NOTHING: Counts = Counts {
     bad: 0,
 };
 
-/// Whether a zone belongs to a record.
-fn is_in(name: Name, zone: ZoneName) -> bool
+/// Whether the zone of a name belongs to a record.
+pub fn is_in(name: Name, zone: ZoneName) -> bool
     ensures { (z : Zone) → z.name ≡ zone → result ≡ is_in name z }
 {
     match name {

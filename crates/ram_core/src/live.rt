@@ -1,7 +1,7 @@
 // The machine while it is live.
 ghost use Rattle.std.specs.Prelude.{◌≡◌, ◌<◌, ℕ, true, false, List, [], map, ◌≤◌, ◌^◌, Some, None, length, slice_get, is_some, ◌||◌, Ok, Err, IfOk, IfErr, IfSome, OnErr, ◌↔◌};
 ghost use Rattle.zone_spec.specs.Layouts.{zone_place};
-ghost use Rattle.zone_params.specs.Laid.{zones_of};
+ghost use Rattle.zone_params.specs.Laid.{zones_of, NamesDiffer};
 ghost use Rattle.session_spec.specs.States.{LiveState};
 ghost use Rattle.session_spec.specs.LiveCalls.{asked_name, begin as begins, step as steps};
 ghost use Rattle.ram_core.specs.Asks.{told_ask, CanBeAsked};
@@ -196,6 +196,14 @@ impl Live {
         let span = &self.spans.all()[i as usize];
         let _len = span.len();
         start(zone, span, &mut self.zones[i as usize], ask.into_call());
+    }
+
+    /// The zones of the layout, in the order in which they lie.
+    pub fn zones(&self) -> &[Zone]
+        ensures value { result.now ≡ self.now.layout }
+        ensures names { NamesDiffer result.now }
+    {
+        self.layout.zones()
     }
 
     /// Begins a call, and makes no store. An append of no bytes is finished at once. A refusal changes nothing, and hands

@@ -1,5 +1,5 @@
 -- A flight finished by single steps
-use Rattle.std.proofs.Common.{◌≡◌, ℕ, ◌+◌, ◌-◌, ◌%◌, ◌<◌, ◌≤◌, Bool, true, false, not, cond, ◌&&◌, ◌||◌, if◌then◌else◌, nat_lt, is_some, List, [], ◌∷◌, zero, suc, length, set, get_or, slice_get, slice_set, Option, Some, None, Result, Ok, Err, refl, sym, ap, ◌∙◌, arith, true≢false, subst, inl, inr}
+use Rattle.std.proofs.Common.{◌≡◌, ◌==◌, ℕ, ◌+◌, ◌-◌, ◌%◌, ◌<◌, ◌≤◌, Bool, true, false, not, cond, ◌&&◌, ◌||◌, if◌then◌else◌, nat_lt, is_some, List, [], ◌∷◌, zero, suc, length, set, get_or, slice_get, slice_set, Option, Some, None, Result, Ok, Err, refl, sym, ap, ◌∙◌, arith, true≢false, subst, inl, inr}
 use Rattle.std.proofs.lemmas.Bool.Decides.{nat_tests}
 use Rattle.std.proofs.lemmas.Bool.{cases_lt}
 use Rattle.std.proofs.lemmas.List.{set-set, set-get_or}
@@ -7,7 +7,7 @@ use Rattle.zone_spec.specs.declared.Zone.{Zone}
 use Rattle.zone_spec.specs.declared.ZoneName.{ZoneName}
 use Rattle.zone_spec.specs.declared.Refusal.{Refusal}
 use Rattle.zone_spec.specs.declared.Refusal.TheVariants.{Idle, Busy}
-use Rattle.zone_spec.specs.Told.{told_after}
+use Rattle.zone_spec.specs.Told.{told_after, Erase as EraseCall}
 use Rattle.zone_spec.specs.Calls.{call_stores, image_after}
 use Rattle.zone_spec.specs.Layouts.{zone_place}
 use Rattle.session_spec.specs.States.{Flight, LiveZone, LiveState, Live}
@@ -17,7 +17,7 @@ use Rattle.session_spec.specs.ZoneCalls.{total_stores, begun, stepped, stepped_b
 use Rattle.session_spec.specs.LiveZones.{Target, target, target_of, target_at, with_zone, changed, flies_dump}
 use Rattle.zone_spec.specs.Told.{Call}
 use Rattle.session_spec.specs.Zones.{dump_zones}
-use Rattle.session_spec.specs.LiveCalls.{Ask, call_of, asked_name, is_barred, asked_zone, begin, begins, make, step, finish, finish_at, goes_on}
+use Rattle.session_spec.specs.LiveCalls.{Ask, Erase as EraseAsk, call_of, asked_name, is_barred, asked_zone, begin, begins, make, step, finish, finish_at, goes_on}
 
 nat_lt-true : {a b : ℕ} → a < b → nat_lt a b ≡ true
 nat_lt-true h = grind (arith, nat_tests)
@@ -247,3 +247,34 @@ make_is_begin_and_steps layout live begun ask h = (
   λ last f. rw h (ap (λ (s : LiveState). Ok s) (finish_done layout begun last (target layout begun (asked_name live ask)) f)),
   λ idle. rw h (ap (λ (s : LiveState). Ok s) (all_done layout begun (asked_name live ask) (target layout begun (asked_name live ask)) refl idle)),
 )
+
+-- ---- an erasure
+
+calm : (dump : Option Flight) (g : Option Flight) (a b : ℕ) → flies_dump dump ≡ false → (if flies_dump dump && not (is_some g) then a else b) ≡ b
+calm dump g a b e = rw e refl
+
+erasing : (z : Zone) (live : LiveZone) → live.flight ≡ None → flies_dump (begun z EraseCall live).flight ≡ false
+erasing z live idle = by (length (call_stores z EraseCall live.image) == 0)
+  where
+    by : (none : Bool) → flies_dump (cond none live (record live { flight = Some (record { image = live.image; call = EraseCall; made = 0 }) })).flight ≡ false
+    by true = rw idle refl
+    by false = refl
+
+at_name : (layout : List Zone) (s : LiveState) (name : ZoneName) (i : ℕ) (z : Zone) (l : LiveZone) → zone_place layout name ≡ Some i → slice_get layout i ≡ Some z → slice_get s.zones i ≡ Some l → target layout s name ≡ Some (record { place = i; zone = z; live = l })
+at_name layout s name i z l place zone live = rw (place, zone, live) refl
+
+-- an erasure of an idle zone makes all its stores there, and changes nothing else
+pub erase_made : (layout : List Zone) (s : LiveState) (i : ℕ) (z : Zone) (l : LiveZone) → zone_place layout z.name ≡ Some i → slice_get layout i ≡ Some z → slice_get s.zones i ≡ Some l → l.flight ≡ None
+    → make layout s (EraseAsk z.name) ≡ Ok (record s { zones = slice_set s.zones i (finished z (begun z EraseCall l)) })
+erase_made layout s i z l place zone live idle =
+    let t : Target = record { place = i; zone = z; live = l } in
+    let there : target layout s z.name ≡ Some t = at_name layout s z.name i z l place zone live in
+    let one = begun z EraseCall l in
+    let two = finished z one in
+    let started : LiveState = with_zone layout s i l one in
+    let first : begin layout s (EraseAsk z.name) ≡ Ok started = rw (there, idle) refl in
+    let next : target layout started z.name ≡ Some (record { place = i; zone = z; live = one }) = target_changed layout s z.name t one there in
+    let still : started.cursor ≡ s.cursor = calm l.flight one.flight ((s.cursor + 1) % dump_zones layout) s.cursor (rw idle refl) in
+    let last : (with_zone layout started i one two).cursor ≡ started.cursor = calm one.flight two.flight ((started.cursor + 1) % dump_zones layout) started.cursor (erasing z l idle) in
+    let all : with_zone layout started i one two ≡ record s { zones = slice_set s.zones i two } = rw (last, still, set-set s.zones i one two) refl in
+    rw (first, next) (ap (λ (x : LiveState). Ok x) all)

@@ -5,3 +5,4 @@ pub mod Rounding
 pub mod Faultless
 pub mod LaidOut
 pub mod WholeLayout
+pub mod NamesDiffer

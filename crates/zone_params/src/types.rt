@@ -16,7 +16,7 @@ pub struct Layout {
 }
 
 impl Layout {
-    ghost use Rattle.zone_params.specs.Laid.{params_of, zones_of};
+    ghost use Rattle.zone_params.specs.Laid.{params_of, zones_of, NamesDiffer};
 
     pub(crate) fn new(params: Params, zones: Vec<Zone>) -> Layout
         requires { layout_of params ≡ Ok zones.items }
@@ -58,6 +58,7 @@ impl Layout {
     pub fn zones(&self) -> &[Zone]
         ensures value { result.now ≡ zones_of self.now }
         ensures laid_out { IsLayout result.now (rounded_of (params_of self.now).mem) }
+        ensures names { NamesDiffer result.now }
     {
         &self.zones
     }
