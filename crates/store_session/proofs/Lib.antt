@@ -6,3 +6,6 @@ pub mod StateLines
 pub mod RecordLines
 pub mod AnyLines
 pub mod ScriptLines
+pub mod ErasedZones
+pub mod EraseLines
+pub mod Images

@@ -2,3 +2,4 @@ pub mod Answers
 pub mod Sessions
 pub mod Records
 pub mod Playing
+pub mod Erasing

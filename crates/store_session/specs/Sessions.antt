@@ -1,6 +1,5 @@
 -- A script's machine, and the states of a session that it stands for
 use Rattle.std.specs.Prelude.{◌≡◌, ⊤, ℕ, List, Result, Ok, Err}
-use Rattle.std.specs.List.{AllByRecursion}
 use Rattle.zone_spec.specs.declared.Zone.{Zone}
 use Rattle.zone_spec.specs.Layouts.{IsLayout}
 use Rattle.session_spec.specs.States.{Session, Off as OffOf, Live as LiveOf}
@@ -11,7 +10,7 @@ use Rattle.ram_core.specs.OffSeen.{StandsOff}
 use Rattle.ram_core.specs.LiveSeen.{StandsLive}
 use Rattle.box_script.specs.Fields.{Text}
 use Rattle.box_script.specs.declared.line.Line.{Line}
-use Rattle.box_script.specs.declared.line.Line.TheVariants.{Write, Dump, BeginWrite, BeginErase, BeginDump, Step, Finish, Erase}
+use Rattle.box_script.specs.declared.line.Line.TheVariants.{Write, Dump, BeginWrite, BeginErase, BeginDump, Step, Finish}
 use Rattle.tool_spec.specs.Scripts.{line_done}
 use Rattle.tool_spec.specs.declared.Cause.{Cause}
 use Rattle.store_session.specs.declared.machine.Machine.{Machine}
@@ -55,11 +54,3 @@ IsCall (BeginDump time packed bytes) = ⊤
 IsCall (Step zone k) = ⊤
 IsCall (Finish zone) = ⊤
 IsCall other = ⊥
-
--- a line that the machine does
-abbrev pub IsBuilt : Line → Type 0
-IsBuilt (Erase name) = ⊥
-IsBuilt other = ⊤
-
-abbrev pub AreBuilt : List Line → Type 0
-AreBuilt lines = AllByRecursion IsBuilt lines

@@ -2,6 +2,7 @@
 #![tactic(auto)]
 
 mod calls;
+mod erasing;
 mod lines;
 mod live_lines;
 mod machine;
@@ -11,6 +12,7 @@ mod record_lines;
 mod state_lines;
 
 pub use calls::{begin, finish, make, step};
+pub use erasing::erase;
 pub use lines::do_line;
 pub use machine::{LineError, Machine};
 pub use playing::play;

@@ -2,9 +2,10 @@
 ghost use Rattle.std.specs.Prelude.{◌≡◌, ⊤, [], MatchResult};
 ghost use Rattle.old_log.specs.Saving.{SavedLogs};
 ghost use Rattle.box_script.specs.Printed.{HasFields};
-ghost use Rattle.store_session.specs.Sessions.{LineDone, LineFails, IsCall, IsBuilt};
+ghost use Rattle.store_session.specs.Sessions.{LineDone, LineFails, IsCall};
 ghost use Rattle.store_session.specs.declared.machine.Machine.TheVariants.{Off as OffMachine, Live as LiveMachine};
 
+use crate::erasing::erase;
 use crate::machine::{LineError, Machine};
 use crate::{live_lines, off_lines, record_lines, state_lines};
 use box_script::Line;
@@ -34,7 +35,7 @@ fn do_call(alloc: Global, live: &mut Live, line: &Line) -> Result<(), LineError>
     }
 }
 
-#[tactic(auto, using(crate::proofs::AnyLines::waits_for_stop, crate::proofs::AnyLines::elsewhere_live, crate::proofs::StateLines::blank_done))]
+#[tactic(auto, using(crate::proofs::AnyLines::waits_for_stop, crate::proofs::AnyLines::elsewhere_live, crate::proofs::StateLines::blank_done, crate::proofs::EraseLines::erase_done, crate::proofs::EraseLines::erase_refused))]
 fn do_live(
     alloc: Global,
     live: Live,
@@ -42,10 +43,9 @@ fn do_live(
     line: &Line,
 ) -> Result<(Machine, Vec<u8>), LineError>
     requires fields { HasFields line.now }
-    requires built { IsBuilt line.now }
     ensures { MatchResult result (λ r. LineDone (LiveMachine live logs) line.now r.0 r.1.items) (LineFails (LiveMachine live logs) line.now) }
 {
-    let mut live = live;
+    let (mut live, mut logs) = (live, logs);
     match line {
         Line::Flip(_, _) | Line::Boot | Line::BootPart(_) => {
             Err(LineError::Refused(Cause::IsLive))
@@ -61,7 +61,10 @@ fn do_live(
             Ok(text) => Ok((Machine::Live(live, logs), text)),
             Err(e) => Err(e),
         },
-        Line::Erase(_) => unreachable!(),
+        Line::Erase(name) => match erase(alloc, &mut live, &mut logs, name.as_slice()) {
+            Ok(()) => Ok((Machine::Live(live, logs), Vec::new(alloc))),
+            Err(e) => Err(e),
+        },
         _ => match do_call(alloc, &mut live, line) {
             Ok(()) => Ok((Machine::Live(live, logs), Vec::new(alloc))),
             Err(e) => Err(e),
@@ -86,14 +89,13 @@ fn do_off(alloc: Global, off: Off, line: &Line) -> Result<(Machine, Vec<u8>), Li
     }
 }
 
-/// Does a line, any but an erasure of a record, and gives what it puts. A line that is refused ends the session.
+/// Does a line, and gives what it puts. A line that is refused ends the session.
 pub fn do_line(
     alloc: Global,
     machine: Machine,
     line: &Line,
 ) -> Result<(Machine, Vec<u8>), LineError>
     requires fields { HasFields line.now }
-    requires built { IsBuilt line.now }
     ensures { MatchResult result (λ r. LineDone machine line.now r.0 r.1.items) (LineFails machine line.now) }
 {
     match machine {

@@ -1,7 +1,6 @@
 // The lines of a script, in order.
 ghost use Rattle.std.specs.Prelude.{◌≡◌, ◌≤◌, ◌<◌, ◌^◌, length, MatchResult};
 ghost use Rattle.box_script.specs.Printed.{HasFields, AllHaveFields};
-ghost use Rattle.store_session.specs.Sessions.{IsBuilt, AreBuilt};
 ghost use Rattle.store_session.specs.Playing.{Puts, LineStops, Plays};
 
 use crate::lines::do_line;
@@ -21,7 +20,6 @@ fn play_line<O: Sink>(
     out: &mut O,
 ) -> Result<Machine, Stop>
     requires fields { HasFields line.now }
-    requires built { IsBuilt line.now }
     ensures later { O.faults out.old ≤ O.faults out.new }
     ensures played { MatchResult result (λ next. Puts machine line.now next (O.given out.old) (O.given out.new))
         (λ stop. LineStops stop machine line.now number (O.given out.old) (O.given out.new) (O.faults out.old) (O.faults out.new)) }
@@ -42,11 +40,9 @@ fn play_line<O: Sink>(
     }
 }
 
-/// Does the lines in order, none of them an erasure of a record, on a store that is off, and puts the text of each as it
-/// is done.
+/// Does the lines in order on a store that is off, and puts the text of each as it is done.
 pub fn play<O: Sink>(alloc: Global, off: Off, lines: &[Line], out: &mut O) -> Result<Machine, Stop>
     requires fields { AllHaveFields lines.now }
-    requires built { AreBuilt lines.now }
     requires few { length lines.now < 2 ^ 32 }
     ensures later { O.faults out.old ≤ O.faults out.new }
     ensures played { Plays off lines.now (O.given out.old) (O.given out.new) (O.faults out.old) (O.faults out.new) result }

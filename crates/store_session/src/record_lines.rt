@@ -36,7 +36,7 @@ fn first_with(names: &[Name], text: &[u8]) -> Option<Name>
 }
 
 // The name of the listed record whose name has this text.
-fn named(alloc: Global, logs: &Logs, text: &[u8]) -> Result<Option<Name>, AllocError>
+pub(crate) fn named(alloc: Global, logs: &Logs, text: &[u8]) -> Result<Option<Name>, AllocError>
     ensures { IfOk result (λ name. name ≡ option_map (λ (r : Listed). r.name) (record_named (saved logs.now) text.now)) }
 {
     let names = names(alloc, logs)?;
@@ -59,10 +59,10 @@ pub fn extract(alloc: Global, logs: &Logs, name: &Bytes) -> Result<Vec<u8>, Line
 }
 
 /// The content of the listed record whose name has this text, with its notice.
-pub fn content_of(alloc: Global, logs: &Logs, name: &Bytes) -> Result<Bytes, LineError>
+pub fn content_of(alloc: Global, logs: &Logs, name: &[u8]) -> Result<Bytes, LineError>
     ensures { IsContent (saved logs.now) name.now result }
 {
-    match named(alloc, logs, name.as_slice())? {
+    match named(alloc, logs, name)? {
         Some(name) => match content(alloc, logs, name) {
             Ok(bytes) => Ok(bytes),
             Err(ContentFault::NoRecord) => Err(LineError::Refused(Cause::NoRecord)),

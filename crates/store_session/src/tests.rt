@@ -142,7 +142,7 @@ fn a_record_is_found_by_its_name(rt: HostRuntime) -> Result<(), Fail> {
     let none = Some(LineError::Refused(Cause::NoRecord));
     assert_eq!(rt; fault(record_lines::extract(alloc, &logs, &console)), none);
     assert_eq!(rt;
-        fault(record_lines::content_of(alloc, &logs, &console)),
+        fault(record_lines::content_of(alloc, &logs, b"console-ramoops-0")),
         none
     );
     let abc = Bytes::copy_of(alloc, b"abc".as_slice())?;
@@ -156,7 +156,7 @@ fn a_record_is_found_by_its_name(rt: HostRuntime) -> Result<(), Fail> {
         Err(_) => return Err(Fail::from(AllocError)),
     };
     assert_eq!(rt; text.as_slice(), b"console-ramoops-0 3\nabc\n".as_slice());
-    let content = match record_lines::content_of(alloc, &logs, &console) {
+    let content = match record_lines::content_of(alloc, &logs, b"console-ramoops-0") {
         Ok(content) => content,
         Err(_) => return Err(Fail::from(AllocError)),
     };
@@ -170,7 +170,10 @@ fn a_record_is_found_by_its_name(rt: HostRuntime) -> Result<(), Fail> {
     ] {
         let name = Bytes::copy_of(alloc, name)?;
         assert_eq!(rt; fault(record_lines::extract(alloc, &logs, &name)), none);
-        assert_eq!(rt; fault(record_lines::content_of(alloc, &logs, &name)), none);
+        assert_eq!(rt;
+            fault(record_lines::content_of(alloc, &logs, name.as_slice())),
+            none
+        );
     }
     Ok(())
 }

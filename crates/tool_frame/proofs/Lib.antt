@@ -5,3 +5,4 @@ pub mod Image
 pub mod Play
 pub mod Script
 pub mod Tool
+pub mod Few

@@ -101,10 +101,12 @@ pub fn save<M: Store>(image: &mut M, bytes: &[u8]) -> Result<(), Failed>
 }
 
 /// The lines of a script.
+#[tactic(auto, using(crate::proofs::Few::few))]
 pub fn lines(alloc: Global, script: &[u8]) -> Result<Lines, Stop>
     requires { length script.now < 2 ^ 32 }
     ensures read { MatchResult result (λ lines. script_of script.now ≡ Ok lines) (λ stop. ParseStop stop (script_of script.now)) }
     ensures fields { IfOk result AllHaveFields }
+    ensures few { IfOk result (λ lines. length lines ≤ length script.now + 1) }
 {
     match parse(alloc, script) {
         Ok(lines) => Ok(lines),
