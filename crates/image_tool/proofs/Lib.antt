@@ -1,2 +1,5 @@
 pub mod Shown
+pub mod Booted
+pub mod RecordEnds
+pub mod ScriptEnds
 pub mod WorkEnds

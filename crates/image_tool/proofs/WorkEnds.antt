@@ -2,7 +2,7 @@
 use Rattle.std.proofs.Common.{◌≡◌, ℕ, [], ◌∷◌, Result, Ok, Err, replicate}
 use Rattle.tool_spec.specs.Ends.{End}
 use Rattle.tool_spec.specs.Texts.{layout_text}
-use Rattle.tool_spec.specs.Commands.{Command, RunScript, ShowLayout, BlankImage, Plan, mem_of, shows, leaves}
+use Rattle.tool_spec.specs.Commands.{ShowLayout, BlankImage, Plan, mem_of, shows, leaves}
 use Rattle.tool_spec.specs.Answers.{Outside, NoScript, NoImage}
 use Rattle.tool_spec.specs.declared.Stop.{Stop}
 use Rattle.tool_spec.specs.declared.Stop.TheVariants.{Memory, Usage, Param, Layout, Short, ScriptFault, ImageFault, SinkFault, TooLong, BadLine, Refused}
@@ -10,7 +10,7 @@ use Rattle.tool_frame.specs.Ends.{Finished}
 use Rattle.tool_frame.specs.Words.{PlanStop, IsNoFault}
 use Rattle.tool_frame.specs.Ended.{EndedAt, CausedAt, PlanEnds, Nothing}
 use Rattle.tool_frame.proofs.Tool.{plan_stopped, tool_answers}
-use Rattle.image_tool.specs.Built.{IsWhole, WholeEnds, WholeAnswers}
+use Rattle.image_tool.specs.Built.{WholeEnds, WholeAnswers}
 
 -- a stop that no fault of the outside makes has its cause
 pub no_fault_caused : (s : Stop) (f g h : ℕ) → IsNoFault s → CausedAt f f g g h h (Err s)
@@ -31,15 +31,9 @@ pub read_stopped : (r : Result Plan Stop) (s : Stop) (a b : Outside) → PlanSto
 read_stopped (Ok plan) s a b h n = λ whole. plan_stopped (Ok plan) s a b h n
 read_stopped (Err f) s a b h n = plan_stopped (Err f) s a b h n
 
--- a command whose work was done, and one of which nothing is said
+-- a command whose work was done
 pub read_done : (r : Result Plan Stop) (plan : Plan) (e : End) (a b : Outside) → r ≡ Ok plan → PlanEnds plan.command plan a b e → WholeEnds r a b e
 read_done r plan e a b h k = rw h (λ whole. k)
-
-pub read_other : (r : Result Plan Stop) (plan : Plan) (e : End) (a b : Outside) → r ≡ Ok plan → (IsWhole plan.command → ⊥) → WholeEnds r a b e
-read_other r plan e a b h k = rw h (λ whole. absurd (k whole))
-
-pub run_is_other : (c : Command) → c ≡ RunScript → IsWhole c → ⊥
-run_is_other c is = rw is (λ whole. whole)
 
 -- the layout was shown
 pub layout_shown : (plan : Plan) (e : End) (a b : Outside) → plan.command ≡ ShowLayout → NoScript a b → NoImage a b → EndedAt (shows (layout_text plan.params plan.zones ∷ [])) a.given b.given a.holds a.holds e → PlanEnds plan.command plan a b e

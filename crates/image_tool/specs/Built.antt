@@ -1,24 +1,15 @@
--- The commands that are whole
+-- The commands of which everything is said
 use Rattle.std.specs.Prelude.{◌≡◌, ℕ, ⊤, Result, Ok, Err}
 use Rattle.tool_spec.specs.Ends.{End}
-use Rattle.tool_spec.specs.Commands.{Command, RunScript, ShowLayout, BlankImage, Plan}
+use Rattle.tool_spec.specs.Commands.{Command, MakeImage, Plan}
 use Rattle.tool_spec.specs.Answers.{Outside, PlanAnswers, FaultAnswers}
 use Rattle.tool_spec.specs.declared.Stop.{Stop}
 use Rattle.tool_frame.specs.Ended.{PlanEnds, Nothing}
-use Rattle.image_tool.specs.declared.commands.Built.{Built}
-use Rattle.image_tool.specs.declared.commands.Built.TheVariants.{Run, Layout, Blank}
 
--- the commands of which everything is said
+-- all but `make`
 abbrev pub IsWhole : Command → Type 0
-IsWhole ShowLayout = ⊤
-IsWhole BlankImage = ⊤
-IsWhole other = ⊥
-
--- the commands that are built
-abbrev pub built_command : Built → Command
-built_command Run = RunScript
-built_command Layout = ShowLayout
-built_command Blank = BlankImage
+IsWhole (MakeImage n) = ⊥
+IsWhole other = ⊤
 
 -- how the work of the words ends, where it is that of such a command, or where the words are at fault
 abbrev pub WholeEnds : Result Plan Stop → Outside → Outside → End → Type 0

@@ -1,10 +1,11 @@
 //! The image tool: a command with its parameters, a script or none, an image, and the text that comes of them.
 #![tactic(auto)]
 
-mod commands;
+mod images;
 mod layout_text;
-mod machine;
-mod playing;
+mod records;
+mod script;
+mod stores;
 mod work;
 
 pub use tool_frame::{Cause, Stop};

@@ -7,10 +7,12 @@ ghost use Rattle.tool_frame.specs.Words.{texts};
 ghost use Rattle.tool_frame.specs.Ended.{Caused, KeptAt};
 ghost use Rattle.image_tool.specs.Built.{WholeEnds, WholeAnswers};
 
-use crate::commands::{Built, as_built, blank, run_script, show_layout};
+use crate::images::{blank, show_layout};
+use crate::records::{erase, extract, list};
+use crate::script::run_script;
 use box_io::{Sink, Source, Store};
 use std::alloc::Global;
-use tool_frame::{Stop, finish, read_plan};
+use tool_frame::{Command, Plan, Stop, finish, read_plan};
 
 // Does what the words ask for, but for the last line.
 fn do_work<S: Source, M: Store, O: Sink>(
@@ -33,11 +35,15 @@ fn do_work<S: Source, M: Store, O: Sink>(
         Ok(plan) => plan,
         Err(stop) => return Err(stop),
     };
-    match as_built(plan.command) {
-        Some(Built::Run) => run_script(alloc, &plan.layout, script, image, out),
-        Some(Built::Layout) => show_layout(alloc, &plan.layout, out),
-        Some(Built::Blank) => blank(image, plan.layout.mem()),
-        None => Err(Stop::Usage),
+    let Plan { command, layout } = plan;
+    match command {
+        Command::Run => run_script(alloc, layout, script, image, out),
+        Command::List => list(alloc, layout, image, out),
+        Command::Extract(name) => extract(alloc, layout, name, image, out),
+        Command::Erase(name) => erase(alloc, layout, name, image),
+        Command::Layout => show_layout(alloc, &layout, out),
+        Command::Blank => blank(image, layout.mem()),
+        Command::Make(_) => Err(Stop::Usage),
     }
 }
 

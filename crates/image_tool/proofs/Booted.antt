@@ -1,0 +1,29 @@
+-- The store behind the first boot of an image
+use Rattle.std.proofs.Common.{◌≡◌, ℕ, ◌≤◌, List, length, take, Option, IfSome}
+use Rattle.zone_spec.specs.declared.Zone.{Zone}
+use Rattle.session_spec.specs.States.{OffState, Off as OffOf}
+use Rattle.session_spec.specs.Off.{fresh}
+use Rattle.session_spec.specs.Report.{ZoneReport}
+use Rattle.session_spec.specs.Operations.{Boot}
+use Rattle.session_laws.proofs.Operations.{fresh_is_sound, operations_keep_states_sound}
+use Rattle.old_log.specs.Saving.{SavedLogs, saved}
+use Rattle.ram_core.specs.OffSeen.{OffSeen, StandsOff}
+use Rattle.ram_core.specs.LiveSeen.{LiveSeen}
+use Rattle.ram_core.specs.Booted.{Booted}
+use Rattle.store_session.specs.Playing.{StandsFresh}
+use Rattle.image_tool.specs.Stores.{BootedFrom}
+
+pub booted_from : (layout : List Zone) (mem size : ℕ) (holds : Option (List ℕ)) (image : List ℕ) (off : OffSeen) (live : LiveSeen) (logs : SavedLogs) (told : List ZoneReport) → size ≡ mem
+    → IfSome holds (λ bytes. (size ≤ length bytes) × (image ≡ take size bytes)) → StandsFresh layout mem image off
+    → ((layout : List Zone) (mem : ℕ) (s : OffState) → StandsOff layout mem off s → Booted layout mem s live (saved logs) told) → BootedFrom layout mem holds live logs
+booted_from layout mem size holds image off live logs told same read f boots =
+    let b = boots layout mem (fresh layout image) f.stands in
+    let sound = fresh_is_sound layout mem image f.lies f.size f.bytes in
+    record {
+      image = image;
+      read = rw same at read;
+      lies = f.lies;
+      stands = b.live;
+      logs_are = b.logs;
+      state = operations_keep_states_sound layout mem (OffOf (fresh layout image)) Boot f.lies sound tt;
+    }

@@ -1,0 +1,19 @@
+-- The store of an image that was read
+use Rattle.std.specs.Prelude.{◌≡◌, ℕ, ◌≤◌, List, length, take, Option, IfSome}
+use Rattle.zone_spec.specs.declared.Zone.{Zone}
+use Rattle.zone_spec.specs.Layouts.{IsLayout}
+use Rattle.session_spec.specs.States.{Live}
+use Rattle.session_spec.specs.Sound.{IsState}
+use Rattle.session_spec.specs.Erasures.{saved_logs}
+use Rattle.old_log.specs.Saving.{SavedLogs, saved}
+use Rattle.ram_core.specs.LiveSeen.{LiveSeen, StandsLive}
+use Rattle.tool_spec.specs.Commands.{after_boot}
+
+-- the store behind the first boot of the first mem bytes, where these are told
+pub record BootedFrom (layout : List Zone) (mem : ℕ) (holds : Option (List ℕ)) (live : LiveSeen) (logs : SavedLogs) : Type 0 where
+  pub image : List ℕ
+  pub read : IfSome holds (λ bytes. (mem ≤ length bytes) × (image ≡ take mem bytes))
+  pub lies : IsLayout layout mem
+  pub stands : StandsLive layout mem live (after_boot layout image)
+  pub logs_are : saved logs ≡ saved_logs layout (after_boot layout image)
+  pub state : IsState layout mem (Live (after_boot layout image))

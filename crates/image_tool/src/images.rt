@@ -1,0 +1,43 @@
+// The commands that read no image.
+ghost use Rattle.std.specs.Prelude.{◌≡◌, ℕ, ◌≤◌, ◌<◌, ◌^◌, ◌∷◌, [], List, Option, replicate, length, IfErr, MatchOption};
+ghost use Rattle.tool_spec.specs.Texts.{layout_text};
+ghost use Rattle.tool_spec.specs.Commands.{shows, leaves};
+ghost use Rattle.tool_frame.specs.Ended.{EndedAt, CausedAt, KeptAt};
+ghost use Rattle.zone_params.specs.Laid.{params_of, zones_of};
+
+use crate::layout_text::layout_text;
+use box_io::{Failed, Sink, Store};
+use std::alloc::{AllocError, Global};
+use tool_frame::{Stop, fill};
+use zone_params::types::Layout;
+
+/// Puts a layout.
+#[tactic(auto, using(crate::proofs::Shown::put_all, crate::proofs::Shown::put_none, crate::proofs::Shown::put_front))]
+pub fn show_layout<O: Sink>(alloc: Global, layout: &Layout, out: &mut O) -> Result<(), Stop>
+    ensures later { O.faults out.old ≤ O.faults out.new }
+    ensures caused { (f f' g g' : ℕ) → CausedAt f f' g g' (O.faults out.old) (O.faults out.new) result }
+    ensures ended { (holds : Option (List ℕ)) → EndedAt (shows (layout_text (params_of layout.now) (zones_of layout.now) ∷ [])) (O.given out.old) (O.given out.new) holds holds result }
+{
+    let text = match layout_text(alloc, layout) {
+        Ok(text) => text,
+        Err(AllocError) => return Err(Stop::Memory),
+    };
+    match out.put(&text) {
+        Ok(()) => Ok(()),
+        Err(Failed) => Err(Stop::SinkFault),
+    }
+}
+
+/// Writes a blank image of so many bytes.
+#[tactic(auto, using(crate::proofs::Shown::wrote_all, crate::proofs::Shown::wrote_front))]
+pub fn blank<M: Store>(image: &mut M, mem: u32) -> Result<(), Stop>
+    ensures later { M.faults image.old ≤ M.faults image.new }
+    ensures caused { (f f' h h' : ℕ) → CausedAt f f' (M.faults image.old) (M.faults image.new) h h' result }
+    ensures kept { KeptAt (M.holds image.old) (M.holds image.new) result }
+    ensures ended { (given : Option (List ℕ)) → EndedAt (leaves (replicate mem 0)) given given (M.holds image.old) (M.holds image.new) result }
+{
+    match fill(image, mem) {
+        Ok(()) => Ok(()),
+        Err(Failed) => Err(Stop::ImageFault),
+    }
+}

@@ -1,0 +1,110 @@
+// The records of an image: all of them listed, and one extracted or erased.
+ghost use Rattle.std.specs.Prelude.{◌≡◌, ◌≤◌, ℕ, List, Option};
+ghost use Rattle.tool_spec.specs.Commands.{ListRecords, ExtractRecord, EraseRecord};
+ghost use Rattle.tool_spec.specs.Answers.{outside};
+ghost use Rattle.tool_frame.specs.Ended.{CausedAt, KeptAt, ReadEnds, ImageEnds};
+ghost use Rattle.image_tool.specs.Plans.{plan_for};
+ghost use Rattle.image_tool.specs.Records.{stop_for};
+
+use crate::stores::boot_store;
+use box_io::{Failed, Sink, Store};
+use std::alloc::{AllocError, Global};
+use store_session::{LineError, content_of};
+use store_texts::listing;
+use tool_frame::{Stop, save};
+use zone_params::types::Layout;
+
+// The line that a command's refusal names: the one behind the boot.
+const LINE: u32 = 2;
+
+// A record's refusal as the end of a command.
+fn stop_of(e: LineError) -> Stop
+    ensures { result ≡ stop_for e }
+{
+    match e {
+        LineError::Memory => Stop::Memory,
+        LineError::Refused(cause) => Stop::Refused { line: LINE, cause },
+    }
+}
+
+/// Puts the records of an image.
+pub fn list<M: Store, O: Sink>(
+    alloc: Global,
+    layout: Layout,
+    image: &mut M,
+    out: &mut O,
+) -> Result<(), Stop>
+    ensures later { (M.faults image.old ≤ M.faults image.new) × (O.faults out.old ≤ O.faults out.new) }
+    ensures caused { (f f' : ℕ) → CausedAt f f' (M.faults image.old) (M.faults image.new) (O.faults out.old) (O.faults out.new) result }
+    ensures same { M.holds image.new ≡ M.holds image.old }
+    ensures ended { (left : Option (List ℕ)) (f : ℕ) → ReadEnds (plan_for ListRecords layout) (outside left f (M.holds image.old) (M.faults image.old) (O.given out.old) (O.faults out.old))
+        (outside left f (M.holds image.new) (M.faults image.new) (O.given out.new) (O.faults out.new)) result }
+{
+    let (_, logs) = match boot_store(alloc, layout, image) {
+        Ok(booted) => booted,
+        Err(stop) => return Err(stop),
+    };
+    let text = match listing(alloc, &logs) {
+        Ok(text) => text,
+        Err(AllocError) => return Err(Stop::Memory),
+    };
+    match out.put(&text) {
+        Ok(()) => Ok(()),
+        Err(Failed) => Err(Stop::SinkFault),
+    }
+}
+
+/// Puts the content of the record of this name.
+pub fn extract<M: Store, O: Sink>(
+    alloc: Global,
+    layout: Layout,
+    name: &str,
+    image: &mut M,
+    out: &mut O,
+) -> Result<(), Stop>
+    ensures later { (M.faults image.old ≤ M.faults image.new) × (O.faults out.old ≤ O.faults out.new) }
+    ensures caused { (f f' : ℕ) → CausedAt f f' (M.faults image.old) (M.faults image.new) (O.faults out.old) (O.faults out.new) result }
+    ensures same { M.holds image.new ≡ M.holds image.old }
+    ensures ended { (left : Option (List ℕ)) (f : ℕ) → ReadEnds (plan_for (ExtractRecord name.now) layout) (outside left f (M.holds image.old) (M.faults image.old) (O.given out.old) (O.faults out.old))
+        (outside left f (M.holds image.new) (M.faults image.new) (O.given out.new) (O.faults out.new)) result }
+{
+    let (_, logs) = match boot_store(alloc, layout, image) {
+        Ok(booted) => booted,
+        Err(stop) => return Err(stop),
+    };
+    let content = match content_of(alloc, &logs, name.as_bytes()) {
+        Ok(content) => content,
+        Err(e) => return Err(stop_of(e)),
+    };
+    match out.put(content.as_slice()) {
+        Ok(()) => Ok(()),
+        Err(Failed) => Err(Stop::SinkFault),
+    }
+}
+
+/// Erases the record of this name, and writes the image back.
+pub fn erase<M: Store>(
+    alloc: Global,
+    layout: Layout,
+    name: &str,
+    image: &mut M,
+) -> Result<(), Stop>
+    ensures later { M.faults image.old ≤ M.faults image.new }
+    ensures caused { (f f' h h' : ℕ) → CausedAt f f' (M.faults image.old) (M.faults image.new) h h' result }
+    ensures kept { KeptAt (M.holds image.old) (M.holds image.new) result }
+    ensures ended { (left given : Option (List ℕ)) (f h : ℕ) → ImageEnds (plan_for (EraseRecord name.now) layout) (outside left f (M.holds image.old) (M.faults image.old) given h)
+        (outside left f (M.holds image.new) (M.faults image.new) given h) result }
+{
+    let (mut live, mut logs) = match boot_store(alloc, layout, image) {
+        Ok(booted) => booted,
+        Err(stop) => return Err(stop),
+    };
+    match store_session::erase(alloc, &mut live, &mut logs, name.as_bytes()) {
+        Ok(()) => {}
+        Err(e) => return Err(stop_of(e)),
+    }
+    match save(image, live.stop().into_image().as_slice()) {
+        Ok(()) => Ok(()),
+        Err(Failed) => Err(Stop::ImageFault),
+    }
+}

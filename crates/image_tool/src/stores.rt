@@ -1,0 +1,50 @@
+// The store of an image.
+ghost use Rattle.std.specs.Prelude.{◌≡◌, ◌≤◌, vec_len, IfOk, IfErr};
+ghost use Rattle.zone_spec.specs.Layout.{rounded};
+ghost use Rattle.zone_params.specs.Laid.{params_of, zones_of};
+ghost use Rattle.store_session.specs.Playing.{StandsFresh};
+ghost use Rattle.tool_frame.specs.Stages.{LoadStop};
+ghost use Rattle.image_tool.specs.Stores.{BootedFrom};
+
+use box_io::{Bytes, Store};
+use old_log::Logs;
+use ram_core::{Live, Off};
+use std::alloc::{AllocError, Global};
+use tool_frame::{Stop, load};
+use zone_params::types::Layout;
+
+/// The store of an image of which nothing is known.
+pub fn fresh_store(alloc: Global, layout: Layout, image: Vec<u8>) -> Result<Off, AllocError>
+    requires { vec_len image ≡ rounded (params_of layout).mem }
+    ensures { IfOk result (λ off. StandsFresh (zones_of layout) (rounded (params_of layout).mem) image.items off) }
+{
+    let _zones = layout.zones();
+    let image = Bytes::from_vec(image);
+    let _len = image.len();
+    Off::fresh(alloc, layout, image)
+}
+
+/// Reads an image, and boots its store.
+pub fn boot_store<M: Store>(
+    alloc: Global,
+    layout: Layout,
+    image: &mut M,
+) -> Result<(Live, Logs), Stop>
+    ensures booted { IfOk result (λ r. BootedFrom (zones_of layout) (rounded (params_of layout).mem) (M.holds image.old) r.0 r.1) }
+    ensures stopped { IfErr result (λ s. LoadStop s (rounded (params_of layout).mem) (M.holds image.old) (M.faults image.old) (M.faults image.new)) }
+    ensures same { M.holds image.new ≡ M.holds image.old }
+    ensures later { M.faults image.old ≤ M.faults image.new }
+{
+    let bytes = match load(alloc, image, layout.mem()) {
+        Ok(bytes) => bytes,
+        Err(stop) => return Err(stop),
+    };
+    let off = match fresh_store(alloc, layout, bytes) {
+        Ok(off) => off,
+        Err(AllocError) => return Err(Stop::Memory),
+    };
+    match off.boot() {
+        Ok((live, logs, _)) => Ok((live, logs)),
+        Err(_) => Err(Stop::Memory),
+    }
+}
