@@ -135,7 +135,10 @@ fn a_number_makes_one_session(rt: HostRuntime) -> Result<(), Fail> {
         assert_eq!(rt; image.as_slice(), again.as_slice());
         assert_eq!(rt; text.as_slice(), same.as_slice());
         let (counts, zones) = counted(alloc, line, 1)?;
-        assert_eq!(rt; counts.as_told + counts.differs, 8 * zones);
+        assert_eq!(rt;
+            counts.as_told.checked_add(counts.differs),
+            zones.checked_mul(8)
+        );
     }
     Ok(())
 }
