@@ -4,3 +4,10 @@ pub mod Turning
 pub mod Damaging
 pub mod Flips
 pub mod Fits
+pub mod Idle
+pub mod Making
+pub mod Cutting
+pub mod Asking
+pub mod Calling
+pub mod Rounding
+pub mod WholeSession

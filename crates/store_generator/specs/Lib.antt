@@ -1,2 +1,4 @@
 pub mod Turns
 pub mod Damage
+pub mod Counting
+pub mod Sessions

@@ -1,12 +1,17 @@
-//! What the session of a number draws: calls, an append that is cut, and damage, by the numbers that it begins.
+//! The session of a number: calls, an append that is cut, and damage, drawn by the numbers that it begins, in eight rounds.
 #![tactic(auto)]
 
+mod calls;
+mod counts;
 mod damage;
 mod draws;
+mod generating;
+mod rounds;
 mod turns;
 
 pub use damage::{draw_all, make_damage};
 pub use draws::Draws;
+pub use generating::generate;
 pub use turns::{CutAppend, Targets};
 
 #[cfg(test)]
