@@ -1,5 +1,6 @@
 pub mod Shown
 pub mod Booted
 pub mod RecordEnds
+pub mod MakeEnds
 pub mod ScriptEnds
 pub mod WorkEnds

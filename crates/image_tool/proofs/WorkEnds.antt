@@ -10,7 +10,7 @@ use Rattle.tool_frame.specs.Ends.{Finished}
 use Rattle.tool_frame.specs.Words.{PlanStop, IsNoFault}
 use Rattle.tool_frame.specs.Ended.{EndedAt, CausedAt, PlanEnds, Nothing}
 use Rattle.tool_frame.proofs.Tool.{plan_stopped, tool_answers}
-use Rattle.image_tool.specs.Built.{WholeEnds, WholeAnswers}
+use Rattle.image_tool.specs.Built.{WorkEnds, ToolAnswers}
 
 -- a stop that no fault of the outside makes has its cause
 pub no_fault_caused : (s : Stop) (f g h : ℕ) → IsNoFault s → CausedAt f f g g h h (Err s)
@@ -27,13 +27,12 @@ no_fault_caused (BadLine x) f g h n = tt
 no_fault_caused (Refused x y) f g h n = tt
 
 -- words of which no plan was read
-pub read_stopped : (r : Result Plan Stop) (s : Stop) (a b : Outside) → PlanStop s r → Nothing a b → WholeEnds r a b (Err s)
-read_stopped (Ok plan) s a b h n = λ whole. plan_stopped (Ok plan) s a b h n
-read_stopped (Err f) s a b h n = plan_stopped (Err f) s a b h n
+pub read_stopped : (r : Result Plan Stop) (s : Stop) (a b : Outside) → PlanStop s r → Nothing a b → WorkEnds r a b (Err s)
+read_stopped r s a b h n = plan_stopped r s a b h n
 
 -- a command whose work was done
-pub read_done : (r : Result Plan Stop) (plan : Plan) (e : End) (a b : Outside) → r ≡ Ok plan → PlanEnds plan.command plan a b e → WholeEnds r a b e
-read_done r plan e a b h k = rw h (λ whole. k)
+pub read_done : (r : Result Plan Stop) (plan : Plan) (e : End) (a b : Outside) → r ≡ Ok plan → PlanEnds plan.command plan a b e → WorkEnds r a b e
+read_done r plan e a b h k = rw h k
 
 -- the layout was shown
 pub layout_shown : (plan : Plan) (e : End) (a b : Outside) → plan.command ≡ ShowLayout → NoScript a b → NoImage a b → EndedAt (shows (layout_text plan.params plan.zones ∷ [])) a.given b.given a.holds a.holds e → PlanEnds plan.command plan a b e
@@ -44,6 +43,6 @@ pub blank_left : (plan : Plan) (mem : ℕ) (e : End) (a b : Outside) → mem ≡
 blank_left plan mem e a b same is script given ended = rw is (record { whole = rw (given, ← same) ended; script = script })
 
 -- and what is answered
-pub whole_answers : (r : Result Plan Stop) (a m b : Outside) (e : End) (status : ℕ) → NoScript m b → NoImage m b → WholeEnds r a m e → Finished e m.given b.given m.sink_faults b.sink_faults status → WholeAnswers r a b status
+pub whole_answers : (r : Result Plan Stop) (a m b : Outside) (e : End) (status : ℕ) → NoScript m b → NoImage m b → WorkEnds r a m e → Finished e m.given b.given m.sink_faults b.sink_faults status → ToolAnswers r a b status
 whole_answers (Ok plan) a m b e status script image h f = λ whole. tool_answers (Ok plan) a m b e status script image (h whole) f
 whole_answers (Err s) a m b e status script image h f = tool_answers (Err s) a m b e status script image h f

@@ -1,4 +1,3 @@
 pub mod Plans
 pub mod Stores
 pub mod Records
-pub mod Built

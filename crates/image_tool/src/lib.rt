@@ -3,6 +3,7 @@
 
 mod images;
 mod layout_text;
+mod making;
 mod records;
 mod script;
 mod stores;

@@ -2,12 +2,12 @@
 ghost use Rattle.std.specs.Prelude.{◌≡◌, ◌≢◌, ◌≤◌};
 ghost use Rattle.box_io.specs.Outside.{Rose};
 ghost use Rattle.tool_spec.specs.Commands.{plan_of};
-ghost use Rattle.tool_spec.specs.Answers.{outside, Later};
+ghost use Rattle.tool_spec.specs.Answers.{outside, Later, ToolAnswers};
 ghost use Rattle.tool_frame.specs.Words.{texts};
-ghost use Rattle.tool_frame.specs.Ended.{Caused, KeptAt};
-ghost use Rattle.image_tool.specs.Built.{WholeEnds, WholeAnswers};
+ghost use Rattle.tool_frame.specs.Ended.{Caused, KeptAt, WorkEnds};
 
 use crate::images::{blank, show_layout};
+use crate::making::make;
 use crate::records::{erase, extract, list};
 use crate::script::run_script;
 use box_io::{Sink, Source, Store};
@@ -29,7 +29,7 @@ fn do_work<S: Source, M: Store, O: Sink>(
     ensures kept { KeptAt (M.holds image.old) (M.holds image.new) result }
     ensures ended { let before = outside (S.left script.old) (S.faults script.old) (M.holds image.old) (M.faults image.old) (O.given out.old) (O.faults out.old) in
         let after = outside (S.left script.new) (S.faults script.new) (M.holds image.new) (M.faults image.new) (O.given out.new) (O.faults out.new) in
-        WholeEnds (plan_of (texts words.now)) before after result }
+        WorkEnds (plan_of (texts words.now)) before after result }
 {
     let plan = match read_plan(alloc, words) {
         Ok(plan) => plan,
@@ -43,7 +43,7 @@ fn do_work<S: Source, M: Store, O: Sink>(
         Command::Erase(name) => erase(alloc, layout, name, image),
         Command::Layout => show_layout(alloc, &layout, out),
         Command::Blank => blank(image, layout.mem()),
-        Command::Make(_) => Err(Stop::Usage),
+        Command::Make(n) => make(alloc, layout, n, image, out),
     }
 }
 
@@ -67,7 +67,7 @@ pub fn run<S: Source, M: Store, O: Sink>(
     ensures untouched { result ≢ 0 → result ≢ 6 → result ≢ 7 → M.holds image.new ≡ M.holds image.old }
     ensures answers { let before = outside (S.left script.old) (S.faults script.old) (M.holds image.old) (M.faults image.old) (O.given out.old) (O.faults out.old) in
         let after = outside (S.left script.new) (S.faults script.new) (M.holds image.new) (M.faults image.new) (O.given out.new) (O.faults out.new) in
-        WholeAnswers (plan_of (texts words.now)) before after result }
+        ToolAnswers (plan_of (texts words.now)) before after result }
 {
     let end = do_work(alloc, words, script, image, out);
     finish(end, out)

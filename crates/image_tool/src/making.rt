@@ -1,0 +1,40 @@
+// The image of a generated session.
+ghost use Rattle.std.specs.Prelude.{◌≡◌, ◌≤◌, ℕ, List, Option};
+ghost use Rattle.tool_spec.specs.Commands.{MakeImage};
+ghost use Rattle.tool_spec.specs.Answers.{outside};
+ghost use Rattle.tool_frame.specs.Ended.{CausedAt, KeptAt, MakeEnds};
+ghost use Rattle.image_tool.specs.Plans.{plan_for};
+
+use box_io::{Failed, Sink, Store};
+use std::alloc::{AllocError, Global};
+use store_generator::generate;
+use tool_frame::{Stop, save};
+use zone_params::types::Layout;
+
+/// Puts the summary of the session of n, and writes the image that it leaves.
+pub fn make<M: Store, O: Sink>(
+    alloc: Global,
+    layout: Layout,
+    n: u32,
+    image: &mut M,
+    out: &mut O,
+) -> Result<(), Stop>
+    ensures later { (M.faults image.old ≤ M.faults image.new) × (O.faults out.old ≤ O.faults out.new) }
+    ensures caused { (f f' : ℕ) → CausedAt f f' (M.faults image.old) (M.faults image.new) (O.faults out.old) (O.faults out.new) result }
+    ensures kept { KeptAt (M.holds image.old) (M.holds image.new) result }
+    ensures ended { (left : Option (List ℕ)) (f : ℕ) → MakeEnds (plan_for (MakeImage n) layout) (outside left f (M.holds image.old) (M.faults image.old) (O.given out.old) (O.faults out.old))
+        (outside left f (M.holds image.new) (M.faults image.new) (O.given out.new) (O.faults out.new)) result }
+{
+    let (made, text) = match generate(alloc, layout, n) {
+        Ok(made) => made,
+        Err(AllocError) => return Err(Stop::Memory),
+    };
+    match out.put(&text) {
+        Ok(()) => {}
+        Err(Failed) => return Err(Stop::SinkFault),
+    }
+    match save(image, made.as_slice()) {
+        Ok(()) => Ok(()),
+        Err(Failed) => Err(Stop::ImageFault),
+    }
+}
