@@ -1,15 +1,14 @@
 -- What is drawn is asked of rings: appends of a ring of the layout, and at most one call a turn
-use Rattle.std.proofs.Common.{◌≡◌, ℕ, zero, suc, ◌+◌, ◌≤◌, ◌==◌, Bool, true, false, cond, not, nat_lt, List, [], ◌∷◌, ◌++◌, length, slice_get, Option, Some, None, refl, sym, ap, ◌∙◌, arith, subst}
-use Rattle.std.specs.List.{AllByRecursion, range_with_len}
+use Rattle.std.proofs.Common.{◌≡◌, ℕ, zero, suc, ◌+◌, ◌≤◌, ◌==◌, Bool, true, false, cond, nat_lt, List, [], ◌∷◌, ◌++◌, length, slice_get, Option, Some, None, refl, arith, subst}
+use Rattle.std.specs.List.{AllByRecursion}
 use Rattle.std.proofs.lemmas.List.{length-append}
 use Rattle.zone_spec.specs.declared.Zone.{Zone}
 use Rattle.zone_spec.specs.declared.ZoneName.{ZoneName}
-use Rattle.zone_spec.specs.declared.Time.{Time}
 use Rattle.zone_spec.specs.declared.Kind.TheVariants.{Dump as DumpKind}
 use Rattle.zone_spec.specs.Records.{is_of}
 use Rattle.session_spec.specs.Zones.{dump_zones}
-use Rattle.session_spec.specs.LiveCalls.{Ask, Append, Dump}
-use Rattle.tool_spec.specs.Generated.{Drawn, CutAppend, draw, draws, draw_each, joined, rings, append_to, dump_of, cut_in, drawn_append, drawn_dump, drawn_turn, drawn_cut}
+use Rattle.session_spec.specs.LiveCalls.{Ask, Dump}
+use Rattle.tool_spec.specs.Generated.{draw, draw_each, joined, rings, append_to, dump_of, cut_in, drawn_append, drawn_dump, drawn_turn, drawn_cut}
 use Rattle.store_generator.specs.Sessions.{IsForRing, IsCutOfRing}
 
 abbrev IsRing : ZoneName → Type 0

@@ -1,27 +1,25 @@
 -- An append of which the first stores are made: the zone that a stop cuts
-use Rattle.std.proofs.Common.{◌≡◌, ℕ, zero, suc, ◌+◌, ◌-◌, ◌==◌, ◌<◌, ◌≤◌, min, Bool, true, false, cond, if◌then◌else◌, is_none, is_some, nat_lt, List, [], ◌∷◌, ◌++◌, length, map, filter, zip, take, drop, slice_get, slice_set, Option, Some, None, Result, Ok, Err, refl, sym, ap, ◌∙◌, arith, subst}
+use Rattle.std.proofs.Common.{◌≡◌, ℕ, zero, suc, ◌+◌, ◌==◌, ◌<◌, min, Bool, true, false, cond, if◌then◌else◌, is_none, nat_lt, List, [], ◌∷◌, length, map, filter, zip, slice_set, Option, Some, None, refl, sym, ap, ◌∙◌, arith}
 use Rattle.std.proofs.lemmas.Bool.{le-ltb, eqb-true}
 use Rattle.std.proofs.lemmas.List.{set-set, length-set}
 use Rattle.std.proofs.lemmas.Option.{slice_get_within}
 use Rattle.std.specs.List.{remove}
 use Rattle.zone_spec.specs.declared.Zone.{Zone}
 use Rattle.zone_spec.specs.declared.ZoneName.{ZoneName}
-use Rattle.zone_spec.specs.declared.Refusal.{Refusal}
-use Rattle.zone_spec.specs.declared.Refusal.TheVariants.{NoZone, Idle}
-use Rattle.zone_spec.specs.Layouts.{IsLayout, zone_place}
+use Rattle.zone_spec.specs.Layouts.{zone_place}
 use Rattle.zone_spec.specs.Told.{Call}
 use Rattle.zone_spec.specs.Calls.{call_stores}
 use Rattle.session_spec.specs.States.{Flight, OffZone, LiveZone, LiveState, Session, Live}
 use Rattle.session_spec.specs.Stop.{stopped, zone_stopped}
-use Rattle.session_spec.specs.ZoneCalls.{begun, stepped, stepped_by}
+use Rattle.session_spec.specs.ZoneCalls.{begun, stepped}
 use Rattle.session_spec.specs.LiveZones.{Target, target, with_zone}
-use Rattle.session_spec.specs.LiveCalls.{Ask, Append, call_of, begin, step, goes_on}
-use Rattle.session_spec.specs.Operations.{Begin, Step, answered, left_by}
+use Rattle.session_spec.specs.LiveCalls.{Append, call_of}
+use Rattle.session_spec.specs.Operations.{Begin, Step}
 use Rattle.session_laws.proofs.Targets.{target-some}
-use Rattle.ram_core.specs.LiveSeen.{LiveSeen, StandsLive}
-use Rattle.tool_spec.specs.Generated.{Generated, CutAppend, after, stores_of, stores_in, uncut, with_cut}
+use Rattle.ram_core.specs.LiveSeen.{LiveSeen}
+use Rattle.tool_spec.specs.Generated.{Generated, after, stores_of, stores_in, uncut, with_cut}
 use Rattle.store_generator.specs.declared.counts.Counts.{Counts}
-use Rattle.store_generator.specs.Counting.{counted, calls_added}
+use Rattle.store_generator.specs.Counting.{calls_added}
 use Rattle.store_generator.specs.Sessions.{IsForRing, AreIdle, without, without_ring, IsBegun, IsLeft, RunsIdle, RunsCut}
 use Rattle.store_generator.proofs.Idle.{idle_at, idle_set, target_place, begun_there, begun_nowhere}
 use Rattle.store_generator.proofs.Making.{target_set, begun_state}

@@ -1,5 +1,5 @@
 -- A store in whose zones no flight stands: nothing is in a call's way
-use Rattle.std.proofs.Common.{◌≡◌, ℕ, zero, suc, Bool, true, false, cond, ◌&&◌, ◌||◌, is_some, List, [], ◌∷◌, map, zip, slice_get, slice_set, get_or, Option, Some, None, Result, Ok, Err, refl, sym, ap, ◌∙◌, true≢false}
+use Rattle.std.proofs.Common.{◌≡◌, ℕ, zero, suc, Bool, true, false, ◌&&◌, is_some, List, [], ◌∷◌, map, zip, slice_get, slice_set, get_or, Option, Some, None, Ok, Err, refl, sym, ap, ◌∙◌, true≢false}
 use Rattle.std.specs.List.{list_any}
 use Rattle.std.proofs.lemmas.Option.{slice_get-get_or}
 use Rattle.std.proofs.lemmas.List.Quantifiers.{position-Some}
@@ -7,11 +7,10 @@ use Rattle.zone_spec.specs.declared.Zone.{Zone}
 use Rattle.zone_spec.specs.declared.ZoneName.{ZoneName}
 use Rattle.zone_spec.specs.declared.Kind.{Kind}
 use Rattle.zone_spec.specs.declared.Kind.TheVariants.{Dump as DumpKind, Console, Ftrace, Pmsg}
-use Rattle.zone_spec.specs.declared.Refusal.{Refusal}
-use Rattle.zone_spec.specs.declared.Refusal.TheVariants.{NoZone, Busy}
+use Rattle.zone_spec.specs.declared.Refusal.TheVariants.{NoZone}
 use Rattle.zone_spec.specs.Records.{is_of}
 use Rattle.zone_spec.specs.Layouts.{is_zone, zone_place}
-use Rattle.session_spec.specs.States.{Flight, LiveZone, LiveState}
+use Rattle.session_spec.specs.States.{LiveZone, LiveState}
 use Rattle.session_spec.specs.ZoneCalls.{begun}
 use Rattle.session_spec.specs.LiveZones.{Target, target_of, target_at, target, ring_only, changed}
 use Rattle.session_spec.specs.LiveCalls.{Ask, Append, Erase, Dump, call_of, asked_name, asked_zone, is_barred, begin, begins}

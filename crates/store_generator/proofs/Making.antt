@@ -1,5 +1,5 @@
 -- A call made in an idle store: how many stores it has, and that none flies after it
-use Rattle.std.proofs.Common.{◌≡◌, ℕ, zero, suc, ◌+◌, ◌-◌, ◌==◌, ◌<◌, ◌≤◌, Bool, true, false, cond, is_some, nat_lt, List, [], ◌∷◌, length, slice_get, slice_set, Option, Some, None, Result, Ok, Err, refl, sym, ap, ◌∙◌, arith, subst}
+use Rattle.std.proofs.Common.{◌≡◌, ℕ, zero, suc, ◌+◌, ◌-◌, ◌==◌, Bool, true, false, cond, nat_lt, List, [], ◌∷◌, length, slice_get, slice_set, Option, Some, None, Result, Ok, Err, refl, sym, ap, ◌∙◌, arith, subst}
 use Rattle.std.proofs.lemmas.Bool.{le-ltb, eqb-true}
 use Rattle.std.proofs.lemmas.List.{set-set}
 use Rattle.std.specs.Option.{option_map}
@@ -10,18 +10,18 @@ use Rattle.zone_spec.specs.declared.Refusal.TheVariants.{NoZone}
 use Rattle.zone_spec.specs.Layouts.{IsLayout, zone_place}
 use Rattle.zone_spec.specs.Told.{Call}
 use Rattle.zone_spec.specs.Calls.{call_stores}
-use Rattle.session_spec.specs.States.{Flight, LiveZone, LiveState, Session, Live}
+use Rattle.session_spec.specs.States.{Flight, LiveZone, LiveState, Live}
 use Rattle.session_spec.specs.ZoneCalls.{begun, stepped_by, stores_left, total_stores, finished}
-use Rattle.session_spec.specs.LiveZones.{Target, target, target_at, with_zone, changed}
-use Rattle.session_spec.specs.LiveCalls.{Ask, call_of, asked_name, begin, make, step, finish, finish_at, and_finish}
-use Rattle.session_spec.specs.Operations.{Operation, Begin, Make, Step, answered, operated, left_by}
+use Rattle.session_spec.specs.LiveZones.{Target, target, with_zone}
+use Rattle.session_spec.specs.LiveCalls.{Ask, call_of, asked_name, begin, make, step, finish_at, and_finish}
+use Rattle.session_spec.specs.Operations.{Operation, Begin, Make, Step}
 use Rattle.session_spec.specs.Sound.{IsState, IsAsk, IsOperation}
 use Rattle.session_laws.proofs.Targets.{target-some}
 use Rattle.session_laws.proofs.Operations.{operations_keep_states_sound}
-use Rattle.ram_core.specs.LiveSeen.{LiveSeen, StandsLive, Leaves}
+use Rattle.ram_core.specs.LiveSeen.{LiveSeen, StandsLive}
 use Rattle.tool_spec.specs.Generated.{Generated, after, stores_of, stores_in, with_call}
 use Rattle.store_generator.specs.declared.counts.Counts.{Counts}
-use Rattle.store_generator.specs.Counting.{counted, calls_added}
+use Rattle.store_generator.specs.Counting.{calls_added}
 use Rattle.store_generator.specs.Sessions.{IsForRing, AreIdle, left_in, IsMade, IsBegun, IsLeft, RunsIdle}
 use Rattle.store_session.specs.Answers.{Done, IsRefused, Begun, NotBegun}
 use Rattle.store_session.proofs.Steps.{IsLeft as IsLeftNow}

@@ -1,21 +1,21 @@
 -- A halt, a boot, and the rounds of these
-use Rattle.std.proofs.Common.{◌≡◌, ℕ, zero, suc, ◌+◌, ◌-◌, ◌<◌, ◌≤◌, Bool, true, false, cond, List, [], ◌∷◌, ◌++◌, length, map, fold, count_by, take, drop, Option, Some, None, refl, sym, ap, ◌∙◌, arith, subst}
-use Rattle.std.specs.List.{All, range_with_len, remove}
+use Rattle.std.proofs.Common.{◌≡◌, ℕ, suc, ◌+◌, ◌-◌, ◌<◌, List, [], ◌∷◌, length, fold, count_by, take, drop, Option, Some, None, refl, sym, ap, ◌∙◌, subst}
+use Rattle.std.specs.List.{All, range_with_len}
 use Rattle.std.proofs.lemmas.List.Elements.{All-append, All-take, All-drop}
 use Rattle.zone_spec.specs.declared.Zone.{Zone}
 use Rattle.zone_spec.specs.declared.ZoneName.{ZoneName}
 use Rattle.zone_spec.specs.Layouts.{IsLayout, zone_place}
 use Rattle.zone_spec.specs.Parts.{AreBytes}
-use Rattle.session_spec.specs.States.{OffState, LiveState, Session, Off, Live}
+use Rattle.session_spec.specs.States.{OffState, Off, Live}
 use Rattle.session_spec.specs.Off.{fresh}
 use Rattle.session_spec.specs.Boot.{booted, booted_zone}
 use Rattle.session_spec.specs.Stop.{stopped}
-use Rattle.session_spec.specs.Report.{ZoneReport, report}
+use Rattle.session_spec.specs.Report.{ZoneReport}
 use Rattle.session_spec.specs.Sound.{IsState}
 use Rattle.session_spec.specs.LiveCalls.{Ask}
 use Rattle.session_spec.specs.Operations.{Boot}
 use Rattle.session_laws.proofs.Operations.{fresh_is_sound, operations_keep_states_sound}
-use Rattle.ram_core.specs.LiveSeen.{LiveSeen, StandsLive}
+use Rattle.ram_core.specs.LiveSeen.{LiveSeen}
 use Rattle.ram_core.specs.OffSeen.{OffSeen, StandsOff}
 use Rattle.ram_core.specs.Booted.{Booted}
 use Rattle.tool_spec.specs.Generated.{Generated, CutAppend, draw_each, joined, rings, drawn_turn, drawn_cut, drawn_damage, with_call, with_cut, with_stop, with_flip, with_boot, is_told, is_other, zones_uncut, drawn_halt, drawn_boot, round, rounds}
@@ -108,9 +108,6 @@ pub record RoundsLeft (layout : List Zone) (mem : ℕ) (v : LiveSeen) (c : Count
 
 abbrev pub MakesRounds : List Zone → LiveSeen → Counts → ℕ → LiveSeen → Counts → ℕ → ℕ → Type 0
 MakesRounds layout v0 c0 x0 v c q x = (mem : ℕ) (g : Generated) → IsLayout layout mem → RunsIdle layout mem v0 c0 g → RoundsLeft layout mem v c q x (rounds layout g (range_with_len 0 8) x0)
-
-pub rounds_start : (layout : List Zone) (v : LiveSeen) (c : Counts) (x : ℕ) → MakesRounds layout v c x v c 0 x
-rounds_start layout v c x mem g lies r = record { now = g; runs = r; rest = refl }
 
 pub rounds_more : (layout : List Zone) (v0 v w : LiveSeen) (c0 c d : Counts) (x0 q x y : ℕ) → q < 8 → MakesRounds layout v0 c0 x0 v c q x
     → ((mem : ℕ) (g : Generated) → IsLayout layout mem → RunsIdle layout mem v c g → RunsIdle layout mem w d (round layout g q x).0)

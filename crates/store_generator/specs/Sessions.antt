@@ -5,9 +5,9 @@ use Rattle.zone_spec.specs.declared.Zone.{Zone}
 use Rattle.zone_spec.specs.declared.ZoneName.{ZoneName}
 use Rattle.zone_spec.specs.declared.Kind.TheVariants.{Dump as DumpKind}
 use Rattle.zone_spec.specs.Records.{is_of}
-use Rattle.zone_spec.specs.Layouts.{IsLayout, zone_place}
-use Rattle.session_spec.specs.States.{LiveZone, LiveState, OffState, Session, Off, Live}
-use Rattle.session_spec.specs.LiveZones.{Target, target}
+use Rattle.zone_spec.specs.Layouts.{zone_place}
+use Rattle.session_spec.specs.States.{LiveZone, LiveState, OffState, Off, Live}
+use Rattle.session_spec.specs.LiveZones.{Target}
 use Rattle.session_spec.specs.LiveCalls.{Ask, Append, Erase, Dump}
 use Rattle.session_spec.specs.ZoneCalls.{stores_left}
 use Rattle.session_spec.specs.Operations.{Operation, Begin, Make}

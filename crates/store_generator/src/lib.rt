@@ -9,10 +9,10 @@ mod generating;
 mod rounds;
 mod turns;
 
-pub use damage::{draw_all, make_damage};
+use damage::{draw_all, make_damage};
 pub use draws::Draws;
 pub use generating::generate;
-pub use turns::{CutAppend, Targets};
+use turns::{CutAppend, Targets};
 
 #[cfg(test)]
 mod tests;

@@ -1,4 +1,4 @@
-use Rattle.std.proofs.Common.{◌≡◌, ◌+◌, ◌-◌, ◌≤◌, suc, List, ◌∷◌, length, map, arith}
+use Rattle.std.proofs.Common.{◌≡◌, ◌-◌, ◌≤◌, suc, List, ◌∷◌, length, map, arith}
 use Rattle.std.specs.List.{All, AllByRecursion}
 use Rattle.std_alloc.specs.Vec.Iter.{into_iter_items}
 use Rattle.ram_core.specs.declared.ask.Ask.{Ask}

@@ -1,4 +1,4 @@
-use Rattle.std.proofs.Common.{◌≡◌, fold, Option, None, Some, sym, subst, refl}
+use Rattle.std.proofs.Common.{fold, Option, None, Some, sym, subst, refl}
 use Rattle.std.proofs.lemmas.Bool.{lt-ltb, le-ltb}
 use Rattle.tool_spec.specs.Generated.{with_cut}
 use Rattle.store_generator.specs.declared.turns.CutAppend.{CutAppend}

@@ -1,7 +1,7 @@
-use Rattle.std.proofs.Common.{◌≡◌, ℕ, List, length, map, fold, count_by, sym, ap, ◌∙◌, subst}
+use Rattle.std.proofs.Common.{◌≡◌, ℕ, length, map, count_by, sym, ap, ◌∙◌, subst}
 use Rattle.session_spec.specs.Report.{ZoneReport}
 use Rattle.ram_core.specs.Reports.{told_report}
-use Rattle.tool_spec.specs.Generated.{Generated, is_told, is_other, joined, draw_each, drawn_damage}
+use Rattle.tool_spec.specs.Generated.{Generated, is_told, is_other}
 use Rattle.store_generator.specs.declared.counts.Counts.{Counts}
 use Rattle.store_generator.specs.Counting.{flips_added, verdicts_added}
 use Rattle.store_generator.specs.Sessions.{RunsIdle}

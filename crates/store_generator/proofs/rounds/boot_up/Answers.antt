@@ -1,6 +1,5 @@
-use Rattle.std.proofs.Common.{◌≡◌, map}
+use Rattle.std.proofs.Common.{map}
 use Rattle.ram_core.specs.Reports.{told_report}
-use Rattle.old_log.specs.Saving.{saved}
 use Rattle.store_generator.proofs.Rounding.{is_up}
 use Rattle.store_generator.proofs.rounds.boot_up.Goals as goal
 
