@@ -4,30 +4,27 @@ use Rattle.std.specs.Io.KnownBytes.{Appends}
 use Rattle.box_io.specs.Outside.{AppendsFront, Writes, WritesFront}
 use Rattle.session_spec.specs.Stop.{session_image}
 use Rattle.box_script.specs.Fields.{Text}
-use Rattle.tool_spec.specs.Generated.{Generated, generated, summary}
+use Rattle.tool_spec.specs.Generated.{generated, summary}
 use Rattle.tool_spec.specs.Commands.{MakeImage, Plan, Wanted, wanted, wanted_make, mem_of}
 use Rattle.tool_spec.specs.Answers.{Outside, NoScript}
 use Rattle.tool_spec.specs.declared.Stop.TheVariants.{Memory, SinkFault, ImageFault}
 use Rattle.tool_frame.specs.Ended.{Ended, MakeEnds}
 use Rattle.tool_frame.proofs.Script.{Quiet, quiet_memory}
 
+make_wanted : (plan : Plan) (n : ℕ) → plan.command ≡ MakeImage n → wanted plan [] [] ≡ wanted_make n plan.zones (generated plan.zones (mem_of plan) n)
+make_wanted plan n is = rw is refl
+
 module _ (plan : Plan) (n : ℕ) (a b : Outside) (is : plan.command ≡ MakeImage n) (none : NoScript a b) where
-  session : Generated
-  session = generated plan.zones (mem_of plan) n
-
-  made_wanted : wanted plan [] [] ≡ wanted_make n plan.zones session
-  made_wanted = rw is refl
-
   pub make_memory : Quiet a b → MakeEnds plan a b (Err Memory)
   make_memory q = record { whole = quiet_memory (wanted plan [] []) a b q; script = none }
 
   module _ (text : Text) (e : text ≡ summary n plan.zones (generated plan.zones (mem_of plan) n)) where
     pub make_unput : b.holds ≡ a.holds → AppendsFront a.given b.given text → MakeEnds plan a b (Err SinkFault)
-    make_unput same put = record { whole = rw made_wanted (record { count = 1; bytes = rw (append-nil (summary n plan.zones session), ← e) put }, same); script = none }
+    make_unput same put = record { whole = rw (make_wanted plan n is) (record { count = 1; bytes = rw (append-nil (summary n plan.zones (generated plan.zones (mem_of plan) n)), ← e) put }, same); script = none }
 
     module _ (image : List ℕ) (i : image ≡ session_image (generated plan.zones (mem_of plan) n).session) (put : Appends a.given b.given text) where
       pub make_saved : Writes a.holds b.holds 0 image → MakeEnds plan a b (Ok tt)
-      make_saved wrote = record { whole = rw made_wanted (refl, rw (append-nil (summary n plan.zones session), ← e) put, rw i at wrote); script = none }
+      make_saved wrote = record { whole = rw (make_wanted plan n is) (refl, rw (append-nil (summary n plan.zones (generated plan.zones (mem_of plan) n)), ← e) put, rw i at wrote); script = none }
 
       pub make_unsaved : WritesFront a.holds b.holds 0 image → MakeEnds plan a b (Err ImageFault)
-      make_unsaved wrote = record { whole = rw made_wanted (inr (refl, rw (append-nil (summary n plan.zones session), ← e) put, rw i at wrote)); script = none }
+      make_unsaved wrote = record { whole = rw (make_wanted plan n is) (inr (refl, rw (append-nil (summary n plan.zones (generated plan.zones (mem_of plan) n)), ← e) put, rw i at wrote)); script = none }

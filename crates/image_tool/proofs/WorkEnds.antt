@@ -6,11 +6,8 @@ use Rattle.tool_spec.specs.Commands.{ShowLayout, BlankImage, Plan, mem_of, shows
 use Rattle.tool_spec.specs.Answers.{Outside, NoScript, NoImage}
 use Rattle.tool_spec.specs.declared.Stop.{Stop}
 use Rattle.tool_spec.specs.declared.Stop.TheVariants.{Memory, Usage, Param, Layout, Short, ScriptFault, ImageFault, SinkFault, TooLong, BadLine, Refused}
-use Rattle.tool_frame.specs.Ends.{Finished}
-use Rattle.tool_frame.specs.Words.{PlanStop, IsNoFault}
-use Rattle.tool_frame.specs.Ended.{EndedAt, CausedAt, PlanEnds, Nothing}
-use Rattle.tool_frame.proofs.Tool.{plan_stopped, tool_answers}
-use Rattle.image_tool.specs.Built.{WorkEnds, ToolAnswers}
+use Rattle.tool_frame.specs.Words.{IsNoFault}
+use Rattle.tool_frame.specs.Ended.{EndedAt, CausedAt, PlanEnds, WorkEnds}
 
 -- a stop that no fault of the outside makes has its cause
 pub no_fault_caused : (s : Stop) (f g h : ℕ) → IsNoFault s → CausedAt f f g g h h (Err s)
@@ -26,10 +23,6 @@ no_fault_caused TooLong f g h n = tt
 no_fault_caused (BadLine x) f g h n = tt
 no_fault_caused (Refused x y) f g h n = tt
 
--- words of which no plan was read
-pub read_stopped : (r : Result Plan Stop) (s : Stop) (a b : Outside) → PlanStop s r → Nothing a b → WorkEnds r a b (Err s)
-read_stopped r s a b h n = plan_stopped r s a b h n
-
 -- a command whose work was done
 pub read_done : (r : Result Plan Stop) (plan : Plan) (e : End) (a b : Outside) → r ≡ Ok plan → PlanEnds plan.command plan a b e → WorkEnds r a b e
 read_done r plan e a b h k = rw h k
@@ -41,8 +34,3 @@ layout_shown plan e a b is script image ended = rw is (record { whole = rw image
 -- a blank image was written
 pub blank_left : (plan : Plan) (mem : ℕ) (e : End) (a b : Outside) → mem ≡ mem_of plan → plan.command ≡ BlankImage → NoScript a b → b.given ≡ a.given → EndedAt (leaves (replicate mem 0)) a.given a.given a.holds b.holds e → PlanEnds plan.command plan a b e
 blank_left plan mem e a b same is script given ended = rw is (record { whole = rw (given, ← same) ended; script = script })
-
--- and what is answered
-pub whole_answers : (r : Result Plan Stop) (a m b : Outside) (e : End) (status : ℕ) → NoScript m b → NoImage m b → WorkEnds r a m e → Finished e m.given b.given m.sink_faults b.sink_faults status → ToolAnswers r a b status
-whole_answers (Ok plan) a m b e status script image h f = λ whole. tool_answers (Ok plan) a m b e status script image (h whole) f
-whole_answers (Err s) a m b e status script image h f = tool_answers (Err s) a m b e status script image h f

@@ -1,3 +1,4 @@
 pub mod Plans
 pub mod Stores
 pub mod Records
+pub mod Headline

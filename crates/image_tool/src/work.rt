@@ -4,6 +4,7 @@ ghost use Rattle.box_io.specs.Outside.{Rose};
 ghost use Rattle.tool_spec.specs.Commands.{plan_of};
 ghost use Rattle.tool_spec.specs.Answers.{outside, Later, ToolAnswers};
 ghost use Rattle.tool_frame.specs.Words.{texts};
+ghost use Rattle.image_tool.specs.Headline.{RunReads};
 ghost use Rattle.tool_frame.specs.Ended.{Caused, KeptAt, WorkEnds};
 
 use crate::images::{blank, show_layout};
@@ -68,6 +69,7 @@ pub fn run<S: Source, M: Store, O: Sink>(
     ensures answers { let before = outside (S.left script.old) (S.faults script.old) (M.holds image.old) (M.faults image.old) (O.given out.old) (O.faults out.old) in
         let after = outside (S.left script.new) (S.faults script.new) (M.holds image.new) (M.faults image.new) (O.given out.new) (O.faults out.new) in
         ToolAnswers (plan_of (texts words.now)) before after result }
+    ensures reads { RunReads (plan_of (texts words.now)) (outside (S.left script.old) (S.faults script.old) (M.holds image.old) (M.faults image.old) (O.given out.old) (O.faults out.old)) }
 {
     let end = do_work(alloc, words, script, image, out);
     finish(end, out)

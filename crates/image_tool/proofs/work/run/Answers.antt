@@ -1,6 +1,12 @@
 use Rattle.std.proofs.Common.{refl}
-use Rattle.image_tool.proofs.WorkEnds.{whole_answers}
+use Rattle.tool_spec.specs.Commands.{asked}
+use Rattle.tool_frame.specs.Words.{texts}
+use Rattle.tool_frame.proofs.Tool.{tool_answers}
+use Rattle.image_tool.proofs.HeadlineReads.{run_reads}
 use Rattle.image_tool.proofs.work.run.Goals as goal
 
 pub returns-clause-answers : goal.returns-clause-answers
-returns-clause-answers g c = whole_answers _ _ _ _ _ _ (record { left = refl; source = refl }) (record { holds = refl; store = refl }) c.do_work-end.ensures.ended c.finish.ensures
+returns-clause-answers g c = tool_answers _ _ _ _ _ _ (record { left = refl; source = refl }) (record { holds = refl; store = refl }) c.do_work-end.ensures.ended c.finish.ensures
+
+pub returns-clause-reads : goal.returns-clause-reads
+returns-clause-reads g c = run_reads (asked (texts c.args.words.now)) _ _ refl ?
