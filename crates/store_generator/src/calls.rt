@@ -12,7 +12,8 @@ ghost use Rattle.ram_core.specs.LiveSeen.{StandsLive};
 ghost use Rattle.tool_spec.specs.Generated.{Generated, with_call, with_cut};
 ghost use Rattle.store_generator.specs.Turns.{cut_of};
 ghost use Rattle.store_generator.specs.Counting.{AreBelow, Grows, calls_added};
-ghost use Rattle.store_generator.specs.Sessions.{IsForRing, IsCutOfRing, AreIdle, left_in, IsMade, IsBegun, IsLeft, RunsIdle, RunsCut};
+ghost use Rattle.store_generator.specs.Sessions.{IsForRing, IsCutOfRing, AreIdle, left_in, IsMade};
+ghost use Rattle.store_generator.specs.Sessions.{IsBegun, IsLeft, RunsIdle, RunsCut};
 
 use crate::CutAppend;
 use crate::counts::Counts;
@@ -35,7 +36,8 @@ fn check(ask: &Ask)
 
 // How many stores are left of a zone's flight, none where there is no such zone.
 fn left(live: &Live, zone: ZoneName) -> u64
-    ensures { (layout : List Zone) (mem : ℕ) (s : LiveState) → StandsLive layout mem live.now s → result ≡ left_in (target layout s zone) }
+    ensures { (layout : List Zone) (mem : ℕ) (s : LiveState) → StandsLive layout mem live.now s
+        → result ≡ left_in (target layout s zone) }
 {
     match live.left(zone) {
         Ok(left) => left,
@@ -47,7 +49,8 @@ fn left(live: &Live, zone: ZoneName) -> u64
 fn make_stores(live: &mut Live, ask: Ask) -> u64
     requires can { CanBeAsked ask }
     requires ring { IsForRing (told_ask ask) }
-    ensures { (layout : List Zone) (mem : ℕ) (s : LiveState) → IsLayout layout mem → StandsLive layout mem live.old s → IsState layout mem (LiveOf s) → AreIdle s.zones
+    ensures { (layout : List Zone) (mem : ℕ) (s : LiveState) → IsLayout layout mem
+        → StandsLive layout mem live.old s → IsState layout mem (LiveOf s) → AreIdle s.zones
         → IsMade layout mem s (told_ask ask) live.new result }
 {
     check(&ask);
@@ -67,7 +70,9 @@ pub fn make_call(live: &mut Live, counts: &mut Counts, ask: Ask)
     requires can { CanBeAsked ask }
     requires ring { IsForRing (told_ask ask) }
     requires room { AreBelow counts.old (2 ^ 32) }
-    ensures made { (layout : List Zone) (mem : ℕ) (g : Generated) → IsLayout layout mem → RunsIdle layout mem live.old counts.old g → RunsIdle layout mem live.new counts.new (with_call layout g (told_ask ask)) }
+    ensures made { (layout : List Zone) (mem : ℕ) (g : Generated) → IsLayout layout mem
+        → RunsIdle layout mem live.old counts.old g
+        → RunsIdle layout mem live.new counts.new (with_call layout g (told_ask ask)) }
     ensures grows { Grows counts.old counts.new 1 }
 {
     let stores = make_stores(live, ask);
@@ -80,7 +85,8 @@ pub fn make_calls(live: &mut Live, counts: &mut Counts, asks: Vec<Ask>)
     requires rings { AllByRecursion IsForRing (map told_ask asks.items) }
     requires few { length asks.items ≤ 24 }
     requires room { AreBelow counts.old (2 ^ 31) }
-    ensures made { (layout : List Zone) (mem : ℕ) (g : Generated) → IsLayout layout mem → RunsIdle layout mem live.old counts.old g
+    ensures made { (layout : List Zone) (mem : ℕ) (g : Generated) → IsLayout layout mem
+        → RunsIdle layout mem live.old counts.old g
         → RunsIdle layout mem live.new counts.new (fold (with_call layout) g (map told_ask asks.items)) }
     ensures grows { Grows counts.old counts.new 24 }
 {
@@ -93,7 +99,8 @@ pub fn make_calls(live: &mut Live, counts: &mut Counts, asks: Vec<Ask>)
 fn begin_stores(live: &mut Live, ask: Ask) -> u64
     requires can { CanBeAsked ask }
     requires ring { IsForRing (told_ask ask) }
-    ensures { (layout : List Zone) (mem : ℕ) (s : LiveState) → IsLayout layout mem → StandsLive layout mem live.old s → IsState layout mem (LiveOf s) → AreIdle s.zones
+    ensures { (layout : List Zone) (mem : ℕ) (s : LiveState) → IsLayout layout mem
+        → StandsLive layout mem live.old s → IsState layout mem (LiveOf s) → AreIdle s.zones
         → IsBegun layout mem s (told_ask ask) live.new result }
 {
     check(&ask);
@@ -105,7 +112,9 @@ fn begin_stores(live: &mut Live, ask: Ask) -> u64
 
 // Makes the next stores of a zone's flight, so many or all, where one stands.
 fn step_stores(live: &mut Live, zone: ZoneName, count: u64)
-    ensures { (layout : List Zone) (mem : ℕ) (s : LiveState) → IsLayout layout mem → StandsLive layout mem live.old s → IsState layout mem (LiveOf s) → IsLeft layout mem s (Step zone count) live.new }
+    ensures { (layout : List Zone) (mem : ℕ) (s : LiveState) → IsLayout layout mem
+        → StandsLive layout mem live.old s → IsState layout mem (LiveOf s)
+        → IsLeft layout mem s (Step zone count) live.new }
 {
     match step(live, zone, count) {
         Ok(()) => {}
@@ -130,7 +139,8 @@ fn count_cut(counts: &mut Counts, count: u64, all: u64)
 pub fn make_cut(live: &mut Live, counts: &mut Counts, cut: Option<CutAppend>) -> Option<ZoneName>
     requires ring { AllByRecursion IsCutOfRing (cut_of cut) }
     requires room { AreBelow counts.old (2 ^ 32) }
-    ensures cut { (layout : List Zone) (mem : ℕ) (g : Generated) → IsLayout layout mem → RunsIdle layout mem live.old counts.old g
+    ensures cut { (layout : List Zone) (mem : ℕ) (g : Generated) → IsLayout layout mem
+        → RunsIdle layout mem live.old counts.old g
         → RunsCut layout mem live.new counts.new result (fold (with_cut layout) g (cut_of cut)) }
     ensures grows { Grows counts.old counts.new 1 }
 {

@@ -1,6 +1,7 @@
 // What a generated session counts.
 ghost use Rattle.std.specs.Prelude.{◌≡◌, ◌^◌};
-ghost use Rattle.store_generator.specs.Counting.{AreBelow, Grows, none_counted, calls_added, flips_added, verdicts_added};
+ghost use Rattle.store_generator.specs.Counting.{AreBelow, Grows, none_counted};
+ghost use Rattle.store_generator.specs.Counting.{calls_added, flips_added, verdicts_added};
 
 /// Finished calls, the stores of these and of cut calls, flips, and the boots' verdicts by their kind.
 #[derive(Clone, Copy, Debug, PartialEq, Eq)]

@@ -49,7 +49,8 @@ fn push_counts(text: &mut Vec<u8>, counts: &Counts) -> Result<(), AllocError>
 
 // The summary of n: how many zones there are, and what was counted.
 fn summary(alloc: Global, n: u32, zones: usize, counts: &Counts) -> Result<Vec<u8>, AllocError>
-    ensures { IfOk result (λ text. (layout : List Zone) (session : Session) → length layout ≡ zones → text.items ≡ summary_of n layout (counted session counts.now)) }
+    ensures { IfOk result (λ text. (layout : List Zone) (session : Session) → length layout ≡ zones
+        → text.items ≡ summary_of n layout (counted session counts.now)) }
 {
     let mut text = Vec::new(alloc);
     push_count(&mut text, "make ", u128::from(n))?;
@@ -60,8 +61,10 @@ fn summary(alloc: Global, n: u32, zones: usize, counts: &Counts) -> Result<Vec<u
 
 /// The session of n: the image that it leaves, and its summary.
 pub fn generate(alloc: Global, layout: Layout, n: u32) -> Result<(Bytes, Vec<u8>), AllocError>
-    ensures image { IfOk result (λ r. r.0 ≡ session_image (generated (zones_of layout) (rounded (params_of layout).mem) n).session) }
-    ensures summary { IfOk result (λ r. r.1.items ≡ summary_of n (zones_of layout) (generated (zones_of layout) (rounded (params_of layout).mem) n)) }
+    ensures image { IfOk result (λ r. r.0 ≡ session_image
+        (generated (zones_of layout) (rounded (params_of layout).mem) n).session) }
+    ensures summary { IfOk result (λ r. r.1.items ≡ summary_of n (zones_of layout)
+        (generated (zones_of layout) (rounded (params_of layout).mem) n)) }
 {
     Targets::check(&layout);
     let plan = Plan::new(alloc, layout.zones())?;

@@ -1,4 +1,5 @@
-//! The session of a number: calls, an append that is cut, and damage, drawn by the numbers that it begins, in eight rounds.
+//! The session of a number: calls, an append that is cut, and damage, drawn by the numbers that it begins, in eight
+//! rounds.
 #![tactic(auto)]
 
 mod calls;

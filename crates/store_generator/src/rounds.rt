@@ -8,7 +8,8 @@ ghost use Rattle.session_spec.specs.States.{OffState};
 ghost use Rattle.session_spec.specs.Report.{ZoneReport as AReport};
 ghost use Rattle.ram_core.specs.OffSeen.{StandsOff};
 ghost use Rattle.ram_core.specs.Reports.{told_report};
-ghost use Rattle.tool_spec.specs.Generated.{Generated, is_told, is_other, zones_uncut, drawn_halt, drawn_boot, round as round_of, rounds as rounds_of};
+ghost use Rattle.tool_spec.specs.Generated.{Generated, is_told, is_other, zones_uncut};
+ghost use Rattle.tool_spec.specs.Generated.{drawn_halt, drawn_boot, round as round_of, rounds as rounds_of};
 ghost use Rattle.store_generator.specs.Damage.{IsWithin};
 ghost use Rattle.store_generator.specs.Counting.{AreBelow, Grows, verdicts_added};
 ghost use Rattle.store_generator.specs.Sessions.{without_ring, RunsIdle, IsHalted, IsUp, IsPlan};
@@ -88,7 +89,8 @@ fn halt(
     requires plan { IsPlan plan.now }
     requires round { q < 2 ^ 63 }
     requires room { AreBelow counts.old (2 ^ 30) }
-    ensures halted { IfOk result (λ r. (mem : ℕ) (g : Generated) → IsLayout plan.now.zones.items mem → RunsIdle plan.now.zones.items mem live counts.old g
+    ensures halted { IfOk result (λ r. (mem : ℕ) (g : Generated) → IsLayout plan.now.zones.items mem
+        → RunsIdle plan.now.zones.items mem live counts.old g
         → IsHalted plan.now.zones.items mem r.0 counts.new r.1.items (drawn_halt plan.now.zones.items g q draws.old).0) }
     ensures within { IfOk result (λ r. All IsWithin r.1.items) }
     ensures number { OnOk result ((g : Generated) → draws.new ≡ (drawn_halt plan.now.zones.items g q draws.old).1) }
@@ -111,7 +113,8 @@ fn check(image: &[u8])
 
 /// Boots a store.
 pub fn boot_up(off: Off) -> Result<(Live, Report), AllocError>
-    ensures { IfOk result (λ r. (layout : List AZone) (mem : ℕ) (s : OffState) → IsLayout layout mem → StandsOff layout mem off s → length s.image ≡ mem → IsUp layout mem s r.0 (map told_report r.1)) }
+    ensures { IfOk result (λ r. (layout : List AZone) (mem : ℕ) (s : OffState) → IsLayout layout mem
+        → StandsOff layout mem off s → length s.image ≡ mem → IsUp layout mem s r.0 (map told_report r.1)) }
 {
     check(off.image());
     match off.boot() {
@@ -141,7 +144,9 @@ fn differs(report: &ZoneReport) -> bool
 // Counts the verdicts of a boot.
 fn count_verdicts(counts: &mut Counts, report: &Report)
     requires { AreBelow counts.old (2 ^ 32) }
-    ensures added { counts.new ≡ verdicts_added counts.old (count_by (λ (r : AReport). is_told r.verdict) (map told_report report.now)) (count_by (λ (r : AReport). is_other r.verdict) (map told_report report.now)) }
+    ensures added { counts.new ≡ verdicts_added counts.old (count_by (λ (r : AReport). is_told r.verdict)
+        (map told_report report.now)) (count_by (λ (r : AReport). is_other r.verdict)
+        (map told_report report.now)) }
     ensures grows { Grows counts.old counts.new 1 }
 {
     let reports = report.as_slice();
@@ -160,9 +165,11 @@ fn boot(
 ) -> Result<Live, AllocError>
     requires within { All IsWithin uncut.now }
     requires room { AreBelow counts.old (2 ^ 31) }
-    ensures booted { IfOk result (λ live. (layout : List AZone) (mem : ℕ) (g : Generated) → IsLayout layout mem → IsHalted layout mem off counts.old uncut.now g
+    ensures booted { IfOk result (λ live. (layout : List AZone) (mem : ℕ) (g : Generated) → IsLayout layout mem
+        → IsHalted layout mem off counts.old uncut.now g
         → RunsIdle layout mem live counts.new (drawn_boot layout g draws.old).0) }
-    ensures number { OnOk result ((layout : List AZone) (g : Generated) → uncut.now ≡ zones_uncut layout g.session → draws.new ≡ (drawn_boot layout g draws.old).1) }
+    ensures number { OnOk result ((layout : List AZone) (g : Generated)
+        → uncut.now ≡ zones_uncut layout g.session → draws.new ≡ (drawn_boot layout g draws.old).1) }
     ensures grows { OnOk result (Grows counts.old counts.new 2) }
 {
     let flips = draw_all(alloc, draws, uncut)?;
@@ -185,9 +192,11 @@ fn round(
     requires plan { IsPlan plan.now }
     requires round { q < 2 ^ 63 }
     requires room { AreBelow counts.old (2 ^ 30) }
-    ensures round { IfOk result (λ next. (mem : ℕ) (g : Generated) → IsLayout plan.now.zones.items mem → RunsIdle plan.now.zones.items mem live counts.old g
+    ensures round { IfOk result (λ next. (mem : ℕ) (g : Generated) → IsLayout plan.now.zones.items mem
+        → RunsIdle plan.now.zones.items mem live counts.old g
         → RunsIdle plan.now.zones.items mem next counts.new (round_of plan.now.zones.items g q draws.old).0) }
-    ensures number { OnOk result ((mem : ℕ) (g : Generated) → IsLayout plan.now.zones.items mem → RunsIdle plan.now.zones.items mem live counts.old g
+    ensures number { OnOk result ((mem : ℕ) (g : Generated) → IsLayout plan.now.zones.items mem
+        → RunsIdle plan.now.zones.items mem live counts.old g
         → draws.new ≡ (round_of plan.now.zones.items g q draws.old).1) }
     ensures grows { OnOk result (Grows counts.old counts.new 27) }
 {
@@ -205,8 +214,10 @@ pub fn rounds(
 ) -> Result<Live, AllocError>
     requires plan { IsPlan plan.now }
     requires room { AreBelow counts.old 0 }
-    ensures { IfOk result (λ last. (mem : ℕ) (g : Generated) → IsLayout plan.now.zones.items mem → RunsIdle plan.now.zones.items mem live counts.old g
-        → RunsIdle plan.now.zones.items mem last counts.new (rounds_of plan.now.zones.items g (range_with_len 0 8) draws.old).0) }
+    ensures { IfOk result (λ last. (mem : ℕ) (g : Generated) → IsLayout plan.now.zones.items mem
+        → RunsIdle plan.now.zones.items mem live counts.old g
+        → RunsIdle plan.now.zones.items mem last counts.new
+        (rounds_of plan.now.zones.items g (range_with_len 0 8) draws.old).0) }
 {
     let mut live = live;
     'rounds: for q in 0..8_u64 {
