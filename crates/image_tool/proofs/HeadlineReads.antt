@@ -1,5 +1,5 @@
 -- The headline at the boots of a run
-use Rattle.std.proofs.Common.{◌≡◌, ℕ, ◌^◌, ◌<◌, ◌≤◌, Bool, true, false, cond, ◌&&◌, ◌||◌, nat_lt, List, [], length, drop, take, codes, Option, Some, None, Result, Ok, Err, IfSome, refl, sym, ap, ◌∙◌, arith}
+use Rattle.std.proofs.Common.{◌≡◌, ℕ, ◌^◌, ◌<◌, ◌≤◌, Bool, true, false, cond, ◌&&◌, ◌||◌, nat_lt, List, [], length, drop, take, codes, Option, Some, None, Result, Ok, Err, IfSome, refl, sym, ap, subst, ◌∙◌, arith}
 use Rattle.std.specs.Option.{option_and_then, unwrap_or}
 use Rattle.std.specs.List.{list_all}
 use Rattle.std.specs.Char.{is_digit}
@@ -67,7 +67,7 @@ given_small words key = by (value_text words key)
 laid : (command : Command) (params : Params) (plan : Plan) (o : Result (List Zone) LayoutFault) → layout_of params ≡ o → with_layout command params o ≡ Ok plan → params.ftrace_sig < 2 ^ 32 → IsLayout plan.zones (mem_of plan)
 laid command params plan (Ok zones) e h small =
     let same : record { command = command; params = params; zones = zones } ≡ plan = cc in
-    rw same at (whole_layout params zones small e)
+    subst (λ (p : Plan). IsLayout p.zones (mem_of p)) same (whole_layout params zones small e)
 laid command params plan (Err fault) e h small = absurd (cc)
 
 read : (a : Asked) (plan : Plan) (o : Option ParamFault) → with_params a (ok_unless o (params_of a.params)) ≡ Ok plan → IsLayout plan.zones (mem_of plan)

@@ -1,13 +1,17 @@
 -- How the work of each command ends
-use Rattle.std.proofs.Common.{◌≡◌, ℕ, [], ◌∷◌, Result, Ok, Err, replicate}
+use Rattle.std.proofs.Common.{◌≡◌, ℕ, [], ◌∷◌, Result, Ok, Err, replicate, subst, sym}
 use Rattle.tool_spec.specs.Ends.{End}
 use Rattle.tool_spec.specs.Texts.{layout_text}
-use Rattle.tool_spec.specs.Commands.{ShowLayout, BlankImage, Plan, mem_of, shows, leaves}
+use Rattle.tool_spec.specs.Commands.{MakeImage, ShowLayout, BlankImage, Plan, mem_of, shows, leaves}
 use Rattle.tool_spec.specs.Answers.{Outside, NoScript, NoImage}
 use Rattle.tool_spec.specs.declared.Stop.{Stop}
 use Rattle.tool_spec.specs.declared.Stop.TheVariants.{Memory, Usage, Param, Layout, Short, ScriptFault, ImageFault, SinkFault, TooLong, BadLine, Refused}
-use Rattle.tool_frame.specs.Words.{IsNoFault}
-use Rattle.tool_frame.specs.Ended.{EndedAt, CausedAt, PlanEnds, WorkEnds}
+use Rattle.tool_frame.specs.Words.{IsNoFault, command_seen}
+use Rattle.tool_frame.specs.declared.words.Command.{Command as ReadCommand}
+use Rattle.tool_frame.specs.declared.words.Command.TheVariants.{Make}
+use Rattle.zone_params.specs.declared.types.Layout.{Layout as ReadLayout}
+use Rattle.image_tool.specs.Plans.{plan_for}
+use Rattle.tool_frame.specs.Ended.{EndedAt, CausedAt, PlanEnds, MakeEnds, WorkEnds}
 
 -- a stop that no fault of the outside makes has its cause
 pub no_fault_caused : (s : Stop) (f g h : ℕ) → IsNoFault s → CausedAt f f g g h h (Err s)
@@ -34,3 +38,7 @@ layout_shown plan e a b is script image ended = rw is (record { whole = rw image
 -- a blank image was written
 pub blank_left : (plan : Plan) (mem : ℕ) (e : End) (a b : Outside) → mem ≡ mem_of plan → plan.command ≡ BlankImage → NoScript a b → b.given ≡ a.given → EndedAt (leaves (replicate mem 0)) a.given a.given a.holds b.holds e → PlanEnds plan.command plan a b e
 blank_left plan mem e a b same is script given ended = rw is (record { whole = rw (given, ← same) ended; script = script })
+
+-- an image was made
+pub image_made : (c : ReadCommand) (n : ℕ) (layout : ReadLayout) (e : End) (a b : Outside) → c ≡ Make n → MakeEnds (plan_for (MakeImage n) layout) a b e → PlanEnds (command_seen c) (plan_for (command_seen c) layout) a b e
+image_made c n layout e a b is ended = subst (λ (d : ReadCommand). PlanEnds (command_seen d) (plan_for (command_seen d) layout) a b e) (sym is) ended

@@ -1,6 +1,6 @@
 use Rattle.std.proofs.Common.{refl, ap}
 use Rattle.tool_frame.specs.Words.{plan_seen, command_seen}
-use Rattle.image_tool.proofs.WorkEnds.{read_done, layout_shown, blank_left}
+use Rattle.image_tool.proofs.WorkEnds.{read_done, layout_shown, blank_left, image_made}
 use Rattle.image_tool.proofs.work.do_work.Goals as goal
 
 pub returns-in-List-clause-caused : goal.returns-in-List-clause-caused
@@ -28,3 +28,6 @@ returns-in-Blank-clause-ended g c =
 
 pub returns-in-Make-clause-caused : goal.returns-in-Make-clause-caused
 returns-in-Make-clause-caused g c = c.make.ensures.caused _ _
+
+pub returns-in-Make-clause-ended : goal.returns-in-Make-clause-ended
+returns-in-Make-clause-ended g c = read_done _ (plan_seen c.in-Ok.plan) _ _ _ c.in-Ok.ensures.plan (image_made c.in-Ok.plan.command c.in-Make.n c.in-Ok.plan.layout _ _ _ c.in-Make.is (c.make.ensures.ended _ _))

@@ -9,4 +9,4 @@ pub returns-clause-answers : goal.returns-clause-answers
 returns-clause-answers g c = tool_answers _ _ _ _ _ _ (record { left = refl; source = refl }) (record { holds = refl; store = refl }) c.do_work-end.ensures.ended c.finish.ensures
 
 pub returns-clause-reads : goal.returns-clause-reads
-returns-clause-reads g c = run_reads (asked (texts c.args.words.now)) _ _ refl ?
+returns-clause-reads g c = run_reads (asked (texts c.args.words.now)) _ _ refl (g.met.M.Store.held_bytes c.args.image.now)
