@@ -15,7 +15,7 @@ use Rattle.blk_spec.specs.Session.{Load, Append, AppendElsewhere, Dump as DumpNo
 use Rattle.zone_blk.specs.Answering.{Loads}
 use Rattle.box_script.specs.Fields.{Text}
 use Rattle.box_script.specs.declared.line.Line.TheVariants.{Write, Boot, Erase, KDump, CutAfter}
-use Rattle.tool_spec.specs.BlkScripts.{blk_line_done, operation_of, ring_for, reason_of, blk_named, performs, line_writes}
+use Rattle.tool_spec.specs.BlkScripts.{blk_line_done, operation_of, append_to, ring_for, reason_of, blk_named, performs, line_writes}
 use Rattle.tool_spec.specs.declared.Cause.TheVariants.{NoZone, NoRecord}
 use Rattle.blk_session.specs.declared.errors.LineError.{LineError}
 use Rattle.blk_session.specs.declared.errors.LineError.TheVariants.{Refused}
@@ -24,21 +24,21 @@ use Rattle.blk_session.proofs.Operations.{line_done, line_fails}
 
 -- ---- which operation a line is
 
-pub write_is : (old : Option BlkState) (zone : ZoneName) (ring : BlkRing) (bytes : List ℕ) → Some ring ≡ ring_for zone.kind → operation_of old (Write zone bytes) ≡ Some (Append ring bytes)
+pub write_is : (old : Option BlkState) (zone : ZoneName) (ring : BlkRing) (bytes payload : List ℕ) → Some ring ≡ ring_for zone.kind → payload ≡ bytes → operation_of old (Write zone bytes) ≡ Some (Append ring payload)
 unfolding operation_of
-write_is old zone ring bytes e = rw (sym e) refl
+write_is old zone ring bytes payload e same = ap (λ (r : Option BlkRing). Some (append_to r bytes)) (sym e) ∙ ap (λ (bs : List ℕ). Some (Append ring bs)) (sym same)
 
 pub write_elsewhere_is : (old : Option BlkState) (zone : ZoneName) (bytes : List ℕ) → None ≡ ring_for zone.kind → operation_of old (Write zone bytes) ≡ Some AppendElsewhere
 unfolding operation_of
-write_elsewhere_is old zone bytes e = rw (sym e) refl
+write_elsewhere_is old zone bytes e = ap (λ (r : Option BlkRing). Some (append_to r bytes)) (sym e)
 
-pub kdump_is : (old : Option BlkState) (time : BlkTime) (packed : Bool) (number : ℕ) (reason : Reason) (bytes : List ℕ) → reason ≡ reason_of number → operation_of old (KDump time.secs time.nanos packed number bytes) ≡ Some (DumpNow time packed reason bytes)
+pub kdump_is : (old : Option BlkState) (time : BlkTime) (packed : Bool) (number : ℕ) (reason : Reason) (bytes body : List ℕ) → reason ≡ reason_of number → body ≡ bytes → operation_of old (KDump time.secs time.nanos packed number bytes) ≡ Some (DumpNow time packed reason body)
 unfolding operation_of
-kdump_is old time packed number reason bytes e = rw e refl
+kdump_is old time packed number reason bytes body e same = ap (λ (r : Reason). Some (DumpNow time packed r bytes)) (sym e) ∙ ap (λ (bs : List ℕ). Some (DumpNow time packed reason bs)) (sym same)
 
 pub erase_is : (old : Option BlkState) (text : List ℕ) (name : Option BlkName) → name ≡ blk_named old text → operation_of old (Erase text) ≡ Some (EraseRecord name)
 unfolding operation_of
-erase_is old text name e = rw e refl
+erase_is old text name e = ap (λ (n : Option BlkName). Some (EraseRecord n)) (sym e)
 
 -- ---- lines
 

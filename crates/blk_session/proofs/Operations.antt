@@ -1,5 +1,6 @@
 -- Calls on a loaded store as operations of the session, and these as lines
 use Rattle.std.proofs.Common.{◌≡◌, ℕ, Bool, true, false, if◌then◌else◌, List, [], Option, Some, None, Result, Ok, Err, refl, sym, ap, ◌∙◌}
+use Rattle.std.specs.Prelude.{MatchResult}
 use Rattle.box_io.specs.Outside.{Rose}
 use Rattle.blk_spec.specs.declared.BlkLayout.{BlkLayout}
 use Rattle.blk_spec.specs.declared.BlkRing.{BlkRing}
@@ -16,7 +17,7 @@ use Rattle.blk_spec.specs.Session.{Session, Operation, Append, Dump as DumpNow, 
 use Rattle.box_script.specs.Fields.{Text}
 use Rattle.box_script.specs.declared.line.Line.{Line}
 use Rattle.box_script.specs.declared.line.Line.TheVariants.{Blank, Write, Dump, BeginWrite, BeginErase, BeginDump, Step, Finish, Stop, Flip, Boot, BootPart, List as ListLine, Extract, Erase, KDump, CutAfter}
-use Rattle.tool_spec.specs.BlkScripts.{BlkDone, blk_line_done, operation_of, performs, done_unless, put_loaded, writes_loaded, writes_by, line_writes}
+use Rattle.tool_spec.specs.BlkScripts.{BlkDone, blk_line_done, operation_of, performs, performs_if, done_unless, put_loaded, writes_loaded, writes_by, line_writes}
 use Rattle.tool_spec.specs.declared.Cause.{Cause}
 use Rattle.blk_session.specs.declared.errors.LineError.{LineError}
 use Rattle.blk_session.specs.declared.errors.LineError.TheVariants.{Memory, StoreFault, Refused}
@@ -75,7 +76,7 @@ module _ (b : BlkState) (operation : Operation) (refusal : Option BlkFault) (ws 
 pub as_operation : (layout : BlkLayout) (session : Session) (line : Line) (operation : Operation) → operation_of session.blk line ≡ Some operation → blk_line_done layout session line ≡ performs layout session operation
 unfolding blk_line_done operation_of
 as_operation layout session Blank operation e = cc
-as_operation layout session (Write zone bytes) operation e = rw e refl
+as_operation layout session (Write zone bytes) operation e = ap (performs_if layout session) e
 as_operation layout session (Dump time packed bytes) operation e = cc
 as_operation layout session (BeginWrite zone bytes) operation e = cc
 as_operation layout session (BeginErase zone) operation e = cc
@@ -84,13 +85,13 @@ as_operation layout session (Step zone k) operation e = cc
 as_operation layout session (Finish zone) operation e = cc
 as_operation layout session Stop operation e = cc
 as_operation layout session (Flip place mask) operation e = cc
-as_operation layout session Boot operation e = rw e refl
+as_operation layout session Boot operation e = ap (performs_if layout session) e
 as_operation layout session (BootPart k) operation e = cc
-as_operation layout session ListLine operation e = rw e refl
-as_operation layout session (Extract name) operation e = rw e refl
-as_operation layout session (Erase name) operation e = rw e refl
-as_operation layout session (KDump secs nanos packed reason bytes) operation e = rw e refl
-as_operation layout session (CutAfter k) operation e = rw e refl
+as_operation layout session ListLine operation e = ap (performs_if layout session) e
+as_operation layout session (Extract name) operation e = ap (performs_if layout session) e
+as_operation layout session (Erase name) operation e = ap (performs_if layout session) e
+as_operation layout session (KDump secs nanos packed reason bytes) operation e = ap (performs_if layout session) e
+as_operation layout session (CutAfter k) operation e = ap (performs_if layout session) e
 
 module _ (layout : BlkLayout) (old : Option BlkState) (line : Line) (operation : Operation) (is : operation_of old line ≡ Some operation) where
   line_is : (bytes : List ℕ) → blk_line_done layout (record { store = bytes; blk = old }) line ≡ performs layout (record { store = bytes; blk = old }) operation
@@ -103,3 +104,9 @@ module _ (layout : BlkLayout) (old : Option BlkState) (line : Line) (operation :
   line_fails Memory before now faults later h = h
   line_fails StoreFault before now faults later h = (h.0, rw is h.1, λ bytes. let w = h.2 bytes in record { wants = w.wants; is = line_is bytes ∙ w.is })
   line_fails (Refused cause) before now faults later h = (h.0, λ bytes. line_is bytes ∙ h.1 bytes)
+
+  pub line_ends : (result : Result Unit LineError) (new : Option BlkState) (before now : Option (List ℕ)) (faults later : ℕ)
+      → MatchResult result (λ _. OperationDone layout old operation new [] before now) (λ e. OperationFails e layout old operation before now faults later)
+      → MatchResult result (λ _. LineDone layout old line new [] before now) (λ e. LineFails e layout old line before now faults later)
+  line_ends (Ok done) new before now faults later h = line_done new [] before now h
+  line_ends (Err error) new before now faults later h = line_fails error before now faults later h

@@ -1,21 +1,26 @@
 -- Lines that put a text, that wait for a loading, that are of the other store alone, or do nothing
 use Rattle.std.specs.Bool.{⊤}
+use Rattle.std.specs.Global.{Vec}
+use Rattle.std.specs.Prelude.{MatchResult}
 use Rattle.std.specs.Option.{option_map}
-use Rattle.std.proofs.Common.{◌≡◌, ℕ, Bool, true, if◌then◌else◌, List, [], Option, Some, None, Result, Ok, Err, refl, sym, ap, ◌∙◌}
+use Rattle.std.proofs.Common.{◌≡◌, ◌≢◌, ℕ, ◌<◌, ◌^◌, Bool, true, if◌then◌else◌, List, [], Option, Some, None, Result, Ok, Err, refl, sym, ap, ◌∙◌}
+use Rattle.zone_spec.specs.declared.ZoneName.{ZoneName}
 use Rattle.blk_spec.specs.declared.BlkLayout.{BlkLayout}
 use Rattle.blk_spec.specs.declared.BlkName.{BlkName}
 use Rattle.blk_spec.specs.declared.BlkRing.{BlkRing}
 use Rattle.blk_spec.specs.States.{BlkState, is_listed}
 use Rattle.blk_spec.specs.Session.{Session, Extract as ExtractRecord, NoRecord as NoRecordThere, cause_of, session_after}
+use Rattle.box_script.specs.Printed.{HasFields}
 use Rattle.box_script.specs.declared.line.Line.{Line}
 use Rattle.box_script.specs.declared.line.Line.TheVariants.{Blank, Write, Dump, BeginWrite, BeginErase, BeginDump, Step, Finish, Stop, Flip, Boot, BootPart, List as ListLine, Extract, Erase, KDump, CutAfter}
 use Rattle.tool_spec.specs.BlkScripts.{blk_line_done, operation_of, performs, append_to, ring_for, blk_listing, blk_named, blk_extract_text}
 use Rattle.tool_spec.specs.declared.Cause.{Cause}
 use Rattle.tool_spec.specs.declared.Cause.TheVariants.{IsOff, NotHere, NoRecord}
-use Rattle.blk_session.specs.declared.errors.LineError.TheVariants.{Refused}
-use Rattle.blk_session.specs.Lines.{IsDone, LineDone, LineFails, OperationDone, IsExtract}
+use Rattle.blk_session.specs.declared.errors.LineError.{LineError}
+use Rattle.blk_session.specs.declared.errors.LineError.TheVariants.{Memory, StoreFault, Refused}
+use Rattle.blk_session.specs.Lines.{IsDone, LineDone, LineFails, IsExtract}
 use Rattle.blk_session.proofs.Operations.{line_done, line_fails}
-use Rattle.blk_session.proofs.Records.{named_listed}
+use Rattle.blk_session.proofs.Named.{named_listed}
 
 pub blank_done : (layout : BlkLayout) (old : Option BlkState) (store : Option (List ℕ)) → LineDone layout old Blank old [] store store
 unfolding blk_line_done
@@ -29,13 +34,13 @@ list_done b text store e bytes told = record { after = bytes; holds = told; done
 
 extract_is : (old : Option BlkState) (text : List ℕ) (name : Option BlkName) → name ≡ blk_named old text → operation_of old (Extract text) ≡ Some (ExtractRecord name)
 unfolding operation_of
-extract_is old text name e = rw e refl
+extract_is old text name e = ap (λ (n : Option BlkName). Some (ExtractRecord n)) (sym e)
 
 extracts : (b : BlkState) (name : BlkName) (bytes : List ℕ) → is_listed b name ≡ true → performs b.layout (record { store = bytes; blk = Some b }) (ExtractRecord (Some name)) ≡ Ok (record { session = record { store = bytes; blk = Some b }; text = blk_extract_text b name })
 unfolding cause_of session_after
 extracts b name bytes e = rw e refl
 
-pub extract_done : (b : BlkState) (name text : List ℕ) (store : Option (List ℕ)) → IsExtract b name (Ok text) → LineDone b.layout (Some b) (Extract name) (Some b) text store store
+pub extract_done : (b : BlkState) (name text : List ℕ) (store : Option (List ℕ)) → option_map (blk_extract_text b) (blk_named (Some b) name) ≡ Some text → LineDone b.layout (Some b) (Extract name) (Some b) text store store
 extract_done b name text store h = of-named (blk_named (Some b) name) refl h
   where
     of-named : (found : Option BlkName) → found ≡ blk_named (Some b) name → option_map (blk_extract_text b) found ≡ Some text → LineDone b.layout (Some b) (Extract name) (Some b) text store store
@@ -45,10 +50,17 @@ extract_done b name text store h = of-named (blk_named (Some b) name) refl h
         line_done b.layout (Some b) (Extract name) (ExtractRecord (Some n)) (extract_is (Some b) name (Some n) e) (Some b) text store store
             (λ bytes held. record { after = bytes; holds = held; done = extracts b n bytes (named_listed b name n (sym e)) ∙ ap (λ (t : List ℕ). Ok (record { session = record { store = bytes; blk = Some b }; text = t })) told })
 
-pub extract_refused : (b : BlkState) (name : List ℕ) (cause : Cause) (store : Option (List ℕ)) (faults : ℕ) → IsExtract b name (Err (Refused cause)) → LineFails (Refused cause) b.layout (Some b) (Extract name) store store faults faults
+pub extract_refused : (b : BlkState) (name : List ℕ) (cause : Cause) (store : Option (List ℕ)) (faults : ℕ) → (cause ≡ NoRecord) × (blk_named (Some b) name ≡ None) → LineFails (Refused cause) b.layout (Some b) (Extract name) store store faults faults
 unfolding cause_of session_after
 extract_refused b name cause store faults h =
     line_fails b.layout (Some b) (Extract name) (ExtractRecord None) (extract_is (Some b) name None (sym h.1)) (Refused cause) store store faults faults (refl, λ bytes. rw h.0 refl)
+
+pub extract_ends : (result : Result (Vec ℕ) LineError) (b : BlkState) (name : List ℕ) (store : Option (List ℕ)) (faults : ℕ) → IsExtract b name result
+    → MatchResult result (λ text. LineDone b.layout (Some b) (Extract name) (Some b) text.items store store) (λ e. LineFails e b.layout (Some b) (Extract name) store store faults faults)
+extract_ends (Ok text) b name store faults h = extract_done b name text.items store h
+extract_ends (Err Memory) b name store faults h = refl
+extract_ends (Err StoreFault) b name store faults h = absurd h
+extract_ends (Err (Refused cause)) b name store faults h = extract_refused b name cause store faults h
 
 -- ---- lines that are refused
 
@@ -78,7 +90,7 @@ unfolding cause_of
 append_waits layout bytes payload None = refl
 append_waits layout bytes payload (Some ring) = refl
 
-waits_line : (layout : BlkLayout) (bytes : List ℕ) (line : Line) → WaitsForLoad line → blk_line_done layout (record { store = bytes; blk = None }) line ≡ Err IsOff
+pub waits_line : (layout : BlkLayout) (bytes : List ℕ) (line : Line) → WaitsForLoad line → blk_line_done layout (record { store = bytes; blk = None }) line ≡ Err IsOff
 unfolding blk_line_done operation_of cause_of
 waits_line layout bytes (Write z b) h = append_waits layout bytes b (ring_for z.kind)
 waits_line layout bytes (KDump a n k r b) h = refl
@@ -118,8 +130,32 @@ elsewhere_line layout session (Extract b) h = absurd h
 elsewhere_line layout session (Erase b) h = absurd h
 elsewhere_line layout session Boot h = absurd h
 
-pub waits_for_load : (layout : BlkLayout) (line : Line) (store : Option (List ℕ)) (faults : ℕ) → WaitsForLoad line → LineFails (Refused IsOff) layout None line store store faults faults
-waits_for_load layout line store faults h = (refl, λ bytes. waits_line layout bytes line h)
-
 pub elsewhere : (layout : BlkLayout) (old : Option BlkState) (line : Line) (store : Option (List ℕ)) (faults : ℕ) → IsElsewhere line → LineFails (Refused NotHere) layout old line store store faults faults
 elsewhere layout old line store faults h = (refl, λ bytes. elsewhere_line layout (record { store = bytes; blk = old }) line h)
+
+-- a line that is none of the block store's
+pub is_elsewhere : (line : Line) → line ≢ Blank → ((z : ZoneName) (b : List ℕ) → line ≢ Write z b) → line ≢ Boot → line ≢ ListLine → ((b : List ℕ) → line ≢ Extract b) → ((b : List ℕ) → line ≢ Erase b)
+    → ((a n : ℕ) (k : Bool) (r : ℕ) (b : List ℕ) → line ≢ KDump a n k r b) → ((n : ℕ) → line ≢ CutAfter n) → IsElsewhere line
+is_elsewhere (Dump t k b) p q r s t1 t2 t3 t4 = tt
+is_elsewhere (BeginWrite z b) p q r s t1 t2 t3 t4 = tt
+is_elsewhere (BeginErase z) p q r s t1 t2 t3 t4 = tt
+is_elsewhere (BeginDump t k b) p q r s t1 t2 t3 t4 = tt
+is_elsewhere (Step z n) p q r s t1 t2 t3 t4 = tt
+is_elsewhere (Finish z) p q r s t1 t2 t3 t4 = tt
+is_elsewhere Stop p q r s t1 t2 t3 t4 = tt
+is_elsewhere (Flip a m) p q r s t1 t2 t3 t4 = tt
+is_elsewhere (BootPart n) p q r s t1 t2 t3 t4 = tt
+is_elsewhere Blank p q r s t1 t2 t3 t4 = absurd (p refl)
+is_elsewhere (Write z b) p q r s t1 t2 t3 t4 = absurd (q z b refl)
+is_elsewhere Boot p q r s t1 t2 t3 t4 = absurd (r refl)
+is_elsewhere ListLine p q r s t1 t2 t3 t4 = absurd (s refl)
+is_elsewhere (Extract b) p q r s t1 t2 t3 t4 = absurd (t1 b refl)
+is_elsewhere (Erase b) p q r s t1 t2 t3 t4 = absurd (t2 b refl)
+is_elsewhere (KDump a n k u b) p q r s t1 t2 t3 t4 = absurd (t3 a n k u b refl)
+is_elsewhere (CutAfter n) p q r s t1 t2 t3 t4 = absurd (t4 n refl)
+
+-- ---- a dump's time
+
+pub kdump_fields : (secs nanos : ℕ) (packed : Bool) (reason : ℕ) (bytes : List ℕ) → HasFields (KDump secs nanos packed reason bytes) → (secs < 2 ^ 63) × (nanos < 1000000000)
+unfolding HasFields
+kdump_fields secs nanos packed reason bytes h = (h.0, h.1)

@@ -3,6 +3,7 @@ use Rattle.std.proofs.Common.{◌≡◌, ℕ, zero, suc, ◌+◌, ◌<◌, ◌�
 use Rattle.std.proofs.lemmas.List.Sums.{fold_more}
 use Rattle.std.proofs.lemmas.List.Folds.{fold_stuck}
 use Rattle.std.proofs.lemmas.Grind.{common_steps}
+use Rattle.std.proofs.lemmas.Option.{slice_get_read}
 use Rattle.std.specs.List.{fold}
 use Rattle.std.specs.Io.KnownBytes.{Appends}
 use Rattle.box_io.specs.Outside.{Rose, AppendsFront}
@@ -111,7 +112,7 @@ module _ (layout : BlkLayout) (bytes : List ℕ) (lines : List Line) (i : ℕ) (
 
   -- the line is found at its place
   line_at : slice_get lines i ≡ Some line
-  line_at = grind (arith, common_steps, below, is)
+  line_at = slice_get_read lines (length lines) i line refl below is
 
   pub on_stop : (stop : Stop) (c : Seen) → LineStops stop layout blk line (i + 1) b c → PlayStop stop layout bytes lines a c
   on_stop Memory c h =

@@ -1,6 +1,7 @@
 -- How a line of a script is done on the block store
 use Rattle.std.specs.Prelude.{◌≡◌, ⊤, ℕ, List, Option, Some, None, Result, Ok, Err}
 use Rattle.std.specs.Option.{option_map}
+use Rattle.std.specs.Global.{Vec}
 use Rattle.box_io.specs.Outside.{Rose}
 use Rattle.blk_spec.specs.declared.BlkLayout.{BlkLayout}
 use Rattle.blk_spec.specs.declared.BlkFault.{BlkFault}
@@ -64,8 +65,8 @@ error_of StoreFaultThere = StoreFault
 error_of MemoryThere = Memory
 
 -- the text of the record whose name has a text; refused only where no listed record has it
-abbrev pub IsExtract : BlkState → Text → Result Text LineError → Type 0
-IsExtract b name (Ok text) = option_map (blk_extract_text b) (blk_named (Some b) name) ≡ Some text
+abbrev pub IsExtract : BlkState → Text → Result (Vec ℕ) LineError → Type 0
+IsExtract b name (Ok text) = option_map (blk_extract_text b) (blk_named (Some b) name) ≡ Some text.items
 IsExtract b name (Err (Refused cause)) = (cause ≡ NoRecord) × (blk_named (Some b) name ≡ None)
 IsExtract b name (Err Memory) = ⊤
 IsExtract b name (Err StoreFault) = ⊥

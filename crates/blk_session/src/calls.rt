@@ -1,5 +1,5 @@
 // Lines that load, append, dump, cut or erase.
-ghost use Rattle.std.specs.Prelude.{◌≡◌, ℕ, ◌≤◌, ◌<◌, ◌^◌, [], Some, IfOk, IfSome, MatchResult};
+ghost use Rattle.std.specs.Prelude.{◌≡◌, ℕ, ◌≤◌, ◌<◌, ◌^◌, [], Option, Some, IfOk, IfSome, MatchResult};
 ghost use Rattle.box_io.specs.Outside.{Rose};
 ghost use Rattle.blk_spec.specs.Layout.{IsLayout};
 ghost use Rattle.blk_spec.specs.Answers.{HasRoom};

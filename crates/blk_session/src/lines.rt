@@ -1,5 +1,5 @@
 // The lines of a script, whatever is loaded.
-ghost use Rattle.std.specs.Prelude.{◌≡◌, ℕ, ◌≤◌, [], Option, Some, None, IfOk, IfSome, MatchResult};
+ghost use Rattle.std.specs.Prelude.{◌≡◌, ℕ, ◌≤◌, List, [], Option, Some, None, IfOk, IfSome, MatchResult};
 ghost use Rattle.blk_spec.specs.Layout.{IsLayout};
 ghost use Rattle.blk_spec.specs.Answers.{HasRoom};
 ghost use Rattle.box_script.specs.Printed.{HasFields};
@@ -45,6 +45,7 @@ fn do_call<S: Store>(blk: &mut Blk, store: &mut S, line: &Line) -> Result<(), Li
 }
 
 // A line that puts a text, and leaves the store.
+#[tactic(auto, using(crate::proofs::OtherLines::list_done, crate::proofs::OtherLines::extract_ends))]
 fn show(alloc: Global, blk: &Blk, line: &Line) -> Result<Vec<u8>, LineError>
     requires { IsShown line.now }
     ensures { (store : Option (List ℕ)) (faults : ℕ) → MatchResult result (λ text. LineDone blk.now.layout (Some blk.now) line.now (Some blk.now) text.items store store)
@@ -57,6 +58,7 @@ fn show(alloc: Global, blk: &Blk, line: &Line) -> Result<Vec<u8>, LineError>
     }
 }
 
+#[tactic(auto, using(crate::proofs::OtherLines::blank_done))]
 fn do_loaded<S: Store>(
     alloc: Global,
     layout: BlkLayout,
@@ -95,6 +97,7 @@ fn do_loaded<S: Store>(
     }
 }
 
+#[tactic(auto, using(crate::proofs::OtherLines::blank_done, crate::proofs::OtherLines::waits_line))]
 fn do_unloaded<S: Store>(
     alloc: Global,
     layout: BlkLayout,

@@ -1,5 +1,5 @@
 // Lines that speak of one record, by the text of its name.
-ghost use Rattle.std.specs.Prelude.{◌≡◌, bytes_eq, Some, IfOk, map_ok};
+ghost use Rattle.std.specs.Prelude.{◌≡◌, bytes_eq, Some, IfOk};
 ghost use Rattle.std.specs.List.{find};
 ghost use Rattle.blk_spec.specs.Names.{name_text as text_of};
 ghost use Rattle.tool_spec.specs.BlkScripts.{blk_named};
