@@ -48,7 +48,7 @@ extract_done b name text store h = of-named (blk_named (Some b) name) refl h
     of-named (Some n) e m =
         let told : blk_extract_text b n ≡ text = cc in
         line_done b.layout (Some b) (Extract name) (ExtractRecord (Some n)) (extract_is (Some b) name (Some n) e) (Some b) text store store
-            (λ bytes held. record { after = bytes; holds = held; done = extracts b n bytes (named_listed b name n (sym e)) ∙ ap (λ (t : List ℕ). Ok (record { session = record { store = bytes; blk = Some b }; text = t })) told })
+        (λ bytes held. record { after = bytes; holds = held; done = extracts b n bytes (named_listed b name n (sym e)) ∙ ap (λ (t : List ℕ). Ok (record { session = record { store = bytes; blk = Some b }; text = t })) told })
 
 pub extract_refused : (b : BlkState) (name : List ℕ) (cause : Cause) (store : Option (List ℕ)) (faults : ℕ) → (cause ≡ NoRecord) × (blk_named (Some b) name ≡ None) → LineFails (Refused cause) b.layout (Some b) (Extract name) store store faults faults
 unfolding cause_of session_after

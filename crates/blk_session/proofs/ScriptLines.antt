@@ -82,14 +82,14 @@ module _ (layout : BlkLayout) (bytes : List ℕ) (lines : List Line) (i : ℕ) (
   done_at : (d : BlkDone) → blk_line_done layout (record { store = p.store; blk = blk }) line ≡ Ok d → blk_ran layout bytes (take (i + 1) lines) ≡ record { session = d.session; texts = so_far.texts ++ d.text ∷ []; refused = None }
   done_at d g =
       let now : blk_next_line layout so_far (get_or lines i line) ≡ record { session = d.session; texts = so_far.texts ++ d.text ∷ []; refused = None } =
-          rw (← is) (on_done so_far so_far.refused (blk_line_done layout so_far.session line) d p.none (rw p.session g)) in
+      rw (← is) (on_done so_far so_far.refused (blk_line_done layout so_far.session line) d p.none (rw p.session g)) in
       fold_more (blk_next_line layout) (blk_started bytes) lines i line below ∙ now
 
   -- a line that is refused ends the script
   refused_at : (cause : Cause) → blk_line_done layout (record { store = p.store; blk = blk }) line ≡ Err cause → blk_ran layout bytes lines ≡ record so_far { refused = Some cause }
   refused_at cause g =
       let now : blk_next_line layout so_far (get_or lines i line) ≡ record so_far { refused = Some cause } =
-          rw (← is) (on_refused so_far so_far.refused (blk_line_done layout so_far.session line) cause p.none (rw p.session g)) in
+      rw (← is) (on_refused so_far so_far.refused (blk_line_done layout so_far.session line) cause p.none (rw p.session g)) in
       sym (fold_stuck (blk_next_line layout) (record so_far { refused = Some cause }) (λ x. refl) (blk_started bytes) lines i line below now)
 
   -- how many texts there are behind a line that is done

@@ -5,10 +5,9 @@ ghost use Rattle.blk_spec.specs.Answers.{HasRoom};
 ghost use Rattle.box_script.specs.Printed.{HasFields};
 ghost use Rattle.blk_session.specs.Lines.{LineDone, LineFails, IsCall, IsShown};
 
-use crate::calls;
 use crate::errors::LineError;
-use crate::records;
 use crate::texts::listing;
+use crate::{calls, records};
 use box_io::Store;
 use box_script::Line;
 use std::alloc::Global;

@@ -81,12 +81,7 @@ fn push_time(text: &mut Vec<u8>, time: Option<BlkTime>) -> Result<(), AllocError
     }
 }
 
-fn push_entry(
-    alloc: Global,
-    text: &mut Vec<u8>,
-    blk: &Blk,
-    name: BlkName,
-) -> Result<(), AllocError>
+fn push_entry(alloc: Global, text: &mut Vec<u8>, blk: &Blk, name: BlkName) -> Result<(), AllocError>
     ensures { OnOk result (text.new.items ≡ text.old.items ++ entry_text blk.now name) }
 {
     let content = content_in(alloc, blk, name)?;

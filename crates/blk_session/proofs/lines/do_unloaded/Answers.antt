@@ -1,5 +1,5 @@
 use Rattle.std.proofs.Common.{◌≡◌, None, sym, subst, arith}
-use Rattle.blk_session.proofs.OtherLines.{WaitsForLoad, waits_for_load, elsewhere, is_elsewhere}
+use Rattle.blk_session.proofs.OtherLines.{elsewhere, is_elsewhere}
 use Rattle.blk_session.proofs.lines.do_unloaded.Goals as goal
 
 pub returns-in_default : goal.returns-in_default
