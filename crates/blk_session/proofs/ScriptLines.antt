@@ -51,6 +51,14 @@ prefix_front layout bytes lines k = front_of (blk_ran layout bytes (take k lines
 no_more : (short long : List Text) → Extends short long → length short ≤ length long
 no_more short long h = rw h.is (omega (arith, length-append short h.more))
 
+-- a text that others follow is found at its place
+text_at : (texts : List Text) (text : Text) (long : List Text) (i : ℕ) → length texts ≡ i → Extends (texts ++ text ∷ []) long → slice_get long i ≡ Some text
+text_at texts text long i e h = rw (h.is, ← e) (behind texts h.more)
+  where
+    behind : (texts more : List Text) → slice_get ((texts ++ text ∷ []) ++ more) (length texts) ≡ Some text
+    behind [] more = refl
+    behind (t ∷ texts) more = behind texts more
+
 -- ---- one line more
 
 on_done : (r : BlkRan) (c : Option Cause) (next : Result BlkDone Cause) (d : BlkDone) → c ≡ None → next ≡ Ok d → blk_ran_on r c next ≡ record { session = d.session; texts = r.texts ++ d.text ∷ []; refused = None }
@@ -135,10 +143,12 @@ module _ (layout : BlkLayout) (bytes : List ℕ) (lines : List Line) (i : ℕ) (
       let l = h.1.done p.store p.holds in
       let d : BlkDone = record { session = record { store = l.after; blk = h.1.new }; text = h.1.text } in
       let e = done_at d l.done in
-      let all : whole (blk_ran layout bytes (take (i + 1) lines)).texts ≡ whole so_far.texts ++ h.1.text = rw e (whole_more so_far.texts h.1.text) in
       record {
-        count = i + 1;
-        texts = rw (← one_more d l.done, prefix_front layout bytes lines (i + 1), all) (front_on a.given b.given c.given (whole so_far.texts) h.1.text p.texts h.1.put);
+        count = i;
+        text = h.1.text;
+        next = text_at so_far.texts h.1.text (blk_ran layout bytes lines).texts i p.count (rw (ap (λ (r : BlkRan). r.texts) e) at (extends_ran layout bytes lines (i + 1)));
+        part = h.1.put.count;
+        texts = rw (← p.count, prefix_front layout bytes lines i) (appends_on a.given b.given c.given (whole so_far.texts) (take h.1.put.count h.1.text) p.texts h.1.put.bytes);
         holds = l.holds ∙ ap (λ (r : BlkRan). Some r.session.store) (sym e);
       }
   on_stop (Refused n cause) c h =

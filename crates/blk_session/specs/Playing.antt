@@ -1,5 +1,5 @@
 -- The lines of a script done in order on the block store, each text put as its line is done
-use Rattle.std.specs.Prelude.{◌≡◌, ⊤, ℕ, ◌<◌, ◌≤◌, List, length, take, slice_get, Option, Some, None, Result, Ok, Err}
+use Rattle.std.specs.Prelude.{◌≡◌, ⊤, ℕ, ◌+◌, ◌<◌, ◌≤◌, List, ◌++◌, length, take, slice_get, Option, Some, None, Result, Ok, Err}
 use Rattle.std.specs.Io.KnownBytes.{Appends}
 use Rattle.box_io.specs.Outside.{AppendsFront, Rose}
 use Rattle.blk_spec.specs.declared.BlkLayout.{BlkLayout}
@@ -64,11 +64,14 @@ pub record PlaysFront (layout : BlkLayout) (bytes : List ℕ) (lines : List Line
   pub texts : Appends a.given b.given (front (blk_ran layout bytes lines).texts count)
   pub holds : b.holds ≡ Some (blk_ran layout bytes (take count lines)).session.store
 
--- some first lines were done, and a front of their texts was put
+-- some first lines were done and their texts put; the next was done, and a part of its text was put
 pub record PlaysPut (layout : BlkLayout) (bytes : List ℕ) (lines : List Line) (a b : Seen) : Type 0 where
   pub count : ℕ
-  pub texts : AppendsFront a.given b.given (front (blk_ran layout bytes lines).texts count)
-  pub holds : b.holds ≡ Some (blk_ran layout bytes (take count lines)).session.store
+  pub text : Text
+  pub next : slice_get (blk_ran layout bytes lines).texts count ≡ Some text
+  pub part : ℕ
+  pub texts : Appends a.given b.given (front (blk_ran layout bytes lines).texts count ++ take part text)
+  pub holds : b.holds ≡ Some (blk_ran layout bytes (take (count + 1) lines)).session.store
 
 -- some first lines were done, and within the next, which is not refused, the store failed: it has some first
 -- bytes of what that line writes
