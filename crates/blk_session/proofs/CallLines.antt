@@ -1,5 +1,5 @@
 -- Lines of calls on a loaded store
-use Rattle.std.proofs.Common.{◌≡◌, ℕ, ◌≤◌, Bool, List, [], Option, Some, None, IfSome, Result, Ok, Err, refl, sym, ap, ◌∙◌}
+use Rattle.std.proofs.Common.{◌≡◌, ℕ, Bool, List, [], Option, Some, None, IfSome, Ok, Err, refl, sym, ap, ◌∙◌}
 use Rattle.box_io.specs.Outside.{Rose}
 use Rattle.zone_spec.specs.declared.ZoneName.{ZoneName}
 use Rattle.blk_spec.specs.declared.BlkLayout.{BlkLayout}
@@ -11,16 +11,14 @@ use Rattle.blk_spec.specs.declared.BlkFault.{BlkFault}
 use Rattle.blk_spec.specs.declared.BlkFault.TheVariants.{NoZone as NoZoneThere, NoRecord as NoRecordThere, StoreFault as StoreFaultThere, Memory as MemoryThere}
 use Rattle.blk_spec.specs.Writes.{after_writes, store_after}
 use Rattle.blk_spec.specs.States.{BlkState, loaded, load_writes, cut_after}
-use Rattle.blk_spec.specs.Session.{Load, Append, AppendElsewhere, Dump as DumpNow, CutAfter as CutNow, Erase as EraseRecord, cause_of, session_after, load_session}
+use Rattle.blk_spec.specs.Session.{Append, AppendElsewhere, Dump as DumpNow, Erase as EraseRecord, cause_of, session_after, load_session}
 use Rattle.zone_blk.specs.Answering.{Loads}
-use Rattle.box_script.specs.Fields.{Text}
 use Rattle.box_script.specs.declared.line.Line.TheVariants.{Write, Boot, Erase, KDump, CutAfter}
-use Rattle.tool_spec.specs.BlkScripts.{blk_line_done, operation_of, append_to, ring_for, reason_of, blk_named, performs, line_writes}
+use Rattle.tool_spec.specs.BlkScripts.{blk_line_done, operation_of, append_to, ring_for, reason_of, blk_named, line_writes}
 use Rattle.tool_spec.specs.declared.Cause.TheVariants.{NoZone, NoRecord}
-use Rattle.blk_session.specs.declared.errors.LineError.{LineError}
 use Rattle.blk_session.specs.declared.errors.LineError.TheVariants.{Refused}
-use Rattle.blk_session.specs.Lines.{IsDone, LineDone, LineFails, OperationDone, OperationFails, error_of}
-use Rattle.blk_session.proofs.Operations.{line_done, line_fails}
+use Rattle.blk_session.specs.Lines.{LineDone, LineFails, error_of}
+use Rattle.blk_session.proofs.Operations.{line_fails}
 
 -- ---- which operation a line is
 

@@ -1,5 +1,5 @@
 -- The listed record whose name has a text
-use Rattle.std.proofs.Common.{◌≡◌, ℕ, Bool, true, false, not, ◌&&◌, ◌||◌, ◌==◌, if◌then◌else◌, List, [], ◌∷◌, Option, Some, None, refl, ap, ◌∙◌, eq-eqb}
+use Rattle.std.proofs.Common.{◌≡◌, ℕ, Bool, true, false, not, ◌||◌, if◌then◌else◌, List, [], ◌∷◌, Some, refl, eq-eqb}
 use Rattle.std.specs.Prelude.{bytes_eq}
 use Rattle.std.specs.List.{find, list_any}
 use Rattle.blk_spec.specs.declared.BlkName.{BlkName}

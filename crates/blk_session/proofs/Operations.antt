@@ -13,15 +13,14 @@ use Rattle.blk_spec.specs.declared.BlkFault.TheVariants.{NoZone as NoZoneThere, 
 use Rattle.blk_spec.specs.Writes.{Write as StoreWrite, after_writes, store_after, bytes_in, reaching, spent}
 use Rattle.blk_spec.specs.Answers.{Answers}
 use Rattle.blk_spec.specs.States.{BlkState, append_refusal, append_of, appended, dump_refusal, dump_of, dumped, is_listed, erase_refusal, erase_of, erased}
-use Rattle.blk_spec.specs.Session.{Session, Operation, Append, Dump as DumpNow, Erase as EraseRecord, Cause as SessionCause, NoRecord as NoRecordSession, cause_for, cause_loaded, cause_of, called, done_loaded, unless_refused, session_after}
+use Rattle.blk_spec.specs.Session.{Session, Operation, Append, Dump as DumpNow, Erase as EraseRecord, NoRecord as NoRecordSession, cause_for, cause_loaded, cause_of, called, done_loaded, unless_refused, session_after}
 use Rattle.box_script.specs.Fields.{Text}
 use Rattle.box_script.specs.declared.line.Line.{Line}
 use Rattle.box_script.specs.declared.line.Line.TheVariants.{Blank, Write, Dump, BeginWrite, BeginErase, BeginDump, Step, Finish, Stop, Flip, Boot, BootPart, List as ListLine, Extract, Erase, KDump, CutAfter}
-use Rattle.tool_spec.specs.BlkScripts.{BlkDone, blk_line_done, operation_of, performs, performs_if, done_unless, put_loaded, writes_loaded, writes_by, line_writes}
-use Rattle.tool_spec.specs.declared.Cause.{Cause}
+use Rattle.tool_spec.specs.BlkScripts.{blk_line_done, operation_of, performs, performs_if, done_unless, put_loaded, writes_loaded}
 use Rattle.blk_session.specs.declared.errors.LineError.{LineError}
 use Rattle.blk_session.specs.declared.errors.LineError.TheVariants.{Memory, StoreFault, Refused}
-use Rattle.blk_session.specs.Lines.{IsDone, IsWanted, LineDone, LineFails, OperationDone, OperationFails, error_of}
+use Rattle.blk_session.specs.Lines.{LineDone, LineFails, OperationDone, OperationFails, error_of}
 use Rattle.blk_session.proofs.Writes.{front-reached}
 
 -- ---- calls

@@ -3,13 +3,13 @@ use Rattle.std.specs.Bool.{⊤}
 use Rattle.std.specs.Global.{Vec}
 use Rattle.std.specs.Prelude.{MatchResult}
 use Rattle.std.specs.Option.{option_map}
-use Rattle.std.proofs.Common.{◌≡◌, ◌≢◌, ℕ, ◌<◌, ◌^◌, Bool, true, if◌then◌else◌, List, [], Option, Some, None, Result, Ok, Err, refl, sym, ap, ◌∙◌}
+use Rattle.std.proofs.Common.{◌≡◌, ◌≢◌, ℕ, ◌<◌, ◌^◌, Bool, true, List, [], Option, Some, None, Result, Ok, Err, refl, sym, ap, ◌∙◌}
 use Rattle.zone_spec.specs.declared.ZoneName.{ZoneName}
 use Rattle.blk_spec.specs.declared.BlkLayout.{BlkLayout}
 use Rattle.blk_spec.specs.declared.BlkName.{BlkName}
 use Rattle.blk_spec.specs.declared.BlkRing.{BlkRing}
 use Rattle.blk_spec.specs.States.{BlkState, is_listed}
-use Rattle.blk_spec.specs.Session.{Session, Extract as ExtractRecord, NoRecord as NoRecordThere, cause_of, session_after}
+use Rattle.blk_spec.specs.Session.{Session, Extract as ExtractRecord, cause_of, session_after}
 use Rattle.box_script.specs.Printed.{HasFields}
 use Rattle.box_script.specs.declared.line.Line.{Line}
 use Rattle.box_script.specs.declared.line.Line.TheVariants.{Blank, Write, Dump, BeginWrite, BeginErase, BeginDump, Step, Finish, Stop, Flip, Boot, BootPart, List as ListLine, Extract, Erase, KDump, CutAfter}
@@ -18,7 +18,7 @@ use Rattle.tool_spec.specs.declared.Cause.{Cause}
 use Rattle.tool_spec.specs.declared.Cause.TheVariants.{IsOff, NotHere, NoRecord}
 use Rattle.blk_session.specs.declared.errors.LineError.{LineError}
 use Rattle.blk_session.specs.declared.errors.LineError.TheVariants.{Memory, StoreFault, Refused}
-use Rattle.blk_session.specs.Lines.{IsDone, LineDone, LineFails, IsExtract}
+use Rattle.blk_session.specs.Lines.{LineDone, LineFails, IsExtract}
 use Rattle.blk_session.proofs.Operations.{line_done, line_fails}
 use Rattle.blk_session.proofs.Named.{named_listed}
 

@@ -1,28 +1,24 @@
 -- A script's lines, done one by one on the block store
-use Rattle.std.proofs.Common.{◌≡◌, ℕ, zero, suc, ◌+◌, ◌<◌, ◌≤◌, List, [], ◌∷◌, ◌++◌, length, take, get_or, slice_get, flat_map, Option, Some, None, Result, Ok, Err, refl, sym, ap, ◌∙◌, arith, append-nil, length-append}
+use Rattle.std.proofs.Common.{◌≡◌, ℕ, zero, suc, ◌+◌, ◌<◌, ◌≤◌, List, [], ◌∷◌, ◌++◌, length, take, get_or, slice_get, Option, Some, None, Result, Ok, Err, refl, sym, ap, ◌∙◌, arith, length-append}
 use Rattle.std.proofs.lemmas.List.Sums.{fold_more}
 use Rattle.std.proofs.lemmas.List.Folds.{fold_stuck}
 use Rattle.std.proofs.lemmas.Grind.{common_steps}
 use Rattle.std.proofs.lemmas.Option.{slice_get_read}
 use Rattle.std.specs.List.{fold}
 use Rattle.std.specs.Io.KnownBytes.{Appends}
-use Rattle.box_io.specs.Outside.{Rose, AppendsFront}
 use Rattle.blk_spec.specs.declared.BlkLayout.{BlkLayout}
 use Rattle.blk_spec.specs.States.{BlkState}
 use Rattle.blk_spec.specs.Session.{Session}
-use Rattle.zone_blk.specs.Answering.{HasFront}
 use Rattle.box_script.specs.Fields.{Text}
 use Rattle.box_script.specs.declared.line.Line.{Line}
-use Rattle.tool_spec.specs.BlkScripts.{BlkDone, BlkRan, blk_ran, blk_ran_on, blk_next_line, blk_started, blk_line_done, line_writes}
-use Rattle.tool_spec.specs.Commands.{script_end}
+use Rattle.tool_spec.specs.BlkScripts.{BlkDone, BlkRan, blk_ran, blk_ran_on, blk_next_line, blk_started, blk_line_done}
 use Rattle.tool_spec.specs.Answers.{front, whole}
 use Rattle.tool_spec.specs.declared.Cause.{Cause}
 use Rattle.tool_spec.specs.declared.Stop.{Stop}
 use Rattle.tool_spec.specs.declared.Stop.TheVariants.{Memory, Usage, Param, Layout, Short, ScriptFault, ImageFault, SinkFault, TooLong, BadLine, Refused}
-use Rattle.tool_frame.proofs.Answered.{appends_on, front_on}
+use Rattle.tool_frame.proofs.Answered.{appends_on}
 use Rattle.tool_frame.proofs.Play.{Extends, extends_self, extends_on, front_of, whole_more, nothing_put}
-use Rattle.blk_session.specs.Lines.{LineDone}
-use Rattle.blk_session.specs.Playing.{Seen, Puts, PutsPart, LineStops, PlaysAll, PlaysFront, PlaysPut, PlaysWritten, PlaysRefused, PlayStop, Plays, IsCaused}
+use Rattle.blk_session.specs.Playing.{Seen, Puts, LineStops, PlayStop, Plays, IsCaused}
 
 -- ---- texts only grow
 

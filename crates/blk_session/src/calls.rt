@@ -1,6 +1,5 @@
 // Lines that load, append, dump, cut or erase.
 ghost use Rattle.std.specs.Prelude.{◌≡◌, ℕ, ◌≤◌, ◌<◌, ◌^◌, [], Option, Some, IfOk, IfSome, MatchResult};
-ghost use Rattle.box_io.specs.Outside.{Rose};
 ghost use Rattle.blk_spec.specs.Layout.{IsLayout};
 ghost use Rattle.blk_spec.specs.Answers.{HasRoom};
 ghost use Rattle.blk_spec.specs.States.{BlkState};
@@ -46,9 +45,10 @@ pub fn load<S: Store>(alloc: Global, layout: BlkLayout, store: &mut S) -> Result
     ensures layout { IfOk result (λ b. b.layout ≡ layout) }
     ensures room { (n : ℕ) → HasRoom n (S.holds store.old) → HasRoom n (S.holds store.new) }
     ensures later { S.faults store.old ≤ S.faults store.new }
-    ensures done { (old : Option BlkState) → IfSome old (λ b. b.layout ≡ layout)
-        → MatchResult result (λ b. LineDone layout old Boot (Some b) [] (S.holds store.old) (S.holds store.new))
-        (λ e. LineFails e layout old Boot (S.holds store.old) (S.holds store.new) (S.faults store.old) (S.faults store.new)) }
+    ensures done { let before = S.holds store.old in let now = S.holds store.new in
+        (old : Option BlkState) → IfSome old (λ b. b.layout ≡ layout) → MatchResult result
+        (λ b. LineDone layout old Boot (Some b) [] before now)
+        (λ e. LineFails e layout old Boot before now (S.faults store.old) (S.faults store.new)) }
 {
     match Blk::load(alloc, store, layout) {
         Ok(blk) => Ok(blk),
@@ -66,9 +66,10 @@ fn append<S: Store>(
     ensures layout { blk.new.layout ≡ blk.old.layout }
     ensures room { (n : ℕ) → HasRoom n (S.holds store.old) → HasRoom n (S.holds store.new) }
     ensures later { S.faults store.old ≤ S.faults store.new }
-    ensures done { MatchResult result
-        (λ _. OperationDone blk.old.layout (Some blk.old) (Append ring payload.now) (Some blk.new) [] (S.holds store.old) (S.holds store.new))
-        (λ e. OperationFails e blk.old.layout (Some blk.old) (Append ring payload.now) (S.holds store.old) (S.holds store.new) (S.faults store.old) (S.faults store.new)) }
+    ensures done { let before = S.holds store.old in let now = S.holds store.new in MatchResult result
+        (λ _. OperationDone blk.old.layout (Some blk.old) (Append ring payload.now) (Some blk.new) [] before now)
+        (λ e. OperationFails e blk.old.layout (Some blk.old) (Append ring payload.now) before now
+        (S.faults store.old) (S.faults store.new)) }
 {
     match blk.append(store, ring, payload) {
         Ok(()) => Ok(()),
@@ -90,9 +91,11 @@ fn dump<S: Store>(
     ensures layout { blk.new.layout ≡ blk.old.layout }
     ensures room { (n : ℕ) → HasRoom n (S.holds store.old) → HasRoom n (S.holds store.new) }
     ensures later { S.faults store.old ≤ S.faults store.new }
-    ensures done { MatchResult result
-        (λ _. OperationDone blk.old.layout (Some blk.old) (DumpNow time packed reason body.now) (Some blk.new) [] (S.holds store.old) (S.holds store.new))
-        (λ e. OperationFails e blk.old.layout (Some blk.old) (DumpNow time packed reason body.now) (S.holds store.old) (S.holds store.new) (S.faults store.old) (S.faults store.new)) }
+    ensures done { let before = S.holds store.old in let now = S.holds store.new in MatchResult result
+        (λ _. OperationDone blk.old.layout (Some blk.old) (DumpNow time packed reason body.now)
+        (Some blk.new) [] before now)
+        (λ e. OperationFails e blk.old.layout (Some blk.old) (DumpNow time packed reason body.now) before now
+        (S.faults store.old) (S.faults store.new)) }
 {
     match blk.dump(store, time, packed, reason, body) {
         Ok(()) => Ok(()),
@@ -105,9 +108,10 @@ fn erase_named<S: Store>(blk: &mut Blk, store: &mut S, name: BlkName) -> Result<
     ensures layout { blk.new.layout ≡ blk.old.layout }
     ensures room { (n : ℕ) → HasRoom n (S.holds store.old) → HasRoom n (S.holds store.new) }
     ensures later { S.faults store.old ≤ S.faults store.new }
-    ensures done { MatchResult result
-        (λ _. OperationDone blk.old.layout (Some blk.old) (EraseRecord (Some name)) (Some blk.new) [] (S.holds store.old) (S.holds store.new))
-        (λ e. OperationFails e blk.old.layout (Some blk.old) (EraseRecord (Some name)) (S.holds store.old) (S.holds store.new) (S.faults store.old) (S.faults store.new)) }
+    ensures done { let before = S.holds store.old in let now = S.holds store.new in MatchResult result
+        (λ _. OperationDone blk.old.layout (Some blk.old) (EraseRecord (Some name)) (Some blk.new) [] before now)
+        (λ e. OperationFails e blk.old.layout (Some blk.old) (EraseRecord (Some name)) before now
+        (S.faults store.old) (S.faults store.new)) }
 {
     match blk.erase(store, name) {
         Ok(()) => Ok(()),
@@ -126,9 +130,10 @@ pub fn write<S: Store>(
     ensures layout { blk.new.layout ≡ blk.old.layout }
     ensures room { (n : ℕ) → HasRoom n (S.holds store.old) → HasRoom n (S.holds store.new) }
     ensures later { S.faults store.old ≤ S.faults store.new }
-    ensures done { MatchResult result
-        (λ _. LineDone blk.old.layout (Some blk.old) (Write zone bytes.now) (Some blk.new) [] (S.holds store.old) (S.holds store.new))
-        (λ e. LineFails e blk.old.layout (Some blk.old) (Write zone bytes.now) (S.holds store.old) (S.holds store.new) (S.faults store.old) (S.faults store.new)) }
+    ensures done { let before = S.holds store.old in let now = S.holds store.new in MatchResult result
+        (λ _. LineDone blk.old.layout (Some blk.old) (Write zone bytes.now) (Some blk.new) [] before now)
+        (λ e. LineFails e blk.old.layout (Some blk.old) (Write zone bytes.now) before now
+        (S.faults store.old) (S.faults store.new)) }
 {
     match ring_for(zone.kind) {
         Some(ring) => append(blk, store, ring, bytes.as_slice()),
@@ -151,9 +156,11 @@ pub fn kdump<S: Store>(
     ensures layout { blk.new.layout ≡ blk.old.layout }
     ensures room { (n : ℕ) → HasRoom n (S.holds store.old) → HasRoom n (S.holds store.new) }
     ensures later { S.faults store.old ≤ S.faults store.new }
-    ensures done { MatchResult result
-        (λ _. LineDone blk.old.layout (Some blk.old) (KDump time.secs time.nanos packed reason body.now) (Some blk.new) [] (S.holds store.old) (S.holds store.new))
-        (λ e. LineFails e blk.old.layout (Some blk.old) (KDump time.secs time.nanos packed reason body.now) (S.holds store.old) (S.holds store.new) (S.faults store.old) (S.faults store.new)) }
+    ensures done { let before = S.holds store.old in let now = S.holds store.new in MatchResult result
+        (λ _. LineDone blk.old.layout (Some blk.old) (KDump time.secs time.nanos packed reason body.now)
+        (Some blk.new) [] before now)
+        (λ e. LineFails e blk.old.layout (Some blk.old) (KDump time.secs time.nanos packed reason body.now) before now
+        (S.faults store.old) (S.faults store.new)) }
 {
     dump(blk, store, time, packed, reason_of(reason), body.as_slice())
 }
@@ -164,9 +171,10 @@ pub fn erase<S: Store>(blk: &mut Blk, store: &mut S, name: &Bytes) -> Result<(),
     ensures layout { blk.new.layout ≡ blk.old.layout }
     ensures room { (n : ℕ) → HasRoom n (S.holds store.old) → HasRoom n (S.holds store.new) }
     ensures later { S.faults store.old ≤ S.faults store.new }
-    ensures done { MatchResult result
-        (λ _. LineDone blk.old.layout (Some blk.old) (Erase name.now) (Some blk.new) [] (S.holds store.old) (S.holds store.new))
-        (λ e. LineFails e blk.old.layout (Some blk.old) (Erase name.now) (S.holds store.old) (S.holds store.new) (S.faults store.old) (S.faults store.new)) }
+    ensures done { let before = S.holds store.old in let now = S.holds store.new in MatchResult result
+        (λ _. LineDone blk.old.layout (Some blk.old) (Erase name.now) (Some blk.new) [] before now)
+        (λ e. LineFails e blk.old.layout (Some blk.old) (Erase name.now) before now
+        (S.faults store.old) (S.faults store.new)) }
 {
     match named(blk, name.as_slice()) {
         Ok(Some(name)) => erase_named(blk, store, name),

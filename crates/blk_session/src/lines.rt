@@ -22,8 +22,10 @@ fn do_call<S: Store>(blk: &mut Blk, store: &mut S, line: &Line) -> Result<(), Li
     ensures layout { blk.new.layout ≡ blk.old.layout }
     ensures room { (n : ℕ) → HasRoom n (S.holds store.old) → HasRoom n (S.holds store.new) }
     ensures later { S.faults store.old ≤ S.faults store.new }
-    ensures done { MatchResult result (λ _. LineDone blk.old.layout (Some blk.old) line.now (Some blk.new) [] (S.holds store.old) (S.holds store.new))
-        (λ e. LineFails e blk.old.layout (Some blk.old) line.now (S.holds store.old) (S.holds store.new) (S.faults store.old) (S.faults store.new)) }
+    ensures done { let before = S.holds store.old in let now = S.holds store.new in MatchResult result
+        (λ _. LineDone blk.old.layout (Some blk.old) line.now (Some blk.new) [] before now)
+        (λ e. LineFails e blk.old.layout (Some blk.old) line.now before now
+        (S.faults store.old) (S.faults store.new)) }
 {
     match line {
         Line::Write(zone, bytes) => calls::write(blk, store, *zone, bytes),
@@ -47,7 +49,8 @@ fn do_call<S: Store>(blk: &mut Blk, store: &mut S, line: &Line) -> Result<(), Li
 #[tactic(auto, using(crate::proofs::OtherLines::list_done, crate::proofs::OtherLines::extract_ends))]
 fn show(alloc: Global, blk: &Blk, line: &Line) -> Result<Vec<u8>, LineError>
     requires { IsShown line.now }
-    ensures { (store : Option (List ℕ)) (faults : ℕ) → MatchResult result (λ text. LineDone blk.now.layout (Some blk.now) line.now (Some blk.now) text.items store store)
+    ensures { (store : Option (List ℕ)) (faults : ℕ) → MatchResult result
+        (λ text. LineDone blk.now.layout (Some blk.now) line.now (Some blk.now) text.items store store)
         (λ e. LineFails e blk.now.layout (Some blk.now) line.now store store faults faults) }
 {
     match line {
@@ -72,8 +75,9 @@ fn do_loaded<S: Store>(
     ensures loaded { IfOk result (λ r. IfSome r.0 (λ b. b.layout ≡ layout)) }
     ensures room { (n : ℕ) → HasRoom n (S.holds store.old) → HasRoom n (S.holds store.new) }
     ensures later { S.faults store.old ≤ S.faults store.new }
-    ensures done { MatchResult result (λ r. LineDone layout (Some blk) line.now r.0 r.1.items (S.holds store.old) (S.holds store.new))
-        (λ e. LineFails e layout (Some blk) line.now (S.holds store.old) (S.holds store.new) (S.faults store.old) (S.faults store.new)) }
+    ensures done { let before = S.holds store.old in let now = S.holds store.new in MatchResult result
+        (λ r. LineDone layout (Some blk) line.now r.0 r.1.items before now)
+        (λ e. LineFails e layout (Some blk) line.now before now (S.faults store.old) (S.faults store.new)) }
 {
     let mut blk = blk;
     match line {
@@ -108,8 +112,9 @@ fn do_unloaded<S: Store>(
     ensures loaded { IfOk result (λ r. IfSome r.0 (λ b. b.layout ≡ layout)) }
     ensures room { (n : ℕ) → HasRoom n (S.holds store.old) → HasRoom n (S.holds store.new) }
     ensures later { S.faults store.old ≤ S.faults store.new }
-    ensures done { MatchResult result (λ r. LineDone layout None line.now r.0 r.1.items (S.holds store.old) (S.holds store.new))
-        (λ e. LineFails e layout None line.now (S.holds store.old) (S.holds store.new) (S.faults store.old) (S.faults store.new)) }
+    ensures done { let before = S.holds store.old in let now = S.holds store.new in MatchResult result
+        (λ r. LineDone layout None line.now r.0 r.1.items before now)
+        (λ e. LineFails e layout None line.now before now (S.faults store.old) (S.faults store.new)) }
 {
     match line {
         Line::Blank => Ok((None, Vec::new(alloc))),
@@ -143,8 +148,9 @@ pub fn do_line<S: Store>(
     ensures loaded { IfOk result (λ r. IfSome r.0 (λ b. b.layout ≡ layout)) }
     ensures room { (n : ℕ) → HasRoom n (S.holds store.old) → HasRoom n (S.holds store.new) }
     ensures later { S.faults store.old ≤ S.faults store.new }
-    ensures done { MatchResult result (λ r. LineDone layout blk line.now r.0 r.1.items (S.holds store.old) (S.holds store.new))
-        (λ e. LineFails e layout blk line.now (S.holds store.old) (S.holds store.new) (S.faults store.old) (S.faults store.new)) }
+    ensures done { let before = S.holds store.old in let now = S.holds store.new in MatchResult result
+        (λ r. LineDone layout blk line.now r.0 r.1.items before now)
+        (λ e. LineFails e layout blk line.now before now (S.faults store.old) (S.faults store.new)) }
 {
     match blk {
         Some(blk) => do_loaded(alloc, layout, blk, store, line),

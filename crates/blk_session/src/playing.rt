@@ -44,10 +44,13 @@ fn play_line<S: Store, O: Sink>(
     requires room { HasRoom layout.total (S.holds store.old) }
     ensures loaded { IfOk result (λ next. IfSome next (λ b. b.layout ≡ layout)) }
     ensures room { (n : ℕ) → HasRoom n (S.holds store.old) → HasRoom n (S.holds store.new) }
-    ensures later { Later (seen (S.holds store.old) (S.faults store.old) (O.given out.old) (O.faults out.old)) (seen (S.holds store.new) (S.faults store.new) (O.given out.new) (O.faults out.new)) }
+    ensures later { Later
+        (seen (S.holds store.old) (S.faults store.old) (O.given out.old) (O.faults out.old))
+        (seen (S.holds store.new) (S.faults store.new) (O.given out.new) (O.faults out.new)) }
     ensures played { let a = seen (S.holds store.old) (S.faults store.old) (O.given out.old) (O.faults out.old) in
         let b = seen (S.holds store.new) (S.faults store.new) (O.given out.new) (O.faults out.new) in
-        MatchResult result (λ next. Puts layout blk line.now next a b) (λ stop. LineStops stop layout blk line.now number a b) }
+        MatchResult result (λ next. Puts layout blk line.now next a b)
+        (λ stop. LineStops stop layout blk line.now number a b) }
 {
     let (next, text) = match do_line(alloc, layout, blk, store, line) {
         Ok(done) => done,
@@ -72,9 +75,15 @@ pub fn play<S: Store, O: Sink>(
     requires fields { AllHaveFields lines.now }
     requires few { length lines.now < 2 ^ 32 }
     requires room { HasRoom layout.total (S.holds store.old) }
-    ensures later { Later (seen (S.holds store.old) (S.faults store.old) (O.given out.old) (O.faults out.old)) (seen (S.holds store.new) (S.faults store.new) (O.given out.new) (O.faults out.new)) }
-    ensures caused { IsCaused result (seen (S.holds store.old) (S.faults store.old) (O.given out.old) (O.faults out.old)) (seen (S.holds store.new) (S.faults store.new) (O.given out.new) (O.faults out.new)) }
-    ensures played { Plays result layout lines.now (seen (S.holds store.old) (S.faults store.old) (O.given out.old) (O.faults out.old)) (seen (S.holds store.new) (S.faults store.new) (O.given out.new) (O.faults out.new)) }
+    ensures later { Later
+        (seen (S.holds store.old) (S.faults store.old) (O.given out.old) (O.faults out.old))
+        (seen (S.holds store.new) (S.faults store.new) (O.given out.new) (O.faults out.new)) }
+    ensures caused { IsCaused result
+        (seen (S.holds store.old) (S.faults store.old) (O.given out.old) (O.faults out.old))
+        (seen (S.holds store.new) (S.faults store.new) (O.given out.new) (O.faults out.new)) }
+    ensures played { Plays result layout lines.now
+        (seen (S.holds store.old) (S.faults store.old) (O.given out.old) (O.faults out.old))
+        (seen (S.holds store.new) (S.faults store.new) (O.given out.new) (O.faults out.new)) }
 {
     let mut blk: Option<Blk> = None;
     for (i, line) in lines.iter().enumerate() {

@@ -1,4 +1,4 @@
-use Rattle.std.proofs.Common.{◌≡◌, Some, Err, subst, sym, ap}
+use Rattle.std.proofs.Common.{Some, Err, subst, sym, ap}
 use Rattle.blk_spec.specs.States.{append_refusal, append_of, appended}
 use Rattle.blk_spec.specs.Session.{Append}
 use Rattle.blk_session.specs.declared.errors.LineError.{LineError}

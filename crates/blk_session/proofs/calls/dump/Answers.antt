@@ -1,4 +1,4 @@
-use Rattle.std.proofs.Common.{◌≡◌, Some, Err, subst, sym, ap}
+use Rattle.std.proofs.Common.{Some, Err, subst, sym, ap}
 use Rattle.blk_spec.specs.States.{dump_refusal, dump_of, dumped}
 use Rattle.blk_spec.specs.Session.{Dump as DumpNow}
 use Rattle.blk_session.specs.declared.errors.LineError.{LineError}

@@ -1,4 +1,4 @@
-use Rattle.std.proofs.Common.{◌≡◌, Some, None, ◌∙◌, sym}
+use Rattle.std.proofs.Common.{Some, ◌∙◌, sym}
 use Rattle.blk_spec.specs.Session.{Erase as EraseRecord}
 use Rattle.box_script.specs.declared.line.Line.TheVariants.{Erase}
 use Rattle.blk_session.proofs.Operations.{line_ends}

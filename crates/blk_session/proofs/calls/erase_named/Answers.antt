@@ -1,4 +1,4 @@
-use Rattle.std.proofs.Common.{◌≡◌, Some, Err, subst, sym, ap}
+use Rattle.std.proofs.Common.{Some, Err, subst, sym, ap}
 use Rattle.blk_spec.specs.States.{erase_refusal, erase_of, erased}
 use Rattle.blk_spec.specs.Session.{Erase as EraseRecord}
 use Rattle.blk_session.specs.declared.errors.LineError.{LineError}

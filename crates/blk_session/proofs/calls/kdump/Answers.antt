@@ -1,4 +1,4 @@
-use Rattle.std.proofs.Common.{◌≡◌, Some}
+use Rattle.std.proofs.Common.{Some}
 use Rattle.blk_spec.specs.Session.{Dump as DumpNow}
 use Rattle.box_script.specs.declared.line.Line.TheVariants.{KDump}
 use Rattle.blk_session.proofs.Operations.{line_ends}

@@ -1,4 +1,4 @@
-use Rattle.std.proofs.Common.{◌≡◌, Err, subst, sym, ap}
+use Rattle.std.proofs.Common.{Err, subst, sym, ap}
 use Rattle.box_script.specs.declared.line.Line.TheVariants.{Boot}
 use Rattle.blk_session.specs.declared.errors.LineError.{LineError}
 use Rattle.blk_session.specs.Lines.{LineFails}

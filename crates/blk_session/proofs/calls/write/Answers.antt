@@ -1,4 +1,4 @@
-use Rattle.std.proofs.Common.{◌≡◌, Some, ◌∙◌, sym}
+use Rattle.std.proofs.Common.{Some, ◌∙◌, sym}
 use Rattle.blk_spec.specs.Session.{Append}
 use Rattle.box_script.specs.declared.line.Line.TheVariants.{Write}
 use Rattle.blk_session.proofs.Operations.{line_ends}

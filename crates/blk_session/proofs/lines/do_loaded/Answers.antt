@@ -1,4 +1,4 @@
-use Rattle.std.proofs.Common.{◌≡◌, ℕ, List, Some, subst, arith}
+use Rattle.std.proofs.Common.{Some, subst, arith}
 use Rattle.blk_spec.specs.declared.BlkLayout.{BlkLayout}
 use Rattle.blk_session.specs.Lines.{LineDone}
 use Rattle.blk_session.proofs.OtherLines.{elsewhere, is_elsewhere}

@@ -1,4 +1,4 @@
-use Rattle.std.proofs.Common.{◌≡◌, None, sym, subst, arith}
+use Rattle.std.proofs.Common.{None, arith}
 use Rattle.blk_session.proofs.OtherLines.{elsewhere, is_elsewhere}
 use Rattle.blk_session.proofs.lines.do_unloaded.Goals as goal
 

@@ -1,4 +1,4 @@
-use Rattle.std.proofs.Common.{◌≡◌, Some, sym, subst}
+use Rattle.std.proofs.Common.{Some, sym, subst}
 use Rattle.std.specs.Prelude.{MatchResult}
 use Rattle.box_script.specs.declared.line.Line.{Line}
 use Rattle.blk_session.specs.Lines.{LineDone, LineFails}

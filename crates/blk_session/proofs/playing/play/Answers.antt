@@ -1,4 +1,4 @@
-use Rattle.std.proofs.Common.{◌≡◌, arith}
+use Rattle.std.proofs.Common.{arith}
 use Rattle.blk_session.specs.Playing.{seen}
 use Rattle.blk_session.proofs.ScriptLines.{plays_next, plays_stop, plays_all}
 use Rattle.blk_session.proofs.playing.play.Goals as goal
