@@ -2,8 +2,8 @@
 use Rattle.std.proofs.Common.{◌≡◌, ℕ, zero, suc, ◌+◌, ◌<◌, ◌≤◌, List, [], ◌∷◌, ◌++◌, length, take, get_or, slice_get, Option, Some, None, Result, Ok, Err, refl, sym, ap, ◌∙◌, arith, length-append}
 use Rattle.std.proofs.lemmas.List.Sums.{fold_more}
 use Rattle.std.proofs.lemmas.List.Folds.{fold_stuck}
-use Rattle.std.proofs.lemmas.Grind.{common_steps}
 use Rattle.std.proofs.lemmas.Option.{slice_get_read}
+use Rattle.std.proofs.lemmas.List.{take_all}
 use Rattle.std.specs.List.{fold}
 use Rattle.std.specs.Io.KnownBytes.{Appends}
 use Rattle.blk_spec.specs.declared.BlkLayout.{BlkLayout}
@@ -169,13 +169,10 @@ module _ (layout : BlkLayout) (lines : List Line) (i : ℕ) (line : Line) (below
   pub plays_stop : (stop : Stop) (c : Seen) → LineStops stop layout blk line (i + 1) b c → Plays (Err stop) layout lines a c
   plays_stop stop c h bytes told = on_stop layout bytes lines i line below is blk a b (so_far bytes told) stop c h
 
-take_all_lines : (lines : List Line) (i : ℕ) → length lines ≤ i → take i lines ≡ lines
-take_all_lines lines i h = grind (arith, common_steps)
-
 pub plays_all : (layout : BlkLayout) (lines : List Line) (i : ℕ) (blk : Option BlkState) (a b : Seen) → length lines ≤ i → PlaysSoFar layout lines i blk a b → Plays (Ok tt) layout lines a b
 plays_all layout lines i blk a b all so_far bytes told =
     let p : PlaysTo layout bytes lines i blk a b = so_far bytes told in
-    let same : take i lines ≡ lines = take_all_lines lines i all in
+    let same : take i lines ≡ lines = take_all i lines all in
     record {
       none = rw same at p.none;
       texts = rw same at p.texts;

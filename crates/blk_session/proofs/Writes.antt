@@ -7,6 +7,7 @@ use Rattle.blk_spec.specs.declared.BlkCut.TheVariants.{Uncut, After, Dropped}
 use Rattle.blk_spec.specs.Writes.{Write, store_after, bytes_in, first_bytes, through, reaching}
 use Rattle.blk_spec.specs.Answers.{FailsWithin}
 use Rattle.zone_blk.specs.Answering.{HasFront}
+use Rattle.zone_blk.proofs.Effects.{through-within}
 
 first-first : (k m : ℕ) (ws : List Write) → k ≤ m → first_bytes k (first_bytes m ws) ≡ first_bytes k ws
 unfolding first_bytes
@@ -27,17 +28,12 @@ through-all Uncut n m h = h
 through-all (After limit) n m h = omega arith
 through-all Dropped n m h = omega arith
 
-through-most : (c : BlkCut) (n : ℕ) → through c n ≤ n
-through-most Uncut n = omega arith
-through-most (After limit) n = omega arith
-through-most Dropped n = omega arith
-
 -- what a failed call wrote is a front of what reaches the store
 pub front-reached : (c d : BlkCut) (ws : List Write) (before now : Option (List ℕ)) → FailsWithin ws c d before now → HasFront (reaching c ws) before now
 front-reached c d ws before now f =
     let most : f.kept ≤ through c (bytes_in ws) = omega (arith, f.fewer, through-all c f.tried (bytes_in ws) f.within) in
     record {
       kept = f.kept;
-      within = omega (arith, most, bytes-first (through c (bytes_in ws)) ws, through-most c (bytes_in ws));
+      within = omega (arith, most, bytes-first (through c (bytes_in ws)) ws, through-within c (bytes_in ws));
       store = f.store ∙ ap (λ (vs : List Write). store_after vs before) (sym (first-first f.kept (through c (bytes_in ws)) ws most));
     }
