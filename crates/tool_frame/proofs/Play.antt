@@ -26,10 +26,10 @@ pub record Extends (short long : List Text) : Type 0 where
   pub more : List Text
   pub is : long ≡ short ++ more
 
-extends_self : (texts : List Text) → Extends texts texts
+pub extends_self : (texts : List Text) → Extends texts texts
 extends_self texts = record { more = []; is = sym (append-nil texts) }
 
-extends_on : (a b c : List Text) → Extends a b → Extends b c → Extends a c
+pub extends_on : (a b c : List Text) → Extends a b → Extends b c → Extends a c
 extends_on a b c h k = record { more = h.more ++ k.more; is = k.is ∙ ap (λ t. t ++ k.more) h.is ∙ append_assoc a h.more k.more }
 
 line_extends : (r : Ran) (c : Option Cause) (next : Result Done Cause) → Extends r.texts (ran_on r c next).texts
@@ -48,7 +48,7 @@ take_extends layout [] (suc k) r = extends_self r.texts
 take_extends layout (line ∷ lines) (suc k) r = take_extends layout lines k (next_line layout r line)
 
 -- the texts of the first k lines, end to end, are some first of all texts
-front_of : (short long : List Text) → Extends short long → front long (length short) ≡ whole short
+pub front_of : (short long : List Text) → Extends short long → front long (length short) ≡ whole short
 front_of short long h = rw h.is (grind (arith, common_steps))
 
 prefix_front : (layout : List Zone) (image : List ℕ) (lines : List Line) (k : ℕ) → front (ran layout image lines).texts (length (ran layout image (take k lines)).texts) ≡ whole (ran layout image (take k lines)).texts
@@ -76,11 +76,11 @@ done_at layout image lines i line d h is e g =
     let now : next_line layout r (get_or lines i line) ≡ record { session = d.session; texts = r.texts ++ d.text ∷ []; refused = None } = rw (← is) (on_done r r.refused (line_done layout r.session line) d e g) in
     fold_more (next_line layout) (started layout image) lines i line h ∙ now
 
-whole_more : (texts : List Text) (text : Text) → whole (texts ++ text ∷ []) ≡ whole texts ++ text
+pub whole_more : (texts : List Text) (text : Text) → whole (texts ++ text ∷ []) ≡ whole texts ++ text
 whole_more texts text = grind (arith, common_steps)
 
 -- nothing is done yet
-nothing_put : (given : Option (List ℕ)) → Appends given given []
+pub nothing_put : (given : Option (List ℕ)) → Appends given given []
 nothing_put None = tt
 nothing_put (Some xs) = grind (arith, common_steps)
 

@@ -1,7 +1,7 @@
 -- The tool's worked rows: text and status
 use Rattle.std.specs.Prelude.{◌≡◌, ℕ, List, [], ◌∷◌, ◌++◌, codes, replicate}
 use Rattle.tool_spec.specs.Generated.{draws}
-use Rattle.tool_rows.specs.Words.{told, lone}
+use Rattle.tool_rows.specs.Words.{told, lone, blk_told}
 
 -- draws below 1000, from 0 on
 abbrev pub FirstDraws : Type 0
@@ -90,3 +90,23 @@ CommandsWithoutScript =
     × (told (codes "image erase console-ramoops-0 " ++ lone) with_record [] ≡ ([], 0))
     × (told (codes "image erase no-name " ++ lone) with_record [] ≡ (codes "line 2 refused: no record\n", 10))
     × (told (codes "image blank " ++ lone) [] [] ≡ ([], 0))
+
+-- a console record and a dump on the block store, read by the next loading, listed and extracted
+abbrev pub FirstBlockSession : Type 0
+FirstBlockSession =
+    blk_told (replicate 16384 0) (codes "boot\nwrite console 616263\nkdump 5 6000 D Panic 78\nboot\nlist\nextract dmesg-pstore_blk-0\n")
+    ≡ (codes "records 2\ndmesg-pstore_blk-0 22 5.000006000\nconsole-pstore_blk-0 3\ndmesg-pstore_blk-0 22\nPanic: Total 1 times\nx\n", 0)
+
+-- a write that is cut within its data, and the next loading
+abbrev pub CutBlockWrite : Type 0
+CutBlockWrite =
+    blk_told (replicate 16384 0) (codes "boot\nwrite console 616263\ncut 5\nwrite console 6465666768\nboot\nextract console-pstore_blk-0\n")
+    ≡ (codes "console-pstore_blk-0 3\nabc\n", 0)
+
+-- lines that the block store refuses
+abbrev pub BlockRefusals : Type 0
+BlockRefusals =
+    (blk_told (replicate 16384 0) (codes "write console 61\n") ≡ (codes "line 1 refused: is off\n", 10))
+    × (blk_told (replicate 16384 0) (codes "stop\n") ≡ (codes "line 1 refused: not here\n", 10))
+    × (blk_told (replicate 16384 0) (codes "boot\nwrite ftrace-0 61\n") ≡ (codes "line 2 refused: no zone\n", 10))
+    × (blk_told (replicate 16384 0) (codes "boot\nextract console-pstore_blk-0\n") ≡ (codes "line 2 refused: no record\n", 10))

@@ -1,10 +1,15 @@
 -- Words in a line, and what becomes of them
-use Rattle.std.specs.Prelude.{ℕ, List, [], ◌++◌, ◌==◌, codes, flat_map, Result, Ok, Err}
+use Rattle.std.specs.Prelude.{ℕ, List, [], ◌++◌, ◌==◌, length, codes, flat_map, Result, Ok, Err}
 use Rattle.std.specs.List.{slice_split}
+use Rattle.blk_spec.specs.declared.BlkLayout.{BlkLayout}
 use Rattle.box_script.specs.Fields.{Text}
+use Rattle.box_script.specs.declared.line.Line.{Line}
+use Rattle.box_script.specs.Lines.{script_of}
 use Rattle.tool_spec.specs.Ends.{End, status_of, last_line}
-use Rattle.tool_spec.specs.Commands.{Plan, plan_of, Wanted, wanted}
+use Rattle.tool_spec.specs.Commands.{Plan, plan_of, Wanted, wanted, script_end}
+use Rattle.tool_spec.specs.BlkScripts.{BlkRan, blk_ran}
 use Rattle.tool_spec.specs.declared.Stop.{Stop}
+use Rattle.tool_spec.specs.declared.Stop.TheVariants.{BadLine}
 
 -- the words of a line, one space between two
 abbrev pub words : Text → List Text
@@ -28,3 +33,20 @@ told line image script = planned_shown (plan_of (words line)) image script
 
 abbrev pub lone : Text
 lone = codes "mem_size=4096 record_size=0 ftrace_size=0 pmsg_size=0"
+
+-- 16384 bytes of a block store: both rings, and two dump zones
+abbrev pub blk_layout : BlkLayout
+blk_layout = record { total = 16384; kmsg = 4096; console = 4096; pmsg = 4096; dumps = 2 }
+
+abbrev pub blk_shown : BlkRan → Text × ℕ
+blk_shown r =
+    let end = script_end (length r.texts) r.refused in
+    (flat_map (λ text. text) r.texts ++ last_of end, status_of end)
+
+abbrev pub blk_lines_told : List ℕ → Result (List Line) ℕ → Text × ℕ
+blk_lines_told store (Ok lines) = blk_shown (blk_ran blk_layout store lines)
+blk_lines_told store (Err n) = (last_line (BadLine n), status_of (Err (BadLine n)))
+
+-- what a script on a block store of these bytes shows
+abbrev pub blk_told : List ℕ → List ℕ → Text × ℕ
+blk_told store script = blk_lines_told store (script_of script)

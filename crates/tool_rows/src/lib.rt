@@ -1,7 +1,7 @@
 //! Worked rows of the tool's definitions: each function's contract is a row, whose expected text stands in `specs/`.
 #![tactic(auto)]
 
-ghost use Rattle.tool_rows.specs.Rows.{FirstDraws, FirstConsoleRecord, CutAfterSizeWord, StoppedBoots, DumpsWithKeptZone, WorkedLayouts, WorkedRefusals, WorkedFaults, CommandsWithoutScript};
+ghost use Rattle.tool_rows.specs.Rows.{FirstDraws, FirstConsoleRecord, CutAfterSizeWord, StoppedBoots, DumpsWithKeptZone, WorkedLayouts, WorkedRefusals, WorkedFaults, CommandsWithoutScript, FirstBlockSession, CutBlockWrite, BlockRefusals};
 
 /// The first draws of a generated session.
 pub fn first_draws()
@@ -46,4 +46,19 @@ pub fn worked_faults()
 /// Commands that read no script.
 pub fn commands_without_script()
     ensures { CommandsWithoutScript }
+{}
+
+/// A console record and a dump of the block store.
+pub fn first_block_session()
+    ensures { FirstBlockSession }
+{}
+
+/// A write to the block store that is cut within its data.
+pub fn cut_block_write()
+    ensures { CutBlockWrite }
+{}
+
+/// Lines that the block store refuses.
+pub fn block_refusals()
+    ensures { BlockRefusals }
 {}

@@ -5,3 +5,4 @@ pub mod Generated
 pub mod Commands
 pub mod Answers
 pub mod Headline
+pub mod BlkScripts

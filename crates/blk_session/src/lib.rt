@@ -1,0 +1,16 @@
+//! A script's session on the block store: lines of a script as they are done, and what each puts.
+#![tactic(auto)]
+
+mod calls;
+mod errors;
+mod lines;
+mod playing;
+mod records;
+mod texts;
+
+pub use errors::LineError;
+pub use lines::do_line;
+pub use playing::play;
+
+#[cfg(test)]
+mod tests;

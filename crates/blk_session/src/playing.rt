@@ -1,0 +1,96 @@
+// The lines of a script, in order.
+ghost use Rattle.std.specs.Prelude.{◌≡◌, ℕ, ◌<◌, ◌^◌, length, IfOk, IfSome, MatchResult};
+ghost use Rattle.blk_spec.specs.Layout.{IsLayout};
+ghost use Rattle.blk_spec.specs.Answers.{HasRoom};
+ghost use Rattle.box_script.specs.Printed.{HasFields, AllHaveFields};
+ghost use Rattle.blk_session.specs.Stops.{stop_of};
+ghost use Rattle.blk_session.specs.Playing.{seen, Puts, LineStops, Plays, IsCaused, Later};
+
+use crate::errors::LineError;
+use crate::lines::do_line;
+use box_io::{Failed, Sink, Store};
+use box_script::Line;
+use std::alloc::Global;
+use tool_spec::Stop;
+use zone_blk::{Blk, BlkLayout};
+
+// The stop of a script at the line of this number.
+fn stop_at(number: u32, error: LineError) -> Stop
+    ensures { result ≡ stop_of number error }
+{
+    match error {
+        LineError::Memory => Stop::Memory,
+        LineError::StoreFault => Stop::ImageFault,
+        LineError::Refused(cause) => Stop::Refused {
+            line: number,
+            cause,
+        },
+    }
+}
+
+// Does the line of this number, and puts its text.
+fn play_line<S: Store, O: Sink>(
+    alloc: Global,
+    layout: BlkLayout,
+    blk: Option<Blk>,
+    store: &mut S,
+    line: &Line,
+    number: u32,
+    out: &mut O,
+) -> Result<Option<Blk>, Stop>
+    requires layout { IsLayout layout }
+    requires fields { HasFields line.now }
+    requires loaded { IfSome blk (λ b. b.layout ≡ layout) }
+    requires room { HasRoom layout.total (S.holds store.old) }
+    ensures loaded { IfOk result (λ next. IfSome next (λ b. b.layout ≡ layout)) }
+    ensures room { (n : ℕ) → HasRoom n (S.holds store.old) → HasRoom n (S.holds store.new) }
+    ensures later { Later
+        (seen (S.holds store.old) (S.faults store.old) (O.given out.old) (O.faults out.old))
+        (seen (S.holds store.new) (S.faults store.new) (O.given out.new) (O.faults out.new)) }
+    ensures played { let a = seen (S.holds store.old) (S.faults store.old) (O.given out.old) (O.faults out.old) in
+        let b = seen (S.holds store.new) (S.faults store.new) (O.given out.new) (O.faults out.new) in
+        MatchResult result (λ next. Puts layout blk line.now next a b)
+        (λ stop. LineStops stop layout blk line.now number a b) }
+{
+    let (next, text) = match do_line(alloc, layout, blk, store, line) {
+        Ok(done) => done,
+        Err(error) => return Err(stop_at(number, error)),
+    };
+    match out.put(&text) {
+        Ok(()) => Ok(next),
+        Err(Failed) => Err(Stop::SinkFault),
+    }
+}
+
+/// Does the lines in order on a store that isn't loaded yet, and puts the text of each as it is done. The store is
+/// written as the lines are done.
+pub fn play<S: Store, O: Sink>(
+    alloc: Global,
+    layout: BlkLayout,
+    store: &mut S,
+    lines: &[Line],
+    out: &mut O,
+) -> Result<(), Stop>
+    requires layout { IsLayout layout }
+    requires fields { AllHaveFields lines.now }
+    requires few { length lines.now < 2 ^ 32 }
+    requires room { HasRoom layout.total (S.holds store.old) }
+    ensures later { Later
+        (seen (S.holds store.old) (S.faults store.old) (O.given out.old) (O.faults out.old))
+        (seen (S.holds store.new) (S.faults store.new) (O.given out.new) (O.faults out.new)) }
+    ensures caused { IsCaused result
+        (seen (S.holds store.old) (S.faults store.old) (O.given out.old) (O.faults out.old))
+        (seen (S.holds store.new) (S.faults store.new) (O.given out.new) (O.faults out.new)) }
+    ensures played { Plays result layout lines.now
+        (seen (S.holds store.old) (S.faults store.old) (O.given out.old) (O.faults out.old))
+        (seen (S.holds store.new) (S.faults store.new) (O.given out.new) (O.faults out.new)) }
+{
+    let mut blk: Option<Blk> = None;
+    for (i, line) in lines.iter().enumerate() {
+        blk = match play_line(alloc, layout, blk, store, line, i as u32 + 1, out) {
+            Ok(next) => next,
+            Err(stop) => return Err(stop),
+        };
+    }
+    Ok(())
+}

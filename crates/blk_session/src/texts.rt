@@ -1,0 +1,131 @@
+// The list of records, and the text of one.
+ghost use Rattle.std.specs.Prelude.{◌≡◌, ◌+◌, ◌++◌, [], codes, decimal, drop, flat_map, length, Option, IfOk, OnOk};
+ghost use Rattle.blk_spec.specs.Names.{name_text as name_text_of};
+ghost use Rattle.tool_spec.specs.Texts.{newline};
+ghost use Rattle.tool_spec.specs.BlkScripts.{nine_digits, blk_time_text, blk_listing, blk_extract_text};
+ghost use Rattle.tool_spec.specs.BlkScripts.{record_time as record_time_of, content_in as content_of_name};
+ghost use Rattle.blk_session.specs.Texts.{entry_text};
+
+use arrayvec::ArrayString;
+use box_io::Bytes;
+use itoa::Buffer;
+use std::alloc::{AllocError, Global};
+use text_pieces::push_number;
+use zone_blk::{Blk, BlkFault, BlkName, BlkTime};
+
+/// Writes the text of a name, such as `dmesg-pstore_blk-3.enc.z`, in at most 33 bytes. Takes no memory.
+pub fn name_text(name: BlkName, out: &mut ArrayString<33>)
+    ensures { out.new.bytes ≡ name_text_of name }
+{
+    out.clear();
+    match name {
+        BlkName::Dump { index, packed } => {
+            let mut digits = Buffer::new();
+            out.push_str("dmesg-pstore_blk-");
+            out.push_str(digits.format(index));
+            out.push_str(if packed { ".enc.z" } else { "" });
+        }
+        BlkName::Console => out.push_str("console-pstore_blk-0"),
+        BlkName::Pmsg => out.push_str("pmsg-pstore_blk-0"),
+    }
+}
+
+// The content of a record, or no bytes where it is not listed.
+fn content_in(alloc: Global, blk: &Blk, name: BlkName) -> Result<Bytes, AllocError>
+    ensures { IfOk result (λ bytes. bytes ≡ content_of_name blk.now name) }
+{
+    match blk.content(name) {
+        Ok(bytes) => Ok(bytes),
+        Err(BlkFault::Memory) => Err(AllocError),
+        Err(_) => Ok(Bytes::empty(alloc)),
+    }
+}
+
+fn record_time(blk: &Blk, name: BlkName) -> Option<BlkTime>
+    ensures { result ≡ record_time_of blk.now name }
+{
+    match name {
+        BlkName::Dump { index, .. } => blk.time(index),
+        BlkName::Console | BlkName::Pmsg => None,
+    }
+}
+
+// A name, and a length behind it.
+fn push_record(text: &mut Vec<u8>, name: BlkName, len: u64) -> Result<(), AllocError>
+    ensures { OnOk result (text.new.items ≡ text.old.items ++ name_text_of name ++ codes " " ++ decimal len) }
+{
+    let mut written = ArrayString::new();
+    name_text(name, &mut written);
+    text.extend_from_slice(written.as_str().as_bytes())?;
+    push_number(text, " ", len)
+}
+
+fn push_nanos(text: &mut Vec<u8>, nanos: u32) -> Result<(), AllocError>
+    ensures { OnOk result (text.new.items ≡ text.old.items ++ nine_digits nanos) }
+{
+    let mut digits = Buffer::new();
+    let number = 1_000_000_000 + u64::from(nanos);
+    text.extend_from_slice(digits.format(number)[1..].as_bytes())
+}
+
+fn push_time(text: &mut Vec<u8>, time: Option<BlkTime>) -> Result<(), AllocError>
+    ensures { OnOk result (text.new.items ≡ text.old.items ++ blk_time_text time) }
+{
+    match time {
+        Some(time) => {
+            push_number(text, " ", time.secs)?;
+            text.push(b'.')?;
+            push_nanos(text, time.nanos)
+        }
+        None => Ok(()),
+    }
+}
+
+fn push_entry(alloc: Global, text: &mut Vec<u8>, blk: &Blk, name: BlkName) -> Result<(), AllocError>
+    ensures { OnOk result (text.new.items ≡ text.old.items ++ entry_text blk.now name) }
+{
+    let content = content_in(alloc, blk, name)?;
+    push_record(text, name, content.len() as u64)?;
+    push_time(text, record_time(blk, name))?;
+    text.push(b'\n')?;
+    Ok(())
+}
+
+fn push_entries(
+    alloc: Global,
+    text: &mut Vec<u8>,
+    blk: &Blk,
+    names: &[BlkName],
+) -> Result<(), AllocError>
+    ensures { OnOk result (text.new.items ≡ text.old.items ++ flat_map (entry_text blk.now) names.now) }
+{
+    for name in names {
+        push_entry(alloc, text, blk, *name)?;
+    }
+    Ok(())
+}
+
+/// The list of records: how many they are, and a line for each.
+pub fn listing(alloc: Global, blk: &Blk) -> Result<Vec<u8>, AllocError>
+    ensures { IfOk result (λ text. text.items ≡ blk_listing blk.now) }
+{
+    let names = blk.names()?;
+    let mut text = Vec::new(alloc);
+    push_number(&mut text, "records ", names.as_slice().len() as u64)?;
+    text.push(b'\n')?;
+    push_entries(alloc, &mut text, blk, names.as_slice())?;
+    Ok(text)
+}
+
+/// A record's name, the length of its content, and the content.
+pub fn extract_text(alloc: Global, blk: &Blk, name: BlkName) -> Result<Vec<u8>, AllocError>
+    ensures { IfOk result (λ text. text.items ≡ blk_extract_text blk.now name) }
+{
+    let content = content_in(alloc, blk, name)?;
+    let mut text = Vec::new(alloc);
+    push_record(&mut text, name, content.len() as u64)?;
+    text.push(b'\n')?;
+    text.extend_from_slice(content.as_slice())?;
+    text.push(b'\n')?;
+    Ok(text)
+}

@@ -1,0 +1,7 @@
+use Rattle.std.proofs.Common.{refl}
+use Rattle.tool_rows.proofs.Computing.{computing_blk}
+use Rattle.tool_rows.proofs.cut_block_write.Goals as goal
+
+pub returns : goal.returns
+unfolding computing_blk
+returns c = refl
