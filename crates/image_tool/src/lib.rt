@@ -13,4 +13,8 @@ pub use tool_frame::{Cause, Stop};
 pub use work::run;
 
 #[cfg(test)]
+mod fault_tests;
+#[cfg(test)]
+mod record_tests;
+#[cfg(test)]
 mod tests;

@@ -6,24 +6,25 @@ use box_io::{Bytes, Calls, MemSink, MemSource, MemStore};
 use std::alloc::{AllocError, Global};
 use std::test::Fail;
 
-const CONSOLE: &str = "image run mem_size=4096 record_size=0 ftrace_size=0 pmsg_size=0";
+pub(crate) const CONSOLE: &str = "image run mem_size=4096 record_size=0 ftrace_size=0 pmsg_size=0";
 
-const FIRST_RECORD: &str =
+pub(crate) const FIRST_RECORD: &str =
     "boot\nwrite console 616263\nstop\nboot\nlist\nextract console-ramoops-0\n";
 
-const FIRST_TEXT: &str = "boot console unsigned start 0 size 0 corrected 0 bad 0 nothing told\n\
+pub(crate) const FIRST_TEXT: &str =
+    "boot console unsigned start 0 size 0 corrected 0 bad 0 nothing told\n\
     boot console found start 3 size 3 corrected 0 bad 0 as told\n\
     records 1\nconsole-ramoops-0 3\nconsole-ramoops-0 3\nabc\n";
 
 /// The calls that fail, of the script, the image and the output.
 #[derive(Clone, Copy)]
-struct Fails {
-    script: &'static [u32],
-    image: &'static [u32],
-    out: &'static [u32],
+pub(crate) struct Fails {
+    pub(crate) script: &'static [u32],
+    pub(crate) image: &'static [u32],
+    pub(crate) out: &'static [u32],
 }
 
-const NONE: Fails = Fails {
+pub(crate) const NONE: Fails = Fails {
     script: &[],
     image: &[],
     out: &[],
@@ -31,10 +32,10 @@ const NONE: Fails = Fails {
 
 /// What a run answered, put and left.
 #[derive(Drop)]
-struct Ended {
-    status: u8,
-    text: Vec<u8>,
-    image: Vec<u8>,
+pub(crate) struct Ended {
+    pub(crate) status: u8,
+    pub(crate) text: Vec<u8>,
+    pub(crate) image: Vec<u8>,
 }
 
 fn words_of(alloc: Global, line: &str) -> Result<Vec<String>, AllocError> {
@@ -45,16 +46,29 @@ fn words_of(alloc: Global, line: &str) -> Result<Vec<String>, AllocError> {
     Ok(words)
 }
 
-fn outcome(
+pub(crate) fn outcome(
     alloc: Global,
     line: &str,
     script: &[u8],
     image: &[u8],
     fails: Fails,
 ) -> Result<Ended, Fail> {
+    outcome_by(alloc, line, script, 7, image, fails)
+}
+
+// The same with a script that gives so many bytes a call, at least one.
+pub(crate) fn outcome_by(
+    alloc: Global,
+    line: &str,
+    script: &[u8],
+    per_call: u32,
+    image: &[u8],
+    fails: Fails,
+) -> Result<Ended, Fail> {
     let words = words_of(alloc, line)?;
     let text = Bytes::copy_of(alloc, script)?;
-    let mut script = MemSource::new(text, 7, Calls::new(alloc, fails.script)?);
+    let per_call = if per_call == 0 { 1 } else { per_call };
+    let mut script = MemSource::new(text, per_call, Calls::new(alloc, fails.script)?);
     let held = Bytes::copy_of(alloc, image)?;
     let limit = u32::try_from(image.len())?;
     let mut image = MemStore::new(held, limit, Calls::new(alloc, fails.image)?)?;
@@ -178,85 +192,6 @@ fn a_refused_line_follows_the_finished_ones(rt: HostRuntime) -> Result<(), Fail>
     let text =
         b"boot console unsigned start 0 size 0 corrected 0 bad 0 nothing told\nline 2 refused: no record\n".as_slice();
     assert_eq!(rt; ran.text.as_slice(), text);
-    Ok(())
-}
-
-// Strange headers, and what a boot says of them.
-#[test]
-fn strange_headers_are_reported(rt: HostRuntime) -> Result<(), Fail> {
-    let alloc = rt.alloc();
-    let ran = outcome(alloc, CONSOLE, b"boot\n".as_slice(), &[0xff; 4096], NONE)?;
-    let text =
-        b"boot console unsigned start 4294967295 size 4294967295 corrected 0 bad 0 nothing told\n".as_slice();
-    assert_eq!(rt; ran.text.as_slice(), text);
-    let mut image = [0; 4096];
-    image[..12].copy_from_slice(b"DBGC\x05\0\0\0\xf5\x0f\0\0".as_slice());
-    let ran = outcome(alloc, CONSOLE, b"boot\n".as_slice(), &image, NONE)?;
-    let text =
-        b"boot console invalid start 5 size 4085 corrected 0 bad 0 nothing told\n".as_slice();
-    assert_eq!(rt; ran.text.as_slice(), text);
-    image[..12].copy_from_slice(b"DBGC\xf4\x0f\0\0\xf4\x0f\0\0".as_slice());
-    let ran = outcome(alloc, CONSOLE, b"boot\n".as_slice(), &image, NONE)?;
-    let text =
-        b"boot console found start 4084 size 4084 corrected 0 bad 0 nothing told\n".as_slice();
-    assert_eq!(rt; ran.text.as_slice(), text);
-    Ok(())
-}
-
-// The image's calls are its size, its bytes and the write back; a put that fails ends the run at once.
-#[test]
-fn faults_are_told(rt: HostRuntime) -> Result<(), Fail> {
-    let alloc = rt.alloc();
-    let zeros = [0; 4096];
-    let script = FIRST_RECORD.as_bytes();
-    for call in [&[1], &[2]] {
-        let ran = outcome(
-            alloc,
-            CONSOLE,
-            script,
-            &zeros,
-            Fails {
-                image: call,
-                ..NONE
-            },
-        )?;
-        assert_eq!(rt; ran.status, 6);
-        assert_eq!(rt; ran.text.as_slice(), b"image fault\n".as_slice());
-        assert_eq!(rt; ran.image.as_slice(), zeros.as_slice());
-    }
-    let ran = outcome(
-        alloc,
-        CONSOLE,
-        script,
-        &zeros,
-        Fails {
-            image: &[3],
-            ..NONE
-        },
-    )?;
-    assert_eq!(rt; ran.status, 6);
-    let text = format!(in alloc; "{FIRST_TEXT}image fault\n")?;
-    assert_eq!(rt; ran.text.as_slice(), text.as_bytes());
-    assert!(rt;
-        ran.image
-            .starts_with(b"DBGC\0\0\0\0\0\0\0\0abc\0".as_slice())
-    );
-    let ran = outcome(
-        alloc,
-        CONSOLE,
-        script,
-        &zeros,
-        Fails {
-            script: &[1],
-            ..NONE
-        },
-    )?;
-    assert_eq!(rt; ran.status, 5);
-    assert_eq!(rt; ran.text.as_slice(), b"script fault\n".as_slice());
-    let ran = outcome(alloc, CONSOLE, script, &zeros, Fails { out: &[1], ..NONE })?;
-    assert_eq!(rt; ran.status, 7);
-    assert!(rt; FIRST_TEXT.as_bytes().starts_with(&ran.text));
-    assert_eq!(rt; ran.image.as_slice(), zeros.as_slice());
     Ok(())
 }
 

@@ -117,10 +117,11 @@ rows_apart : (p : Params) (low at : ℕ) (rows : List Row) → Rising low rows �
 unfolding zones_from
 rows_apart p low at [] h = (tt, tt)
 rows_apart p low at (row ∷ rows) h =
-    let rest = rows_apart p (rank row.kind + 1) (at + taken row) rows h.1 in
-    (apart_append (of_row p row at) (zones_from p (at + taken row) rows) (row_apart p row at 0 row.count) rest.0 (row_behind p row at 0 row.count (zones_from p (at + taken row) rows) rest.1),
-    all_append (λ (z : Zone). low ≤ rank z.name.kind) (of_row p row at) (zones_from p (at + taken row) rows) (row_from p row low at 0 row.count h.0)
-    (weaker low (rank row.kind + 1) (zones_from p (at + taken row) rows) (omega (arith, h.0)) rest.1))
+    let rest = rows_apart p (rank row.kind + 1) (at + taken row) rows h.1 in (
+      apart_append (of_row p row at) (zones_from p (at + taken row) rows) (row_apart p row at 0 row.count) rest.0 (row_behind p row at 0 row.count (zones_from p (at + taken row) rows) rest.1),
+      all_append (λ (z : Zone). low ≤ rank z.name.kind) (of_row p row at) (zones_from p (at + taken row) rows) (row_from p row low at 0 row.count h.0)
+          (weaker low (rank row.kind + 1) (zones_from p (at + taken row) rows) (omega (arith, h.0)) rest.1),
+    )
 
 all_rising : (p : Params) → Rising 0 (rows p)
 unfolding rank
