@@ -144,13 +144,28 @@ kept_before (Err Memory) status holds holds' h is zero one six seven ten = elim 
 kept_before (Err ImageFault) status holds holds' h is zero one six seven ten = elim is [ inl k ↦ absurd (six k) | inr k ↦ absurd (seven k) ]
 kept_before (Err SinkFault) status holds holds' h is zero one six seven ten = elim is [ inl k ↦ absurd (seven k) | inr k ↦ absurd (seven k) ]
 kept_before (Err (Refused n cause)) status holds holds' h is zero one six seven ten = elim is [ inl k ↦ absurd (ten k) | inr k ↦ absurd (seven k) ]
-kept_before (Err Usage) status holds holds' h is zero one six seven ten = h
-kept_before (Err (Param x y)) status holds holds' h is zero one six seven ten = h
-kept_before (Err (Layout x)) status holds holds' h is zero one six seven ten = h
+kept_before (Err Usage) status holds holds' h is zero one six seven ten = absurd h
+kept_before (Err (Param x y)) status holds holds' h is zero one six seven ten = absurd h
+kept_before (Err (Layout x)) status holds holds' h is zero one six seven ten = absurd h
 kept_before (Err (Short x y)) status holds holds' h is zero one six seven ten = h
 kept_before (Err ScriptFault) status holds holds' h is zero one six seven ten = h
 kept_before (Err TooLong) status holds holds' h is zero one six seven ten = h
 kept_before (Err (BadLine x)) status holds holds' h is zero one six seven ten = h
+
+-- nor is it one of the words
+good_words : (e : End) (status : ℕ) (holds holds' : Option (List ℕ)) → KeptBefore holds holds' e → (status ≡ status_of e) ⊎ (status ≡ 7) → (status ≢ 2) × (status ≢ 3)
+good_words (Ok u) status holds holds' h is = elim is [ inl k ↦ (λ z. absurd (omega arith), λ z. absurd (omega arith)) | inr k ↦ (λ z. absurd (omega arith), λ z. absurd (omega arith)) ]
+good_words (Err Memory) status holds holds' h is = elim is [ inl k ↦ (λ z. absurd (omega arith), λ z. absurd (omega arith)) | inr k ↦ (λ z. absurd (omega arith), λ z. absurd (omega arith)) ]
+good_words (Err (Short x y)) status holds holds' h is = elim is [ inl k ↦ (λ z. absurd (omega arith), λ z. absurd (omega arith)) | inr k ↦ (λ z. absurd (omega arith), λ z. absurd (omega arith)) ]
+good_words (Err ScriptFault) status holds holds' h is = elim is [ inl k ↦ (λ z. absurd (omega arith), λ z. absurd (omega arith)) | inr k ↦ (λ z. absurd (omega arith), λ z. absurd (omega arith)) ]
+good_words (Err ImageFault) status holds holds' h is = elim is [ inl k ↦ (λ z. absurd (omega arith), λ z. absurd (omega arith)) | inr k ↦ (λ z. absurd (omega arith), λ z. absurd (omega arith)) ]
+good_words (Err SinkFault) status holds holds' h is = elim is [ inl k ↦ (λ z. absurd (omega arith), λ z. absurd (omega arith)) | inr k ↦ (λ z. absurd (omega arith), λ z. absurd (omega arith)) ]
+good_words (Err TooLong) status holds holds' h is = elim is [ inl k ↦ (λ z. absurd (omega arith), λ z. absurd (omega arith)) | inr k ↦ (λ z. absurd (omega arith), λ z. absurd (omega arith)) ]
+good_words (Err (BadLine x)) status holds holds' h is = elim is [ inl k ↦ (λ z. absurd (omega arith), λ z. absurd (omega arith)) | inr k ↦ (λ z. absurd (omega arith), λ z. absurd (omega arith)) ]
+good_words (Err (Refused x y)) status holds holds' h is = elim is [ inl k ↦ (λ z. absurd (omega arith), λ z. absurd (omega arith)) | inr k ↦ (λ z. absurd (omega arith), λ z. absurd (omega arith)) ]
+good_words (Err Usage) status holds holds' h is = absurd h
+good_words (Err (Param x y)) status holds holds' h is = absurd h
+good_words (Err (Layout x)) status holds holds' h is = absurd h
 
 blk_answers : (layout : BlkLayout) (a m b : Outside) (e : End) (status : ℕ) → NoImage m b → BlkEnds layout a m e → Finished e m.given b.given m.sink_faults b.sink_faults status → BlkAnswers layout a b status
 blk_answers layout a m b e status image h f =
@@ -159,6 +174,7 @@ blk_answers layout a m b e status image h f =
       whole = record { told = λ bytes script t l. lines_or_stop (blk_lines layout bytes script) e layout bytes a m b status image.holds (h.whole.told bytes script t l) f };
       image = record { told = λ bytes t. let r = short_at e layout.total (length bytes) status (h.image.told bytes t) s in record { short = r.0; told = r.1 } };
       script = record { told = λ script l. script_at e script a m b status (h.script.told script l) f };
+      words = good_words e status a.holds m.holds h.kept s;
       kept = λ zero one six seven ten. image.holds ∙ kept_before e status a.holds m.holds h.kept s zero one six seven ten;
     }
 

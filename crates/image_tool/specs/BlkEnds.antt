@@ -11,7 +11,7 @@ use Rattle.tool_spec.specs.BlkCommands.{blk_asked, blk_plan_of, blk_lines}
 use Rattle.tool_spec.specs.BlkAnswers.{LinesStop, AllDone}
 use Rattle.tool_frame.specs.Ended.{Ended, ShortAt, ScriptAt, Nothing, WorkEnds}
 use Rattle.tool_spec.specs.declared.Stop.{Stop}
-use Rattle.tool_spec.specs.declared.Stop.TheVariants.{Memory, ImageFault, SinkFault, Refused}
+use Rattle.tool_spec.specs.declared.Stop.TheVariants.{Memory, Usage, Param, Layout, ImageFault, SinkFault, Refused}
 
 -- good lines stopped for this cause, and their text was put
 pub record StoppedAt (stop : Stop) (layout : BlkLayout) (bytes : List ℕ) (lines : List Line) (a b : Outside) : Type 0 where
@@ -28,13 +28,16 @@ abbrev pub LinesOrStopEnded : BlkLayout → List ℕ → Result (List Line) Stop
 LinesOrStopEnded layout bytes (Ok lines) a b e = LinesEnded layout bytes lines a b e
 LinesOrStopEnded layout bytes (Err stop) a b e = Ended (stops stop) a b e
 
--- the store stays, but where lines were begun
+-- the ends that there are; the store stays, but where lines were begun
 abbrev pub KeptBefore : Option (List ℕ) → Option (List ℕ) → End → Type 0
 KeptBefore holds holds' (Ok u) = ⊤
 KeptBefore holds holds' (Err Memory) = ⊤
 KeptBefore holds holds' (Err ImageFault) = ⊤
 KeptBefore holds holds' (Err SinkFault) = ⊤
 KeptBefore holds holds' (Err (Refused n cause)) = ⊤
+KeptBefore holds holds' (Err Usage) = ⊥
+KeptBefore holds holds' (Err (Param fault before)) = ⊥
+KeptBefore holds holds' (Err (Layout fault)) = ⊥
 KeptBefore holds holds' (Err s) = holds' ≡ holds
 
 -- a script on the block store, as far as the outside tells what it uses

@@ -15,4 +15,6 @@ pub use tool_frame::{Cause, Stop};
 pub use work::run;
 
 #[cfg(test)]
+mod blk_tests;
+#[cfg(test)]
 mod tests;

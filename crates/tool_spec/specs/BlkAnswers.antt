@@ -109,6 +109,8 @@ pub record BlkAnswers (layout : BlkLayout) (a b : Outside) (status : ℕ) : Type
   pub whole : IfTold a (λ bytes script. LinesOrStopAnswers layout bytes (blk_lines layout bytes script) a b status)
   pub image : IfHolds a (λ bytes. ShortAnswers layout.total bytes status)
   pub script : IfLeft a (λ script. ScriptAnswers script a b status)
+  -- the words have no fault
+  pub words : (status ≢ 2) × (status ≢ 3)
   -- the store is untouched on a status that comes before the lines alone
   pub kept : status ≢ 0 → status ≢ 1 → status ≢ 6 → status ≢ 7 → status ≢ 10 → b.holds ≡ a.holds
 
