@@ -66,6 +66,13 @@ fn outcome(
     })
 }
 
+fn has_at(image: &[u8], at: usize, bytes: &[u8]) -> bool {
+    match image.get(at..) {
+        Some(rest) => rest.starts_with(bytes),
+        None => false,
+    }
+}
+
 // Sessions with all that they put: a first one, and a write that is cut within its data and behind its header.
 #[test]
 fn worked_sessions(rt: HostRuntime) -> Result<(), Fail> {
@@ -115,12 +122,16 @@ fn zones_are_written_in_place(rt: HostRuntime) -> Result<(), Fail> {
     let ran = outcome(alloc, WORDS, script, &[0xee; 16400], NONE)?;
     assert_eq!(rt; ran.status, 0);
     assert!(rt; ran.text.is_empty());
-    assert!(rt; ran.image.starts_with(b"CBGC\0\0\0\0\0\0\0\0\xee\xee".as_slice()));
+    assert!(rt;
+        ran.image
+            .starts_with(b"CBGC\0\0\0\0\0\0\0\0\xee\xee".as_slice())
+    );
     let console = b"FBGC\x03\0\0\0\x03\0\0\0abc\xee".as_slice();
-    assert!(rt; ran.image[4096..].starts_with(console));
-    let dump = b"DBGC\x29\0\0\0\0\0\0\0\xe5\x3a\xfc\x4d\0\0\0\0\x05\0\0\0\0\0\0\0\x70\x17\0\0\0\0\0\0\0\0\0\0\x01\0\0\0\x01\0\0\0\0\0\0\0x\0".as_slice();
-    assert!(rt; ran.image[8192..].starts_with(dump));
-    assert!(rt; ran.image[12288..].iter().all(|byte| *byte == 0xee));
+    assert!(rt; has_at(&ran.image, 4096, console));
+    let dump =
+        b"DBGC\x29\0\0\0\0\0\0\0\xe5\x3a\xfc\x4d\0\0\0\0\x05\0\0\0\0\0\0\0\x70\x17\0\0\0\0\0\0\0\0\0\0\x01\0\0\0\x01\0\0\0\0\0\0\0x\0".as_slice();
+    assert!(rt; has_at(&ran.image, 8192, dump));
+    assert!(rt; ran.image.iter().skip(12288).all(|byte| *byte == 0xee));
     Ok(())
 }
 
@@ -195,9 +206,12 @@ fn a_refused_line_leaves_the_finished_ones(rt: HostRuntime) -> Result<(), Fail> 
     let script = "boot\nwrite console 616263\nlist\nwrite ftrace-0 64\nwrite console 65\n";
     let ran = outcome(alloc, WORDS, script, &[0; 16384], NONE)?;
     assert_eq!(rt; ran.status, 10);
-    assert_eq!(rt; ran.text.as_slice(), b"records 0\nline 4 refused: no zone\n".as_slice());
+    assert_eq!(rt;
+        ran.text.as_slice(),
+        b"records 0\nline 4 refused: no zone\n".as_slice()
+    );
     let console = b"FBGC\x03\0\0\0\x03\0\0\0abc\0".as_slice();
-    assert!(rt; ran.image[4096..].starts_with(console));
+    assert!(rt; has_at(&ran.image, 4096, console));
     Ok(())
 }
 
@@ -239,6 +253,7 @@ fn faults_of_the_script_and_the_output_are_told(rt: HostRuntime) -> Result<(), F
     assert_eq!(rt; ran.status, 7);
     assert_eq!(rt; ran.text.as_slice(), b"recor".as_slice());
     assert!(rt; ran.image.starts_with(b"CBGC".as_slice()));
-    assert!(rt; ran.image[4096..].starts_with(b"FBGC\0\0\0\0\0\0\0\0\0\0".as_slice()));
+    let console = b"FBGC\0\0\0\0\0\0\0\0\0\0".as_slice();
+    assert!(rt; has_at(&ran.image, 4096, console));
     Ok(())
 }
