@@ -5,3 +5,5 @@ pub mod MakeEnds
 pub mod HeadlineReads
 pub mod ScriptEnds
 pub mod WorkEnds
+pub mod BlkEnds
+pub mod BlkAnswered

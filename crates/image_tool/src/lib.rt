@@ -1,6 +1,8 @@
 //! The image tool: a command with its parameters, a script or none, an image, and the text that comes of them.
 #![tactic(auto)]
 
+mod blk_script;
+mod blk_words;
 mod images;
 mod layout_text;
 mod making;
@@ -12,6 +14,8 @@ mod work;
 pub use tool_frame::{Cause, Stop};
 pub use work::run;
 
+#[cfg(test)]
+mod blk_tests;
 #[cfg(test)]
 mod fault_tests;
 #[cfg(test)]

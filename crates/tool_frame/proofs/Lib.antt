@@ -6,3 +6,4 @@ pub mod Play
 pub mod Script
 pub mod Tool
 pub mod Few
+pub mod Sizes

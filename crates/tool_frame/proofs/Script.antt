@@ -20,10 +20,10 @@ use Rattle.tool_frame.specs.Playing.{Played, PlayStop}
 use Rattle.tool_frame.specs.Ended.{PutTexts, PutSome, Ended, RunEnds}
 use Rattle.tool_frame.proofs.Tool.{nothing_put, no_texts}
 
-nat_lt-true : {a b : ℕ} → a < b → nat_lt a b ≡ true
+pub nat_lt-true : {a b : ℕ} → a < b → nat_lt a b ≡ true
 nat_lt-true h = grind (arith, nat_tests)
 
-nat_lt-false : {a b : ℕ} → b ≤ a → nat_lt a b ≡ false
+pub nat_lt-false : {a b : ℕ} → b ≤ a → nat_lt a b ≡ false
 nat_lt-false h = grind (arith, nat_tests)
 
 -- ---- what is wanted
@@ -60,7 +60,7 @@ pub record Read (a : Outside) (text : List ℕ) : Type 0 where
 loaded_of : (plan : Plan) (a : Outside) (image bytes : List ℕ) → Loaded plan a image → a.holds ≡ Some bytes → (mem_of plan ≤ length bytes) × (image ≡ take (mem_of plan) bytes)
 loaded_of plan a image bytes l t = rw t at l.read
 
-read_of : (a : Outside) (text script : List ℕ) → Read a text → a.left ≡ Some script → text ≡ script
+pub read_of : (a : Outside) (text script : List ℕ) → Read a text → a.left ≡ Some script → text ≡ script
 read_of a text script r l = rw l at r.read
 
 -- what is wanted of the lines that were read
@@ -167,7 +167,7 @@ parse_stopped plan a b image text (Refused x y) l r q h = absurd h
 -- ---- lines
 
 -- a good script
-good_script : (a : Outside) (text : List ℕ) (lines : List Line) → Read a text → script_of text ≡ Ok lines → (script : List ℕ) → a.left ≡ Some script → (length script ≤ script_limit) × IsOk (script_of script)
+pub good_script : (a : Outside) (text : List ℕ) (lines : List Line) → Read a text → script_of text ≡ Ok lines → (script : List ℕ) → a.left ≡ Some script → (length script ≤ script_limit) × IsOk (script_of script)
 good_script a text lines r e script s =
     let same : script ≡ text = sym (read_of a text script r s) in
     let few : length script ≤ script_limit = rw same r.few in

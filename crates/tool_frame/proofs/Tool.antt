@@ -13,10 +13,10 @@ use Rattle.tool_frame.proofs.Answered.{answers}
 use Rattle.tool_spec.specs.declared.Stop.{Stop}
 use Rattle.tool_spec.specs.declared.Stop.TheVariants.{Memory, Usage, Param, Layout, Short, ScriptFault, ImageFault, SinkFault, TooLong, BadLine, Refused}
 
-script_on : (a m b : Outside) → NoScript a m → NoScript m b → NoScript a b
+pub script_on : (a m b : Outside) → NoScript a m → NoScript m b → NoScript a b
 script_on a m b h k = record { left = k.left ∙ h.left; source = k.source ∙ h.source }
 
-image_on : (a m b : Outside) → NoImage a m → NoImage m b → NoImage a b
+pub image_on : (a m b : Outside) → NoImage a m → NoImage m b → NoImage a b
 image_on a m b h k = record { holds = k.holds ∙ h.holds; store = k.store ∙ h.store }
 
 -- the status is that of the end, or 7
@@ -42,7 +42,7 @@ enough mem n size status four le h = elim h [
   | inr k ↦ (λ z. absurd (omega arith), λ z. inr (inr (inr (inr k))))
 ]
 
-short_at : (e : End) (mem size status : ℕ) → ShortAt mem size e → (status ≡ status_of e) ⊎ (status ≡ 7) → (status ≡ 4 → size < mem) × (size < mem → (status ≡ 4) ⊎ IsFree status)
+pub short_at : (e : End) (mem size status : ℕ) → ShortAt mem size e → (status ≡ status_of e) ⊎ (status ≡ 7) → (status ≡ 4 → size < mem) × (size < mem → (status ≡ 4) ⊎ IsFree status)
 short_at (Ok u) mem size status h s = enough mem 0 size status (λ z. absurd (omega arith)) h s
 short_at (Err Memory) mem size status h s = elim s [
   | inl k ↦ (λ z. absurd (omega arith), λ z. inr (inl k))
@@ -101,7 +101,7 @@ good script a b n status eight nine le ok s = elim s [
 same_error : {A B : Type 0} (r : Result A B) (b c : B) → r ≡ Err b → r ≡ Err c → c ≡ b
 same_error r b c e f = let g : Err b ≡ Err c = sym e ∙ f in cc
 
-script_at : (e : End) (script : List ℕ) (a m b : Outside) (status : ℕ) → ScriptAt script a.given m.given e → Finished e m.given b.given m.sink_faults b.sink_faults status → ScriptAnswers script a b status
+pub script_at : (e : End) (script : List ℕ) (a m b : Outside) (status : ℕ) → ScriptAt script a.given m.given e → Finished e m.given b.given m.sink_faults b.sink_faults status → ScriptAnswers script a b status
 script_at (Ok u) script a m b status h f = good script a b 0 status (λ z. absurd (omega arith)) (λ z. absurd (omega arith)) h.0 h.1 (inl f.answer)
 script_at (Err Memory) script a m b status h f = elim f.shown [
   | inl k ↦ free_early script a b status (inl k.0)
@@ -179,7 +179,7 @@ pub nothing_put : (given : Option (List ℕ)) → Appends given given []
 nothing_put None = tt
 nothing_put (Some xs) = grind (arith, common_steps)
 
-fault_answers : (s : Stop) (a m b : Outside) (status : ℕ) → NoScript a b → NoImage a b → m.given ≡ a.given → Finished (Err s) m.given b.given m.sink_faults b.sink_faults status → FaultAnswers s a b status
+pub fault_answers : (s : Stop) (a m b : Outside) (status : ℕ) → NoScript a b → NoImage a b → m.given ≡ a.given → Finished (Err s) m.given b.given m.sink_faults b.sink_faults status → FaultAnswers s a b status
 fault_answers Memory a m b status script image given f = fault_put Memory a m b status script image given f (λ z. absurd (omega arith))
 fault_answers Usage a m b status script image given f = fault_put Usage a m b status script image given f (λ z. absurd (omega arith))
 fault_answers (Param x y) a m b status script image given f = fault_put (Param x y) a m b status script image given f (λ z. absurd (omega arith))

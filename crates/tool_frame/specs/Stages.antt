@@ -13,6 +13,12 @@ ScriptStop ScriptFault left before now = Rose before now
 ScriptStop TooLong left before now = IfSome left (λ bs. script_limit < length bs)
 ScriptStop s left before now = ⊥
 
+-- looking at an image's size
+abbrev pub SizeStop : Stop → ℕ → Option (List ℕ) → ℕ → ℕ → Type 0
+SizeStop ImageFault mem holds before now = Rose before now
+SizeStop (Short has needed) mem holds before now = (needed ≡ mem) × (has < mem) × IfSome holds (λ bs. has ≡ length bs)
+SizeStop s mem holds before now = ⊥
+
 -- reading an image of this size
 abbrev pub LoadStop : Stop → ℕ → Option (List ℕ) → ℕ → ℕ → Type 0
 LoadStop Memory mem holds before now = ⊤

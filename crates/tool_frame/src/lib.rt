@@ -6,6 +6,6 @@ mod stages;
 mod words;
 
 pub use ending::finish;
-pub use stages::{fill, lines, load, read_script, save};
+pub use stages::{check_size, fill, lines, load, read_script, save};
 pub use tool_spec::{Cause, Stop};
 pub use words::{Command, Plan, read_plan};

@@ -5,7 +5,7 @@ ghost use Rattle.box_io.specs.Outside.{HasCause, Writes, WritesFront};
 ghost use Rattle.box_script.specs.Lines.{script_of};
 ghost use Rattle.box_script.specs.Printed.{AllHaveFields};
 ghost use Rattle.tool_spec.specs.Commands.{script_limit};
-ghost use Rattle.tool_frame.specs.Stages.{ScriptStop, LoadStop, ParseStop};
+ghost use Rattle.tool_frame.specs.Stages.{ScriptStop, SizeStop, LoadStop, ParseStop};
 
 use crate::Stop;
 use box_io::{Failed, Sink, Source, Store};
@@ -65,21 +65,32 @@ fn read_pieces<M: Store>(alloc: Global, image: &mut M, mem: u32) -> Result<Vec<u
     Ok(bytes)
 }
 
+/// Looks whether a store has `mem` bytes, and reads none.
+pub fn check_size<M: Store>(image: &mut M, mem: u32) -> Result<(), Stop>
+    ensures ok { OnOk result (IfSome (M.holds image.old) (λ bs. mem ≤ length bs)) }
+    ensures err { IfErr result (λ s. SizeStop s mem (M.holds image.old) (M.faults image.old) (M.faults image.new)) }
+    ensures same { M.holds image.new ≡ M.holds image.old }
+    ensures later { M.faults image.old ≤ M.faults image.new }
+{
+    match image.size() {
+        Ok(has) if has < u64::from(mem) => Err(Stop::Short { has, needed: mem }),
+        Ok(_) => Ok(()),
+        Err(Failed) => Err(Stop::ImageFault),
+    }
+}
+
 /// Reads an image of `mem` bytes from the front of a store.
+#[tactic(auto, using(crate::proofs::Sizes::size_load))]
 pub fn load<M: Store>(alloc: Global, image: &mut M, mem: u32) -> Result<Vec<u8>, Stop>
     ensures ok { IfOk result (λ v. (vec_len v ≡ mem) × IfSome (M.holds image.old) (λ bs. (mem ≤ length bs) × (v.items ≡ take mem bs))) }
     ensures err { IfErr result (λ s. LoadStop s mem (M.holds image.old) (M.faults image.old) (M.faults image.new)) }
     ensures same { M.holds image.new ≡ M.holds image.old }
     ensures later { M.faults image.old ≤ M.faults image.new }
 {
-    let has = match image.size() {
-        Ok(has) => has,
-        Err(Failed) => return Err(Stop::ImageFault),
-    };
-    if has < u64::from(mem) {
-        return Err(Stop::Short { has, needed: mem });
+    match check_size(image, mem) {
+        Ok(()) => read_pieces(alloc, image, mem),
+        Err(stop) => Err(stop),
     }
-    read_pieces(alloc, image, mem)
 }
 
 /// Writes an image to the front of a store in rising pieces.

@@ -6,3 +6,5 @@ pub mod Commands
 pub mod Answers
 pub mod Headline
 pub mod BlkScripts
+pub mod BlkCommands
+pub mod BlkAnswers

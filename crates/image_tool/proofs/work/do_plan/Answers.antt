@@ -1,7 +1,7 @@
 use Rattle.std.proofs.Common.{refl, ap}
 use Rattle.tool_frame.specs.Words.{plan_seen, command_seen}
 use Rattle.image_tool.proofs.WorkEnds.{read_done, layout_shown, blank_left, image_made}
-use Rattle.image_tool.proofs.work.do_work.Goals as goal
+use Rattle.image_tool.proofs.work.do_plan.Goals as goal
 
 pub returns-in-List-clause-caused : goal.returns-in-List-clause-caused
 returns-in-List-clause-caused g c = c.list.ensures.caused _ _

@@ -1,0 +1,42 @@
+// A script on the block store.
+ghost use Rattle.blk_spec.specs.Layout.{IsLayout};
+ghost use Rattle.tool_spec.specs.Answers.{outside, Later};
+ghost use Rattle.tool_frame.specs.Ended.{Caused};
+ghost use Rattle.image_tool.specs.BlkEnds.{BlkEnds};
+
+use blk_params::BlkLayout;
+use blk_session::play;
+use box_io::{Sink, Source, Store};
+use std::alloc::Global;
+use tool_frame::{Stop, check_size, lines, read_script};
+
+/// Does a script on the block store, which is written as the lines are done.
+pub fn run_blk_script<S: Source, M: Store, O: Sink>(
+    alloc: Global,
+    layout: BlkLayout,
+    script: &mut S,
+    image: &mut M,
+    out: &mut O,
+) -> Result<(), Stop>
+    requires { IsLayout layout }
+    ensures later { Later (outside (S.left script.old) (S.faults script.old) (M.holds image.old) (M.faults image.old) (O.given out.old) (O.faults out.old))
+        (outside (S.left script.new) (S.faults script.new) (M.holds image.new) (M.faults image.new) (O.given out.new) (O.faults out.new)) }
+    ensures caused { Caused (outside (S.left script.old) (S.faults script.old) (M.holds image.old) (M.faults image.old) (O.given out.old) (O.faults out.old))
+        (outside (S.left script.new) (S.faults script.new) (M.holds image.new) (M.faults image.new) (O.given out.new) (O.faults out.new)) result }
+    ensures ended { BlkEnds layout (outside (S.left script.old) (S.faults script.old) (M.holds image.old) (M.faults image.old) (O.given out.old) (O.faults out.old))
+        (outside (S.left script.new) (S.faults script.new) (M.holds image.new) (M.faults image.new) (O.given out.new) (O.faults out.new)) result }
+{
+    match check_size(image, layout.total) {
+        Ok(()) => {}
+        Err(stop) => return Err(stop),
+    }
+    let text = match read_script(alloc, script) {
+        Ok(text) => text,
+        Err(stop) => return Err(stop),
+    };
+    let lines = match lines(alloc, &text) {
+        Ok(lines) => lines,
+        Err(stop) => return Err(stop),
+    };
+    play(alloc, layout, image, lines.as_slice(), out)
+}

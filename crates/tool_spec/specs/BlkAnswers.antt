@@ -1,0 +1,128 @@
+-- What a script on the block store answers, and what any words answer
+use Rattle.std.specs.Prelude.{◌≡◌, ◌≢◌, ◌⊎◌, ℕ, ◌+◌, ◌<◌, ◌≤◌, List, [], ◌++◌, length, take, slice_get, Option, None, Some, Result, Ok, Err}
+use Rattle.std.specs.Io.KnownBytes.{Appends}
+use Rattle.blk_spec.specs.declared.BlkLayout.{BlkLayout}
+use Rattle.blk_spec.specs.Writes.{after_writes, bytes_in, first_bytes}
+use Rattle.box_script.specs.Fields.{Text}
+use Rattle.box_script.specs.declared.line.Line.{Line}
+use Rattle.tool_spec.specs.Ends.{End, status_of, last_line}
+use Rattle.tool_spec.specs.Commands.{script_end, stops, plan_of}
+use Rattle.tool_spec.specs.Answers.{Outside, IfHolds, IfLeft, IfTold, front, whole, IsFree, Answers, FaultAnswers, ShortAnswers, ScriptAnswers, ToolAnswers}
+use Rattle.tool_spec.specs.BlkScripts.{BlkRan, blk_ran, line_writes}
+use Rattle.tool_spec.specs.BlkCommands.{blk_asked, blk_plan_of, blk_lines}
+use Rattle.tool_spec.specs.declared.Stop.{Stop}
+use Rattle.tool_spec.specs.declared.Stop.TheVariants.{Memory, ScriptFault, ImageFault, SinkFault, Refused}
+
+-- ---- lines that stop
+
+-- how lines end where nothing comes in their way
+abbrev pub blk_end : BlkRan → End
+blk_end ran = script_end (length ran.texts) ran.refused
+
+-- some first lines were done: this is their text, and the store holds what they leave
+pub record StopsBehind (layout : BlkLayout) (bytes : List ℕ) (lines : List Line) (text : Text) (now : Option (List ℕ)) : Type 0 where
+  pub count : ℕ
+  pub texts : text ≡ front (blk_ran layout bytes lines).texts count
+  pub holds : now ≡ Some (blk_ran layout bytes (take count lines)).session.store
+
+-- none was done
+pub record StopsBefore (bytes : List ℕ) (text : Text) (now : Option (List ℕ)) : Type 0 where
+  pub texts : text ≡ []
+  pub holds : now ≡ Some bytes
+
+-- some first lines were done, and of the next, which is not refused, the store has some first bytes of what it writes
+pub record StopsWriting (layout : BlkLayout) (bytes : List ℕ) (lines : List Line) (text : Text) (now : Option (List ℕ)) : Type 0 where
+  pub count : ℕ
+  pub line : Line
+  pub next : slice_get lines count ≡ Some line
+  pub wanted : count < length (blk_ran layout bytes lines).texts
+  pub texts : text ≡ front (blk_ran layout bytes lines).texts count
+  pub kept : ℕ
+  pub within : kept ≤ bytes_in (line_writes layout (blk_ran layout bytes (take count lines)).session.blk line)
+  pub holds : now ≡ Some (after_writes (first_bytes kept (line_writes layout (blk_ran layout bytes (take count lines)).session.blk line)) (blk_ran layout bytes (take count lines)).session.store)
+
+-- some first lines were done, and the next too, of whose text only a part is here
+pub record StopsPutting (layout : BlkLayout) (bytes : List ℕ) (lines : List Line) (text : Text) (now : Option (List ℕ)) : Type 0 where
+  pub count : ℕ
+  pub next : Text
+  pub last : slice_get (blk_ran layout bytes lines).texts count ≡ Some next
+  pub part : ℕ
+  pub texts : text ≡ front (blk_ran layout bytes lines).texts count ++ take part next
+  pub holds : now ≡ Some (blk_ran layout bytes (take (count + 1) lines)).session.store
+
+-- all lines before a refused one were done
+pub record StopsRefused (layout : BlkLayout) (bytes : List ℕ) (lines : List Line) (stop : Stop) (text : Text) (now : Option (List ℕ)) : Type 0 where
+  pub end : blk_end (blk_ran layout bytes lines) ≡ Err stop
+  pub texts : text ≡ whole (blk_ran layout bytes lines).texts
+  pub holds : now ≡ Some (blk_ran layout bytes lines).session.store
+
+-- why good lines on a store with room can stop, with the text that was put by then, and what the store then holds
+abbrev pub LinesStop : Stop → BlkLayout → List ℕ → List Line → Text → Option (List ℕ) → Type 0
+LinesStop Memory layout bytes lines text now = StopsBehind layout bytes lines text now
+LinesStop ScriptFault layout bytes lines text now = StopsBefore bytes text now
+LinesStop ImageFault layout bytes lines text now = StopsBefore bytes text now ⊎ StopsWriting layout bytes lines text now
+LinesStop SinkFault layout bytes lines text now = StopsPutting layout bytes lines text now
+LinesStop (Refused n cause) layout bytes lines text now = StopsRefused layout bytes lines (Refused n cause) text now
+LinesStop other layout bytes lines text now = ⊥
+
+-- ---- answers
+
+-- all lines were done: their texts were put, and the store holds what they leave
+pub record AllDone (layout : BlkLayout) (bytes : List ℕ) (lines : List Line) (a b : Outside) : Type 0 where
+  pub none : (blk_ran layout bytes lines).refused ≡ None
+  pub texts : Appends a.given b.given (whole (blk_ran layout bytes lines).texts)
+  pub holds : b.holds ≡ Some (blk_ran layout bytes lines).session.store
+
+-- lines stopped for this cause, and then the last line was put
+pub record StoppedFor (stop : Stop) (layout : BlkLayout) (bytes : List ℕ) (lines : List Line) (a b : Outside) : Type 0 where
+  pub text : Text
+  pub stops : LinesStop stop layout bytes lines text b.holds
+  pub put : Appends a.given b.given (text ++ last_line stop)
+
+-- lines stopped for some cause, and only a part of the last line was put; where the text of a line was put in part there
+-- is no last line
+pub record StoppedUnput (layout : BlkLayout) (bytes : List ℕ) (lines : List Line) (a b : Outside) : Type 0 where
+  pub stop : Stop
+  pub text : Text
+  pub stops : LinesStop stop layout bytes lines text b.holds
+  pub part : ℕ
+  pub put : Appends a.given b.given (text ++ take part (last_line stop))
+
+-- good lines on a store with room
+pub record LinesAnswers (layout : BlkLayout) (bytes : List ℕ) (lines : List Line) (a b : Outside) (status : ℕ) : Type 0 where
+  -- the status that is wanted, but for want of memory and faults
+  pub exact : (status ≡ status_of (blk_end (blk_ran layout bytes lines))) ⊎ IsFree status
+  pub done : status ≡ 0 → AllDone layout bytes lines a b
+  pub refused : status ≡ 10 → (stop : Stop) → blk_end (blk_ran layout bytes lines) ≡ Err stop → StoppedFor stop layout bytes lines a b
+  pub memory : status ≡ 1 → StoppedFor Memory layout bytes lines a b
+  pub script_fault : status ≡ 5 → StoppedFor ScriptFault layout bytes lines a b
+  pub image_fault : status ≡ 6 → StoppedFor ImageFault layout bytes lines a b
+  pub sink_fault : status ≡ 7 → StoppedUnput layout bytes lines a b
+
+-- these lines, or what comes before the first
+abbrev pub LinesOrStopAnswers : BlkLayout → List ℕ → Result (List Line) Stop → Outside → Outside → ℕ → Type 0
+LinesOrStopAnswers layout bytes (Ok lines) a b status = LinesAnswers layout bytes lines a b status
+LinesOrStopAnswers layout bytes (Err stop) a b status = Answers (stops stop) a b status
+
+-- a script on the block store; what may be said where the script or the store is not told is said besides
+pub record BlkAnswers (layout : BlkLayout) (a b : Outside) (status : ℕ) : Type 0 where
+  pub whole : IfTold a (λ bytes script. LinesOrStopAnswers layout bytes (blk_lines layout bytes script) a b status)
+  pub image : IfHolds a (λ bytes. ShortAnswers layout.total bytes status)
+  pub script : IfLeft a (λ script. ScriptAnswers script a b status)
+  -- the words have no fault
+  pub words : (status ≢ 2) × (status ≢ 3)
+  -- the store is untouched on a status that comes before the lines alone
+  pub kept : status ≢ 0 → status ≢ 1 → status ≢ 6 → status ≢ 7 → status ≢ 10 → b.holds ≡ a.holds
+
+abbrev pub BlkPlanAnswers : Result BlkLayout Stop → Outside → Outside → ℕ → Type 0
+BlkPlanAnswers (Ok layout) a b status = BlkAnswers layout a b status
+BlkPlanAnswers (Err stop) a b status = FaultAnswers stop a b status
+
+-- the words of a script on the block store, or of another command
+abbrev pub AskedAnswers : Option (List Text) → List Text → Outside → Outside → ℕ → Type 0
+AskedAnswers None words a b status = ToolAnswers (plan_of words) a b status
+AskedAnswers (Some params) words a b status = BlkPlanAnswers (blk_plan_of params) a b status
+
+-- what any words answer
+abbrev pub AllAnswers : List Text → Outside → Outside → ℕ → Type 0
+AllAnswers words a b status = AskedAnswers (blk_asked words) words a b status
