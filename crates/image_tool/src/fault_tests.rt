@@ -19,13 +19,21 @@ enum Script {
     Newlines(usize),
 }
 
+/// The text that is put.
+#[derive(Clone, Copy)]
+enum Text {
+    Is(&'static str),
+    /// That of the first console record, and this line.
+    FirstAnd(&'static str),
+    /// Some front of that text.
+    FrontOfFirst,
+}
+
 /// What the image holds afterwards.
-#[derive(Clone, Copy, PartialEq, Eq)]
+#[derive(Clone, Copy)]
 enum Left {
     Same,
-    /// The first half of the new image, and then what stood there.
-    Half,
-    /// These bytes at the front, and zeros.
+    /// These bytes at the front, and then what stood there.
     New(&'static [u8]),
 }
 
@@ -37,7 +45,7 @@ struct Case {
     per_call: u32,
     fails: Fails,
     status: u8,
-    text: &'static str,
+    text: Text,
     left: Left,
 }
 
@@ -53,7 +61,7 @@ const FIRST: Case = Case {
     per_call: 7,
     fails: NONE,
     status: 0,
-    text: FIRST_TEXT,
+    text: Text::Is(FIRST_TEXT),
     left: Left::New(RECORD),
 };
 
@@ -85,25 +93,28 @@ fn text_of(alloc: Global, script: Script) -> Result<Vec<u8>, AllocError> {
     Ok(text)
 }
 
+fn is_put(alloc: Global, put: &[u8], text: Text) -> Result<bool, AllocError> {
+    match text {
+        Text::Is(text) => Ok(put == text.as_bytes()),
+        Text::FirstAnd(line) => {
+            let text = format!(in alloc; "{FIRST_TEXT}{line}")?;
+            Ok(put == text.as_bytes())
+        }
+        Text::FrontOfFirst => Ok(FIRST_TEXT.as_bytes().starts_with(put)),
+    }
+}
+
 fn is_left(before: &[u8], now: &[u8], left: Left) -> bool {
     match left {
         Left::Same => now == before,
-        Left::Half => {
-            now.starts_with(RECORD)
-                && now
-                    .iter()
-                    .take(2048)
-                    .skip(RECORD.len())
-                    .all(|byte| *byte == 0)
+        Left::New(front) => {
+            now.starts_with(front)
                 && now.len() == before.len()
                 && now
                     .iter()
                     .zip(before)
-                    .skip(2048)
+                    .skip(front.len())
                     .all(|(new, old)| new == old)
-        }
-        Left::New(front) => {
-            now.starts_with(front) && now.iter().skip(front.len()).all(|byte| *byte == 0)
         }
     }
 }
@@ -120,7 +131,7 @@ fn faults_causes_and_hostile_bytes(rt: HostRuntime) -> Result<(), Fail> {
                 ..NONE
             },
             status: 6,
-            text: "image fault\n",
+            text: Text::Is("image fault\n"),
             left: Left::Same,
             ..FIRST
         },
@@ -131,7 +142,25 @@ fn faults_causes_and_hostile_bytes(rt: HostRuntime) -> Result<(), Fail> {
                 ..NONE
             },
             status: 6,
-            text: "image fault\n",
+            text: Text::Is("image fault\n"),
+            left: Left::Same,
+            ..FIRST
+        },
+        Case {
+            what: "the image fails when it is written back",
+            fails: Fails {
+                image: &[3],
+                ..NONE
+            },
+            status: 6,
+            text: Text::FirstAnd("image fault\n"),
+            ..FIRST
+        },
+        Case {
+            what: "the output fails",
+            fails: Fails { out: &[1], ..NONE },
+            status: 7,
+            text: Text::FrontOfFirst,
             left: Left::Same,
             ..FIRST
         },
@@ -142,7 +171,7 @@ fn faults_causes_and_hostile_bytes(rt: HostRuntime) -> Result<(), Fail> {
                 ..NONE
             },
             status: 5,
-            text: "script fault\n",
+            text: Text::Is("script fault\n"),
             left: Left::Same,
             ..FIRST
         },
@@ -154,7 +183,7 @@ fn faults_causes_and_hostile_bytes(rt: HostRuntime) -> Result<(), Fail> {
                 ..NONE
             },
             status: 6,
-            text: "image fault\n",
+            text: Text::Is("image fault\n"),
             left: Left::Same,
             ..FIRST
         },
@@ -168,7 +197,7 @@ fn faults_causes_and_hostile_bytes(rt: HostRuntime) -> Result<(), Fail> {
             script: Script::Newlines(4_194_305),
             per_call: 4096,
             status: 8,
-            text: "script too long\n",
+            text: Text::Is("script too long\n"),
             left: Left::Same,
             ..FIRST
         },
@@ -176,7 +205,7 @@ fn faults_causes_and_hostile_bytes(rt: HostRuntime) -> Result<(), Fail> {
             what: "the longest script",
             script: Script::Newlines(4_194_304),
             per_call: 4096,
-            text: "",
+            text: Text::Is(""),
             left: Left::Same,
             ..FIRST
         },
@@ -184,20 +213,32 @@ fn faults_causes_and_hostile_bytes(rt: HostRuntime) -> Result<(), Fail> {
             what: "an image that is one byte short",
             begins: Begins::All(4095, 0),
             status: 4,
-            text: "image has 4095 bytes, 4096 needed\n",
+            text: Text::Is("image has 4095 bytes, 4096 needed\n"),
             left: Left::Same,
             ..FIRST
         },
         Case {
+            what: "an image of ones",
+            begins: Begins::All(4096, 0xff),
+            text: Text::Is(
+                "boot console unsigned start 4294967295 size 4294967295 corrected 0 bad 0 nothing told\n",
+            ),
+            ..BOOT
+        },
+        Case {
             what: "a size and a start past the ring",
             begins: Begins::Headed(b"DBGC\x05\0\0\0\xf5\x0f\0\0"),
-            text: "boot console invalid start 5 size 4085 corrected 0 bad 0 nothing told\n",
+            text: Text::Is(
+                "boot console invalid start 5 size 4085 corrected 0 bad 0 nothing told\n",
+            ),
             ..BOOT
         },
         Case {
             what: "a start at the end of a full ring",
             begins: Begins::Headed(b"DBGC\xf4\x0f\0\0\xf4\x0f\0\0"),
-            text: "boot console found start 4084 size 4084 corrected 0 bad 0 nothing told\n",
+            text: Text::Is(
+                "boot console found start 4084 size 4084 corrected 0 bad 0 nothing told\n",
+            ),
             ..BOOT
         },
     ];
@@ -207,53 +248,8 @@ fn faults_causes_and_hostile_bytes(rt: HostRuntime) -> Result<(), Fail> {
         let ran = outcome_by(alloc, CONSOLE, &script, case.per_call, &image, case.fails)?;
         let what = case.what;
         assert_eq!(rt; ran.status, case.status, "{what}");
-        assert_eq!(rt; ran.text.as_slice(), case.text.as_bytes(), "{what}");
+        assert!(rt; is_put(alloc, &ran.text, case.text)?, "{what}");
         assert!(rt; is_left(&image, &ran.image, case.left), "{what}");
     }
-    Ok(())
-}
-
-// A fault in writing back leaves the first half of the only piece.
-#[test]
-fn a_fault_in_writing_back_leaves_a_front(rt: HostRuntime) -> Result<(), Fail> {
-    let alloc = rt.alloc();
-    let image = begin(alloc, Begins::All(4096, 0))?;
-    let fails = Fails {
-        image: &[3],
-        ..NONE
-    };
-    let ran = outcome_by(alloc, CONSOLE, FIRST_RECORD.as_bytes(), 7, &image, fails)?;
-    assert_eq!(rt; ran.status, 6);
-    let text = format!(in alloc; "{FIRST_TEXT}image fault\n")?;
-    assert_eq!(rt; ran.text.as_slice(), text.as_bytes());
-    assert!(rt; is_left(&image, &ran.image, Left::Half));
-    Ok(())
-}
-
-// An output that fails at its first call was given a front of the first line.
-#[test]
-fn a_failing_output_ends_the_run(rt: HostRuntime) -> Result<(), Fail> {
-    let alloc = rt.alloc();
-    let image = begin(alloc, Begins::All(4096, 0))?;
-    let fails = Fails { out: &[1], ..NONE };
-    let ran = outcome_by(alloc, CONSOLE, FIRST_RECORD.as_bytes(), 7, &image, fails)?;
-    assert_eq!(rt; ran.status, 7);
-    assert!(rt; FIRST_TEXT.as_bytes().starts_with(&ran.text));
-    assert!(rt; is_left(&image, &ran.image, Left::Same));
-    Ok(())
-}
-
-// An image of no zero byte: no signature stands, and the boot writes one.
-#[test]
-fn an_image_of_ones_is_unsigned(rt: HostRuntime) -> Result<(), Fail> {
-    let alloc = rt.alloc();
-    let image = begin(alloc, Begins::All(4096, 0xff))?;
-    let ran = outcome_by(alloc, CONSOLE, b"boot\n".as_slice(), 7, &image, NONE)?;
-    assert_eq!(rt; ran.status, 0);
-    let text =
-        b"boot console unsigned start 4294967295 size 4294967295 corrected 0 bad 0 nothing told\n".as_slice();
-    assert_eq!(rt; ran.text.as_slice(), text);
-    assert!(rt; ran.image.starts_with(ERASED));
-    assert!(rt; ran.image.iter().skip(12).all(|byte| *byte == 0xff));
     Ok(())
 }
