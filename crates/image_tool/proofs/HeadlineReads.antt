@@ -1,5 +1,5 @@
 -- The headline at the boots of a run
-use Rattle.std.proofs.Common.{◌≡◌, ℕ, ◌^◌, ◌<◌, ◌≤◌, Bool, true, false, cond, ◌&&◌, ◌||◌, nat_lt, List, [], length, drop, take, codes, Option, Some, None, Result, Ok, Err, IfSome, refl, sym, ap, subst, ◌∙◌, arith}
+use Rattle.std.proofs.Common.{◌≡◌, ℕ, ◌^◌, ◌<◌, ◌≤◌, Bool, true, false, cond, ◌&&◌, ◌||◌, nat_lt, List, [], length, drop, take, codes, Option, Some, None, Result, Ok, Err, IfSome, refl, subst, arith}
 use Rattle.std.specs.Option.{option_and_then, unwrap_or}
 use Rattle.std.specs.List.{list_all}
 use Rattle.std.specs.Char.{is_digit}
@@ -91,7 +91,8 @@ run_reads o (Ok plan) a e held = λ is. record {
       let all : AreBytes bytes = rw holds at held in
       let size = front_size (mem_of plan) bytes long in
       let front : AreBytes (take (mem_of plan) bytes) = AreBytes-take (mem_of plan) bytes all in
-      let sound = states_sound plan.zones (mem_of plan) (take (mem_of plan) bytes) lines lies size front (read_fields script lines good) in
-      (λ k off at. sound_state_reads_last_written plan.zones (mem_of plan) off lies (rw at at (sound k)),
-      λ k off at. report_is_exact plan.zones (mem_of plan) off lies (rw at at (sound k)));
+      let sound = states_sound plan.zones (mem_of plan) (take (mem_of plan) bytes) lines lies size front (read_fields script lines good) in (
+        λ k off at. sound_state_reads_last_written plan.zones (mem_of plan) off lies (rw at at (sound k)),
+        λ k off at. report_is_exact plan.zones (mem_of plan) off lies (rw at at (sound k)),
+      );
 }

@@ -83,12 +83,7 @@ pub fn extract<M: Store, O: Sink>(
 }
 
 /// Erases the record of this name, and writes the image back.
-pub fn erase<M: Store>(
-    alloc: Global,
-    layout: Layout,
-    name: &str,
-    image: &mut M,
-) -> Result<(), Stop>
+pub fn erase<M: Store>(alloc: Global, layout: Layout, name: &str, image: &mut M) -> Result<(), Stop>
     ensures later { M.faults image.old ≤ M.faults image.new }
     ensures caused { (f f' h h' : ℕ) → CausedAt f f' (M.faults image.old) (M.faults image.new) h h' result }
     ensures kept { KeptAt (M.holds image.old) (M.holds image.new) result }
