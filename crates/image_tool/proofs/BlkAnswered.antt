@@ -1,5 +1,5 @@
 -- What any words answer, from how their work ended and what the last line left
-use Rattle.std.proofs.Common.{◌≡◌, ◌≢◌, ◌⊎◌, ℕ, ◌≤◌, List, [], ◌++◌, length, take, Option, Some, None, Result, Ok, Err, refl, sym, ap, ◌∙◌, arith, inl, inr, append-nil}
+use Rattle.std.proofs.Common.{◌≡◌, ◌≢◌, ◌⊎◌, ℕ, List, length, take, Option, Some, None, Result, Ok, Err, refl, sym, ap, ◌∙◌, arith, inl, inr, append-nil}
 use Rattle.std.specs.Io.KnownBytes.{Appends}
 use Rattle.box_io.specs.Outside.{AppendsFront}
 use Rattle.blk_spec.specs.declared.BlkLayout.{BlkLayout}
@@ -7,15 +7,15 @@ use Rattle.box_script.specs.Fields.{Text}
 use Rattle.box_script.specs.declared.line.Line.{Line}
 use Rattle.tool_spec.specs.Ends.{End, status_of, last_line}
 use Rattle.tool_spec.specs.Commands.{stops, plan_of}
-use Rattle.tool_spec.specs.Answers.{Outside, NoScript, NoImage, IsFree}
-use Rattle.tool_spec.specs.BlkCommands.{blk_asked, blk_plan_of, blk_lines}
+use Rattle.tool_spec.specs.Answers.{Outside, NoScript, NoImage}
+use Rattle.tool_spec.specs.BlkCommands.{blk_plan_of, blk_lines}
 use Rattle.tool_spec.specs.BlkScripts.{blk_ran}
-use Rattle.tool_spec.specs.BlkAnswers.{blk_end, LinesStop, AllDone, StoppedFor, StoppedUnput, LinesAnswers, LinesOrStopAnswers, BlkAnswers, BlkPlanAnswers, AskedAnswers}
+use Rattle.tool_spec.specs.BlkAnswers.{blk_end, AllDone, StoppedFor, StoppedUnput, LinesAnswers, LinesOrStopAnswers, BlkAnswers, BlkPlanAnswers, AskedAnswers}
 use Rattle.tool_spec.specs.declared.Stop.{Stop}
 use Rattle.tool_spec.specs.declared.Cause.{Cause}
 use Rattle.tool_spec.specs.declared.Stop.TheVariants.{Memory, Usage, Param, Layout, Short, ScriptFault, ImageFault, SinkFault, TooLong, BadLine, Refused}
-use Rattle.tool_frame.specs.Ends.{LastPut, Silent, Finished}
-use Rattle.tool_frame.specs.Ended.{Nothing, KeptAt}
+use Rattle.tool_frame.specs.Ends.{Finished}
+use Rattle.tool_frame.specs.Ended.{KeptAt}
 use Rattle.tool_frame.proofs.Answered.{answers, appends_on}
 use Rattle.tool_frame.proofs.Tool.{status_is, short_at, script_at, script_on, image_on, fault_answers, tool_answers}
 use Rattle.image_tool.specs.BlkEnds.{StoppedAt, LinesEnded, LinesOrStopEnded, KeptBefore, BlkEnds, BlkPlanEnds, AskedEnds}

@@ -1,23 +1,19 @@
 -- How the stages of a script on the block store end its work
-use Rattle.std.proofs.Common.{◌≡◌, ℕ, ◌<◌, ◌≤◌, List, [], length, take, Option, Some, None, Result, Ok, Err, IfSome, refl, sym, ap, ◌∙◌, arith, inl, inr, true, false, nat_lt, IsOk}
-use Rattle.std.specs.Io.KnownBytes.{Appends}
-use Rattle.box_io.specs.Outside.{Rose}
+use Rattle.std.proofs.Common.{◌≡◌, ℕ, ◌<◌, ◌≤◌, List, [], length, Option, Some, Result, Ok, Err, IfSome, refl, sym, ◌∙◌, arith, inl, inr, IsOk}
 use Rattle.blk_spec.specs.declared.BlkLayout.{BlkLayout}
-use Rattle.blk_spec.specs.Answers.{HasRoom}
 use Rattle.box_script.specs.Lines.{script_of}
 use Rattle.box_script.specs.declared.line.Line.{Line}
 use Rattle.tool_spec.specs.Ends.{End}
 use Rattle.tool_spec.specs.Commands.{script_limit, stops}
 use Rattle.tool_spec.specs.Answers.{Outside}
 use Rattle.tool_spec.specs.BlkCommands.{blk_lines, lines_or_bad}
-use Rattle.tool_spec.specs.BlkScripts.{blk_ran}
 use Rattle.tool_spec.specs.declared.Stop.{Stop}
 use Rattle.tool_spec.specs.declared.Stop.TheVariants.{Memory, Usage, Param, Layout, Short, ScriptFault, ImageFault, SinkFault, TooLong, BadLine, Refused}
 use Rattle.tool_frame.specs.Stages.{SizeStop, ScriptStop, ParseStop}
-use Rattle.tool_frame.specs.Ended.{Ended, CausedAt, ShortAt, ScriptAt}
+use Rattle.tool_frame.specs.Ended.{CausedAt, ShortAt, ScriptAt}
 use Rattle.tool_frame.proofs.Script.{Quiet, Read, nat_lt-true, nat_lt-false, quiet_memory, put_nothing, read_of, good_script}
 use Rattle.blk_session.specs.Playing.{seen, PlaysOn, Plays, IsCaused}
-use Rattle.image_tool.specs.BlkEnds.{StoppedAt, LinesEnded, LinesOrStopEnded, KeptBefore, BlkEnds}
+use Rattle.image_tool.specs.BlkEnds.{LinesEnded, LinesOrStopEnded, KeptBefore, BlkEnds}
 
 -- ---- which lines are wanted
 

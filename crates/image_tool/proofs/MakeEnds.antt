@@ -1,14 +1,14 @@
 -- How the making of an image ends
-use Rattle.std.proofs.Common.{◌≡◌, ℕ, List, [], ◌∷◌, Ok, Err, refl, sym, append-nil, inr, arith}
+use Rattle.std.proofs.Common.{◌≡◌, ℕ, List, [], Ok, Err, refl, append-nil, inr}
 use Rattle.std.specs.Io.KnownBytes.{Appends}
 use Rattle.box_io.specs.Outside.{AppendsFront, Writes, WritesFront}
 use Rattle.session_spec.specs.Stop.{session_image}
 use Rattle.box_script.specs.Fields.{Text}
 use Rattle.tool_spec.specs.Generated.{generated, summary}
-use Rattle.tool_spec.specs.Commands.{MakeImage, Plan, Wanted, wanted, wanted_make, mem_of}
+use Rattle.tool_spec.specs.Commands.{MakeImage, Plan, wanted, wanted_make, mem_of}
 use Rattle.tool_spec.specs.Answers.{Outside, NoScript}
 use Rattle.tool_spec.specs.declared.Stop.TheVariants.{Memory, SinkFault, ImageFault}
-use Rattle.tool_frame.specs.Ended.{Ended, MakeEnds}
+use Rattle.tool_frame.specs.Ended.{MakeEnds}
 use Rattle.tool_frame.proofs.Script.{Quiet, quiet_memory}
 
 make_wanted : (plan : Plan) (n : ℕ) → plan.command ≡ MakeImage n → wanted plan [] [] ≡ wanted_make n plan.zones (generated plan.zones (mem_of plan) n)

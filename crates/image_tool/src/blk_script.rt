@@ -19,12 +19,21 @@ pub fn run_blk_script<S: Source, M: Store, O: Sink>(
     out: &mut O,
 ) -> Result<(), Stop>
     requires { IsLayout layout }
-    ensures later { Later (outside (S.left script.old) (S.faults script.old) (M.holds image.old) (M.faults image.old) (O.given out.old) (O.faults out.old))
-        (outside (S.left script.new) (S.faults script.new) (M.holds image.new) (M.faults image.new) (O.given out.new) (O.faults out.new)) }
-    ensures caused { Caused (outside (S.left script.old) (S.faults script.old) (M.holds image.old) (M.faults image.old) (O.given out.old) (O.faults out.old))
-        (outside (S.left script.new) (S.faults script.new) (M.holds image.new) (M.faults image.new) (O.given out.new) (O.faults out.new)) result }
-    ensures ended { BlkEnds layout (outside (S.left script.old) (S.faults script.old) (M.holds image.old) (M.faults image.old) (O.given out.old) (O.faults out.old))
-        (outside (S.left script.new) (S.faults script.new) (M.holds image.new) (M.faults image.new) (O.given out.new) (O.faults out.new)) result }
+    ensures later { Later
+        (outside (S.left script.old) (S.faults script.old)
+        (M.holds image.old) (M.faults image.old) (O.given out.old) (O.faults out.old))
+        (outside (S.left script.new) (S.faults script.new)
+        (M.holds image.new) (M.faults image.new) (O.given out.new) (O.faults out.new)) }
+    ensures caused { Caused
+        (outside (S.left script.old) (S.faults script.old)
+        (M.holds image.old) (M.faults image.old) (O.given out.old) (O.faults out.old))
+        (outside (S.left script.new) (S.faults script.new)
+        (M.holds image.new) (M.faults image.new) (O.given out.new) (O.faults out.new)) result }
+    ensures ended { BlkEnds layout
+        (outside (S.left script.old) (S.faults script.old)
+        (M.holds image.old) (M.faults image.old) (O.given out.old) (O.faults out.old))
+        (outside (S.left script.new) (S.faults script.new)
+        (M.holds image.new) (M.faults image.new) (O.given out.new) (O.faults out.new)) result }
 {
     match check_size(image, layout.total) {
         Ok(()) => {}

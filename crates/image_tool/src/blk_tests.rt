@@ -11,8 +11,8 @@ const WORDS: &str =
 const FIRST: &str =
     "boot\nwrite console 616263\nkdump 5 6000 D Panic 78\nboot\nlist\nextract dmesg-pstore_blk-0\n";
 
-const FIRST_TEXT: &str =
-    "records 2\ndmesg-pstore_blk-0 22 5.000006000\nconsole-pstore_blk-0 3\ndmesg-pstore_blk-0 22\nPanic: Total 1 times\nx\n";
+const FIRST_TEXT: &str = "records 2\ndmesg-pstore_blk-0 22 5.000006000\nconsole-pstore_blk-0 3\n\
+    dmesg-pstore_blk-0 22\nPanic: Total 1 times\nx\n";
 
 /// The call that fails, counted from 1, of the script, the image and the output; 0 for none.
 #[derive(Clone, Copy)]
@@ -128,8 +128,9 @@ fn zones_are_written_in_place(rt: HostRuntime) -> Result<(), Fail> {
     );
     let console = b"FBGC\x03\0\0\0\x03\0\0\0abc\xee".as_slice();
     assert!(rt; has_at(&ran.image, 4096, console));
-    let dump =
-        b"DBGC\x29\0\0\0\0\0\0\0\xe5\x3a\xfc\x4d\0\0\0\0\x05\0\0\0\0\0\0\0\x70\x17\0\0\0\0\0\0\0\0\0\0\x01\0\0\0\x01\0\0\0\0\0\0\0x\0".as_slice();
+    let dump = b"DBGC\x29\0\0\0\0\0\0\0\xe5\x3a\xfc\x4d\0\0\0\0\x05\0\0\0\0\0\0\0\
+        \x70\x17\0\0\0\0\0\0\0\0\0\0\x01\0\0\0\x01\0\0\0\0\0\0\0x\0"
+        .as_slice();
     assert!(rt; has_at(&ran.image, 8192, dump));
     assert!(rt; ran.image.iter().skip(12288).all(|byte| *byte == 0xee));
     Ok(())

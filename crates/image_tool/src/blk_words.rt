@@ -12,7 +12,8 @@ const BEFORE: u32 = 2;
 
 /// The parameters of words that ask for a script on the block store.
 pub fn blk_words(words: &[String]) -> Option<&[String]>
-    ensures { MatchOption result (blk_asked (texts words.now) ≡ None) (λ params. blk_asked (texts words.now) ≡ Some (texts params.now)) }
+    ensures { MatchOption result (blk_asked (texts words.now) ≡ None)
+        (λ params. blk_asked (texts words.now) ≡ Some (texts params.now)) }
 {
     match words {
         [_, word, params @ ..] => {

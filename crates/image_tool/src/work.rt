@@ -61,12 +61,20 @@ fn do_blk<S: Source, M: Store, O: Sink>(
     image: &mut M,
     out: &mut O,
 ) -> Result<(), Stop>
-    ensures later { Later (outside (S.left script.old) (S.faults script.old) (M.holds image.old) (M.faults image.old) (O.given out.old) (O.faults out.old))
-        (outside (S.left script.new) (S.faults script.new) (M.holds image.new) (M.faults image.new) (O.given out.new) (O.faults out.new)) }
-    ensures caused { Caused (outside (S.left script.old) (S.faults script.old) (M.holds image.old) (M.faults image.old) (O.given out.old) (O.faults out.old))
-        (outside (S.left script.new) (S.faults script.new) (M.holds image.new) (M.faults image.new) (O.given out.new) (O.faults out.new)) result }
-    ensures ended { let before = outside (S.left script.old) (S.faults script.old) (M.holds image.old) (M.faults image.old) (O.given out.old) (O.faults out.old) in
-        let after = outside (S.left script.new) (S.faults script.new) (M.holds image.new) (M.faults image.new) (O.given out.new) (O.faults out.new) in
+    ensures later { Later
+        (outside (S.left script.old) (S.faults script.old)
+        (M.holds image.old) (M.faults image.old) (O.given out.old) (O.faults out.old))
+        (outside (S.left script.new) (S.faults script.new)
+        (M.holds image.new) (M.faults image.new) (O.given out.new) (O.faults out.new)) }
+    ensures caused { Caused
+        (outside (S.left script.old) (S.faults script.old)
+        (M.holds image.old) (M.faults image.old) (O.given out.old) (O.faults out.old))
+        (outside (S.left script.new) (S.faults script.new)
+        (M.holds image.new) (M.faults image.new) (O.given out.new) (O.faults out.new)) result }
+    ensures ended { let before = outside (S.left script.old) (S.faults script.old)
+        (M.holds image.old) (M.faults image.old) (O.given out.old) (O.faults out.old) in
+        let after = outside (S.left script.new) (S.faults script.new)
+        (M.holds image.new) (M.faults image.new) (O.given out.new) (O.faults out.new) in
         BlkPlanEnds (blk_plan_of (texts params.now)) before after result }
 {
     match read_blk_plan(params) {
@@ -83,13 +91,21 @@ fn do_work<S: Source, M: Store, O: Sink>(
     image: &mut M,
     out: &mut O,
 ) -> Result<(), Stop>
-    ensures later { Later (outside (S.left script.old) (S.faults script.old) (M.holds image.old) (M.faults image.old) (O.given out.old) (O.faults out.old))
-        (outside (S.left script.new) (S.faults script.new) (M.holds image.new) (M.faults image.new) (O.given out.new) (O.faults out.new)) }
-    ensures caused { Caused (outside (S.left script.old) (S.faults script.old) (M.holds image.old) (M.faults image.old) (O.given out.old) (O.faults out.old))
-        (outside (S.left script.new) (S.faults script.new) (M.holds image.new) (M.faults image.new) (O.given out.new) (O.faults out.new)) result }
+    ensures later { Later
+        (outside (S.left script.old) (S.faults script.old)
+        (M.holds image.old) (M.faults image.old) (O.given out.old) (O.faults out.old))
+        (outside (S.left script.new) (S.faults script.new)
+        (M.holds image.new) (M.faults image.new) (O.given out.new) (O.faults out.new)) }
+    ensures caused { Caused
+        (outside (S.left script.old) (S.faults script.old)
+        (M.holds image.old) (M.faults image.old) (O.given out.old) (O.faults out.old))
+        (outside (S.left script.new) (S.faults script.new)
+        (M.holds image.new) (M.faults image.new) (O.given out.new) (O.faults out.new)) result }
     ensures kept { blk_asked (texts words.now) ≡ None → KeptAt (M.holds image.old) (M.holds image.new) result }
-    ensures ended { let before = outside (S.left script.old) (S.faults script.old) (M.holds image.old) (M.faults image.old) (O.given out.old) (O.faults out.old) in
-        let after = outside (S.left script.new) (S.faults script.new) (M.holds image.new) (M.faults image.new) (O.given out.new) (O.faults out.new) in
+    ensures ended { let before = outside (S.left script.old) (S.faults script.old)
+        (M.holds image.old) (M.faults image.old) (O.given out.old) (O.faults out.old) in
+        let after = outside (S.left script.new) (S.faults script.new)
+        (M.holds image.new) (M.faults image.new) (O.given out.new) (O.faults out.new) in
         AllEnds (texts words.now) before after result }
 {
     match blk_words(words) {

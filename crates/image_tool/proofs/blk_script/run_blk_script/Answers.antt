@@ -1,4 +1,4 @@
-use Rattle.std.proofs.Common.{arith, refl}
+use Rattle.std.proofs.Common.{arith}
 use Rattle.image_tool.proofs.BlkEnds.{play_ended}
 use Rattle.image_tool.proofs.blk_script.run_blk_script.Goals as goal
 

@@ -1,7 +1,7 @@
 use Rattle.std.proofs.Common.{refl}
 use Rattle.tool_spec.specs.Commands.{MakeImage}
 use Rattle.image_tool.specs.Plans.{plan_for}
-use Rattle.image_tool.proofs.MakeEnds.{make_unput, make_saved, make_unsaved}
+use Rattle.image_tool.proofs.MakeEnds.{make_unput}
 use Rattle.image_tool.proofs.making.make.Goals as goal
 
 pub returns-in-Err-put-clause-ended : goal.returns-in-Err-put-clause-ended
