@@ -1,8 +1,8 @@
 -- How the stages of a command that reads the image, and no script, end it
-use Rattle.std.proofs.Common.{◌≡◌, ℕ, ◌<◌, ◌≤◌, List, [], length, take, Err, IfSome, refl, ◌∙◌, arith, inl, true, false, nat_lt}
+use Rattle.std.proofs.Common.{◌≡◌, ℕ, ◌<◌, ◌≤◌, List, [], length, take, Some, Ok, Err, IfSome, refl, sym, ◌∙◌, arith, inl, true, false, nat_lt}
 use Rattle.std.proofs.lemmas.Bool.Decides.{nat_tests}
 use Rattle.tool_spec.specs.Ends.{End}
-use Rattle.tool_spec.specs.Commands.{Command, Plan, wanted, wanted_of, reads_image, mem_of, stops}
+use Rattle.tool_spec.specs.Commands.{Command, Plan, Wanted, wanted, wanted_of, reads_image, mem_of, stops}
 use Rattle.tool_spec.specs.Answers.{Outside, IfHolds}
 use Rattle.tool_spec.specs.declared.Stop.{Stop}
 use Rattle.tool_spec.specs.declared.Stop.TheVariants.{Memory, Usage, Param, Layout, Short, ScriptFault, ImageFault, SinkFault, TooLong, BadLine, Refused}

@@ -1,8 +1,8 @@
 -- How the stages of a script's run end it
-use Rattle.std.proofs.Common.{◌≡◌, ℕ, ◌<◌, ◌≤◌, List, [], length, take, Option, Some, Ok, Err, IfSome, refl, sym, ◌∙◌, arith, inl, inr, true, false, nat_lt, IsOk}
+use Rattle.std.proofs.Common.{◌≡◌, ℕ, ◌<◌, ◌≤◌, List, [], length, take, Option, Some, None, Result, Ok, Err, IfSome, refl, sym, ap, ◌∙◌, arith, inl, inr, true, false, nat_lt, IsOk}
 use Rattle.std.proofs.lemmas.Bool.Decides.{nat_tests}
 use Rattle.std.specs.Io.KnownBytes.{Appends}
-use Rattle.box_io.specs.Outside.{Writes, WritesFront}
+use Rattle.box_io.specs.Outside.{Rose, Writes, WritesFront}
 use Rattle.zone_spec.specs.declared.Zone.{Zone}
 use Rattle.session_spec.specs.States.{Session}
 use Rattle.session_spec.specs.Stop.{session_image}
@@ -17,7 +17,7 @@ use Rattle.tool_spec.specs.declared.Stop.{Stop}
 use Rattle.tool_spec.specs.declared.Stop.TheVariants.{Memory, Usage, Param, Layout, Short, ScriptFault, ImageFault, SinkFault, TooLong, BadLine, Refused}
 use Rattle.tool_frame.specs.Stages.{LoadStop, ScriptStop, ParseStop}
 use Rattle.tool_frame.specs.Playing.{Played, PlayStop}
-use Rattle.tool_frame.specs.Ended.{Ended, RunEnds}
+use Rattle.tool_frame.specs.Ended.{PutTexts, PutSome, Ended, RunEnds}
 use Rattle.tool_frame.proofs.Tool.{nothing_put, no_texts}
 
 pub nat_lt-true : {a b : ℕ} → a < b → nat_lt a b ≡ true
