@@ -39,7 +39,6 @@ enum Left {
 
 #[derive(Clone, Copy)]
 struct Case {
-    what: &'static str,
     begins: Begins,
     script: Script,
     per_call: u32,
@@ -55,7 +54,6 @@ const ERASED: &[u8] = b"DBGC\0\0\0\0\0\0\0\0";
 
 // The first console record on an image of zeros, done.
 const FIRST: Case = Case {
-    what: "first console record",
     begins: Begins::All(4096, 0),
     script: Script::Lines(FIRST_RECORD),
     per_call: 7,
@@ -124,8 +122,8 @@ fn faults_causes_and_hostile_bytes(rt: HostRuntime) -> Result<(), Fail> {
     let alloc = rt.alloc();
     let cases = [
         FIRST,
+        // The image fails when its size is asked for.
         Case {
-            what: "the image fails when its size is asked for",
             fails: Fails {
                 image: &[1],
                 ..NONE
@@ -135,8 +133,8 @@ fn faults_causes_and_hostile_bytes(rt: HostRuntime) -> Result<(), Fail> {
             left: Left::Same,
             ..FIRST
         },
+        // The image fails when it is read.
         Case {
-            what: "the image fails when it is read",
             fails: Fails {
                 image: &[2],
                 ..NONE
@@ -146,8 +144,8 @@ fn faults_causes_and_hostile_bytes(rt: HostRuntime) -> Result<(), Fail> {
             left: Left::Same,
             ..FIRST
         },
+        // The image fails when it is written back.
         Case {
-            what: "the image fails when it is written back",
             fails: Fails {
                 image: &[3],
                 ..NONE
@@ -156,16 +154,16 @@ fn faults_causes_and_hostile_bytes(rt: HostRuntime) -> Result<(), Fail> {
             text: Text::FirstAnd("image fault\n"),
             ..FIRST
         },
+        // The output fails.
         Case {
-            what: "the output fails",
             fails: Fails { out: &[1], ..NONE },
             status: 7,
             text: Text::FrontOfFirst,
             left: Left::Same,
             ..FIRST
         },
+        // The script fails.
         Case {
-            what: "the script fails",
             fails: Fails {
                 script: &[1],
                 ..NONE
@@ -175,8 +173,8 @@ fn faults_causes_and_hostile_bytes(rt: HostRuntime) -> Result<(), Fail> {
             left: Left::Same,
             ..FIRST
         },
+        // Script and image fail.
         Case {
-            what: "script and image fail",
             fails: Fails {
                 script: &[1],
                 image: &[1],
@@ -187,13 +185,13 @@ fn faults_causes_and_hostile_bytes(rt: HostRuntime) -> Result<(), Fail> {
             left: Left::Same,
             ..FIRST
         },
+        // The script gives a byte a call.
         Case {
-            what: "the script gives a byte a call",
             per_call: 1,
             ..FIRST
         },
+        // A script of too many bytes.
         Case {
-            what: "a script of too many bytes",
             script: Script::Newlines(4_194_305),
             per_call: 4096,
             status: 8,
@@ -201,40 +199,40 @@ fn faults_causes_and_hostile_bytes(rt: HostRuntime) -> Result<(), Fail> {
             left: Left::Same,
             ..FIRST
         },
+        // The longest script.
         Case {
-            what: "the longest script",
             script: Script::Newlines(4_194_304),
             per_call: 4096,
             text: Text::Is(""),
             left: Left::Same,
             ..FIRST
         },
+        // An image that is one byte short.
         Case {
-            what: "an image that is one byte short",
             begins: Begins::All(4095, 0),
             status: 4,
             text: Text::Is("image has 4095 bytes, 4096 needed\n"),
             left: Left::Same,
             ..FIRST
         },
+        // An image of ones.
         Case {
-            what: "an image of ones",
             begins: Begins::All(4096, 0xff),
             text: Text::Is(
                 "boot console unsigned start 4294967295 size 4294967295 corrected 0 bad 0 nothing told\n",
             ),
             ..BOOT
         },
+        // A size and a start past the ring.
         Case {
-            what: "a size and a start past the ring",
             begins: Begins::Headed(b"DBGC\x05\0\0\0\xf5\x0f\0\0"),
             text: Text::Is(
                 "boot console invalid start 5 size 4085 corrected 0 bad 0 nothing told\n",
             ),
             ..BOOT
         },
+        // A start at the end of a full ring.
         Case {
-            what: "a start at the end of a full ring",
             begins: Begins::Headed(b"DBGC\xf4\x0f\0\0\xf4\x0f\0\0"),
             text: Text::Is(
                 "boot console found start 4084 size 4084 corrected 0 bad 0 nothing told\n",
@@ -242,14 +240,13 @@ fn faults_causes_and_hostile_bytes(rt: HostRuntime) -> Result<(), Fail> {
             ..BOOT
         },
     ];
-    for case in cases {
+    for (i, case) in cases.iter().enumerate() {
         let image = begin(alloc, case.begins)?;
         let script = text_of(alloc, case.script)?;
         let ran = outcome_by(alloc, CONSOLE, &script, case.per_call, &image, case.fails)?;
-        let what = case.what;
-        assert_eq!(rt; ran.status, case.status, "{what}");
-        assert!(rt; is_put(alloc, &ran.text, case.text)?, "{what}");
-        assert!(rt; is_left(&image, &ran.image, case.left), "{what}");
+        assert_eq!(rt; ran.status, case.status, "case {i}");
+        assert!(rt; is_put(alloc, &ran.text, case.text)?, "case {i}");
+        assert!(rt; is_left(&image, &ran.image, case.left), "case {i}");
     }
     Ok(())
 }
