@@ -27,39 +27,55 @@ within-append z (v ∷ vs) ws a b = (a.0, a.1, within-append z vs ws a.2 b)
 pub within-first : (z : BlkZone) (k : ℕ) (ws : List Write) → AreWithin z ws → AreWithin z (first_bytes k ws)
 unfolding AreWithin first_bytes
 within-first z k [] a = tt
-within-first z k (w ∷ ws) a = (a.0, omega (arith, a.1, length-take k w.bytes), within-first z (k - length w.bytes) ws a.2)
+within-first z k (w ∷ ws) a = (
+  a.0,
+  omega (arith, a.1, length-take k w.bytes),
+  within-first z (k - length w.bytes) ws a.2,
+)
 
-pub length-after : (z : BlkZone) (ws : List Write) (store : List ℕ) → AreWithin z ws → z.at + z.size ≤ length store → length (after_writes ws store) ≡ length store
+pub length-after : (z : BlkZone) (ws : List Write) (store : List ℕ) → AreWithin z ws → z.at + z.size ≤ length store
+    → length (after_writes ws store) ≡ length store
 unfolding AreWithin after_writes
 length-after z [] store a h = refl
 length-after z (w ∷ ws) store a h =
     let same : length (after_write store w) ≡ length store = length-write store w (omega (arith, a.1)) in
     length-after z ws (after_write store w) a.2 (omega arith) ∙ same
 
-stays-one : (z other : BlkZone) (w : Write) (store : List ℕ) → AreApart z other → z.at ≤ w.at → w.at + length w.bytes ≤ z.at + z.size → z.at + z.size ≤ length store
+stays-one : (z other : BlkZone) (w : Write) (store : List ℕ) → AreApart z other → z.at ≤ w.at
+    → w.at + length w.bytes ≤ z.at + z.size → z.at + z.size ≤ length store
     → zone_bytes (after_write store w) other ≡ zone_bytes store other
 stays-one z other w store apart low high h =
     let fits : w.at + length w.bytes ≤ length store = omega arith in
     let same : length (after_write store w) ≡ length store = length-write store w fits in
     same_number_lists (zone_bytes (after_write store w) other) (zone_bytes store other)
-    (omega (arith, length-take other.size (drop other.at (after_write store w)), length-drop other.at (after_write store w), length-take other.size (drop other.at store), length-drop other.at store))
+    (omega (
+      arith,
+      length-take other.size (drop other.at (after_write store w)),
+      length-drop other.at (after_write store w),
+      length-take other.size (drop other.at store),
+      length-drop other.at store,
+    ))
     (λ i l.
     let inside : i < other.size = omega (arith, length-take other.size (drop other.at (after_write store w))) in
-    get_or-take other.size (drop other.at (after_write store w)) i 0 inside ∙ get_or-drop other.at (after_write store w) i 0
+    get_or-take other.size (drop other.at (after_write store w)) i 0 inside
+    ∙ get_or-drop other.at (after_write store w) i 0
     ∙ (elim apart [
       | inl a ↦ behind-write store w.bytes w.at fits (other.at + i) (omega arith)
       | inr b ↦ below-write store w.bytes w.at fits (other.at + i) (omega arith)
     ])
     ∙ sym (get_or-take other.size (drop other.at store) i 0 inside ∙ get_or-drop other.at store i 0))
 
-pub stays : (z other : BlkZone) (ws : List Write) (store : List ℕ) → AreApart z other → AreWithin z ws → z.at + z.size ≤ length store
+pub stays : (z other : BlkZone) (ws : List Write) (store : List ℕ) → AreApart z other → AreWithin z ws
+    → z.at + z.size ≤ length store
     → zone_bytes (after_writes ws store) other ≡ zone_bytes store other
 unfolding AreWithin after_writes
 stays z other [] store apart a h = refl
 stays z other (w ∷ ws) store apart a h =
-    stays z other ws (after_write store w) apart a.2 (omega (arith, length-write store w (omega (arith, a.1)))) ∙ stays-one z other w store apart a.0 a.1 h
+    stays z other ws (after_write store w) apart a.2 (omega (arith, length-write store w (omega (arith, a.1))))
+    ∙ stays-one z other w store apart a.0 a.1 h
 
-pub stays-cut : (z other : BlkZone) (ws : List Write) (store : List ℕ) (k : ℕ) → z.at + z.size ≤ length store → AreApart z other → AreWithin z ws
+pub stays-cut : (z other : BlkZone) (ws : List Write) (store : List ℕ) (k : ℕ) → z.at + z.size ≤ length store
+    → AreApart z other → AreWithin z ws
     → zone_bytes (after_writes (first_bytes k ws) store) other ≡ zone_bytes store other
 stays-cut z other ws store k h apart a = stays z other (first_bytes k ws) store apart (within-first z k ws a) h
 
@@ -69,7 +85,8 @@ pub header-within : (z : BlkZone) (words : BlkWords) → 12 ≤ z.size → AreWi
 unfolding AreWithin
 header-within z words h = (omega arith, omega arith, tt)
 
-run-within : (z : BlkZone) (place : ℕ) (bytes : List ℕ) (words : BlkWords) → 12 ≤ z.size → place + length bytes ≤ capacity z → AreWithin z (run_writes z place bytes words)
+run-within : (z : BlkZone) (place : ℕ) (bytes : List ℕ) (words : BlkWords) → 12 ≤ z.size
+    → place + length bytes ≤ capacity z → AreWithin z (run_writes z place bytes words)
 unfolding AreWithin
 run-within z place bytes words h k = (omega arith, omega arith, (omega arith, omega arith, tt))
 
@@ -78,27 +95,34 @@ unfolding AreWithin
 if-within z true ws a = a
 if-within z false ws a = tt
 
-kept-within : (z : BlkZone) (words : BlkWords) (bytes : List ℕ) → 12 ≤ z.size → words.start ≤ capacity z → length bytes ≤ capacity z → AreWithin z (kept_writes z words bytes)
+kept-within : (z : BlkZone) (words : BlkWords) (bytes : List ℕ) → 12 ≤ z.size → words.start ≤ capacity z
+    → length bytes ≤ capacity z → AreWithin z (kept_writes z words bytes)
 unfolding kept_writes
 kept-within z words bytes h k l =
     let m : ℕ = first_run z words (length bytes) in
-    let first = run-within z words.start (take m bytes) (first_words z words (length bytes)) h (omega (arith, length-take m bytes)) in
-    let second = run-within z 0 (drop m bytes) (run_words z words (length bytes)) h (omega (arith, length-drop m bytes)) in
+    let first = run-within z words.start (take m bytes) (first_words z words (length bytes)) h
+    (omega (arith, length-take m bytes)) in
+    let second = run-within z 0 (drop m bytes) (run_words z words (length bytes)) h
+    (omega (arith, length-drop m bytes)) in
     within-append z _ _ (within-append z _ _ first (if-within z (nat_lt m (length bytes)) _ second))
     (if-within z (is_short z words (length bytes)) _ (header-within z (last_words z words (length bytes)) h))
 
-pub append-within : (z : BlkZone) (words : BlkWords) (payload : List ℕ) → 12 ≤ z.size → words.start ≤ capacity z → AreWithin z (append_writes z words payload)
+pub append-within : (z : BlkZone) (words : BlkWords) (payload : List ℕ) → 12 ≤ z.size → words.start ≤ capacity z
+    → AreWithin z (append_writes z words payload)
 unfolding append_writes AreWithin
 append-within z words payload h k = by-payload (length payload == 0)
   where
     by-payload : (b : Bool) → AreWithin z (if b then [] else kept_writes z words (last_items (capacity z) payload))
     by-payload true = tt
-    by-payload false = kept-within z words (last_items (capacity z) payload) h k (omega (arith, length-drop (length payload - capacity z) payload))
+    by-payload false = kept-within z words (last_items (capacity z) payload) h k
+        (omega (arith, length-drop (length payload - capacity z) payload))
 
-length-dump_header : (time : BlkTime) (packed : Bool) (counter reason : ℕ) → length (dump_header time packed counter reason) ≡ 40
+length-dump_header : (time : BlkTime) (packed : Bool) (counter reason : ℕ)
+    → length (dump_header time packed counter reason) ≡ 40
 length-dump_header time packed counter reason = refl
 
-pub dump-within : (z : BlkZone) (time : BlkTime) (packed : Bool) (counter : ℕ) (reason : Reason) (body : List ℕ) → 52 ≤ z.size → AreWithin z (dump_writes z time packed counter reason body)
+pub dump-within : (z : BlkZone) (time : BlkTime) (packed : Bool) (counter : ℕ) (reason : Reason) (body : List ℕ)
+    → 52 ≤ z.size → AreWithin z (dump_writes z time packed counter reason body)
 unfolding dump_writes AreWithin
 dump-within z time packed counter reason body h =
     let kept : List ℕ = body_kept z body in

@@ -14,7 +14,8 @@ use Rattle.blk_laws.proofs.Standing.{loading}
 abbrev pub HasLayout : BlkLayout → Session → Type 0
 HasLayout l s = IfSome s.blk (λ (b : BlkState). b.layout ≡ l)
 
-unless-layout : (l : BlkLayout) (cause : Option Cause) (next s : Session) → HasLayout l next → HasLayout l s → HasLayout l (unless_refused cause next s)
+unless-layout : (l : BlkLayout) (cause : Option Cause) (next s : Session) → HasLayout l next → HasLayout l s
+    → HasLayout l (unless_refused cause next s)
 unless-layout l None next s a b = a
 unless-layout l (Some cause) next s a b = b
 
@@ -27,7 +28,8 @@ erase-layout b (DumpName index packed) = refl
 erase-layout b Console = refl
 erase-layout b Pmsg = refl
 
-done-layout : (store : List ℕ) (b : BlkState) (operation : Operation) → HasLayout b.layout (done_loaded store b operation)
+done-layout : (store : List ℕ) (b : BlkState) (operation : Operation)
+    → HasLayout b.layout (done_loaded store b operation)
 done-layout store b Load = refl
 done-layout store b (Append ring payload) = append-layout b ring payload
 done-layout store b AppendElsewhere = refl
@@ -41,11 +43,13 @@ done-layout store b (Erase (Some name)) = erase-layout b name
 then-layout : (l m : BlkLayout) (s : Session) → m ≡ l → HasLayout m s → HasLayout l s
 then-layout l m s e h = by-blk s.blk h
   where
-    by-blk : (blk : Option BlkState) → IfSome blk (λ (b : BlkState). b.layout ≡ m) → IfSome blk (λ (b : BlkState). b.layout ≡ l)
+    by-blk : (blk : Option BlkState) → IfSome blk (λ (b : BlkState). b.layout ≡ m)
+        → IfSome blk (λ (b : BlkState). b.layout ≡ l)
     by-blk None k = tt
     by-blk (Some b) k = k ∙ e
 
-line-layout : (l : BlkLayout) (store : List ℕ) (blk : Option BlkState) (operation : Operation) → HasLayout l (record { store = store; blk = blk })
+line-layout : (l : BlkLayout) (store : List ℕ) (blk : Option BlkState) (operation : Operation)
+    → HasLayout l (record { store = store; blk = blk })
     → HasLayout l (session_after l (record { store = store; blk = blk }) operation)
 unfolding session_after cause_of
 line-layout l store None Load h = refl
@@ -60,13 +64,16 @@ line-layout l store (Some b) operation h =
     unless-layout l (cause_loaded b operation) (done_loaded store b operation) (record { store = store; blk = Some b })
     (then-layout l b.layout (done_loaded store b operation) h (done-layout store b operation)) h
 
-pub run-layout : (l : BlkLayout) (s : Session) (operations : List Operation) → HasLayout l s → HasLayout l (session_run l s operations)
+pub run-layout : (l : BlkLayout) (s : Session) (operations : List Operation) → HasLayout l s
+    → HasLayout l (session_run l s operations)
 unfolding session_run
 run-layout l s [] h = h
-run-layout l s (operation ∷ operations) h = run-layout l (session_after l s operation) operations (line-layout l s.store s.blk operation h)
+run-layout l s (operation ∷ operations) h = run-layout l (session_after l s operation) operations
+    (line-layout l s.store s.blk operation h)
 
 pub every-loading : (l : BlkLayout) (store : List ℕ) (operations : List Operation)
-    → (session_after l (session_run l (begun store) operations) Load).blk ≡ Some (loaded l (session_run l (begun store) operations).store)
+    → (session_after l (session_run l (begun store) operations) Load).blk
+    ≡ Some (loaded l (session_run l (begun store) operations).store)
 every-loading l store operations =
     let s = session_run l (begun store) operations in
     loading l s.store s.blk (run-layout l (begun store) operations tt)

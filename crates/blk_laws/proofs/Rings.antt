@@ -22,18 +22,25 @@ module _ (xs bytes : List ℕ) (at : ℕ) (h : at + length bytes ≤ length xs) 
       get_or_append_left (take at xs ++ bytes) (drop (at + length bytes) xs) 0 i (omega (arith, both))
       ∙ get_or_append_left (take at xs) bytes 0 i (omega (arith, front)) ∙ get_or-take at xs i 0 k
 
-  pub inside-write : (i : ℕ) → at ≤ i → i < at + length bytes → get_or (after_write xs (record { at = at; bytes = bytes })) i 0 ≡ get_or bytes (i - at) 0
+  pub inside-write : (i : ℕ) → at ≤ i → i < at + length bytes
+      → get_or (after_write xs (record { at = at; bytes = bytes })) i 0 ≡ get_or bytes (i - at) 0
   inside-write i k l =
       get_or_append_left (take at xs ++ bytes) (drop (at + length bytes) xs) 0 i (omega (arith, both))
       ∙ get_or-append_right (take at xs) bytes at i 0 front k
 
-  pub behind-write : (i : ℕ) → at + length bytes ≤ i → get_or (after_write xs (record { at = at; bytes = bytes })) i 0 ≡ get_or xs i 0
+  pub behind-write : (i : ℕ) → at + length bytes ≤ i → get_or (after_write xs (record { at = at; bytes = bytes })) i 0
+      ≡ get_or xs i 0
   behind-write i k =
       get_or-append_right (take at xs ++ bytes) (drop (at + length bytes) xs) (at + length bytes) i 0 both k
       ∙ get_or-drop (at + length bytes) xs (i - (at + length bytes)) 0 ∙ same-at xs _ i (omega arith)
 
   pub length-written : length (after_write xs (record { at = at; bytes = bytes })) ≡ length xs
-  length-written = omega (arith, both, length-append (take at xs ++ bytes) (drop (at + length bytes) xs), length-drop (at + length bytes) xs)
+  length-written = omega (
+    arith,
+    both,
+    length-append (take at xs ++ bytes) (drop (at + length bytes) xs),
+    length-drop (at + length bytes) xs,
+  )
 
 -- a ring's data behind the first run, and behind both
 abbrev pub once : List ℕ → ℕ → ℕ → List ℕ → List ℕ
@@ -42,7 +49,8 @@ once old start m q = after_write old (record { at = start; bytes = take m q })
 abbrev pub twice : List ℕ → ℕ → ℕ → List ℕ → List ℕ
 twice old start m q = after_write (once old start m q) (record { at = 0; bytes = drop m q })
 
-pub runs-AppendedBytes : (old q : List ℕ) (start cap m : ℕ) → length old ≡ cap → start < cap → length q ≤ cap → m ≡ min (length q) (cap - start)
+pub runs-AppendedBytes : (old q : List ℕ) (start cap m : ℕ) → length old ≡ cap → start < cap → length q ≤ cap
+    → m ≡ min (length q) (cap - start)
     → AppendedBytes (λ p. get_or old p 0) (λ p. get_or (twice old start m q) p 0) start cap q
 runs-AppendedBytes old q start cap m total below short e =
     let first-long : length (take m q) ≡ m = omega (arith, length-take m q) in
@@ -69,35 +77,51 @@ runs-AppendedBytes old q start cap m total below short e =
 abbrev pub in-turn : List ℕ → ℕ → ℕ → List ℕ
 in-turn bytes start size = drop start (take size bytes) ++ take start bytes
 
-length-back : (bytes : List ℕ) (start size : ℕ) → size ≤ length bytes → length (drop start (take size bytes)) ≡ size - start
+length-back : (bytes : List ℕ) (start size : ℕ) → size ≤ length bytes
+    → length (drop start (take size bytes)) ≡ size - start
 length-back bytes start size h = omega (arith, length-drop start (take size bytes), length-take size bytes)
 
-length-in-turn : (bytes : List ℕ) (start size : ℕ) → start ≤ size → size ≤ length bytes → length (in-turn bytes start size) ≡ size
+length-in-turn : (bytes : List ℕ) (start size : ℕ) → start ≤ size → size ≤ length bytes
+    → length (in-turn bytes start size) ≡ size
 length-in-turn bytes start size h k =
-    omega (arith, length-append (drop start (take size bytes)) (take start bytes), length-back bytes start size k, length-take start bytes)
+    omega (
+      arith,
+      length-append (drop start (take size bytes)) (take start bytes),
+      length-back bytes start size k,
+      length-take start bytes,
+    )
 
-pub turn-RingBytes : (bytes told : List ℕ) (start size : ℕ) → start ≤ size → size ≤ length bytes → in-turn bytes start size ≡ told → RingBytes (λ p. get_or bytes p 0) start size told
+pub turn-RingBytes : (bytes told : List ℕ) (start size : ℕ) → start ≤ size → size ≤ length bytes
+    → in-turn bytes start size ≡ told → RingBytes (λ p. get_or bytes p 0) start size told
 turn-RingBytes bytes told start size h k e = record {
   total = ap (length {A = ℕ}) (sym e) ∙ length-in-turn bytes start size h k;
   before = λ p l. sym (
       ap (λ (xs : List ℕ). get_or xs ((size - start) + p) 0) (sym e)
-      ∙ get_or-append_right (drop start (take size bytes)) (take start bytes) (size - start) ((size - start) + p) 0 (length-back bytes start size k) (omega arith)
+      ∙ get_or-append_right (drop start (take size bytes)) (take start bytes) (size - start) ((size - start) + p) 0
+      (length-back bytes start size k) (omega arith)
       ∙ same-at (take start bytes) _ p (omega arith) ∙ get_or-take start bytes p 0 l);
   behind = λ p l m. sym (
       ap (λ (xs : List ℕ). get_or xs (p - start) 0) (sym e)
-      ∙ get_or_append_left (drop start (take size bytes)) (take start bytes) 0 (p - start) (omega (arith, length-back bytes start size k))
-      ∙ get_or-drop start (take size bytes) (p - start) 0 ∙ same-at (take size bytes) _ p (omega arith) ∙ get_or-take size bytes p 0 m);
+      ∙ get_or_append_left (drop start (take size bytes)) (take start bytes) 0 (p - start)
+      (omega (arith, length-back bytes start size k))
+      ∙ get_or-drop start (take size bytes) (p - start) 0 ∙ same-at (take size bytes) _ p (omega arith)
+      ∙ get_or-take size bytes p 0 m);
 }
 
-pub RingBytes-turn : (bytes told : List ℕ) (start size : ℕ) → start ≤ size → size ≤ length bytes → RingBytes (λ p. get_or bytes p 0) start size told → in-turn bytes start size ≡ told
+pub RingBytes-turn : (bytes told : List ℕ) (start size : ℕ) → start ≤ size → size ≤ length bytes
+    → RingBytes (λ p. get_or bytes p 0) start size told → in-turn bytes start size ≡ told
 RingBytes-turn bytes told start size h k ring =
-    same_number_lists (in-turn bytes start size) told (length-in-turn bytes start size h k ∙ sym ring.total) (λ i l. elim (cases_lt i (size - start)) [
+    same_number_lists (in-turn bytes start size) told (length-in-turn bytes start size h k ∙ sym ring.total)
+    (λ i l. elim (cases_lt i (size - start)) [
       | inl a ↦
-          get_or_append_left (drop start (take size bytes)) (take start bytes) 0 i (omega (arith, length-back bytes start size k))
+          get_or_append_left (drop start (take size bytes)) (take start bytes) 0 i
+          (omega (arith, length-back bytes start size k))
           ∙ get_or-drop start (take size bytes) i 0 ∙ get_or-take size bytes (start + i) 0 (omega arith)
           ∙ ring.behind (start + i) (omega arith) (omega arith) ∙ same-at told _ i (omega arith)
       | inr b ↦
-          get_or-append_right (drop start (take size bytes)) (take start bytes) (size - start) i 0 (length-back bytes start size k) b
+          get_or-append_right (drop start (take size bytes)) (take start bytes) (size - start) i 0
+          (length-back bytes start size k) b
           ∙ get_or-take start bytes (i - (size - start)) 0 (omega (arith, length-in-turn bytes start size h k))
-          ∙ ring.before (i - (size - start)) (omega (arith, length-in-turn bytes start size h k)) ∙ same-at told _ i (omega arith)
+          ∙ ring.before (i - (size - start)) (omega (arith, length-in-turn bytes start size h k))
+          ∙ same-at told _ i (omega arith)
     ])

@@ -18,35 +18,43 @@ use Rattle.blk_laws.specs.Apart.{AreWithin, AreApart}
 
 abbrev pub LoadingListsReading : Type 0
 LoadingListsReading =
-    (l : BlkLayout) (s : Session) → IfSome s.blk (λ (b : BlkState). b.layout ≡ l) → (session_after l s Load).blk ≡ Some (loaded l s.store)
+    (l : BlkLayout) (s : Session) → IfSome s.blk (λ (b : BlkState). b.layout ≡ l)
+    → (session_after l s Load).blk ≡ Some (loaded l s.store)
 
 abbrev pub StandingRingIsListed : Type 0
 StandingRingIsListed =
-    (z : BlkZone) (words : BlkWords) (store told : List ℕ) → LiesIn z store → StandsFor z words store told → saved_ring z (zone_bytes store z) ≡ listed told
+    (z : BlkZone) (words : BlkWords) (store told : List ℕ) → LiesIn z store → StandsFor z words store told
+    → saved_ring z (zone_bytes store z) ≡ listed told
 
 abbrev pub ErasedRingIsEmpty : Type 0
 ErasedRingIsEmpty =
-    (z : BlkZone) (store : List ℕ) → LiesIn z store → StandsFor z empty_words (after_writes (header_write z empty_words ∷ []) store) []
+    (z : BlkZone) (store : List ℕ) → LiesIn z store → StandsFor z empty_words
+    (after_writes (header_write z empty_words ∷ []) store) []
 
 abbrev pub AppendKeepsLastBytes : Type 0
 AppendKeepsLastBytes =
     (z : BlkZone) (words : BlkWords) (store told payload : List ℕ) → LiesIn z store → StandsFor z words store told
-    → StandsFor z (words_after z words payload) (after_writes (append_writes z words payload) store) (last_items (capacity z) (told ++ payload))
+    → StandsFor z (words_after z words payload) (after_writes (append_writes z words payload) store)
+    (last_items (capacity z) (told ++ payload))
 
 abbrev pub CutAppendListsBefore : Type 0
 CutAppendListsBefore =
-    (z : BlkZone) (words : BlkWords) (store told payload : List ℕ) (k : ℕ) → LiesIn z store → StandsFor z words store told → words.size < capacity z
+    (z : BlkZone) (words : BlkWords) (store told payload : List ℕ) (k : ℕ) → LiesIn z store
+    → StandsFor z words store told → words.size < capacity z
     → k ≤ min (length (last_items (capacity z) payload)) (capacity z - words.start)
     → StandsFor z words (after_writes (first_bytes k (append_writes z words payload)) store) told
 
 -- an append, a dump and an erasure, in zones that have room for a header and, for a dump, for its own too
 abbrev pub CallsWriteWithin : Type 0
 CallsWriteWithin =
-    ((z : BlkZone) (words : BlkWords) (payload : List ℕ) → 12 ≤ z.size → words.start ≤ capacity z → AreWithin z (append_writes z words payload))
-    × ((z : BlkZone) (time : BlkTime) (packed : Bool) (counter : ℕ) (reason : Reason) (body : List ℕ) → 52 ≤ z.size → AreWithin z (dump_writes z time packed counter reason body))
+    ((z : BlkZone) (words : BlkWords) (payload : List ℕ) → 12 ≤ z.size → words.start ≤ capacity z
+    → AreWithin z (append_writes z words payload))
+    × ((z : BlkZone) (time : BlkTime) (packed : Bool) (counter : ℕ) (reason : Reason) (body : List ℕ) → 52 ≤ z.size
+    → AreWithin z (dump_writes z time packed counter reason body))
     × ((z : BlkZone) (words : BlkWords) → 12 ≤ z.size → AreWithin z (header_write z words ∷ []))
 
 abbrev pub OtherZonesStay : Type 0
 OtherZonesStay =
-    (z other : BlkZone) (ws : List Write) (store : List ℕ) (k : ℕ) → z.at + z.size ≤ length store → AreApart z other → AreWithin z ws
+    (z other : BlkZone) (ws : List Write) (store : List ℕ) (k : ℕ) → z.at + z.size ≤ length store → AreApart z other
+    → AreWithin z ws
     → zone_bytes (after_writes (first_bytes k ws) store) other ≡ zone_bytes store other

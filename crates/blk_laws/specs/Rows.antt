@@ -19,7 +19,8 @@ write_at at bytes = record { at = at; bytes = bytes }
 abbrev pub FirstAppend : Type 0
 FirstAppend =
     append_writes console empty_words (0x61 ∷ 0x62 ∷ 0x63 ∷ [])
-    ≡ write_at 4108 (0x61 ∷ 0x62 ∷ 0x63 ∷ []) ∷ write_at 4096 (0x46 ∷ 0x42 ∷ 0x47 ∷ 0x43 ∷ 3 ∷ 0 ∷ 0 ∷ 0 ∷ 3 ∷ 0 ∷ 0 ∷ 0 ∷ []) ∷ []
+    ≡ write_at 4108 (0x61 ∷ 0x62 ∷ 0x63 ∷ []) ∷ write_at 4096
+    (0x46 ∷ 0x42 ∷ 0x47 ∷ 0x43 ∷ 3 ∷ 0 ∷ 0 ∷ 0 ∷ 3 ∷ 0 ∷ 0 ∷ 0 ∷ []) ∷ []
 
 abbrev pub FullRingAppend : Type 0
 FullRingAppend =
@@ -29,7 +30,8 @@ FullRingAppend =
 
 abbrev pub FirstDump : Type 0
 FirstDump =
-    map (λ (w : Write). write_at w.at (take 54 w.bytes)) (dump_writes dump_zone (record { secs = 5; nanos = 6000 }) false 1 Panic (0x78 ∷ []))
+    map (λ (w : Write). write_at w.at (take 54 w.bytes))
+    (dump_writes dump_zone (record { secs = 5; nanos = 6000 }) false 1 Panic (0x78 ∷ []))
     ≡ write_at 8192
     (0x44 ∷ 0x42 ∷ 0x47 ∷ 0x43 ∷ 0x29 ∷ 0 ∷ 0 ∷ 0 ∷ 0 ∷ 0 ∷ 0 ∷ 0
     ∷ 0xe5 ∷ 0x3a ∷ 0xfc ∷ 0x4d ∷ 0 ∷ 0 ∷ 0 ∷ 0 ∷ 5 ∷ 0 ∷ 0 ∷ 0 ∷ 0 ∷ 0 ∷ 0 ∷ 0
@@ -39,5 +41,6 @@ FirstDump =
 
 abbrev pub FirstRingRead : Type 0
 FirstRingRead =
-    saved_ring console (0x46 ∷ 0x42 ∷ 0x47 ∷ 0x43 ∷ 3 ∷ 0 ∷ 0 ∷ 0 ∷ 3 ∷ 0 ∷ 0 ∷ 0 ∷ 0x61 ∷ 0x62 ∷ 0x63 ∷ replicate 4081 0)
+    saved_ring console (0x46 ∷ 0x42 ∷ 0x47 ∷ 0x43 ∷ 3 ∷ 0 ∷ 0 ∷ 0 ∷ 3 ∷ 0 ∷ 0 ∷ 0 ∷ 0x61 ∷ 0x62 ∷ 0x63
+    ∷ replicate 4081 0)
     ≡ Some (0x61 ∷ 0x62 ∷ 0x63 ∷ [])

@@ -66,11 +66,13 @@ is_whole (Some b) = none_dropped b.cut
 abbrev pub EveryLoadingListsReading : Type 0
 EveryLoadingListsReading =
     (l : BlkLayout) (store : List ℕ) (operations : List Operation)
-    → (session_after l (session_run l (begun store) operations) Load).blk ≡ Some (loaded l (session_run l (begun store) operations).store)
+    → (session_after l (session_run l (begun store) operations) Load).blk
+    ≡ Some (loaded l (session_run l (begun store) operations).store)
 
 abbrev pub WholeSessionListsTold : Type 0
 WholeSessionListsTold =
-    (l : BlkLayout) (store : List ℕ) (operations : List Operation) (ring : BlkRing) → IsLayout l → l.total ≤ length store
+    (l : BlkLayout) (store : List ℕ) (operations : List Operation) (ring : BlkRing) → IsLayout l
+    → l.total ≤ length store
     → is_whole (session_run l (begun store) operations).blk ≡ true
     → (ring_of (loaded l (session_run l (begun store) operations).store) ring).saved
     ≡ listed (last_items (capacity (ring_zone l ring)) (told_of (told_run l (begun store) untold operations) ring))
@@ -84,11 +86,14 @@ pub record IsCutEarly (b : BlkState) (ring : BlkRing) (payload : List ℕ) : Typ
   pub open_ring : (ring_of b ring).words.size < capacity (ring_zone b.layout ring)
   pub cut : none_dropped (spent (bytes_in (append_of b ring payload)) b.cut) ≡ false
   pub early : through b.cut (bytes_in (append_of b ring payload))
-      ≤ min (length (last_items (capacity (ring_zone b.layout ring)) payload)) (capacity (ring_zone b.layout ring) - (ring_of b ring).words.start)
+      ≤ min (length (last_items (capacity (ring_zone b.layout ring)) payload))
+      (capacity (ring_zone b.layout ring) - (ring_of b ring).words.start)
 
 abbrev pub EarlyCutListsBefore : Type 0
 EarlyCutListsBefore =
-    (l : BlkLayout) (store : List ℕ) (before behind : List Operation) (b : BlkState) (ring : BlkRing) (payload : List ℕ) → IsLayout l → l.total ≤ length store
-    → (session_run l (begun store) before).blk ≡ Some b → none_dropped b.cut ≡ true → IsCutEarly b ring payload → list_all is_no_load behind ≡ true
+    (l : BlkLayout) (store : List ℕ) (before behind : List Operation) (b : BlkState) (ring : BlkRing)
+    (payload : List ℕ) → IsLayout l → l.total ≤ length store
+    → (session_run l (begun store) before).blk ≡ Some b → none_dropped b.cut ≡ true → IsCutEarly b ring payload
+    → list_all is_no_load behind ≡ true
     → (ring_of (loaded l (session_run l (begun store) (before ++ Append ring payload ∷ behind)).store) ring).saved
     ≡ listed (last_items (capacity (ring_zone l ring)) (told_of (told_run l (begun store) untold before) ring))

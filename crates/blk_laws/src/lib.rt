@@ -20,7 +20,8 @@ pub fn erased_ring_is_empty()
     ensures { ErasedRingIsEmpty }
 {}
 
-/// An append to a ring that stands for a list leaves one that stands for the last bytes of that list and the payload, as
+/// An append to a ring that stands for a list leaves one that stands for the last bytes of that list and the payload,
+/// as
 /// many as the ring holds.
 pub fn append_keeps_last_bytes()
     ensures { AppendKeepsLastBytes }
@@ -54,7 +55,8 @@ pub fn whole_session_lists_told()
 {}
 
 /// Where the first call that is cut since the last loading is an append to a ring that is not full, and the cut falls
-/// among its data bytes before its first header, the next loading lists of that ring what it would have listed before the
+/// among its data bytes before its first header, the next loading lists of that ring what it would have listed before
+/// the
 /// append.
 pub fn early_cut_lists_before()
     ensures { EarlyCutListsBefore }

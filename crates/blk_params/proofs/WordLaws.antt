@@ -11,22 +11,29 @@ use Rattle.blk_params.specs.Words.{keys, key_of, has_key, IsSplit, value_text, g
 use Rattle.zone_params.proofs.Texts.{if_true, if_false, any_before_end}
 
 -- a word without a separator
-pub no_split : (bs : List ℕ) (r : Option (Bor (List ℕ) × Bor (List ℕ))) → IsSplitOnceResult 61 bs r → r ≡ None → list_any (λ c. c == 61) bs ≡ false
-no_split bs None h e = any_before_end (λ c. c == 61) bs ∙ le-ltb (position_or_len (λ c. c == 61) bs) (length bs) (omega (arith, split_once_first 61 bs None h (omega arith)))
+pub no_split : (bs : List ℕ) (r : Option (Bor (List ℕ) × Bor (List ℕ))) → IsSplitOnceResult 61 bs r → r ≡ None
+    → list_any (λ c. c == 61) bs ≡ false
+no_split bs None h e = any_before_end (λ c. c == 61) bs
+    ∙ le-ltb (position_or_len (λ c. c == 61) bs) (length bs)
+    (omega (arith, split_once_first 61 bs None h (omega arith)))
 no_split bs (Some x) h e = cc
 
 has_key_split : (key word own text : List ℕ) → IsSplit word own text → has_key key word ≡ bytes_eq key own
-has_key_split key word own text s = and_is (list_any (λ c. c == 61) word) (bytes_eq key (key_of word)) (bytes_eq key own) s.cut (ap (bytes_eq key) s.named)
+has_key_split key word own text s = and_is (list_any (λ c. c == 61) word) (bytes_eq key (key_of word))
+    (bytes_eq key own) s.cut (ap (bytes_eq key) s.named)
   where
     and_is : (a b c : Bool) → a ≡ true → b ≡ c → (a && b) ≡ c
     and_is true b c h e = e
     and_is false b c h e = cc
 
-any_known : (names : List (List ℕ)) (word own text : List ℕ) → IsSplit word own text → list_any (λ key. has_key key word) names ≡ list_any (λ key. bytes_eq key own) names
+any_known : (names : List (List ℕ)) (word own text : List ℕ) → IsSplit word own text
+    → list_any (λ key. has_key key word) names ≡ list_any (λ key. bytes_eq key own) names
 any_known [] word own text s = refl
 any_known (key ∷ names) word own text s = cc (has_key_split key word own text s, any_known names word own text s)
 
-found_step : (b : Bool) (w : List ℕ) (r : Option (List ℕ)) → is_some (option_map (after_first (λ c. c == 61)) (if b then Some w else r)) ≡ (b || is_some (option_map (after_first (λ c. c == 61)) r))
+found_step : (b : Bool) (w : List ℕ) (r : Option (List ℕ))
+    → is_some (option_map (after_first (λ c. c == 61)) (if b then Some w else r))
+    ≡ (b || is_some (option_map (after_first (λ c. c == 61)) r))
 found_step true w r = refl
 found_step false w r = refl
 
@@ -34,64 +41,94 @@ found_step false w r = refl
 any_given : (words : List (List ℕ)) (key : List ℕ) → is_some (value_text words key) ≡ list_any (has_key key) words
 unfolding value_text
 any_given [] key = refl
-any_given (word ∷ words) key = found_step (has_key key word) word (find (has_key key) words) ∙ ap (λ t. has_key key word || t) (any_given words key)
+any_given (word ∷ words) key = found_step (has_key key word) word (find (has_key key) words)
+    ∙ ap (λ t. has_key key word || t) (any_given words key)
 
-pub unknown_fault : (earlier : List (List ℕ)) (place : ℕ) (word own text : List ℕ) → IsSplit word own text → list_any (λ key. bytes_eq key own) keys ≡ false
+pub unknown_fault : (earlier : List (List ℕ)) (place : ℕ) (word own text : List ℕ) → IsSplit word own text
+    → list_any (λ key. bytes_eq key own) keys ≡ false
     → Some (UnknownKey place) ≡ word_fault earlier place word
-unknown_fault earlier place word own text s h = sym (if_true (not (list_any (λ key. has_key key word) keys)) _ _ (ap not (any_known keys word own text s ∙ h)))
+unknown_fault earlier place word own text s h = sym (if_true (not (list_any (λ key. has_key key word) keys)) _ _
+    (ap not (any_known keys word own text s ∙ h)))
 
-known : (earlier : List (List ℕ)) (place : ℕ) (word own text : List ℕ) → IsSplit word own text → list_any (λ key. bytes_eq key own) keys ≡ true
-    → word_fault earlier place word ≡ (if list_any (has_key own) earlier then Some (Twice place) else (if is_none (number_of text) then Some (NotANumber place) else None))
+known : (earlier : List (List ℕ)) (place : ℕ) (word own text : List ℕ) → IsSplit word own text
+    → list_any (λ key. bytes_eq key own) keys ≡ true
+    → word_fault earlier place word ≡ (if list_any (has_key own) earlier then Some (Twice place) else
+    (if is_none (number_of text) then Some (NotANumber place) else None))
 known earlier place word own text s h =
     if_false (not (list_any (λ key. has_key key word) keys)) _ _ (ap not (any_known keys word own text s ∙ h))
-    ∙ ap (λ (key : List ℕ). if list_any (has_key key) earlier then Some (Twice place) else (if is_none (number_of (after_first (λ c. c == 61) word)) then Some (NotANumber place) else None)) s.named
-    ∙ ap (λ (t : List ℕ). if list_any (has_key own) earlier then Some (Twice place) else (if is_none (number_of t) then Some (NotANumber place) else None)) s.valued
+    ∙ ap (λ (key : List ℕ). if list_any (has_key key) earlier then Some (Twice place) else
+    (if is_none (number_of (after_first (λ c. c == 61) word)) then Some (NotANumber place) else None)) s.named
+    ∙ ap (λ (t : List ℕ). if list_any (has_key own) earlier then Some (Twice place) else
+    (if is_none (number_of t) then Some (NotANumber place) else None)) s.valued
 
 is_some_copied : (r : Option (Bor (List ℕ))) → is_some (option_copied r) ≡ is_some r
 is_some_copied None = refl
 is_some_copied (Some x) = refl
 
-pub twice_fault : (earlier : List (List ℕ)) (place : ℕ) (word own text : List ℕ) (r : Option (Bor (List ℕ))) → IsSplit word own text → list_any (λ key. bytes_eq key own) keys ≡ true
+pub twice_fault : (earlier : List (List ℕ)) (place : ℕ) (word own text : List ℕ) (r : Option (Bor (List ℕ)))
+    → IsSplit word own text → list_any (λ key. bytes_eq key own) keys ≡ true
     → option_copied r ≡ value_text earlier own → is_some r ≡ true → Some (Twice place) ≡ word_fault earlier place word
 twice_fault earlier place word own text r s h v t =
-    sym (known earlier place word own text s h ∙ if_true (list_any (has_key own) earlier) _ _ (sym (any_given earlier own) ∙ sym (ap is_some v) ∙ is_some_copied r ∙ t))
+    sym (known earlier place word own text s h ∙ if_true (list_any (has_key own) earlier) _ _
+    (sym (any_given earlier own) ∙ sym (ap is_some v) ∙ is_some_copied r ∙ t))
 
-new_key : (earlier : List (List ℕ)) (place : ℕ) (word own text : List ℕ) (r : Option (Bor (List ℕ))) → IsSplit word own text → list_any (λ key. bytes_eq key own) keys ≡ true
-    → option_copied r ≡ value_text earlier own → is_some r ≡ false → word_fault earlier place word ≡ (if is_none (number_of text) then Some (NotANumber place) else None)
+new_key : (earlier : List (List ℕ)) (place : ℕ) (word own text : List ℕ) (r : Option (Bor (List ℕ)))
+    → IsSplit word own text → list_any (λ key. bytes_eq key own) keys ≡ true
+    → option_copied r ≡ value_text earlier own → is_some r ≡ false
+    → word_fault earlier place word ≡ (if is_none (number_of text) then Some (NotANumber place) else None)
 new_key earlier place word own text r s h v t =
-    known earlier place word own text s h ∙ if_false (list_any (has_key own) earlier) _ _ (sym (any_given earlier own) ∙ sym (ap is_some v) ∙ is_some_copied r ∙ t)
+    known earlier place word own text s h ∙ if_false (list_any (has_key own) earlier) _ _
+    (sym (any_given earlier own) ∙ sym (ap is_some v) ∙ is_some_copied r ∙ t)
 
-pub number_fault : (earlier : List (List ℕ)) (place : ℕ) (word own text : List ℕ) (r : Option (Bor (List ℕ))) (n : Option ℕ) → IsSplit word own text → list_any (λ key. bytes_eq key own) keys ≡ true
-    → option_copied r ≡ value_text earlier own → is_some r ≡ false → n ≡ number_of text → is_some n ≡ false → Some (NotANumber place) ≡ word_fault earlier place word
-number_fault earlier place word own text r n s h v t e bad = sym (new_key earlier place word own text r s h v t ∙ if_true (is_none (number_of text)) _ _ (ap not (sym (ap is_some e) ∙ bad)))
+pub number_fault : (earlier : List (List ℕ)) (place : ℕ) (word own text : List ℕ) (r : Option (Bor (List ℕ)))
+    (n : Option ℕ) → IsSplit word own text → list_any (λ key. bytes_eq key own) keys ≡ true
+    → option_copied r ≡ value_text earlier own → is_some r ≡ false → n ≡ number_of text → is_some n ≡ false
+    → Some (NotANumber place) ≡ word_fault earlier place word
+number_fault earlier place word own text r n s h v t e bad =
+    sym (new_key earlier place word own text r s h v t ∙ if_true (is_none (number_of text)) _ _
+    (ap not (sym (ap is_some e) ∙ bad)))
 
-pub no_fault : (earlier : List (List ℕ)) (place : ℕ) (word own text : List ℕ) (r : Option (Bor (List ℕ))) (n : Option ℕ) → IsSplit word own text → list_any (λ key. bytes_eq key own) keys ≡ true
-    → option_copied r ≡ value_text earlier own → is_some r ≡ false → n ≡ number_of text → is_some n ≡ true → None ≡ word_fault earlier place word
-no_fault earlier place word own text r n s h v t e good = sym (new_key earlier place word own text r s h v t ∙ if_false (is_none (number_of text)) _ _ (ap not (sym (ap is_some e) ∙ good)))
+pub no_fault : (earlier : List (List ℕ)) (place : ℕ) (word own text : List ℕ) (r : Option (Bor (List ℕ)))
+    (n : Option ℕ) → IsSplit word own text → list_any (λ key. bytes_eq key own) keys ≡ true
+    → option_copied r ≡ value_text earlier own → is_some r ≡ false → n ≡ number_of text → is_some n ≡ true
+    → None ≡ word_fault earlier place word
+no_fault earlier place word own text r n s h v t e good =
+    sym (new_key earlier place word own text r s h v t ∙ if_false (is_none (number_of text)) _ _
+    (ap not (sym (ap is_some e) ∙ good)))
 
 abbrev Words : Type 0
 Words = List (String Global)
 
-next_word : (words : Words) (i : ℕ) (w : String Global) → i < length words → w ≡ get_or words i w → texts (drop i words) ≡ string_bytes w ∷ texts (drop (i + 1) words)
-next_word words i w h e = rw add-one (ap texts (drop-cons words i w h) ∙ ap (λ (x : String Global). string_bytes x ∷ texts (drop (suc i) words)) (sym e))
+next_word : (words : Words) (i : ℕ) (w : String Global) → i < length words → w ≡ get_or words i w
+    → texts (drop i words) ≡ string_bytes w ∷ texts (drop (i + 1) words)
+next_word words i w h e = rw add-one (ap texts (drop-cons words i w h)
+    ∙ ap (λ (x : String Global). string_bytes x ∷ texts (drop (suc i) words)) (sym e))
 
-pub value_here : (words : Words) (i : ℕ) (w : String Global) (key own text : List ℕ) → i < length words → w ≡ get_or words i w → IsSplit (string_bytes w) own text → bytes_eq key own ≡ true
+pub value_here : (words : Words) (i : ℕ) (w : String Global) (key own text : List ℕ) → i < length words
+    → w ≡ get_or words i w → IsSplit (string_bytes w) own text → bytes_eq key own ≡ true
     → Some text ≡ value_text (texts (drop i words)) key
 unfolding value_text
 value_here words i w key own text h e s same =
-    rw (next_word words i w h e) (sym (ap (option_map (after_first (λ c. c == 61))) (if_true (has_key key (string_bytes w)) (Some (string_bytes w)) _ (has_key_split key (string_bytes w) own text s ∙ same)) ∙ ap Some s.valued))
+    rw (next_word words i w h e) (sym (ap (option_map (after_first (λ c. c == 61)))
+    (if_true (has_key key (string_bytes w)) (Some (string_bytes w)) _
+    (has_key_split key (string_bytes w) own text s ∙ same)) ∙ ap Some s.valued))
 
-passed : (words : Words) (i : ℕ) (w : String Global) (key : List ℕ) → i < length words → w ≡ get_or words i w → has_key key (string_bytes w) ≡ false
+passed : (words : Words) (i : ℕ) (w : String Global) (key : List ℕ) → i < length words → w ≡ get_or words i w
+    → has_key key (string_bytes w) ≡ false
     → value_text (texts (drop i words)) key ≡ value_text (texts (drop (i + 1) words)) key
 unfolding value_text
 passed words i w key h e other =
-    rw (next_word words i w h e) (ap (option_map (after_first (λ c. c == 61))) (if_false (has_key key (string_bytes w)) (Some (string_bytes w)) _ other))
+    rw (next_word words i w h e) (ap (option_map (after_first (λ c. c == 61)))
+    (if_false (has_key key (string_bytes w)) (Some (string_bytes w)) _ other))
 
-pub value_past : (words : Words) (i : ℕ) (w : String Global) (key own text : List ℕ) → i < length words → w ≡ get_or words i w → IsSplit (string_bytes w) own text → bytes_eq key own ≡ false
+pub value_past : (words : Words) (i : ℕ) (w : String Global) (key own text : List ℕ) → i < length words
+    → w ≡ get_or words i w → IsSplit (string_bytes w) own text → bytes_eq key own ≡ false
     → value_text (texts (drop i words)) key ≡ value_text (texts (drop (i + 1) words)) key
-value_past words i w key own text h e s other = passed words i w key h e (has_key_split key (string_bytes w) own text s ∙ other)
+value_past words i w key own text h e s other = passed words i w key h e
+    (has_key_split key (string_bytes w) own text s ∙ other)
 
-pub value_none : (words : Words) (i : ℕ) (w : String Global) (key : List ℕ) → i < length words → w ≡ get_or words i w → list_any (λ c. c == 61) (string_bytes w) ≡ false
+pub value_none : (words : Words) (i : ℕ) (w : String Global) (key : List ℕ) → i < length words → w ≡ get_or words i w
+    → list_any (λ c. c == 61) (string_bytes w) ≡ false
     → value_text (texts (drop i words)) key ≡ value_text (texts (drop (i + 1) words)) key
 value_none words i w key h e bare = passed words i w key h e (and_left _ _ bare)
 
@@ -99,17 +136,24 @@ pub value_end : (words : Words) (i : ℕ) (key : List ℕ) → length words ≤ 
 unfolding value_text
 value_end words i key h = rw (drop_of_length-le words h) refl
 
-pub given_some : (words : List (List ℕ)) (key : List ℕ) (r : Option (Bor (List ℕ))) (x : Bor (List ℕ)) → option_copied r ≡ value_text words key → r ≡ Some x → number_of x.now ≡ given words key
+pub given_some : (words : List (List ℕ)) (key : List ℕ) (r : Option (Bor (List ℕ))) (x : Bor (List ℕ))
+    → option_copied r ≡ value_text words key → r ≡ Some x → number_of x.now ≡ given words key
 unfolding given
 given_some words key r x v e = ap (option_and_then number_of) (sym (ap option_copied e) ∙ v)
 
-pub given_none : (words : List (List ℕ)) (key : List ℕ) (r : Option (Bor (List ℕ))) → option_copied r ≡ value_text words key → r ≡ None → None ≡ given words key
+pub given_none : (words : List (List ℕ)) (key : List ℕ) (r : Option (Bor (List ℕ)))
+    → option_copied r ≡ value_text words key → r ≡ None → None ≡ given words key
 unfolding given
 given_none words key r v e = ap (option_and_then number_of) (sym (ap option_copied e) ∙ v)
 
 -- what a split at the first separator gives
-pub split-is : (bs : List ℕ) (r : Option (Bor (List ℕ) × Bor (List ℕ))) → IsSplitOnceResult 61 bs r → MatchOption r (list_any (λ c. c == 61) bs ≡ false) (λ parts. IsSplit bs parts.0.now parts.1.now)
+pub split-is : (bs : List ℕ) (r : Option (Bor (List ℕ) × Bor (List ℕ))) → IsSplitOnceResult 61 bs r
+    → MatchOption r (list_any (λ c. c == 61) bs ≡ false) (λ parts. IsSplit bs parts.0.now parts.1.now)
 split-is bs None h = no_split bs None h refl
 split-is bs (Some x) h =
     let p = split_once_first 61 bs (Some x) h (omega arith) in
-    record { cut = any_before_end (λ c. c == 61) bs ∙ lt-ltb (position_or_len (λ c. c == 61) bs) (length bs) p.0; named = sym p.1; valued = sym p.2 }
+    record {
+      cut = any_before_end (λ c. c == 61) bs ∙ lt-ltb (position_or_len (λ c. c == 61) bs) (length bs) p.0;
+      named = sym p.1;
+      valued = sym p.2;
+    }

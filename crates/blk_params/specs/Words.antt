@@ -41,7 +41,8 @@ either None other = other
 -- the first faulty word among these, of which so many stand before
 unfoldable pub first_fault : List (List ℕ) → List (List ℕ) → Option ParamFault
 first_fault earlier [] = None
-first_fault earlier (word ∷ words) = either (word_fault earlier (length earlier) word) (first_fault (earlier ++ word ∷ []) words)
+first_fault earlier (word ∷ words) = either (word_fault earlier (length earlier) word)
+    (first_fault (earlier ++ word ∷ []) words)
 
 -- the text of the value that the words give a key, and the number
 unfoldable pub value_text : List (List ℕ) → List ℕ → Option (List ℕ)

@@ -24,7 +24,8 @@ fn first(faults: &[(bool, LayoutFault)]) -> Option<LayoutFault>
 }
 
 fn is_paged(p: &BlkParams) -> bool
-    ensures { result ≡ list_all (λ size. size % 4096 == 0) (p.now.total ∷ p.now.kmsg ∷ p.now.console ∷ p.now.pmsg ∷ []) }
+    ensures { result ≡ list_all (λ size. size % 4096 == 0)
+        (p.now.total ∷ p.now.kmsg ∷ p.now.console ∷ p.now.pmsg ∷ []) }
 {
     p.total % PAGE == 0 && p.kmsg % PAGE == 0 && p.console % PAGE == 0 && p.pmsg % PAGE == 0
 }
@@ -44,7 +45,8 @@ fn rings(p: &BlkParams) -> u64
 
 fn lacks_room(p: &BlkParams) -> bool
     requires { p.now.total ≤ 2 ^ 24 }
-    ensures { result ≡ (nat_lt p.now.total (p.now.pmsg + p.now.console) || (nat_lt 0 (dump_memory p.now) && nat_lt (dump_memory p.now) p.now.kmsg)) }
+    ensures { result ≡ (nat_lt p.now.total (p.now.pmsg + p.now.console)
+        || (nat_lt 0 (dump_memory p.now) && nat_lt (dump_memory p.now) p.now.kmsg)) }
 {
     let dumps = p.total.saturating_sub(rings(p));
     rings(p) > p.total || (dumps > 0 && dumps < p.kmsg)

@@ -13,7 +13,8 @@ const ZONE: u32 = 65536;
 
 // A word's key, and the text of its value.
 fn split(word: &str) -> Option<(&str, &str)>
-    ensures { MatchOption result (list_any (λ c. c == 61) word.now ≡ false) (λ parts. IsSplit word.now parts.0.now parts.1.now) }
+    ensures { MatchOption result (list_any (λ c. c == 61) word.now ≡ false)
+        (λ parts. IsSplit word.now parts.0.now parts.1.now) }
 {
     word.split_once('=')
 }

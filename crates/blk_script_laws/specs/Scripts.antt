@@ -26,24 +26,29 @@ before (Some operation) operations = operation ∷ operations
 unfoldable pub operations_from : BlkLayout → BlkRan → List Line → List Operation
 operations_from layout ran [] = []
 operations_from layout ran (line ∷ lines) =
-    before (operation_unless ran.refused ran.session.blk line) (operations_from layout (blk_next_line layout ran line) lines)
+    before (operation_unless ran.refused ran.session.blk line)
+    (operations_from layout (blk_next_line layout ran line) lines)
 
 abbrev pub script_operations : BlkLayout → List ℕ → List Line → List Operation
 script_operations layout store lines = operations_from layout (blk_started store) lines
 
 abbrev pub ScriptsAreSessions : Type 0
 ScriptsAreSessions =
-    (layout : BlkLayout) (store : List ℕ) (lines : List Line) → (blk_ran layout store lines).session ≡ session_run layout (begun store) (script_operations layout store lines)
+    (layout : BlkLayout) (store : List ℕ) (lines : List Line)
+    → (blk_ran layout store lines).session ≡ session_run layout (begun store) (script_operations layout store lines)
 
 -- one boot more, of which the listing and the contents then speak
 abbrev pub EveryBootListsReading : Type 0
 EveryBootListsReading =
     (layout : BlkLayout) (store : List ℕ) (lines : List Line) → (blk_ran layout store lines).refused ≡ None
-    → (blk_ran layout store (lines ++ Boot ∷ [])).session.blk ≡ Some (loaded layout (blk_ran layout store lines).session.store)
+    → (blk_ran layout store (lines ++ Boot ∷ [])).session.blk
+    ≡ Some (loaded layout (blk_ran layout store lines).session.store)
 
 abbrev pub WholeScriptListsTold : Type 0
 WholeScriptListsTold =
-    (layout : BlkLayout) (store : List ℕ) (lines : List Line) (ring : BlkRing) → IsLayout layout → layout.total ≤ length store
+    (layout : BlkLayout) (store : List ℕ) (lines : List Line) (ring : BlkRing) → IsLayout layout
+    → layout.total ≤ length store
     → is_whole (blk_ran layout store lines).session.blk ≡ true
     → (ring_of (loaded layout (blk_ran layout store lines).session.store) ring).saved
-    ≡ listed (last_items (capacity (ring_zone layout ring)) (told_of (told_run layout (begun store) untold (script_operations layout store lines)) ring))
+    ≡ listed (last_items (capacity (ring_zone layout ring))
+    (told_of (told_run layout (begun store) untold (script_operations layout store lines)) ring))

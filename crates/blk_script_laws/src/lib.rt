@@ -13,7 +13,8 @@ pub fn every_boot_lists_reading()
     ensures { EveryBootListsReading }
 {}
 
-/// Where no byte was dropped since the last boot, the next one lists of each ring the last bytes that the script's lines
+/// Where no byte was dropped since the last boot, the next one lists of each ring the last bytes that the script's
+/// lines
 /// told it since then, or since its erasure where that came later, as many as the ring holds.
 pub fn whole_script_lists_told()
     ensures { WholeScriptListsTold }

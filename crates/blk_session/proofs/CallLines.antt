@@ -22,53 +22,71 @@ use Rattle.blk_session.proofs.Operations.{line_fails}
 
 -- ---- which operation a line is
 
-pub write_is : (old : Option BlkState) (zone : ZoneName) (ring : BlkRing) (bytes payload : List ℕ) → Some ring ≡ ring_for zone.kind → payload ≡ bytes → operation_of old (Write zone bytes) ≡ Some (Append ring payload)
+pub write_is : (old : Option BlkState) (zone : ZoneName) (ring : BlkRing) (bytes payload : List ℕ)
+    → Some ring ≡ ring_for zone.kind → payload ≡ bytes → operation_of old (Write zone bytes)
+    ≡ Some (Append ring payload)
 unfolding operation_of
-write_is old zone ring bytes payload e same = ap (λ (r : Option BlkRing). Some (append_to r bytes)) (sym e) ∙ ap (λ (bs : List ℕ). Some (Append ring bs)) (sym same)
+write_is old zone ring bytes payload e same = ap (λ (r : Option BlkRing). Some (append_to r bytes)) (sym e)
+    ∙ ap (λ (bs : List ℕ). Some (Append ring bs)) (sym same)
 
-pub write_elsewhere_is : (old : Option BlkState) (zone : ZoneName) (bytes : List ℕ) → None ≡ ring_for zone.kind → operation_of old (Write zone bytes) ≡ Some AppendElsewhere
+pub write_elsewhere_is : (old : Option BlkState) (zone : ZoneName) (bytes : List ℕ) → None ≡ ring_for zone.kind
+    → operation_of old (Write zone bytes) ≡ Some AppendElsewhere
 unfolding operation_of
 write_elsewhere_is old zone bytes e = ap (λ (r : Option BlkRing). Some (append_to r bytes)) (sym e)
 
-pub kdump_is : (old : Option BlkState) (time : BlkTime) (packed : Bool) (number : ℕ) (reason : Reason) (bytes body : List ℕ) → reason ≡ reason_of number → body ≡ bytes → operation_of old (KDump time.secs time.nanos packed number bytes) ≡ Some (DumpNow time packed reason body)
+pub kdump_is : (old : Option BlkState) (time : BlkTime) (packed : Bool) (number : ℕ) (reason : Reason)
+    (bytes body : List ℕ) → reason ≡ reason_of number → body ≡ bytes
+    → operation_of old (KDump time.secs time.nanos packed number bytes) ≡ Some (DumpNow time packed reason body)
 unfolding operation_of
-kdump_is old time packed number reason bytes body e same = ap (λ (r : Reason). Some (DumpNow time packed r bytes)) (sym e) ∙ ap (λ (bs : List ℕ). Some (DumpNow time packed reason bs)) (sym same)
+kdump_is old time packed number reason bytes body e same =
+    ap (λ (r : Reason). Some (DumpNow time packed r bytes)) (sym e)
+    ∙ ap (λ (bs : List ℕ). Some (DumpNow time packed reason bs)) (sym same)
 
-pub erase_is : (old : Option BlkState) (text : List ℕ) (name : Option BlkName) → name ≡ blk_named old text → operation_of old (Erase text) ≡ Some (EraseRecord name)
+pub erase_is : (old : Option BlkState) (text : List ℕ) (name : Option BlkName) → name ≡ blk_named old text
+    → operation_of old (Erase text) ≡ Some (EraseRecord name)
 unfolding operation_of
 erase_is old text name e = ap (λ (n : Option BlkName). Some (EraseRecord n)) (sym e)
 
 -- ---- lines
 
-pub write_refused : (b : BlkState) (zone : ZoneName) (bytes : List ℕ) (store : Option (List ℕ)) (faults : ℕ) → None ≡ ring_for zone.kind
+pub write_refused : (b : BlkState) (zone : ZoneName) (bytes : List ℕ) (store : Option (List ℕ)) (faults : ℕ)
+    → None ≡ ring_for zone.kind
     → LineFails (Refused NoZone) b.layout (Some b) (Write zone bytes) store store faults faults
 unfolding cause_of session_after
 write_refused b zone bytes store faults e =
-    line_fails b.layout (Some b) (Write zone bytes) AppendElsewhere (write_elsewhere_is (Some b) zone bytes e) (Refused NoZone) store store faults faults (refl, λ store. refl)
+    line_fails b.layout (Some b) (Write zone bytes) AppendElsewhere (write_elsewhere_is (Some b) zone bytes e)
+    (Refused NoZone) store store faults faults (refl, λ store. refl)
 
-pub erase_refused : (b : BlkState) (text : List ℕ) (store : Option (List ℕ)) (faults : ℕ) → None ≡ blk_named (Some b) text
+pub erase_refused : (b : BlkState) (text : List ℕ) (store : Option (List ℕ)) (faults : ℕ)
+    → None ≡ blk_named (Some b) text
     → LineFails (Refused NoRecord) b.layout (Some b) (Erase text) store store faults faults
 unfolding cause_of session_after
 erase_refused b text store faults e =
-    line_fails b.layout (Some b) (Erase text) (EraseRecord None) (erase_is (Some b) text None e) (Refused NoRecord) store store faults faults (refl, λ store. refl)
+    line_fails b.layout (Some b) (Erase text) (EraseRecord None) (erase_is (Some b) text None e) (Refused NoRecord)
+    store store faults faults (refl, λ store. refl)
 
-pub cut_done : (b new : BlkState) (limit : ℕ) (store : Option (List ℕ)) → new ≡ cut_after b limit → LineDone b.layout (Some b) (CutAfter limit) (Some new) [] store store
+pub cut_done : (b new : BlkState) (limit : ℕ) (store : Option (List ℕ)) → new ≡ cut_after b limit
+    → LineDone b.layout (Some b) (CutAfter limit) (Some new) [] store store
 unfolding blk_line_done operation_of cause_of session_after
 cut_done b new limit store e bytes told = record { after = bytes; holds = told; done = rw e refl }
 
 -- ---- a loading
 
-loads : (layout : BlkLayout) (old : Option BlkState) (bytes : List ℕ) → IfSome old (λ b. b.layout ≡ layout) → blk_line_done layout (record { store = bytes; blk = old }) Boot ≡ Ok (record { session = load_session layout bytes; text = [] })
+loads : (layout : BlkLayout) (old : Option BlkState) (bytes : List ℕ) → IfSome old (λ b. b.layout ≡ layout)
+    → blk_line_done layout (record { store = bytes; blk = old }) Boot
+    ≡ Ok (record { session = load_session layout bytes; text = [] })
 unfolding blk_line_done operation_of cause_of session_after
 loads layout None bytes h = refl
 loads layout (Some b) bytes h = rw h refl
 
-load_line : (layout : BlkLayout) (old : Option BlkState) → IfSome old (λ b. b.layout ≡ layout) → line_writes layout old Boot ≡ load_writes layout
+load_line : (layout : BlkLayout) (old : Option BlkState) → IfSome old (λ b. b.layout ≡ layout)
+    → line_writes layout old Boot ≡ load_writes layout
 unfolding operation_of
 load_line layout None h = refl
 load_line layout (Some b) h = rw h refl
 
-pub load_done : (layout : BlkLayout) (b : BlkState) (before now : Option (List ℕ)) → Loads (Ok b) layout before now → (old : Option BlkState) → IfSome old (λ b. b.layout ≡ layout) → LineDone layout old Boot (Some b) [] before now
+pub load_done : (layout : BlkLayout) (b : BlkState) (before now : Option (List ℕ)) → Loads (Ok b) layout before now
+    → (old : Option BlkState) → IfSome old (λ b. b.layout ≡ layout) → LineDone layout old Boot (Some b) [] before now
 load_done layout b before now l old h bytes told =
     let same : b ≡ loaded layout bytes = rw told at l.1 in
     record {
@@ -77,10 +95,16 @@ load_done layout b before now l old h bytes told =
       done = loads layout old bytes h ∙ rw same refl;
     }
 
-pub load_fails : (layout : BlkLayout) (fault : BlkFault) (before now : Option (List ℕ)) (faults later : ℕ) → Loads (Err fault) layout before now → (fault ≡ StoreFaultThere → Rose faults later)
-    → (old : Option BlkState) → IfSome old (λ b. b.layout ≡ layout) → LineFails (error_of fault) layout old Boot before now faults later
+pub load_fails : (layout : BlkLayout) (fault : BlkFault) (before now : Option (List ℕ)) (faults later : ℕ)
+    → Loads (Err fault) layout before now → (fault ≡ StoreFaultThere → Rose faults later)
+    → (old : Option BlkState) → IfSome old (λ b. b.layout ≡ layout)
+    → LineFails (error_of fault) layout old Boot before now faults later
 load_fails layout NoZoneThere before now faults later l rose old h = absurd l
 load_fails layout NoRecordThere before now faults later l rose old h = absurd l
 load_fails layout MemoryThere before now faults later l rose old h = l
-load_fails layout StoreFaultThere before now faults later l rose old h =
-    (rose refl, rw (load_line layout old h) l, λ bytes. record { wants = record { session = load_session layout bytes; text = [] }; is = loads layout old bytes h })
+load_fails layout StoreFaultThere before now faults later l rose old h = (
+  rose refl,
+  rw (load_line layout old h) l,
+  λ bytes. record
+      { wants = record { session = load_session layout bytes; text = [] }; is = loads layout old bytes h },
+)

@@ -17,7 +17,8 @@ same_name (Dump index packed) = rw (eq-eqb index index refl, flag_same packed) r
 same_name Console = refl
 same_name Pmsg = refl
 
-found_any : (text : List ℕ) (names : List BlkName) (name : BlkName) → find (λ (n : BlkName). bytes_eq (name_text n) text) names ≡ Some name → list_any (is_name name) names ≡ true
+found_any : (text : List ℕ) (names : List BlkName) (name : BlkName)
+    → find (λ (n : BlkName). bytes_eq (name_text n) text) names ≡ Some name → list_any (is_name name) names ≡ true
 found_any text [] name e = cc
 found_any text (n ∷ names) name e = by-test (bytes_eq (name_text n) text) e (found_any text names name)
   where
@@ -26,9 +27,11 @@ found_any text (n ∷ names) name e = by-test (bytes_eq (name_text n) text) e (f
     or-true false = refl
 
     by-test : (b : Bool) → (if b then Some n else find (λ (m : BlkName). bytes_eq (name_text m) text) names) ≡ Some name
-        → (find (λ (m : BlkName). bytes_eq (name_text m) text) names ≡ Some name → list_any (is_name name) names ≡ true) → (is_name name n || list_any (is_name name) names) ≡ true
+        → (find (λ (m : BlkName). bytes_eq (name_text m) text) names ≡ Some name
+        → list_any (is_name name) names ≡ true) → (is_name name n || list_any (is_name name) names) ≡ true
     by-test true f rest = let same : n ≡ name = cc in rw (same, same_name name) refl
     by-test false f rest = rw (rest f) (or-true (is_name name n))
 
-pub named_listed : (b : BlkState) (text : List ℕ) (name : BlkName) → blk_named (Some b) text ≡ Some name → is_listed b name ≡ true
+pub named_listed : (b : BlkState) (text : List ℕ) (name : BlkName) → blk_named (Some b) text ≡ Some name
+    → is_listed b name ≡ true
 named_listed b text name e = found_any text (names_of b) name e

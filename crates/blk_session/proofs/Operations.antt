@@ -26,53 +26,77 @@ use Rattle.blk_session.proofs.Writes.{front-reached}
 -- ---- calls
 
 -- an operation is a call with these writes, refused for this cause or done, that puts nothing
-pub record IsCallOf (b : BlkState) (operation : Operation) (refusal : Option BlkFault) (ws : List StoreWrite) (next : BlkState) : Type 0 where
+pub record IsCallOf (b : BlkState) (operation : Operation) (refusal : Option BlkFault) (ws : List StoreWrite)
+    (next : BlkState) : Type 0 where
   pub cause : cause_loaded b operation ≡ cause_for refusal
   pub done : (store : List ℕ) → done_loaded store b operation ≡ called store b ws next
   pub writes : writes_loaded b operation ≡ reaching b.cut ws
   pub silent : put_loaded b operation ≡ []
 
-pub append_call : (b : BlkState) (ring : BlkRing) (payload : List ℕ) → IsCallOf b (Append ring payload) (append_refusal b ring) (append_of b ring payload) (appended b ring payload)
+pub append_call : (b : BlkState) (ring : BlkRing) (payload : List ℕ)
+    → IsCallOf b (Append ring payload) (append_refusal b ring) (append_of b ring payload) (appended b ring payload)
 append_call b ring payload = record { cause = refl; done = λ store. refl; writes = refl; silent = refl }
 
-pub dump_call : (b : BlkState) (time : BlkTime) (packed : Bool) (reason : Reason) (body : List ℕ) → IsCallOf b (DumpNow time packed reason body) (dump_refusal b) (dump_of b time packed reason body) (dumped b reason)
+pub dump_call : (b : BlkState) (time : BlkTime) (packed : Bool) (reason : Reason) (body : List ℕ)
+    → IsCallOf b (DumpNow time packed reason body) (dump_refusal b) (dump_of b time packed reason body)
+    (dumped b reason)
 dump_call b time packed reason body = record { cause = refl; done = λ store. refl; writes = refl; silent = refl }
 
-unlisted : (listed : Bool) → (if listed then None else Some NoRecordSession) ≡ cause_for (if listed then None else Some NoRecordThere)
+unlisted : (listed : Bool) → (if listed then None else Some NoRecordSession)
+    ≡ cause_for (if listed then None else Some NoRecordThere)
 unlisted true = refl
 unlisted false = refl
 
-pub erase_call : (b : BlkState) (name : BlkName) → IsCallOf b (EraseRecord (Some name)) (erase_refusal b name) (erase_of b name) (erased b name)
+pub erase_call : (b : BlkState) (name : BlkName) → IsCallOf b (EraseRecord (Some name)) (erase_refusal b name)
+    (erase_of b name) (erased b name)
 erase_call b name = record { cause = unlisted (is_listed b name); done = λ store. refl; writes = refl; silent = refl }
 
-module _ (b : BlkState) (operation : Operation) (refusal : Option BlkFault) (ws : List StoreWrite) (next : BlkState) (is : IsCallOf b operation refusal ws next) where
+module _ (b : BlkState) (operation : Operation) (refusal : Option BlkFault) (ws : List StoreWrite) (next : BlkState)
+    (is : IsCallOf b operation refusal ws next) where
   performed : (store : List ℕ) → performs b.layout (record { store = store; blk = Some b }) operation
-      ≡ done_unless (cause_for refusal) (record { session = unless_refused (cause_for refusal) (called store b ws next) (record { store = store; blk = Some b }); text = [] })
+      ≡ done_unless (cause_for refusal) (record {
+        session = unless_refused (cause_for refusal)
+            (called store b ws next) (record { store = store; blk = Some b });
+        text = [];
+      })
   unfolding cause_of session_after
   performed store = rw (is.cause, is.done store, is.silent) refl
 
-  pub call_done : (new : BlkState) (before now : Option (List ℕ)) → Answers (Ok tt) refusal ws next b new before now → OperationDone b.layout (Some b) operation (Some new) [] before now
+  pub call_done : (new : BlkState) (before now : Option (List ℕ)) → Answers (Ok tt) refusal ws next b new before now
+      → OperationDone b.layout (Some b) operation (Some new) [] before now
   call_done new before now a bytes told =
       let after = after_writes (reaching b.cut ws) bytes in
-      let same : new ≡ record next { cut = spent (bytes_in ws) b.cut } = a.2 ∙ ap (λ (c : BlkCut). record next { cut = c }) a.1.cut in
+      let same : new ≡ record next { cut = spent (bytes_in ws) b.cut } =
+      a.2 ∙ ap (λ (c : BlkCut). record next { cut = c }) a.1.cut in
       record {
         after = after;
         holds = a.1.store ∙ ap (store_after (reaching b.cut ws)) told;
-        done = performed bytes ∙ rw a.0 (ap (λ (n : BlkState). Ok (record { session = record { store = after; blk = Some n }; text = [] })) (sym same));
+        done = performed bytes ∙ rw a.0 (ap (λ (n : BlkState). Ok
+            (record { session = record { store = after; blk = Some n }; text = [] })) (sym same));
       }
 
-  pub call_fails : (fault : BlkFault) (new : BlkState) (before now : Option (List ℕ)) (faults later : ℕ) → Answers (Err fault) refusal ws next b new before now → (fault ≡ StoreFaultThere → Rose faults later)
+  pub call_fails : (fault : BlkFault) (new : BlkState) (before now : Option (List ℕ)) (faults later : ℕ)
+      → Answers (Err fault) refusal ws next b new before now → (fault ≡ StoreFaultThere → Rose faults later)
       → OperationFails (error_of fault) b.layout (Some b) operation before now faults later
   call_fails NoZoneThere new before now faults later a rose = (a.2, λ bytes. performed bytes ∙ rw a.0 refl)
   call_fails NoRecordThere new before now faults later a rose = (a.2, λ bytes. performed bytes ∙ rw a.0 refl)
   call_fails MemoryThere new before now faults later a rose = a.2
-  call_fails StoreFaultThere new before now faults later a rose =
-      (rose refl, rw is.writes (front-reached b.cut new.cut ws before now a.1), λ bytes. record { wants = record { session = called bytes b ws next; text = [] }; is = performed bytes ∙ rw a.0 refl })
+  call_fails StoreFaultThere new before now faults later a rose = (
+    rose refl,
+    rw is.writes (front-reached b.cut new.cut ws before now a.1),
+    λ bytes. record {
+      wants = record { session = called bytes b ws next; text = [] };
+      is = performed bytes
+          ∙ rw a.0 refl;
+    },
+  )
 
 -- ---- lines
 
 -- a line does what its operation does
-pub as_operation : (layout : BlkLayout) (session : Session) (line : Line) (operation : Operation) → operation_of session.blk line ≡ Some operation → blk_line_done layout session line ≡ performs layout session operation
+pub as_operation : (layout : BlkLayout) (session : Session) (line : Line) (operation : Operation)
+    → operation_of session.blk line ≡ Some operation → blk_line_done layout session line
+    ≡ performs layout session operation
 unfolding blk_line_done operation_of
 as_operation layout session Blank operation e = cc
 as_operation layout session (Write zone bytes) operation e = ap (performs_if layout session) e
@@ -92,20 +116,34 @@ as_operation layout session (Erase name) operation e = ap (performs_if layout se
 as_operation layout session (KDump secs nanos packed reason bytes) operation e = ap (performs_if layout session) e
 as_operation layout session (CutAfter k) operation e = ap (performs_if layout session) e
 
-module _ (layout : BlkLayout) (old : Option BlkState) (line : Line) (operation : Operation) (is : operation_of old line ≡ Some operation) where
-  line_is : (bytes : List ℕ) → blk_line_done layout (record { store = bytes; blk = old }) line ≡ performs layout (record { store = bytes; blk = old }) operation
+module _ (layout : BlkLayout) (old : Option BlkState) (line : Line) (operation : Operation)
+    (is : operation_of old line ≡ Some operation) where
+  line_is : (bytes : List ℕ) → blk_line_done layout (record { store = bytes; blk = old }) line
+      ≡ performs layout (record { store = bytes; blk = old }) operation
   line_is bytes = as_operation layout (record { store = bytes; blk = old }) line operation is
 
-  pub line_done : (new : Option BlkState) (text : Text) (before now : Option (List ℕ)) → OperationDone layout old operation new text before now → LineDone layout old line new text before now
-  line_done new text before now h bytes told = let d = h bytes told in record { after = d.after; holds = d.holds; done = line_is bytes ∙ d.done }
+  pub line_done : (new : Option BlkState) (text : Text) (before now : Option (List ℕ))
+      → OperationDone layout old operation new text before now → LineDone layout old line new text before now
+  line_done new text before now h bytes told = let d = h bytes told in
+      record { after = d.after; holds = d.holds; done = line_is bytes ∙ d.done }
 
-  pub line_fails : (error : LineError) (before now : Option (List ℕ)) (faults later : ℕ) → OperationFails error layout old operation before now faults later → LineFails error layout old line before now faults later
+  pub line_fails : (error : LineError) (before now : Option (List ℕ)) (faults later : ℕ)
+      → OperationFails error layout old operation before now faults later
+      → LineFails error layout old line before now faults later
   line_fails Memory before now faults later h = h
-  line_fails StoreFault before now faults later h = (h.0, rw is h.1, λ bytes. let w = h.2 bytes in record { wants = w.wants; is = line_is bytes ∙ w.is })
+  line_fails StoreFault before now faults later h = (
+    h.0,
+    rw is h.1,
+    λ bytes. let w = h.2 bytes in
+        record { wants = w.wants; is = line_is bytes ∙ w.is },
+  )
   line_fails (Refused cause) before now faults later h = (h.0, λ bytes. line_is bytes ∙ h.1 bytes)
 
-  pub line_ends : (result : Result Unit LineError) (new : Option BlkState) (before now : Option (List ℕ)) (faults later : ℕ)
-      → MatchResult result (λ _. OperationDone layout old operation new [] before now) (λ e. OperationFails e layout old operation before now faults later)
-      → MatchResult result (λ _. LineDone layout old line new [] before now) (λ e. LineFails e layout old line before now faults later)
+  pub line_ends : (result : Result Unit LineError) (new : Option BlkState) (before now : Option (List ℕ))
+      (faults later : ℕ)
+      → MatchResult result (λ _. OperationDone layout old operation new [] before now)
+      (λ e. OperationFails e layout old operation before now faults later)
+      → MatchResult result (λ _. LineDone layout old line new [] before now)
+      (λ e. LineFails e layout old line before now faults later)
   line_ends (Ok done) new before now faults later h = line_done new [] before now h
   line_ends (Err error) new before now faults later h = line_fails error before now faults later h

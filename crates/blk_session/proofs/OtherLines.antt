@@ -22,41 +22,61 @@ use Rattle.blk_session.specs.Lines.{LineDone, LineFails, IsExtract}
 use Rattle.blk_session.proofs.Operations.{line_done, line_fails}
 use Rattle.blk_session.proofs.Named.{named_listed}
 
-pub blank_done : (layout : BlkLayout) (old : Option BlkState) (store : Option (List ℕ)) → LineDone layout old Blank old [] store store
+pub blank_done : (layout : BlkLayout) (old : Option BlkState) (store : Option (List ℕ))
+    → LineDone layout old Blank old [] store store
 unfolding blk_line_done
 blank_done layout old store bytes told = record { after = bytes; holds = told; done = refl }
 
-pub list_done : (b : BlkState) (text : List ℕ) (store : Option (List ℕ)) → text ≡ blk_listing b → LineDone b.layout (Some b) ListLine (Some b) text store store
+pub list_done : (b : BlkState) (text : List ℕ) (store : Option (List ℕ)) → text ≡ blk_listing b
+    → LineDone b.layout (Some b) ListLine (Some b) text store store
 unfolding blk_line_done operation_of cause_of session_after
 list_done b text store e bytes told = record { after = bytes; holds = told; done = rw e refl }
 
 -- ---- the text of a record
 
-extract_is : (old : Option BlkState) (text : List ℕ) (name : Option BlkName) → name ≡ blk_named old text → operation_of old (Extract text) ≡ Some (ExtractRecord name)
+extract_is : (old : Option BlkState) (text : List ℕ) (name : Option BlkName) → name ≡ blk_named old text
+    → operation_of old (Extract text) ≡ Some (ExtractRecord name)
 unfolding operation_of
 extract_is old text name e = ap (λ (n : Option BlkName). Some (ExtractRecord n)) (sym e)
 
-extracts : (b : BlkState) (name : BlkName) (bytes : List ℕ) → is_listed b name ≡ true → performs b.layout (record { store = bytes; blk = Some b }) (ExtractRecord (Some name)) ≡ Ok (record { session = record { store = bytes; blk = Some b }; text = blk_extract_text b name })
+extracts : (b : BlkState) (name : BlkName) (bytes : List ℕ) → is_listed b name ≡ true
+    → performs b.layout (record { store = bytes; blk = Some b }) (ExtractRecord (Some name))
+    ≡ Ok (record { session = record { store = bytes; blk = Some b }; text = blk_extract_text b name })
 unfolding cause_of session_after
 extracts b name bytes e = rw e refl
 
-pub extract_done : (b : BlkState) (name text : List ℕ) (store : Option (List ℕ)) → option_map (blk_extract_text b) (blk_named (Some b) name) ≡ Some text → LineDone b.layout (Some b) (Extract name) (Some b) text store store
+pub extract_done : (b : BlkState) (name text : List ℕ) (store : Option (List ℕ))
+    → option_map (blk_extract_text b) (blk_named (Some b) name) ≡ Some text
+    → LineDone b.layout (Some b) (Extract name) (Some b) text store store
 extract_done b name text store h = of-named (blk_named (Some b) name) refl h
   where
-    of-named : (found : Option BlkName) → found ≡ blk_named (Some b) name → option_map (blk_extract_text b) found ≡ Some text → LineDone b.layout (Some b) (Extract name) (Some b) text store store
+    of-named : (found : Option BlkName) → found ≡ blk_named (Some b) name
+        → option_map (blk_extract_text b) found ≡ Some text
+        → LineDone b.layout (Some b) (Extract name) (Some b) text store store
     of-named None e m = cc
     of-named (Some n) e m =
         let told : blk_extract_text b n ≡ text = cc in
-        line_done b.layout (Some b) (Extract name) (ExtractRecord (Some n)) (extract_is (Some b) name (Some n) e) (Some b) text store store
-        (λ bytes held. record { after = bytes; holds = held; done = extracts b n bytes (named_listed b name n (sym e)) ∙ ap (λ (t : List ℕ). Ok (record { session = record { store = bytes; blk = Some b }; text = t })) told })
+        line_done b.layout (Some b) (Extract name) (ExtractRecord (Some n)) (extract_is (Some b) name (Some n) e)
+        (Some b) text store store
+        (λ bytes held. record {
+          after = bytes;
+          holds = held;
+          done = extracts b n bytes (named_listed b name n (sym e))
+              ∙ ap (λ (t : List ℕ). Ok (record { session = record { store = bytes; blk = Some b }; text = t })) told;
+        })
 
-pub extract_refused : (b : BlkState) (name : List ℕ) (cause : Cause) (store : Option (List ℕ)) (faults : ℕ) → (cause ≡ NoRecord) × (blk_named (Some b) name ≡ None) → LineFails (Refused cause) b.layout (Some b) (Extract name) store store faults faults
+pub extract_refused : (b : BlkState) (name : List ℕ) (cause : Cause) (store : Option (List ℕ)) (faults : ℕ)
+    → (cause ≡ NoRecord) × (blk_named (Some b) name ≡ None)
+    → LineFails (Refused cause) b.layout (Some b) (Extract name) store store faults faults
 unfolding cause_of session_after
 extract_refused b name cause store faults h =
-    line_fails b.layout (Some b) (Extract name) (ExtractRecord None) (extract_is (Some b) name None (sym h.1)) (Refused cause) store store faults faults (refl, λ bytes. rw h.0 refl)
+    line_fails b.layout (Some b) (Extract name) (ExtractRecord None) (extract_is (Some b) name None (sym h.1))
+    (Refused cause) store store faults faults (refl, λ bytes. rw h.0 refl)
 
-pub extract_ends : (result : Result (Vec ℕ) LineError) (b : BlkState) (name : List ℕ) (store : Option (List ℕ)) (faults : ℕ) → IsExtract b name result
-    → MatchResult result (λ text. LineDone b.layout (Some b) (Extract name) (Some b) text.items store store) (λ e. LineFails e b.layout (Some b) (Extract name) store store faults faults)
+pub extract_ends : (result : Result (Vec ℕ) LineError) (b : BlkState) (name : List ℕ) (store : Option (List ℕ))
+    (faults : ℕ) → IsExtract b name result
+    → MatchResult result (λ text. LineDone b.layout (Some b) (Extract name) (Some b) text.items store store)
+    (λ e. LineFails e b.layout (Some b) (Extract name) store store faults faults)
 extract_ends (Ok text) b name store faults h = extract_done b name text.items store h
 extract_ends (Err Memory) b name store faults h = refl
 extract_ends (Err StoreFault) b name store faults h = absurd h
@@ -85,12 +105,14 @@ IsElsewhere (Flip a m) = ⊤
 IsElsewhere (BootPart n) = ⊤
 IsElsewhere other = ⊥
 
-append_waits : (layout : BlkLayout) (bytes payload : List ℕ) (ring : Option BlkRing) → performs layout (record { store = bytes; blk = None }) (append_to ring payload) ≡ Err IsOff
+append_waits : (layout : BlkLayout) (bytes payload : List ℕ) (ring : Option BlkRing)
+    → performs layout (record { store = bytes; blk = None }) (append_to ring payload) ≡ Err IsOff
 unfolding cause_of
 append_waits layout bytes payload None = refl
 append_waits layout bytes payload (Some ring) = refl
 
-pub waits_line : (layout : BlkLayout) (bytes : List ℕ) (line : Line) → WaitsForLoad line → blk_line_done layout (record { store = bytes; blk = None }) line ≡ Err IsOff
+pub waits_line : (layout : BlkLayout) (bytes : List ℕ) (line : Line) → WaitsForLoad line
+    → blk_line_done layout (record { store = bytes; blk = None }) line ≡ Err IsOff
 unfolding blk_line_done operation_of cause_of
 waits_line layout bytes (Write z b) h = append_waits layout bytes b (ring_for z.kind)
 waits_line layout bytes (KDump a n k r b) h = refl
@@ -110,7 +132,8 @@ waits_line layout bytes (Flip a m) h = absurd h
 waits_line layout bytes Boot h = absurd h
 waits_line layout bytes (BootPart n) h = absurd h
 
-elsewhere_line : (layout : BlkLayout) (session : Session) (line : Line) → IsElsewhere line → blk_line_done layout session line ≡ Err NotHere
+elsewhere_line : (layout : BlkLayout) (session : Session) (line : Line) → IsElsewhere line
+    → blk_line_done layout session line ≡ Err NotHere
 unfolding blk_line_done operation_of
 elsewhere_line layout session (Dump t k b) h = refl
 elsewhere_line layout session (BeginWrite z b) h = refl
@@ -130,12 +153,19 @@ elsewhere_line layout session (Extract b) h = absurd h
 elsewhere_line layout session (Erase b) h = absurd h
 elsewhere_line layout session Boot h = absurd h
 
-pub elsewhere : (layout : BlkLayout) (old : Option BlkState) (line : Line) (store : Option (List ℕ)) (faults : ℕ) → IsElsewhere line → LineFails (Refused NotHere) layout old line store store faults faults
-elsewhere layout old line store faults h = (refl, λ bytes. elsewhere_line layout (record { store = bytes; blk = old }) line h)
+pub elsewhere : (layout : BlkLayout) (old : Option BlkState) (line : Line) (store : Option (List ℕ)) (faults : ℕ)
+    → IsElsewhere line → LineFails (Refused NotHere) layout old line store store faults faults
+elsewhere layout old line store faults h = (
+  refl,
+  λ bytes. elsewhere_line layout (record { store = bytes; blk = old })
+      line h,
+)
 
 -- a line that is none of the block store's
-pub is_elsewhere : (line : Line) → line ≢ Blank → ((z : ZoneName) (b : List ℕ) → line ≢ Write z b) → line ≢ Boot → line ≢ ListLine → ((b : List ℕ) → line ≢ Extract b) → ((b : List ℕ) → line ≢ Erase b)
-    → ((a n : ℕ) (k : Bool) (r : ℕ) (b : List ℕ) → line ≢ KDump a n k r b) → ((n : ℕ) → line ≢ CutAfter n) → IsElsewhere line
+pub is_elsewhere : (line : Line) → line ≢ Blank → ((z : ZoneName) (b : List ℕ) → line ≢ Write z b) → line ≢ Boot
+    → line ≢ ListLine → ((b : List ℕ) → line ≢ Extract b) → ((b : List ℕ) → line ≢ Erase b)
+    → ((a n : ℕ) (k : Bool) (r : ℕ) (b : List ℕ) → line ≢ KDump a n k r b) → ((n : ℕ) → line ≢ CutAfter n)
+    → IsElsewhere line
 is_elsewhere (Dump t k b) p q r s t1 t2 t3 t4 = tt
 is_elsewhere (BeginWrite z b) p q r s t1 t2 t3 t4 = tt
 is_elsewhere (BeginErase z) p q r s t1 t2 t3 t4 = tt
@@ -156,6 +186,7 @@ is_elsewhere (CutAfter n) p q r s t1 t2 t3 t4 = absurd (t4 n refl)
 
 -- ---- a dump's time
 
-pub kdump_fields : (secs nanos : ℕ) (packed : Bool) (reason : ℕ) (bytes : List ℕ) → HasFields (KDump secs nanos packed reason bytes) → (secs < 2 ^ 63) × (nanos < 1000000000)
+pub kdump_fields : (secs nanos : ℕ) (packed : Bool) (reason : ℕ) (bytes : List ℕ)
+    → HasFields (KDump secs nanos packed reason bytes) → (secs < 2 ^ 63) × (nanos < 1000000000)
 unfolding HasFields
 kdump_fields secs nanos packed reason bytes h = (h.0, h.1)

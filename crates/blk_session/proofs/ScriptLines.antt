@@ -22,33 +22,44 @@ use Rattle.blk_session.specs.Playing.{Seen, Puts, LineStops, PlayStop, Plays, Is
 
 -- ---- texts only grow
 
-line_extends : (r : BlkRan) (c : Option Cause) (next : Result BlkDone Cause) → Extends r.texts (blk_ran_on r c next).texts
+line_extends : (r : BlkRan) (c : Option Cause) (next : Result BlkDone Cause)
+    → Extends r.texts (blk_ran_on r c next).texts
 line_extends r (Some c) next = extends_self r.texts
 line_extends r None (Ok d) = record { more = d.text ∷ []; is = refl }
 line_extends r None (Err c) = extends_self r.texts
 
-fold_extends : (layout : BlkLayout) (lines : List Line) (r : BlkRan) → Extends r.texts (fold (blk_next_line layout) r lines).texts
+fold_extends : (layout : BlkLayout) (lines : List Line) (r : BlkRan)
+    → Extends r.texts (fold (blk_next_line layout) r lines).texts
 fold_extends layout [] r = extends_self r.texts
 fold_extends layout (line ∷ lines) r =
-    extends_on r.texts (blk_next_line layout r line).texts (fold (blk_next_line layout) (blk_next_line layout r line) lines).texts (line_extends r r.refused (blk_line_done layout r.session line)) (fold_extends layout lines (blk_next_line layout r line))
+    extends_on r.texts (blk_next_line layout r line).texts
+    (fold (blk_next_line layout) (blk_next_line layout r line) lines).texts
+    (line_extends r r.refused (blk_line_done layout r.session line))
+    (fold_extends layout lines (blk_next_line layout r line))
 
-take_extends : (layout : BlkLayout) (lines : List Line) (k : ℕ) (r : BlkRan) → Extends (fold (blk_next_line layout) r (take k lines)).texts (fold (blk_next_line layout) r lines).texts
+take_extends : (layout : BlkLayout) (lines : List Line) (k : ℕ) (r : BlkRan)
+    → Extends (fold (blk_next_line layout) r (take k lines)).texts (fold (blk_next_line layout) r lines).texts
 take_extends layout lines zero r = fold_extends layout lines r
 take_extends layout [] (suc k) r = extends_self r.texts
 take_extends layout (line ∷ lines) (suc k) r = take_extends layout lines k (blk_next_line layout r line)
 
-extends_ran : (layout : BlkLayout) (bytes : List ℕ) (lines : List Line) (k : ℕ) → Extends (blk_ran layout bytes (take k lines)).texts (blk_ran layout bytes lines).texts
+extends_ran : (layout : BlkLayout) (bytes : List ℕ) (lines : List Line) (k : ℕ)
+    → Extends (blk_ran layout bytes (take k lines)).texts (blk_ran layout bytes lines).texts
 extends_ran layout bytes lines k = take_extends layout lines k (blk_started bytes)
 
-prefix_front : (layout : BlkLayout) (bytes : List ℕ) (lines : List Line) (k : ℕ) → front (blk_ran layout bytes lines).texts (length (blk_ran layout bytes (take k lines)).texts) ≡ whole (blk_ran layout bytes (take k lines)).texts
-prefix_front layout bytes lines k = front_of (blk_ran layout bytes (take k lines)).texts (blk_ran layout bytes lines).texts (extends_ran layout bytes lines k)
+prefix_front : (layout : BlkLayout) (bytes : List ℕ) (lines : List Line) (k : ℕ)
+    → front (blk_ran layout bytes lines).texts (length (blk_ran layout bytes (take k lines)).texts)
+    ≡ whole (blk_ran layout bytes (take k lines)).texts
+prefix_front layout bytes lines k = front_of (blk_ran layout bytes (take k lines)).texts
+    (blk_ran layout bytes lines).texts (extends_ran layout bytes lines k)
 
 -- the texts of some first lines are no more than all
 no_more : (short long : List Text) → Extends short long → length short ≤ length long
 no_more short long h = rw h.is (omega (arith, length-append short h.more))
 
 -- a text that others follow is found at its place
-text_at : (texts : List Text) (text : Text) (long : List Text) (i : ℕ) → length texts ≡ i → Extends (texts ++ text ∷ []) long → slice_get long i ≡ Some text
+text_at : (texts : List Text) (text : Text) (long : List Text) (i : ℕ) → length texts ≡ i
+    → Extends (texts ++ text ∷ []) long → slice_get long i ≡ Some text
 text_at texts text long i e h = rw (h.is, ← e) (behind texts h.more)
   where
     behind : (texts more : List Text) → slice_get ((texts ++ text ∷ []) ++ more) (length texts) ≡ Some text
@@ -57,14 +68,17 @@ text_at texts text long i e h = rw (h.is, ← e) (behind texts h.more)
 
 -- ---- one line more
 
-on_done : (r : BlkRan) (c : Option Cause) (next : Result BlkDone Cause) (d : BlkDone) → c ≡ None → next ≡ Ok d → blk_ran_on r c next ≡ record { session = d.session; texts = r.texts ++ d.text ∷ []; refused = None }
+on_done : (r : BlkRan) (c : Option Cause) (next : Result BlkDone Cause) (d : BlkDone) → c ≡ None → next ≡ Ok d
+    → blk_ran_on r c next ≡ record { session = d.session; texts = r.texts ++ d.text ∷ []; refused = None }
 on_done r c next d e h = rw (e, h) refl
 
-on_refused : (r : BlkRan) (c : Option Cause) (next : Result BlkDone Cause) (cause : Cause) → c ≡ None → next ≡ Err cause → blk_ran_on r c next ≡ record r { refused = Some cause }
+on_refused : (r : BlkRan) (c : Option Cause) (next : Result BlkDone Cause) (cause : Cause) → c ≡ None
+    → next ≡ Err cause → blk_ran_on r c next ≡ record r { refused = Some cause }
 on_refused r c next cause e h = rw (e, h) refl
 
 -- the first i lines were done
-pub record PlaysTo (layout : BlkLayout) (bytes : List ℕ) (lines : List Line) (i : ℕ) (blk : Option BlkState) (a b : Seen) : Type 0 where
+pub record PlaysTo (layout : BlkLayout) (bytes : List ℕ) (lines : List Line) (i : ℕ) (blk : Option BlkState)
+    (a b : Seen) : Type 0 where
   pub store : List ℕ
   pub holds : b.holds ≡ Some store
   pub session : (blk_ran layout bytes (take i lines)).session ≡ record { store = store; blk = blk }
@@ -76,100 +90,137 @@ abbrev pub PlaysSoFar : BlkLayout → List Line → ℕ → Option BlkState → 
 PlaysSoFar layout lines i blk a b = (bytes : List ℕ) → a.holds ≡ Some bytes → PlaysTo layout bytes lines i blk a b
 
 pub plays_none : (layout : BlkLayout) (lines : List Line) (a : Seen) → PlaysSoFar layout lines 0 None a a
-plays_none layout lines a bytes told = record { store = bytes; holds = told; session = refl; none = refl; count = refl; texts = nothing_put a.given }
+plays_none layout lines a bytes told = record {
+  store = bytes;
+  holds = told;
+  session = refl;
+  none = refl;
+  count = refl;
+  texts = nothing_put a.given;
+}
 
-module _ (layout : BlkLayout) (bytes : List ℕ) (lines : List Line) (i : ℕ) (line : Line) (below : i < length lines) (is : line ≡ get_or lines i line) (blk : Option BlkState) (a b : Seen) (p : PlaysTo layout bytes lines i blk a b) where
-  abbrev so_far : BlkRan
-  so_far = blk_ran layout bytes (take i lines)
+module _ (layout : BlkLayout) (bytes : List ℕ) (lines : List Line) (i : ℕ) (line : Line) (below : i < length lines)
+    (is : line ≡ get_or lines i line) (blk : Option BlkState) (a b : Seen) (p : PlaysTo layout bytes lines i blk a b)
+  where
+    abbrev so_far : BlkRan
+    so_far = blk_ran layout bytes (take i lines)
 
-  -- a line that is done is the next of the script
-  done_at : (d : BlkDone) → blk_line_done layout (record { store = p.store; blk = blk }) line ≡ Ok d → blk_ran layout bytes (take (i + 1) lines) ≡ record { session = d.session; texts = so_far.texts ++ d.text ∷ []; refused = None }
-  done_at d g =
-      let now : blk_next_line layout so_far (get_or lines i line) ≡ record { session = d.session; texts = so_far.texts ++ d.text ∷ []; refused = None } =
-      rw (← is) (on_done so_far so_far.refused (blk_line_done layout so_far.session line) d p.none (rw p.session g)) in
-      fold_more (blk_next_line layout) (blk_started bytes) lines i line below ∙ now
+    -- a line that is done is the next of the script
+    done_at : (d : BlkDone) → blk_line_done layout (record { store = p.store; blk = blk }) line ≡ Ok d
+        → blk_ran layout bytes (take (i + 1) lines) ≡ record {
+          session = d.session;
+          texts = so_far.texts ++ d.text ∷ [];
+          refused = None;
+        }
+    done_at d g =
+        let now : blk_next_line layout so_far (get_or lines i line)
+        ≡ record { session = d.session; texts = so_far.texts ++ d.text ∷ []; refused = None } =
+        rw (← is) (on_done so_far so_far.refused (blk_line_done layout so_far.session line) d p.none (rw p.session g))
+        in
+        fold_more (blk_next_line layout) (blk_started bytes) lines i line below ∙ now
 
-  -- a line that is refused ends the script
-  refused_at : (cause : Cause) → blk_line_done layout (record { store = p.store; blk = blk }) line ≡ Err cause → blk_ran layout bytes lines ≡ record so_far { refused = Some cause }
-  refused_at cause g =
-      let now : blk_next_line layout so_far (get_or lines i line) ≡ record so_far { refused = Some cause } =
-      rw (← is) (on_refused so_far so_far.refused (blk_line_done layout so_far.session line) cause p.none (rw p.session g)) in
-      sym (fold_stuck (blk_next_line layout) (record so_far { refused = Some cause }) (λ x. refl) (blk_started bytes) lines i line below now)
+    -- a line that is refused ends the script
+    refused_at : (cause : Cause) → blk_line_done layout (record { store = p.store; blk = blk }) line ≡ Err cause
+        → blk_ran layout bytes lines ≡ record so_far { refused = Some cause }
+    refused_at cause g =
+        let now : blk_next_line layout so_far (get_or lines i line) ≡ record so_far { refused = Some cause } =
+        rw (← is) (on_refused so_far so_far.refused (blk_line_done layout so_far.session line) cause p.none
+        (rw p.session g)) in
+        sym (fold_stuck (blk_next_line layout) (record so_far { refused = Some cause }) (λ x. refl) (blk_started bytes)
+        lines i line below now)
 
-  -- how many texts there are behind a line that is done
-  one_more : (d : BlkDone) → blk_line_done layout (record { store = p.store; blk = blk }) line ≡ Ok d → length (blk_ran layout bytes (take (i + 1) lines)).texts ≡ i + 1
-  one_more d g = rw (done_at d g) (omega (arith, length-append so_far.texts (d.text ∷ []), p.count))
+    -- how many texts there are behind a line that is done
+    one_more : (d : BlkDone) → blk_line_done layout (record { store = p.store; blk = blk }) line ≡ Ok d
+        → length (blk_ran layout bytes (take (i + 1) lines)).texts ≡ i + 1
+    one_more d g = rw (done_at d g) (omega (arith, length-append so_far.texts (d.text ∷ []), p.count))
 
-  pub on_next : (next : Option BlkState) (c : Seen) → Puts layout blk line next b c → PlaysTo layout bytes lines (i + 1) next a c
-  on_next next c puts =
-      let l = puts.done p.store p.holds in
-      let d : BlkDone = record { session = record { store = l.after; blk = next }; text = puts.text } in
-      let e = done_at d l.done in
-      record {
-        store = l.after;
-        holds = l.holds;
-        session = rw e refl;
-        none = rw e refl;
-        count = one_more d l.done;
-        texts = rw (e, whole_more so_far.texts puts.text) (appends_on a.given b.given c.given (whole so_far.texts) puts.text p.texts puts.put);
-      }
+    pub on_next : (next : Option BlkState) (c : Seen) → Puts layout blk line next b c
+        → PlaysTo layout bytes lines (i + 1) next a c
+    on_next next c puts =
+        let l = puts.done p.store p.holds in
+        let d : BlkDone = record { session = record { store = l.after; blk = next }; text = puts.text } in
+        let e = done_at d l.done in
+        record {
+          store = l.after;
+          holds = l.holds;
+          session = rw e refl;
+          none = rw e refl;
+          count = one_more d l.done;
+          texts = rw (e, whole_more so_far.texts puts.text) (appends_on a.given b.given c.given (whole so_far.texts)
+              puts.text p.texts puts.put);
+        }
 
-  -- the line is found at its place
-  line_at : slice_get lines i ≡ Some line
-  line_at = slice_get_read lines (length lines) i line refl below is
+    -- the line is found at its place
+    line_at : slice_get lines i ≡ Some line
+    line_at = slice_get_read lines (length lines) i line refl below is
 
-  pub on_stop : (stop : Stop) (c : Seen) → LineStops stop layout blk line (i + 1) b c → PlayStop stop layout bytes lines a c
-  on_stop Memory c h =
-      record {
-        count = i;
-        texts = rw (h.0, ← p.count, prefix_front layout bytes lines i) p.texts;
-        holds = h.1 ∙ p.holds ∙ ap (λ (s : Session). Some s.store) (sym p.session);
-      }
-  on_stop ImageFault c h =
-      let w = h.1.2 p.store in
-      record {
-        count = i;
-        line = line;
-        next = line_at;
-        wanted = omega (arith, one_more w.wants w.is, no_more (blk_ran layout bytes (take (i + 1) lines)).texts (blk_ran layout bytes lines).texts (extends_ran layout bytes lines (i + 1)));
-        texts = rw (h.0, ← p.count, prefix_front layout bytes lines i) p.texts;
-        holds = rw (p.session, ← p.holds) h.1.1;
-      }
-  on_stop SinkFault c h =
-      let l = h.1.done p.store p.holds in
-      let d : BlkDone = record { session = record { store = l.after; blk = h.1.new }; text = h.1.text } in
-      let e = done_at d l.done in
-      record {
-        count = i;
-        text = h.1.text;
-        next = text_at so_far.texts h.1.text (blk_ran layout bytes lines).texts i p.count (rw (ap (λ (r : BlkRan). r.texts) e) at (extends_ran layout bytes lines (i + 1)));
-        part = h.1.put.count;
-        texts = rw (← p.count, prefix_front layout bytes lines i) (appends_on a.given b.given c.given (whole so_far.texts) (take h.1.put.count h.1.text) p.texts h.1.put.bytes);
-        holds = l.holds ∙ ap (λ (r : BlkRan). Some r.session.store) (sym e);
-      }
-  on_stop (Refused n cause) c h =
-      let e = refused_at cause (h.2.1 p.store) in
-      record {
-        end = rw (e, h.0, p.count) refl;
-        texts = rw (e, h.1) p.texts;
-        holds = h.2.0 ∙ p.holds ∙ ap (λ (s : Session). Some s.store) (sym p.session) ∙ ap (λ (r : BlkRan). Some r.session.store) (sym e);
-      }
-  on_stop Usage c h = absurd h
-  on_stop (Param x y) c h = absurd h
-  on_stop (Layout x) c h = absurd h
-  on_stop (Short x y) c h = absurd h
-  on_stop ScriptFault c h = absurd h
-  on_stop TooLong c h = absurd h
-  on_stop (BadLine x) c h = absurd h
+    pub on_stop : (stop : Stop) (c : Seen) → LineStops stop layout blk line (i + 1) b c
+        → PlayStop stop layout bytes lines a c
+    on_stop Memory c h =
+        record {
+          count = i;
+          texts = rw (h.0, ← p.count, prefix_front layout bytes lines i) p.texts;
+          holds = h.1 ∙ p.holds ∙ ap (λ (s : Session). Some s.store) (sym p.session);
+        }
+    on_stop ImageFault c h =
+        let w = h.1.2 p.store in
+        record {
+          count = i;
+          line = line;
+          next = line_at;
+          wanted = omega (
+            arith,
+            one_more w.wants w.is,
+            no_more (blk_ran layout bytes (take (i + 1) lines)).texts
+                (blk_ran layout bytes lines).texts (extends_ran layout bytes lines (i + 1)),
+          );
+          texts = rw (h.0, ← p.count, prefix_front layout bytes lines i) p.texts;
+          holds = rw (p.session, ← p.holds) h.1.1;
+        }
+    on_stop SinkFault c h =
+        let l = h.1.done p.store p.holds in
+        let d : BlkDone = record { session = record { store = l.after; blk = h.1.new }; text = h.1.text } in
+        let e = done_at d l.done in
+        record {
+          count = i;
+          text = h.1.text;
+          next = text_at so_far.texts h.1.text (blk_ran layout bytes lines).texts i p.count
+              (rw (ap (λ (r : BlkRan). r.texts) e) at (extends_ran layout bytes lines (i + 1)));
+          part = h.1.put.count;
+          texts = rw (← p.count, prefix_front layout bytes lines i)
+              (appends_on a.given b.given c.given (whole so_far.texts) (take h.1.put.count h.1.text)
+              p.texts h.1.put.bytes);
+          holds = l.holds ∙ ap (λ (r : BlkRan). Some r.session.store) (sym e);
+        }
+    on_stop (Refused n cause) c h =
+        let e = refused_at cause (h.2.1 p.store) in
+        record {
+          end = rw (e, h.0, p.count) refl;
+          texts = rw (e, h.1) p.texts;
+          holds = h.2.0 ∙ p.holds ∙ ap (λ (s : Session). Some s.store) (sym p.session)
+              ∙ ap (λ (r : BlkRan). Some r.session.store) (sym e);
+        }
+    on_stop Usage c h = absurd h
+    on_stop (Param x y) c h = absurd h
+    on_stop (Layout x) c h = absurd h
+    on_stop (Short x y) c h = absurd h
+    on_stop ScriptFault c h = absurd h
+    on_stop TooLong c h = absurd h
+    on_stop (BadLine x) c h = absurd h
 
-module _ (layout : BlkLayout) (lines : List Line) (i : ℕ) (line : Line) (below : i < length lines) (is : line ≡ get_or lines i line) (blk : Option BlkState) (a b : Seen) (so_far : PlaysSoFar layout lines i blk a b) where
-  pub plays_next : (next : Option BlkState) (c : Seen) → Puts layout blk line next b c → PlaysSoFar layout lines (i + 1) next a c
+module _ (layout : BlkLayout) (lines : List Line) (i : ℕ) (line : Line) (below : i < length lines)
+    (is : line ≡ get_or lines i line) (blk : Option BlkState) (a b : Seen)
+    (so_far : PlaysSoFar layout lines i blk a b) where
+  pub plays_next : (next : Option BlkState) (c : Seen) → Puts layout blk line next b c
+      → PlaysSoFar layout lines (i + 1) next a c
   plays_next next c puts bytes told = on_next layout bytes lines i line below is blk a b (so_far bytes told) next c puts
 
-  pub plays_stop : (stop : Stop) (c : Seen) → LineStops stop layout blk line (i + 1) b c → Plays (Err stop) layout lines a c
+  pub plays_stop : (stop : Stop) (c : Seen) → LineStops stop layout blk line (i + 1) b c
+      → Plays (Err stop) layout lines a c
   plays_stop stop c h bytes told = on_stop layout bytes lines i line below is blk a b (so_far bytes told) stop c h
 
-pub plays_all : (layout : BlkLayout) (lines : List Line) (i : ℕ) (blk : Option BlkState) (a b : Seen) → length lines ≤ i → PlaysSoFar layout lines i blk a b → Plays (Ok tt) layout lines a b
+pub plays_all : (layout : BlkLayout) (lines : List Line) (i : ℕ) (blk : Option BlkState) (a b : Seen)
+    → length lines ≤ i → PlaysSoFar layout lines i blk a b → Plays (Ok tt) layout lines a b
 plays_all layout lines i blk a b all so_far bytes told =
     let p : PlaysTo layout bytes lines i blk a b = so_far bytes told in
     let same : take i lines ≡ lines = take_all i lines all in
@@ -180,7 +231,9 @@ plays_all layout lines i blk a b all so_far bytes told =
     }
 
 -- a stop's cause, whether the store tells its bytes or not
-pub stop_caused : (stop : Stop) (layout : BlkLayout) (blk : Option BlkState) (line : Line) (number : ℕ) (a b c : Seen) → a.store_faults ≤ b.store_faults → a.sink_faults ≤ b.sink_faults → LineStops stop layout blk line number b c → IsCaused (Err stop) a c
+pub stop_caused : (stop : Stop) (layout : BlkLayout) (blk : Option BlkState) (line : Line) (number : ℕ) (a b c : Seen)
+    → a.store_faults ≤ b.store_faults → a.sink_faults ≤ b.sink_faults → LineStops stop layout blk line number b c
+    → IsCaused (Err stop) a c
 stop_caused Memory layout blk line number a b c s o h = tt
 stop_caused ImageFault layout blk line number a b c s o h = omega (arith, s, h.1.0)
 stop_caused SinkFault layout blk line number a b c s o h = omega (arith, o, h.0)

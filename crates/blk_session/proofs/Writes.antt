@@ -14,9 +14,12 @@ unfolding first_bytes
 first-first k m [] h = refl
 first-first k m (w ∷ ws) h =
     let cut : k - length (take m w.bytes) ≡ k - length w.bytes = omega (arith, length-take m w.bytes) in
-    ap (λ (bs : List ℕ). record { at = w.at; bytes = bs } ∷ first_bytes (k - length (take m w.bytes)) (first_bytes (m - length w.bytes) ws)) (take-take k m w.bytes h)
-    ∙ ap (λ (n : ℕ). record { at = w.at; bytes = take k w.bytes } ∷ first_bytes n (first_bytes (m - length w.bytes) ws)) cut
-    ∙ ap (λ (vs : List Write). record { at = w.at; bytes = take k w.bytes } ∷ vs) (first-first (k - length w.bytes) (m - length w.bytes) ws (omega arith))
+    ap (λ (bs : List ℕ). record { at = w.at; bytes = bs } ∷ first_bytes (k - length (take m w.bytes))
+    (first_bytes (m - length w.bytes) ws)) (take-take k m w.bytes h)
+    ∙ ap (λ (n : ℕ). record { at = w.at; bytes = take k w.bytes } ∷ first_bytes n
+    (first_bytes (m - length w.bytes) ws)) cut
+    ∙ ap (λ (vs : List Write). record { at = w.at; bytes = take k w.bytes } ∷ vs)
+    (first-first (k - length w.bytes) (m - length w.bytes) ws (omega arith))
 
 bytes-first : (m : ℕ) (ws : List Write) → bytes_in (first_bytes m ws) ≡ min m (bytes_in ws)
 unfolding bytes_in first_bytes
@@ -29,11 +32,14 @@ through-all (After limit) n m h = omega arith
 through-all Dropped n m h = omega arith
 
 -- what a failed call wrote is a front of what reaches the store
-pub front-reached : (c d : BlkCut) (ws : List Write) (before now : Option (List ℕ)) → FailsWithin ws c d before now → HasFront (reaching c ws) before now
+pub front-reached : (c d : BlkCut) (ws : List Write) (before now : Option (List ℕ)) → FailsWithin ws c d before now
+    → HasFront (reaching c ws) before now
 front-reached c d ws before now f =
-    let most : f.kept ≤ through c (bytes_in ws) = omega (arith, f.fewer, through-all c f.tried (bytes_in ws) f.within) in
+    let most : f.kept ≤ through c (bytes_in ws) = omega (arith, f.fewer, through-all c f.tried (bytes_in ws) f.within)
+    in
     record {
       kept = f.kept;
       within = omega (arith, most, bytes-first (through c (bytes_in ws)) ws, through-within c (bytes_in ws));
-      store = f.store ∙ ap (λ (vs : List Write). store_after vs before) (sym (first-first f.kept (through c (bytes_in ws)) ws most));
+      store = f.store ∙ ap (λ (vs : List Write). store_after vs before)
+          (sym (first-first f.kept (through c (bytes_in ws)) ws most));
     }

@@ -19,15 +19,18 @@ use Rattle.blk_session.specs.declared.errors.LineError.{LineError}
 use Rattle.blk_session.specs.declared.errors.LineError.TheVariants.{Memory, StoreFault, Refused}
 
 -- what is wanted was done: the store then holds its bytes, and this is loaded and put
-pub record IsDone (wanted : Result BlkDone Cause) (new : Option BlkState) (text : Text) (now : Option (List ℕ)) : Type 0 where
+pub record IsDone (wanted : Result BlkDone Cause) (new : Option BlkState) (text : Text)
+    (now : Option (List ℕ)) : Type 0 where
   pub after : List ℕ
   pub holds : now ≡ Some after
   pub done : wanted ≡ Ok (record { session = record { store = after; blk = new }; text = text })
 
 -- a line was done, on the bytes that the store told before
-abbrev pub LineDone : BlkLayout → Option BlkState → Line → Option BlkState → Text → Option (List ℕ) → Option (List ℕ) → Type 0
+abbrev pub LineDone : BlkLayout → Option BlkState → Line → Option BlkState → Text → Option (List ℕ) → Option (List ℕ)
+    → Type 0
 LineDone layout old line new text before now =
-    (bytes : List ℕ) → before ≡ Some bytes → IsDone (blk_line_done layout (record { store = bytes; blk = old }) line) new text now
+    (bytes : List ℕ) → before ≡ Some bytes → IsDone (blk_line_done layout (record { store = bytes; blk = old }) line)
+    new text now
 
 -- what is wanted is not refused
 pub record IsWanted (wanted : Result BlkDone Cause) : Type 0 where
@@ -36,7 +39,8 @@ pub record IsWanted (wanted : Result BlkDone Cause) : Type 0 where
 
 -- why a line was not done: a refused one and one without memory leave the store, and where it failed within the line it
 -- has some first bytes of what the line writes
-abbrev pub LineFails : LineError → BlkLayout → Option BlkState → Line → Option (List ℕ) → Option (List ℕ) → ℕ → ℕ → Type 0
+abbrev pub LineFails : LineError → BlkLayout → Option BlkState → Line → Option (List ℕ) → Option (List ℕ) → ℕ → ℕ
+    → Type 0
 LineFails Memory layout old line before now faults faults' = now ≡ before
 LineFails StoreFault layout old line before now faults faults' =
     Rose faults faults' × HasFront (line_writes layout old line) before now
@@ -45,11 +49,14 @@ LineFails (Refused cause) layout old line before now faults faults' =
     (now ≡ before) × ((bytes : List ℕ) → blk_line_done layout (record { store = bytes; blk = old }) line ≡ Err cause)
 
 -- the same of an operation of the session
-abbrev pub OperationDone : BlkLayout → Option BlkState → Operation → Option BlkState → Text → Option (List ℕ) → Option (List ℕ) → Type 0
+abbrev pub OperationDone : BlkLayout → Option BlkState → Operation → Option BlkState → Text → Option (List ℕ)
+    → Option (List ℕ) → Type 0
 OperationDone layout old operation new text before now =
-    (bytes : List ℕ) → before ≡ Some bytes → IsDone (performs layout (record { store = bytes; blk = old }) operation) new text now
+    (bytes : List ℕ) → before ≡ Some bytes → IsDone (performs layout (record { store = bytes; blk = old }) operation)
+    new text now
 
-abbrev pub OperationFails : LineError → BlkLayout → Option BlkState → Operation → Option (List ℕ) → Option (List ℕ) → ℕ → ℕ → Type 0
+abbrev pub OperationFails : LineError → BlkLayout → Option BlkState → Operation → Option (List ℕ) → Option (List ℕ)
+    → ℕ → ℕ → Type 0
 OperationFails Memory layout old operation before now faults faults' = now ≡ before
 OperationFails StoreFault layout old operation before now faults faults' =
     Rose faults faults' × HasFront (writes_by layout old operation) before now

@@ -29,7 +29,8 @@ seen holds g given h = record { holds = holds; store_faults = g; given = given; 
 -- ---- one line
 
 -- a line was done and its text put, whole or in part
-pub record Puts (layout : BlkLayout) (old : Option BlkState) (line : Line) (new : Option BlkState) (a b : Seen) : Type 0 where
+pub record Puts (layout : BlkLayout) (old : Option BlkState) (line : Line) (new : Option BlkState)
+    (a b : Seen) : Type 0 where
   pub text : Text
   pub done : LineDone layout old line new text a.holds b.holds
   pub put : Appends a.given b.given text
@@ -47,7 +48,8 @@ LineStops ImageFault layout old line number a b =
     (b.given ≡ a.given) × LineFails StoreFaultThere layout old line a.holds b.holds a.store_faults b.store_faults
 LineStops SinkFault layout old line number a b = Rose a.sink_faults b.sink_faults × PutsPart layout old line a b
 LineStops (Refused n cause) layout old line number a b =
-    (n ≡ number) × (b.given ≡ a.given) × LineFails (RefusedThere cause) layout old line a.holds b.holds a.store_faults b.store_faults
+    (n ≡ number) × (b.given ≡ a.given) × LineFails (RefusedThere cause)
+    layout old line a.holds b.holds a.store_faults b.store_faults
 LineStops stop layout old line number a b = ⊥
 
 -- ---- all lines
@@ -81,10 +83,12 @@ pub record PlaysWritten (layout : BlkLayout) (bytes : List ℕ) (lines : List Li
   pub next : slice_get lines count ≡ Some line
   pub wanted : count < length (blk_ran layout bytes lines).texts
   pub texts : Appends a.given b.given (front (blk_ran layout bytes lines).texts count)
-  pub holds : HasFront (line_writes layout (blk_ran layout bytes (take count lines)).session.blk line) (Some (blk_ran layout bytes (take count lines)).session.store) b.holds
+  pub holds : HasFront (line_writes layout (blk_ran layout bytes (take count lines)).session.blk line)
+      (Some (blk_ran layout bytes (take count lines)).session.store) b.holds
 
 -- a line was refused: the texts of those before it were put, and the store holds what these leave
-pub record PlaysRefused (layout : BlkLayout) (bytes : List ℕ) (lines : List Line) (stop : Stop) (a b : Seen) : Type 0 where
+pub record PlaysRefused (layout : BlkLayout) (bytes : List ℕ) (lines : List Line) (stop : Stop)
+    (a b : Seen) : Type 0 where
   pub end : script_end (length (blk_ran layout bytes lines).texts) (blk_ran layout bytes lines).refused ≡ Err stop
   pub texts : Appends a.given b.given (whole (blk_ran layout bytes lines).texts)
   pub holds : b.holds ≡ Some (blk_ran layout bytes lines).session.store

@@ -27,7 +27,8 @@ pub record FailsWithin (ws : List Write) (old_cut new_cut : BlkCut) (old new : O
 
 -- the answer of a call with these writes: refused for this cause where there is one; else done, and then `next`
 -- stands but for its cut; or the store failed, and nothing but the cut is changed
-abbrev pub Answers : Result Unit BlkFault → Option BlkFault → List Write → BlkState → BlkState → BlkState → Option (List ℕ) → Option (List ℕ) → Type 0
+abbrev pub Answers : Result Unit BlkFault → Option BlkFault → List Write → BlkState → BlkState → BlkState
+    → Option (List ℕ) → Option (List ℕ) → Type 0
 Answers (Ok done) refusal ws next old new before now =
     (refusal ≡ None) × Makes ws old.cut new.cut before now × (new ≡ record next { cut = new.cut })
 Answers (Err StoreFault) refusal ws next old new before now =

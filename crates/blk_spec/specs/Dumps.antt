@@ -47,6 +47,7 @@ dump_writes z time packed counter reason body =
     let kept = body_kept z body in
     record {
       at = z.at;
-      bytes = header_bytes z.sig (record { size = 40 + length kept; start = 0 }) ++ dump_header time packed counter (reason_number reason)
+      bytes = header_bytes z.sig (record { size = 40 + length kept; start = 0 }) ++ dump_header time packed counter
+          (reason_number reason)
           ++ kept ++ replicate (z.size - (52 + length kept)) 0;
     } ∷ []

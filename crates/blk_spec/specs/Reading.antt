@@ -50,7 +50,10 @@ saved_ring z bytes =
 abbrev pub dump_seen : ℕ → Words → List ℕ → BlkDump
 dump_seen index words bytes = record {
   index = index;
-  time = record { secs = from_le_bytes w64 (slice_range bytes 8 16); nanos = from_le_bytes w64 (slice_range bytes 16 24) };
+  time = record {
+    secs = from_le_bytes w64 (slice_range bytes 8 16);
+    nanos = from_le_bytes w64 (slice_range bytes 16 24);
+  };
   packed = not (slice_index bytes 24 == 0);
   counter = from_le_bytes w32 (slice_range bytes 28 32);
   reason = from_le_bytes w32 (slice_range bytes 32 36);
@@ -61,7 +64,8 @@ dump_seen index words bytes = record {
 abbrev pub is_dump : Words → List ℕ → Bool
 is_dump words bytes =
     nat_le 40 words.size && (from_le_bytes w32 (slice_range bytes 0 4) == 0x4dfc3ae5)
-    && nat_lt (from_le_bytes w64 (slice_range bytes 8 16)) (2 ^ 63) && nat_lt (from_le_bytes w64 (slice_range bytes 16 24)) 1000000000
+    && nat_lt (from_le_bytes w64 (slice_range bytes 8 16)) (2 ^ 63) && nat_lt
+    (from_le_bytes w64 (slice_range bytes 16 24)) 1000000000
 
 unfoldable pub listed_dump : ℕ → BlkZone → List ℕ → Option BlkDump
 listed_dump index z bytes =
@@ -80,7 +84,8 @@ dumps_listed l store = flat_map (λ index. option_to_list (dump_listed l store i
 
 -- the greatest counter of the dumps with a reason, or 0
 unfoldable pub greatest_counter : ℕ → List BlkDump → ℕ
-greatest_counter reason dumps = fold (λ most (d : BlkDump). if d.reason == reason then max most d.counter else most) 0 dumps
+greatest_counter reason dumps = fold (λ most (d : BlkDump). if d.reason == reason then max most d.counter else most)
+    0 dumps
 
 abbrev pub counters_of : List BlkDump → Counters
 counters_of dumps = record { panics = greatest_counter 1 dumps; oopses = greatest_counter 2 dumps }

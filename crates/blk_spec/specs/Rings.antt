@@ -28,7 +28,10 @@ first_run z words n = min n (capacity z - words.start)
 
 -- the words behind the first run, and behind the bytes that go on from place 0
 abbrev pub first_words : BlkZone → BlkWords → ℕ → BlkWords
-first_words z words n = record { size = words.start + first_run z words n; start = (words.start + first_run z words n) % capacity z }
+first_words z words n = record {
+  size = words.start + first_run z words n;
+  start = (words.start + first_run z words n) % capacity z;
+}
 
 abbrev pub run_words : BlkZone → BlkWords → ℕ → BlkWords
 run_words z words n =
@@ -37,10 +40,12 @@ run_words z words n =
 
 -- whether the ring is full and its last header says less
 abbrev pub is_short : BlkZone → BlkWords → ℕ → Bool
-is_short z words n = not ((run_words z words n).size == capacity z) && ((words.size == capacity z) || nat_lt (first_run z words n) n)
+is_short z words n = not ((run_words z words n).size == capacity z) &&
+    ((words.size == capacity z) || nat_lt (first_run z words n) n)
 
 abbrev pub last_words : BlkZone → BlkWords → ℕ → BlkWords
-last_words z words n = if is_short z words n then record { size = capacity z; start = (run_words z words n).start } else run_words z words n
+last_words z words n = if is_short z words n then record { size = capacity z; start = (run_words z words n).start }
+    else run_words z words n
 
 -- the writes of at least one byte and at most as many as the ring holds
 unfoldable pub kept_writes : BlkZone → BlkWords → List ℕ → List Write
@@ -53,8 +58,10 @@ kept_writes z words bytes =
 
 -- the writes of an append: of its last bytes where it has more than the ring holds
 unfoldable pub append_writes : BlkZone → BlkWords → List ℕ → List Write
-append_writes z words payload = if length payload == 0 then [] else kept_writes z words (last_items (capacity z) payload)
+append_writes z words payload = if length payload == 0 then [] else kept_writes z words
+    (last_items (capacity z) payload)
 
 -- the ring's words afterwards
 unfoldable pub words_after : BlkZone → BlkWords → List ℕ → BlkWords
-words_after z words payload = if length payload == 0 then words else last_words z words (min (length payload) (capacity z))
+words_after z words payload = if length payload == 0 then words else last_words z words
+    (min (length payload) (capacity z))

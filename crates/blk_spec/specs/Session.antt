@@ -78,7 +78,8 @@ erase_named store b (Some name) = called store b (erase_of b name) (erased b nam
 abbrev pub done_loaded : List ℕ → BlkState → Operation → Session
 done_loaded store b Load = load_session b.layout store
 done_loaded store b (Append ring payload) = called store b (append_of b ring payload) (appended b ring payload)
-done_loaded store b (Dump time packed reason body) = called store b (dump_of b time packed reason body) (dumped b reason)
+done_loaded store b (Dump time packed reason body) = called store b (dump_of b time packed reason body)
+    (dumped b reason)
 done_loaded store b (CutAfter limit) = record { store = store; blk = Some (cut_after b limit) }
 done_loaded store b (Erase name) = erase_named store b name
 done_loaded store b other = record { store = store; blk = Some b }

@@ -72,14 +72,18 @@ append_of b ring payload = append_writes (ring_zone b.layout ring) (ring_of b ri
 
 abbrev pub appended : BlkState → BlkRing → List ℕ → BlkState
 appended b ring payload =
-    with_ring b ring (record { words = words_after (ring_zone b.layout ring) (ring_of b ring).words payload; saved = (ring_of b ring).saved })
+    with_ring b ring (record {
+      words = words_after (ring_zone b.layout ring) (ring_of b ring).words payload;
+      saved = (ring_of b ring).saved;
+    })
 
 -- a dump goes to the cursor's zone
 abbrev pub dump_refusal : BlkState → Option BlkFault
 dump_refusal b = if b.layout.dumps == 0 then Some NoZone else None
 
 abbrev pub dump_of : BlkState → BlkTime → Bool → Reason → List ℕ → List Write
-dump_of b time packed reason body = dump_writes (dump_zone b.layout b.cursor) time packed (counter_for reason b.counters) reason body
+dump_of b time packed reason body = dump_writes (dump_zone b.layout b.cursor) time packed
+    (counter_for reason b.counters) reason body
 
 abbrev pub dumped : BlkState → Reason → BlkState
 dumped b reason = record b { cursor = (b.cursor + 1) % b.layout.dumps; counters = counted reason b.counters }
@@ -97,7 +101,8 @@ is_listed b name = list_any (is_name name) (names_of b)
 
 -- the content of a listed record
 unfoldable pub content_of : BlkState → BlkName → Option (List ℕ)
-content_of b (Dump index packed) = option_map dump_content (find (λ (d : BlkDump). is_name (Dump index packed) (dump_name d)) b.dumps)
+content_of b (Dump index packed) = option_map dump_content
+    (find (λ (d : BlkDump). is_name (Dump index packed) (dump_name d)) b.dumps)
 content_of b Console = b.console.saved
 content_of b Pmsg = b.pmsg.saved
 
@@ -121,7 +126,10 @@ abbrev pub empty_ring : RingState
 empty_ring = record { words = empty_words; saved = None }
 
 abbrev pub erased : BlkState → BlkName → BlkState
-erased b (Dump index packed) = record b { dumps = filter (λ (d : BlkDump). not (is_name (Dump index packed) (dump_name d))) b.dumps }
+erased b (Dump index packed) = record b {
+  dumps = filter
+      (λ (d : BlkDump). not (is_name (Dump index packed) (dump_name d))) b.dumps;
+}
 erased b Console = record b { console = empty_ring }
 erased b Pmsg = record b { pmsg = empty_ring }
 

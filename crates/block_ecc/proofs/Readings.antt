@@ -24,8 +24,10 @@ take-front : (xs ys : List ℕ) → take (length xs) (xs ++ ys) ≡ xs
 take-front [] ys = refl
 take-front (x ∷ xs) ys = ap (λ (l : List ℕ). x ∷ l) (take-front xs ys)
 
-pub data-none : (r : ℕ) (xs par : List ℕ) → r ≡ 0 → xs ≡ take (length xs) (unwrap_or (nearest r (xs ++ par)) (xs ++ par))
-data-none r xs par e = sym (ap (λ (o : Option (List ℕ)). take (length xs) (unwrap_or o (xs ++ par))) (nearest-none r (xs ++ par) e) ∙ take-front xs par)
+pub data-none : (r : ℕ) (xs par : List ℕ) → r ≡ 0 → xs
+    ≡ take (length xs) (unwrap_or (nearest r (xs ++ par)) (xs ++ par))
+data-none r xs par e = sym (ap (λ (o : Option (List ℕ)). take (length xs) (unwrap_or o (xs ++ par)))
+    (nearest-none r (xs ++ par) e) ∙ take-front xs par)
 
 -- ---- the bytes and the parity of a part
 pub record IsPart (z : Zone) (image : List ℕ) (p : Part) (bytes par : List ℕ) : Type 0 where
@@ -33,38 +35,57 @@ pub record IsPart (z : Zone) (image : List ℕ) (p : Part) (bytes par : List ℕ
   pub word : bytes ++ par ≡ part_word z image p
   pub long : length par ≡ z.parity
 
-pub own_is : (z : Zone) (image : List ℕ) (p : Part) (at len : ℕ) (bytes : List ℕ) → at ≡ part_at z p → len ≡ part_len z p → bytes ≡ slice_range image at (at + len) → bytes ≡ part_bytes z image p
+pub own_is : (z : Zone) (image : List ℕ) (p : Part) (at len : ℕ) (bytes : List ℕ) → at ≡ part_at z p
+    → len ≡ part_len z p → bytes ≡ slice_range image at (at + len) → bytes ≡ part_bytes z image p
 unfolding part_bytes
-own_is z image p at len bytes e f h = h ∙ ap (λ (n : ℕ). slice_range image n (n + len)) e ∙ ap (λ (n : ℕ). slice_range image (part_at z p) (part_at z p + n)) f
+own_is z image p at len bytes e f h = h ∙ ap (λ (n : ℕ). slice_range image n (n + len)) e
+    ∙ ap (λ (n : ℕ). slice_range image (part_at z p) (part_at z p + n)) f
 
 -- what lies at the part's places
-pub is_part : (z : Zone) (image : List ℕ) (p : Part) (at len parity_at : ℕ) (bytes par : List ℕ) → at ≡ part_at z p → len ≡ part_len z p → parity_at ≡ part_parity_at z p
-    → bytes ≡ slice_range image at (at + len) → par ≡ slice_range image parity_at (parity_at + z.parity) → parity_at + z.parity ≤ length image → IsPart z image p bytes par
+pub is_part : (z : Zone) (image : List ℕ) (p : Part) (at len parity_at : ℕ) (bytes par : List ℕ) → at ≡ part_at z p
+    → len ≡ part_len z p → parity_at ≡ part_parity_at z p
+    → bytes ≡ slice_range image at (at + len) → par ≡ slice_range image parity_at (parity_at + z.parity)
+    → parity_at + z.parity ≤ length image → IsPart z image p bytes par
 unfolding part_word
 is_part z image p at len parity_at bytes par e f g h k le =
     let one : bytes ≡ part_bytes z image p = own_is z image p at len bytes e f h in
-    let two : slice_range image parity_at (parity_at + z.parity) ≡ slice_range image (part_parity_at z p) (part_parity_at z p + z.parity) = ap (λ (n : ℕ). slice_range image n (n + z.parity)) g in
+    let two : slice_range image parity_at (parity_at + z.parity) ≡ slice_range image (part_parity_at z p)
+    (part_parity_at z p + z.parity) = ap (λ (n : ℕ). slice_range image n (n + z.parity)) g in
     let size : parity_at + z.parity - parity_at ≡ z.parity = omega arith in
     record {
       own = one;
       word = ap (λ (l : List ℕ). l ++ par) one ∙ ap (λ (l : List ℕ). part_bytes z image p ++ l) (k ∙ two);
-      long = omega (arith, ap length k, length-take (parity_at + z.parity - parity_at) (drop parity_at image), length-drop parity_at image, size);
+      long = omega (
+        arith,
+        ap length k,
+        length-take (parity_at + z.parity - parity_at) (drop parity_at image),
+        length-drop parity_at image,
+        size,
+      );
     }
 
 -- ---- what the decoder answers of them
-pub answer_is : (z : Zone) (image : List ℕ) (p : Part) (bytes par : List ℕ) (o : Decoded) → IsPart z image p bytes par → o ≡ decoded_by (bytes ++ par) (nearest (length par) (bytes ++ par)) → o ≡ outcome z image p
+pub answer_is : (z : Zone) (image : List ℕ) (p : Part) (bytes par : List ℕ) (o : Decoded) → IsPart z image p bytes par
+    → o ≡ decoded_by (bytes ++ par) (nearest (length par) (bytes ++ par)) → o ≡ outcome z image p
 answer_is z image p bytes par o h e =
-    e ∙ ap (λ (w : List ℕ). decoded_by w (nearest (length par) w)) h.word ∙ ap (λ (r : ℕ). decoded_by (part_word z image p) (nearest r (part_word z image p))) h.long
+    e ∙ ap (λ (w : List ℕ). decoded_by w (nearest (length par) w)) h.word
+    ∙ ap (λ (r : ℕ). decoded_by (part_word z image p) (nearest r (part_word z image p))) h.long
 
-pub fixes_are : (z : Zone) (image : List ℕ) (p : Part) (bytes par : List ℕ) (fs : List Fix) → IsPart z image p bytes par → fs ≡ fixes_by (bytes ++ par) (nearest (length par) (bytes ++ par)) → fs ≡ part_word_fixes z image p
+pub fixes_are : (z : Zone) (image : List ℕ) (p : Part) (bytes par : List ℕ) (fs : List Fix)
+    → IsPart z image p bytes par → fs ≡ fixes_by (bytes ++ par) (nearest (length par) (bytes ++ par))
+    → fs ≡ part_word_fixes z image p
 fixes_are z image p bytes par fs h e =
-    e ∙ ap (λ (w : List ℕ). fixes_by w (nearest (length par) w)) h.word ∙ ap (λ (r : ℕ). fixes_by (part_word z image p) (nearest r (part_word z image p))) h.long
+    e ∙ ap (λ (w : List ℕ). fixes_by w (nearest (length par) w)) h.word
+    ∙ ap (λ (r : ℕ). fixes_by (part_word z image p) (nearest r (part_word z image p))) h.long
 
-reading-bytes : (bytes par : List ℕ) (o : Option (List ℕ)) → take (length bytes) (unwrap_or o (bytes ++ par)) ≡ (reading_by bytes (bytes ++ par) o).bytes
+reading-bytes : (bytes par : List ℕ) (o : Option (List ℕ))
+    → take (length bytes) (unwrap_or o (bytes ++ par)) ≡ (reading_by bytes (bytes ++ par) o).bytes
 reading-bytes bytes par (Some c) = refl
 reading-bytes bytes par None = take-front bytes par
 
-pub data_is : (z : Zone) (image : List ℕ) (p : Part) (bytes par out : List ℕ) → IsPart z image p bytes par → out ≡ take (length bytes) (unwrap_or (nearest (length par) (bytes ++ par)) (bytes ++ par)) → out ≡ (part_reading z image p).bytes
+pub data_is : (z : Zone) (image : List ℕ) (p : Part) (bytes par out : List ℕ) → IsPart z image p bytes par
+    → out ≡ take (length bytes) (unwrap_or (nearest (length par) (bytes ++ par)) (bytes ++ par))
+    → out ≡ (part_reading z image p).bytes
 unfolding part_reading
 data_is z image p bytes par out h e =
     e ∙ reading-bytes bytes par (nearest (length par) (bytes ++ par))
@@ -86,5 +107,6 @@ pub counts : (z : Zone) (image : List ℕ) (p : Part) → CountsAre (outcome z i
 unfolding part_reading
 counts z image p = counts-by (part_bytes z image p) (part_word z image p) (nearest z.parity (part_word z image p))
 
-pub counts_are : (z : Zone) (image : List ℕ) (p : Part) (o : Decoded) → o ≡ outcome z image p → CountsAre o (part_reading z image p)
+pub counts_are : (z : Zone) (image : List ℕ) (p : Part) (o : Decoded) → o ≡ outcome z image p
+    → CountsAre o (part_reading z image p)
 counts_are z image p o e = subst (λ (d : Decoded). CountsAre d (part_reading z image p)) (sym e) (counts z image p)

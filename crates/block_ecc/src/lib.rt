@@ -104,7 +104,8 @@ fn word_at(bytes: &[u8]) -> u32
     u32::from_le_bytes([bytes[0], bytes[1], bytes[2], bytes[3]])
 }
 
-/// The encoder of a zone's parts, none where the zone has no parity. It holds some 4 KiB; a caller with many parts keeps
+/// The encoder of a zone's parts, none where the zone has no parity. It holds some 4 KiB; a caller with many parts
+/// keeps
 /// one.
 #[derive(Drop)]
 pub struct Coder(Option<Parity>);
@@ -142,9 +143,12 @@ impl Coder {
         requires some { 1 ≤ length out.old.items }
         requires few { length out.old.items ≤ 128 }
         ensures len { length out.new.items ≡ length out.old.items }
-        ensures answer { let word = out.old.items ++ par.now in result ≡ decoded_by word (nearest (length par.now) word) }
-        ensures data { let word = out.old.items ++ par.now in out.new.items ≡ take (length out.old.items) (unwrap_or (nearest (length par.now) word) word) }
-        ensures fixes { let word = out.old.items ++ par.now in fixes.new.items ≡ fixes_by word (nearest (length par.now) word) }
+        ensures answer { let word = out.old.items ++ par.now in
+            result ≡ decoded_by word (nearest (length par.now) word) }
+        ensures data { let word = out.old.items ++ par.now in
+            out.new.items ≡ take (length out.old.items) (unwrap_or (nearest (length par.now) word) word) }
+        ensures fixes { let word = out.old.items ++ par.now in
+            fixes.new.items ≡ fixes_by word (nearest (length par.now) word) }
     {
         match &self.0 {
             Some(parity) => decode_with(parity, out.as_mut_slice(), par, fixes),

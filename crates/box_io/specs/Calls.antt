@@ -13,4 +13,8 @@ is_to_fail log = list_any (λ n. n == next_count log.made) log.fails
 
 -- one more call was made, and it failed or not
 abbrev pub counted : CallLog → Bool → CallLog
-counted log failed = record { fails = log.fails; made = next_count log.made; faults = if failed then next_count log.faults else log.faults }
+counted log failed = record {
+  fails = log.fails;
+  made = next_count log.made;
+  faults = if failed then next_count log.faults else log.faults;
+}

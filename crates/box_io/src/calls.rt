@@ -58,7 +58,11 @@ impl CallLog {
     /// Counts one more call, and answers whether it is to fail.
     pub fn count_call(&mut self) -> bool
         ensures answer { result ≡ is_to_fail self.old }
-        ensures counted { self.new ≡ record { fails = self.old.fails; made = next_count self.old.made; faults = self.old.faults } }
+        ensures counted { self.new ≡ record {
+          fails = self.old.fails;
+          made = next_count self.old.made;
+          faults = self.old.faults;
+        } }
     {
         self.made = self.made.saturating_add(1);
         self.fails.has(self.made)
@@ -67,7 +71,11 @@ impl CallLog {
     /// Counts a fault.
     pub fn count_fault(&mut self) -> Failed
         ensures later { self.old.faults ≤ self.new.faults }
-        ensures counted { self.new ≡ record { fails = self.old.fails; made = self.old.made; faults = next_count self.old.faults } }
+        ensures counted { self.new ≡ record {
+          fails = self.old.fails;
+          made = self.old.made;
+          faults = next_count self.old.faults;
+        } }
     {
         self.faults = self.faults.saturating_add(1);
         Failed

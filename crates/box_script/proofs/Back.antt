@@ -26,11 +26,13 @@ number_back limit n below top = number_below-decimal limit n (decimal n) below (
 pub mask_back : (n : ℕ) → 0 < n → n < 256 → mask (decimal n) ≡ Some n
 mask_back n low high =
     let zero_not : (n == 0) ≡ false = grind (arith, low) in
-    ap (λ o. o >>= (λ n. if n == 0 then None else Some n)) (number_back 256 n high (omega arith)) ∙ ap (λ b. if b then None else Some n) zero_not
+    ap (λ o. o >>= (λ n. if n == 0 then None else Some n)) (number_back 256 n high (omega arith))
+    ∙ ap (λ b. if b then None else Some n) zero_not
 
 zone_at_back : (kind : Kind) (i : ℕ) → i < 2 ^ 32 → zone_at kind (decimal i) ≡ Some (record { kind = kind; index = i })
 unfolding zone_at
-zone_at_back kind i h = ap (λ o. o >>= (λ n. Some (record { kind = kind; index = n }))) (number_back (2 ^ 32) i h (omega arith))
+zone_at_back kind i h = ap (λ o. o >>= (λ n. Some (record { kind = kind; index = n })))
+    (number_back (2 ^ 32) i h (omega arith))
 
 abbrev named : Kind → ℕ → ZoneName
 named k i = record { kind = k; index = i }
@@ -65,7 +67,8 @@ one_byte text e = ap length e
 not_dash : (text : Text) (n : ℕ) → length text ≡ 2 * n → bytes_eq text (codes "-") ≡ false
 not_dash text n len =
     elim (bool_cases (bytes_eq text (codes "-"))) [
-      | inl yes' ↦ let one = one_byte text ((bytes_eq-Decides text (codes "-")).0 yes') in absurd (omega (arith, len, one))
+      | inl yes' ↦ let one = one_byte text ((bytes_eq-Decides text (codes "-")).0 yes') in
+          absurd (omega (arith, len, one))
       | inr no' ↦ no'
     ]
 
@@ -105,8 +108,10 @@ name_back text h = ap (λ b. if b then Some text else None) h
 pub solid_zone : (kind : Kind) (i : ℕ) → IsZoneOf kind i → IsSolid (zone_text_of kind i)
 solid_zone Console i h = solid_literal _ refl
 solid_zone Pmsg i h = solid_literal _ refl
-solid_zone Ftrace i h = solid_append (codes "ftrace-") (decimal i) (solid_literal _ refl) (solid_decimal i (omega (arith, h)))
-solid_zone Dump i h = solid_append (codes "dump-") (decimal i) (solid_literal _ refl) (solid_decimal i (omega (arith, h)))
+solid_zone Ftrace i h = solid_append (codes "ftrace-") (decimal i) (solid_literal _ refl)
+    (solid_decimal i (omega (arith, h)))
+solid_zone Dump i h = solid_append (codes "dump-") (decimal i) (solid_literal _ refl)
+    (solid_decimal i (omega (arith, h)))
 
 pub solid_payload : (bytes : List ℕ) → IsPayload bytes → IsSolid (payload_text bytes)
 solid_payload [] h = solid_literal _ refl

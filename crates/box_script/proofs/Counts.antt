@@ -36,11 +36,13 @@ five_onto a (b ∷ c ∷ d ∷ e ∷ []) = refl
 five_onto a (b ∷ c ∷ d ∷ e ∷ f ∷ fs) = refl
 
 -- two fields before two
-pub four_of_two : (fs gs hs : List Text) (a b c d : Text) → fs ≡ a ∷ gs → gs ≡ b ∷ hs → two hs ≡ Some (c, d) → four fs ≡ Some (a, b, c, d)
+pub four_of_two : (fs gs hs : List Text) (a b c d : Text) → fs ≡ a ∷ gs → gs ≡ b ∷ hs → two hs ≡ Some (c, d)
+    → four fs ≡ Some (a, b, c, d)
 four_of_two fs gs hs a b c d e f h = ap four (e ∙ ap (λ t. a ∷ t) f) ∙ four_onto a b hs ∙ ap (onto_two a b) h
 
 -- a field before four
-pub five_of_four : (fs gs : List Text) (a b c d e : Text) → fs ≡ a ∷ gs → four gs ≡ Some (b, c, d, e) → five fs ≡ Some (a, b, c, d, e)
+pub five_of_four : (fs gs : List Text) (a b c d e : Text) → fs ≡ a ∷ gs → four gs ≡ Some (b, c, d, e)
+    → five fs ≡ Some (a, b, c, d, e)
 five_of_four fs gs a b c d e h k = ap five h ∙ five_onto a gs ∙ ap (onto_four a) k
 
 -- a word before others
@@ -58,13 +60,16 @@ fields_of_more w [] h = absurd (omega arith)
 fields_of_more w (f ∷ fs) h = refl
 
 -- a line that is not blank is that of its fields
-pub line_of_more : (text w : Text) (fs : List Text) → is_blank text ≡ false → fields_of text ≡ w ∷ fs → 0 < length fs → line_of text ≡ row w fs
+pub line_of_more : (text w : Text) (fs : List Text) → is_blank text ≡ false → fields_of text ≡ w ∷ fs → 0 < length fs
+    → line_of text ≡ row w fs
 unfolding line_of
 line_of_more text w fs blank split more =
-    ap (λ b. if b then Some Blank else line_of_fields (fields_of text)) blank ∙ ap line_of_fields split ∙ fields_of_more w fs more
+    ap (λ b. if b then Some Blank else line_of_fields (fields_of text)) blank ∙ ap line_of_fields split
+    ∙ fields_of_more w fs more
 
 -- the first of several texts is a line
-pub lines_of_more : (n : ℕ) (text : Text) (ts : List Text) → 0 < length ts → lines_from n (text ∷ ts) ≡ with_line (line_of text) n (lines_from (n + 1) ts)
+pub lines_of_more : (n : ℕ) (text : Text) (ts : List Text) → 0 < length ts
+    → lines_from n (text ∷ ts) ≡ with_line (line_of text) n (lines_from (n + 1) ts)
 unfolding lines_from
 lines_of_more n text [] h = absurd (omega arith)
 lines_of_more n text (t ∷ ts) h = refl

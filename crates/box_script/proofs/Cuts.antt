@@ -27,8 +27,10 @@ cut_some p xs i h =
 -- and where none does, the list is the one part
 pub cut_none : (p : ℕ → Bool) (xs : List ℕ) → position p xs ≡ None → slice_split p xs ≡ xs ∷ []
 cut_none p xs h =
-    let above = ltb-false (position_or_len p xs) (length xs) (none_of (nat_lt (position_or_len p xs) (length xs)) (position_or_len p xs) h) in
-    slice_split_none p xs (All-from_get_or (λ x. p x ≡ false) xs 0 (λ k below. fails_before_first p xs k 0 (omega (arith, above, below))))
+    let above = ltb-false (position_or_len p xs) (length xs)
+    (none_of (nat_lt (position_or_len p xs) (length xs)) (position_or_len p xs) h) in
+    slice_split_none p xs (All-from_get_or (λ x. p x ≡ false) xs 0
+    (λ k below. fails_before_first p xs k 0 (omega (arith, above, below))))
 
 -- there is always a part
 pub some_part : (p : ℕ → Bool) (xs : List ℕ) → 0 < length (slice_split p xs)

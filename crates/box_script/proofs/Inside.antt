@@ -22,11 +22,13 @@ use Rattle.box_script.proofs.Numbers.{number_below-some}
 
 -- ---- a fact for the value, if there is one
 
-bind_if : {A B : Type 0} (o : Option A) (f : A → Option B) (P : A → Type 0) (Q : B → Type 0) → IfSome o P → ((x : A) → P x → IfSome (f x) Q) → IfSome (o >>= f) Q
+bind_if : {A B : Type 0} (o : Option A) (f : A → Option B) (P : A → Type 0) (Q : B → Type 0) → IfSome o P
+    → ((x : A) → P x → IfSome (f x) Q) → IfSome (o >>= f) Q
 bind_if (Some x) f P Q h k = k x h
 bind_if None f P Q h k = tt
 
-if_if : {A : Type 0} (b : Bool) (x y : Option A) (Q : A → Type 0) → IfSome x Q → IfSome y Q → IfSome (if b then x else y) Q
+if_if : {A : Type 0} (b : Bool) (x y : Option A) (Q : A → Type 0) → IfSome x Q → IfSome y Q
+    → IfSome (if b then x else y) Q
 if_if true x y Q h k = h
 if_if false x y Q h k = k
 
@@ -44,13 +46,15 @@ number_if : (limit : ℕ) (text : Text) → IfSome (number_below limit text) (λ
 number_if limit text = from_if (number_below limit text) (λ n. n < limit) (λ n e. (number_below-some limit text n e).0)
 
 mask_if : (text : Text) → IfSome (mask text) (λ m. (0 < m) × (m < 256))
-mask_if text = bind_if (number_below 256 text) (λ n. if n == 0 then None else Some n) (λ n. n < 256) (λ m. (0 < m) × (m < 256)) (number_if 256 text) above
+mask_if text = bind_if (number_below 256 text) (λ n. if n == 0 then None else Some n) (λ n. n < 256)
+    (λ m. (0 < m) × (m < 256)) (number_if 256 text) above
   where
     above : (n : ℕ) → n < 256 → IfSome (if n == 0 then None else Some n) (λ m. (0 < m) × (m < 256))
     above zero h = tt
     above (suc n) h = grind (arith, h)
 
-zone_at_if : (kind : Kind) (text : Text) (P : ZoneName → Type 0) → ((i : ℕ) → i < 2 ^ 32 → P (record { kind = kind; index = i })) → IfSome (zone_at kind text) P
+zone_at_if : (kind : Kind) (text : Text) (P : ZoneName → Type 0)
+    → ((i : ℕ) → i < 2 ^ 32 → P (record { kind = kind; index = i })) → IfSome (zone_at kind text) P
 unfolding zone_at
 zone_at_if kind text P h = bind_if (number text) _ (λ n. n < 2 ^ 32) P (number_if (2 ^ 32) text) h
 
@@ -59,7 +63,8 @@ unfolding ring
 ring_if text =
     if_if (bytes_eq text (codes "console")) _ _ IsRing (refl, λ e. cc e)
     (if_if (bytes_eq text (codes "pmsg")) _ _ IsRing (refl, λ e. cc e)
-    (if_if (begins_with (codes "ftrace-") text) _ _ IsRing (zone_at_if Ftrace (drop 7 text) IsRing (λ i h. (h, λ e. cc e))) tt))
+    (if_if (begins_with (codes "ftrace-") text) _ _ IsRing
+    (zone_at_if Ftrace (drop 7 text) IsRing (λ i h. (h, λ e. cc e))) tt))
 
 ring_zone : (o : Option ZoneName) → IfSome o IsRing → IfSome o IsZone
 ring_zone (Some z) h = h.0
@@ -67,7 +72,8 @@ ring_zone None h = tt
 
 zone_if : (text : Text) → IfSome (zone text) IsZone
 unfolding zone
-zone_if text = if_if (begins_with (codes "dump-") text) _ _ IsZone (zone_at_if DumpZone (drop 5 text) IsZone (λ i h. h)) (ring_zone (ring text) (ring_if text))
+zone_if text = if_if (begins_with (codes "dump-") text) _ _ IsZone
+    (zone_at_if DumpZone (drop 5 text) IsZone (λ i h. h)) (ring_zone (ring text) (ring_if text))
 
 decoded_if : (text : Text) (r : Result (List ℕ) FromHexError) → decode_of text ≡ r → IfSome (decoded r) IsPayload
 decoded_if text (Ok bytes) e = payload_of bytes (decode_of-ok text bytes e).3
@@ -75,7 +81,8 @@ decoded_if text (Err f) e = tt
 
 payload_if : (text : Text) → IfSome (payload text) IsPayload
 unfolding payload
-payload_if text = if_if (bytes_eq text (codes "-")) _ _ IsPayload (All-nil (λ b. b < 256)) (if_if (length text == 0) _ _ IsPayload tt (decoded_if text (decode_of text) refl))
+payload_if text = if_if (bytes_eq text (codes "-")) _ _ IsPayload (All-nil (λ b. b < 256))
+    (if_if (length text == 0) _ _ IsPayload tt (decoded_if text (decode_of text) refl))
 
 reason_if : (text : Text) → IfSome (reason text) (λ r. (1 ≤ r) × (r ≤ 4))
 unfolding reason
@@ -144,30 +151,37 @@ one_zone_if fields = bind_if (one fields) _ (λ f. ⊤) IsZone (any_if (one fiel
 
 one_number_if : (fields : List Text) → IfSome (one_number fields) (λ n. n < 2 ^ 32)
 unfolding one_number
-one_number_if fields = bind_if (one fields) _ (λ f. ⊤) (λ n. n < 2 ^ 32) (any_if (one fields)) (λ f u. number_if (2 ^ 32) f)
+one_number_if fields = bind_if (one fields) _ (λ f. ⊤) (λ n. n < 2 ^ 32) (any_if (one fields))
+    (λ f u. number_if (2 ^ 32) f)
 
 one_name_if : (fields : List Text) → IfSome (one_name fields) (λ n. is_name n ≡ true)
 unfolding one_name
 one_name_if fields = bind_if (one fields) _ (λ f. ⊤) (λ n. is_name n ≡ true) (any_if (one fields)) (λ f u. name_if f)
 
-line1_if : {A : Type 0} (line : A → Line) (o : Option A) (P : A → Type 0) → IfSome o P → ((x : A) → P x → HasFields (line x)) → IfSome (line1 line o) HasFields
+line1_if : {A : Type 0} (line : A → Line) (o : Option A) (P : A → Type 0) → IfSome o P
+    → ((x : A) → P x → HasFields (line x)) → IfSome (line1 line o) HasFields
 line1_if line (Some x) P h k = k x h
 line1_if line None P h k = tt
 
-line2_if : {A B : Type 0} (line : A → B → Line) (o : Option (A × B)) (P : A × B → Type 0) → IfSome o P → ((a : A) (b : B) → P (a, b) → HasFields (line a b)) → IfSome (line2 line o) HasFields
+line2_if : {A B : Type 0} (line : A → B → Line) (o : Option (A × B)) (P : A × B → Type 0) → IfSome o P
+    → ((a : A) (b : B) → P (a, b) → HasFields (line a b)) → IfSome (line2 line o) HasFields
 line2_if line (Some (a, b)) P h k = k a b h
 line2_if line None P h k = tt
 
-line3_if : {A B C : Type 0} (line : A → B → C → Line) (o : Option (A × B × C)) (P : A × B × C → Type 0) → IfSome o P → ((a : A) (b : B) (c : C) → P (a, b, c) → HasFields (line a b c)) → IfSome (line3 line o) HasFields
+line3_if : {A B C : Type 0} (line : A → B → C → Line) (o : Option (A × B × C)) (P : A × B × C → Type 0) → IfSome o P
+    → ((a : A) (b : B) (c : C) → P (a, b, c) → HasFields (line a b c)) → IfSome (line3 line o) HasFields
 line3_if line (Some (a, b, c)) P h k = k a b c h
 line3_if line None P h k = tt
 
 begin_row_if : (word : Text) (fields : List Text) → IfSome (begin_row word fields) HasFields
 unfolding begin_row HasFields
 begin_row_if word fields =
-    if_if (bytes_eq word (codes "write")) _ _ HasFields (line2_if BeginWrite (ring_hex fields) _ (ring_hex_if fields) (λ z b h. h))
-    (if_if (bytes_eq word (codes "erase")) _ _ HasFields (line1_if BeginErase (one_zone fields) _ (one_zone_if fields) (λ z h. h))
-    (if_if (bytes_eq word (codes "dump")) _ _ HasFields (line3_if BeginDump (time_flag_hex fields) _ (time_flag_hex_if fields) (λ t p b h. h)) tt))
+    if_if (bytes_eq word (codes "write")) _ _ HasFields (line2_if BeginWrite (ring_hex fields) _ (ring_hex_if fields)
+    (λ z b h. h))
+    (if_if (bytes_eq word (codes "erase")) _ _ HasFields
+    (line1_if BeginErase (one_zone fields) _ (one_zone_if fields) (λ z h. h))
+    (if_if (bytes_eq word (codes "dump")) _ _ HasFields (line3_if BeginDump (time_flag_hex fields) _
+    (time_flag_hex_if fields) (λ t p b h. h)) tt))
 
 begin_if : (fields : List Text) → IfSome (begin_line fields) HasFields
 unfolding begin_line
@@ -179,25 +193,34 @@ plain_row_if : (word : Text) (fields : List Text) → IfSome (plain_row word fie
 unfolding plain_row HasFields
 plain_row_if word fields =
     if_if (bytes_eq word (codes "step")) _ _ HasFields (step_if fields)
-    (if_if (bytes_eq word (codes "finish")) _ _ HasFields (line1_if Finish (one_zone fields) _ (one_zone_if fields) (λ z h. h))
+    (if_if (bytes_eq word (codes "finish")) _ _ HasFields
+    (line1_if Finish (one_zone fields) _ (one_zone_if fields) (λ z h. h))
     (if_if (bytes_eq word (codes "flip")) _ _ HasFields (flip_if fields)
-    (if_if (bytes_eq word (codes "boot")) _ _ HasFields (line1_if BootPart (one_number fields) _ (one_number_if fields) (λ k h. h))
-    (if_if (bytes_eq word (codes "cut")) _ _ HasFields (line1_if CutAfter (one_number fields) _ (one_number_if fields) (λ k h. h)) tt))))
+    (if_if (bytes_eq word (codes "boot")) _ _ HasFields (line1_if BootPart (one_number fields) _
+    (one_number_if fields) (λ k h. h))
+    (if_if (bytes_eq word (codes "cut")) _ _ HasFields (line1_if CutAfter (one_number fields) _ (one_number_if fields)
+    (λ k h. h)) tt))))
 
 row_if : (word : Text) (fields : List Text) → IfSome (row word fields) HasFields
 unfolding row HasFields
 row_if word fields =
-    if_if (bytes_eq word (codes "write")) _ _ HasFields (line2_if Write (ring_hex fields) _ (ring_hex_if fields) (λ z b h. h))
-    (if_if (bytes_eq word (codes "dump")) _ _ HasFields (line3_if Dump (time_flag_hex fields) _ (time_flag_hex_if fields) (λ t p b h. h))
+    if_if (bytes_eq word (codes "write")) _ _ HasFields (line2_if Write (ring_hex fields) _ (ring_hex_if fields)
+    (λ z b h. h))
+    (if_if (bytes_eq word (codes "dump")) _ _ HasFields (line3_if Dump (time_flag_hex fields) _
+    (time_flag_hex_if fields) (λ t p b h. h))
     (if_if (bytes_eq word (codes "begin")) _ _ HasFields (begin_if fields)
-    (if_if (bytes_eq word (codes "extract")) _ _ HasFields (line1_if Extract (one_name fields) _ (one_name_if fields) (λ n h. h))
-    (if_if (bytes_eq word (codes "erase")) _ _ HasFields (line1_if Erase (one_name fields) _ (one_name_if fields) (λ n h. h))
+    (if_if (bytes_eq word (codes "extract")) _ _ HasFields
+    (line1_if Extract (one_name fields) _ (one_name_if fields) (λ n h. h))
+    (if_if (bytes_eq word (codes "erase")) _ _ HasFields
+    (line1_if Erase (one_name fields) _ (one_name_if fields) (λ n h. h))
     (if_if (bytes_eq word (codes "kdump")) _ _ HasFields (kdump_if fields) (plain_row_if word fields))))))
 
 lone_if : (word : Text) → IfSome (lone_word word) HasFields
 unfolding lone_word HasFields
 lone_if word =
-    if_if (bytes_eq word (codes "stop")) _ _ HasFields tt (if_if (bytes_eq word (codes "boot")) _ _ HasFields tt (if_if (bytes_eq word (codes "list")) _ _ HasFields tt tt))
+    if_if (bytes_eq word (codes "stop")) _ _ HasFields tt
+    (if_if (bytes_eq word (codes "boot")) _ _ HasFields tt
+    (if_if (bytes_eq word (codes "list")) _ _ HasFields tt tt))
 
 fields_if : (fields : List Text) → IfSome (line_of_fields fields) HasFields
 fields_if [] = tt
@@ -214,7 +237,8 @@ line_if text = if_if (is_blank text) _ _ HasFields blank_fields (fields_if (fiel
 
 -- ---- scripts
 
-with_line_if : (o : Option Line) (n : ℕ) (r : Result (List Line) ℕ) → IfSome o HasFields → IfOk r AllHaveFields → IfOk (with_line o n r) AllHaveFields
+with_line_if : (o : Option Line) (n : ℕ) (r : Result (List Line) ℕ) → IfSome o HasFields → IfOk r AllHaveFields
+    → IfOk (with_line o n r) AllHaveFields
 with_line_if None n r h k = tt
 with_line_if (Some line) n (Ok lines) h k = (h, k)
 with_line_if (Some line) n (Err m) h k = tt
@@ -227,7 +251,8 @@ lines_if n (rest ∷ []) = last (length rest == 0)
     last : (b : Bool) → IfOk (if b then Ok [] else Err n) AllHaveFields
     last true = tt
     last false = tt
-lines_if n (text ∷ next ∷ texts) = with_line_if (line_of text) n (lines_from (n + 1) (next ∷ texts)) (line_if text) (lines_if (n + 1) (next ∷ texts))
+lines_if n (text ∷ next ∷ texts) = with_line_if (line_of text) n (lines_from (n + 1) (next ∷ texts)) (line_if text)
+    (lines_if (n + 1) (next ∷ texts))
 
 pub read_fields : (script : Text) (lines : List Line) → script_of script ≡ Ok lines → AllHaveFields lines
 unfolding script_of

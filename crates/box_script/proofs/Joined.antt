@@ -17,10 +17,12 @@ pub word_and_tail : (line : Line) → word_text line ++ tail_text line ≡ line_
 unfolding line_text
 word_and_tail Blank = refl
 word_and_tail (Write z bytes) = joined (codes "write") (zone_text z ∷ payload_text bytes ∷ [])
-word_and_tail (Dump t packed bytes) = joined (codes "dump") (decimal t.secs ∷ decimal t.micros ∷ flag_text packed ∷ payload_text bytes ∷ [])
+word_and_tail (Dump t packed bytes) = joined (codes "dump")
+    (decimal t.secs ∷ decimal t.micros ∷ flag_text packed ∷ payload_text bytes ∷ [])
 word_and_tail (BeginWrite z bytes) = joined (codes "begin write") (zone_text z ∷ payload_text bytes ∷ [])
 word_and_tail (BeginErase z) = joined (codes "begin erase") (zone_text z ∷ [])
-word_and_tail (BeginDump t packed bytes) = joined (codes "begin dump") (decimal t.secs ∷ decimal t.micros ∷ flag_text packed ∷ payload_text bytes ∷ [])
+word_and_tail (BeginDump t packed bytes) = joined (codes "begin dump")
+    (decimal t.secs ∷ decimal t.micros ∷ flag_text packed ∷ payload_text bytes ∷ [])
 word_and_tail (Step z k) = joined (codes "step") (zone_text z ∷ decimal k ∷ [])
 word_and_tail (Finish z) = joined (codes "finish") (zone_text z ∷ [])
 word_and_tail Stop = refl
@@ -30,5 +32,7 @@ word_and_tail (BootPart k) = joined (codes "boot") (decimal k ∷ [])
 word_and_tail ListLine = refl
 word_and_tail (Extract name) = joined (codes "extract") (name ∷ [])
 word_and_tail (Erase name) = joined (codes "erase") (name ∷ [])
-word_and_tail (KDump secs nanos packed reason bytes) = joined (codes "kdump") (decimal secs ∷ decimal nanos ∷ flag_text packed ∷ reason_text reason ∷ payload_text bytes ∷ [])
+word_and_tail (KDump secs nanos packed reason bytes) =
+    joined (codes "kdump") (decimal secs ∷ decimal nanos ∷ flag_text packed ∷ reason_text reason ∷ payload_text bytes
+    ∷ [])
 word_and_tail (CutAfter k) = joined (codes "cut") (decimal k ∷ [])

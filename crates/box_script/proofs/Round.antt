@@ -21,25 +21,32 @@ use Rattle.box_script.proofs.Solid.{IsSolid, solid_literal, solid_decimal, solid
 
 -- ---- rows of fields that read
 
-ring_hex_back : (r h : Text) (z : ZoneName) (bytes : List ℕ) → ring r ≡ Some z → payload h ≡ Some bytes → ring_hex (r ∷ h ∷ []) ≡ Some (z, bytes)
+ring_hex_back : (r h : Text) (z : ZoneName) (bytes : List ℕ) → ring r ≡ Some z → payload h ≡ Some bytes
+    → ring_hex (r ∷ h ∷ []) ≡ Some (z, bytes)
 unfolding ring_hex
 ring_hex_back r h z bytes e f = rw (e, f) refl
 
-time_flag_hex_back : (s m f h : Text) (sn mn : ℕ) (packed : Bool) (bytes : List ℕ) → secs s ≡ Some sn → micros m ≡ Some mn → flag f ≡ Some packed
-    → payload h ≡ Some bytes → time_flag_hex (s ∷ m ∷ f ∷ h ∷ []) ≡ Some (record { secs = sn; micros = mn }, packed, bytes)
+time_flag_hex_back : (s m f h : Text) (sn mn : ℕ) (packed : Bool) (bytes : List ℕ) → secs s ≡ Some sn
+    → micros m ≡ Some mn → flag f ≡ Some packed
+    → payload h ≡ Some bytes → time_flag_hex (s ∷ m ∷ f ∷ h ∷ [])
+    ≡ Some (record { secs = sn; micros = mn }, packed, bytes)
 unfolding time_flag_hex
 time_flag_hex_back s m f h sn mn packed bytes a b c d = rw (a, b, c, d) refl
 
-kdump_back : (s n f r h : Text) (sn nn rn : ℕ) (packed : Bool) (bytes : List ℕ) → secs s ≡ Some sn → nanos n ≡ Some nn → flag f ≡ Some packed
-    → reason r ≡ Some rn → payload h ≡ Some bytes → kdump_line (s ∷ n ∷ f ∷ r ∷ h ∷ []) ≡ Some (KDump sn nn packed rn bytes)
+kdump_back : (s n f r h : Text) (sn nn rn : ℕ) (packed : Bool) (bytes : List ℕ) → secs s ≡ Some sn → nanos n ≡ Some nn
+    → flag f ≡ Some packed
+    → reason r ≡ Some rn → payload h ≡ Some bytes → kdump_line (s ∷ n ∷ f ∷ r ∷ h ∷ [])
+    ≡ Some (KDump sn nn packed rn bytes)
 unfolding kdump_line
 kdump_back s n f r h sn nn rn packed bytes a b c d e = rw (a, b, c, d, e) refl
 
-step_back : (t k : Text) (z : ZoneName) (n : ℕ) → zone t ≡ Some z → number k ≡ Some n → step_line (t ∷ k ∷ []) ≡ Some (Step z n)
+step_back : (t k : Text) (z : ZoneName) (n : ℕ) → zone t ≡ Some z → number k ≡ Some n
+    → step_line (t ∷ k ∷ []) ≡ Some (Step z n)
 unfolding step_line
 step_back t k z n e f = rw (e, f) refl
 
-flip_back : (p m : Text) (pn mn : ℕ) → number p ≡ Some pn → mask m ≡ Some mn → flip_line (p ∷ m ∷ []) ≡ Some (Flip pn mn)
+flip_back : (p m : Text) (pn mn : ℕ) → number p ≡ Some pn → mask m ≡ Some mn
+    → flip_line (p ∷ m ∷ []) ≡ Some (Flip pn mn)
 unfolding flip_line
 flip_back p m pn mn e f = rw e (ap (λ o. o >>= (λ m. Some (Flip pn m))) f)
 
@@ -60,42 +67,79 @@ one_name_back t n e = e
 solid_fields : (line : Line) → HasFields line → AllByRecursion IsSolid (printed_fields line)
 unfolding HasFields
 solid_fields Blank h = tt
-solid_fields (Write z bytes) h = (solid_literal _ refl, (solid_zone z.kind z.index h.0.0, (solid_payload bytes h.1, tt)))
+solid_fields (Write z bytes) h = (
+  solid_literal _ refl,
+  (solid_zone z.kind z.index h.0.0, (solid_payload bytes h.1, tt)),
+)
 solid_fields (Dump t packed bytes) h =
-    let s = h.0.0 in let m = h.0.1 in
-    (solid_literal _ refl, (solid_decimal t.secs (omega (arith, s)), (solid_decimal t.micros (omega (arith, m)), (solid_flag packed, (solid_payload bytes h.1, tt)))))
-solid_fields (BeginWrite z bytes) h = (solid_literal _ refl, (solid_literal _ refl, (solid_zone z.kind z.index h.0.0, (solid_payload bytes h.1, tt))))
+    let s = h.0.0 in let m = h.0.1 in (
+      solid_literal _ refl,
+      (
+        solid_decimal t.secs (omega (arith, s)),
+        (solid_decimal t.micros (omega (arith, m)), (solid_flag packed, (solid_payload bytes h.1, tt))),
+      ),
+    )
+solid_fields (BeginWrite z bytes) h = (
+  solid_literal _ refl,
+  (solid_literal _ refl, (solid_zone z.kind z.index h.0.0, (solid_payload bytes h.1, tt))),
+)
 solid_fields (BeginErase z) h = (solid_literal _ refl, (solid_literal _ refl, (solid_zone z.kind z.index h, tt)))
 solid_fields (BeginDump t packed bytes) h =
-    let s = h.0.0 in let m = h.0.1 in
-    (solid_literal _ refl, (solid_literal _ refl, (solid_decimal t.secs (omega (arith, s)), (solid_decimal t.micros (omega (arith, m)), (solid_flag packed, (solid_payload bytes h.1, tt))))))
-solid_fields (Step z k) h = let n = h.1 in (solid_literal _ refl, (solid_zone z.kind z.index h.0, (solid_decimal k (omega (arith, n)), tt)))
+    let s = h.0.0 in let m = h.0.1 in (
+      solid_literal _ refl,
+      (
+        solid_literal _ refl,
+        (
+          solid_decimal t.secs (omega (arith, s)),
+          (solid_decimal t.micros (omega (arith, m)), (solid_flag packed, (solid_payload bytes h.1, tt))),
+        ),
+      ),
+    )
+solid_fields (Step z k) h = let n = h.1 in (
+  solid_literal _ refl,
+  (solid_zone z.kind z.index h.0, (solid_decimal k (omega (arith, n)), tt)),
+)
 solid_fields (Finish z) h = (solid_literal _ refl, (solid_zone z.kind z.index h, tt))
 solid_fields Stop h = (solid_literal _ refl, tt)
-solid_fields (Flip place m) h = let n = h.0 in let k = h.2 in (solid_literal _ refl, (solid_decimal place (omega (arith, n)), (solid_decimal m (omega (arith, k)), tt)))
+solid_fields (Flip place m) h = let n = h.0 in let k = h.2 in
+    (solid_literal _ refl, (solid_decimal place (omega (arith, n)), (solid_decimal m (omega (arith, k)), tt)))
 solid_fields Boot h = (solid_literal _ refl, tt)
 solid_fields (BootPart k) h = (solid_literal _ refl, (solid_decimal k (omega (arith, h)), tt))
 solid_fields ListLine h = (solid_literal _ refl, tt)
 solid_fields (Extract n) h = (solid_literal _ refl, (solid_name n h, tt))
 solid_fields (Erase n) h = (solid_literal _ refl, (solid_name n h, tt))
 solid_fields (KDump s n packed r bytes) h =
-    let a = h.0 in let b = h.1 in
-    (solid_literal _ refl, (solid_decimal s (omega (arith, a)), (solid_decimal n (omega (arith, b)), (solid_flag packed, (solid_reason r h.2 h.3, (solid_payload bytes h.4, tt))))))
+    let a = h.0 in let b = h.1 in (
+      solid_literal _ refl,
+      (
+        solid_decimal s (omega (arith, a)),
+        (
+          solid_decimal n (omega (arith, b)),
+          (
+            solid_flag packed,
+            (solid_reason r h.2 h.3, (solid_payload bytes h.4, tt)),
+          ),
+        ),
+      ),
+    )
 solid_fields (CutAfter k) h = (solid_literal _ refl, (solid_decimal k (omega (arith, h)), tt))
 
-no_newline : (fields : List Text) → AllByRecursion IsSolid fields → All (λ b. (b == 0x0a) ≡ false) (join_with_byte 0x20 fields)
+no_newline : (fields : List Text) → AllByRecursion IsSolid fields
+    → All (λ b. (b == 0x0a) ≡ false) (join_with_byte 0x20 fields)
 no_newline [] h = All-nil (λ b. (b == 0x0a) ≡ false)
 no_newline (f ∷ fs) h = joined_line f fs h.0 h.1
 
 not_blank : (c : ℕ) (text : Text) → (c == 0x23) ≡ false → is_blank (c ∷ text) ≡ false
 not_blank c text h = grind (arith, h)
 
-joined_not_blank : (c : ℕ) (word : Text) (fields : List Text) → (c == 0x23) ≡ false → is_blank (join_with_byte 0x20 ((c ∷ word) ∷ fields)) ≡ false
+joined_not_blank : (c : ℕ) (word : Text) (fields : List Text) → (c == 0x23) ≡ false
+    → is_blank (join_with_byte 0x20 ((c ∷ word) ∷ fields)) ≡ false
 joined_not_blank c word [] h = not_blank c word h
 joined_not_blank c word (f ∷ fs) h = not_blank c (word ++ 0x20 ∷ join_with_byte 0x20 (f ∷ fs)) h
 
 -- solid fields that read as a line, joined by spaces
-line_of_joined : (c : ℕ) (word : Text) (fields : List Text) (line : Line) → (c == 0x23) ≡ false → AllByRecursion IsSolid ((c ∷ word) ∷ fields)
+line_of_joined : (c : ℕ) (word : Text) (fields : List Text) (line : Line) → (c == 0x23) ≡ false
+    → AllByRecursion IsSolid ((c ∷ word) ∷ fields)
     → line_of_fields ((c ∷ word) ∷ fields) ≡ Some line → line_of (join_with_byte 0x20 ((c ∷ word) ∷ fields)) ≡ Some line
 unfolding line_of
 line_of_joined c word fields line h solid e =
@@ -112,22 +156,33 @@ line_back : (line : Line) → HasFields line → line_of (line_text line) ≡ So
 unfolding HasFields line_text row begin_row begin_line plain_row lone_word
 line_back Blank h = blank_back
 line_back (Write z bytes) h =
-    line_of_joined 119 (codes "rite") (zone_text z ∷ payload_text bytes ∷ []) (Write z bytes) refl (solid_fields (Write z bytes) h)
-    (ap (line2 Write) (ring_hex_back (zone_text z) (payload_text bytes) z bytes (ring_back z.kind z.index h.0.0 h.0.1) (payload_back bytes h.1)))
+    line_of_joined 119 (codes "rite") (zone_text z ∷ payload_text bytes ∷ []) (Write z bytes) refl
+    (solid_fields (Write z bytes) h)
+    (ap (line2 Write) (ring_hex_back (zone_text z) (payload_text bytes) z bytes (ring_back z.kind z.index h.0.0 h.0.1)
+    (payload_back bytes h.1)))
 line_back (Dump t packed bytes) h =
-    line_of_joined 100 (codes "ump") (decimal t.secs ∷ decimal t.micros ∷ flag_text packed ∷ payload_text bytes ∷ []) (Dump t packed bytes) refl (solid_fields (Dump t packed bytes) h)
-    (ap (line3 Dump) (time_flag_hex_back (decimal t.secs) (decimal t.micros) (flag_text packed) (payload_text bytes) t.secs t.micros packed bytes
-    (number_back _ t.secs h.0.0 (omega arith)) (number_back _ t.micros h.0.1 (omega arith)) (flag_back packed) (payload_back bytes h.1)))
+    line_of_joined 100 (codes "ump") (decimal t.secs ∷ decimal t.micros ∷ flag_text packed ∷ payload_text bytes ∷ [])
+    (Dump t packed bytes) refl (solid_fields (Dump t packed bytes) h)
+    (ap (line3 Dump) (time_flag_hex_back (decimal t.secs) (decimal t.micros) (flag_text packed) (payload_text bytes)
+    t.secs t.micros packed bytes
+    (number_back _ t.secs h.0.0 (omega arith)) (number_back _ t.micros h.0.1 (omega arith)) (flag_back packed)
+    (payload_back bytes h.1)))
 line_back (BeginWrite z bytes) h =
-    line_of_joined 98 (codes "egin") (codes "write" ∷ zone_text z ∷ payload_text bytes ∷ []) (BeginWrite z bytes) refl (solid_fields (BeginWrite z bytes) h)
-    (ap (line2 BeginWrite) (ring_hex_back (zone_text z) (payload_text bytes) z bytes (ring_back z.kind z.index h.0.0 h.0.1) (payload_back bytes h.1)))
+    line_of_joined 98 (codes "egin") (codes "write" ∷ zone_text z ∷ payload_text bytes ∷ []) (BeginWrite z bytes) refl
+    (solid_fields (BeginWrite z bytes) h)
+    (ap (line2 BeginWrite) (ring_hex_back (zone_text z) (payload_text bytes) z bytes
+    (ring_back z.kind z.index h.0.0 h.0.1) (payload_back bytes h.1)))
 line_back (BeginErase z) h =
-    line_of_joined 98 (codes "egin") (codes "erase" ∷ zone_text z ∷ []) (BeginErase z) refl (solid_fields (BeginErase z) h)
+    line_of_joined 98 (codes "egin") (codes "erase" ∷ zone_text z ∷ []) (BeginErase z) refl
+    (solid_fields (BeginErase z) h)
     (ap (line1 BeginErase) (one_zone_back (zone_text z) z (zone_back z.kind z.index h)))
 line_back (BeginDump t packed bytes) h =
-    line_of_joined 98 (codes "egin") (codes "dump" ∷ decimal t.secs ∷ decimal t.micros ∷ flag_text packed ∷ payload_text bytes ∷ []) (BeginDump t packed bytes) refl (solid_fields (BeginDump t packed bytes) h)
-    (ap (line3 BeginDump) (time_flag_hex_back (decimal t.secs) (decimal t.micros) (flag_text packed) (payload_text bytes) t.secs t.micros packed bytes
-    (number_back _ t.secs h.0.0 (omega arith)) (number_back _ t.micros h.0.1 (omega arith)) (flag_back packed) (payload_back bytes h.1)))
+    line_of_joined 98 (codes "egin") (codes "dump" ∷ decimal t.secs ∷ decimal t.micros ∷ flag_text packed
+    ∷ payload_text bytes ∷ []) (BeginDump t packed bytes) refl (solid_fields (BeginDump t packed bytes) h)
+    (ap (line3 BeginDump) (time_flag_hex_back (decimal t.secs) (decimal t.micros) (flag_text packed)
+    (payload_text bytes) t.secs t.micros packed bytes
+    (number_back _ t.secs h.0.0 (omega arith)) (number_back _ t.micros h.0.1 (omega arith)) (flag_back packed)
+    (payload_back bytes h.1)))
 line_back (Step z k) h =
     line_of_joined 115 (codes "tep") (zone_text z ∷ decimal k ∷ []) (Step z k) refl (solid_fields (Step z k) h)
     (step_back (zone_text z) (decimal k) z k (zone_back z.kind z.index h.0) (number_back _ k h.1 (omega arith)))
@@ -136,7 +191,8 @@ line_back (Finish z) h =
     (ap (line1 Finish) (one_zone_back (zone_text z) z (zone_back z.kind z.index h)))
 line_back Stop h = line_of_joined 115 (codes "top") [] Stop refl (solid_fields Stop h) refl
 line_back (Flip place m) h =
-    line_of_joined 102 (codes "lip") (decimal place ∷ decimal m ∷ []) (Flip place m) refl (solid_fields (Flip place m) h)
+    line_of_joined 102 (codes "lip") (decimal place ∷ decimal m ∷ []) (Flip place m) refl
+    (solid_fields (Flip place m) h)
     (flip_back (decimal place) (decimal m) place m (number_back _ place h.0 (omega arith)) (mask_back m h.1 h.2))
 line_back Boot h = line_of_joined 98 (codes "oot") [] Boot refl (solid_fields Boot h) refl
 line_back (BootPart k) h =
@@ -150,9 +206,11 @@ line_back (Erase n) h =
     line_of_joined 101 (codes "rase") (n ∷ []) (Erase n) refl (solid_fields (Erase n) h)
     (ap (line1 Erase) (one_name_back n n (name_back n h)))
 line_back (KDump s n packed r bytes) h =
-    line_of_joined 107 (codes "dump") (decimal s ∷ decimal n ∷ flag_text packed ∷ reason_text r ∷ payload_text bytes ∷ []) (KDump s n packed r bytes) refl (solid_fields (KDump s n packed r bytes) h)
+    line_of_joined 107 (codes "dump") (decimal s ∷ decimal n ∷ flag_text packed ∷ reason_text r ∷ payload_text bytes
+    ∷ []) (KDump s n packed r bytes) refl (solid_fields (KDump s n packed r bytes) h)
     (kdump_back (decimal s) (decimal n) (flag_text packed) (reason_text r) (payload_text bytes) s n r packed bytes
-    (number_back _ s h.0 (omega arith)) (number_back _ n h.1 (omega arith)) (flag_back packed) (reason_back r h.2 h.3) (payload_back bytes h.4))
+    (number_back _ s h.0 (omega arith)) (number_back _ n h.1 (omega arith)) (flag_back packed) (reason_back r h.2 h.3)
+    (payload_back bytes h.4))
 line_back (CutAfter k) h =
     line_of_joined 99 (codes "ut") (decimal k ∷ []) (CutAfter k) refl (solid_fields (CutAfter k) h)
     (ap (line1 CutAfter) (one_number_back (decimal k) k (number_back _ k h (omega arith))))
@@ -170,13 +228,19 @@ lines_back n (line ∷ lines) h =
     let text = line_text line in
     let rest = script_text lines in
     let split : parts (text ++ 0x0a ∷ [] ++ rest) ≡ text ∷ parts rest =
-    ap parts (append_assoc text (0x0a ∷ []) rest) ∙ slice_split_at (λ b. b == 0x0a) text 0x0a rest (line_without_newline line h.0) refl in
+    ap parts (append_assoc text (0x0a ∷ []) rest) ∙ slice_split_at (λ b. b == 0x0a) text 0x0a rest
+    (line_without_newline line h.0) refl in
     ap (lines_from n) split ∙ lines_of_more n text (parts rest) (some_part (λ b. b == 0x0a) rest)
-    ∙ ap (λ o. with_line o n (lines_from (n + 1) (parts rest))) (line_back line h.0) ∙ ap (with_line (Some line) n) (lines_back (n + 1) lines h.1)
+    ∙ ap (λ o. with_line o n (lines_from (n + 1) (parts rest))) (line_back line h.0)
+    ∙ ap (with_line (Some line) n) (lines_back (n + 1) lines h.1)
 
 pub script_back : (lines : List Line) → AllHaveFields lines → script_of (script_text lines) ≡ Ok lines
 unfolding script_of
 script_back lines h = lines_back 1 lines h
 
 pub printed_read : PrintedIsRead
-printed_read lines h = (script_back lines h, λ others e. ap (λ (r : Result (List Line) ℕ). result_unwrap_or r others) (sym e ∙ script_back lines h))
+printed_read lines h = (
+  script_back lines h,
+  λ others e. ap (λ (r : Result (List Line) ℕ). result_unwrap_or r others)
+      (sym e ∙ script_back lines h),
+)

@@ -33,7 +33,10 @@ by_index = numerals_by_value _ tells_by_index
 pub solid_decimal : (n : ℕ) → n < 2 ^ 64 → IsSolid (decimal n)
 solid_decimal n top =
     let digits = by_index.from (decimal n) (decimal_is_IsNumeral n top).0.1 in
-    record { each = All-from_get_or (λ c. solid c ≡ true) (decimal n) 0 (λ i below. let d = digits i below in (Decides-ltb 32 (get_or (decimal n) i 0)).1 (omega (arith, d.0))) }
+    record {
+      each = All-from_get_or (λ c. solid c ≡ true) (decimal n) 0
+          (λ i below. let d = digits i below in (Decides-ltb 32 (get_or (decimal n) i 0)).1 (omega (arith, d.0)));
+    }
 
 digit_is_solid : (c : ℕ) → is_hex_digit c ≡ true → solid c ≡ true
 digit_is_solid c h = grind arith
@@ -41,7 +44,10 @@ digit_is_solid c h = grind arith
 pub solid_hex : (bytes : List ℕ) → IsBytes bytes → IsSolid (encode_lower bytes)
 solid_hex bytes h =
     let digits = (decode_of-ok (encode_lower bytes) bytes (decode_of-encode_lower bytes h)).1 in
-    record { each = All-weaker (λ c. is_hex_digit c ≡ true) (λ c. solid c ≡ true) digit_is_solid (encode_lower bytes) digits }
+    record {
+      each = All-weaker (λ c. is_hex_digit c ≡ true) (λ c. solid c ≡ true) digit_is_solid (encode_lower bytes)
+          digits;
+    }
 
 name_is_solid : (c : ℕ) → (nat_le 0x21 c && nat_le c 0x7e) ≡ true → solid c ≡ true
 name_is_solid c h = grind arith
@@ -49,7 +55,10 @@ name_is_solid c h = grind arith
 pub solid_name : (text : Text) → is_name text ≡ true → IsSolid text
 solid_name text h =
     let bytes = (and_parts (nat_lt 0 (length text)) (list_all (λ c. nat_le 0x21 c && nat_le c 0x7e) text) h).1 in
-    record { each = All-weaker (λ c. (nat_le 0x21 c && nat_le c 0x7e) ≡ true) (λ c. solid c ≡ true) name_is_solid text (AllPass-from_list_all _ text bytes) }
+    record {
+      each = All-weaker (λ c. (nat_le 0x21 c && nat_le c 0x7e) ≡ true) (λ c. solid c ≡ true) name_is_solid text
+          (AllPass-from_list_all _ text bytes);
+    }
 
 -- a solid text has no mark at or below the space
 no_mark : (m c : ℕ) → m ≤ 32 → solid c ≡ true → (c == m) ≡ false
@@ -67,7 +76,8 @@ cut_joined f (g ∷ gs) h k =
     ∙ ap (λ t. f ∷ t) (cut_joined g gs k.0 k.1)
 
 -- and have no newline
-pub joined_line : (f : Text) (fs : List Text) → IsSolid f → AllByRecursion IsSolid fs → All (λ b. (b == 0x0a) ≡ false) (join_with_byte 0x20 (f ∷ fs))
+pub joined_line : (f : Text) (fs : List Text) → IsSolid f → AllByRecursion IsSolid fs
+    → All (λ b. (b == 0x0a) ≡ false) (join_with_byte 0x20 (f ∷ fs))
 joined_line f [] h k = without_mark 10 f (omega arith) h
 joined_line f (g ∷ gs) h k =
     All-append (λ b. (b == 0x0a) ≡ false) f (0x20 ∷ join_with_byte 0x20 (g ∷ gs)) (without_mark 10 f (omega arith) h)

@@ -52,7 +52,8 @@ HasFields (BootPart k) = IsNumber k
 HasFields ListLine = ⊤
 HasFields (Extract name) = IsTrue (is_name name)
 HasFields (Erase name) = IsTrue (is_name name)
-HasFields (KDump secs nanos packed reason bytes) = (secs < 2 ^ 63) × (nanos < 1000000000) × (1 ≤ reason) × (reason ≤ 4) × IsPayload bytes
+HasFields (KDump secs nanos packed reason bytes) = (secs < 2 ^ 63) × (nanos < 1000000000) × (1 ≤ reason)
+    × (reason ≤ 4) × IsPayload bytes
 HasFields (CutAfter k) = IsNumber k
 
 abbrev pub AllHaveFields : List Line → Type 0
@@ -78,16 +79,19 @@ flag_text true = codes "C"
 flag_text false = codes "D"
 
 abbrev pub reason_text : ℕ → Text
-reason_text n = if n == 1 then codes "Panic" else (if n == 2 then codes "Oops" else (if n == 3 then codes "Emergency" else codes "Shutdown"))
+reason_text n = if n == 1 then codes "Panic" else (if n == 2 then codes "Oops" else
+    (if n == 3 then codes "Emergency" else codes "Shutdown"))
 
 -- the fields that a line is printed as, the first of them its word
 abbrev pub printed_fields : Line → List Text
 printed_fields Blank = []
 printed_fields (Write z bytes) = codes "write" ∷ zone_text z ∷ payload_text bytes ∷ []
-printed_fields (Dump t packed bytes) = codes "dump" ∷ decimal t.secs ∷ decimal t.micros ∷ flag_text packed ∷ payload_text bytes ∷ []
+printed_fields (Dump t packed bytes) = codes "dump" ∷ decimal t.secs ∷ decimal t.micros ∷ flag_text packed
+    ∷ payload_text bytes ∷ []
 printed_fields (BeginWrite z bytes) = codes "begin" ∷ codes "write" ∷ zone_text z ∷ payload_text bytes ∷ []
 printed_fields (BeginErase z) = codes "begin" ∷ codes "erase" ∷ zone_text z ∷ []
-printed_fields (BeginDump t packed bytes) = codes "begin" ∷ codes "dump" ∷ decimal t.secs ∷ decimal t.micros ∷ flag_text packed ∷ payload_text bytes ∷ []
+printed_fields (BeginDump t packed bytes) = codes "begin" ∷ codes "dump" ∷ decimal t.secs ∷ decimal t.micros
+    ∷ flag_text packed ∷ payload_text bytes ∷ []
 printed_fields (Step z k) = codes "step" ∷ zone_text z ∷ decimal k ∷ []
 printed_fields (Finish z) = codes "finish" ∷ zone_text z ∷ []
 printed_fields Stop = codes "stop" ∷ []
@@ -111,4 +115,5 @@ script_text lines = flat_map (λ line. line_text line ++ 0x0a ∷ []) lines
 -- The text of lines whose fields are inside the table is in the grammar as those lines, and as no others.
 abbrev pub PrintedIsRead : Type 0
 PrintedIsRead = (lines : List Line) → AllHaveFields lines
-    → (script_of (script_text lines) ≡ Ok lines) × ((others : List Line) → script_of (script_text lines) ≡ Ok others → others ≡ lines)
+    → (script_of (script_text lines) ≡ Ok lines) × ((others : List Line) → script_of (script_text lines) ≡ Ok others
+    → others ≡ lines)

@@ -31,4 +31,5 @@ IsFaultOf OutOfMemory read = Unit {0}
 
 -- no decimal of a number below 2 ^ 64, or the number of which it may be the decimal
 abbrev pub IsParsed : List ℕ → Option ℕ → Type 0
-IsParsed text result = MatchOption result ((n : ℕ) → n < 2 ^ 64 → text ≡ decimal n → ⊥) (λ v. (n : ℕ) → n < 2 ^ 64 → text ≡ decimal n → v ≡ n)
+IsParsed text result = MatchOption result ((n : ℕ) → n < 2 ^ 64 → text ≡ decimal n → ⊥)
+    (λ v. (n : ℕ) → n < 2 ^ 64 → text ≡ decimal n → v ≡ n)

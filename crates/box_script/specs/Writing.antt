@@ -32,10 +32,12 @@ spaced (field ∷ fields) = 0x20 ∷ (field ++ spaced fields)
 abbrev pub tail_text : Line → Text
 tail_text Blank = []
 tail_text (Write z bytes) = spaced (zone_text z ∷ payload_text bytes ∷ [])
-tail_text (Dump t packed bytes) = spaced (decimal t.secs ∷ decimal t.micros ∷ flag_text packed ∷ payload_text bytes ∷ [])
+tail_text (Dump t packed bytes) = spaced (decimal t.secs ∷ decimal t.micros ∷ flag_text packed ∷ payload_text bytes
+    ∷ [])
 tail_text (BeginWrite z bytes) = spaced (zone_text z ∷ payload_text bytes ∷ [])
 tail_text (BeginErase z) = spaced (zone_text z ∷ [])
-tail_text (BeginDump t packed bytes) = spaced (decimal t.secs ∷ decimal t.micros ∷ flag_text packed ∷ payload_text bytes ∷ [])
+tail_text (BeginDump t packed bytes) = spaced (decimal t.secs ∷ decimal t.micros ∷ flag_text packed
+    ∷ payload_text bytes ∷ [])
 tail_text (Step z k) = spaced (zone_text z ∷ decimal k ∷ [])
 tail_text (Finish z) = spaced (zone_text z ∷ [])
 tail_text Stop = []
@@ -45,5 +47,6 @@ tail_text (BootPart k) = spaced (decimal k ∷ [])
 tail_text ListLine = []
 tail_text (Extract name) = spaced (name ∷ [])
 tail_text (Erase name) = spaced (name ∷ [])
-tail_text (KDump secs nanos packed reason bytes) = spaced (decimal secs ∷ decimal nanos ∷ flag_text packed ∷ reason_text reason ∷ payload_text bytes ∷ [])
+tail_text (KDump secs nanos packed reason bytes) = spaced
+    (decimal secs ∷ decimal nanos ∷ flag_text packed ∷ reason_text reason ∷ payload_text bytes ∷ [])
 tail_text (CutAfter k) = spaced (decimal k ∷ [])

@@ -7,7 +7,19 @@ use Rattle.code_spec.specs.Field.{gf_add, gf_mul}
 use Rattle.code_laws.proofs.Xor.{xor_comm, xor_assoc, xor_left_comm, xor_self, xor_cancel, xor_zero_r}
 use Rattle.code_laws.proofs.Field.{mul_comm as gf_comm, mul_assoc as gf_assoc, mul_add as gf_mul_add, add_mul as gf_add_mul}
 pub use Rattle.code_laws.proofs.Field.{mul_comm, mul_assoc}
-pub use Rattle.code_laws.proofs.Powers.{mul_zero, one_mul, mul_below, pow_below, pow_add, pow_suc, pow_zero, pow_255, pow_distinct, mul_cancel_zero, inverse}
+pub use Rattle.code_laws.proofs.Powers.{
+  mul_zero,
+  one_mul,
+  mul_below,
+  pow_below,
+  pow_add,
+  pow_suc,
+  pow_zero,
+  pow_255,
+  pow_distinct,
+  mul_cancel_zero,
+  inverse,
+}
 pub use Rattle.code_laws.proofs.Field.{mul_one}
 
 pub add_comm : (a b : ℕ) → gf_add a b ≡ gf_add b a
@@ -62,10 +74,38 @@ equal_from_add a b e = sym (add_zero a) ∙ ap (gf_add a) (sym e) ∙ add_cancel
 
 pub ruleset sums = (add_assoc, add_comm, add_left_comm, add_self, add_cancel, zero_add, add_zero)
 
-pub ruleset ring = (mul_add, add_mul, mul_assoc, mul_comm, mul_left_comm, zero_mul, mul_zero, add_assoc, add_comm, add_left_comm, add_self, add_cancel, zero_add, add_zero)
+pub ruleset ring = (
+  mul_add,
+  add_mul,
+  mul_assoc,
+  mul_comm,
+  mul_left_comm,
+  zero_mul,
+  mul_zero,
+  add_assoc,
+  add_comm,
+  add_left_comm,
+  add_self,
+  add_cancel,
+  zero_add,
+  add_zero,
+)
 
 pub is_field : IsField
-is_field = record { add_below = add_below; add_comm = add_comm; add_assoc = add_assoc; add_zero = add_zero; add_self = add_self; mul_below = mul_below; mul_comm = mul_comm; mul_assoc = mul_assoc; mul_add = mul_add; mul_one = mul_one; inverse = inverse }
+is_field = record {
+  add_below = add_below;
+  add_comm = add_comm;
+  add_assoc = add_assoc;
+  add_zero = add_zero;
+  add_self = add_self;
+  mul_below = mul_below;
+  mul_comm = mul_comm;
+  mul_assoc = mul_assoc;
+  mul_add =
+      mul_add;
+  mul_one = mul_one;
+  inverse = inverse;
+}
 
 pub order_of_two : TwoHasOrder255
 order_of_two = record { order = pow_255; order_least = order_least }

@@ -18,16 +18,24 @@ unfolding differs
 step v w c (inl e) = rw e (omega arith)
 step v w c (inr e) = rw e (omega (arith, differs_self c))
 
-pub distance_toward : (w v c : List ℕ) → length v ≡ length w → length c ≡ length w → ((i : ℕ) → i < length w → (get_or v i 0 ≡ get_or w i 0) ⊎ (get_or v i 0 ≡ get_or c i 0)) → distance v c ≤ distance w c
+pub distance_toward : (w v c : List ℕ) → length v ≡ length w → length c ≡ length w
+    → ((i : ℕ) → i < length w → (get_or v i 0 ≡ get_or w i 0) ⊎ (get_or v i 0 ≡ get_or c i 0))
+    → distance v c ≤ distance w c
 unfolding distance differs
 distance_toward [] [] c l m h = omega arith
 distance_toward [] (v ∷ vs) c l m h = absurd (omega arith)
 distance_toward (w ∷ ws) [] c l m h = absurd (omega arith)
 distance_toward (w ∷ ws) (v ∷ vs) [] l m h = absurd (omega arith)
 distance_toward (w ∷ ws) (v ∷ vs) (c ∷ cs) l m h =
-    omega (arith, step v w c (h 0 (omega arith)), distance_toward ws vs cs (omega arith) (omega arith) (λ i k. h (suc i) (omega arith)))
+    omega (
+      arith,
+      step v w c (h 0 (omega arith)),
+      distance_toward ws vs cs (omega arith) (omega arith)
+          (λ i k. h (suc i) (omega arith)),
+    )
 
-pub toward : (r : ℕ) (w v : List ℕ) → length w ≤ 255 → IsWord (length w) w → IsWord (length w) v → IsToward r w v → StandsFor r w v
+pub toward : (r : ℕ) (w v : List ℕ) → length w ≤ 255 → IsWord (length w) w → IsWord (length w) v → IsToward r w v
+    → StandsFor r w v
 toward r w v l hw hv h = by (nearest r w) refl
   where
     by : (o : Option (List ℕ)) → nearest r w ≡ o → StandsFor r w v
@@ -36,16 +44,27 @@ toward r w v l hw hv h = by (nearest r w) refl
           | inl a ↦ a
           | inr b ↦ (let n : None ≡ Some b.0 = sym e ∙ b.1 in cc)
         ]) in
-        record { same = ap (nearest r) same; none = λ n. same; closer = λ c n. (let m : None ≡ Some c = sym e ∙ n in cc) }
+        record {
+          same = ap (nearest r) same;
+          none = λ n. same;
+          closer = λ c n. (let m : None ≡ Some c = sym e ∙ n in cc);
+        }
     by (Some c) e =
         let near : IsNear r w c = nearest-IsNear r w c hw e in
         let close : distance v c ≤ distance w c = distance_toward w v c hv.0 near.word.0 (λ i k. elim (h i k) [
           | inl a ↦ inl a
-          | inr b ↦ (let m : b.0 ≡ c = (let n : Some b.0 ≡ Some c = sym b.1 ∙ e in cc) in inr (b.2 ∙ ap (λ x. get_or x i 0) m))
+          | inr b ↦ (let m : b.0 ≡ c = (let n : Some b.0 ≡ Some c = sym b.1 ∙ e in cc) in
+              inr (b.2 ∙ ap (λ x. get_or x i 0) m))
         ]) in
-        let is : nearest r v ≡ Some c = (nearest_law r v c (omega (arith, hv.0)) (subst (λ n. IsWord n v) (sym hv.0) hv)).1
+        let is : nearest r v ≡ Some c = (nearest_law r v c (omega (arith, hv.0))
+        (subst (λ n. IsWord n v) (sym hv.0) hv)).1
         (subst (λ n. IsWord n c) (sym hv.0) near.word, near.codeword, omega (arith, close, near.within)) in
-        record { same = is ∙ sym e; none = λ n. (let m : None ≡ Some c = sym n ∙ e in cc); closer = λ d n. (let m : c ≡ d = (let k : Some c ≡ Some d = sym e ∙ n in cc) in subst (λ x. distance v x ≤ distance w x) m close) }
+        record {
+          same = is ∙ sym e;
+          none = λ n. (let m : None ≡ Some c = sym n ∙ e in cc);
+          closer = λ d n. (let m : c ≡ d = (let k : Some c ≡ Some d = sym e ∙ n in cc) in
+              subst (λ x. distance v x ≤ distance w x) m close);
+        }
 
 pub toward_is : TowardTheNearest
 toward_is r w v l hw hv h = toward r w v l hw hv h

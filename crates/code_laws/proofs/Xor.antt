@@ -17,7 +17,8 @@ xor_swap a b c d = simp xor_ac
 
 pub xor_shl : (a b k : ℕ) → bit_xor a b * 2 ^ k ≡ bit_xor (a * 2 ^ k) (b * 2 ^ k)
 xor_shl a b k =
-    let e : bit_xor (a * 2 ^ k + 0) (b * 2 ^ k + 0) ≡ bit_xor a b * 2 ^ k + 0 = xor_block k a b 0 0 (pow_pos k) (pow_pos k) in
+    let e : bit_xor (a * 2 ^ k + 0) (b * 2 ^ k + 0) ≡ bit_xor a b * 2 ^ k + 0 =
+    xor_block k a b 0 0 (pow_pos k) (pow_pos k) in
     sym (add-zero _) ∙ sym e ∙ ap₂ bit_xor (add-zero _) (add-zero _)
 
 pub below_two : (c : ℕ) → c < 2 → (c ≡ 0) ⊎ (c ≡ 1)
@@ -54,11 +55,13 @@ additive_zero f h = h.at_xor 0 0 ∙ xor_self (f 0)
 pub top_bit : (f : ℕ → ℕ) (k q r : ℕ) → IsAdditive f → r < 2 ^ k → f (q * 2 ^ k + r) ≡ bit_xor (f (q * 2 ^ k)) (f r)
 top_bit f k q r h l =
     let e : bit_xor (q * 2 ^ k + 0) (0 * 2 ^ k + r) ≡ bit_xor q 0 * 2 ^ k + r = xor_block k q 0 0 r (pow_pos k) l in
-    let e' : bit_xor (q * 2 ^ k) r ≡ q * 2 ^ k + r = ap₂ bit_xor (sym (add-zero (q * 2 ^ k))) (omega arith) ∙ e ∙ ap (λ (x : ℕ). x * 2 ^ k + r) (xor_zero_r q) in
+    let e' : bit_xor (q * 2 ^ k) r ≡ q * 2 ^ k + r = ap₂ bit_xor (sym (add-zero (q * 2 ^ k))) (omega arith) ∙ e
+    ∙ ap (λ (x : ℕ). x * 2 ^ k + r) (xor_zero_r q) in
     ap f (sym e') ∙ h.at_xor (q * 2 ^ k) r
 
 -- two additive functions that agree at the powers of two below 2 ^ k agree below 2 ^ k
-pub same_additive : (f g : ℕ → ℕ) → IsAdditive f → IsAdditive g → (k : ℕ) → ((i : ℕ) → i < k → f (2 ^ i) ≡ g (2 ^ i)) → (a : ℕ) → a < 2 ^ k → f a ≡ g a
+pub same_additive : (f g : ℕ → ℕ) → IsAdditive f → IsAdditive g → (k : ℕ) → ((i : ℕ) → i < k → f (2 ^ i) ≡ g (2 ^ i))
+    → (a : ℕ) → a < 2 ^ k → f a ≡ g a
 same_additive f g hf hg zero e a l =
     let z : a ≡ 0 = omega arith in rw z (additive_zero f hf ∙ sym (additive_zero g hg))
 same_additive f g hf hg (suc k) e a l =

@@ -11,7 +11,8 @@ ProductByShifts = (a b : ℕ) → a < 256 → b < 256 → mul_bits a b 8 ≡ gf_
 
 -- two different codewords of one length, at most 255, differ in at least r + 1 places
 abbrev pub LawOfDistance : Type 0
-LawOfDistance = (r n : ℕ) (c d : List ℕ) → n ≤ 255 → IsWord n c → IsWord n d → IsCodeword r c → IsCodeword r d → c ≢ d → r + 1 ≤ distance c d
+LawOfDistance = (r n : ℕ) (c d : List ℕ) → n ≤ 255 → IsWord n c → IsWord n d → IsCodeword r c → IsCodeword r d → c ≢ d
+    → r + 1 ≤ distance c d
 
 -- nearest gives a codeword of the word's length within half the parity, it is the only one, and where
 -- there is one nearest gives it
@@ -26,4 +27,5 @@ ParityIs = (r : ℕ) (m p : List ℕ) → length m + r ≤ 255 → IsWord (lengt
 
 -- a word some of whose bytes went over to its nearest codeword keeps that codeword
 abbrev pub TowardTheNearest : Type 0
-TowardTheNearest = (r : ℕ) (w v : List ℕ) → length w ≤ 255 → IsWord (length w) w → IsWord (length w) v → IsToward r w v → StandsFor r w v
+TowardTheNearest = (r : ℕ) (w v : List ℕ) → length w ≤ 255 → IsWord (length w) w → IsWord (length w) v
+    → IsToward r w v → StandsFor r w v

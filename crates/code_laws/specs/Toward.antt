@@ -4,7 +4,8 @@ use Rattle.code_spec.specs.Code.{nearest, distance}
 
 -- v has at each place what w has, or what w's nearest codeword has
 abbrev pub IsToward : ℕ → List ℕ → List ℕ → Type 0
-IsToward r w v = (i : ℕ) → i < length w → (slice_index v i ≡ slice_index w i) ⊎ ((c : List ℕ) × (nearest r w ≡ Some c) × (slice_index v i ≡ slice_index c i))
+IsToward r w v = (i : ℕ) → i < length w → (slice_index v i ≡ slice_index w i) ⊎
+    ((c : List ℕ) × (nearest r w ≡ Some c) × (slice_index v i ≡ slice_index c i))
 
 -- v has w's nearest codeword, no further away; without one it is w
 pub record StandsFor (r : ℕ) (w v : List ℕ) : Type 0 where

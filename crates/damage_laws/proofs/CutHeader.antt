@@ -60,18 +60,24 @@ IsUnsigning (Run place bytes) = Unit {0}
 IsUnsigning (ParityOf part) = Unit {0}
 
 -- bytes stored behind the words leave them
-behind : (place : ℕ) (bs : List ℕ) (k : ℕ) (x : List ℕ) → 12 ≤ place → (i : ℕ) → i < 12 → get_or (after_stores x (take k (byte_stores place bs))) i 0 ≡ get_or x i 0
+behind : (place : ℕ) (bs : List ℕ) (k : ℕ) (x : List ℕ) → 12 ≤ place → (i : ℕ) → i < 12
+    → get_or (after_stores x (take k (byte_stores place bs))) i 0 ≡ get_or x i 0
 unfolding after_stores byte_stores
 behind place bs zero x h i l = refl
 behind place [] (suc k) x h i l = refl
-behind place (b ∷ bs) (suc k) x h i l = behind (place + 1) bs k (put x place (b ∷ [])) (omega arith) i l ∙ put-below x place i (b ∷ []) (omega arith)
+behind place (b ∷ bs) (suc k) x h i l = behind (place + 1) bs k (put x place (b ∷ [])) (omega arith) i l
+    ∙ put-below x place i (b ∷ []) (omega arith)
 
-behind-words : (place : ℕ) (bs : List ℕ) (k : ℕ) (x : List ℕ) → 12 ≤ place → standing_words (after_stores x (take k (byte_stores place bs))) ≡ standing_words x
-behind-words place bs k x h = standing_same (after_stores x (take k (byte_stores place bs))) x (λ i l. behind place bs k x h i l)
+behind-words : (place : ℕ) (bs : List ℕ) (k : ℕ) (x : List ℕ) → 12 ≤ place
+    → standing_words (after_stores x (take k (byte_stores place bs))) ≡ standing_words x
+behind-words place bs k x h = standing_same (after_stores x (take k (byte_stores place bs))) x
+    (λ i l. behind place bs k x h i l)
 
-behind-all : (place : ℕ) (bs : List ℕ) (x : List ℕ) → 12 ≤ place → standing_words (after_stores x (byte_stores place bs)) ≡ standing_words x
+behind-all : (place : ℕ) (bs : List ℕ) (x : List ℕ) → 12 ≤ place
+    → standing_words (after_stores x (byte_stores place bs)) ≡ standing_words x
 behind-all place bs x h =
-    ap (λ ss. standing_words (after_stores x ss)) (sym (take_all (length (byte_stores place bs)) (byte_stores place bs) (omega arith)))
+    ap (λ ss. standing_words (after_stores x ss)) (sym (take_all (length (byte_stores place bs))
+    (byte_stores place bs) (omega arith)))
     ∙ behind-words place bs (length (byte_stores place bs)) x h
 
 behind_parity : (z : Zone) (part : Part) → 12 ≤ part_parity_at z part
@@ -83,40 +89,69 @@ take-left zero xs ys h = refl
 take-left (suc k) [] ys h = absurd (omega arith)
 take-left (suc k) (x ∷ xs) ys h = ap (λ zs. x ∷ zs) (take-left k xs ys (omega arith))
 
-pub take-right : {X : Type 0} (k : ℕ) (xs ys : List X) → length xs ≤ k → take k (xs ++ ys) ≡ xs ++ take (k - length xs) ys
+pub take-right : {X : Type 0} (k : ℕ) (xs ys : List X) → length xs ≤ k
+    → take k (xs ++ ys) ≡ xs ++ take (k - length xs) ys
 take-right k [] ys h = (let e : k ≡ k - 0 = omega arith in ap (λ n. take n ys) e)
 take-right zero (x ∷ xs) ys h = absurd (omega arith)
-take-right (suc k) (x ∷ xs) ys h = ap (λ zs. x ∷ zs) (take-right k xs ys (omega arith) ∙ ap (λ n. xs ++ take n ys) (omega arith))
+take-right (suc k) (x ∷ xs) ys h = ap (λ zs. x ∷ zs) (take-right k xs ys (omega arith)
+    ∙ ap (λ n. xs ++ take n ys) (omega arith))
 
 module _ (z : Zone) where
-  pub sig_put : (x : List ℕ) (n : ℕ) → 12 ≤ length x → n < 2 ^ 32 → standing_words (put x 0 (to_le_bytes w32 n)) ≡ record { sig = n; start = (standing_words x).start; size = (standing_words x).size }
-  sig_put x n h l = words_eq (standing_words (put x 0 (to_le_bytes w32 n))) (record { sig = n; start = (standing_words x).start; size = (standing_words x).size })
-      (word_of-stored (put x 0 (to_le_bytes w32 n)) 0 n (omega arith) l (λ i k. put-inside x 0 i (to_le_bytes w32 n) (omega arith) k))
-      (word_of-same (put x 0 (to_le_bytes w32 n)) x 4 (omega arith) (λ i k. put-above x 0 (4 + i) (to_le_bytes w32 n) (omega arith)))
-      (word_of-same (put x 0 (to_le_bytes w32 n)) x 8 (omega arith) (λ i k. put-above x 0 (8 + i) (to_le_bytes w32 n) (omega arith)))
+  pub sig_put : (x : List ℕ) (n : ℕ) → 12 ≤ length x → n < 2 ^ 32
+      → standing_words (put x 0 (to_le_bytes w32 n)) ≡ record {
+        sig = n;
+        start = (standing_words x).start;
+        size = (standing_words x).size;
+      }
+  sig_put x n h l = words_eq (standing_words (put x 0 (to_le_bytes w32 n)))
+      (record { sig = n; start = (standing_words x).start; size = (standing_words x).size })
+      (word_of-stored (put x 0 (to_le_bytes w32 n)) 0 n (omega arith) l
+      (λ i k. put-inside x 0 i (to_le_bytes w32 n) (omega arith) k))
+      (word_of-same (put x 0 (to_le_bytes w32 n)) x 4 (omega arith)
+      (λ i k. put-above x 0 (4 + i) (to_le_bytes w32 n) (omega arith)))
+      (word_of-same (put x 0 (to_le_bytes w32 n)) x 8 (omega arith)
+      (λ i k. put-above x 0 (8 + i) (to_le_bytes w32 n) (omega arith)))
 
-  start_put : (x : List ℕ) (n : ℕ) → 12 ≤ length x → n < 2 ^ 32 → standing_words (put x 4 (to_le_bytes w32 n)) ≡ record { sig = (standing_words x).sig; start = n; size = (standing_words x).size }
-  start_put x n h l = words_eq (standing_words (put x 4 (to_le_bytes w32 n))) (record { sig = (standing_words x).sig; start = n; size = (standing_words x).size })
-      (word_of-same (put x 4 (to_le_bytes w32 n)) x 0 (omega arith) (λ i k. put-below x 4 (0 + i) (to_le_bytes w32 n) (omega arith)))
-      (word_of-stored (put x 4 (to_le_bytes w32 n)) 4 n (omega arith) l (λ i k. put-inside x 4 i (to_le_bytes w32 n) (omega arith) k))
-      (word_of-same (put x 4 (to_le_bytes w32 n)) x 8 (omega arith) (λ i k. put-above x 4 (8 + i) (to_le_bytes w32 n) (omega arith)))
+  start_put : (x : List ℕ) (n : ℕ) → 12 ≤ length x → n < 2 ^ 32
+      → standing_words (put x 4 (to_le_bytes w32 n)) ≡ record {
+        sig = (standing_words x).sig;
+        start = n;
+        size = (standing_words x).size;
+      }
+  start_put x n h l = words_eq (standing_words (put x 4 (to_le_bytes w32 n)))
+      (record { sig = (standing_words x).sig; start = n; size = (standing_words x).size })
+      (word_of-same (put x 4 (to_le_bytes w32 n)) x 0 (omega arith)
+      (λ i k. put-below x 4 (0 + i) (to_le_bytes w32 n) (omega arith)))
+      (word_of-stored (put x 4 (to_le_bytes w32 n)) 4 n (omega arith) l
+      (λ i k. put-inside x 4 i (to_le_bytes w32 n) (omega arith) k))
+      (word_of-same (put x 4 (to_le_bytes w32 n)) x 8 (omega arith)
+      (λ i k. put-above x 4 (8 + i) (to_le_bytes w32 n) (omega arith)))
 
-  size_put : (x : List ℕ) (n : ℕ) → 12 ≤ length x → n < 2 ^ 32 → standing_words (put x 8 (to_le_bytes w32 n)) ≡ record { sig = (standing_words x).sig; start = (standing_words x).start; size = n }
-  size_put x n h l = words_eq (standing_words (put x 8 (to_le_bytes w32 n))) (record { sig = (standing_words x).sig; start = (standing_words x).start; size = n })
-      (word_of-same (put x 8 (to_le_bytes w32 n)) x 0 (omega arith) (λ i k. put-below x 8 (0 + i) (to_le_bytes w32 n) (omega arith)))
-      (word_of-same (put x 8 (to_le_bytes w32 n)) x 4 (omega arith) (λ i k. put-below x 8 (4 + i) (to_le_bytes w32 n) (omega arith)))
-      (word_of-stored (put x 8 (to_le_bytes w32 n)) 8 n (omega arith) l (λ i k. put-inside x 8 i (to_le_bytes w32 n) (omega arith) k))
+  size_put : (x : List ℕ) (n : ℕ) → 12 ≤ length x → n < 2 ^ 32
+      → standing_words (put x 8 (to_le_bytes w32 n)) ≡ record
+      { sig = (standing_words x).sig; start = (standing_words x).start; size = n }
+  size_put x n h l = words_eq (standing_words (put x 8 (to_le_bytes w32 n)))
+      (record { sig = (standing_words x).sig; start = (standing_words x).start; size = n })
+      (word_of-same (put x 8 (to_le_bytes w32 n)) x 0 (omega arith)
+      (λ i k. put-below x 8 (0 + i) (to_le_bytes w32 n) (omega arith)))
+      (word_of-same (put x 8 (to_le_bytes w32 n)) x 4 (omega arith)
+      (λ i k. put-below x 8 (4 + i) (to_le_bytes w32 n) (omega arith)))
+      (word_of-stored (put x 8 (to_le_bytes w32 n)) 8 n (omega arith) l
+      (λ i k. put-inside x 8 i (to_le_bytes w32 n) (omega arith) k))
 
   -- a stage's stores, all or some of them
-  stage_words : (g : Stage) (x : List ℕ) → 12 ≤ length x → IsSmall g → standing_words (after_stores x (stage_stores z g x)) ≡ words_after (standing_words x) (g ∷ [])
+  stage_words : (g : Stage) (x : List ℕ) → 12 ≤ length x → IsSmall g
+      → standing_words (after_stores x (stage_stores z g x)) ≡ words_after (standing_words x) (g ∷ [])
   unfolding stage_stores after_stores words_after
   stage_words (SigWord n) x h l = sig_put x n h l
   stage_words (StartWord n) x h l = start_put x n h l
   stage_words (SizeWord n) x h l = size_put x n h l
   stage_words (Run place bytes) x h l = behind-all (12 + place) bytes x (omega arith)
-  stage_words (ParityOf part) x h l = behind-all (part_parity_at z part) (parity_of z.parity (part_bytes z x part)) x (behind_parity z part)
+  stage_words (ParityOf part) x h l = behind-all (part_parity_at z part) (parity_of z.parity (part_bytes z x part)) x
+      (behind_parity z part)
 
-  stage_part : (g : Stage) (x : List ℕ) (k : ℕ) → k < length (stage_stores z g x) → standing_words (after_stores x (take k (stage_stores z g x))) ≡ standing_words x
+  stage_part : (g : Stage) (x : List ℕ) (k : ℕ) → k < length (stage_stores z g x)
+      → standing_words (after_stores x (take k (stage_stores z g x))) ≡ standing_words x
   unfolding stage_stores after_stores
   stage_part (SigWord n) x zero l = refl
   stage_part (SigWord n) x (suc k) l = absurd (omega arith)
@@ -125,9 +160,11 @@ module _ (z : Zone) where
   stage_part (SizeWord n) x zero l = refl
   stage_part (SizeWord n) x (suc k) l = absurd (omega arith)
   stage_part (Run place bytes) x k l = behind-words (12 + place) bytes k x (omega arith)
-  stage_part (ParityOf part) x k l = behind-words (part_parity_at z part) (parity_of z.parity (part_bytes z x part)) k x (behind_parity z part)
+  stage_part (ParityOf part) x k l = behind-words (part_parity_at z part) (parity_of z.parity (part_bytes z x part))
+      k x (behind_parity z part)
 
-  words_after-cons : (w : Words) (g : Stage) (hs : List Stage) → words_after (words_after w (g ∷ [])) hs ≡ words_after w (g ∷ hs)
+  words_after-cons : (w : Words) (g : Stage) (hs : List Stage)
+      → words_after (words_after w (g ∷ [])) hs ≡ words_after w (g ∷ hs)
   unfolding words_after
   words_after-cons w (SigWord n) hs = refl
   words_after-cons w (StartWord n) hs = refl
@@ -137,7 +174,8 @@ module _ (z : Zone) where
 
   -- the words after some stores are those after some stages
   pub words_track : (gs : List Stage) (x : List ℕ) (k : ℕ) → 12 ≤ length x → AllByRecursion IsSmall gs
-      → (hs : List Stage) × (ts : List Stage) × (gs ≡ hs ++ ts) × (standing_words (after_stores x (take k (stores_in_turn z gs x))) ≡ words_after (standing_words x) hs)
+      → (hs : List Stage) × (ts : List Stage) × (gs ≡ hs ++ ts)
+      × (standing_words (after_stores x (take k (stores_in_turn z gs x))) ≡ words_after (standing_words x) hs)
   unfolding stores_in_turn after_stores words_after
   words_track [] x zero h small = ([], [], refl, refl)
   words_track [] x (suc k) h small = ([], [], refl, refl)
@@ -146,14 +184,22 @@ module _ (z : Zone) where
       let y : List ℕ = after_stores x ss in
       let rest : List Store = stores_in_turn z gs y in
       elim (cases_lt k (length ss)) [
-        | inl l ↦ ([], g ∷ gs, refl, ap (λ ts. standing_words (after_stores x ts)) (take-left k ss rest (omega arith)) ∙ stage_part g x k l)
+        | inl l ↦ (
+          [],
+          g ∷ gs,
+          refl,
+          ap (λ ts. standing_words (after_stores x ts)) (take-left k ss rest (omega arith))
+              ∙ stage_part g x k l,
+        )
         | inr m ↦
             (let t = words_track gs y (k - length ss) (omega (arith, length-after_stores x ss)) small.1 in (
               g ∷ t.0,
               t.1,
               ap (λ us. g ∷ us) t.2,
-              ap (λ us. standing_words (after_stores x us)) (take-right k ss rest m) ∙ ap standing_words (after_stores-append x ss (take (k - length ss) rest))
-                  ∙ t.3 ∙ ap (λ w. words_after w t.0) (stage_words g x h small.0) ∙ words_after-cons (standing_words x) g t.0,
+              ap (λ us. standing_words (after_stores x us)) (take-right k ss rest m)
+                  ∙ ap standing_words (after_stores-append x ss (take (k - length ss) rest))
+                  ∙ t.3 ∙ ap (λ w. words_after w t.0) (stage_words g x h small.0)
+                  ∙ words_after-cons (standing_words x) g t.0,
             ))
       ]
 
@@ -171,7 +217,8 @@ pairs_head p (ParityOf part ∷ gs) = pairs_head p gs
 pairs_later : (p q : Pair) (ps : List Pair) → Contains ps q → Contains (p ∷ ps) q
 pairs_later p q ps h = (suc h.0, omega (arith, h.1), h.2)
 
-pub pairs_have : (w : Words) (hs ts : List Stage) → Contains (pairs_from (pair_of w) (hs ++ ts)) (pair_of (words_after w hs))
+pub pairs_have : (w : Words) (hs ts : List Stage) → Contains (pairs_from (pair_of w) (hs ++ ts))
+    (pair_of (words_after w hs))
 unfolding pairs_from words_after
 pairs_have w [] ts = pairs_head (pair_of w) ts
 pairs_have w (StartWord n ∷ hs) ts = pairs_later _ _ _ (pairs_have (record w { start = n }) hs ts)
@@ -194,14 +241,19 @@ sig_kept w (ParityOf part ∷ hs) ts h = sig_kept w hs ts h.1
 abbrev pub IsCallStage : Stage → Type 0
 IsCallStage g = IsSmall g × IsUnsigning g
 
-pub both-small : (gs : List Stage) → AllByRecursion IsCallStage gs → AllByRecursion IsSmall gs × AllByRecursion IsUnsigning gs
+pub both-small : (gs : List Stage) → AllByRecursion IsCallStage gs
+    → AllByRecursion IsSmall gs × AllByRecursion IsUnsigning gs
 both-small [] h = (tt, tt)
 both-small (g ∷ gs) h = let r = both-small gs h.1 in ((h.0.0, r.0), (h.0.1, r.1))
 
 module _ (z : Zone) (valid : IsValidZone z) where
   run-small : (place : ℕ) (bs : List ℕ) → AllByRecursion IsCallStage (run_stages z place bs)
   run-small place [] = tt
-  run-small place (b ∷ bs) = ((tt, tt), all-map IsCallStage (λ k. ParityOf (Block k)) (blocks_met z place (length (b ∷ bs))) (λ x. (tt, tt)))
+  run-small place (b ∷ bs) = (
+    (tt, tt),
+    all-map IsCallStage (λ k. ParityOf (Block k))
+        (blocks_met z place (length (b ∷ bs))) (λ x. (tt, tt)),
+  )
 
   append-small : (s n : ℕ) (q : List ℕ) → AllByRecursion IsCallStage (append_stages z s n q)
   append-small s n [] = tt
@@ -215,12 +267,20 @@ module _ (z : Zone) (valid : IsValidZone z) where
       all-append IsCallStage (sizes ++ starts ++ first ++ second) (ParityOf Header ∷ [])
       (all-append IsCallStage (sizes ++ starts ++ first) second
       (all-append IsCallStage (sizes ++ starts) first
-      (all-append IsCallStage sizes starts (size-small (n == z.cap)) (((let m : (s + length q) % z.cap < z.cap = mod-lt (s + length q) room in omega (arith, valid.cap, valid.at_most)), tt), tt))
+      (all-append IsCallStage sizes starts (size-small (n == z.cap)) (
+        (
+          (let m : (s + length q) % z.cap < z.cap = mod-lt (s + length q) room in
+              omega (arith, valid.cap, valid.at_most)),
+          tt,
+        ),
+        tt,
+      ))
       (run-small s (take (z.cap - s) q)))
       (run-small 0 (drop (z.cap - s) q)))
       ((tt, tt), tt)
     where
-      size-small : (full : Bool) → AllByRecursion IsCallStage (cond full [] (SizeWord (min z.cap (n + length (c ∷ cs))) ∷ []))
+      size-small : (full : Bool) → AllByRecursion IsCallStage
+          (cond full [] (SizeWord (min z.cap (n + length (c ∷ cs))) ∷ []))
       size-small true = tt
       size-small false = ((omega (arith, valid.cap, valid.at_most), tt), tt)
 
@@ -231,13 +291,21 @@ module _ (z : Zone) (valid : IsValidZone z) where
   parts-small : (w : Words) (call : Call) → AllByRecursion (λ gs. AllByRecursion IsCallStage gs) (call_parts z w call)
   parts-small w (Append payload) = (append-small w.start w.size (last_items z.cap payload), tt)
   parts-small w Erase = (erase-small, tt)
-  parts-small w (Dump line body) = (erase-small, (append-small 0 0 line, (append-small (length line) (length line) (take (z.cap - length line) body), tt)))
+  parts-small w (Dump line body) = (
+    erase-small,
+    (
+      append-small 0 0 line,
+      (append-small (length line) (length line) (take (z.cap - length line) body), tt),
+    ),
+  )
 
-flat-small : (parts : List (List Stage)) → AllByRecursion (λ gs. AllByRecursion IsCallStage gs) parts → AllByRecursion IsCallStage (flat_map (λ part. part) parts)
+flat-small : (parts : List (List Stage)) → AllByRecursion (λ gs. AllByRecursion IsCallStage gs) parts
+    → AllByRecursion IsCallStage (flat_map (λ part. part) parts)
 flat-small [] h = tt
 flat-small (p ∷ ps) h = all-append IsCallStage p (flat_map (λ part. part) ps) h.0 (flat-small ps h.1)
 
-pub each-small : (parts : List (List Stage)) → AllByRecursion (λ gs. AllByRecursion IsCallStage gs) parts → AllByRecursion (λ gs. AllByRecursion IsSmall gs) parts
+pub each-small : (parts : List (List Stage)) → AllByRecursion (λ gs. AllByRecursion IsCallStage gs) parts
+    → AllByRecursion (λ gs. AllByRecursion IsSmall gs) parts
 each-small [] h = tt
 each-small (p ∷ ps) h = ((both-small p h.0).0, each-small ps h.1)
 
@@ -265,21 +333,31 @@ pub record IsWindow (r : ℕ) (w : Window) : Type 0 where
   pub opening : (c : List ℕ) → w.opening_codeword ≡ Some c → SaysWords r w.opening c
   pub closing : SaysWords r w.closing w.closing_codeword
 
-header_codeword-says : (r : ℕ) (w : Words) → w.sig < 2 ^ 32 → w.start < 2 ^ 32 → w.size < 2 ^ 32 → SaysWords r w (header_codeword r w)
+header_codeword-says : (r : ℕ) (w : Words) → w.sig < 2 ^ 32 → w.start < 2 ^ 32 → w.size < 2 ^ 32
+    → SaysWords r w (header_codeword r w)
 header_codeword-says r w a b c =
     let bytes : List ℕ = to_le_bytes w32 w.sig ++ to_le_bytes w32 w.start ++ to_le_bytes w32 w.size in
     let a4 : List ℕ = to_le_bytes w32 w.sig in
     let b4 : List ℕ = to_le_bytes w32 w.start in
     let c4 : List ℕ = to_le_bytes w32 w.size in
-    let all : AllByRecursion (λ b. b < 256) bytes = bytes-append (a4 ++ b4) c4 (bytes-append a4 b4 (bytes-all a4 (word-bytes w.sig)) (bytes-all b4 (word-bytes w.start))) (bytes-all c4 (word-bytes w.size)) in
-    let made : IsWord r (parity_of r bytes) × IsCodeword r (bytes ++ parity_of r bytes) = parity_made r bytes (refl, all) in
+    let all : AllByRecursion (λ b. b < 256) bytes = bytes-append (a4 ++ b4) c4
+    (bytes-append a4 b4 (bytes-all a4 (word-bytes w.sig)) (bytes-all b4 (word-bytes w.start)))
+    (bytes-all c4 (word-bytes w.size)) in
+    let made : IsWord r (parity_of r bytes) × IsCodeword r (bytes ++ parity_of r bytes) =
+    parity_made r bytes (refl, all) in
     record {
-      word = (length-append bytes (parity_of r bytes) ∙ omega (arith, made.0.0), bytes-append bytes (parity_of r bytes) all made.0.1);
+      word = (
+        length-append bytes (parity_of r bytes) ∙ omega (arith, made.0.0),
+        bytes-append bytes (parity_of r bytes) all made.0.1,
+      );
       codeword = made.1;
-      words = words_eq (words_in (header_codeword r w)) w (from_le_bytes-to_le_bytes_4 w.sig a) (from_le_bytes-to_le_bytes_4 w.start b) (from_le_bytes-to_le_bytes_4 w.size c);
+      words = words_eq (words_in (header_codeword r w)) w (from_le_bytes-to_le_bytes_4 w.sig a)
+          (from_le_bytes-to_le_bytes_4 w.start b) (from_le_bytes-to_le_bytes_4 w.size c);
     }
 
-after-small : (gs : List Stage) (w : Words) → AllByRecursion IsSmall gs → w.sig < 2 ^ 32 → w.start < 2 ^ 32 → w.size < 2 ^ 32 → ((words_after w gs).sig < 2 ^ 32) × ((words_after w gs).start < 2 ^ 32) × ((words_after w gs).size < 2 ^ 32)
+after-small : (gs : List Stage) (w : Words) → AllByRecursion IsSmall gs → w.sig < 2 ^ 32 → w.start < 2 ^ 32
+    → w.size < 2 ^ 32 → ((words_after w gs).sig < 2 ^ 32) × ((words_after w gs).start < 2 ^ 32)
+    × ((words_after w gs).size < 2 ^ 32)
 unfolding words_after
 after-small [] w h a b c = (a, b, c)
 after-small (SigWord n ∷ gs) w h a b c = after-small gs (record w { sig = n }) h.1 h.0 b c
@@ -288,36 +366,48 @@ after-small (SizeWord n ∷ gs) w h a b c = after-small gs (record w { size = n 
 after-small (Run place bytes ∷ gs) w h a b c = after-small gs w h.1 a b c
 after-small (ParityOf part ∷ gs) w h a b c = after-small gs w h.1 a b c
 
-pub windows_ok : (z : Zone) (parts : List (List Stage)) (header : List ℕ) → IsHeader z.parity header → AllByRecursion (λ gs. AllByRecursion IsSmall gs) parts → AllByRecursion (IsWindow z.parity) (windows_from z header parts)
+pub windows_ok : (z : Zone) (parts : List (List Stage)) (header : List ℕ) → IsHeader z.parity header
+    → AllByRecursion (λ gs. AllByRecursion IsSmall gs) parts
+    → AllByRecursion (IsWindow z.parity) (windows_from z header parts)
 unfolding windows_from
 windows_ok z [] header h small = tt
 windows_ok z ([] ∷ parts) header h small = windows_ok z parts header h small.1
 windows_ok z ((g ∷ gs) ∷ parts) header h small =
     let w : Words = words_after (words_in header) (g ∷ gs) in
     let bounds = after-small (g ∷ gs) (words_in header) small.0 h.sig h.start h.size in
-    let closing : SaysWords z.parity w (header_codeword z.parity w) = header_codeword-says z.parity w bounds.0 bounds.1 bounds.2 in
-    let own : nearest z.parity (header_codeword z.parity w) ≡ Some (header_codeword z.parity w) = nearest-codeword z.parity (header_codeword z.parity w) closing.codeword in (
+    let closing : SaysWords z.parity w (header_codeword z.parity w) =
+    header_codeword-says z.parity w bounds.0 bounds.1 bounds.2 in
+    let own : nearest z.parity (header_codeword z.parity w) ≡ Some (header_codeword z.parity w) =
+    nearest-codeword z.parity (header_codeword z.parity w) closing.codeword in (
       record {
         opening = λ c e.
-            let near : IsNear z.parity header c = nearest-IsNear z.parity header c (subst (λ n. IsWord n header) (sym h.word.0) h.word) e in
-            record { word = subst (λ n. IsWord n c) h.word.0 near.word; codeword = near.codeword; words = h.stands c e };
+            let near : IsNear z.parity header c = nearest-IsNear z.parity header c
+            (subst (λ n. IsWord n header) (sym h.word.0) h.word) e in
+            record {
+              word = subst (λ n. IsWord n c) h.word.0 near.word;
+              codeword = near.codeword;
+              words = h.stands c e;
+            };
         closing = closing;
       },
       windows_ok z parts (header_codeword z.parity w) (record {
         word = closing.word;
-        stands = λ c e. (let same : header_codeword z.parity w ≡ c = (let k : Some (header_codeword z.parity w) ≡ Some c = sym own ∙ e in cc) in ap words_in (sym same));
+        stands = λ c e. (let same : header_codeword z.parity w
+            ≡ c = (let k : Some (header_codeword z.parity w) ≡ Some c = sym own ∙ e in cc) in ap words_in (sym same));
         sig = subst (λ v. v.sig < 2 ^ 32) (sym closing.words) bounds.0;
         start = subst (λ v. v.start < 2 ^ 32) (sym closing.words) bounds.1;
         size = subst (λ v. v.size < 2 ^ 32) (sym closing.words) bounds.2;
       }) small.1,
     )
 
-pub window_in : (P : Window → Type 0) (ws : List Window) (made : ℕ) (w : Window) → AllByRecursion P ws → window_at made ws ≡ Some w → P w
+pub window_in : (P : Window → Type 0) (ws : List Window) (made : ℕ) (w : Window) → AllByRecursion P ws
+    → window_at made ws ≡ Some w → P w
 unfolding window_at
 window_in P [] made w h e = let n : None ≡ Some w = e in cc
 window_in P (v ∷ ws) made w h e = by (nat_le made v.stores) e (window_in P ws (made - v.stores) w h.1)
   where
-    by : (b : Bool) → cond b (Some v) (window_at (made - v.stores) ws) ≡ Some w → (window_at (made - v.stores) ws ≡ Some w → P w) → P w
+    by : (b : Bool) → cond b (Some v) (window_at (made - v.stores) ws) ≡ Some w
+        → (window_at (made - v.stores) ws ≡ Some w → P w) → P w
     by true e next = (let s : v ≡ w = cc in subst P s h.0)
     by false e next = next e
 
@@ -325,18 +415,22 @@ pub all_stores : List Window → ℕ
 all_stores [] = 0
 all_stores (w ∷ ws) = w.stores + all_stores ws
 
-pub all_stores-windows : (z : Zone) (parts : List (List Stage)) (header : List ℕ) → all_stores (windows_from z header parts) ≡ sum_by (stage_count z) (flat_map (λ part. part) parts)
+pub all_stores-windows : (z : Zone) (parts : List (List Stage)) (header : List ℕ)
+    → all_stores (windows_from z header parts) ≡ sum_by (stage_count z) (flat_map (λ part. part) parts)
 unfolding all_stores windows_from
 all_stores-windows z [] header = refl
 all_stores-windows z ([] ∷ parts) header = all_stores-windows z parts header
 all_stores-windows z ((g ∷ gs) ∷ parts) header =
-    ap (λ n. sum_by (stage_count z) (g ∷ gs) + n) (all_stores-windows z parts _) ∙ sym (sum_by-append (stage_count z) (g ∷ gs) (flat_map (λ part. part) parts))
+    ap (λ n. sum_by (stage_count z) (g ∷ gs) + n) (all_stores-windows z parts _)
+    ∙ sym (sum_by-append (stage_count z) (g ∷ gs) (flat_map (λ part. part) parts))
 
-window_found : (ws : List Window) (w : Window) (made : ℕ) → made ≤ w.stores + all_stores ws → (v : Window) × (window_at made (w ∷ ws) ≡ Some v)
+window_found : (ws : List Window) (w : Window) (made : ℕ) → made ≤ w.stores + all_stores ws
+    → (v : Window) × (window_at made (w ∷ ws) ≡ Some v)
 unfolding all_stores window_at
 window_found [] w made h = rw (le-leb made w.stores (omega arith)) (w, refl)
 window_found (u ∷ ws) w made h = elim (cases_lt w.stores made) [
-  | inl m ↦ (let f : nat_le made w.stores ≡ false = grind (arith, nat_tests) in rw f (window_found ws u (made - w.stores) (omega arith)))
+  | inl m ↦ (let f : nat_le made w.stores ≡ false = grind (arith, nat_tests) in
+      rw f (window_found ws u (made - w.stores) (omega arith)))
   | inr g ↦ rw (le-leb made w.stores g) (w, refl)
 ]
 
@@ -347,46 +441,64 @@ window_exists (w ∷ ws) made h = window_found ws w made (omega arith)
 
 -- ---- what the header reads
 
-pub near_words : (z : Zone) (now : List ℕ) (w : Words) (c : List ℕ) → IsValidZone z → IsImage z now → SaysWords z.parity w c → IsNearHeader z now c → words_read z now ≡ w
+pub near_words : (z : Zone) (now : List ℕ) (w : Words) (c : List ℕ) → IsValidZone z → IsImage z now
+    → SaysWords z.parity w c → IsNearHeader z now c → words_read z now ≡ w
 near_words z now w c valid im says near =
     let l = header_length z now valid im in
-    ap words_in (reading_near z now Header c (near_is z now Header c valid im.1 (record { codeword = says.codeword; within = near; word = subst (λ n. IsWord n c) (sym l.1) says.word })))
+    ap words_in (reading_near z now Header c (near_is z now Header c valid im.1
+    (record { codeword = says.codeword; within = near; word = subst (λ n. IsWord n c) (sym l.1) says.word })))
     ∙ words_taken c (length (part_bytes z now Header)) l.0 ∙ says.words
 
-pub header_toward : (z : Zone) (stop now : List ℕ) → IsValidZone z → IsImage z stop → IsImage z now → IsNotDamagedFurther z stop now → IsMended z stop now Header
+pub header_toward : (z : Zone) (stop now : List ℕ) → IsValidZone z → IsImage z stop → IsImage z now
+    → IsNotDamagedFurther z stop now → IsMended z stop now Header
 header_toward z stop now valid hs hn h =
-    toward_mended z stop now Header valid (hn.0 ∙ sym hs.0) hs.1 hn.1 (λ i l. h i (omega (arith, (header_length z stop valid hs).1)))
+    toward_mended z stop now Header valid (hn.0 ∙ sym hs.0) hs.1 hn.1
+    (λ i l. h i (omega (arith, (header_length z stop valid hs).1)))
 
 -- of any cut whose header is one, and whose stages store words that fit
-pub header_reads : (z : Zone) (cut : Cut) (stop now : List ℕ) → IsValidZone z → IsImage z stop → IsImage z now → IsHeader z.parity cut.header → AllByRecursion (λ gs. AllByRecursion IsSmall gs) cut.parts
-    → ((standing_words stop).sig ≡ z.sig) × Contains (cut_pairs cut) (pair_of (standing_words stop)) → IsNotDamagedFurther z stop now → HeaderReads z cut stop now
+pub header_reads : (z : Zone) (cut : Cut) (stop now : List ℕ) → IsValidZone z → IsImage z stop → IsImage z now
+    → IsHeader z.parity cut.header → AllByRecursion (λ gs. AllByRecursion IsSmall gs) cut.parts
+    → ((standing_words stop).sig ≡ z.sig) × Contains (cut_pairs cut) (pair_of (standing_words stop))
+    → IsNotDamagedFurther z stop now → HeaderReads z cut stop now
 unfolding part_bytes
 header_reads z cut stop now valid hs hn head small stood damage =
-    let windows : AllByRecursion (IsWindow z.parity) (windows_from z cut.header cut.parts) = windows_ok z cut.parts cut.header head small in
+    let windows : AllByRecursion (IsWindow z.parity) (windows_from z cut.header cut.parts) =
+    windows_ok z cut.parts cut.header head small in
     let mended : IsMended z stop now Header = header_toward z stop now valid hs hn damage in
     record {
       stood = stood;
       as_at_stop = ap words_in mended.reading;
-      opening = λ w c e f near. near_words z now w.opening c valid hn ((window_in (IsWindow z.parity) _ cut.made w windows e).opening c f) near;
-      closing = λ w e near. near_words z now w.closing w.closing_codeword valid hn (window_in (IsWindow z.parity) _ cut.made w windows e).closing near;
+      opening = λ w c e f near. near_words z now w.opening c valid hn
+          ((window_in (IsWindow z.parity) _ cut.made w windows e).opening c f) near;
+      closing = λ w e near. near_words z now w.closing w.closing_codeword valid hn
+          (window_in (IsWindow z.parity) _ cut.made w windows e).closing near;
       other = by mended (nearest z.parity (part_word z now Header)) refl;
     }
   where
-    by : IsMended z stop now Header → (o : Option (List ℕ)) → nearest z.parity (part_word z now Header) ≡ o → MatchOption o (words_read z now ≡ standing_words stop) (λ c. IsNearHeader z now c × (words_read z now ≡ words_in c))
+    by : IsMended z stop now Header → (o : Option (List ℕ)) → nearest z.parity (part_word z now Header) ≡ o
+        → MatchOption o (words_read z now ≡ standing_words stop)
+        (λ c. IsNearHeader z now c × (words_read z now ≡ words_in c))
     by mended None e =
         ap words_in (reading_none z now Header e)
-        ∙ standing_same now stop (λ i l. sym (head_byte now hn i l) ∙ ap (λ xs. get_or xs i 0) (mended.stands.none (sym mended.stands.same ∙ e)) ∙ head_byte stop hs i l)
+        ∙ standing_same now stop (λ i l. sym (head_byte now hn i l)
+        ∙ ap (λ xs. get_or xs i 0) (mended.stands.none (sym mended.stands.same ∙ e)) ∙ head_byte stop hs i l)
       where
         head_byte : (x : List ℕ) → IsImage z x → (i : ℕ) → i < 12 → get_or (part_word z x Header) i 0 ≡ get_or x i 0
-        head_byte x im i l = word_left z x Header i (omega (arith, (header_length z x valid im).0)) ∙ ap (λ n. get_or x n 0) (let e : 0 + i ≡ i = omega arith in e)
+        head_byte x im i l = word_left z x Header i (omega (arith, (header_length z x valid im).0))
+            ∙ ap (λ n. get_or x n 0) (let e : 0 + i ≡ i = omega arith in e)
     by mended (Some c) e =
-        let near : IsNear z.parity (part_word z now Header) c = nearest-IsNear z.parity (part_word z now Header) c (part_word-IsWord z now Header hn.1) e in
-        (near.within, ap words_in (reading_near z now Header c e) ∙ words_taken c (length (part_bytes z now Header)) (header_length z now valid hn).0)
+        let near : IsNear z.parity (part_word z now Header) c =
+        nearest-IsNear z.parity (part_word z now Header) c (part_word-IsWord z now Header hn.1) e in (
+          near.within,
+          ap words_in (reading_near z now Header c e)
+              ∙ words_taken c (length (part_bytes z now Header)) (header_length z now valid hn).0,
+        )
 
 -- ---- a call's cut
 
 -- a header that stands for its own words
-pub is_header : (z : Zone) (x : List ℕ) → IsValidZone z → IsImage z x → ReadsAsStands z x Header → IsHeader z.parity (part_word z x Header)
+pub is_header : (z : Zone) (x : List ℕ) → IsValidZone z → IsImage z x → ReadsAsStands z x Header
+    → IsHeader z.parity (part_word z x Header)
 unfolding part_bytes
 is_header z x valid im stands =
     let l = header_length z x valid im in
@@ -403,13 +515,18 @@ is_header z x valid im stands =
     four : (xs : List ℕ) → IsBytes xs → from_le_bytes w32 xs < 2 ^ 32
     four xs h = four-bytes xs h
 
-    standing-small : (x : List ℕ) → IsBytes x → ((standing_words x).sig < 2 ^ 32) × ((standing_words x).start < 2 ^ 32) × ((standing_words x).size < 2 ^ 32)
+    standing-small : (x : List ℕ) → IsBytes x → ((standing_words x).sig < 2 ^ 32)
+        × ((standing_words x).start < 2 ^ 32) × ((standing_words x).size < 2 ^ 32)
     standing-small x h =
-        let front : IsBytes (slice_range x 0 12) = slice_range-bytes x 0 12 h in
-        (four _ (slice_range-bytes (slice_range x 0 12) 0 4 front), four _ (slice_range-bytes (slice_range x 0 12) 4 8 front), four _ (slice_range-bytes (slice_range x 0 12) 8 12 front))
+        let front : IsBytes (slice_range x 0 12) = slice_range-bytes x 0 12 h in (
+          four _ (slice_range-bytes (slice_range x 0 12) 0 4 front),
+          four _ (slice_range-bytes (slice_range x 0 12) 4 8 front),
+          four _ (slice_range-bytes (slice_range x 0 12) 8 12 front),
+        )
 
 -- what stood at the stop of a flight
-call_stood : (z : Zone) (stop told : List ℕ) (f : Flight) → IsValidZone z → IsInFlight z stop told f → ((standing_words stop).sig ≡ z.sig) × Contains (cut_pairs (cut_of z f)) (pair_of (standing_words stop))
+call_stood : (z : Zone) (stop told : List ℕ) (f : Flight) → IsValidZone z → IsInFlight z stop told f
+    → ((standing_words stop).sig ≡ z.sig) × Contains (cut_pairs (cut_of z f)) (pair_of (standing_words stop))
 unfolding call_stores
 call_stood z stop told f valid flies =
     let w : Words = standing_words f.image in
@@ -421,18 +538,27 @@ call_stood z stop told f valid flies =
       ap (λ v. v.sig) is ∙ sig_kept w t.0 t.1 (subst (AllByRecursion IsUnsigning) t.2 small.1) ∙ flies.ring.signed,
       subst (λ v. Contains (pairs_from (pair_of v) gs) (pair_of (standing_words stop))) (sym words)
           (subst (λ v. Contains (pairs_from (pair_of w) gs) (pair_of v)) (sym is)
-          (subst (λ hs. Contains (pairs_from (pair_of w) hs) (pair_of (words_after w t.0))) (sym t.2) (pairs_have w t.0 t.1))),
+          (subst (λ hs. Contains (pairs_from (pair_of w) hs) (pair_of (words_after w t.0))) (sym t.2)
+          (pairs_have w t.0 t.1))),
     )
 
 pub cut_zone_reads : CutZoneReads
 cut_zone_reads z stop now told f valid flies hn damage =
     let w : Words = standing_words f.image in
     let words : words_in (part_word z f.image Header) ≡ w = header_words z f.image valid flies.size in
-    let hs : IsImage z stop = subst (IsImage z) (sym flies.now) (call_image z valid f.image f.call f.made flies.size flies.can) in
+    let hs : IsImage z stop = subst (IsImage z) (sym flies.now)
+    (call_image z valid f.image f.call f.made flies.size flies.can) in
     let parts : List (List Stage) = call_parts z w f.call in
     record {
-      window = window_exists _ f.made (omega (arith, flies.left, length-call z f stop told valid flies, all_stores-windows z parts (part_word z f.image Header)));
-      header = header_reads z (cut_of z f) stop now valid hs hn (is_header z f.image valid flies.size flies.ring.header) (each-small parts (parts-small z valid w f.call)) (call_stood z stop told f valid flies) damage;
+      window = window_exists _ f.made (omega (
+        arith,
+        flies.left,
+        length-call z f stop told valid flies,
+        all_stores-windows z parts (part_word z f.image Header),
+      ));
+      header = header_reads z (cut_of z f) stop now valid hs hn
+          (is_header z f.image valid flies.size flies.ring.header) (each-small parts (parts-small z valid w f.call))
+          (call_stood z stop told f valid flies) damage;
       places = old_places z stop now told f valid hs flies hn;
       no_others = no_other_places z valid stop now told f flies;
     }

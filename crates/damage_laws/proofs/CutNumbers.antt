@@ -47,7 +47,8 @@ unfolding Ordered
 before_ordered c [] h = (omega arith, tt)
 before_ordered c (r ∷ rs) h = by (c + 1 == r.0) refl
   where
-    by : (t : Bool) → (c + 1 == r.0) ≡ t → AllByRecursion (λ (r : ℕ × ℕ). r.0 ≤ r.1) (cond t ((c, r.1) ∷ rs) ((c, c) ∷ r ∷ rs))
+    by : (t : Bool) → (c + 1 == r.0) ≡ t → AllByRecursion (λ (r : ℕ × ℕ). r.0 ≤ r.1)
+        (cond t ((c, r.1) ∷ rs) ((c, c) ∷ r ∷ rs))
     by true e = (let f : c + 1 ≡ r.0 = eqb-true (c + 1) r.0 e in omega (arith, h.0), h.1)
     by false e = (omega arith, (h.0, h.1))
 
@@ -57,8 +58,10 @@ before_covers c [] b h (inl k) = inl (omega (arith, k.0, k.1))
 before_covers c [] b h (inr k) = absurd k
 before_covers c (r ∷ rs) b h k = by (c + 1 == r.0) refl k
   where
-    by : (t : Bool) → (c + 1 == r.0) ≡ t → Covers (cond t ((c, r.1) ∷ rs) ((c, c) ∷ r ∷ rs)) b → (b ≡ c) ⊎ Covers (r ∷ rs) b
-    by true e (inl m) = (let f : c + 1 ≡ r.0 = eqb-true (c + 1) r.0 e in elim (cases_eq b c) [ inl a ↦ inl a | inr n ↦ inr (inl (omega (arith, m.0), m.1)) ])
+    by : (t : Bool) → (c + 1 == r.0) ≡ t → Covers (cond t ((c, r.1) ∷ rs) ((c, c) ∷ r ∷ rs)) b
+        → (b ≡ c) ⊎ Covers (r ∷ rs) b
+    by true e (inl m) = (let f : c + 1 ≡ r.0 = eqb-true (c + 1) r.0 e in
+        elim (cases_eq b c) [ inl a ↦ inl a | inr n ↦ inr (inl (omega (arith, m.0), m.1)) ])
     by true e (inr m) = inr (inr m)
     by false e (inl m) = inl (omega (arith, m.0, m.1))
     by false e (inr m) = inr m
@@ -69,7 +72,8 @@ covers_before c [] b h (inl e) = inl (omega arith, omega arith)
 covers_before c [] b h (inr k) = absurd k
 covers_before c (r ∷ rs) b h k = by (c + 1 == r.0) refl k
   where
-    by : (t : Bool) → (c + 1 == r.0) ≡ t → (b ≡ c) ⊎ Covers (r ∷ rs) b → Covers (cond t ((c, r.1) ∷ rs) ((c, c) ∷ r ∷ rs)) b
+    by : (t : Bool) → (c + 1 == r.0) ≡ t → (b ≡ c) ⊎ Covers (r ∷ rs) b
+        → Covers (cond t ((c, r.1) ∷ rs) ((c, c) ∷ r ∷ rs)) b
     by true e (inl m) = (let f : c + 1 ≡ r.0 = eqb-true (c + 1) r.0 e in inl (omega arith, omega (arith, h.0)))
     by true e (inr (inl m)) = (let f : c + 1 ≡ r.0 = eqb-true (c + 1) r.0 e in inl (omega (arith, m.0), m.1))
     by true e (inr (inr m)) = inr m
@@ -105,12 +109,17 @@ covers_in : (rs : List (ℕ × ℕ)) (b : ℕ) → Covers rs b → (lo hi : ℕ)
 unfolding Covers
 covers_in [] b h = absurd h
 covers_in (r ∷ rs) b (inl k) = (r.0, r.1, (zero, omega arith, refl), k.0, k.1)
-covers_in (r ∷ rs) b (inr k) = let m = covers_in rs b k in (m.0, m.1, (suc m.2.0, omega (arith, m.2.1), m.2.2), m.3, m.4)
+covers_in (r ∷ rs) b (inr k) = let m = covers_in rs b k in
+    (m.0, m.1, (suc m.2.0, omega (arith, m.2.1), m.2.2), m.3, m.4)
 
-in_covers : (rs : List (ℕ × ℕ)) (b lo hi : ℕ) → (k : ℕ) → k < length rs → get_or rs k (lo, hi) ≡ (lo, hi) → lo ≤ b → b ≤ hi → Covers rs b
+in_covers : (rs : List (ℕ × ℕ)) (b lo hi : ℕ) → (k : ℕ) → k < length rs → get_or rs k (lo, hi) ≡ (lo, hi) → lo ≤ b
+    → b ≤ hi → Covers rs b
 unfolding Covers
 in_covers [] b lo hi k l e h m = absurd (omega arith)
-in_covers (r ∷ rs) b lo hi zero l e h m = inl ((let a : r.0 ≡ lo = ap (λ (p : ℕ × ℕ). p.0) e in omega arith), (let a : r.1 ≡ hi = ap (λ (p : ℕ × ℕ). p.1) e in omega arith))
+in_covers (r ∷ rs) b lo hi zero l e h m = inl (
+  (let a : r.0 ≡ lo = ap (λ (p : ℕ × ℕ). p.0) e in omega arith),
+  (let a : r.1 ≡ hi = ap (λ (p : ℕ × ℕ). p.1) e in omega arith),
+)
 in_covers (r ∷ rs) b lo hi (suc k) l e h m = inr (in_covers rs b lo hi k (omega arith) e h m)
 
 filter_has : (test : ℕ → Bool) (xs : List ℕ) (b : ℕ) → test b ≡ true → Among b xs → Among b (filter test xs)
@@ -121,7 +130,8 @@ filter_has test (x ∷ xs) b t e = elim (cases_eq x b) [
   | inr n ↦ (let f : (x == b) ≡ false = grind (arith, nat_tests) in by (test x) f (filter_has test xs b t (rw f at e)))
 ]
   where
-    by : (u : Bool) → (x == b) ≡ false → list_any (λ c. c == b) (filter test xs) ≡ true → list_any (λ c. c == b) (cond u (x ∷ filter test xs) (filter test xs)) ≡ true
+    by : (u : Bool) → (x == b) ≡ false → list_any (λ c. c == b) (filter test xs) ≡ true
+        → list_any (λ c. c == b) (cond u (x ∷ filter test xs) (filter test xs)) ≡ true
     by true f k = rw f k
     by false f k = k
 
@@ -130,18 +140,22 @@ unfolding Among
 has_filter test [] b e = absurd (true≢false (sym e))
 has_filter test (x ∷ xs) b e = by (test x) refl e (has_filter test xs b)
   where
-    by : (u : Bool) → test x ≡ u → list_any (λ c. c == b) (cond u (x ∷ filter test xs) (filter test xs)) ≡ true → (list_any (λ c. c == b) (filter test xs) ≡ true → test b ≡ true) → test b ≡ true
+    by : (u : Bool) → test x ≡ u → list_any (λ c. c == b) (cond u (x ∷ filter test xs) (filter test xs)) ≡ true
+        → (list_any (λ c. c == b) (filter test xs) ≡ true → test b ≡ true) → test b ≡ true
     by true t k next = elim (cases_eq x b) [
       | inl s ↦ ap test (sym s) ∙ t
       | inr n ↦ (let f : (x == b) ≡ false = grind (arith, nat_tests) in next (rw f at k))
     ]
     by false t k next = next k
 
-pub runs_touched : (z : Zone) (cut : Cut) → ((b : ℕ) → is_touched z cut b ≡ true → b < z.blocks) → RunsAreTouched z cut (runs_of (filter (λ b. is_touched z cut b) (range_with_len 0 z.blocks)))
+pub runs_touched : (z : Zone) (cut : Cut) → ((b : ℕ) → is_touched z cut b ≡ true → b < z.blocks)
+    → RunsAreTouched z cut (runs_of (filter (λ b. is_touched z cut b) (range_with_len 0 z.blocks)))
 unfolding Among
 runs_touched z cut within b = (
-  (λ e. covers_in _ b (runs_cover _ b (filter_has (λ b. is_touched z cut b) (range_with_len 0 z.blocks) b e (any_range z.blocks 0 b (omega arith) (omega (arith, within b e)))))),
-  (λ h. has_filter (λ b. is_touched z cut b) (range_with_len 0 z.blocks) b (cover_runs _ b (in_covers _ b h.0 h.1 h.2.0 h.2.1 h.2.2 h.3 h.4))),
+  (λ e. covers_in _ b (runs_cover _ b (filter_has (λ b. is_touched z cut b) (range_with_len 0 z.blocks) b e
+      (any_range z.blocks 0 b (omega arith) (omega (arith, within b e)))))),
+  (λ h. has_filter (λ b. is_touched z cut b) (range_with_len 0 z.blocks) b
+      (cover_runs _ b (in_covers _ b h.0 h.1 h.2.0 h.2.1 h.2.2 h.3 h.4))),
 )
 
 rises_lower : (a b : ℕ) (rs : List (ℕ × ℕ)) → a ≤ b → RisesFrom b rs → RisesFrom a rs
@@ -154,7 +168,8 @@ rises_before a (r ∷ rs) h = by (a + 1 == r.0) refl
   where
     by : (t : Bool) → (a + 1 == r.0) ≡ t → RisesFrom a (cond t ((a, r.1) ∷ rs) ((a, a) ∷ r ∷ rs))
     by true e = (omega arith, omega (arith, h.0, h.1), h.2)
-    by false e = (let n : a + 1 ≢ r.0 = grind (arith, nat_tests) in (omega arith, omega arith, (omega (arith, h.0, n), h.1, h.2)))
+    by false e = (let n : a + 1 ≢ r.0 = grind (arith, nat_tests) in
+        (omega arith, omega arith, (omega (arith, h.0, n), h.1, h.2)))
 
 -- the runs of some numbers of a range rise from its first
 pub runs_rise : (test : ℕ → Bool) (n a : ℕ) → RisesFrom a (runs_of (filter test (range_with_len a n)))
@@ -162,7 +177,9 @@ unfolding runs_of
 runs_rise test zero a = tt
 runs_rise test (suc n) a = by (test a) (runs_rise test n (a + 1))
   where
-    by : (t : Bool) → RisesFrom (a + 1) (runs_of (filter test (range_with_len (a + 1) n))) → RisesFrom a (runs_of (cond t (a ∷ filter test (range_with_len (a + 1) n)) (filter test (range_with_len (a + 1) n))))
+    by : (t : Bool) → RisesFrom (a + 1) (runs_of (filter test (range_with_len (a + 1) n)))
+        → RisesFrom a (runs_of (cond t (a ∷ filter test (range_with_len (a + 1) n))
+        (filter test (range_with_len (a + 1) n))))
     by true h = rises_before a _ h
     by false h = rises_lower a (a + 1) _ (omega arith) h
 
@@ -182,9 +199,11 @@ module _ (z : Zone) (valid : IsValidZone z) where
   length-stage (Run place bytes) image h = length-byte_stores (12 + place) bytes
   length-stage (ParityOf part) image h =
       length-byte_stores (part_parity_at z part) _
-      ∙ (has_parity z.parity (part_bytes z image part) (slice_range-bytes image (part_at z part) (part_at z part + part_len z part) h) (part_short z valid (has_parity z.parity) image part)).0
+      ∙ (has_parity z.parity (part_bytes z image part) (slice_range-bytes image (part_at z part)
+      (part_at z part + part_len z part) h) (part_short z valid (has_parity z.parity) image part)).0
 
-  pub length-stores : (gs : List Stage) (image : List ℕ) → IsBytes image → AllByRecursion HasBytes gs → length (stores_in_turn z gs image) ≡ sum_by (stage_count z) gs
+  pub length-stores : (gs : List Stage) (image : List ℕ) → IsBytes image → AllByRecursion HasBytes gs
+      → length (stores_in_turn z gs image) ≡ sum_by (stage_count z) gs
   unfolding stores_in_turn
   length-stores [] image h k = refl
   length-stores (g ∷ gs) image h k =
@@ -192,17 +211,22 @@ module _ (z : Zone) (valid : IsValidZone z) where
         arith,
         length-append (stage_stores z g image) (stores_in_turn z gs (after_stores image (stage_stores z g image))),
         length-stage g image h,
-        length-stores gs (after_stores image (stage_stores z g image)) (after-bytes image (stage_stores z g image) h (stage_stores-all z valid g image h k.0)) k.1,
+        length-stores gs (after_stores image (stage_stores z g image))
+            (after-bytes image (stage_stores z g image) h (stage_stores-all z valid g image h k.0)) k.1,
         sum_by-cons (stage_count z) g gs,
       )
 
-pub length-call : (z : Zone) (f : Flight) (stop told : List ℕ) → IsValidZone z → IsInFlight z stop told f → length (call_stores z f.call f.image) ≡ sum_by (stage_count z) (call_stages z (standing_words f.image) f.call)
+pub length-call : (z : Zone) (f : Flight) (stop told : List ℕ) → IsValidZone z → IsInFlight z stop told f
+    → length (call_stores z f.call f.image) ≡ sum_by (stage_count z) (call_stages z (standing_words f.image) f.call)
 unfolding call_stores
-length-call z f stop told valid flies = length-stores z valid (call_stages z (standing_words f.image) f.call) f.image flies.size.1 (call-all z valid f.image f.call flies.can)
+length-call z f stop told valid flies = length-stores z valid (call_stages z (standing_words f.image) f.call)
+    f.image flies.size.1 (call-all z valid f.image f.call flies.can)
 
-pub cut_touched : (z : Zone) (f : Flight) (stop told : List ℕ) → IsValidZone z → IsInFlight z stop told f → RunsAreTouched z (cut_of z f) (runs_of (filter (λ b. is_touched z (cut_of z f) b) (range_with_len 0 z.blocks)))
+pub cut_touched : (z : Zone) (f : Flight) (stop told : List ℕ) → IsValidZone z → IsInFlight z stop told f
+    → RunsAreTouched z (cut_of z f) (runs_of (filter (λ b. is_touched z (cut_of z f) b) (range_with_len 0 z.blocks)))
 cut_touched z f stop told valid flies =
-    runs_touched z (cut_of z f) ((call-leaves z valid f.image f.call (omega (arith, flies.ring.ring.0, flies.ring.ring.1)) flies.can).within)
+    runs_touched z (cut_of z f) ((call-leaves z valid f.image f.call
+    (omega (arith, flies.ring.ring.0, flies.ring.ring.1)) flies.can).within)
 
 pub cut_report_is_exact : CutReportIsExact
 cut_report_is_exact z f stop told reading valid flies =
@@ -217,7 +241,8 @@ cut_report_is_exact z f stop told reading valid flies =
 
 -- ---- a boot's own erasure
 
-erasure_facts : (z : Zone) (b : Bool) (s : State) → AllByRecursion HasBytes (cond b [] (signing z s ++ erase_stages)) × (touched_by z (cond b [] (signing z s ++ erase_stages) ++ []) ≡ [])
+erasure_facts : (z : Zone) (b : Bool) (s : State) → AllByRecursion HasBytes (cond b [] (signing z s ++ erase_stages))
+    × (touched_by z (cond b [] (signing z s ++ erase_stages) ++ []) ≡ [])
 unfolding touched_by
 erasure_facts z true s = (tt, refl)
 erasure_facts z false Unsigned = ((tt, (tt, (tt, (tt, tt)))), refl)
@@ -234,14 +259,23 @@ unfolding boot_stores boot_erasure booted_bytes runs_of
 boot_cut_report_is_exact z now k reading valid im within =
     let facts = erasure_facts z (keeps z (zone_reading z now)) (zone_reading z now).state in
     let stages : List Stage = boot_erasure z now in
-    let total : length (stores_in_turn z stages (after_stores now (boot_fixes z now))) ≡ sum_by (stage_count z) stages = length-stores z valid stages (after_stores now (boot_fixes z now)) (booted_image z valid now im).1 facts.0 in (
+    let total : length (stores_in_turn z stages (after_stores now (boot_fixes z now)))
+    ≡ sum_by (stage_count z) stages = length-stores z valid stages (after_stores now (boot_fixes z now))
+    (booted_image z valid now im).1 facts.0 in (
       record {
         kind = refl;
         made = refl;
-        total = omega (arith, total, ap (sum_by (stage_count z)) (append-nil stages), length-append (boot_fixes z now) (stores_in_turn z stages (after_stores now (boot_fixes z now))));
+        total = omega (
+          arith,
+          total,
+          ap (sum_by (stage_count z)) (append-nil stages),
+          length-append (boot_fixes z now) (stores_in_turn z stages (after_stores now (boot_fixes z now))),
+        );
         header = refl;
-        touched = runs_touched z (boot_cut z now k) (λ b e. absurd (true≢false (sym e ∙ ap (λ ts. list_any (λ c. c == b) ts) facts.1)));
+        touched = runs_touched z (boot_cut z now k) (λ b e. absurd
+            (true≢false (sym e ∙ ap (λ ts. list_any (λ c. c == b) ts) facts.1)));
         apart = runs_rise (λ b. is_touched z (boot_cut z now k) b) z.blocks 0;
       },
-      ap (λ ts. runs_of (filter (λ b. list_any (λ c. c == b) ts) (range_with_len 0 z.blocks))) facts.1 ∙ ap runs_of (filter_none (range_with_len 0 z.blocks)),
+      ap (λ ts. runs_of (filter (λ b. list_any (λ c. c == b) ts) (range_with_len 0 z.blocks))) facts.1
+          ∙ ap runs_of (filter_none (range_with_len 0 z.blocks)),
     )

@@ -1,4 +1,5 @@
--- Where a call was cut: old ring places in untouched blocks read as told, and the log has no other places in untouched blocks
+-- Where a call was cut: old ring places in untouched blocks read as told, and the log has no other places in
+-- untouched blocks
 use Rattle.std.proofs.Common.{◌≡◌, ℕ, zero, suc, ◌+◌, ◌-◌, ◌*◌, ◌/◌, ◌%◌, ◌<◌, ◌≤◌, ◌⊎◌, min, Bool, true, false, cond, ◌&&◌, ◌||◌, ◌==◌, List, [], ◌∷◌, ◌++◌, length, take, drop, map, get_or, slice_get, refl, sym, ap, ap₂, ◌∙◌, subst, arith, inl, inr, Option, Some, None, length-take, length-drop, append-nil, true≢false, eqb-true}
 use Rattle.std.specs.Prelude.{Contains}
 use Rattle.std.proofs.Math.Nat.{mod-eq_of_lt}
@@ -36,21 +37,28 @@ use Rattle.damage_laws.proofs.Within.{part_reads, byte_read-stop, get-mapped, pl
 use Rattle.damage_laws.proofs.Untouched.{LeavesBlock, untouched_same}
 use Rattle.damage_laws.proofs.Touched.{parity_length, touches, touches-append, call-leaves, run_hits}
 
-pub old_places : (z : Zone) (stop now told : List ℕ) (f : Flight) → IsValidZone z → IsImage z stop → IsInFlight z stop told f → IsImage z now → OldPlacesRead z (cut_of z f) told stop now
+pub old_places : (z : Zone) (stop now told : List ℕ) (f : Flight) → IsValidZone z → IsImage z stop
+    → IsInFlight z stop told f → IsImage z now → OldPlacesRead z (cut_of z f) told stop now
 old_places z stop now told f valid hs flies hn i place at untouched within =
     let w : Words = standing_words f.image in
     let words : words_in (part_word z f.image Header) ≡ w = header_words z f.image valid flies.size in
-    let old : slice_get (log_places w.start w.size) i ≡ Some place = subst (λ v. slice_get (log_places v.start v.size) i ≡ Some place) words at in
+    let old : slice_get (log_places w.start w.size) i ≡ Some place =
+    subst (λ v. slice_get (log_places v.start v.size) i ≡ Some place) words at in
     let below : place < w.size = place_below w.start w.size i place flies.ring.ring.0 old in
     let b : ℕ = place / z.block in
     let begins : z.block * b ≤ place = omega (arith, block_some z valid) in
     let has : b < z.blocks = block_has z valid b (omega (arith, flies.ring.ring.1)) in
     let free : touches z (call_stages z w f.call) b ≡ false = untouched in
-    let leaves : AllByRecursion (LeavesBlock z b) (call_stages z w f.call) = (call-leaves z valid f.image f.call (omega (arith, flies.ring.ring.0, flies.ring.ring.1)) flies.can).each b has free in
-    let same : SamePart z stop f.image (Block b) = subst (λ x. SamePart z x f.image (Block b)) (sym flies.now) (untouched_same z b (omega (arith, valid.room)) (parity_length z.parity) f.call f.image f.made leaves) in
+    let leaves : AllByRecursion (LeavesBlock z b) (call_stages z w f.call) =
+    (call-leaves z valid f.image f.call (omega (arith, flies.ring.ring.0, flies.ring.ring.1)) flies.can).each b
+    has free in
+    let same : SamePart z stop f.image (Block b) = subst (λ x. SamePart z x f.image (Block b)) (sym flies.now)
+    (untouched_same z b (omega (arith, valid.room)) (parity_length z.parity) f.call f.image f.made leaves) in
     let stands : ReadsAsStands z stop (Block b) = ReadsAsStands-same same (flies.ring.blocks b (omega arith)) in
-    let reads : (part_reading z now (Block b)).bytes ≡ part_bytes z f.image (Block b) = part_reads z stop now (Block b) valid hs hn within ∙ part_reading-stands z stop (Block b) stands ∙ same.bytes in
-    ap (λ xs. slice_get xs i) (sym flies.ring.bytes) ∙ get-mapped (λ p. get_or f.image (12 + p) 0) (log_places w.start w.size) i place old
+    let reads : (part_reading z now (Block b)).bytes ≡ part_bytes z f.image (Block b) =
+    part_reads z stop now (Block b) valid hs hn within ∙ part_reading-stands z stop (Block b) stands ∙ same.bytes in
+    ap (λ xs. slice_get xs i) (sym flies.ring.bytes) ∙ get-mapped (λ p. get_or f.image (12 + p) 0)
+    (log_places w.start w.size) i place old
     ∙ ap Some (sym (byte_read-stop z f.image now place (block_some z valid) (omega (arith, flies.ring.ring.1)) reads))
 
 -- ---- pairs
@@ -64,7 +72,8 @@ pair_after p (Run place bytes ∷ gs) = pair_after p gs
 pair_after p (ParityOf part ∷ gs) = pair_after p gs
 
 module _ (P : Pair → Type 0) where
-  pub pairs-append : (p : Pair) (gs hs : List Stage) → AllByRecursion P (pairs_from p gs) → AllByRecursion P (pairs_from (pair_after p gs) hs) → AllByRecursion P (pairs_from p (gs ++ hs))
+  pub pairs-append : (p : Pair) (gs hs : List Stage) → AllByRecursion P (pairs_from p gs)
+      → AllByRecursion P (pairs_from (pair_after p gs) hs) → AllByRecursion P (pairs_from p (gs ++ hs))
   unfolding pairs_from
   pairs-append p [] hs h k = k
   pairs-append p (StartWord n ∷ gs) hs h k = (h.0, pairs-append _ gs hs h.1 k)
@@ -97,21 +106,26 @@ quiet-run z place (b ∷ bs) p = quiet-parities (blocks_met z place (length (b �
 
 -- the pairs of an append
 pub append_pairs : (P : Pair → Type 0) (z : Zone) (s n c : ℕ) (cs : List ℕ) → n ≤ z.cap
-    → P (record { start = s; size = n }) → P (record { start = s; size = min z.cap (n + length (c ∷ cs)) }) → P (record { start = (s + length (c ∷ cs)) % z.cap; size = min z.cap (n + length (c ∷ cs)) })
+    → P (record { start = s; size = n }) → P (record { start = s; size = min z.cap (n + length (c ∷ cs)) })
+    → P (record { start = (s + length (c ∷ cs)) % z.cap; size = min z.cap (n + length (c ∷ cs)) })
     → AllByRecursion P (pairs_from (record { start = s; size = n }) (append_stages z s n (c ∷ cs)))
-    × (pair_after (record { start = s; size = n }) (append_stages z s n (c ∷ cs)) ≡ record { start = (s + length (c ∷ cs)) % z.cap; size = min z.cap (n + length (c ∷ cs)) })
+    × (pair_after (record { start = s; size = n }) (append_stages z s n (c ∷ cs))
+    ≡ record { start = (s + length (c ∷ cs)) % z.cap; size = min z.cap (n + length (c ∷ cs)) })
 unfolding pairs_from
 append_pairs P z s n c cs fits one two three =
     let q : List ℕ = c ∷ cs in
     let first : List Stage = run_stages z s (take (z.cap - s) q) in
     let second : List Stage = run_stages z 0 (drop (z.cap - s) q) in
     let last : List Stage = ParityOf Header ∷ [] in
-    let words : List Stage = cond (n == z.cap) [] (SizeWord (min z.cap (n + length q)) ∷ []) ++ StartWord ((s + length q) % z.cap) ∷ [] in
+    let words : List Stage = cond (n == z.cap) [] (SizeWord (min z.cap (n + length q)) ∷ []) ++ StartWord
+    ((s + length q) % z.cap) ∷ [] in
     let p0 : Pair = record { start = s; size = n } in
     let p1 : Pair = record { start = (s + length q) % z.cap; size = min z.cap (n + length q) } in
     let head : AllByRecursion P (pairs_from p0 words) × (pair_after p0 words ≡ p1) = by (n == z.cap) refl in
-    let after1 : pair_after p0 (words ++ first) ≡ p1 = pair_after-append p0 words first ∙ ap (λ p. pair_after p first) head.1 ∙ (quiet-run z s (take (z.cap - s) q) p1).1 in
-    let after2 : pair_after p0 (words ++ first ++ second) ≡ p1 = pair_after-append p0 (words ++ first) second ∙ ap (λ p. pair_after p second) after1 ∙ (quiet-run z 0 (drop (z.cap - s) q) p1).1 in
+    let after1 : pair_after p0 (words ++ first) ≡ p1 = pair_after-append p0 words first
+    ∙ ap (λ p. pair_after p first) head.1 ∙ (quiet-run z s (take (z.cap - s) q) p1).1 in
+    let after2 : pair_after p0 (words ++ first ++ second) ≡ p1 = pair_after-append p0 (words ++ first) second
+    ∙ ap (λ p. pair_after p second) after1 ∙ (quiet-run z 0 (drop (z.cap - s) q) p1).1 in
     let single : AllByRecursion P (p1 ∷ []) = (three, tt) in (
       pairs-append P p0 (words ++ first ++ second) last
           (pairs-append P p0 (words ++ first) second
@@ -122,12 +136,18 @@ append_pairs P z s n c cs fits one two three =
     )
   where
     by : (full : Bool) → (n == z.cap) ≡ full
-        → AllByRecursion P (pairs_from (record { start = s; size = n }) (cond full [] (SizeWord (min z.cap (n + length (c ∷ cs))) ∷ []) ++ StartWord ((s + length (c ∷ cs)) % z.cap) ∷ []))
-        × (pair_after (record { start = s; size = n }) (cond full [] (SizeWord (min z.cap (n + length (c ∷ cs))) ∷ []) ++ StartWord ((s + length (c ∷ cs)) % z.cap) ∷ []) ≡ record { start = (s + length (c ∷ cs)) % z.cap; size = min z.cap (n + length (c ∷ cs)) })
+        → AllByRecursion P (pairs_from (record { start = s; size = n })
+        (cond full [] (SizeWord (min z.cap (n + length (c ∷ cs))) ∷ []) ++ StartWord
+        ((s + length (c ∷ cs)) % z.cap) ∷ []))
+        × (pair_after (record { start = s; size = n }) (cond full [] (SizeWord (min z.cap (n + length (c ∷ cs))) ∷ [])
+        ++ StartWord ((s + length (c ∷ cs)) % z.cap) ∷ [])
+        ≡ record { start = (s + length (c ∷ cs)) % z.cap; size = min z.cap (n + length (c ∷ cs)) })
     by false e = ((one, (two, (three, tt))), refl)
     by true e =
-        let m : n ≡ min z.cap (n + length (c ∷ cs)) = (let f : n ≡ z.cap = eqb-true n z.cap e in omega arith) in
-        ((one, (subst (λ k. P (record { start = (s + length (c ∷ cs)) % z.cap; size = k })) (sym m) three, tt)), ap (λ k. record { start = (s + length (c ∷ cs)) % z.cap; size = k }) m)
+        let m : n ≡ min z.cap (n + length (c ∷ cs)) = (let f : n ≡ z.cap = eqb-true n z.cap e in omega arith) in (
+          (one, (subst (λ k. P (record { start = (s + length (c ∷ cs)) % z.cap; size = k })) (sym m) three, tt)),
+          ap (λ k. record { start = (s + length (c ∷ cs)) % z.cap; size = k }) m,
+        )
 
 -- ---- places that a pair of the call gives
 
@@ -146,7 +166,8 @@ touches-right : (z : Zone) (gs hs : List Stage) (b : ℕ) → touches z hs b ≡
 touches-right z gs hs b e = touches-append z gs hs b ∙ or-right (touches z gs b) (touches z hs b) e
 
 module _ (z : Zone) (valid : IsValidZone z) where
-  append_hits : (s n c : ℕ) (cs : List ℕ) (p : ℕ) → s ≤ p → p < s + length (c ∷ cs) → p < z.cap → touches z (append_stages z s n (c ∷ cs)) (p / z.block) ≡ true
+  append_hits : (s n c : ℕ) (cs : List ℕ) (p : ℕ) → s ≤ p → p < s + length (c ∷ cs) → p < z.cap
+      → touches z (append_stages z s n (c ∷ cs)) (p / z.block) ≡ true
   append_hits s n c cs p h k l =
       let q : List ℕ = c ∷ cs in
       let b : ℕ = p / z.block in
@@ -157,43 +178,60 @@ module _ (z : Zone) (valid : IsValidZone z) where
       let last : List Stage = ParityOf Header ∷ [] in
       touches-left z (sizes ++ starts ++ first ++ second) last b
       (touches-left z (sizes ++ starts ++ first) second b
-      (touches-right z (sizes ++ starts) first b (run_hits z valid s (take (z.cap - s) q) p h (omega (arith, length-take (z.cap - s) q)))))
+      (touches-right z (sizes ++ starts) first b (run_hits z valid s (take (z.cap - s) q) p h
+      (omega (arith, length-take (z.cap - s) q)))))
 
   -- a place of the pair is old, or touched by the stages
   abbrev Good : List Stage → ℕ → Pair → Type 0
   Good gs old pair = (p : ℕ) → (p < pair.start) ⊎ (p < pair.size) → touches z gs (p / z.block) ≡ false → p < old
 
-  append_good : (gs : List Stage) (old s n : ℕ) (q : List ℕ) → s ≤ n → n ≤ z.cap → s < z.cap → (n < z.cap → s ≡ n) → length q ≤ z.cap
-      → ((p : ℕ) → p < n → touches z gs (p / z.block) ≡ false → p < old) → ((b : ℕ) → touches z (append_stages z s n q) b ≡ true → touches z gs b ≡ true)
+  append_good : (gs : List Stage) (old s n : ℕ) (q : List ℕ) → s ≤ n → n ≤ z.cap → s < z.cap → (n < z.cap → s ≡ n)
+      → length q ≤ z.cap
+      → ((p : ℕ) → p < n → touches z gs (p / z.block) ≡ false → p < old)
+      → ((b : ℕ) → touches z (append_stages z s n q) b ≡ true → touches z gs b ≡ true)
       → AllByRecursion (Good gs old) (pairs_from (record { start = s; size = n }) (append_stages z s n q))
   unfolding pairs_from
-  append_good gs old s n [] h k l o short before hits = ((λ p side free. elim side [ inl a ↦ before p (omega arith) free | inr a ↦ before p a free ]), tt)
+  append_good gs old s n [] h k l o short before hits =
+      ((λ p side free. elim side [ inl a ↦ before p (omega arith) free | inr a ↦ before p a free ]), tt)
   append_good gs old s n (c ∷ cs) h k l o short before hits =
       let q : List ℕ = c ∷ cs in
       let after = open_after s n (length q) z.cap l k h o short in
-      let grown : (p : ℕ) → p < min z.cap (n + length q) → touches z gs (p / z.block) ≡ false → p < old = (λ p m free. elim (cases_lt p n) [
+      let grown : (p : ℕ) → p < min z.cap (n + length q) → touches z gs (p / z.block) ≡ false → p < old =
+      (λ p m free. elim (cases_lt p n) [
         | inl a ↦ before p a free
-        | inr g ↦ (let same : s ≡ n = o (omega arith) in absurd (true≢false (sym (hits (p / z.block) (append_hits s n c cs p (omega arith) (omega arith) (omega arith))) ∙ free)))
+        | inr g ↦ (let same : s ≡ n = o (omega arith) in absurd
+            (true≢false (sym (hits (p / z.block) (append_hits s n c cs p (omega arith) (omega arith) (omega arith)))
+            ∙ free)))
       ]) in
       (append_pairs (Good gs old) z s n c cs k
       (λ p side free. elim side [ inl a ↦ before p (omega arith) free | inr a ↦ before p a free ])
       (λ p side free. elim side [ inl a ↦ before p (omega arith) free | inr a ↦ grown p a free ])
       (λ p side free. elim side [ inl a ↦ grown p (omega (arith, after.0)) free | inr a ↦ grown p a free ])).0
 
-  append_ends : (s n : ℕ) (q : List ℕ) → n ≤ z.cap → s ≡ n → s + length q < z.cap → pair_after (record { start = s; size = n }) (append_stages z s n q) ≡ record { start = s + length q; size = n + length q }
-  append_ends s n [] k e l = (let a : s ≡ s + 0 = omega arith in let b : n ≡ n + 0 = omega arith in ap₂ (λ x y. record { start = x; size = y }) a b)
+  append_ends : (s n : ℕ) (q : List ℕ) → n ≤ z.cap → s ≡ n → s + length q < z.cap
+      → pair_after (record { start = s; size = n }) (append_stages z s n q)
+      ≡ record { start = s + length q; size = n + length q }
+  append_ends s n [] k e l = (let a : s ≡ s + 0 = omega arith in let b : n ≡ n + 0 = omega arith in
+      ap₂ (λ x y. record { start = x; size = y }) a b)
   append_ends s n (c ∷ cs) k e l =
       (append_pairs (λ pair. Unit {0}) z s n c cs k tt tt tt).1
-      ∙ (let a : (s + length (c ∷ cs)) % z.cap ≡ s + length (c ∷ cs) = mod-eq_of_lt l in let b : min z.cap (n + length (c ∷ cs)) ≡ n + length (c ∷ cs) = omega arith in ap₂ (λ x y. record { start = x; size = y }) a b)
+      ∙ (let a : (s + length (c ∷ cs)) % z.cap ≡ s + length (c ∷ cs) = mod-eq_of_lt l in
+      let b : min z.cap (n + length (c ∷ cs)) ≡ n + length (c ∷ cs) = omega arith in
+      ap₂ (λ x y. record { start = x; size = y }) a b)
 
-  call_pairs : (image : List ℕ) (call : Call) → (standing_words image).start ≤ (standing_words image).size → (standing_words image).size ≤ z.cap → CanBegin z image call
-      → AllByRecursion (Good (call_stages z (standing_words image) call) (standing_words image).size) (pairs_from (record { start = (standing_words image).start; size = (standing_words image).size }) (call_stages z (standing_words image) call))
+  call_pairs : (image : List ℕ) (call : Call) → (standing_words image).start ≤ (standing_words image).size
+      → (standing_words image).size ≤ z.cap → CanBegin z image call
+      → AllByRecursion (Good (call_stages z (standing_words image) call) (standing_words image).size)
+      (pairs_from (record { start = (standing_words image).start; size = (standing_words image).size })
+      (call_stages z (standing_words image) call))
   unfolding pairs_from touched_by
   call_pairs image (Append payload) h k can =
       let w : Words = standing_words image in
       let a : List Stage = append_stages z w.start w.size (last_items z.cap payload) in
-      subst (λ gs. AllByRecursion (Good gs w.size) (pairs_from (record { start = w.start; size = w.size }) gs)) (sym (append-nil a))
-      (append_good a w.size w.start w.size (last_items z.cap payload) h k can.0.0 can.0.1 (omega (arith, length-drop (length payload - z.cap) payload)) (λ p l free. l) (λ b e. e))
+      subst (λ gs. AllByRecursion (Good gs w.size) (pairs_from (record { start = w.start; size = w.size }) gs))
+      (sym (append-nil a))
+      (append_good a w.size w.start w.size (last_items z.cap payload) h k can.0.0 can.0.1
+      (omega (arith, length-drop (length payload - z.cap) payload)) (λ p l free. l) (λ b e. e))
   call_pairs image Erase h k can = (
     (λ p side free. elim side [ inl a ↦ omega arith | inr a ↦ a ]),
     (
@@ -210,28 +248,40 @@ module _ (z : Zone) (valid : IsValidZone z) where
       let rest : List Stage = first ++ (second ++ []) in
       let gs : List Stage = erase_stages ++ rest in
       let p0 : Pair = record { start = w.start; size = w.size } in
-      let hit1 : (b : ℕ) → touches z first b ≡ true → touches z gs b ≡ true = (λ b e. touches-right z erase_stages rest b (touches-left z first (second ++ []) b e)) in
-      let hit2 : (b : ℕ) → touches z second b ≡ true → touches z gs b ≡ true = (λ b e. touches-right z erase_stages rest b (touches-right z first (second ++ []) b (touches-left z second [] b e))) in
-      let line_hit : (p : ℕ) → p < n → touches z gs (p / z.block) ≡ false → p < w.size = (λ p l free. absurd (true≢false (sym (hit1 (p / z.block) (line_hits line p l (omega (arith, can.1)))) ∙ free))) in
+      let hit1 : (b : ℕ) → touches z first b ≡ true → touches z gs b ≡ true =
+      (λ b e. touches-right z erase_stages rest b (touches-left z first (second ++ []) b e)) in
+      let hit2 : (b : ℕ) → touches z second b ≡ true → touches z gs b ≡ true =
+      (λ b e. touches-right z erase_stages rest b (touches-right z first (second ++ []) b
+      (touches-left z second [] b e))) in
+      let line_hit : (p : ℕ) → p < n → touches z gs (p / z.block) ≡ false → p < w.size =
+      (λ p l free. absurd (true≢false (sym (hit1 (p / z.block) (line_hits line p l (omega (arith, can.1))))
+      ∙ free))) in
       let good1 : AllByRecursion (Good gs w.size) (pairs_from (record { start = 0; size = 0 }) first) =
-      append_good gs w.size 0 0 line (omega arith) (omega arith) (omega (arith, valid.room)) (λ _. refl) (omega (arith, can.1)) (λ p l free. absurd (omega arith)) hit1 in
+      append_good gs w.size 0 0 line (omega arith) (omega arith) (omega (arith, valid.room)) (λ _. refl)
+      (omega (arith, can.1)) (λ p l free. absurd (omega arith)) hit1 in
       let good2 : AllByRecursion (Good gs w.size) (pairs_from (record { start = n; size = n }) second) =
-      append_good gs w.size n n front (omega arith) (omega (arith, can.1)) can.1 (λ _. refl) (omega (arith, length-take (z.cap - n) body)) line_hit hit2 in
-      let ends : pair_after (record { start = 0; size = 0 }) first ≡ record { start = n; size = n } = append_ends 0 0 line (omega arith) refl (omega (arith, can.1)) ∙ (let a : 0 + n ≡ n = omega arith in ap (λ x. record { start = x; size = x }) a) in
+      append_good gs w.size n n front (omega arith) (omega (arith, can.1)) can.1 (λ _. refl)
+      (omega (arith, length-take (z.cap - n) body)) line_hit hit2 in
+      let ends : pair_after (record { start = 0; size = 0 }) first ≡ record { start = n; size = n } =
+      append_ends 0 0 line (omega arith) refl (omega (arith, can.1))
+      ∙ (let a : 0 + n ≡ n = omega arith in ap (λ x. record { start = x; size = x }) a) in
       let joined : AllByRecursion (Good gs w.size) (pairs_from (record { start = 0; size = 0 }) rest) =
       pairs-append (Good gs w.size) (record { start = 0; size = 0 }) first (second ++ []) good1
       (subst (λ p. AllByRecursion (Good gs w.size) (pairs_from p (second ++ []))) (sym ends)
-      (subst (λ ts. AllByRecursion (Good gs w.size) (pairs_from (record { start = n; size = n }) ts)) (sym (append-nil second)) good2)) in (
+      (subst (λ ts. AllByRecursion (Good gs w.size) (pairs_from (record { start = n; size = n }) ts))
+      (sym (append-nil second)) good2)) in (
         (λ p side free. elim side [ inl a ↦ omega arith | inr a ↦ a ]),
         ((λ p side free. elim side [ inl a ↦ absurd (omega arith) | inr a ↦ a ]), joined),
       )
     where
-      line_hits : (line : List ℕ) (p : ℕ) → p < length line → length line < z.cap → touches z (append_stages z 0 0 line) (p / z.block) ≡ true
+      line_hits : (line : List ℕ) (p : ℕ) → p < length line → length line < z.cap
+          → touches z (append_stages z 0 0 line) (p / z.block) ≡ true
       line_hits [] p l m = absurd (omega arith)
       line_hits (c ∷ cs) p l m = append_hits 0 0 c cs p (omega arith) (omega arith) (omega arith)
 
   -- ---- the log's places
-  all-at : (P : Pair → Type 0) (ps : List Pair) (i : ℕ) (d : Pair) → AllByRecursion P ps → i < length ps → P (get_or ps i d)
+  all-at : (P : Pair → Type 0) (ps : List Pair) (i : ℕ) (d : Pair) → AllByRecursion P ps → i < length ps
+      → P (get_or ps i d)
   all-at P [] i d h l = absurd (omega arith)
   all-at P (p ∷ ps) zero d h l = h.0
   all-at P (p ∷ ps) (suc i) d h l = all-at P ps i d h.1 (omega arith)
@@ -240,7 +290,8 @@ module _ (z : Zone) (valid : IsValidZone z) where
   and-both true b e = (refl, e)
   and-both false b e = absurd (true≢false (sym e))
 
-  seen_good : (P : Pair → Type 0) (v : Words) (ps : List Pair) (j : ℕ) → AllByRecursion P ps → header_seen z v ps ≡ SeenPair j → P (record { start = v.start; size = v.size })
+  seen_good : (P : Pair → Type 0) (v : Words) (ps : List Pair) (j : ℕ) → AllByRecursion P ps
+      → header_seen z v ps ≡ SeenPair j → P (record { start = v.start; size = v.size })
   seen_good P v ps j h e = by (v.sig == z.sig) e
     where
       test : Pair → Bool
@@ -270,7 +321,11 @@ module _ (z : Zone) (valid : IsValidZone z) where
       (omega (arith, e), omega (arith, e, k))
 
   pub range_in : (a n p : ℕ) → a ≤ p → p < a + n → Contains (range_with_len a n) p
-  range_in a n p h k = (p - a, omega (arith, length-range_with_len a n), get_or-range_with_len a n (p - a) p (omega arith) ∙ omega arith)
+  range_in a n p h k = (
+    p - a,
+    omega (arith, length-range_with_len a n),
+    get_or-range_with_len a n (p - a) p (omega arith) ∙ omega arith,
+  )
 
   pub log_side : (s n p : ℕ) → Contains (log_places s n) p → (p < s) ⊎ (p < n)
   log_side s n p c = elim (Contains-append_cases (range_with_len s (n - s)) (range_with_len 0 s) p c) [
@@ -280,18 +335,26 @@ module _ (z : Zone) (valid : IsValidZone z) where
 
   pub log_has : (s n p : ℕ) → s ≤ n → p < n → Contains (log_places s n) p
   log_has s n p h k = elim (cases_lt p s) [
-    | inl a ↦ Contains-append_right (range_with_len s (n - s)) (range_with_len 0 s) p (range_in 0 s p (omega arith) (omega arith))
-    | inr g ↦ Contains-append_left (range_with_len s (n - s)) (range_with_len 0 s) p (range_in s (n - s) p g (omega arith))
+    | inl a ↦ Contains-append_right (range_with_len s (n - s)) (range_with_len 0 s) p
+        (range_in 0 s p (omega arith) (omega arith))
+    | inr g ↦ Contains-append_left (range_with_len s (n - s)) (range_with_len 0 s) p
+        (range_in s (n - s) p g (omega arith))
   ]
 
-  pub no_other_places : (stop now told : List ℕ) (f : Flight) → IsInFlight z stop told f → NoOtherPlaces z (cut_of z f) now
+  pub no_other_places : (stop now told : List ℕ) (f : Flight) → IsInFlight z stop told f
+      → NoOtherPlaces z (cut_of z f) now
   no_other_places stop now told f flies j place seen has free =
       let w : Words = standing_words f.image in
       let words : words_in (part_word z f.image Header) ≡ w = header_words z f.image valid flies.size in
-      let pairs : cut_pairs (cut_of z f) ≡ pairs_from (record { start = w.start; size = w.size }) (call_stages z w f.call) =
+      let pairs : cut_pairs (cut_of z f) ≡ pairs_from (record { start = w.start; size = w.size })
+      (call_stages z w f.call) =
       ap (λ v. pairs_from (record { start = v.start; size = v.size }) (call_stages z w f.call)) words in
-      let good : Good (call_stages z w f.call) w.size (record { start = (words_read z now).start; size = (words_read z now).size }) =
-      seen_good (Good (call_stages z w f.call) w.size) (words_read z now) _ j (call_pairs f.image f.call flies.ring.ring.0 flies.ring.ring.1 flies.can)
+      let good : Good (call_stages z w f.call) w.size (record
+      { start = (words_read z now).start; size = (words_read z now).size }) =
+      seen_good (Good (call_stages z w f.call) w.size) (words_read z now) _ j
+      (call_pairs f.image f.call flies.ring.ring.0 flies.ring.ring.1 flies.can)
       (sym (ap (header_seen z (words_read z now)) pairs) ∙ seen) in
-      let below : place < w.size = good place (log_side (words_read z now).start (words_read z now).size place has) free in
-      subst (λ v. Contains (log_places v.start v.size) place) (sym words) (log_has w.start w.size place flies.ring.ring.0 below)
+      let below : place < w.size = good place (log_side (words_read z now).start (words_read z now).size place has)
+      free in
+      subst (λ v. Contains (log_places v.start v.size) place) (sym words)
+      (log_has w.start w.size place flies.ring.ring.0 below)

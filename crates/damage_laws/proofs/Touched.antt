@@ -31,7 +31,8 @@ pub any_range : (n a b : ℕ) → a ≤ b → b < a + n → list_any (λ c. c ==
 any_range zero a b h k = absurd (omega arith)
 any_range (suc n) a b h k = elim (cases_eq a b) [
   | inl e ↦ rw (eq-eqb a b e) refl
-  | inr ne ↦ (let f : (a == b) ≡ false = grind (arith, nat_tests) in rw f (any_range n (a + 1) b (omega arith) (omega arith)))
+  | inr ne ↦ (let f : (a == b) ≡ false = grind (arith, nat_tests) in
+      rw f (any_range n (a + 1) b (omega arith) (omega arith)))
 ]
 
 range_any : (n a b : ℕ) → list_any (λ c. c == b) (range_with_len a n) ≡ true → (a ≤ b) × (b < a + n)
@@ -53,14 +54,18 @@ touches z gs b = list_any (λ c. c == b) (touched_by z gs)
 pub touched-append : (z : Zone) (gs hs : List Stage) → touched_by z (gs ++ hs) ≡ touched_by z gs ++ touched_by z hs
 unfolding touched_by
 touched-append z [] hs = refl
-touched-append z (Run place bytes ∷ gs) hs = ap (λ xs. blocks_met z place (length bytes) ++ xs) (touched-append z gs hs) ∙ sym (append_assoc (blocks_met z place (length bytes)) (touched_by z gs) (touched_by z hs))
+touched-append z (Run place bytes ∷ gs) hs = ap (λ xs. blocks_met z place (length bytes) ++ xs)
+    (touched-append z gs hs) ∙ sym (append_assoc (blocks_met z place (length bytes)) (touched_by z gs)
+    (touched_by z hs))
 touched-append z (SigWord n ∷ gs) hs = touched-append z gs hs
 touched-append z (StartWord n ∷ gs) hs = touched-append z gs hs
 touched-append z (SizeWord n ∷ gs) hs = touched-append z gs hs
 touched-append z (ParityOf p ∷ gs) hs = touched-append z gs hs
 
-pub touches-append : (z : Zone) (gs hs : List Stage) (b : ℕ) → touches z (gs ++ hs) b ≡ (touches z gs b || touches z hs b)
-touches-append z gs hs b = ap (list_any (λ c. c == b)) (touched-append z gs hs) ∙ list_any-append (λ c. c == b) (touched_by z gs) (touched_by z hs)
+pub touches-append : (z : Zone) (gs hs : List Stage) (b : ℕ)
+    → touches z (gs ++ hs) b ≡ (touches z gs b || touches z hs b)
+touches-append z gs hs b = ap (list_any (λ c. c == b)) (touched-append z gs hs)
+    ∙ list_any-append (λ c. c == b) (touched_by z gs) (touched_by z hs)
 
 touched-parities : (z : Zone) (ks : List ℕ) → touched_by z (map (λ k. ParityOf (Block k)) ks) ≡ []
 unfolding touched_by
@@ -68,10 +73,12 @@ touched-parities z [] = refl
 touched-parities z (k ∷ ks) = touched-parities z ks
 
 -- the blocks of a run
-pub run_touches : (z : Zone) (place c : ℕ) (cs : List ℕ) (b : ℕ) → touches z (run_stages z place (c ∷ cs)) b ≡ list_any (λ c. c == b) (blocks_met z place (length (c ∷ cs)))
+pub run_touches : (z : Zone) (place c : ℕ) (cs : List ℕ) (b : ℕ)
+    → touches z (run_stages z place (c ∷ cs)) b ≡ list_any (λ c. c == b) (blocks_met z place (length (c ∷ cs)))
 unfolding touched_by
 run_touches z place c cs b =
-    ap (λ xs. list_any (λ c. c == b) (blocks_met z place (length (c ∷ cs)) ++ xs)) (touched-parities z (blocks_met z place (length (c ∷ cs))))
+    ap (λ xs. list_any (λ c. c == b) (blocks_met z place (length (c ∷ cs)) ++ xs))
+    (touched-parities z (blocks_met z place (length (c ∷ cs))))
     ∙ ap (list_any (λ c. c == b)) (append-nil (blocks_met z place (length (c ∷ cs))))
 
 module _ (z : Zone) (valid : IsValidZone z) where
@@ -79,15 +86,19 @@ module _ (z : Zone) (valid : IsValidZone z) where
   some = block_some z valid
 
   -- the block of a place of a run is touched
-  pub run_hits : (place : ℕ) (bs : List ℕ) (p : ℕ) → place ≤ p → p < place + length bs → touches z (run_stages z place bs) (p / z.block) ≡ true
+  pub run_hits : (place : ℕ) (bs : List ℕ) (p : ℕ) → place ≤ p → p < place + length bs
+      → touches z (run_stages z place bs) (p / z.block) ≡ true
   run_hits place [] p h k = absurd (omega arith)
   run_hits place (c ∷ cs) p h k =
       let q : ℕ = p / z.block in
       let m : z.block * q ≤ p = omega (arith, some) in
-      let n : p < z.block * (q + 1) = (let e : z.block * (q + 1) ≡ z.block * q + z.block = grind arith in omega (arith, some)) in
+      let n : p < z.block * (q + 1) = (let e : z.block * (q + 1) ≡ z.block * q + z.block = grind arith in
+      omega (arith, some)) in
       let low : place / z.block ≤ q = met_low z.block place (length (c ∷ cs)) q some (omega arith) in
-      let high : q < ((place + length (c ∷ cs) + z.block) - 1) / z.block = met_high z.block place (length (c ∷ cs)) q some (omega arith) in
-      run_touches z place c cs q ∙ any_range _ (place / z.block) q low (omega (arith, met_order z.block place (length (c ∷ cs)) some))
+      let high : q < ((place + length (c ∷ cs) + z.block) - 1) / z.block =
+      met_high z.block place (length (c ∷ cs)) q some (omega arith) in
+      run_touches z place c cs q ∙ any_range _ (place / z.block) q low
+      (omega (arith, met_order z.block place (length (c ∷ cs)) some))
 
   -- a stage list that leaves each block that it does not touch, and touches none but the zone's
   pub record Leaves (gs : List Stage) : Type 0 where
@@ -96,7 +107,8 @@ module _ (z : Zone) (valid : IsValidZone z) where
 
   pub leaves-append : (gs hs : List Stage) → Leaves gs → Leaves hs → Leaves (gs ++ hs)
   leaves-append gs hs h k = record {
-    each = λ b l e. (let o = or-false (touches z gs b) (touches z hs b) (sym (touches-append z gs hs b) ∙ e) in all-append (LeavesBlock z b) gs hs (h.each b l o.0) (k.each b l o.1));
+    each = λ b l e. (let o = or-false (touches z gs b) (touches z hs b) (sym (touches-append z gs hs b) ∙ e) in
+        all-append (LeavesBlock z b) gs hs (h.each b l o.0) (k.each b l o.1));
     within = λ b e. by b (touches z gs b) refl (sym (touches-append z gs hs b) ∙ e);
   }
     where
@@ -104,7 +116,8 @@ module _ (z : Zone) (valid : IsValidZone z) where
       by b true e f = h.within b e
       by b false e f = k.within b (rw e at f)
 
-  parities-leave : (b n a : ℕ) → list_any (λ c. c == b) (range_with_len a n) ≡ false → AllByRecursion (LeavesBlock z b) (map (λ k. ParityOf (Block k)) (range_with_len a n))
+  parities-leave : (b n a : ℕ) → list_any (λ c. c == b) (range_with_len a n) ≡ false
+      → AllByRecursion (LeavesBlock z b) (map (λ k. ParityOf (Block k)) (range_with_len a n))
   parities-leave b zero a e = tt
   parities-leave b (suc n) a e =
       let o = or-false (a == b) (list_any (λ c. c == b) (range_with_len (a + 1) n)) e in
@@ -123,7 +136,9 @@ module _ (z : Zone) (valid : IsValidZone z) where
             elim (cases_lt place (z.block * (b + 1))) [
               | inl low ↦ elim (cases_lt (z.block * b) (place + n)) [
                 | inl high ↦ (let hit : list_any (λ c. c == b) (blocks_met z place n) ≡ true =
-                    any_range _ (place / z.block) b (met_low z.block place n b some low) (let m : b < ((place + n + z.block) - 1) / z.block = met_high z.block place n b some high in omega (arith, met_order z.block place n some)) in
+                    any_range _ (place / z.block) b (met_low z.block place n b some low)
+                    (let m : b < ((place + n + z.block) - 1) / z.block = met_high z.block place n b some high in
+                    omega (arith, met_order z.block place n some)) in
                     absurd (true≢false (sym hit ∙ u)))
                 | inr g ↦ inr g
               ]
@@ -135,7 +150,8 @@ module _ (z : Zone) (valid : IsValidZone z) where
     within = λ b e.
         let n : ℕ = length (c ∷ cs) in
         let r = range_any _ (place / z.block) b (sym (run_touches z place c cs b) ∙ e) in
-        let most : ((place + n + z.block) - 1) / z.block ≤ z.blocks = unmet_high z.block place n z.blocks some (omega (arith, cap_within z valid, mul_comm z.blocks z.block)) in
+        let most : ((place + n + z.block) - 1) / z.block ≤ z.blocks =
+        unmet_high z.block place n z.blocks some (omega (arith, cap_within z valid, mul_comm z.blocks z.block)) in
         omega (arith, r.1, r.0);
   }
 
@@ -157,13 +173,17 @@ module _ (z : Zone) (valid : IsValidZone z) where
 
   erase-leaves : Leaves erase_stages
   unfolding touched_by
-  erase-leaves = record { each = λ b l e. (tt, (tt, (nothing-leaves b l, tt))); within = λ b e. absurd (true≢false (sym e)) }
+  erase-leaves = record {
+    each = λ b l e. (tt, (tt, (nothing-leaves b l, tt)));
+    within = λ b e. absurd (true≢false (sym e));
+  }
 
   none-leaves : Leaves []
   unfolding touched_by
   none-leaves = record { each = λ b l e. tt; within = λ b e. absurd (true≢false (sym e)) }
 
-  pub append-leaves : (start size : ℕ) (bs : List ℕ) → start ≤ z.cap → length bs ≤ z.cap → Leaves (append_stages z start size bs)
+  pub append-leaves : (start size : ℕ) (bs : List ℕ) → start ≤ z.cap → length bs ≤ z.cap
+      → Leaves (append_stages z start size bs)
   append-leaves start size [] h k = none-leaves
   append-leaves start size (b ∷ bs) h k =
       let q : List ℕ = b ∷ bs in
@@ -173,16 +193,20 @@ module _ (z : Zone) (valid : IsValidZone z) where
       let second : List Stage = run_stages z 0 (drop (z.cap - start) q) in
       leaves-append (sizes ++ starts ++ first ++ second) (ParityOf Header ∷ [])
       (leaves-append (sizes ++ starts ++ first) second
-      (leaves-append (sizes ++ starts) first (leaves-append sizes starts (sizes-leave (size == z.cap) (min z.cap (size + length q))) (start-leaves ((start + length q) % z.cap)))
+      (leaves-append (sizes ++ starts) first (leaves-append sizes starts
+      (sizes-leave (size == z.cap) (min z.cap (size + length q))) (start-leaves ((start + length q) % z.cap)))
       (run-leaves start (take (z.cap - start) q) (omega (arith, length-take (z.cap - start) q))))
       (run-leaves 0 (drop (z.cap - start) q) (omega (arith, length-drop (z.cap - start) q))))
       header-leaves
 
   -- the stages of a call that may begin
-  pub call-leaves : (image : List ℕ) (call : Call) → (standing_words image).start ≤ z.cap → CanBegin z image call → Leaves (call_stages z (standing_words image) call)
+  pub call-leaves : (image : List ℕ) (call : Call) → (standing_words image).start ≤ z.cap → CanBegin z image call
+      → Leaves (call_stages z (standing_words image) call)
   call-leaves image (Append payload) h can =
-      leaves-append (append_stages z (standing_words image).start (standing_words image).size (last_items z.cap payload)) []
-      (append-leaves (standing_words image).start (standing_words image).size (last_items z.cap payload) h (omega (arith, length-drop (length payload - z.cap) payload))) none-leaves
+      leaves-append (append_stages z (standing_words image).start (standing_words image).size
+      (last_items z.cap payload)) []
+      (append-leaves (standing_words image).start (standing_words image).size (last_items z.cap payload) h
+      (omega (arith, length-drop (length payload - z.cap) payload))) none-leaves
   call-leaves image Erase h can = erase-leaves
   call-leaves image (Dump line body) h can =
       let n : ℕ = length line in
@@ -190,4 +214,5 @@ module _ (z : Zone) (valid : IsValidZone z) where
       let second : List Stage = append_stages z n n (take (z.cap - n) body) in
       leaves-append erase_stages (first ++ (second ++ [])) erase-leaves
       (leaves-append first (second ++ []) (append-leaves 0 0 line (omega arith) (omega (arith, can.1)))
-      (leaves-append second [] (append-leaves n n (take (z.cap - n) body) (omega (arith, can.1)) (omega (arith, length-take (z.cap - n) body))) none-leaves))
+      (leaves-append second [] (append-leaves n n (take (z.cap - n) body) (omega (arith, can.1))
+      (omega (arith, length-take (z.cap - n) body))) none-leaves))

@@ -29,32 +29,45 @@ use Rattle.ring_laws.proofs.Fixes.{part_byte}
 use Rattle.ring_laws.proofs.BootLaw.{block_some}
 
 -- a word within half the parity of a codeword has it for its nearest
-pub near_is : (z : Zone) (now : List ℕ) (part : Part) (c : List ℕ) → IsValidZone z → IsBytes now → IsNear z.parity (part_word z now part) c → nearest z.parity (part_word z now part) ≡ Some c
+pub near_is : (z : Zone) (now : List ℕ) (part : Part) (c : List ℕ) → IsValidZone z → IsBytes now
+    → IsNear z.parity (part_word z now part) c → nearest z.parity (part_word z now part) ≡ Some c
 near_is z now part c valid h near =
-    (nearest_law z.parity (part_word z now part) c (part_word-short z now part valid) (part_word-IsWord z now part h)).1 (near.word, near.codeword, near.within)
+    (nearest_law z.parity (part_word z now part) c (part_word-short z now part valid)
+    (part_word-IsWord z now part h)).1 (near.word, near.codeword, near.within)
 
 -- two images whose part has one nearest codeword read the same
-pub same_nearest : (z : Zone) (stop now : List ℕ) (part : Part) (c : List ℕ) → length now ≡ length stop → nearest z.parity (part_word z stop part) ≡ Some c → nearest z.parity (part_word z now part) ≡ Some c
+pub same_nearest : (z : Zone) (stop now : List ℕ) (part : Part) (c : List ℕ) → length now ≡ length stop
+    → nearest z.parity (part_word z stop part) ≡ Some c → nearest z.parity (part_word z now part) ≡ Some c
     → (part_reading z now part).bytes ≡ (part_reading z stop part).bytes
-same_nearest z stop now part c l e f = reading_near z now part c f ∙ ap (λ n. take n c) (length-part_bytes z now stop part l) ∙ sym (reading_near z stop part c e)
+same_nearest z stop now part c l e f = reading_near z now part c f
+    ∙ ap (λ n. take n c) (length-part_bytes z now stop part l) ∙ sym (reading_near z stop part c e)
 
 -- and so do two images with one word
-pub same_word : (z : Zone) (stop now : List ℕ) (part : Part) → length now ≡ length stop → part_word z now part ≡ part_word z stop part → (part_reading z now part).bytes ≡ (part_reading z stop part).bytes
+pub same_word : (z : Zone) (stop now : List ℕ) (part : Part) → length now ≡ length stop
+    → part_word z now part ≡ part_word z stop part → (part_reading z now part).bytes ≡ (part_reading z stop part).bytes
 same_word z stop now part l e = by (nearest z.parity (part_word z stop part)) refl
   where
-    by : (o : Option (List ℕ)) → nearest z.parity (part_word z stop part) ≡ o → (part_reading z now part).bytes ≡ (part_reading z stop part).bytes
+    by : (o : Option (List ℕ)) → nearest z.parity (part_word z stop part) ≡ o
+        → (part_reading z now part).bytes ≡ (part_reading z stop part).bytes
     by (Some c) n = same_nearest z stop now part c l n (ap (nearest z.parity) e ∙ n)
     by None n =
-        reading_none z now part (ap (nearest z.parity) e ∙ n) ∙ sym (part_bytes-word z now part) ∙ ap₂ take (length-part_bytes z now stop part l) e
+        reading_none z now part (ap (nearest z.parity) e ∙ n) ∙ sym (part_bytes-word z now part)
+        ∙ ap₂ take (length-part_bytes z now stop part l) e
         ∙ part_bytes-word z stop part ∙ sym (reading_none z stop part n)
 
-pub part_reads : (z : Zone) (stop now : List ℕ) (part : Part) → IsValidZone z → IsImage z stop → IsImage z now → IsWithinBounds z stop now part → (part_reading z now part).bytes ≡ (part_reading z stop part).bytes
+pub part_reads : (z : Zone) (stop now : List ℕ) (part : Part) → IsValidZone z → IsImage z stop → IsImage z now
+    → IsWithinBounds z stop now part → (part_reading z now part).bytes ≡ (part_reading z stop part).bytes
 part_reads z stop now part valid hs hn (inl sound) =
     let c : List ℕ = sound.0 in
     let l : length now ≡ length stop = hn.0 ∙ sym hs.0 in
-    let near : IsNear z.parity (part_word z stop part) c = nearest-IsNear z.parity (part_word z stop part) c (part_word-IsWord z stop part hs.1) sound.1 in
+    let near : IsNear z.parity (part_word z stop part) c =
+    nearest-IsNear z.parity (part_word z stop part) c (part_word-IsWord z stop part hs.1) sound.1 in
     same_nearest z stop now part c l sound.1
-    (near_is z now part c valid hn.1 (record { codeword = near.codeword; within = sound.2; word = subst (λ n. IsWord n c) (sym (length-part_word z now stop part l)) near.word }))
+    (near_is z now part c valid hn.1 (record {
+      codeword = near.codeword;
+      within = sound.2;
+      word = subst (λ n. IsWord n c) (sym (length-part_word z now stop part l)) near.word;
+    }))
 part_reads z stop now part valid hs hn (inr same) = same_word z stop now part (hn.0 ∙ sym hs.0) same
 
 pub part_reads_as_at_stop : PartReadsAsAtStop
@@ -62,7 +75,8 @@ part_reads_as_at_stop z stop now part valid hs hn own within = part_reads z stop
 
 -- ---- an idle zone
 
-pub get-mapped : {X Y : Type 0} (f : X → Y) (xs : List X) (i : ℕ) (x : X) → slice_get xs i ≡ Some x → slice_get (map f xs) i ≡ Some (f x)
+pub get-mapped : {X Y : Type 0} (f : X → Y) (xs : List X) (i : ℕ) (x : X) → slice_get xs i ≡ Some x
+    → slice_get (map f xs) i ≡ Some (f x)
 get-mapped f [] i x e = let b : Some x ≡ None = sym e in cc
 get-mapped f (w ∷ ws) zero x e = let a : w ≡ x = cc in ap (λ y. Some (f y)) a
 get-mapped f (w ∷ ws) (suc i) x e = get-mapped f ws i x e
@@ -72,7 +86,8 @@ get-range zero a i p e = let b : Some p ≡ None = sym e in cc
 get-range (suc n) a zero p e = let s : a ≡ p = cc in (omega arith, omega arith)
 get-range (suc n) a (suc i) p e = let r = get-range n (a + 1) i p e in (omega (arith, r.0), omega (arith, r.1))
 
-get-join : {X : Type 0} (xs ys : List X) (i : ℕ) (x : X) → slice_get (xs ++ ys) i ≡ Some x → ((j : ℕ) × (slice_get xs j ≡ Some x)) ⊎ ((j : ℕ) × (slice_get ys j ≡ Some x))
+get-join : {X : Type 0} (xs ys : List X) (i : ℕ) (x : X) → slice_get (xs ++ ys) i ≡ Some x
+    → ((j : ℕ) × (slice_get xs j ≡ Some x)) ⊎ ((j : ℕ) × (slice_get ys j ≡ Some x))
 get-join [] ys i x e = inr (i, e)
 get-join (w ∷ ws) ys zero x e = inl (zero, e)
 get-join (w ∷ ws) ys (suc i) x e = elim (get-join ws ys i x e) [ inl a ↦ inl (suc a.0, a.1) | inr b ↦ inr b ]
@@ -85,7 +100,9 @@ place_below start size i p l e = elim (get-join (range_with_len start (size - st
 ]
 
 -- a data place reads the byte that stood there, where its block reads so
-pub byte_read-stop : (z : Zone) (stop now : List ℕ) (place : ℕ) → 0 < z.block → place < z.cap → (part_reading z now (Block (place / z.block))).bytes ≡ part_bytes z stop (Block (place / z.block)) → byte_read z now place ≡ get_or stop (12 + place) 0
+pub byte_read-stop : (z : Zone) (stop now : List ℕ) (place : ℕ) → 0 < z.block → place < z.cap
+    → (part_reading z now (Block (place / z.block))).bytes ≡ part_bytes z stop (Block (place / z.block))
+    → byte_read z now place ≡ get_or stop (12 + place) 0
 byte_read-stop z stop now place k h reads =
     let q : ℕ = place / z.block in
     let m : ℕ = place % z.block in
@@ -99,13 +116,16 @@ byte_read-stop z stop now place k h reads =
 pub record IdleFacts (z : Zone) (stop now told : List ℕ) : Type 0 where
   pub words : words_read z now ≡ standing_words stop
   pub state : (zone_reading z now).state ≡ (if length told == 0 then Empty else Found)
-  pub log : (zone_reading z now).log ≡ map (λ place. byte_read z now place) (log_places (standing_words stop).start (standing_words stop).size)
+  pub log : (zone_reading z now).log ≡ map (λ place. byte_read z now place)
+      (log_places (standing_words stop).start (standing_words stop).size)
 
 some_state : (n : ℕ) (s : State) → s ≡ (if suc n == 0 then Empty else Found) → s ≡ Found
 some_state n s e = let m : (suc n == 0) ≡ false = grind (arith, nat_tests) in rw m at e
 
-pub log_by : (z : Zone) (now : List ℕ) (w : Words) (s : State) (n : ℕ) → s ≡ (if n == 0 then Empty else Found) → n ≡ w.size → w.start ≤ w.size
-    → ((reading_in z now w s).log ≡ map (λ place. byte_read z now place) (log_places w.start w.size)) × ((reading_in z now w s).state ≡ s)
+pub log_by : (z : Zone) (now : List ℕ) (w : Words) (s : State) (n : ℕ) → s ≡ (if n == 0 then Empty else Found)
+    → n ≡ w.size → w.start ≤ w.size
+    → ((reading_in z now w s).log ≡ map (λ place. byte_read z now place) (log_places w.start w.size))
+    × ((reading_in z now w s).state ≡ s)
 log_by z now w Found n e m l = (refl, refl)
 log_by z now w Empty zero e m l = (none w.start w.size (omega (arith, m)) (omega (arith, m, l)), refl)
   where
@@ -117,14 +137,18 @@ log_by z now w Unsigned (suc n) e m l = let f : Unsigned ≡ Found = some_state 
 log_by z now w Invalid zero e m l = let f : Invalid ≡ Empty = e in cc
 log_by z now w Invalid (suc n) e m l = let f : Invalid ≡ Found = some_state n Invalid e in cc
 
-pub idle_facts : (z : Zone) (stop now told : List ℕ) → IsRingForm z stop told → (part_reading z now Header).bytes ≡ (part_reading z stop Header).bytes → IdleFacts z stop now told
+pub idle_facts : (z : Zone) (stop now told : List ℕ) → IsRingForm z stop told
+    → (part_reading z now Header).bytes ≡ (part_reading z stop Header).bytes → IdleFacts z stop now told
 unfolding part_bytes
 idle_facts z stop now told ring head =
     let w : Words = standing_words stop in
     let words : words_read z now ≡ w = ap words_in (head ∙ part_reading-stands z stop Header ring.header) in
-    let state : state_of z w ≡ (if length told == 0 then Empty else Found) = state_of-ring z w ring.signed ring.ring.0 ring.ring.1 ∙ ap (λ n. if n == 0 then Empty else Found) ring.told_length in
+    let state : state_of z w ≡ (if length told == 0 then Empty else Found) =
+    state_of-ring z w ring.signed ring.ring.0 ring.ring.1
+    ∙ ap (λ n. if n == 0 then Empty else Found) ring.told_length in
     let all = log_by z now w (state_of z w) (length told) state (sym ring.told_length) ring.ring.0 in
-    let is : zone_reading z now ≡ reading_in z now w (state_of z w) = reading_is z now ∙ ap (λ v. reading_in z now v (state_of z v)) words in
+    let is : zone_reading z now ≡ reading_in z now w (state_of z w) =
+    reading_is z now ∙ ap (λ v. reading_in z now v (state_of z v)) words in
     record {
       words = words;
       state = ap (λ (r : ZoneReading). r.state) is ∙ all.1 ∙ state;
@@ -132,38 +156,50 @@ idle_facts z stop now told ring head =
     }
 
 -- a place whose block is within bounds reads the byte that stood at the stop
-pub place_reads : (z : Zone) (stop now told : List ℕ) (place : ℕ) → IsValidZone z → IsImage z stop → IsImage z now → IsRingForm z stop told → place < (standing_words stop).size
+pub place_reads : (z : Zone) (stop now told : List ℕ) (place : ℕ) → IsValidZone z → IsImage z stop → IsImage z now
+    → IsRingForm z stop told → place < (standing_words stop).size
     → IsWithinBounds z stop now (Block (place / z.block)) → byte_read z now place ≡ get_or stop (12 + place) 0
 place_reads z stop now told place valid hs hn ring below within =
     let m : z.block * (place / z.block) ≤ place = omega (arith, block_some z valid) in
     byte_read-stop z stop now place (block_some z valid) (omega (arith, ring.ring.1))
-    (part_reads z stop now (Block (place / z.block)) valid hs hn within ∙ part_reading-stands z stop (Block (place / z.block)) (ring.blocks (place / z.block) (omega arith)))
+    (part_reads z stop now (Block (place / z.block)) valid hs hn within
+    ∙ part_reading-stands z stop (Block (place / z.block)) (ring.blocks (place / z.block) (omega arith)))
 
 bytes_eq-self : (xs : List ℕ) → bytes_eq xs xs ≡ true
 bytes_eq-self [] = refl
 bytes_eq-self (x ∷ xs) = rw (eq-eqb x x refl) (bytes_eq-self xs)
 
-pub idle_log : (z : Zone) (stop now told : List ℕ) → IsValidZone z → IsImage z stop → IsImage z now → IsRingForm z stop told → IsWithinBounds z stop now Header
+pub idle_log : (z : Zone) (stop now told : List ℕ) → IsValidZone z → IsImage z stop → IsImage z now
+    → IsRingForm z stop told → IsWithinBounds z stop now Header
     → BlocksWithinBounds z stop now (length told) → (zone_reading z now).log ≡ told
 idle_log z stop now told valid hs hn ring head blocks =
     let w : Words = standing_words stop in
     (idle_facts z stop now told ring (part_reads z stop now Header valid hs hn head)).log
     ∙ log_same _ _ w.start w.size ring.ring.0
-    (λ p h. place_reads z stop now told p valid hs hn ring h (blocks (p / z.block) (let m : z.block * (p / z.block) ≤ p = omega (arith, block_some z valid) in omega (arith, ring.told_length))))
+    (λ p h. place_reads z stop now told p valid hs hn ring h
+    (blocks (p / z.block) (let m : z.block * (p / z.block) ≤ p = omega (arith, block_some z valid) in
+    omega (arith, ring.told_length))))
     ∙ ring.bytes
 
 pub idle_zone_reads_told : IdleZoneReadsTold
 idle_zone_reads_told z stop now told valid hs hn ring head =
     let w : Words = standing_words stop in
-    let facts : IdleFacts z stop now told = idle_facts z stop now told ring (part_reads z stop now Header valid hs hn head) in
+    let facts : IdleFacts z stop now told = idle_facts z stop now told ring
+    (part_reads z stop now Header valid hs hn head) in
     record {
-      size = ap length facts.log ∙ length-map (log_places w.start w.size) (λ place. byte_read z now place) ∙ length-log_places w.start w.size ring.ring.0 ∙ ring.told_length;
+      size = ap length facts.log ∙ length-map (log_places w.start w.size) (λ place. byte_read z now place)
+          ∙ length-log_places w.start w.size ring.ring.0 ∙ ring.told_length;
       places = λ i place e within.
-          let at : slice_get (log_places w.start w.size) i ≡ Some place = subst (λ v. slice_get (log_places v.start v.size) i ≡ Some place) facts.words e in
-          ap (λ xs. slice_get xs i) facts.log ∙ get-mapped (λ place. byte_read z now place) (log_places w.start w.size) i place at
-          ∙ ap Some (place_reads z stop now told place valid hs hn ring (place_below w.start w.size i place ring.ring.0 at) within)
-          ∙ sym (ap (λ xs. slice_get xs i) (sym ring.bytes) ∙ get-mapped (λ place. get_or stop (12 + place) 0) (log_places w.start w.size) i place at);
-      whole = λ blocks. verdict_same told (zone_reading z now).log (idle_log z stop now told valid hs hn ring head blocks);
+          let at : slice_get (log_places w.start w.size) i ≡ Some place =
+          subst (λ v. slice_get (log_places v.start v.size) i ≡ Some place) facts.words e in
+          ap (λ xs. slice_get xs i) facts.log ∙ get-mapped (λ place. byte_read z now place)
+          (log_places w.start w.size) i place at
+          ∙ ap Some (place_reads z stop now told place valid hs hn ring
+          (place_below w.start w.size i place ring.ring.0 at) within)
+          ∙ sym (ap (λ xs. slice_get xs i) (sym ring.bytes)
+          ∙ get-mapped (λ place. get_or stop (12 + place) 0) (log_places w.start w.size) i place at);
+      whole = λ blocks. verdict_same told (zone_reading z now).log
+          (idle_log z stop now told valid hs hn ring head blocks);
       state = facts.state;
     }
   where

@@ -31,8 +31,10 @@ IsNearHeader z now c = distance (part_word z now Header) c ≤ z.parity / 2
 pub record HeaderReads (z : Zone) (cut : Cut) (stop now : List ℕ) : Type 0 where
   pub stood : ((standing_words stop).sig ≡ z.sig) × Contains (cut_pairs cut) (pair_of (standing_words stop))
   pub as_at_stop : words_read z now ≡ words_read z stop
-  pub opening : (w : Window) (c : List ℕ) → current_window z cut ≡ Some w → w.opening_codeword ≡ Some c → IsNearHeader z now c → words_read z now ≡ w.opening
-  pub closing : (w : Window) → current_window z cut ≡ Some w → IsNearHeader z now w.closing_codeword → words_read z now ≡ w.closing
+  pub opening : (w : Window) (c : List ℕ) → current_window z cut ≡ Some w → w.opening_codeword ≡ Some c
+      → IsNearHeader z now c → words_read z now ≡ w.opening
+  pub closing : (w : Window) → current_window z cut ≡ Some w → IsNearHeader z now w.closing_codeword
+      → words_read z now ≡ w.closing
   pub other : MatchOption (nearest z.parity (part_word z now Header)) (words_read z now ≡ standing_words stop)
       (λ c. IsNearHeader z now c × (words_read z now ≡ words_in c))
 
@@ -45,7 +47,8 @@ pub record CutReads (z : Zone) (cut : Cut) (told stop now : List ℕ) : Type 0 w
 
 -- so reads a zone that was in flight at its stop, and whose header is not damaged further
 abbrev pub CutZoneReads : Type 0
-CutZoneReads = (z : Zone) (stop now told : List ℕ) (f : Flight) → IsValidZone z → IsInFlight z stop told f → IsImage z now
+CutZoneReads = (z : Zone) (stop now told : List ℕ) (f : Flight) → IsValidZone z → IsInFlight z stop told f
+    → IsImage z now
     → IsNotDamagedFurther z stop now → CutReads z (cut_of z f) told stop now
 
 -- the runs rise from a number on, with a block between each two that is in none
@@ -55,7 +58,8 @@ RisesFrom a (run ∷ runs) = (a ≤ run.0) × (run.0 ≤ run.1) × RisesFrom (ru
 
 -- a report of a cut is exact: the call's kind, the stores made and in all, the pair that the header
 -- reads, and the touched blocks in runs that are as long as can be
-pub record IsExactReport (z : Zone) (reading : ZoneReading) (cut : Cut) (call : CallKind) (stored all : ℕ) (r : CutReport) : Type 0 where
+pub record IsExactReport (z : Zone) (reading : ZoneReading) (cut : Cut) (call : CallKind) (stored all : ℕ)
+    (r : CutReport) : Type 0 where
   pub kind : r.kind ≡ call
   pub made : r.made ≡ stored
   pub total : r.total ≡ all
@@ -65,5 +69,7 @@ pub record IsExactReport (z : Zone) (reading : ZoneReading) (cut : Cut) (call : 
 
 -- so is that of a cut call: its numbers are the flight's
 abbrev pub CutReportIsExact : Type 0
-CutReportIsExact = (z : Zone) (f : Flight) (stop told : List ℕ) (reading : ZoneReading) → IsValidZone z → IsInFlight z stop told f
-    → IsExactReport z reading (cut_of z f) (kind_of f.call) f.made (length (call_stores z f.call f.image)) (cut_report z reading (cut_of z f))
+CutReportIsExact = (z : Zone) (f : Flight) (stop told : List ℕ) (reading : ZoneReading) → IsValidZone z
+    → IsInFlight z stop told f
+    → IsExactReport z reading (cut_of z f) (kind_of f.call) f.made (length (call_stores z f.call f.image))
+    (cut_report z reading (cut_of z f))

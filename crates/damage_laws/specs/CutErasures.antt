@@ -25,9 +25,11 @@ after_boot_stores z now k = after_stores now (take k (boot_stores z now))
 
 -- before the erasure the zone reads the same, but that each store made is a correction less
 abbrev pub CorrectionsKeepReading : Type 0
-CorrectionsKeepReading = (z : Zone) (now : List ℕ) (k : ℕ) → IsValidZone z → IsImage z now → k ≤ length (boot_fixes z now)
+CorrectionsKeepReading = (z : Zone) (now : List ℕ) (k : ℕ) → IsValidZone z → IsImage z now
+    → k ≤ length (boot_fixes z now)
     → let before = zone_reading z now in let after = zone_reading z (after_boot_stores z now k) in
-    (after.state ≡ before.state) × (after.words ≡ before.words) × (after.log ≡ before.log) × (after.corrected + k ≡ before.corrected)
+    (after.state ≡ before.state) × (after.words ≡ before.words) × (after.log ≡ before.log)
+    × (after.corrected + k ≡ before.corrected)
 
 -- What a zone reads whose erasure was begun and not finished, later being what stands when the next boot
 -- begins: pair 0 is the words that the boot read;
@@ -45,11 +47,14 @@ pub record BootCutReads (z : Zone) (now stop later : List ℕ) (cut : Cut) : Typ
 
 -- so reads every zone in which a boot was cut within its erasure
 abbrev pub BootCutZoneReads : Type 0
-BootCutZoneReads = (z : Zone) (now later : List ℕ) (k : ℕ) → IsValidZone z → IsImage z now → IsImage z later → IsWithinErasure z now k
+BootCutZoneReads = (z : Zone) (now later : List ℕ) (k : ℕ) → IsValidZone z → IsImage z now → IsImage z later
+    → IsWithinErasure z now k
     → BootCutReads z now (after_boot_stores z now k) later (boot_cut z now k)
 
 -- what is reported of it is exact: the numbers are the erasure's, and no block is touched
 abbrev pub BootCutReportIsExact : Type 0
-BootCutReportIsExact = (z : Zone) (now : List ℕ) (k : ℕ) (reading : ZoneReading) → IsValidZone z → IsImage z now → IsWithinErasure z now k
+BootCutReportIsExact = (z : Zone) (now : List ℕ) (k : ℕ) (reading : ZoneReading) → IsValidZone z → IsImage z now
+    → IsWithinErasure z now k
     → let r = cut_report z reading (boot_cut z now k) in
-    IsExactReport z reading (boot_cut z now k) Erase (k - length (boot_fixes z now)) (length (boot_stores z now) - length (boot_fixes z now)) r × (r.runs ≡ [])
+    IsExactReport z reading (boot_cut z now k) Erase (k - length (boot_fixes z now))
+    (length (boot_stores z now) - length (boot_fixes z now)) r × (r.runs ≡ [])

@@ -14,7 +14,8 @@ use Rattle.zone_spec.specs.Verdicts.{verdict_of}
 
 -- a part within bounds reads as at its zone's stop
 abbrev pub PartReadsAsAtStop : Type 0
-PartReadsAsAtStop = (z : Zone) (stop now : List ℕ) (part : Part) → IsValidZone z → IsImage z stop → IsImage z now → IsPartOf z part
+PartReadsAsAtStop = (z : Zone) (stop now : List ℕ) (part : Part) → IsValidZone z → IsImage z stop → IsImage z now
+    → IsPartOf z part
     → IsWithinBounds z stop now part → (part_reading z now part).bytes ≡ (part_reading z stop part).bytes
 
 -- the blocks that begin below x are within bounds
@@ -32,5 +33,6 @@ pub record IdleReads (z : Zone) (stop now told : List ℕ) : Type 0 where
 
 -- so of a zone that was in ring form at its stop, and whose header is within bounds
 abbrev pub IdleZoneReadsTold : Type 0
-IdleZoneReadsTold = (z : Zone) (stop now told : List ℕ) → IsValidZone z → IsImage z stop → IsImage z now → IsRingForm z stop told
+IdleZoneReadsTold = (z : Zone) (stop now told : List ℕ) → IsValidZone z → IsImage z stop → IsImage z now
+    → IsRingForm z stop told
     → IsWithinBounds z stop now Header → IdleReads z stop now told

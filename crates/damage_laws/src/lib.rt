@@ -1,5 +1,5 @@
-//! The laws of damage: what a zone reads after a stop, a cut call or a cut boot, and damage since. Each law is a function
-//! whose contract it is.
+//! The laws of damage: what a zone reads after a stop, a cut call or a cut boot, and damage since. Each law is a
+//! function whose contract it is.
 #![tactic(auto)]
 
 ghost use Rattle.damage_laws.specs.Idle.{PartReadsAsAtStop, IdleZoneReadsTold};

@@ -19,7 +19,8 @@ pub poly-push : (w : List ℕ) (c : ℕ) → poly (w ++ c ∷ []) ≡ cons c (po
 unfolding poly
 poly-push w c = poly_on-append none w (c ∷ [])
 
-cons_plus : (a b c f : ℕ) (p q r : ℕ → ℕ) → a ≡ gf_add b (gf_mul f c) → p ≡ plus q (scale f r) → cons a p ≡ plus (cons b q) (scale f (cons c r))
+cons_plus : (a b c f : ℕ) (p q r : ℕ → ℕ) → a ≡ gf_add b (gf_mul f c) → p ≡ plus q (scale f r)
+    → cons a p ≡ plus (cons b q) (scale f (cons c r))
 unfolding plus scale
 cons_plus a b c f p q r e h = λ i k. at k i
   where
@@ -27,7 +28,8 @@ cons_plus a b c f p q r e h = λ i k. at k i
     at zero = e
     at (suc k) = ap (λ (g : ℕ → ℕ). g k) h
 
-poly_on-added : (f : ℕ) (p q r : ℕ → ℕ) (n m b : List ℕ) → IsAdded f n m b → p ≡ plus q (scale f r) → poly_on p n ≡ plus (poly_on q m) (scale f (poly_on r b))
+poly_on-added : (f : ℕ) (p q r : ℕ → ℕ) (n m b : List ℕ) → IsAdded f n m b → p ≡ plus q (scale f r)
+    → poly_on p n ≡ plus (poly_on q m) (scale f (poly_on r b))
 poly_on-added f p q r [] [] [] h e = e
 poly_on-added f p q r [] [] (z ∷ b) h e = absurd (let l = h.length_b in cc)
 poly_on-added f p q r [] (y ∷ m) b h e = absurd (let l = h.length_m in cc)
@@ -35,7 +37,11 @@ poly_on-added f p q r (x ∷ n) [] b h e = absurd (let l = h.length_m in cc)
 poly_on-added f p q r (x ∷ n) (y ∷ m) [] h e = absurd (let l = h.length_b in cc)
 poly_on-added f p q r (x ∷ n) (y ∷ m) (z ∷ b) h e =
     poly_on-added f (cons x p) (cons y q) (cons z r) n m b
-    (record { length_m = omega (arith, h.length_m); length_b = omega (arith, h.length_b); at = λ k l. h.at (suc k) (omega arith) })
+    (record {
+      length_m = omega (arith, h.length_m);
+      length_b = omega (arith, h.length_b);
+      at = λ k l. h.at (suc k) (omega arith);
+    })
     (cons_plus x y z f p q r (h.at 0 (omega arith)) e)
 
 scale_none : (f : ℕ) → scale f none ≡ none
@@ -46,7 +52,8 @@ pub poly-added : (f : ℕ) (u n m b : List ℕ) → IsAdded f n m b → poly (u 
 unfolding poly
 poly-added f u n m b h =
     poly_on-append none u n
-    ∙ poly_on-added f (poly_on none u) (poly_on none u) none n m b h (sym (ap (plus (poly_on none u)) (scale_none f) ∙ plus_none (poly_on none u)))
+    ∙ poly_on-added f (poly_on none u) (poly_on none u) none n m b h
+    (sym (ap (plus (poly_on none u)) (scale_none f) ∙ plus_none (poly_on none u)))
     ∙ ap (λ (p : ℕ → ℕ). plus p (scale f (poly_on none b))) (sym (poly_on-append none u m))
 
 cons_none : cons 0 none ≡ none
@@ -66,12 +73,16 @@ poly-zeros zero = poly-nil
 poly-zeros (suc n) = poly-leading_zero (replicate n 0) ∙ poly-zeros n
 
 -- one more coefficient of the first factor
-pub product_step : (w b : List ℕ) (c : ℕ) → times (poly (w ++ c ∷ [])) (poly b) ≡ plus (cons 0 (times (poly w) (poly b))) (scale c (poly b))
+pub product_step : (w b : List ℕ) (c : ℕ) → times (poly (w ++ c ∷ [])) (poly b)
+    ≡ plus (cons 0 (times (poly w) (poly b))) (scale c (poly b))
 product_step w b c = ap (λ (p : ℕ → ℕ). times p (poly b)) (poly-push w c) ∙ cons_times_is c (poly w) (poly b)
 
 poly_on-below : (n : ℕ) (p : ℕ → ℕ) (w : List ℕ) → Below n p → Below (length w + n) (poly_on p w)
 poly_on-below n p [] h = record { at = λ k l. h.at k (omega arith) }
-poly_on-below n p (c ∷ w) h = record { at = λ k l. (poly_on-below (suc n) (cons c p) w (cons_below n c p h)).at k (omega arith) }
+poly_on-below n p (c ∷ w) h = record {
+  at = λ k l. (poly_on-below (suc n) (cons c p) w (cons_below n c p h)).at k
+      (omega arith);
+}
   where
     cons_below : (n c : ℕ) (p : ℕ → ℕ) → Below n p → Below (suc n) (cons c p)
     cons_below n c p h = record { at = go }
@@ -98,7 +109,8 @@ poly-added_at s f n m b e l front rest =
     ∙ poly-added f (take s n) (drop s n) (drop s m) b (record {
       length_m = omega (arith, length-drop s n, length-drop s m);
       length_b = omega (arith, length-drop s n);
-      at = λ k h. get_or-drop s n k 0 ∙ rest k (omega (arith, length-drop s n)) ∙ ap (λ (x : ℕ). gf_add x (gf_mul f (get_or b k 0))) (sym (get_or-drop s m k 0));
+      at = λ k h. get_or-drop s n k 0 ∙ rest k (omega (arith, length-drop s n))
+          ∙ ap (λ (x : ℕ). gf_add x (gf_mul f (get_or b k 0))) (sym (get_or-drop s m k 0));
     })
     ∙ ap (λ (u : List ℕ). plus (poly (u ++ drop s m)) (scale f (poly b))) same
     ∙ ap (λ (u : List ℕ). plus (poly u) (scale f (poly b))) (take-append-drop s m)
@@ -110,7 +122,8 @@ refill_same xs ws e = take_at ws (drop (length ws) xs) (length xs) e
 pub poly-remove_zero : (n : List ℕ) → get_or n 0 0 ≡ 0 → poly (remove n 0) ≡ poly n
 unfolding poly
 poly-remove_zero [] e = refl
-poly-remove_zero (c ∷ n) e = ap (λ (x : ℕ). poly_on none n) e ∙ sym (poly-leading_zero n) ∙ ap (λ (x : ℕ). poly (x ∷ n)) (sym e)
+poly-remove_zero (c ∷ n) e = ap (λ (x : ℕ). poly_on none n) e ∙ sym (poly-leading_zero n)
+    ∙ ap (λ (x : ℕ). poly (x ∷ n)) (sym e)
 
 cons_parts : (c : ℕ) (p q : ℕ → ℕ) → cons c (plus p q) ≡ plus (cons 0 p) (cons c q)
 unfolding plus
@@ -127,7 +140,9 @@ pub divided : (w b q r : List ℕ) (c f : ℕ) (r' : List ℕ) → poly w ≡ pl
 divided w b q r c f r' e er =
     poly-push w c ∙ ap (cons c) e ∙ cons_parts c (times (poly b) (poly q)) (poly r)
     ∙ alg (cons 0 (times (poly b) (poly q))) (cons c (poly r)) (scale f (poly b))
-    ∙ ap₂ plus (sym (ap (times (poly b)) (poly-push q f) ∙ times_comm (poly b) (cons f (poly q)) ∙ cons_times_is f (poly q) (poly b) ∙ ap (λ (p : ℕ → ℕ). plus (cons 0 p) (scale f (poly b))) (times_comm (poly q) (poly b))))
+    ∙ ap₂ plus (sym (ap (times (poly b)) (poly-push q f) ∙ times_comm (poly b) (cons f (poly q))
+    ∙ cons_times_is f (poly q) (poly b) ∙ ap (λ (p : ℕ → ℕ). plus (cons 0 p) (scale f (poly b)))
+    (times_comm (poly q) (poly b))))
     (ap (λ (p : ℕ → ℕ). plus p (scale f (poly b))) (sym (poly-push r c)) ∙ sym er)
   where
     alg : (p q s : ℕ → ℕ) → plus p q ≡ plus (plus p s) (plus q s)

@@ -36,7 +36,8 @@ scale_times_at : (k c : ℕ) (p q : ℕ → ℕ) → times (scale c p) q k ≡ g
 unfolding times scale
 scale_times_at zero c p q = mul_assoc c (p 0) (q 0)
 scale_times_at (suc k) c p q =
-    ap₂ gf_add (mul_assoc c (p 0) (q (suc k))) (scale_times_at k c (tail p) q) ∙ sym (mul_add c (gf_mul (p 0) (q (suc k))) (times (tail p) q k))
+    ap₂ gf_add (mul_assoc c (p 0) (q (suc k))) (scale_times_at k c (tail p) q)
+    ∙ sym (mul_add c (gf_mul (p 0) (q (suc k))) (times (tail p) q k))
 
 -- the last term the other way
 times_last : (k : ℕ) (p q : ℕ → ℕ) → times p q (suc k) ≡ gf_add (times p (tail q) k) (gf_mul (p (suc k)) (q 0))
@@ -57,11 +58,15 @@ times_assoc_at : (k : ℕ) (p q r : ℕ → ℕ) → times (times p q) r k ≡ t
 unfolding times scale plus
 times_assoc_at zero p q r = mul_assoc (p 0) (q 0) (r 0)
 times_assoc_at (suc k) p q r =
-    let split : times (plus (scale (p 0) (tail q)) (times (tail p) q)) r k ≡ gf_add (gf_mul (p 0) (times (tail q) r k)) (times (tail p) (times q r) k) =
-    plus_times_at k (scale (p 0) (tail q)) (times (tail p) q) r ∙ ap₂ gf_add (scale_times_at k (p 0) (tail q) r) (times_assoc_at k (tail p) q r) in
+    let split : times (plus (scale (p 0) (tail q)) (times (tail p) q)) r k
+    ≡ gf_add (gf_mul (p 0) (times (tail q) r k)) (times (tail p) (times q r) k) =
+    plus_times_at k (scale (p 0) (tail q)) (times (tail p) q) r
+    ∙ ap₂ gf_add (scale_times_at k (p 0) (tail q) r) (times_assoc_at k (tail p) q r) in
     ap₂ gf_add (mul_assoc (p 0) (q 0) (r (suc k))) split
-    ∙ sym (add_assoc (gf_mul (p 0) (gf_mul (q 0) (r (suc k)))) (gf_mul (p 0) (times (tail q) r k)) (times (tail p) (times q r) k))
-    ∙ ap (λ (x : ℕ). gf_add x (times (tail p) (times q r) k)) (sym (mul_add (p 0) (gf_mul (q 0) (r (suc k))) (times (tail q) r k)))
+    ∙ sym (add_assoc (gf_mul (p 0) (gf_mul (q 0) (r (suc k)))) (gf_mul (p 0) (times (tail q) r k))
+    (times (tail p) (times q r) k))
+    ∙ ap (λ (x : ℕ). gf_add x (times (tail p) (times q r) k))
+    (sym (mul_add (p 0) (gf_mul (q 0) (r (suc k))) (times (tail q) r k)))
 
 -- ---- as equations of series
 pub plus_comm : (p q : ℕ → ℕ) → plus p q ≡ plus q p
@@ -128,7 +133,22 @@ none_times p = λ i k. none_times_at k p i
 pub times_none : (p : ℕ → ℕ) → times p none ≡ none
 times_none p = times_comm p none ∙ none_times p
 
-pub ruleset series = (times_plus, plus_times, times_assoc, times_comm, times_left_comm, none_times, times_none, plus_assoc, plus_comm, plus_left_comm, plus_self, plus_cancel, none_plus, plus_none)
+pub ruleset series = (
+  times_plus,
+  plus_times,
+  times_assoc,
+  times_comm,
+  times_left_comm,
+  none_times,
+  times_none,
+  plus_assoc,
+  plus_comm,
+  plus_left_comm,
+  plus_self,
+  plus_cancel,
+  none_plus,
+  plus_none,
+)
 
 try : (a b c d n : ℕ → ℕ) → times a (plus (times b c) (times d n)) ≡ plus (times n (times d a)) (times (times c a) b)
 try a b c d n = simp series
@@ -140,7 +160,8 @@ cons_times c p q zero = sym (add_zero (gf_mul c (q 0)))
 cons_times c p q (suc k) = refl
 
 shift_cons : (p q : ℕ → ℕ) → times (cons 0 p) q ≡ cons 0 (times p q)
-shift_cons p q = λ i k. (cons_times 0 p q k ∙ ap (λ (x : ℕ). gf_add x (cons 0 (times p q) k)) (zero_mul (q k)) ∙ zero_add (cons 0 (times p q) k)) i
+shift_cons p q = λ i k. (cons_times 0 p q k ∙ ap (λ (x : ℕ). gf_add x (cons 0 (times p q) k)) (zero_mul (q k))
+    ∙ zero_add (cons 0 (times p q) k)) i
 
 pub shift_times : (n : ℕ) (p q : ℕ → ℕ) → times (shift n p) q ≡ shift n (times p q)
 unfolding shift
@@ -169,12 +190,14 @@ pub unshift : (n : ℕ) (p : ℕ → ℕ) → Agree n p none → p ≡ shift n (
 unfolding shift none
 unshift zero p h = λ i k. ap p (sym (zero-add k)) i
 unshift (suc n) p h =
-    let rest : tail p ≡ shift n (λ k. tail p (n + k)) = unshift n (tail p) (record { at = λ k l. h.at (suc k) (omega arith) }) in
+    let rest : tail p ≡ shift n (λ k. tail p (n + k)) = unshift n (tail p)
+    (record { at = λ k l. h.at (suc k) (omega arith) }) in
     λ i k. step rest k i
   where
     step : (tail p ≡ shift n (λ k. tail p (n + k))) → (k : ℕ) → p k ≡ cons 0 (shift n (λ k. p (suc n + k))) k
     step rest zero = h.at 0 (omega arith)
-    step rest (suc k) = ap (λ (f : ℕ → ℕ). f k) rest ∙ ap (λ (f : ℕ → ℕ). shift n f k) (λ i j. ap p (sym (suc-add n j)) i)
+    step rest (suc k) = ap (λ (f : ℕ → ℕ). f k) rest ∙ ap (λ (f : ℕ → ℕ). shift n f k)
+        (λ i j. ap p (sym (suc-add n j)) i)
 
 pub times_bytes : (p q : ℕ → ℕ) → Bytes (times p q)
 unfolding times
@@ -182,7 +205,8 @@ times_bytes p q = record { at = λ k. go k p q }
   where
     go : (k : ℕ) (p q : ℕ → ℕ) → times p q k < 256
     go zero p q = mul_below (p 0) (q 0)
-    go (suc k) p q = add_below (gf_mul (p 0) (q (suc k))) (times (tail p) q k) (mul_below (p 0) (q (suc k))) (go k (tail p) q)
+    go (suc k) p q = add_below (gf_mul (p 0) (q (suc k))) (times (tail p) q k) (mul_below (p 0) (q (suc k)))
+        (go k (tail p) q)
 
 one_times_at : (p : ℕ → ℕ) → Bytes p → (k : ℕ) → times one p k ≡ p k
 unfolding times one
@@ -206,7 +230,8 @@ times_below m n p q hp hq = record { at = λ k l. go m p hp k l }
     go (suc m) p hp zero l = absurd (omega arith)
     go (suc m) p hp (suc k) l =
         let e : q (suc k) ≡ 0 = hq.at (suc k) (omega arith) in
-        let r : times (tail p) q k ≡ 0 = go m (tail p) (record { at = λ j h. hp.at (suc j) (omega arith) }) k (omega arith) in
+        let r : times (tail p) q k ≡ 0 = go m (tail p) (record { at = λ j h. hp.at (suc j) (omega arith) }) k
+        (omega arith) in
         ap₂ gf_add (ap (gf_mul (p 0)) e ∙ mul_zero (p 0)) r ∙ zero_add 0
 
 -- ---- low coefficients
@@ -214,7 +239,8 @@ times_low : (k : ℕ) (p p' q : ℕ → ℕ) → ((j : ℕ) → j ≤ k → p j 
 unfolding times
 times_low zero p p' q h = ap (λ (x : ℕ). gf_mul x (q 0)) (h 0 (omega arith))
 times_low (suc k) p p' q h =
-    ap₂ (λ (x y : ℕ). gf_add (gf_mul x (q (suc k))) y) (h 0 (omega arith)) (times_low k (tail p) (tail p') q (λ j l. h (suc j) (omega arith)))
+    ap₂ (λ (x y : ℕ). gf_add (gf_mul x (q (suc k))) y) (h 0 (omega arith))
+    (times_low k (tail p) (tail p') q (λ j l. h (suc j) (omega arith)))
 
 pub times_agree : (n : ℕ) (p p' q : ℕ → ℕ) → Agree n p p' → Agree n (times p q) (times p' q)
 times_agree n p p' q h = record { at = λ k l. times_low k p p' q (λ j h'. h.at j (omega arith)) }
@@ -249,7 +275,8 @@ times_lin X p q = times_comm p (lin X q) ∙ lin_times X q p ∙ ap (lin X) (tim
 
 pub hv_times : (X : ℕ) (p q : ℕ → ℕ) → hv X (times p q) ≡ times p (hv X q)
 hv_times X p q =
-    ap (hv X) (ap (times p) (sym (λ i k. lin_hv X q k i)) ∙ times_lin X p (hv X q)) ∙ (λ i k. hv_lin X (times p (hv X q)) k i)
+    ap (hv X) (ap (times p) (sym (λ i k. lin_hv X q k i)) ∙ times_lin X p (hv X q))
+    ∙ (λ i k. hv_lin X (times p (hv X q)) k i)
 
 pub lin_plus : (X : ℕ) (p q : ℕ → ℕ) → lin X (plus p q) ≡ plus (lin X p) (lin X q)
 unfolding lin plus
@@ -257,7 +284,8 @@ lin_plus X p q = λ i k. at k i
   where
     at : (k : ℕ) → lin X (plus p q) k ≡ plus (lin X p) (lin X q) k
     at zero = refl
-    at (suc k) = ap (gf_add (gf_add (p (suc k)) (q (suc k)))) (mul_add X (p k) (q k)) ∙ add_swap (p (suc k)) (q (suc k)) (gf_mul X (p k)) (gf_mul X (q k))
+    at (suc k) = ap (gf_add (gf_add (p (suc k)) (q (suc k)))) (mul_add X (p k) (q k))
+        ∙ add_swap (p (suc k)) (q (suc k)) (gf_mul X (p k)) (gf_mul X (q k))
 
 pub hv_plus : (X k : ℕ) (p q : ℕ → ℕ) → hv X (plus p q) k ≡ gf_add (hv X p k) (hv X q k)
 unfolding hv plus
@@ -290,14 +318,16 @@ lin_comm_at X Y p (suc zero) = alg (p 1) (gf_mul Y (p 0)) (gf_mul X (p 0))
     alg a b c = simp sums
 lin_comm_at X Y p (suc (suc k)) = alg X Y (p k) (p (suc k)) (p (suc (suc k)))
   where
-    alg : (X Y a b c : ℕ) → gf_add (gf_add c (gf_mul Y b)) (gf_mul X (gf_add b (gf_mul Y a))) ≡ gf_add (gf_add c (gf_mul X b)) (gf_mul Y (gf_add b (gf_mul X a)))
+    alg : (X Y a b c : ℕ) → gf_add (gf_add c (gf_mul Y b)) (gf_mul X (gf_add b (gf_mul Y a)))
+        ≡ gf_add (gf_add c (gf_mul X b)) (gf_mul Y (gf_add b (gf_mul X a)))
     alg X Y a b c = simp ring
 
 pub lin_comm : (X Y : ℕ) (p : ℕ → ℕ) → lin X (lin Y p) ≡ lin Y (lin X p)
 lin_comm X Y p = λ i k. lin_comm_at X Y p k i
 
 pub hv_lin_comm : (X Y : ℕ) (p : ℕ → ℕ) → hv X (lin Y p) ≡ lin Y (hv X p)
-hv_lin_comm X Y p = ap (λ (f : ℕ → ℕ). hv X (lin Y f)) (sym (lin_hv_is X p)) ∙ ap (hv X) (lin_comm Y X (hv X p)) ∙ hv_lin_is X (lin Y (hv X p))
+hv_lin_comm X Y p = ap (λ (f : ℕ → ℕ). hv X (lin Y f)) (sym (lin_hv_is X p)) ∙ ap (hv X) (lin_comm Y X (hv X p))
+    ∙ hv_lin_is X (lin Y (hv X p))
 
 pub cons_times_is : (c : ℕ) (p q : ℕ → ℕ) → times (cons c p) q ≡ plus (cons 0 (times p q)) (scale c q)
 unfolding plus scale

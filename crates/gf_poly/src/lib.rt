@@ -1,4 +1,5 @@
-//! Polynomials over the field of 256 elements, as lists of coefficients with that of the highest power first, and the values of words.
+//! Polynomials over the field of 256 elements, as lists of coefficients with that of the highest power first, and the
+//! values of words.
 #![tactic(auto)]
 
 ghost use Rattle.std.specs.Prelude.{◌≡◌, ◌≢◌, ◌+◌, ◌≤◌, ◌<◌, ℕ, ◌++◌, [], length, slice_index};
@@ -26,7 +27,8 @@ pub fn add_scaled(word: &mut [u8], start: usize, factor: u8, other: &[u8])
     requires { start + length other.now ≡ length word.old }
     ensures front { (k : ℕ) → k < start → slice_index word.new k ≡ slice_index word.old k }
     ensures rest { (k : ℕ) → k < length other.now →
-        slice_index word.new (start + k) ≡ gf_add (slice_index word.old (start + k)) (gf_mul factor (slice_index other.now k)) }
+        slice_index word.new (start + k)
+        ≡ gf_add (slice_index word.old (start + k)) (gf_mul factor (slice_index other.now k)) }
 {
     for i in 0..other.len() {
         word[start + i] = add(word[start + i], mul(factor, other[i]));
@@ -81,7 +83,8 @@ fn first(word: &[u8]) -> u8
     word[0]
 }
 
-/// Takes the first coefficient of `rest`, times the inverse of that of `b`, from it: answers the quotient's coefficient.
+/// Takes the first coefficient of `rest`, times the inverse of that of `b`, from it: answers the quotient's
+/// coefficient.
 fn divide_step(b: &[u8], inverse: u8, rest: &mut ArrayVec<u8, 255>) -> u8
     requires some { 0 < length b.now }
     requires inverse { gf_mul (slice_index b.now 0) inverse ≡ 1 }

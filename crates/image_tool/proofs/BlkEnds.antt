@@ -17,36 +17,56 @@ use Rattle.image_tool.specs.BlkEnds.{LinesEnded, LinesOrStopEnded, KeptBefore, B
 
 -- ---- which lines are wanted
 
-short_lines : (layout : BlkLayout) (bytes script : List ℕ) → length bytes < layout.total → blk_lines layout bytes script ≡ Err (Short (length bytes) layout.total)
+short_lines : (layout : BlkLayout) (bytes script : List ℕ) → length bytes < layout.total
+    → blk_lines layout bytes script ≡ Err (Short (length bytes) layout.total)
 short_lines layout bytes script h = rw (nat_lt-true h) refl
 
-long_lines : (layout : BlkLayout) (bytes script : List ℕ) → layout.total ≤ length bytes → script_limit < length script → blk_lines layout bytes script ≡ Err TooLong
+long_lines : (layout : BlkLayout) (bytes script : List ℕ) → layout.total ≤ length bytes → script_limit < length script
+    → blk_lines layout bytes script ≡ Err TooLong
 long_lines layout bytes script room h = rw (nat_lt-false room, nat_lt-true h) refl
 
-read_lines : (layout : BlkLayout) (bytes script : List ℕ) → layout.total ≤ length bytes → length script ≤ script_limit → blk_lines layout bytes script ≡ lines_or_bad (script_of script)
+read_lines : (layout : BlkLayout) (bytes script : List ℕ) → layout.total ≤ length bytes → length script ≤ script_limit
+    → blk_lines layout bytes script ≡ lines_or_bad (script_of script)
 read_lines layout bytes script room h = rw (nat_lt-false room, nat_lt-false h) refl
 
-room_of : (n : ℕ) (holds : Option (List ℕ)) (bytes : List ℕ) → IfSome holds (λ bs. n ≤ length bs) → holds ≡ Some bytes → n ≤ length bytes
+room_of : (n : ℕ) (holds : Option (List ℕ)) (bytes : List ℕ) → IfSome holds (λ bs. n ≤ length bs) → holds ≡ Some bytes
+    → n ≤ length bytes
 room_of n holds bytes h t = rw t at h
 
 -- ---- stops before the first line
 
 -- want of memory
-memory_lines : (layout : BlkLayout) (bytes : List ℕ) (r : Result (List Line) Stop) (a b : Outside) → Quiet a b → a.holds ≡ Some bytes → LinesOrStopEnded layout bytes r a b (Err Memory)
-memory_lines layout bytes (Ok lines) a b q t = record { text = []; stops = record { count = 0; texts = refl; holds = q.holds ∙ t }; put = put_nothing a b q }
+memory_lines : (layout : BlkLayout) (bytes : List ℕ) (r : Result (List Line) Stop) (a b : Outside) → Quiet a b
+    → a.holds ≡ Some bytes → LinesOrStopEnded layout bytes r a b (Err Memory)
+memory_lines layout bytes (Ok lines) a b q t = record {
+  text = [];
+  stops = record { count = 0; texts = refl; holds = q.holds ∙ t };
+  put = put_nothing a b q;
+}
 memory_lines layout bytes (Err s) a b q t = quiet_memory (stops s) a b q
 
 -- a fault of the store
-image_lines : (layout : BlkLayout) (bytes : List ℕ) (r : Result (List Line) Stop) (a b : Outside) → Quiet a b → a.holds ≡ Some bytes → LinesOrStopEnded layout bytes r a b (Err ImageFault)
-image_lines layout bytes (Ok lines) a b q t = record { text = []; stops = inl (record { texts = refl; holds = q.holds ∙ t }); put = put_nothing a b q }
+image_lines : (layout : BlkLayout) (bytes : List ℕ) (r : Result (List Line) Stop) (a b : Outside) → Quiet a b
+    → a.holds ≡ Some bytes → LinesOrStopEnded layout bytes r a b (Err ImageFault)
+image_lines layout bytes (Ok lines) a b q t = record {
+  text = [];
+  stops = inl (record { texts = refl; holds = q.holds ∙ t });
+  put = put_nothing a b q;
+}
 image_lines layout bytes (Err s) a b q t = inl (q.given, q.holds)
 
 -- a fault of the script
-script_lines : (layout : BlkLayout) (bytes : List ℕ) (r : Result (List Line) Stop) (a b : Outside) → Quiet a b → a.holds ≡ Some bytes → LinesOrStopEnded layout bytes r a b (Err ScriptFault)
-script_lines layout bytes (Ok lines) a b q t = record { text = []; stops = record { texts = refl; holds = q.holds ∙ t }; put = put_nothing a b q }
+script_lines : (layout : BlkLayout) (bytes : List ℕ) (r : Result (List Line) Stop) (a b : Outside) → Quiet a b
+    → a.holds ≡ Some bytes → LinesOrStopEnded layout bytes r a b (Err ScriptFault)
+script_lines layout bytes (Ok lines) a b q t = record {
+  text = [];
+  stops = record { texts = refl; holds = q.holds ∙ t };
+  put = put_nothing a b q;
+}
 script_lines layout bytes (Err s) a b q t = (q.given, q.holds)
 
-lines_as : (layout : BlkLayout) (bytes : List ℕ) (r r' : Result (List Line) Stop) (a b : Outside) (e : End) → r ≡ r' → LinesOrStopEnded layout bytes r' a b e → LinesOrStopEnded layout bytes r a b e
+lines_as : (layout : BlkLayout) (bytes : List ℕ) (r r' : Result (List Line) Stop) (a b : Outside) (e : End) → r ≡ r'
+    → LinesOrStopEnded layout bytes r' a b e → LinesOrStopEnded layout bytes r a b e
 lines_as layout bytes r r' a b e same h = rw same h
 
 memory_ended : (layout : BlkLayout) (a b : Outside) → Quiet a b → BlkEnds layout a b (Err Memory)
@@ -57,13 +77,17 @@ memory_ended layout a b q = record {
   kept = tt;
 }
 
-stop_short : (layout : BlkLayout) (a b : Outside) (has needed : ℕ) → Quiet a b → (needed ≡ layout.total) × (has < layout.total) × IfSome a.holds (λ bs. has ≡ length bs) → BlkEnds layout a b (Err (Short has needed))
+stop_short : (layout : BlkLayout) (a b : Outside) (has needed : ℕ) → Quiet a b
+    → (needed ≡ layout.total) × (has < layout.total) × IfSome a.holds (λ bs. has ≡ length bs)
+    → BlkEnds layout a b (Err (Short has needed))
 stop_short layout a b has needed q h = record {
   whole = record {
     told = λ bytes script t l.
         let size : has ≡ length bytes = rw t at h.2 in
         let few : length bytes < layout.total = rw size at h.1 in
-        lines_as layout bytes (blk_lines layout bytes script) (Err (Short (length bytes) layout.total)) a b (Err (Short has needed)) (short_lines layout bytes script few) (rw (size, h.0) refl, put_nothing a b q, q.holds);
+        lines_as layout bytes (blk_lines layout bytes script) (Err (Short (length bytes) layout.total)) a b
+        (Err (Short has needed)) (short_lines layout bytes script few)
+        (rw (size, h.0) refl, put_nothing a b q, q.holds);
   };
   image = record { told = λ bytes t. let size : has ≡ length bytes = rw t at h.2 in rw size at h.1 };
   script = record { told = λ script l. tt };
@@ -71,7 +95,8 @@ stop_short layout a b has needed q h = record {
 }
 
 -- the store's size was not told, or it is too short
-pub size_stopped : (layout : BlkLayout) (a b : Outside) (s : Stop) (f g : ℕ) → Quiet a b → SizeStop s layout.total a.holds f g → BlkEnds layout a b (Err s)
+pub size_stopped : (layout : BlkLayout) (a b : Outside) (s : Stop) (f g : ℕ) → Quiet a b
+    → SizeStop s layout.total a.holds f g → BlkEnds layout a b (Err s)
 size_stopped layout a b ImageFault f g q h = record {
   whole = record { told = λ bytes script t l. image_lines layout bytes (blk_lines layout bytes script) a b q t };
   image = record { told = λ bytes t. tt };
@@ -89,12 +114,15 @@ size_stopped layout a b TooLong f g q h = absurd h
 size_stopped layout a b (BadLine x) f g q h = absurd h
 size_stopped layout a b (Refused x y) f g q h = absurd h
 
-stop_long : (layout : BlkLayout) (a b : Outside) → IfSome a.holds (λ bs. layout.total ≤ length bs) → Quiet a b → IfSome a.left (λ bs. script_limit < length bs) → BlkEnds layout a b (Err TooLong)
+stop_long : (layout : BlkLayout) (a b : Outside) → IfSome a.holds (λ bs. layout.total ≤ length bs) → Quiet a b
+    → IfSome a.left (λ bs. script_limit < length bs) → BlkEnds layout a b (Err TooLong)
 stop_long layout a b room q h = record {
   whole = record {
     told = λ bytes script t s.
         let long : script_limit < length script = rw s at h in
-        lines_as layout bytes (blk_lines layout bytes script) (Err TooLong) a b (Err TooLong) (long_lines layout bytes script (room_of layout.total a.holds bytes room t) long) (refl, put_nothing a b q, q.holds);
+        lines_as layout bytes (blk_lines layout bytes script) (Err TooLong) a b (Err TooLong)
+        (long_lines layout bytes script (room_of layout.total a.holds bytes room t) long)
+        (refl, put_nothing a b q, q.holds);
   };
   image = record { told = λ bytes t. room_of layout.total a.holds bytes room t };
   script = record { told = λ script s. let long : script_limit < length script = rw s at h in (long, q.given) };
@@ -102,7 +130,8 @@ stop_long layout a b room q h = record {
 }
 
 -- the script was not read
-pub script_stopped : (layout : BlkLayout) (a b : Outside) (s : Stop) (f g : ℕ) → IfSome a.holds (λ bs. layout.total ≤ length bs) → Quiet a b → ScriptStop s a.left f g → BlkEnds layout a b (Err s)
+pub script_stopped : (layout : BlkLayout) (a b : Outside) (s : Stop) (f g : ℕ)
+    → IfSome a.holds (λ bs. layout.total ≤ length bs) → Quiet a b → ScriptStop s a.left f g → BlkEnds layout a b (Err s)
 script_stopped layout a b Memory f g room q h = memory_ended layout a b q
 script_stopped layout a b ScriptFault f g room q h = record {
   whole = record { told = λ bytes script t l. script_lines layout bytes (blk_lines layout bytes script) a b q t };
@@ -121,16 +150,22 @@ script_stopped layout a b (BadLine x) f g room q h = absurd h
 script_stopped layout a b (Refused x y) f g room q h = absurd h
 
 -- the lines of a script that was read
-lines_read : (layout : BlkLayout) (a : Outside) (text bytes script : List ℕ) (r : Result (List Line) ℕ) → IfSome a.holds (λ bs. layout.total ≤ length bs) → Read a text → script_of text ≡ r → a.holds ≡ Some bytes → a.left ≡ Some script → blk_lines layout bytes script ≡ lines_or_bad r
+lines_read : (layout : BlkLayout) (a : Outside) (text bytes script : List ℕ) (r : Result (List Line) ℕ)
+    → IfSome a.holds (λ bs. layout.total ≤ length bs) → Read a text → script_of text ≡ r → a.holds ≡ Some bytes
+    → a.left ≡ Some script → blk_lines layout bytes script ≡ lines_or_bad r
 lines_read layout a text bytes script r room read e t s =
     let same : script ≡ text = sym (read_of a text script read s) in
     let few : length script ≤ script_limit = rw same read.few in
     read_lines layout bytes script (room_of layout.total a.holds bytes room t) few ∙ rw (same, e) refl
 
-stop_bad : (layout : BlkLayout) (a b : Outside) (text : List ℕ) (n : ℕ) → IfSome a.holds (λ bs. layout.total ≤ length bs) → Read a text → Quiet a b → script_of text ≡ Err n → BlkEnds layout a b (Err (BadLine n))
+stop_bad : (layout : BlkLayout) (a b : Outside) (text : List ℕ) (n : ℕ)
+    → IfSome a.holds (λ bs. layout.total ≤ length bs) → Read a text → Quiet a b → script_of text ≡ Err n
+    → BlkEnds layout a b (Err (BadLine n))
 stop_bad layout a b text n room read q h = record {
   whole = record {
-    told = λ bytes script t s. lines_as layout bytes (blk_lines layout bytes script) (Err (BadLine n)) a b (Err (BadLine n)) (lines_read layout a text bytes script (Err n) room read h t s) (refl, put_nothing a b q, q.holds);
+    told = λ bytes script t s. lines_as layout bytes (blk_lines layout bytes script) (Err (BadLine n)) a b
+        (Err (BadLine n)) (lines_read layout a text bytes script (Err n) room read h t s)
+        (refl, put_nothing a b q, q.holds);
   };
   image = record { told = λ bytes t. room_of layout.total a.holds bytes room t };
   script = record {
@@ -144,7 +179,9 @@ stop_bad layout a b text n room read q h = record {
 }
 
 -- the script has a bad line
-pub parse_stopped : (layout : BlkLayout) (a b : Outside) (text : List ℕ) (s : Stop) → IfSome a.holds (λ bs. layout.total ≤ length bs) → Read a text → Quiet a b → ParseStop s (script_of text) → BlkEnds layout a b (Err s)
+pub parse_stopped : (layout : BlkLayout) (a b : Outside) (text : List ℕ) (s : Stop)
+    → IfSome a.holds (λ bs. layout.total ≤ length bs) → Read a text → Quiet a b → ParseStop s (script_of text)
+    → BlkEnds layout a b (Err s)
 parse_stopped layout a b text Memory room read q h = memory_ended layout a b q
 parse_stopped layout a b text (BadLine n) room read q h = stop_bad layout a b text n room read q h
 parse_stopped layout a b text Usage room read q h = absurd h
@@ -160,13 +197,42 @@ parse_stopped layout a b text (Refused x y) room read q h = absurd h
 -- ---- lines
 
 -- lines that were played, from the moment before the first
-lines_played : (e : End) (layout : BlkLayout) (bytes : List ℕ) (lines : List Line) (a b : Outside) (holds : Option (List ℕ)) (g g' h h' : ℕ) → IsCaused e (seen holds g a.given h) (seen b.holds g' b.given h') → PlaysOn e layout bytes lines (seen holds g a.given h) (seen b.holds g' b.given h') → LinesEnded layout bytes lines a b e
-lines_played (Ok u) layout bytes lines a b holds g g' h h' c p = record { none = p.none; texts = p.texts; holds = p.holds }
-lines_played (Err Memory) layout bytes lines a b holds g g' h h' c p = record { text = _; stops = record { count = p.count; texts = refl; holds = p.holds }; put = p.texts }
+lines_played : (e : End) (layout : BlkLayout) (bytes : List ℕ) (lines : List Line) (a b : Outside)
+    (holds : Option (List ℕ)) (g g' h h' : ℕ) → IsCaused e (seen holds g a.given h) (seen b.holds g' b.given h')
+    → PlaysOn e layout bytes lines (seen holds g a.given h) (seen b.holds g' b.given h')
+    → LinesEnded layout bytes lines a b e
+lines_played (Ok u) layout bytes lines a b holds g g' h h' c p =
+    record { none = p.none; texts = p.texts; holds = p.holds }
+lines_played (Err Memory) layout bytes lines a b holds g g' h h' c p =
+    record { text = _; stops = record { count = p.count; texts = refl; holds = p.holds }; put = p.texts }
 lines_played (Err ImageFault) layout bytes lines a b holds g g' h h' c p =
-    record { text = _; stops = inr (record { count = p.count; line = p.line; next = p.next; wanted = p.wanted; texts = refl; kept = p.holds.kept; within = p.holds.within; holds = p.holds.store }); put = p.texts }
+    record {
+      text = _;
+      stops = inr (record {
+        count = p.count;
+        line = p.line;
+        next = p.next;
+        wanted = p.wanted;
+        texts = refl;
+        kept = p.holds.kept;
+        within = p.holds.within;
+        holds = p.holds.store;
+      });
+      put = p.texts;
+    }
 lines_played (Err SinkFault) layout bytes lines a b holds g g' h h' c p =
-    record { text = _; stops = record { count = p.count; next = p.text; last = p.next; part = p.part; texts = refl; holds = p.holds }; put = p.texts }
+    record {
+      text = _;
+      stops = record {
+        count = p.count;
+        next = p.text;
+        last = p.next;
+        part = p.part;
+        texts = refl;
+        holds = p.holds;
+      };
+      put = p.texts;
+    }
 lines_played (Err (Refused n cause)) layout bytes lines a b holds g g' h h' c p =
     record { text = _; stops = record { end = p.end; texts = refl; holds = p.holds }; put = p.texts }
 lines_played (Err Usage) layout bytes lines a b holds g g' h h' c p = absurd c
@@ -178,7 +244,8 @@ lines_played (Err TooLong) layout bytes lines a b holds g g' h h' c p = absurd c
 lines_played (Err (BadLine x)) layout bytes lines a b holds g g' h h' c p = absurd c
 
 -- lines end no other way than behind their reading
-played_short : (e : End) (mem size g g' h h' : ℕ) (holds holds' given given' : Option (List ℕ)) → IsCaused e (seen holds g given h) (seen holds' g' given' h') → mem ≤ size → ShortAt mem size e
+played_short : (e : End) (mem size g g' h h' : ℕ) (holds holds' given given' : Option (List ℕ))
+    → IsCaused e (seen holds g given h) (seen holds' g' given' h') → mem ≤ size → ShortAt mem size e
 played_short (Ok u) mem size g g' h h' holds holds' given given' c le = le
 played_short (Err Memory) mem size g g' h h' holds holds' given given' c le = tt
 played_short (Err ImageFault) mem size g g' h h' holds holds' given given' c le = tt
@@ -192,7 +259,9 @@ played_short (Err ScriptFault) mem size g g' h h' holds holds' given given' c le
 played_short (Err TooLong) mem size g g' h h' holds holds' given given' c le = absurd c
 played_short (Err (BadLine x)) mem size g g' h h' holds holds' given given' c le = absurd c
 
-played_script : (e : End) (script : List ℕ) (g g' h h' : ℕ) (holds holds' given given' before now : Option (List ℕ)) → IsCaused e (seen holds g given h) (seen holds' g' given' h') → (length script ≤ script_limit) × IsOk (script_of script) → ScriptAt script before now e
+played_script : (e : End) (script : List ℕ) (g g' h h' : ℕ) (holds holds' given given' before now : Option (List ℕ))
+    → IsCaused e (seen holds g given h) (seen holds' g' given' h')
+    → (length script ≤ script_limit) × IsOk (script_of script) → ScriptAt script before now e
 played_script (Ok u) script g g' h h' holds holds' given given' before now c good = good
 played_script (Err Memory) script g g' h h' holds holds' given given' before now c good = tt
 played_script (Err ImageFault) script g g' h h' holds holds' given given' before now c good = tt
@@ -206,7 +275,8 @@ played_script (Err ScriptFault) script g g' h h' holds holds' given given' befor
 played_script (Err TooLong) script g g' h h' holds holds' given given' before now c good = absurd c
 played_script (Err (BadLine x)) script g g' h h' holds holds' given given' before now c good = absurd c
 
-played_kept : (e : End) (g g' h h' : ℕ) (holds holds' given given' before now : Option (List ℕ)) → IsCaused e (seen holds g given h) (seen holds' g' given' h') → KeptBefore before now e
+played_kept : (e : End) (g g' h h' : ℕ) (holds holds' given given' before now : Option (List ℕ))
+    → IsCaused e (seen holds g given h) (seen holds' g' given' h') → KeptBefore before now e
 played_kept (Ok u) g g' h h' holds holds' given given' before now c = tt
 played_kept (Err Memory) g g' h h' holds holds' given given' before now c = tt
 played_kept (Err ImageFault) g g' h h' holds holds' given given' before now c = tt
@@ -221,7 +291,8 @@ played_kept (Err TooLong) g g' h h' holds holds' given given' before now c = abs
 played_kept (Err (BadLine x)) g g' h h' holds holds' given given' before now c = absurd c
 
 -- a fault is told only where its count rose since the moment before the lines, at which no count was lower
-pub played_caused : (e : End) (f f' g0 g g' h0 h h' : ℕ) (holds holds' given given' : Option (List ℕ)) → g0 ≤ g → h0 ≤ h → IsCaused e (seen holds g given h) (seen holds' g' given' h') → CausedAt f f' g0 g' h0 h' e
+pub played_caused : (e : End) (f f' g0 g g' h0 h h' : ℕ) (holds holds' given given' : Option (List ℕ)) → g0 ≤ g
+    → h0 ≤ h → IsCaused e (seen holds g given h) (seen holds' g' given' h') → CausedAt f f' g0 g' h0 h' e
 played_caused (Ok u) f f' g0 g g' h0 h h' holds holds' given given' p q c = tt
 played_caused (Err Memory) f f' g0 g g' h0 h h' holds holds' given given' p q c = tt
 played_caused (Err ImageFault) f f' g0 g g' h0 h h' holds holds' given given' p q c = omega (arith, c)
@@ -236,12 +307,23 @@ played_caused (Err TooLong) f f' g0 g g' h0 h h' holds holds' given given' p q c
 played_caused (Err (BadLine x)) f f' g0 g g' h0 h h' holds holds' given given' p q c = absurd c
 
 -- lines were played on a store that holds what it held
-pub play_ended : (layout : BlkLayout) (a b : Outside) (text : List ℕ) (lines : List Line) (e : End) (holds : Option (List ℕ)) (g g' h h' : ℕ) → IfSome a.holds (λ bs. layout.total ≤ length bs) → Read a text → script_of text ≡ Ok lines → holds ≡ a.holds → IsCaused e (seen holds g a.given h) (seen b.holds g' b.given h') → Plays e layout lines (seen holds g a.given h) (seen b.holds g' b.given h') → BlkEnds layout a b e
+pub play_ended : (layout : BlkLayout) (a b : Outside) (text : List ℕ) (lines : List Line) (e : End)
+    (holds : Option (List ℕ)) (g g' h h' : ℕ) → IfSome a.holds (λ bs. layout.total ≤ length bs) → Read a text
+    → script_of text ≡ Ok lines → holds ≡ a.holds → IsCaused e (seen holds g a.given h) (seen b.holds g' b.given h')
+    → Plays e layout lines (seen holds g a.given h) (seen b.holds g' b.given h') → BlkEnds layout a b e
 play_ended layout a b text lines e holds g g' h h' room read ok same c p = record {
   whole = record {
-    told = λ bytes script t s. lines_as layout bytes (blk_lines layout bytes script) (Ok lines) a b e (lines_read layout a text bytes script (Ok lines) room read ok t s) (lines_played e layout bytes lines a b holds g g' h h' c (p bytes (same ∙ t)));
+    told = λ bytes script t s. lines_as layout bytes (blk_lines layout bytes script) (Ok lines) a b e
+        (lines_read layout a text bytes script (Ok lines) room read ok t s)
+        (lines_played e layout bytes lines a b holds g g' h h' c (p bytes (same ∙ t)));
   };
-  image = record { told = λ bytes t. played_short e layout.total (length bytes) g g' h h' holds b.holds a.given b.given c (room_of layout.total a.holds bytes room t) };
-  script = record { told = λ script s. played_script e script g g' h h' holds b.holds a.given b.given a.given b.given c (good_script a text lines read ok script s) };
+  image = record {
+    told = λ bytes t. played_short e layout.total (length bytes)
+        g g' h h' holds b.holds a.given b.given c (room_of layout.total a.holds bytes room t);
+  };
+  script = record {
+    told = λ script s. played_script e script g g' h h' holds b.holds a.given b.given a.given b.given
+        c (good_script a text lines read ok script s);
+  };
   kept = played_kept e g g' h h' holds b.holds a.given b.given a.holds b.holds c;
 }

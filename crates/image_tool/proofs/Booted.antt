@@ -13,9 +13,11 @@ use Rattle.ram_core.specs.Booted.{Booted}
 use Rattle.store_session.specs.Playing.{StandsFresh}
 use Rattle.image_tool.specs.Stores.{BootedFrom}
 
-pub booted_from : (layout : List Zone) (mem size : ℕ) (holds : Option (List ℕ)) (image : List ℕ) (off : OffSeen) (live : LiveSeen) (logs : SavedLogs) (told : List ZoneReport) → size ≡ mem
+pub booted_from : (layout : List Zone) (mem size : ℕ) (holds : Option (List ℕ)) (image : List ℕ) (off : OffSeen)
+    (live : LiveSeen) (logs : SavedLogs) (told : List ZoneReport) → size ≡ mem
     → IfSome holds (λ bytes. (size ≤ length bytes) × (image ≡ take size bytes)) → StandsFresh layout mem image off
-    → ((layout : List Zone) (mem : ℕ) (s : OffState) → StandsOff layout mem off s → Booted layout mem s live (saved logs) told) → BootedFrom layout mem holds live logs
+    → ((layout : List Zone) (mem : ℕ) (s : OffState) → StandsOff layout mem off s
+    → Booted layout mem s live (saved logs) told) → BootedFrom layout mem holds live logs
 booted_from layout mem size holds image off live logs told same read f boots =
     let b = boots layout mem (fresh layout image) f.stands in
     let sound = fresh_is_sound layout mem image f.lies f.size f.bytes in

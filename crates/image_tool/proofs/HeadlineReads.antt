@@ -36,16 +36,19 @@ value_small v n false e h = absurd (cc)
 digits_small : (base : ℕ) (digits : List ℕ) (n : ℕ) → digits_number base digits ≡ Some n → n < 2 ^ 32
 digits_small base digits n h = by (nat_lt 0 (length digits)) (list_all (λ c. is_digit c base) digits) h
   where
-    by : (x y : Bool) → cond (x && y && nat_lt (digits_value base digits) (2 ^ 32)) (Some (digits_value base digits)) None ≡ Some n → n < 2 ^ 32
+    by : (x y : Bool) → cond (x && y && nat_lt (digits_value base digits) (2 ^ 32)) (Some (digits_value base digits))
+        None ≡ Some n → n < 2 ^ 32
     by true true h = value_small (digits_value base digits) n (nat_lt (digits_value base digits) (2 ^ 32)) refl h
     by true false h = absurd (cc)
     by false y h = absurd (cc)
 
 number_small : (text : List ℕ) (n : ℕ) → number_of text ≡ Some n → n < 2 ^ 32
 unfolding number_of
-number_small text n h = by (begins (codes "0x") text || begins (codes "0X") text) (begins (codes "0") text && nat_lt 1 (length text)) h
+number_small text n h = by (begins (codes "0x") text || begins (codes "0X") text)
+    (begins (codes "0") text && nat_lt 1 (length text)) h
   where
-    by : (x y : Bool) → cond x (digits_number 16 (drop 2 text)) (cond y (digits_number 8 (drop 1 text)) (digits_number 10 text)) ≡ Some n → n < 2 ^ 32
+    by : (x y : Bool) → cond x (digits_number 16 (drop 2 text))
+        (cond y (digits_number 8 (drop 1 text)) (digits_number 10 text)) ≡ Some n → n < 2 ^ 32
     by true y h = digits_small 16 (drop 2 text) n h
     by false true h = digits_small 8 (drop 1 text) n h
     by false false h = digits_small 10 text n h
@@ -64,14 +67,17 @@ given_small words key = by (value_text words key)
 
 -- ---- the zones of a plan are a layout
 
-laid : (command : Command) (params : Params) (plan : Plan) (o : Result (List Zone) LayoutFault) → layout_of params ≡ o → with_layout command params o ≡ Ok plan → params.ftrace_sig < 2 ^ 32 → IsLayout plan.zones (mem_of plan)
+laid : (command : Command) (params : Params) (plan : Plan) (o : Result (List Zone) LayoutFault) → layout_of params ≡ o
+    → with_layout command params o ≡ Ok plan → params.ftrace_sig < 2 ^ 32 → IsLayout plan.zones (mem_of plan)
 laid command params plan (Ok zones) e h small =
     let same : record { command = command; params = params; zones = zones } ≡ plan = cc in
     subst (λ (p : Plan). IsLayout p.zones (mem_of p)) same (whole_layout params zones small e)
 laid command params plan (Err fault) e h small = absurd (cc)
 
-read : (a : Asked) (plan : Plan) (o : Option ParamFault) → with_params a (ok_unless o (params_of a.params)) ≡ Ok plan → IsLayout plan.zones (mem_of plan)
-read a plan None h = laid a.command (params_of a.params) plan (layout_of (params_of a.params)) refl h (given_small a.params (codes "ftrace_sig"))
+read : (a : Asked) (plan : Plan) (o : Option ParamFault) → with_params a (ok_unless o (params_of a.params)) ≡ Ok plan
+    → IsLayout plan.zones (mem_of plan)
+read a plan None h = laid a.command (params_of a.params) plan (layout_of (params_of a.params)) refl h
+    (given_small a.params (codes "ftrace_sig"))
 read a plan (Some fault) h = absurd (cc)
 
 planned_whole : (o : Option Asked) (plan : Plan) → planned o ≡ Ok plan → IsLayout plan.zones (mem_of plan)
@@ -83,7 +89,8 @@ planned_whole (Some a) plan h = read a plan (first_fault [] a.params) h
 front_size : (mem : ℕ) (bytes : List ℕ) → mem ≤ length bytes → length (take mem bytes) ≡ mem
 front_size mem bytes h = omega (arith, h, length-take mem bytes)
 
-pub run_reads : (o : Option Asked) (r : Result Plan Stop) (a : Outside) → planned o ≡ r → IfSome a.holds AreBytes → RunReads r a
+pub run_reads : (o : Option Asked) (r : Result Plan Stop) (a : Outside) → planned o ≡ r → IfSome a.holds AreBytes
+    → RunReads r a
 run_reads o (Err s) a e held = tt
 run_reads o (Ok plan) a e held = λ is. record {
   told = λ bytes script holds left lines long good.
@@ -91,7 +98,8 @@ run_reads o (Ok plan) a e held = λ is. record {
       let all : AreBytes bytes = rw holds at held in
       let size = front_size (mem_of plan) bytes long in
       let front : AreBytes (take (mem_of plan) bytes) = AreBytes-take (mem_of plan) bytes all in
-      let sound = states_sound plan.zones (mem_of plan) (take (mem_of plan) bytes) lines lies size front (read_fields script lines good) in (
+      let sound = states_sound plan.zones (mem_of plan) (take (mem_of plan) bytes) lines lies size front
+      (read_fields script lines good) in (
         λ k off at. sound_state_reads_last_written plan.zones (mem_of plan) off lies (rw at at (sound k)),
         λ k off at. report_is_exact plan.zones (mem_of plan) off lies (rw at at (sound k)),
       );

@@ -11,7 +11,8 @@ use Rattle.tool_spec.specs.declared.Stop.TheVariants.{Memory, SinkFault, ImageFa
 use Rattle.tool_frame.specs.Ended.{MakeEnds}
 use Rattle.tool_frame.proofs.Script.{Quiet, quiet_memory}
 
-make_wanted : (plan : Plan) (n : ℕ) → plan.command ≡ MakeImage n → wanted plan [] [] ≡ wanted_make n plan.zones (generated plan.zones (mem_of plan) n)
+make_wanted : (plan : Plan) (n : ℕ) → plan.command ≡ MakeImage n
+    → wanted plan [] [] ≡ wanted_make n plan.zones (generated plan.zones (mem_of plan) n)
 make_wanted plan n is = rw is refl
 
 module _ (plan : Plan) (n : ℕ) (a b : Outside) (is : plan.command ≡ MakeImage n) (none : NoScript a b) where
@@ -20,11 +21,39 @@ module _ (plan : Plan) (n : ℕ) (a b : Outside) (is : plan.command ≡ MakeImag
 
   module _ (text : Text) (e : text ≡ summary n plan.zones (generated plan.zones (mem_of plan) n)) where
     pub make_unput : b.holds ≡ a.holds → AppendsFront a.given b.given text → MakeEnds plan a b (Err SinkFault)
-    make_unput same put = record { whole = rw (make_wanted plan n is) (record { count = 1; bytes = rw (append-nil (summary n plan.zones (generated plan.zones (mem_of plan) n)), ← e) put }, same); script = none }
+    make_unput same put = record {
+      whole = rw (make_wanted plan n is) (
+        record {
+          count = 1;
+          bytes = rw (
+            append-nil (summary n plan.zones (generated plan.zones (mem_of plan) n)),
+            ← e,
+          ) put;
+        },
+        same,
+      );
+      script = none;
+    }
 
-    module _ (image : List ℕ) (i : image ≡ session_image (generated plan.zones (mem_of plan) n).session) (put : Appends a.given b.given text) where
+    module _ (image : List ℕ) (i : image ≡ session_image (generated plan.zones (mem_of plan) n).session)
+        (put : Appends a.given b.given text) where
       pub make_saved : Writes a.holds b.holds 0 image → MakeEnds plan a b (Ok tt)
-      make_saved wrote = record { whole = rw (make_wanted plan n is) (refl, rw (append-nil (summary n plan.zones (generated plan.zones (mem_of plan) n)), ← e) put, rw i at wrote); script = none }
+      make_saved wrote = record {
+        whole = rw (make_wanted plan n is) (
+          refl,
+          rw (append-nil (summary n plan.zones (generated plan.zones (mem_of plan) n)), ← e) put,
+          rw i at wrote,
+        );
+        script = none;
+      }
 
       pub make_unsaved : WritesFront a.holds b.holds 0 image → MakeEnds plan a b (Err ImageFault)
-      make_unsaved wrote = record { whole = rw (make_wanted plan n is) (inr (refl, rw (append-nil (summary n plan.zones (generated plan.zones (mem_of plan) n)), ← e) put, rw i at wrote)); script = none }
+      make_unsaved wrote = record {
+        whole = rw (make_wanted plan n is)
+            (inr (
+              refl,
+              rw (append-nil (summary n plan.zones (generated plan.zones (mem_of plan) n)), ← e) put,
+              rw i at wrote,
+            ));
+        script = none;
+      }

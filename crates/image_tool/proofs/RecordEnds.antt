@@ -37,10 +37,12 @@ use Rattle.image_tool.proofs.Shown.{put_all, put_front, wrote_all, wrote_front}
 
 -- ---- a text that is put, and an image that is written
 
-pub put_all_of : (w : Wanted) (a b : Outside) (text : Text) → w ≡ shows (text ∷ []) → b.holds ≡ a.holds → Appends a.given b.given text → Ended w a b (Ok tt)
+pub put_all_of : (w : Wanted) (a b : Outside) (text : Text) → w ≡ shows (text ∷ []) → b.holds ≡ a.holds
+    → Appends a.given b.given text → Ended w a b (Ok tt)
 put_all_of w a b text e same put = rw (e, same) (put_all text text a.given b.given a.holds refl put)
 
-pub put_front_of : (w : Wanted) (a b : Outside) (text : Text) → w ≡ shows (text ∷ []) → b.holds ≡ a.holds → AppendsFront a.given b.given text → Ended w a b (Err SinkFault)
+pub put_front_of : (w : Wanted) (a b : Outside) (text : Text) → w ≡ shows (text ∷ []) → b.holds ≡ a.holds
+    → AppendsFront a.given b.given text → Ended w a b (Err SinkFault)
 put_front_of w a b text e same put = rw (e, same) (put_front text text a.given b.given a.holds refl put)
 
 unlisted_ends : (w : Wanted) (a b : Outside) → w ≡ unlisted → Quiet a b → Ended w a b (Err (RefusedStop 2 NoRecord))
@@ -48,61 +50,86 @@ unlisted_ends w a b e q = rw e (refl, put_nothing a b q, q.holds)
 
 -- ---- listed
 
-reads : {plan : Plan} {a b : Outside} {e : End} → NoScript a b → b.holds ≡ a.holds → IfHolds a (λ bytes. Ended (wanted plan bytes []) a b e) → ReadEnds plan a b e
+reads : {plan : Plan} {a b : Outside} {e : End} → NoScript a b → b.holds ≡ a.holds
+    → IfHolds a (λ bytes. Ended (wanted plan bytes []) a b e) → ReadEnds plan a b e
 reads none same whole = record { whole = whole; script = none; image = same }
 
-leaves_script : {plan : Plan} {a b : Outside} {e : End} → NoScript a b → IfHolds a (λ bytes. Ended (wanted plan bytes []) a b e) → ImageEnds plan a b e
+leaves_script : {plan : Plan} {a b : Outside} {e : End} → NoScript a b
+    → IfHolds a (λ bytes. Ended (wanted plan bytes []) a b e) → ImageEnds plan a b e
 leaves_script none whole = record { whole = whole; script = none }
 
-module _ (plan : Plan) (a b : Outside) (live : LiveSeen) (logs : SavedLogs) (booted : BootedFrom plan.zones (mem_of plan) a.holds live logs) where
+module _ (plan : Plan) (a b : Outside) (live : LiveSeen) (logs : SavedLogs)
+    (booted : BootedFrom plan.zones (mem_of plan) a.holds live logs) where
   -- what a command wants of the image that was read
-  done : (c : Command) (e : End) → plan.command ≡ c → reads_image c ≡ true → Ended (wanted_of plan.params plan.zones booted.image [] c) a b e → IfHolds a (λ bytes. Ended (wanted plan bytes []) a b e)
+  done : (c : Command) (e : End) → plan.command ≡ c → reads_image c ≡ true
+      → Ended (wanted_of plan.params plan.zones booted.image [] c) a b e
+      → IfHolds a (λ bytes. Ended (wanted plan bytes []) a b e)
   done c e is reads ended = image_done plan c a b booted.image e is reads booted.read ended
 
   behind : LiveState
   behind = after_boot plan.zones booted.image
 
-  pub memory_ends : (c : Command) → plan.command ≡ c → reads_image c ≡ true → Quiet a b → IfHolds a (λ bytes. Ended (wanted plan bytes []) a b (Err MemoryStop))
-  memory_ends c is reads q = done c (Err MemoryStop) is reads (quiet_memory (wanted_of plan.params plan.zones booted.image [] c) a b q)
+  pub memory_ends : (c : Command) → plan.command ≡ c → reads_image c ≡ true → Quiet a b
+      → IfHolds a (λ bytes. Ended (wanted plan bytes []) a b (Err MemoryStop))
+  memory_ends c is reads q = done c (Err MemoryStop) is reads
+      (quiet_memory (wanted_of plan.params plan.zones booted.image [] c) a b q)
 
-  module _ (is : plan.command ≡ ListRecords) (text : Text) (e : text ≡ listing (saved logs)) (same : b.holds ≡ a.holds) where
+  module _ (is : plan.command ≡ ListRecords) (text : Text) (e : text ≡ listing (saved logs))
+      (same : b.holds ≡ a.holds) where
     list_wanted : wanted_of plan.params plan.zones booted.image [] ListRecords ≡ shows (text ∷ [])
     list_wanted = ap (λ (t : Text). shows (t ∷ [])) (sym (e ∙ ap listing booted.logs_are))
 
     pub list_put : NoScript a b → Appends a.given b.given text → ReadEnds plan a b (Ok tt)
-    list_put none put = reads none same (done ListRecords (Ok tt) is refl (put_all_of (wanted_of plan.params plan.zones booted.image [] ListRecords) a b text list_wanted same put))
+    list_put none put = reads none same (done ListRecords (Ok tt) is refl
+        (put_all_of (wanted_of plan.params plan.zones booted.image [] ListRecords) a b text list_wanted same put))
 
     pub list_front : NoScript a b → AppendsFront a.given b.given text → ReadEnds plan a b (Err SinkFault)
-    list_front none put = reads none same (done ListRecords (Err SinkFault) is refl (put_front_of (wanted_of plan.params plan.zones booted.image [] ListRecords) a b text list_wanted same put))
+    list_front none put = reads none same (done ListRecords (Err SinkFault) is refl
+        (put_front_of (wanted_of plan.params plan.zones booted.image [] ListRecords) a b text list_wanted same put))
 
 -- ---- extracted
 
-extract_found : (layout : List Zone) (s : LiveState) (o : Option Listed) (bytes : List ℕ) → option_map (content (saved_logs layout s)) o ≡ Some bytes → wanted_extract layout s o ≡ shows (bytes ∷ [])
+extract_found : (layout : List Zone) (s : LiveState) (o : Option Listed) (bytes : List ℕ)
+    → option_map (content (saved_logs layout s)) o ≡ Some bytes → wanted_extract layout s o ≡ shows (bytes ∷ [])
 extract_found layout s None bytes e = absurd (cc)
-extract_found layout s (Some r) bytes e = let same : content (saved_logs layout s) r ≡ bytes = cc in ap (λ (t : Text). shows (t ∷ [])) same
+extract_found layout s (Some r) bytes e = let same : content (saved_logs layout s) r ≡ bytes = cc in
+    ap (λ (t : Text). shows (t ∷ [])) same
 
-module _ (plan : Plan) (a b : Outside) (live : LiveSeen) (logs : SavedLogs) (name : Text) (is : plan.command ≡ ExtractRecord name) (booted : BootedFrom plan.zones (mem_of plan) a.holds live logs) where
+module _ (plan : Plan) (a b : Outside) (live : LiveSeen) (logs : SavedLogs) (name : Text)
+    (is : plan.command ≡ ExtractRecord name) (booted : BootedFrom plan.zones (mem_of plan) a.holds live logs) where
   module _ (bytes : List ℕ) (found : IsContent (saved logs) name (Ok bytes)) (same : b.holds ≡ a.holds) where
     extract_wanted : wanted_of plan.params plan.zones booted.image [] (ExtractRecord name) ≡ shows (bytes ∷ [])
     extract_wanted =
-        let here : option_map (content (saved_logs plan.zones (after_boot plan.zones booted.image))) (named (saved_logs plan.zones (after_boot plan.zones booted.image)) name) ≡ Some bytes =
+        let here : option_map (content (saved_logs plan.zones (after_boot plan.zones booted.image)))
+        (named (saved_logs plan.zones (after_boot plan.zones booted.image)) name) ≡ Some bytes =
         ap (λ (zones : List Saved). option_map (content zones) (named zones name)) (sym booted.logs_are) ∙ found in
-        extract_found plan.zones (after_boot plan.zones booted.image) (named (saved_logs plan.zones (after_boot plan.zones booted.image)) name) bytes here
+        extract_found plan.zones (after_boot plan.zones booted.image)
+        (named (saved_logs plan.zones (after_boot plan.zones booted.image)) name) bytes here
 
     pub extract_put : NoScript a b → Appends a.given b.given bytes → ReadEnds plan a b (Ok tt)
-    extract_put none put = reads none same (image_done plan (ExtractRecord name) a b booted.image (Ok tt) is refl booted.read (put_all_of (wanted_of plan.params plan.zones booted.image [] (ExtractRecord name)) a b bytes extract_wanted same put))
+    extract_put none put = reads none same (image_done plan (ExtractRecord name) a b booted.image (Ok tt)
+        is refl booted.read (put_all_of (wanted_of plan.params plan.zones booted.image [] (ExtractRecord name))
+        a b bytes extract_wanted same put))
 
     pub extract_front : NoScript a b → AppendsFront a.given b.given bytes → ReadEnds plan a b (Err SinkFault)
-    extract_front none put = reads none same (image_done plan (ExtractRecord name) a b booted.image (Err SinkFault) is refl booted.read (put_front_of (wanted_of plan.params plan.zones booted.image [] (ExtractRecord name)) a b bytes extract_wanted same put))
+    extract_front none put = reads none same (image_done plan (ExtractRecord name) a b booted.image (Err SinkFault)
+        is refl booted.read (put_front_of (wanted_of plan.params plan.zones booted.image [] (ExtractRecord name))
+        a b bytes extract_wanted same put))
 
-  extract_unlisted : (cause : Cause) → cause ≡ NoRecord → named (saved logs) name ≡ None → Quiet a b → IfHolds a (λ bytes. Ended (wanted plan bytes []) a b (Err (RefusedStop 2 cause)))
+  extract_unlisted : (cause : Cause) → cause ≡ NoRecord → named (saved logs) name ≡ None → Quiet a b
+      → IfHolds a (λ bytes. Ended (wanted plan bytes []) a b (Err (RefusedStop 2 cause)))
   extract_unlisted cause why none q =
-      let here : named (saved_logs plan.zones (after_boot plan.zones booted.image)) name ≡ None = ap (λ (zones : List Saved). named zones name) (sym booted.logs_are) ∙ none in
-      let w : wanted_of plan.params plan.zones booted.image [] (ExtractRecord name) ≡ unlisted = ap (wanted_extract plan.zones (after_boot plan.zones booted.image)) here in
-      rw why (image_done plan (ExtractRecord name) a b booted.image (Err (RefusedStop 2 NoRecord)) is refl booted.read (unlisted_ends (wanted_of plan.params plan.zones booted.image [] (ExtractRecord name)) a b w q))
+      let here : named (saved_logs plan.zones (after_boot plan.zones booted.image)) name ≡ None =
+      ap (λ (zones : List Saved). named zones name) (sym booted.logs_are) ∙ none in
+      let w : wanted_of plan.params plan.zones booted.image [] (ExtractRecord name) ≡ unlisted =
+      ap (wanted_extract plan.zones (after_boot plan.zones booted.image)) here in
+      rw why (image_done plan (ExtractRecord name) a b booted.image (Err (RefusedStop 2 NoRecord)) is refl booted.read
+      (unlisted_ends (wanted_of plan.params plan.zones booted.image [] (ExtractRecord name)) a b w q))
 
-  pub extract_stopped : (e : LineError) (s : Stop) → s ≡ stop_for e → IsContent (saved logs) name (Err e) → NoScript a b → Quiet a b → ReadEnds plan a b (Err s)
-  extract_stopped Memory s same h none q = rw same (reads none q.holds (memory_ends plan a b live logs booted (ExtractRecord name) is refl q))
+  pub extract_stopped : (e : LineError) (s : Stop) → s ≡ stop_for e → IsContent (saved logs) name (Err e)
+      → NoScript a b → Quiet a b → ReadEnds plan a b (Err s)
+  extract_stopped Memory s same h none q = rw same (reads none q.holds
+      (memory_ends plan a b live logs booted (ExtractRecord name) is refl q))
   extract_stopped (Refused cause) s same h none q = rw same (reads none q.holds (extract_unlisted cause h.0 h.1 q))
 
 -- ---- erased
@@ -111,12 +138,20 @@ idle : (test : Bool) → (test && false) ≡ false
 idle true = refl
 idle false = refl
 
-no_flights : (image : List ℕ) (layout : List Zone) (test : Zone → Bool) → list_any (λ (pair : Zone × LiveZone). test pair.0 && is_some pair.1.flight) (zip layout (map (booted_zone image) layout)) ≡ false
+no_flights : (image : List ℕ) (layout : List Zone) (test : Zone → Bool)
+    → list_any (λ (pair : Zone × LiveZone). test pair.0 && is_some pair.1.flight)
+    (zip layout (map (booted_zone image) layout)) ≡ false
 no_flights image [] test = refl
-no_flights image (z ∷ layout) test = ap (λ (b : Bool). b || list_any (λ (pair : Zone × LiveZone). test pair.0 && is_some pair.1.flight) (zip layout (map (booted_zone image) layout))) (idle (test z)) ∙ no_flights image layout test
+no_flights image (z ∷ layout) test = ap (λ (b : Bool). b
+    || list_any (λ (pair : Zone × LiveZone). test pair.0 && is_some pair.1.flight)
+    (zip layout (map (booted_zone image) layout))) (idle (test z)) ∙ no_flights image layout test
 
-module _ (plan : Plan) (a b : Outside) (live : LiveSeen) (logs : SavedLogs) (name : Text) (is : plan.command ≡ EraseRecord name) (booted : BootedFrom plan.zones (mem_of plan) a.holds live logs) where
-  module _ (w : LiveSeen) (logs' : SavedLogs) (off : OffSeen) (bytes : List ℕ) (erase : ErasesNamed live logs name w logs') (stop : (layout : List Zone) (mem : ℕ) (s : LiveState) → StandsLive layout mem w s → StandsOff layout mem off (stopped layout s)) (image : bytes ≡ off.image) (given : b.given ≡ a.given) where
+module _ (plan : Plan) (a b : Outside) (live : LiveSeen) (logs : SavedLogs) (name : Text)
+    (is : plan.command ≡ EraseRecord name) (booted : BootedFrom plan.zones (mem_of plan) a.holds live logs) where
+  module _ (w : LiveSeen) (logs' : SavedLogs) (off : OffSeen) (bytes : List ℕ)
+      (erase : ErasesNamed live logs name w logs') (stop : (layout : List Zone) (mem : ℕ) (s : LiveState)
+      → StandsLive layout mem w s → StandsOff layout mem off (stopped layout s)) (image : bytes ≡ off.image)
+      (given : b.given ≡ a.given) where
     erase_wanted : wanted_of plan.params plan.zones booted.image [] (EraseRecord name) ≡ leaves bytes
     erase_wanted =
         let s = after_boot plan.zones booted.image in
@@ -125,16 +160,23 @@ module _ (plan : Plan) (a b : Outside) (live : LiveSeen) (logs : SavedLogs) (nam
         ap (wanted_erase plan.zones s) e.named ∙ ap (λ (bs : List ℕ). leaves bs) (sym (image ∙ left.image))
 
     pub erase_saved : NoScript a b → Writes a.holds b.holds 0 bytes → ImageEnds plan a b (Ok tt)
-    erase_saved none wrote = leaves_script none (image_done plan (EraseRecord name) a b booted.image (Ok tt) is refl booted.read (rw (erase_wanted, given) (wrote_all bytes a.given a.holds b.holds wrote)))
+    erase_saved none wrote = leaves_script none (image_done plan (EraseRecord name) a b booted.image (Ok tt)
+        is refl booted.read (rw (erase_wanted, given) (wrote_all bytes a.given a.holds b.holds wrote)))
 
     pub erase_unsaved : NoScript a b → WritesFront a.holds b.holds 0 bytes → ImageEnds plan a b (Err ImageFault)
-    erase_unsaved none wrote = leaves_script none (image_done plan (EraseRecord name) a b booted.image (Err ImageFault) is refl booted.read (rw (erase_wanted, given) (wrote_front bytes a.given a.holds b.holds wrote)))
+    erase_unsaved none wrote = leaves_script none (image_done plan (EraseRecord name) a b booted.image
+        (Err ImageFault) is refl booted.read (rw (erase_wanted, given)
+        (wrote_front bytes a.given a.holds b.holds wrote)))
 
-  erase_unlisted : named (saved logs) name ≡ None → Quiet a b → IfHolds a (λ bytes. Ended (wanted plan bytes []) a b (Err (RefusedStop 2 NoRecord)))
+  erase_unlisted : named (saved logs) name ≡ None → Quiet a b
+      → IfHolds a (λ bytes. Ended (wanted plan bytes []) a b (Err (RefusedStop 2 NoRecord)))
   erase_unlisted none q =
-      let here : named (saved_logs plan.zones (after_boot plan.zones booted.image)) name ≡ None = ap (λ (zones : List Saved). named zones name) (sym booted.logs_are) ∙ none in
-      let w : wanted_of plan.params plan.zones booted.image [] (EraseRecord name) ≡ unlisted = ap (wanted_erase plan.zones (after_boot plan.zones booted.image)) here in
-      image_done plan (EraseRecord name) a b booted.image (Err (RefusedStop 2 NoRecord)) is refl booted.read (unlisted_ends (wanted_of plan.params plan.zones booted.image [] (EraseRecord name)) a b w q)
+      let here : named (saved_logs plan.zones (after_boot plan.zones booted.image)) name ≡ None =
+      ap (λ (zones : List Saved). named zones name) (sym booted.logs_are) ∙ none in
+      let w : wanted_of plan.params plan.zones booted.image [] (EraseRecord name) ≡ unlisted =
+      ap (wanted_erase plan.zones (after_boot plan.zones booted.image)) here in
+      image_done plan (EraseRecord name) a b booted.image (Err (RefusedStop 2 NoRecord)) is refl booted.read
+      (unlisted_ends (wanted_of plan.params plan.zones booted.image [] (EraseRecord name)) a b w q)
 
   -- behind a boot no flight is in the way
   not_busy : IsBusy live logs name → ⊥
@@ -142,7 +184,8 @@ module _ (plan : Plan) (a b : Outside) (live : LiveSeen) (logs : SavedLogs) (nam
       let b = busy plan.zones (mem_of plan) (after_boot plan.zones booted.image) booted.stands booted.logs_are in
       true≢false (sym b.2 ∙ no_flights booted.image plan.zones (λ z. is_in b.0.name z))
 
-  refused : (e : LineError) → EraseFails live logs name e → Quiet a b → IfHolds a (λ bytes. Ended (wanted plan bytes []) a b (Err (stop_for e)))
+  refused : (e : LineError) → EraseFails live logs name e → Quiet a b
+      → IfHolds a (λ bytes. Ended (wanted plan bytes []) a b (Err (stop_for e)))
   refused Memory h q = memory_ends plan a b live logs booted (EraseRecord name) is refl q
   refused (Refused NoRecord) h q = erase_unlisted h q
   refused (Refused Busy) h q = absurd (not_busy h)
@@ -153,5 +196,6 @@ module _ (plan : Plan) (a b : Outside) (live : LiveSeen) (logs : SavedLogs) (nam
   refused (Refused OutOfImage) h q = absurd h
   refused (Refused NotHere) h q = absurd h
 
-  pub erase_stopped : (e : LineError) (s : Stop) → s ≡ stop_for e → EraseFails live logs name e → NoScript a b → Quiet a b → ImageEnds plan a b (Err s)
+  pub erase_stopped : (e : LineError) (s : Stop) → s ≡ stop_for e → EraseFails live logs name e → NoScript a b
+      → Quiet a b → ImageEnds plan a b (Err s)
   erase_stopped e s same h none q = rw same (leaves_script none (refused e h q))

@@ -8,7 +8,9 @@ use Rattle.tool_frame.specs.Playing.{PlayStop}
 use Rattle.tool_frame.specs.Ended.{CausedAt}
 
 -- lines stop for a fault only where the output failed
-pub play_caused : (stop : Stop) (layout : List Zone) (image : List ℕ) (lines : List Line) (given given' : Option (List ℕ)) (f f' g g' h h' : ℕ) → PlayStop stop layout image lines given given' h h' → CausedAt f f' g g' h h' (Err stop)
+pub play_caused : (stop : Stop) (layout : List Zone) (image : List ℕ) (lines : List Line)
+    (given given' : Option (List ℕ)) (f f' g g' h h' : ℕ) → PlayStop stop layout image lines given given' h h'
+    → CausedAt f f' g g' h h' (Err stop)
 play_caused Memory layout image lines given given' f f' g g' h h' p = tt
 play_caused SinkFault layout image lines given given' f f' g g' h h' p = p.0
 play_caused (Refused n cause) layout image lines given given' f f' g g' h h' p = tt

@@ -11,17 +11,22 @@ nothing_put : (given : Option (List ℕ)) → Appends given given []
 nothing_put None = tt
 nothing_put (Some xs) = grind (arith, common_steps)
 
-pub put_all : (text bytes : List ℕ) (given given' holds : Option (List ℕ)) → bytes ≡ text → Appends given given' bytes → EndedAt (shows (text ∷ [])) given given' holds holds (Ok tt)
+pub put_all : (text bytes : List ℕ) (given given' holds : Option (List ℕ)) → bytes ≡ text → Appends given given' bytes
+    → EndedAt (shows (text ∷ [])) given given' holds holds (Ok tt)
 put_all text bytes given given' holds e h = (refl, rw (append-nil text, ← e) h, refl)
 
-pub put_none : (text : List ℕ) (given holds : Option (List ℕ)) → EndedAt (shows (text ∷ [])) given given holds holds (Err Memory)
+pub put_none : (text : List ℕ) (given holds : Option (List ℕ))
+    → EndedAt (shows (text ∷ [])) given given holds holds (Err Memory)
 put_none text given holds = (record { count = 0; bytes = nothing_put given }, refl)
 
-pub put_front : (text bytes : List ℕ) (given given' holds : Option (List ℕ)) → bytes ≡ text → AppendsFront given given' bytes → EndedAt (shows (text ∷ [])) given given' holds holds (Err SinkFault)
+pub put_front : (text bytes : List ℕ) (given given' holds : Option (List ℕ)) → bytes ≡ text
+    → AppendsFront given given' bytes → EndedAt (shows (text ∷ [])) given given' holds holds (Err SinkFault)
 put_front text bytes given given' holds e h = (record { count = 1; bytes = rw (append-nil text, ← e) h }, refl)
 
-pub wrote_all : (bytes : List ℕ) (given holds holds' : Option (List ℕ)) → Writes holds holds' 0 bytes → EndedAt (leaves bytes) given given holds holds' (Ok tt)
+pub wrote_all : (bytes : List ℕ) (given holds holds' : Option (List ℕ)) → Writes holds holds' 0 bytes
+    → EndedAt (leaves bytes) given given holds holds' (Ok tt)
 wrote_all bytes given holds holds' h = (refl, nothing_put given, h)
 
-pub wrote_front : (bytes : List ℕ) (given holds holds' : Option (List ℕ)) → WritesFront holds holds' 0 bytes → EndedAt (leaves bytes) given given holds holds' (Err ImageFault)
+pub wrote_front : (bytes : List ℕ) (given holds holds' : Option (List ℕ)) → WritesFront holds holds' 0 bytes
+    → EndedAt (leaves bytes) given given holds holds' (Err ImageFault)
 wrote_front bytes given holds holds' h = inr (refl, nothing_put given, h)

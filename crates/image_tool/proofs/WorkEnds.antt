@@ -28,17 +28,30 @@ no_fault_caused (BadLine x) f g h n = tt
 no_fault_caused (Refused x y) f g h n = tt
 
 -- a command whose work was done
-pub read_done : (r : Result Plan Stop) (plan : Plan) (e : End) (a b : Outside) → r ≡ Ok plan → PlanEnds plan.command plan a b e → WorkEnds r a b e
+pub read_done : (r : Result Plan Stop) (plan : Plan) (e : End) (a b : Outside) → r ≡ Ok plan
+    → PlanEnds plan.command plan a b e → WorkEnds r a b e
 read_done r plan e a b h k = rw h k
 
 -- the layout was shown
-pub layout_shown : (plan : Plan) (e : End) (a b : Outside) → plan.command ≡ ShowLayout → NoScript a b → NoImage a b → EndedAt (shows (layout_text plan.params plan.zones ∷ [])) a.given b.given a.holds a.holds e → PlanEnds plan.command plan a b e
-layout_shown plan e a b is script image ended = rw is (record { whole = rw image.holds ended; script = script; image = image })
+pub layout_shown : (plan : Plan) (e : End) (a b : Outside) → plan.command ≡ ShowLayout → NoScript a b → NoImage a b
+    → EndedAt (shows (layout_text plan.params plan.zones ∷ [])) a.given b.given a.holds a.holds e
+    → PlanEnds plan.command plan a b e
+layout_shown plan e a b is script image ended = rw is (record {
+  whole = rw image.holds ended;
+  script = script;
+  image = image;
+})
 
 -- a blank image was written
-pub blank_left : (plan : Plan) (mem : ℕ) (e : End) (a b : Outside) → mem ≡ mem_of plan → plan.command ≡ BlankImage → NoScript a b → b.given ≡ a.given → EndedAt (leaves (replicate mem 0)) a.given a.given a.holds b.holds e → PlanEnds plan.command plan a b e
-blank_left plan mem e a b same is script given ended = rw is (record { whole = rw (given, ← same) ended; script = script })
+pub blank_left : (plan : Plan) (mem : ℕ) (e : End) (a b : Outside) → mem ≡ mem_of plan → plan.command ≡ BlankImage
+    → NoScript a b → b.given ≡ a.given → EndedAt (leaves (replicate mem 0)) a.given a.given a.holds b.holds e
+    → PlanEnds plan.command plan a b e
+blank_left plan mem e a b same is script given ended =
+    rw is (record { whole = rw (given, ← same) ended; script = script })
 
 -- an image was made
-pub image_made : (c : ReadCommand) (n : ℕ) (layout : ReadLayout) (e : End) (a b : Outside) → c ≡ Make n → MakeEnds (plan_for (MakeImage n) layout) a b e → PlanEnds (command_seen c) (plan_for (command_seen c) layout) a b e
-image_made c n layout e a b is ended = subst (λ (d : ReadCommand). PlanEnds (command_seen d) (plan_for (command_seen d) layout) a b e) (sym is) ended
+pub image_made : (c : ReadCommand) (n : ℕ) (layout : ReadLayout) (e : End) (a b : Outside) → c ≡ Make n
+    → MakeEnds (plan_for (MakeImage n) layout) a b e → PlanEnds (command_seen c) (plan_for (command_seen c) layout)
+    a b e
+image_made c n layout e a b is ended = subst (λ (d : ReadCommand). PlanEnds (command_seen d)
+    (plan_for (command_seen d) layout) a b e) (sym is) ended

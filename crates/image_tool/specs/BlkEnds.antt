@@ -14,7 +14,8 @@ use Rattle.tool_spec.specs.declared.Stop.{Stop}
 use Rattle.tool_spec.specs.declared.Stop.TheVariants.{Memory, Usage, Param, Layout, ImageFault, SinkFault, Refused}
 
 -- good lines stopped for this cause, and their text was put
-pub record StoppedAt (stop : Stop) (layout : BlkLayout) (bytes : List ℕ) (lines : List Line) (a b : Outside) : Type 0 where
+pub record StoppedAt (stop : Stop) (layout : BlkLayout) (bytes : List ℕ) (lines : List Line)
+    (a b : Outside) : Type 0 where
   pub text : Text
   pub stops : LinesStop stop layout bytes lines text b.holds
   pub put : Appends a.given b.given text

@@ -10,7 +10,8 @@ use Rattle.ram_core.specs.LiveSeen.{LiveSeen, StandsLive}
 use Rattle.tool_spec.specs.Commands.{after_boot}
 
 -- the store behind the first boot of the first mem bytes, where these are told
-pub record BootedFrom (layout : List Zone) (mem : ℕ) (holds : Option (List ℕ)) (live : LiveSeen) (logs : SavedLogs) : Type 0 where
+pub record BootedFrom (layout : List Zone) (mem : ℕ) (holds : Option (List ℕ)) (live : LiveSeen)
+    (logs : SavedLogs) : Type 0 where
   pub image : List ℕ
   pub read : IfSome holds (λ bytes. (mem ≤ length bytes) × (image ≡ take mem bytes))
   pub lies : IsLayout layout mem

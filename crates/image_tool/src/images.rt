@@ -16,7 +16,9 @@ use zone_params::types::Layout;
 pub fn show_layout<O: Sink>(alloc: Global, layout: &Layout, out: &mut O) -> Result<(), Stop>
     ensures later { O.faults out.old ≤ O.faults out.new }
     ensures caused { (f f' g g' : ℕ) → CausedAt f f' g g' (O.faults out.old) (O.faults out.new) result }
-    ensures ended { (holds : Option (List ℕ)) → EndedAt (shows (layout_text (params_of layout.now) (zones_of layout.now) ∷ [])) (O.given out.old) (O.given out.new) holds holds result }
+    ensures ended { (holds : Option (List ℕ)) → EndedAt (shows
+        (layout_text (params_of layout.now) (zones_of layout.now) ∷ [])) (O.given out.old) (O.given out.new)
+        holds holds result }
 {
     let text = match layout_text(alloc, layout) {
         Ok(text) => text,
@@ -34,7 +36,8 @@ pub fn blank<M: Store>(image: &mut M, mem: u32) -> Result<(), Stop>
     ensures later { M.faults image.old ≤ M.faults image.new }
     ensures caused { (f f' h h' : ℕ) → CausedAt f f' (M.faults image.old) (M.faults image.new) h h' result }
     ensures kept { KeptAt (M.holds image.old) (M.holds image.new) result }
-    ensures ended { (given : Option (List ℕ)) → EndedAt (leaves (replicate mem 0)) given given (M.holds image.old) (M.holds image.new) result }
+    ensures ended { (given : Option (List ℕ)) → EndedAt (leaves (replicate mem 0)) given given (M.holds image.old)
+        (M.holds image.new) result }
 {
     match fill(image, mem) {
         Ok(()) => Ok(()),

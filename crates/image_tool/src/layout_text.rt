@@ -47,7 +47,8 @@ fn is_uniform(layout: &Layout) -> bool
 
 // The first line.
 fn push_head(text: &mut Vec<u8>, layout: &Layout) -> Result<(), AllocError>
-    ensures { OnOk result (text.new.items ≡ text.old.items ++ codes "mem " ++ decimal (rounded (params_of layout.now).mem) ++ codes " parity " ++ decimal (parity_bytes (params_of layout.now).ecc)
+    ensures { OnOk result (text.new.items ≡ text.old.items ++ codes "mem " ++ decimal
+        (rounded (params_of layout.now).mem) ++ codes " parity " ++ decimal (parity_bytes (params_of layout.now).ecc)
         ++ codes " zones " ++ decimal (length (zones_of layout.now)) ++ newline) }
 {
     push_number(text, "mem ", u64::from(layout.mem()))?;

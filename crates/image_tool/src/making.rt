@@ -20,9 +20,11 @@ pub fn make<M: Store, O: Sink>(
     out: &mut O,
 ) -> Result<(), Stop>
     ensures later { (M.faults image.old ≤ M.faults image.new) × (O.faults out.old ≤ O.faults out.new) }
-    ensures caused { (f f' : ℕ) → CausedAt f f' (M.faults image.old) (M.faults image.new) (O.faults out.old) (O.faults out.new) result }
+    ensures caused { (f f' : ℕ) → CausedAt f f' (M.faults image.old) (M.faults image.new) (O.faults out.old)
+        (O.faults out.new) result }
     ensures kept { KeptAt (M.holds image.old) (M.holds image.new) result }
-    ensures ended { (left : Option (List ℕ)) (f : ℕ) → MakeEnds (plan_for (MakeImage n) layout) (outside left f (M.holds image.old) (M.faults image.old) (O.given out.old) (O.faults out.old))
+    ensures ended { (left : Option (List ℕ)) (f : ℕ) → MakeEnds (plan_for (MakeImage n) layout)
+        (outside left f (M.holds image.old) (M.faults image.old) (O.given out.old) (O.faults out.old))
         (outside left f (M.holds image.new) (M.faults image.new) (O.given out.new) (O.faults out.new)) result }
 {
     let (made, text) = match generate(alloc, layout, n) {

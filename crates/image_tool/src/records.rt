@@ -35,9 +35,11 @@ pub fn list<M: Store, O: Sink>(
     out: &mut O,
 ) -> Result<(), Stop>
     ensures later { (M.faults image.old ≤ M.faults image.new) × (O.faults out.old ≤ O.faults out.new) }
-    ensures caused { (f f' : ℕ) → CausedAt f f' (M.faults image.old) (M.faults image.new) (O.faults out.old) (O.faults out.new) result }
+    ensures caused { (f f' : ℕ) → CausedAt f f' (M.faults image.old) (M.faults image.new) (O.faults out.old)
+        (O.faults out.new) result }
     ensures same { M.holds image.new ≡ M.holds image.old }
-    ensures ended { (left : Option (List ℕ)) (f : ℕ) → ReadEnds (plan_for ListRecords layout) (outside left f (M.holds image.old) (M.faults image.old) (O.given out.old) (O.faults out.old))
+    ensures ended { (left : Option (List ℕ)) (f : ℕ) → ReadEnds (plan_for ListRecords layout)
+        (outside left f (M.holds image.old) (M.faults image.old) (O.given out.old) (O.faults out.old))
         (outside left f (M.holds image.new) (M.faults image.new) (O.given out.new) (O.faults out.new)) result }
 {
     let (_, logs) = match boot_store(alloc, layout, image) {
@@ -63,9 +65,11 @@ pub fn extract<M: Store, O: Sink>(
     out: &mut O,
 ) -> Result<(), Stop>
     ensures later { (M.faults image.old ≤ M.faults image.new) × (O.faults out.old ≤ O.faults out.new) }
-    ensures caused { (f f' : ℕ) → CausedAt f f' (M.faults image.old) (M.faults image.new) (O.faults out.old) (O.faults out.new) result }
+    ensures caused { (f f' : ℕ) → CausedAt f f' (M.faults image.old) (M.faults image.new) (O.faults out.old)
+        (O.faults out.new) result }
     ensures same { M.holds image.new ≡ M.holds image.old }
-    ensures ended { (left : Option (List ℕ)) (f : ℕ) → ReadEnds (plan_for (ExtractRecord name.now) layout) (outside left f (M.holds image.old) (M.faults image.old) (O.given out.old) (O.faults out.old))
+    ensures ended { (left : Option (List ℕ)) (f : ℕ) → ReadEnds (plan_for (ExtractRecord name.now) layout)
+        (outside left f (M.holds image.old) (M.faults image.old) (O.given out.old) (O.faults out.old))
         (outside left f (M.holds image.new) (M.faults image.new) (O.given out.new) (O.faults out.new)) result }
 {
     let (_, logs) = match boot_store(alloc, layout, image) {
@@ -87,7 +91,9 @@ pub fn erase<M: Store>(alloc: Global, layout: Layout, name: &str, image: &mut M)
     ensures later { M.faults image.old ≤ M.faults image.new }
     ensures caused { (f f' h h' : ℕ) → CausedAt f f' (M.faults image.old) (M.faults image.new) h h' result }
     ensures kept { KeptAt (M.holds image.old) (M.holds image.new) result }
-    ensures ended { (left given : Option (List ℕ)) (f h : ℕ) → ImageEnds (plan_for (EraseRecord name.now) layout) (outside left f (M.holds image.old) (M.faults image.old) given h)
+    ensures ended { (left given : Option (List ℕ)) (f h : ℕ)
+        → ImageEnds (plan_for (EraseRecord name.now) layout)
+        (outside left f (M.holds image.old) (M.faults image.old) given h)
         (outside left f (M.holds image.new) (M.faults image.new) given h) result }
 {
     let (mut live, mut logs) = match boot_store(alloc, layout, image) {

@@ -20,13 +20,19 @@ pub fn run_script<S: Source, M: Store, O: Sink>(
     image: &mut M,
     out: &mut O,
 ) -> Result<(), Stop>
-    ensures later { Later (outside (S.left script.old) (S.faults script.old) (M.holds image.old) (M.faults image.old) (O.given out.old) (O.faults out.old))
-        (outside (S.left script.new) (S.faults script.new) (M.holds image.new) (M.faults image.new) (O.given out.new) (O.faults out.new)) }
-    ensures caused { Caused (outside (S.left script.old) (S.faults script.old) (M.holds image.old) (M.faults image.old) (O.given out.old) (O.faults out.old))
-        (outside (S.left script.new) (S.faults script.new) (M.holds image.new) (M.faults image.new) (O.given out.new) (O.faults out.new)) result }
+    ensures later { Later (outside (S.left script.old) (S.faults script.old) (M.holds image.old) (M.faults image.old)
+        (O.given out.old) (O.faults out.old))
+        (outside (S.left script.new) (S.faults script.new) (M.holds image.new) (M.faults image.new) (O.given out.new)
+        (O.faults out.new)) }
+    ensures caused { Caused (outside (S.left script.old) (S.faults script.old) (M.holds image.old)
+        (M.faults image.old) (O.given out.old) (O.faults out.old))
+        (outside (S.left script.new) (S.faults script.new) (M.holds image.new) (M.faults image.new) (O.given out.new)
+        (O.faults out.new)) result }
     ensures kept { KeptAt (M.holds image.old) (M.holds image.new) result }
-    ensures ended { RunEnds (plan_for RunScript layout) (outside (S.left script.old) (S.faults script.old) (M.holds image.old) (M.faults image.old) (O.given out.old) (O.faults out.old))
-        (outside (S.left script.new) (S.faults script.new) (M.holds image.new) (M.faults image.new) (O.given out.new) (O.faults out.new)) result }
+    ensures ended { RunEnds (plan_for RunScript layout) (outside (S.left script.old) (S.faults script.old)
+        (M.holds image.old) (M.faults image.old) (O.given out.old) (O.faults out.old))
+        (outside (S.left script.new) (S.faults script.new) (M.holds image.new) (M.faults image.new) (O.given out.new)
+        (O.faults out.new)) result }
 {
     let bytes = match load(alloc, image, layout.mem()) {
         Ok(bytes) => bytes,

@@ -30,8 +30,10 @@ pub fn boot_store<M: Store>(
     layout: Layout,
     image: &mut M,
 ) -> Result<(Live, Logs), Stop>
-    ensures booted { IfOk result (λ r. BootedFrom (zones_of layout) (rounded (params_of layout).mem) (M.holds image.old) r.0 r.1) }
-    ensures stopped { IfErr result (λ s. LoadStop s (rounded (params_of layout).mem) (M.holds image.old) (M.faults image.old) (M.faults image.new)) }
+    ensures booted { IfOk result (λ r. BootedFrom (zones_of layout) (rounded (params_of layout).mem)
+        (M.holds image.old) r.0 r.1) }
+    ensures stopped { IfErr result (λ s. LoadStop s (rounded (params_of layout).mem) (M.holds image.old)
+        (M.faults image.old) (M.faults image.new)) }
     ensures same { M.holds image.new ≡ M.holds image.old }
     ensures later { M.faults image.old ≤ M.faults image.new }
 {

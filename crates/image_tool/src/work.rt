@@ -28,13 +28,19 @@ fn do_plan<S: Source, M: Store, O: Sink>(
     image: &mut M,
     out: &mut O,
 ) -> Result<(), Stop>
-    ensures later { Later (outside (S.left script.old) (S.faults script.old) (M.holds image.old) (M.faults image.old) (O.given out.old) (O.faults out.old))
-        (outside (S.left script.new) (S.faults script.new) (M.holds image.new) (M.faults image.new) (O.given out.new) (O.faults out.new)) }
-    ensures caused { Caused (outside (S.left script.old) (S.faults script.old) (M.holds image.old) (M.faults image.old) (O.given out.old) (O.faults out.old))
-        (outside (S.left script.new) (S.faults script.new) (M.holds image.new) (M.faults image.new) (O.given out.new) (O.faults out.new)) result }
+    ensures later { Later (outside (S.left script.old) (S.faults script.old) (M.holds image.old) (M.faults image.old)
+        (O.given out.old) (O.faults out.old))
+        (outside (S.left script.new) (S.faults script.new) (M.holds image.new) (M.faults image.new) (O.given out.new)
+        (O.faults out.new)) }
+    ensures caused { Caused (outside (S.left script.old) (S.faults script.old) (M.holds image.old)
+        (M.faults image.old) (O.given out.old) (O.faults out.old))
+        (outside (S.left script.new) (S.faults script.new) (M.holds image.new) (M.faults image.new) (O.given out.new)
+        (O.faults out.new)) result }
     ensures kept { KeptAt (M.holds image.old) (M.holds image.new) result }
-    ensures ended { let before = outside (S.left script.old) (S.faults script.old) (M.holds image.old) (M.faults image.old) (O.given out.old) (O.faults out.old) in
-        let after = outside (S.left script.new) (S.faults script.new) (M.holds image.new) (M.faults image.new) (O.given out.new) (O.faults out.new) in
+    ensures ended { let before = outside (S.left script.old) (S.faults script.old) (M.holds image.old)
+        (M.faults image.old) (O.given out.old) (O.faults out.old) in
+        let after = outside (S.left script.new) (S.faults script.new) (M.holds image.new) (M.faults image.new)
+        (O.given out.new) (O.faults out.new) in
         WorkEnds (plan_of (texts words.now)) before after result }
 {
     let plan = match read_plan(alloc, words) {
@@ -131,11 +137,16 @@ pub fn run<S: Source, M: Store, O: Sink>(
     ensures script_fault { result ≡ 5 → Rose (S.faults script.old) (S.faults script.new) }
     ensures image_fault { result ≡ 6 → Rose (M.faults image.old) (M.faults image.new) }
     ensures sink_fault { result ≡ 7 → Rose (O.faults out.old) (O.faults out.new) }
-    ensures untouched { blk_asked (texts words.now) ≡ None → result ≢ 0 → result ≢ 6 → result ≢ 7 → M.holds image.new ≡ M.holds image.old }
-    ensures answers { let before = outside (S.left script.old) (S.faults script.old) (M.holds image.old) (M.faults image.old) (O.given out.old) (O.faults out.old) in
-        let after = outside (S.left script.new) (S.faults script.new) (M.holds image.new) (M.faults image.new) (O.given out.new) (O.faults out.new) in
+    ensures untouched { blk_asked (texts words.now) ≡ None → result ≢ 0 → result ≢ 6 → result ≢ 7
+        → M.holds image.new ≡ M.holds image.old }
+    ensures answers { let before = outside (S.left script.old) (S.faults script.old) (M.holds image.old)
+        (M.faults image.old) (O.given out.old) (O.faults out.old) in
+        let after = outside (S.left script.new) (S.faults script.new) (M.holds image.new) (M.faults image.new)
+        (O.given out.new) (O.faults out.new) in
         AllAnswers (texts words.now) before after result }
-    ensures reads { RunReads (plan_of (texts words.now)) (outside (S.left script.old) (S.faults script.old) (M.holds image.old) (M.faults image.old) (O.given out.old) (O.faults out.old)) }
+    ensures reads { RunReads (plan_of (texts words.now))
+        (outside (S.left script.old) (S.faults script.old) (M.holds image.old) (M.faults image.old) (O.given out.old)
+        (O.faults out.old)) }
 {
     let end = do_work(alloc, words, script, image, out);
     finish(end, out)

@@ -34,7 +34,8 @@ unfolding put
 put-bytes x at [] h k = h
 put-bytes x at (b ∷ bs) h k = put-bytes (set x at b) (at + 1) bs (set-bytes x at b h (k 0)) (λ i. k (suc i))
 
-pub after-bytes : (x : List ℕ) (ss : List Store) → AreBytes x → AllByRecursion HasBytes ss → AreBytes (after_stores x ss)
+pub after-bytes : (x : List ℕ) (ss : List Store) → AreBytes x → AllByRecursion HasBytes ss
+    → AreBytes (after_stores x ss)
 unfolding after_stores
 after-bytes x [] h k = h
 after-bytes x (s ∷ ss) h k = after-bytes (put x s.place s.bytes) ss (put-bytes x s.place s.bytes h k.0) k.1
@@ -51,22 +52,28 @@ unfolding fix_stores
 fix-bytes p [] ys h = tt
 fix-bytes p (x ∷ xs) [] h = tt
 fix-bytes p (x ∷ xs) (y ∷ ys) h =
-    all-append HasBytes (if x == y then [] else record { place = p; bytes = y ∷ [] } ∷ []) (fix_stores (p + 1) xs ys) (one (x == y)) (fix-bytes (p + 1) xs ys (λ i. h (suc i)))
+    all-append HasBytes (if x == y then [] else record { place = p; bytes = y ∷ [] } ∷ []) (fix_stores (p + 1) xs ys)
+    (one (x == y)) (fix-bytes (p + 1) xs ys (λ i. h (suc i)))
   where
     one : (t : Bool) → AllByRecursion HasBytes (if t then [] else record { place = p; bytes = y ∷ [] } ∷ [])
     one true = tt
     one false = (bytes-each (y ∷ []) (h 0, tt), tt)
 
-blocks-bytes : (z : Zone) (x : List ℕ) (ks : List ℕ) → AreBytes x → AllByRecursion HasBytes (flat_map (λ (k : ℕ). part_fixes z x (Block k)) ks)
+blocks-bytes : (z : Zone) (x : List ℕ) (ks : List ℕ) → AreBytes x
+    → AllByRecursion HasBytes (flat_map (λ (k : ℕ). part_fixes z x (Block k)) ks)
 blocks-bytes z x [] h = tt
-blocks-bytes z x (k ∷ ks) h = all-append HasBytes (part_fixes z x (Block k)) (flat_map (λ (k : ℕ). part_fixes z x (Block k)) ks) (fix-bytes _ _ _ (reading-bytes z x (Block k) h).1) (blocks-bytes z x ks h)
+blocks-bytes z x (k ∷ ks) h = all-append HasBytes (part_fixes z x (Block k))
+    (flat_map (λ (k : ℕ). part_fixes z x (Block k)) ks) (fix-bytes _ _ _ (reading-bytes z x (Block k) h).1)
+    (blocks-bytes z x ks h)
 
 pub fixes-bytes : (z : Zone) (x : List ℕ) → AreBytes x → AllByRecursion HasBytes (boot_fixes z x)
 unfolding boot_fixes
-fixes-bytes z x h = all-append HasBytes (part_fixes z x Header) _ (fix-bytes _ _ _ (reading-bytes z x Header h).1) (blocks-bytes z x (blocks_read z (zone_reading z x) (zone_reading z x).state) h)
+fixes-bytes z x h = all-append HasBytes (part_fixes z x Header) _ (fix-bytes _ _ _ (reading-bytes z x Header h).1)
+    (blocks-bytes z x (blocks_read z (zone_reading z x) (zone_reading z x).state) h)
 
 -- ---- the signature
-pub signing-own : (z : Zone) (x : List ℕ) (s : State) → s ≡ Unsigned → word_store 0 z.sig ≡ stores_in_turn z (signing z s) x
+pub signing-own : (z : Zone) (x : List ℕ) (s : State) → s ≡ Unsigned
+    → word_store 0 z.sig ≡ stores_in_turn z (signing z s) x
 unfolding stores_in_turn stage_stores
 signing-own z x s e = ap (λ (t : State). stores_in_turn z (signing z t) x) (sym e)
 
@@ -89,7 +96,9 @@ abbrev pub word_stores : Zone → State → List ℕ → List Store
 word_stores z s x = stores_in_turn z (signing z s) x ++ word_store 4 0 ++ word_store 8 0
 
 pub words-bytes : (z : Zone) (s : State) (x : List ℕ) → AllByRecursion HasBytes (word_stores z s x)
-words-bytes z s x = all-append HasBytes (stores_in_turn z (signing z s) x ++ word_store 4 0) (word_store 8 0) (all-append HasBytes (stores_in_turn z (signing z s) x) (word_store 4 0) (signing-bytes z x s) (word-bytes 0, tt)) (word-bytes 0, tt)
+words-bytes z s x = all-append HasBytes (stores_in_turn z (signing z s) x ++ word_store 4 0) (word_store 8 0)
+    (all-append HasBytes (stores_in_turn z (signing z s) x) (word_store 4 0) (signing-bytes z x s) (word-bytes 0, tt))
+    (word-bytes 0, tt)
 
 -- ---- the header's parity
 abbrev pub parity_stores : Zone → List ℕ → List Store
@@ -97,13 +106,16 @@ parity_stores z x = byte_stores (part_parity_at z Header) (parity_of z.parity (p
 
 pub parity-long : (z : Zone) (x : List ℕ) → AreBytes x → length (parity_of z.parity (part_bytes z x Header)) ≡ z.parity
 unfolding part_bytes
-parity-long z x h = (parity_made z.parity (part_bytes z x Header) (refl, bytes-all _ (slice_range-bytes x 0 (0 + 12) h))).0.0
+parity-long z x h = (parity_made z.parity (part_bytes z x Header)
+    (refl, bytes-all _ (slice_range-bytes x 0 (0 + 12) h))).0.0
 
-pub parity-length : (z : Zone) (x y : List ℕ) → AreBytes x → AreBytes y → length (parity_stores z x) ≡ length (parity_stores z y)
+pub parity-length : (z : Zone) (x y : List ℕ) → AreBytes x → AreBytes y
+    → length (parity_stores z x) ≡ length (parity_stores z y)
 parity-length z x y h k = byte-length _ _ ∙ parity-long z x h ∙ sym (parity-long z y k) ∙ sym (byte-length _ _)
 
 -- the words, and then the parity of the header that they leave
-pub erasure-is : (z : Zone) (s : State) (x : List ℕ) → word_stores z s x ++ parity_stores z (after_stores x (word_stores z s x)) ≡ stores_in_turn z (signing z s ++ erase_stages) x
+pub erasure-is : (z : Zone) (s : State) (x : List ℕ) → word_stores z s x ++ parity_stores z
+    (after_stores x (word_stores z s x)) ≡ stores_in_turn z (signing z s ++ erase_stages) x
 unfolding stores_in_turn stage_stores after_stores
 erasure-is z Unsigned x = ap (λ (l : List Store). word_stores z Unsigned x ++ l) (sym (append-nil _))
 erasure-is z Empty x = ap (λ (l : List Store). word_stores z Empty x ++ l) (sym (append-nil _))
@@ -118,24 +130,32 @@ words-long z Invalid x y = refl
 words-long z Found x y = refl
 
 -- an erasure has as many stores on any image
-erasure-long : (z : Zone) (s : State) (x y : List ℕ) → AreBytes x → AreBytes y → length (stores_in_turn z (signing z s ++ erase_stages) x) ≡ length (stores_in_turn z (signing z s ++ erase_stages) y)
+erasure-long : (z : Zone) (s : State) (x y : List ℕ) → AreBytes x → AreBytes y
+    → length (stores_in_turn z (signing z s ++ erase_stages) x)
+    ≡ length (stores_in_turn z (signing z s ++ erase_stages) y)
 erasure-long z s x y h k =
     ap length (sym (erasure-is z s x)) ∙ length-append (word_stores z s x) _
-    ∙ ap₂ (λ (a b : ℕ). a + b) (words-long z s x y) (parity-length z _ _ (after-bytes x (word_stores z s x) h (words-bytes z s x)) (after-bytes y (word_stores z s y) k (words-bytes z s y)))
+    ∙ ap₂ (λ (a b : ℕ). a + b) (words-long z s x y) (parity-length z _ _
+    (after-bytes x (word_stores z s x) h (words-bytes z s x))
+    (after-bytes y (word_stores z s y) k (words-bytes z s y)))
     ∙ sym (length-append (word_stores z s y) _) ∙ ap length (erasure-is z s y)
 
 -- ---- the erasure of a zone that is not kept
-pub kept-none : (z : Zone) (s : State) (x : List ℕ) (k : Bool) → k ≡ true → [] ≡ stores_in_turn z (if k then [] else signing z s ++ erase_stages) x
+pub kept-none : (z : Zone) (s : State) (x : List ℕ) (k : Bool) → k ≡ true
+    → [] ≡ stores_in_turn z (if k then [] else signing z s ++ erase_stages) x
 unfolding stores_in_turn
 kept-none z s x k e = ap (λ (b : Bool). stores_in_turn z (if b then [] else signing z s ++ erase_stages) x) (sym e)
 
 pub unkept-long : (z : Zone) (s : State) (k : Bool) (x y : List ℕ) → AreBytes x → AreBytes y
-    → length (stores_in_turn z (if k then [] else signing z s ++ erase_stages) x) ≡ length (stores_in_turn z (if k then [] else signing z s ++ erase_stages) y)
+    → length (stores_in_turn z (if k then [] else signing z s ++ erase_stages) x)
+    ≡ length (stores_in_turn z (if k then [] else signing z s ++ erase_stages) y)
 unfolding stores_in_turn
 unkept-long z s true x y h k = refl
 unkept-long z s false x y h k = erasure-long z s x y h k
 
 pub boot_stores-are : (z : Zone) (x : List ℕ) (r : ZoneReading) → r ≡ zone_reading z x
-    → boot_fixes z x ++ stores_in_turn z (if keeps z r then [] else signing z r.state ++ erase_stages) (after_stores x (boot_fixes z x)) ≡ boot_stores z x
+    → boot_fixes z x ++ stores_in_turn z (if keeps z r then [] else signing z r.state ++ erase_stages)
+    (after_stores x (boot_fixes z x)) ≡ boot_stores z x
 unfolding boot_stores boot_erasure
-boot_stores-are z x r e = ap (λ (q : ZoneReading). boot_fixes z x ++ stores_in_turn z (if keeps z q then [] else signing z q.state ++ erase_stages) (after_stores x (boot_fixes z x))) e
+boot_stores-are z x r e = ap (λ (q : ZoneReading). boot_fixes z x ++ stores_in_turn z
+    (if keeps z q then [] else signing z q.state ++ erase_stages) (after_stores x (boot_fixes z x))) e

@@ -22,41 +22,52 @@ unfolding fix_stores
 fix-itself p [] = refl
 fix-itself p (x ∷ xs) = let rest = fix-itself (p + 1) xs in grind (arith, nat_tests, rest)
 
-near-corrected : (z : Zone) (x : List ℕ) (p : Part) (c : List ℕ) → nearest z.parity (part_word z x p) ≡ Some c → (part_reading z x p).corrected ≡ distance (part_word z x p) c
+near-corrected : (z : Zone) (x : List ℕ) (p : Part) (c : List ℕ) → nearest z.parity (part_word z x p) ≡ Some c
+    → (part_reading z x p).corrected ≡ distance (part_word z x p) c
 unfolding part_reading
 near-corrected z x p c e = ap (λ (o : Option (List ℕ)). (reading_by (part_bytes z x p) (part_word z x p) o).corrected) e
 
 word-front : (z : Zone) (x : List ℕ) (p : Part) → take (length (part_bytes z x p)) (part_word z x p) ≡ part_bytes z x p
 unfolding part_word
-word-front z x p = take-append_seam (part_bytes z x p) (slice_range x (part_parity_at z p) (part_parity_at z p + z.parity))
+word-front z x p = take-append_seam (part_bytes z x p)
+    (slice_range x (part_parity_at z p) (part_parity_at z p + z.parity))
 
 -- a part without corrections reads what stands
-part-uncorrected : (z : Zone) (x : List ℕ) (p : Part) → AreBytes x → (part_reading z x p).corrected ≡ 0 → (part_reading z x p).bytes ≡ part_bytes z x p
+part-uncorrected : (z : Zone) (x : List ℕ) (p : Part) → AreBytes x → (part_reading z x p).corrected ≡ 0
+    → (part_reading z x p).bytes ≡ part_bytes z x p
 part-uncorrected z x p h zero_is = by (nearest z.parity (part_word z x p)) refl
   where
     by : (o : Option (List ℕ)) → nearest z.parity (part_word z x p) ≡ o → (part_reading z x p).bytes ≡ part_bytes z x p
     by None e = reading_none z x p e
     by (Some c) e =
-        let near : IsNear z.parity (part_word z x p) c = nearest-IsNear z.parity (part_word z x p) c (word-IsWord z x p h) e in
-        let same : part_word z x p ≡ c = distance_zero (part_word z x p) c (sym near.word.0) (omega (arith, zero_is, near-corrected z x p c e)) in
+        let near : IsNear z.parity (part_word z x p) c = nearest-IsNear z.parity (part_word z x p) c
+        (word-IsWord z x p h) e in
+        let same : part_word z x p ≡ c = distance_zero (part_word z x p) c (sym near.word.0)
+        (omega (arith, zero_is, near-corrected z x p c e)) in
         reading_near z x p c e ∙ ap (λ (w : List ℕ). take (length (part_bytes z x p)) w) (sym same) ∙ word-front z x p
 
 part-none : (z : Zone) (x : List ℕ) (p : Part) → AreBytes x → (part_reading z x p).corrected ≡ 0 → part_fixes z x p ≡ []
 part-none z x p h zero_is =
-    ap (λ (bs : List ℕ). fix_stores (part_at z p) (part_bytes z x p) bs) (part-uncorrected z x p h zero_is) ∙ fix-itself (part_at z p) (part_bytes z x p)
+    ap (λ (bs : List ℕ). fix_stores (part_at z p) (part_bytes z x p) bs) (part-uncorrected z x p h zero_is)
+    ∙ fix-itself (part_at z p) (part_bytes z x p)
 
-blocks-none : (z : Zone) (x : List ℕ) (ks : List ℕ) → AreBytes x → sum_by (λ b. (part_reading z x (Block b)).corrected) ks ≡ 0 → flat_map (λ b. part_fixes z x (Block b)) ks ≡ []
+blocks-none : (z : Zone) (x : List ℕ) (ks : List ℕ) → AreBytes x
+    → sum_by (λ b. (part_reading z x (Block b)).corrected) ks ≡ 0 → flat_map (λ b. part_fixes z x (Block b)) ks ≡ []
 blocks-none z x [] h zero_is = refl
 blocks-none z x (k ∷ ks) h zero_is =
     let both = sum_by-cons (λ b. (part_reading z x (Block b)).corrected) k ks in
-    ap₂ (λ (a b : List Store). a ++ b) (part-none z x (Block k) h (omega (arith, zero_is, both))) (blocks-none z x ks h (omega (arith, zero_is, both)))
+    ap₂ (λ (a b : List Store). a ++ b) (part-none z x (Block k) h (omega (arith, zero_is, both)))
+    (blocks-none z x ks h (omega (arith, zero_is, both)))
 
 pub boot_fixes-none : (z : Zone) (x : List ℕ) → AreBytes x → (zone_reading z x).corrected ≡ 0 → [] ≡ boot_fixes z x
 unfolding boot_fixes zone_reading
 boot_fixes-none z x h zero_is = sym (by (state_of z (words_read z x)) zero_is)
   where
-    by : (s : State) → (reading_in z x (words_read z x) s).corrected ≡ 0 → part_fixes z x Header ++ flat_map (λ b. part_fixes z x (Block b)) (blocks_read z (reading_in z x (words_read z x) s) (reading_in z x (words_read z x) s).state) ≡ []
+    by : (s : State) → (reading_in z x (words_read z x) s).corrected ≡ 0
+        → part_fixes z x Header ++ flat_map (λ b. part_fixes z x (Block b))
+        (blocks_read z (reading_in z x (words_read z x) s) (reading_in z x (words_read z x) s).state) ≡ []
     by Unsigned e = ap (λ (l : List Store). l ++ []) (part-none z x Header h e)
     by Empty e = ap (λ (l : List Store). l ++ []) (part-none z x Header h e)
     by Invalid e = ap (λ (l : List Store). l ++ []) (part-none z x Header h e)
-    by Found e = ap₂ (λ (a b : List Store). a ++ b) (part-none z x Header h (omega (arith, e))) (blocks-none z x _ h (omega (arith, e)))
+    by Found e = ap₂ (λ (a b : List Store). a ++ b) (part-none z x Header h (omega (arith, e)))
+        (blocks-none z x _ h (omega (arith, e)))

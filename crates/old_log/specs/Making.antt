@@ -5,7 +5,8 @@ use Rattle.ram_region.specs.CutRegion.{CutRegion, span, with_span}
 use Rattle.old_log.specs.declared.settling.Tally.{Tally}
 
 -- of these stores on the i-th span those within the limit were made, and all were counted
-pub record Makes (stores : List Store) (i : ℕ) (old : Tally) (before : CutRegion) (new : Tally) (after : CutRegion) : Type 0 where
+pub record Makes (stores : List Store) (i : ℕ) (old : Tally) (before : CutRegion) (new : Tally)
+    (after : CutRegion) : Type 0 where
   pub spans : after ≡ with_span before i (after_stores (span before i) (take (old.limit - old.count) stores))
   pub limit : new.limit ≡ old.limit
   pub count : new.count ≡ old.count + length stores

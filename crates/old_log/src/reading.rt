@@ -31,7 +31,13 @@ impl Model for Reading {
 
     ghost Value = { ZoneReading };
 
-    ghost view = { λ r. record { state = r.state; words = r.words; log = r.log; corrected = r.corrected; bad = r.bad } };
+    ghost view = { λ r. record {
+      state = r.state;
+      words = r.words;
+      log = r.log;
+      corrected = r.corrected;
+      bad = r.bad;
+    } };
 }
 
 /// Corrected bytes, and parts that could not be read.

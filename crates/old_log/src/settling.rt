@@ -81,7 +81,8 @@ impl Tally {
         requires span { i < length spans.old.spans }
         requires place { at < length (span spans.old i) }
         requires room { self.old.count < 2 ^ 63 }
-        ensures { Makes (fix_stores at (slice_index (span spans.old i) at ∷ []) (b ∷ [])) i self.old spans.old self.new spans.new }
+        ensures { Makes (fix_stores at (slice_index (span spans.old i) at ∷ []) (b ∷ []))
+            i self.old spans.old self.new spans.new }
     {
         if spans.all()[i as usize].load(at) != b {
             self.store(spans, i, at, b);
@@ -94,7 +95,8 @@ impl Tally {
         requires place { at + length bytes.now ≤ length (span spans.old i) }
         requires small { length (span spans.old i) < 2 ^ 32 }
         requires room { self.old.count + 2 ^ 32 ≤ 2 ^ 63 }
-        ensures { Makes (fix_stores at (slice_range (span spans.old i) at (at + length bytes.now)) bytes.now) i self.old spans.old self.new spans.new }
+        ensures { Makes (fix_stores at (slice_range (span spans.old i) at (at + length bytes.now)) bytes.now)
+            i self.old spans.old self.new spans.new }
     {
         for (j, b) in bytes.iter().enumerate() {
             self.correct_byte(spans, i, at + j as u32, *b);
@@ -109,7 +111,8 @@ impl Tally {
         requires len { length (span spans.old i) ≡ zone.now.size }
         requires within { size ≤ zone.now.cap }
         requires room { self.old.count ≤ 2 ^ 32 }
-        ensures stores { Makes (flat_map (λ b. part_fixes zone.now (span spans.old i) (Block b)) (blocks_below zone.now size)) i self.old spans.old self.new spans.new }
+        ensures stores { Makes (flat_map (λ b. part_fixes zone.now (span spans.old i) (Block b))
+            (blocks_below zone.now size)) i self.old spans.old self.new spans.new }
         ensures few { self.new.count ≤ self.old.count + 128 * size }
     {
         let mut block: ArrayVec<u8, 255> = ArrayVec::new();
@@ -156,7 +159,8 @@ impl Tally {
         requires span { i < length spans.old.spans }
         requires len { 12 ≤ length (span spans.old i) }
         requires room { self.old.count ≤ 2 ^ 32 }
-        ensures stores { Makes (stores_in_turn zone.now (signing zone.now state) (span spans.old i)) i self.old spans.old self.new spans.new }
+        ensures stores { Makes (stores_in_turn zone.now (signing zone.now state) (span spans.old i))
+            i self.old spans.old self.new spans.new }
         ensures few { self.new.count ≤ self.old.count + 1 }
     {
         if let State::Unsigned = state {
@@ -171,7 +175,8 @@ impl Tally {
         requires span { i < length spans.old.spans }
         requires len { length (span spans.old i) ≡ zone.now.size }
         requires room { self.old.count ≤ 2 ^ 32 }
-        ensures { Makes (stores_in_turn zone.now (signing zone.now state ++ erase_stages) (span spans.old i)) i self.old spans.old self.new spans.new }
+        ensures { Makes (stores_in_turn zone.now (signing zone.now state ++ erase_stages) (span spans.old i))
+            i self.old spans.old self.new spans.new }
     {
         let _len = spans.all()[i as usize].len();
         self.sign(spans, i, zone, state);
@@ -199,7 +204,8 @@ impl Tally {
         requires span { i < length spans.old.spans }
         requires len { length (span spans.old i) ≡ zone.now.size }
         requires room { self.old.count ≤ 2 ^ 32 }
-        ensures { Makes (stores_in_turn zone.now (if keeps_zone zone.now reading.now then [] else signing zone.now reading.now.state ++ erase_stages) (span spans.old i)) i self.old spans.old self.new spans.new }
+        ensures { Makes (stores_in_turn zone.now (if keeps_zone zone.now reading.now then [] else signing zone.now
+            reading.now.state ++ erase_stages) (span spans.old i)) i self.old spans.old self.new spans.new }
     {
         if !keeps(zone, reading) {
             self.erase(coder, spans, i, zone, reading.state);
@@ -224,7 +230,8 @@ pub fn settle(spans: &mut Spans, i: u32, zone: &Zone, reading: &Reading, limit: 
     requires span { i < length spans.old.spans }
     requires size { length (span spans.old i) ≡ zone.now.size }
     requires reading { reading.now ≡ zone_reading zone.now (span spans.old i) }
-    ensures stores { spans.new ≡ with_span spans.old i (after_stores (span spans.old i) (take limit (boot_stores zone.now (span spans.old i)))) }
+    ensures stores { spans.new ≡ with_span spans.old i (after_stores (span spans.old i)
+        (take limit (boot_stores zone.now (span spans.old i)))) }
     ensures made { result.made ≡ min limit (length (boot_stores zone.now (span spans.old i))) }
     ensures all { result.all ≡ length (boot_stores zone.now (span spans.old i)) }
     ensures erase_at { result.erase_at ≡ length (boot_fixes zone.now (span spans.old i)) }

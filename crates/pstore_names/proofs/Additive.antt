@@ -17,33 +17,39 @@ use Rattle.pstore_names.specs.Counts.{zones_of, readings_of, has_parity, correct
 
 pub filter-append : {A : Type 0} (p : A → Bool) (xs ys : List A) → filter p (xs ++ ys) ≡ filter p xs ++ filter p ys
 filter-append {A = A} p [] ys = refl
-filter-append {A = A} p (x ∷ xs) ys = elim (p x) as (λ b. (if b then x ∷ filter p (xs ++ ys) else filter p (xs ++ ys)) ≡ (if b then x ∷ filter p xs else filter p xs) ++ filter p ys) [
-  | true ↦ ap (λ (zs : List A). x ∷ zs) (filter-append p xs ys)
-  | false ↦ filter-append p xs ys
-]
+filter-append {A = A} p (x ∷ xs) ys = elim (p x) as (λ b. (if b then x ∷ filter p (xs ++ ys) else filter p (xs ++ ys))
+    ≡ (if b then x ∷ filter p xs else filter p xs) ++ filter p ys) [
+      | true ↦ ap (λ (zs : List A). x ∷ zs) (filter-append p xs ys)
+      | false ↦ filter-append p xs ys
+    ]
 
 -- the logs of a kind, and the dumps
 pub logs_of-append : (kind : Kind) (xs ys : List Saved) → logs_of kind (xs ++ ys) ≡ logs_of kind xs ++ logs_of kind ys
-logs_of-append kind xs ys = flat_map-append (λ (zone : Saved). if is_of kind zone.0.name.kind then map (λ (r : ZoneReading). r.log) (found zone.1) else []) xs ys
+logs_of-append kind xs ys = flat_map-append (λ (zone : Saved). if is_of kind zone.0.name.kind then map
+    (λ (r : ZoneReading). r.log) (found zone.1) else []) xs ys
 
 pub dumps_of-append : (xs ys : List Saved) → dumps_of (xs ++ ys) ≡ dumps_of xs ++ dumps_of ys
-dumps_of-append xs ys = flat_map-append (λ (zone : Saved). if is_of Dump zone.0.name.kind then flat_map (λ (r : ZoneReading). dump_of zone.0.name.index r.log (read_line r.log)) (found zone.1) else []) xs ys
+dumps_of-append xs ys = flat_map-append (λ (zone : Saved). if is_of Dump zone.0.name.kind then flat_map
+    (λ (r : ZoneReading). dump_of zone.0.name.index r.log (read_line r.log)) (found zone.1) else []) xs ys
 
 abbrev pub dump_names : List Saved → List Name
 dump_names zones = map (λ (r : Listed). r.name) (dumps_of zones)
 
 pub dump_names-append : (xs ys : List Saved) → dump_names (xs ++ ys) ≡ dump_names xs ++ dump_names ys
-dump_names-append xs ys = ap (λ (rs : List Listed). map (λ (r : Listed). r.name) rs) (dumps_of-append xs ys) ∙ map-append (λ (r : Listed). r.name) (dumps_of xs) (dumps_of ys)
+dump_names-append xs ys = ap (λ (rs : List Listed). map (λ (r : Listed). r.name) rs) (dumps_of-append xs ys)
+    ∙ map-append (λ (r : Listed). r.name) (dumps_of xs) (dumps_of ys)
 
 -- the names of records that are logs
 abbrev pub plain_names : Kind → Name → List Saved → List Name
 plain_names kind name zones = map (λ (r : Listed). r.name) (plain name (logs_of kind zones))
 
-pub plain_names-are : (name : Name) (logs : List (List ℕ)) → map (λ (r : Listed). r.name) (plain name logs) ≡ map (λ log. name) logs
+pub plain_names-are : (name : Name) (logs : List (List ℕ))
+    → map (λ (r : Listed). r.name) (plain name logs) ≡ map (λ log. name) logs
 plain_names-are name [] = refl
 plain_names-are name (log ∷ logs) = ap (λ (ns : List Name). name ∷ ns) (plain_names-are name logs)
 
-pub plain_names-append : (kind : Kind) (name : Name) (xs ys : List Saved) → plain_names kind name (xs ++ ys) ≡ plain_names kind name xs ++ plain_names kind name ys
+pub plain_names-append : (kind : Kind) (name : Name) (xs ys : List Saved)
+    → plain_names kind name (xs ++ ys) ≡ plain_names kind name xs ++ plain_names kind name ys
 plain_names-append kind name xs ys =
     ap (λ (logs : List (List ℕ)). map (λ (r : Listed). r.name) (plain name logs)) (logs_of-append kind xs ys)
     ∙ plain_names-are name (logs_of kind xs ++ logs_of kind ys)
@@ -51,20 +57,24 @@ plain_names-append kind name xs ys =
     ∙ rw (plain_names-are name (logs_of kind xs), plain_names-are name (logs_of kind ys)) refl
 
 -- the zones of a record, and what they count
-pub zones_of-append : (name : Name) (xs ys : List Saved) → zones_of name (xs ++ ys) ≡ zones_of name xs ++ zones_of name ys
+pub zones_of-append : (name : Name) (xs ys : List Saved)
+    → zones_of name (xs ++ ys) ≡ zones_of name xs ++ zones_of name ys
 zones_of-append name xs ys = filter-append (λ (zone : Saved). is_in name zone.0) xs ys
 
-pub readings_of-append : (name : Name) (xs ys : List Saved) → readings_of name (xs ++ ys) ≡ readings_of name xs ++ readings_of name ys
+pub readings_of-append : (name : Name) (xs ys : List Saved)
+    → readings_of name (xs ++ ys) ≡ readings_of name xs ++ readings_of name ys
 readings_of-append name xs ys =
     ap (λ (zs : List Saved). flat_map (λ (zone : Saved). found zone.1) zs) (zones_of-append name xs ys)
     ∙ flat_map-append (λ (zone : Saved). found zone.1) (zones_of name xs) (zones_of name ys)
 
-pub has_parity-append : (name : Name) (xs ys : List Saved) → has_parity name (xs ++ ys) ≡ (has_parity name xs || has_parity name ys)
+pub has_parity-append : (name : Name) (xs ys : List Saved)
+    → has_parity name (xs ++ ys) ≡ (has_parity name xs || has_parity name ys)
 has_parity-append name xs ys =
     ap (list_any (λ (zone : Saved). nat_lt 0 zone.0.parity)) (zones_of-append name xs ys)
     ∙ list_any-append (λ (zone : Saved). nat_lt 0 zone.0.parity) (zones_of name xs) (zones_of name ys)
 
-pub corrected_in-append : (name : Name) (xs ys : List Saved) → corrected_in name (xs ++ ys) ≡ corrected_in name xs + corrected_in name ys
+pub corrected_in-append : (name : Name) (xs ys : List Saved)
+    → corrected_in name (xs ++ ys) ≡ corrected_in name xs + corrected_in name ys
 corrected_in-append name xs ys =
     ap (sum_by (λ (r : ZoneReading). r.corrected)) (readings_of-append name xs ys)
     ∙ sum_by-append (λ (r : ZoneReading). r.corrected) (readings_of name xs) (readings_of name ys)

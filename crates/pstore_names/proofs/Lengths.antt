@@ -14,15 +14,22 @@ begins-fits front xs e =
     let same : take (length front) xs ≡ front = (bytes_eq-Decides (take (length front) xs) front).0 e in
     omega (arith, ap length same, length-take (length front) xs)
 
-ending-fits : (secs micros rest : List ℕ) (line : TimeLine) → line_ending secs micros rest ≡ Some line → line.len ≤ 5 + length secs + length micros + length rest
-ending-fits secs micros rest line e = by-plain (begins_with (10 ∷ []) rest) (begins_with (codes "-D" ++ 10 ∷ []) rest) (begins_with (codes "-C" ++ 10 ∷ []) rest)
+ending-fits : (secs micros rest : List ℕ) (line : TimeLine) → line_ending secs micros rest ≡ Some line
+    → line.len ≤ 5 + length secs + length micros + length rest
+ending-fits secs micros rest line e = by-plain (begins_with (10 ∷ []) rest) (begins_with (codes "-D" ++ 10 ∷ []) rest)
+    (begins_with (codes "-C" ++ 10 ∷ []) rest)
     (begins-fits (10 ∷ []) rest) (begins-fits (codes "-D" ++ 10 ∷ []) rest) (begins-fits (codes "-C" ++ 10 ∷ []) rest) e
   where
-    of-line : (packed : Bool) (n : ℕ) → Some (line_with secs micros packed n) ≡ Some line → n ≤ length rest → line.len ≤ 5 + length secs + length micros + length rest
-    of-line packed n same fits = let e : line_with secs micros packed n ≡ line = cc in omega (arith, ap (λ (l : TimeLine). l.len) e, fits)
+    of-line : (packed : Bool) (n : ℕ) → Some (line_with secs micros packed n) ≡ Some line → n ≤ length rest
+        → line.len ≤ 5 + length secs + length micros + length rest
+    of-line packed n same fits = let e : line_with secs micros packed n ≡ line = cc in
+        omega (arith, ap (λ (l : TimeLine). l.len) e, fits)
 
-    by-plain : (plain d c : Bool) → (plain ≡ true → 1 ≤ length rest) → (d ≡ true → 3 ≤ length rest) → (c ≡ true → 3 ≤ length rest)
-        → (if plain then Some (line_with secs micros false 1) else (if d then Some (line_with secs micros false 3) else (if c then Some (line_with secs micros true 3) else None))) ≡ Some line
+    by-plain : (plain d c : Bool) → (plain ≡ true → 1 ≤ length rest) → (d ≡ true → 3 ≤ length rest)
+        → (c ≡ true → 3 ≤ length rest)
+        → (if plain then Some (line_with secs micros false 1) else
+        (if d then Some (line_with secs micros false 3) else
+        (if c then Some (line_with secs micros true 3) else None))) ≡ Some line
         → line.len ≤ 5 + length secs + length micros + length rest
     by-plain true d c p q r same = of-line false 1 same (p refl)
     by-plain false true c p q r same = of-line false 3 same (q refl)
@@ -40,6 +47,7 @@ line-fits log line e =
     let some : 1 ≤ length rest = ending-some secs micros rest line ended in
     omega (arith, ending-fits secs micros rest line ended, length-drop (5 + length secs + length micros) log, some)
   where
-    ending-some : (secs micros rest : List ℕ) (line : TimeLine) → line_ending secs micros rest ≡ Some line → 1 ≤ length rest
+    ending-some : (secs micros rest : List ℕ) (line : TimeLine) → line_ending secs micros rest ≡ Some line
+        → 1 ≤ length rest
     ending-some secs micros [] line e = cc
     ending-some secs micros (c ∷ rest) line e = omega arith

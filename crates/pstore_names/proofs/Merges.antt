@@ -13,12 +13,15 @@ heavier : (e : List ℕ) (es : List (List ℕ)) → weight (e ∷ es) ≡ length
 heavier e es = sum_by-cons (λ (x : List ℕ). length x) e es
 
 -- of a head that is put before others nothing is lost
-put-weight : (a : List ℕ) (rest : List (List ℕ) → List (List ℕ)) (n : ℕ) → ((ys : List (List ℕ)) → weight (rest ys) ≡ n + weight ys) → (later : List (List ℕ)) → weight (put_before a rest later) ≡ length a + n + weight later
+put-weight : (a : List ℕ) (rest : List (List ℕ) → List (List ℕ)) (n : ℕ)
+    → ((ys : List (List ℕ)) → weight (rest ys) ≡ n + weight ys) → (later : List (List ℕ))
+    → weight (put_before a rest later) ≡ length a + n + weight later
 put-weight a rest n keeps [] = heavier a (rest []) ∙ omega (arith, keeps [])
-put-weight a rest n keeps (b ∷ bs) = elim (nat_le (entry_time b) (entry_time a)) as (λ t. weight (if t then b ∷ put_before a rest bs else a ∷ rest (b ∷ bs)) ≡ length a + n + weight (b ∷ bs)) [
-  | true ↦ omega (arith, heavier b (put_before a rest bs), put-weight a rest n keeps bs, heavier b bs)
-  | false ↦ omega (arith, heavier a (rest (b ∷ bs)), keeps (b ∷ bs))
-]
+put-weight a rest n keeps (b ∷ bs) = elim (nat_le (entry_time b) (entry_time a)) as
+    (λ t. weight (if t then b ∷ put_before a rest bs else a ∷ rest (b ∷ bs)) ≡ length a + n + weight (b ∷ bs)) [
+      | true ↦ omega (arith, heavier b (put_before a rest bs), put-weight a rest n keeps bs, heavier b bs)
+      | false ↦ omega (arith, heavier a (rest (b ∷ bs)), keeps (b ∷ bs))
+    ]
 
 merge-weight : (xs ys : List (List ℕ)) → weight (merge xs ys) ≡ weight xs + weight ys
 merge-weight [] ys = omega arith
@@ -36,13 +39,22 @@ whole log = length log / 24 * 24
 
 entries-weight : (log : List ℕ) → weight (entries log) ≡ whole log
 entries-weight log =
-    let even : length (drop (length log % 24) log) ≡ 24 * (length log / 24) = omega (arith, length-drop (length log % 24) log) in
+    let even : length (drop (length log % 24) log) ≡ 24 * (length log / 24) =
+    omega (arith, length-drop (length log % 24) log) in
     omega (arith, groups-weight (length log / 24) (drop (length log % 24) log) even)
 
-fold-weight : (all : List (List ℕ)) (logs : List (List ℕ)) → weight (fold (λ (es : List (List ℕ)) (log : List ℕ). merge es (entries log)) all logs) ≡ weight all + sum_by whole logs
+fold-weight : (all : List (List ℕ)) (logs : List (List ℕ))
+    → weight (fold (λ (es : List (List ℕ)) (log : List ℕ). merge es (entries log)) all logs)
+    ≡ weight all + sum_by whole logs
 fold-weight all [] = omega arith
 fold-weight all (log ∷ logs) =
-    omega (arith, fold-weight (merge all (entries log)) logs, merge-weight all (entries log), entries-weight log, sum_by-cons whole log logs)
+    omega (
+      arith,
+      fold-weight (merge all (entries log)) logs,
+      merge-weight all (entries log),
+      entries-weight log,
+      sum_by-cons whole log logs,
+    )
 
 pub merged-length : (logs : List (List ℕ)) → length (merged logs) ≡ sum_by whole logs
 merged-length logs =

@@ -4,7 +4,8 @@ use Rattle.std.specs.Prelude.{codes, decimal, if◌then◌else◌}
 use Rattle.std.proofs.lemmas.Bool.Decides.{nat_tests}
 use Rattle.zone_spec.specs.Notices.{notice_text}
 
-enclosed : (a d b e z : List ℕ) → ((((10 ∷ a) ++ d) ++ b) ++ e) ++ (z ++ 10 ∷ []) ≡ (10 ∷ ((((a ++ d) ++ b) ++ e) ++ z)) ++ 10 ∷ []
+enclosed : (a d b e z : List ℕ) → ((((10 ∷ a) ++ d) ++ b) ++ e) ++ (z ++ 10 ∷ [])
+    ≡ (10 ∷ ((((a ++ d) ++ b) ++ e) ++ z)) ++ 10 ∷ []
 enclosed a d b e z = sym (append_assoc (((((10 ∷ a) ++ d) ++ b) ++ e)) z (10 ∷ []))
 
 not-zero : (n : ℕ) → 0 < n → (n == 0) ≡ false
@@ -14,16 +15,24 @@ second : (t : Bool) (xs ys : List ℕ) → t ≡ false → (if t then xs else ys
 second t xs ys e = rw e refl
 
 counted : (corrected bad : ℕ) → 0 < corrected + bad
-    → notice_text corrected bad ≡ ((((codes "\nECC: " ++ decimal corrected) ++ codes " Corrected bytes, ") ++ decimal bad) ++ codes " unrecoverable blocks\n")
+    → notice_text corrected bad ≡ ((((codes "\nECC: " ++ decimal corrected) ++ codes " Corrected bytes, ")
+    ++ decimal bad) ++ codes " unrecoverable blocks\n")
 counted corrected bad some =
-    ap (λ (xs : List ℕ). (10 ∷ xs) ++ 10 ∷ []) (second (corrected + bad == 0) (codes "ECC: No errors detected") (codes "ECC: " ++ decimal corrected ++ codes " Corrected bytes, " ++ decimal bad ++ codes " unrecoverable blocks") (not-zero (corrected + bad) some))
-    ∙ sym (enclosed (codes "ECC: ") (decimal corrected) (codes " Corrected bytes, ") (decimal bad) (codes " unrecoverable blocks"))
+    ap (λ (xs : List ℕ). (10 ∷ xs) ++ 10 ∷ []) (second (corrected + bad == 0) (codes "ECC: No errors detected")
+    (codes "ECC: " ++ decimal corrected ++ codes " Corrected bytes, " ++ decimal bad
+    ++ codes " unrecoverable blocks") (not-zero (corrected + bad) some))
+    ∙ sym (enclosed (codes "ECC: ") (decimal corrected) (codes " Corrected bytes, ") (decimal bad)
+    (codes " unrecoverable blocks"))
 
 -- the parts of a notice with counts, put one after another
-pub written : (corrected bad : ℕ) (b1 b2 b3 b4 b5 d1 d2 : List ℕ) → 0 < corrected + bad → d1 ≡ decimal corrected → d2 ≡ decimal bad
-    → b1 ≡ codes "\nECC: " → b2 ≡ b1 ++ d1 → b3 ≡ b2 ++ codes " Corrected bytes, " → b4 ≡ b3 ++ d2 → b5 ≡ b4 ++ codes " unrecoverable blocks\n" → b5 ≡ notice_text corrected bad
+pub written : (corrected bad : ℕ) (b1 b2 b3 b4 b5 d1 d2 : List ℕ) → 0 < corrected + bad → d1 ≡ decimal corrected
+    → d2 ≡ decimal bad
+    → b1 ≡ codes "\nECC: " → b2 ≡ b1 ++ d1 → b3 ≡ b2 ++ codes " Corrected bytes, " → b4 ≡ b3 ++ d2
+    → b5 ≡ b4 ++ codes " unrecoverable blocks\n" → b5 ≡ notice_text corrected bad
 written corrected bad b1 b2 b3 b4 b5 d1 d2 some first later e1 e2 e3 e4 e5 =
     let p2 : b2 ≡ codes "\nECC: " ++ decimal corrected = e2 ∙ ap₂ (λ (xs ys : List ℕ). xs ++ ys) e1 first in
-    let p3 : b3 ≡ (codes "\nECC: " ++ decimal corrected) ++ codes " Corrected bytes, " = e3 ∙ ap (λ (xs : List ℕ). xs ++ codes " Corrected bytes, ") p2 in
-    let p4 : b4 ≡ ((codes "\nECC: " ++ decimal corrected) ++ codes " Corrected bytes, ") ++ decimal bad = e4 ∙ ap₂ (λ (xs ys : List ℕ). xs ++ ys) p3 later in
+    let p3 : b3 ≡ (codes "\nECC: " ++ decimal corrected) ++ codes " Corrected bytes, " =
+    e3 ∙ ap (λ (xs : List ℕ). xs ++ codes " Corrected bytes, ") p2 in
+    let p4 : b4 ≡ ((codes "\nECC: " ++ decimal corrected) ++ codes " Corrected bytes, ") ++ decimal bad =
+    e4 ∙ ap₂ (λ (xs ys : List ℕ). xs ++ ys) p3 later in
     e5 ∙ ap (λ (xs : List ℕ). xs ++ codes " unrecoverable blocks\n") p4 ∙ sym (counted corrected bad some)

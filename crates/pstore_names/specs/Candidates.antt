@@ -11,4 +11,5 @@ IsCandidate text result = (name : Name) → IsName name → name_text name ≡ t
 -- the same of a dump, by the text behind `dmesg-ramoops-`
 abbrev pub IsDumpCandidate : List ℕ → Option Name → Type 0
 IsDumpCandidate rest result =
-    (index : ℕ) (packed : Bool) → index < 2 ^ 32 → rest ≡ decimal index ++ (if packed then codes ".enc.z" else []) → result ≡ Some (Dump index packed)
+    (index : ℕ) (packed : Bool) → index < 2 ^ 32 → rest ≡ decimal index ++ (if packed then codes ".enc.z" else [])
+    → result ≡ Some (Dump index packed)

@@ -47,35 +47,45 @@ use Rattle.ram_core.specs.Booting.{SpansFit, held_after, PreparesTo, AreLogs, Se
 use Rattle.ram_core.specs.Booted.{ReadsZone, Booted}
 use Rattle.ram_core.proofs.Lists.{same_items, get-of-map}
 
-module _ (layout : List Zone) (mem : ℕ) (image : List ℕ) (lies : IsLayout layout mem) (size : length image ≡ mem) (bytes : AreBytes image) where
+module _ (layout : List Zone) (mem : ℕ) (image : List ℕ) (lies : IsLayout layout mem) (size : length image ≡ mem)
+    (bytes : AreBytes image) where
   -- a zone lies in the image
   inside : (i : ℕ) (z : Zone) → slice_get layout i ≡ Some z → z.at + z.size ≤ length image
-  inside i z ez = (let a = (lies.valid i z ez).1 in let b = zone_within layout i z ez in let c = lies.within in omega (arith, a, b, c, size))
+  inside i z ez = (let a = (lies.valid i z ez).1 in let b = zone_within layout i z ez in let c = lies.within in
+      omega (arith, a, b, c, size))
 
   pub cut_fits : SpansFit layout (cut_at layout image).spans
   cut_fits = record {
     count = length-map layout (λ (z : Zone). slice_range image z.at (z.at + z.size));
     sizes = λ i z b ez eb.
-        ap length (sym (get-map (λ (y : Zone). slice_range image y.at (y.at + y.size)) layout i z b ez eb)) ∙ (zone_image z (lies.valid i z ez).0 image (inside i z ez) bytes).0;
+        ap length (sym (get-map (λ (y : Zone). slice_range image y.at (y.at + y.size)) layout i z b ez eb))
+        ∙ (zone_image z (lies.valid i z ez).0 image (inside i z ez) bytes).0;
   }
 
   pub cut_whole : concat (cut_at layout image).spans ++ (cut_at layout image).rest ≡ image
   cut_whole =
-      ap (λ (xs : List ℕ). xs ++ drop (zones_end layout) image) (concat_is (map (λ (z : Zone). slice_range image z.at (z.at + z.size)) layout) ∙ flat_map-map (λ (x : List ℕ). x) (λ (z : Zone). slice_range image z.at (z.at + z.size)) layout)
+      ap (λ (xs : List ℕ). xs ++ drop (zones_end layout) image)
+      (concat_is (map (λ (z : Zone). slice_range image z.at (z.at + z.size)) layout)
+      ∙ flat_map-map (λ (x : List ℕ). x) (λ (z : Zone). slice_range image z.at (z.at + z.size)) layout)
       ∙ image_is_zones_and_rest layout mem image lies size
 
   -- a span is its zone's bytes
   pub span_is : (i : ℕ) (z : Zone) → slice_get layout i ≡ Some z → span (cut_at layout image) i ≡ zone_bytes z image
   span_is i z ez =
-      let e : slice_get (cut_at layout image).spans i ≡ Some (zone_bytes z image) = get-of-map (λ (y : Zone). slice_range image y.at (y.at + y.size)) layout i z ez in
-      let g : slice_get (cut_at layout image).spans i ≡ Some (span (cut_at layout image) i) = slice_get-get_or (cut_at layout image).spans i [] (slice_get_within (cut_at layout image).spans i _ e) in
+      let e : slice_get (cut_at layout image).spans i ≡ Some (zone_bytes z image) =
+      get-of-map (λ (y : Zone). slice_range image y.at (y.at + y.size)) layout i z ez in
+      let g : slice_get (cut_at layout image).spans i ≡ Some (span (cut_at layout image) i) =
+      slice_get-get_or (cut_at layout image).spans i [] (slice_get_within (cut_at layout image).spans i _ e) in
       let s : Some (span (cut_at layout image) i) ≡ Some (zone_bytes z image) = sym g ∙ e in cc
 
-  pub span_got : (i : ℕ) (z : Zone) → slice_get layout i ≡ Some z → slice_get (cut_at layout image).spans i ≡ Some (zone_bytes z image)
+  pub span_got : (i : ℕ) (z : Zone) → slice_get layout i ≡ Some z
+      → slice_get (cut_at layout image).spans i ≡ Some (zone_bytes z image)
   span_got i z ez = get-of-map (λ (y : Zone). slice_range image y.at (y.at + y.size)) layout i z ez
 
-  module _ (new : CutRegion) (held : List HeldZone) (settled : SettlesTo layout (cut_at layout image) new (length layout)) (held_len : length held ≡ length layout)
-      (held_is : (i : ℕ) (z : Zone) (b : List ℕ) (h : HeldZone) → slice_get layout i ≡ Some z → slice_get (cut_at layout image).spans i ≡ Some b → slice_get held i ≡ Some h → h ≡ held_after z b) where
+  module _ (new : CutRegion) (held : List HeldZone) (settled : SettlesTo layout (cut_at layout image) new
+      (length layout)) (held_len : length held ≡ length layout)
+      (held_is : (i : ℕ) (z : Zone) (b : List ℕ) (h : HeldZone) → slice_get layout i ≡ Some z
+      → slice_get (cut_at layout image).spans i ≡ Some b → slice_get held i ≡ Some h → h ≡ held_after z b) where
     abbrev after : LiveSeen
     after = record { layout = layout; mem = mem; spans = new; zones = held; cursor = 0 }
 
@@ -92,78 +102,126 @@ module _ (layout : List Zone) (mem : ℕ) (image : List ℕ) (lies : IsLayout la
       cursor = refl;
     }
       where
-        by : (i : ℕ) (z : Zone) (b : List ℕ) (h : HeldZone) (live : LiveZone) → slice_get layout i ≡ Some z → slice_get new.spans i ≡ Some b → slice_get held i ≡ Some h
+        by : (i : ℕ) (z : Zone) (b : List ℕ) (h : HeldZone) (live : LiveZone) → slice_get layout i ≡ Some z
+            → slice_get new.spans i ≡ Some b → slice_get held i ≡ Some h
             → slice_get (map (booted_zone s.image) layout) i ≡ Some live → StandsForZone z b h live
         by i z b h live ez eb eh el =
-            let is_live : booted_zone image z ≡ live = ap (λ (im : List ℕ). booted_zone im z) same ∙ get-map (booted_zone s.image) layout i z live ez el in
-            let is_held : h ≡ held_after z (zone_bytes z image) = held_is i z (zone_bytes z image) h ez (span_got i z ez) eh in
-            let got : b ≡ span new i = (let g : Some b ≡ Some (span new i) = sym eb ∙ slice_get-get_or new.spans i [] (slice_get_within new.spans i b eb) in cc) in
+            let is_live : booted_zone image z ≡ live = ap (λ (im : List ℕ). booted_zone im z) same
+            ∙ get-map (booted_zone s.image) layout i z live ez el in
+            let is_held : h ≡ held_after z (zone_bytes z image) =
+            held_is i z (zone_bytes z image) h ez (span_got i z ez) eh in
+            let got : b ≡ span new i = (let g : Some b ≡ Some (span new i) = sym eb
+            ∙ slice_get-get_or new.spans i [] (slice_get_within new.spans i b eb) in cc) in
             let stored : b ≡ after_stores (zone_bytes z image) (boot_stores z (zone_bytes z image)) =
-            got ∙ settled.made i z (slice_get_within layout i z ez) ez ∙ ap (λ (x : List ℕ). after_stores x (boot_stores z x)) (span_is i z ez) in
-            subst (λ (l : LiveZone). StandsForZone z b h l) is_live (subst (λ (g : HeldZone). StandsForZone z b g (booted_zone image z)) (sym is_held) (record { image = sym stored; told = refl; flight = tt }))
+            got ∙ settled.made i z (slice_get_within layout i z ez) ez
+            ∙ ap (λ (x : List ℕ). after_stores x (boot_stores z x)) (span_is i z ez) in
+            subst (λ (l : LiveZone). StandsForZone z b h l) is_live
+            (subst (λ (g : HeldZone). StandsForZone z b g (booted_zone image z)) (sym is_held)
+            (record { image = sym stored; told = refl; flight = tt }))
 
     pub booted_runs : IsRunning after
     booted_runs = record {
       lies = lies;
       held = λ i z h ez eh.
-          let is_held : h ≡ held_after z (zone_bytes z image) = held_is i z (zone_bytes z image) h ez (span_got i z ez) eh in
-          subst (IsHeld z) (sym is_held) (record { room = refl; dump = λ f e d. (let n : ◌≡◌ {A = ℕ} 0 1 = cc in absurd (omega (arith, n))) });
+          let is_held : h ≡ held_after z (zone_bytes z image) =
+          held_is i z (zone_bytes z image) h ez (span_got i z ez) eh in
+          subst (IsHeld z) (sym is_held) (record {
+            room = refl;
+            dump = λ f e d. (let n : ◌≡◌ {A = ℕ} 0 1 = cc in absurd (omega (arith, n)));
+          });
       state = booted layout (fresh layout image);
       stands = booted_stands (fresh layout image) refl;
       sound = booted-state layout mem lies (fresh layout image) (fresh-state layout mem lies image size bytes);
     }
 
 -- what is read of each zone of a sound state
-pub all_read : (layout : List Zone) (mem : ℕ) (s : OffState) → IsLayout layout mem → IsState layout mem (Off s) → EachOffZone layout s ReadsZone
+pub all_read : (layout : List Zone) (mem : ℕ) (s : OffState) → IsLayout layout mem → IsState layout mem (Off s)
+    → EachOffZone layout s ReadsZone
 all_read layout mem s lies sound =
     let a = sound_state_reads_last_written layout mem s lies sound in
     let b = undamaged_reads_told layout mem s lies sound in
     let c = cut_zones_read layout mem s lies sound in
-    let d = report_is_exact layout mem s lies sound in
-    (a.0, λ i z zone ez ek. record { last_written = a.1 i z zone ez ek; as_at_stop = b.1 i z zone ez ek; cut = c.1 i z zone ez ek; reported = d.1 i z zone ez ek })
+    let d = report_is_exact layout mem s lies sound in (
+      a.0,
+      λ i z zone ez ek. record {
+        last_written = a.1 i z zone ez ek;
+        as_at_stop = b.1 i z zone ez ek;
+        cut = c.1 i z zone ez ek;
+        reported = d.1 i z zone ez ek;
+      },
+    )
 
 -- the report of a zone, by what is kept of it
-cut_reported : (z : Zone) (reading : ZoneReading) (o : Option Cut) → option_map (report_cut z reading) (option_map (shown_cut z) o) ≡ reported_cut z reading o
+cut_reported : (z : Zone) (reading : ZoneReading) (o : Option Cut)
+    → option_map (report_cut z reading) (option_map (shown_cut z) o) ≡ reported_cut z reading o
 unfolding shown_cut
 cut_reported z reading None = refl
 cut_reported z reading (Some cut) = refl
 
-zone_reported : (z : Zone) (known : KnownZone) (zone : OffZone) (now : List ℕ) → StandsForKnown z known zone → report_zone z known (zone_reading z now) ≡ zone_report z zone now
+zone_reported : (z : Zone) (known : KnownZone) (zone : OffZone) (now : List ℕ) → StandsForKnown z known zone
+    → report_zone z known (zone_reading z now) ≡ zone_report z zone now
 zone_reported z known zone now stands =
-    ap (λ (t : Option (List ℕ)). record { name = z.name; verdict = verdict_of t (zone_reading z now).log; cut = option_map (report_cut z (zone_reading z now)) known.cut }) stands.told
-    ∙ ap (λ (c : Option CutReport). record { name = z.name; verdict = verdict_of zone.told (zone_reading z now).log; cut = c })
+    ap (λ (t : Option (List ℕ)). record {
+      name = z.name;
+      verdict = verdict_of t (zone_reading z now).log;
+      cut = option_map (report_cut z (zone_reading z now)) known.cut;
+    }) stands.told
+    ∙ ap (λ (c : Option CutReport). record {
+      name = z.name;
+      verdict = verdict_of zone.told (zone_reading z now).log;
+      cut = c;
+    })
     (ap (option_map (report_cut z (zone_reading z now))) stands.cut ∙ cut_reported z (zone_reading z now) zone.cut)
 
-module _ (layout : List Zone) (mem : ℕ) (image : List ℕ) (lies : IsLayout layout mem) (size : length image ≡ mem) (bytes : AreBytes image) (known : List KnownZone) (s : OffState) (same : image ≡ s.image)
+module _ (layout : List Zone) (mem : ℕ) (image : List ℕ) (lies : IsLayout layout mem) (size : length image ≡ mem)
+    (bytes : AreBytes image) (known : List KnownZone) (s : OffState) (same : image ≡ s.image)
     (kept : length known ≡ length layout) (count : length s.zones ≡ length layout)
-    (stands : (i : ℕ) (z : Zone) (k : KnownZone) (zone : OffZone) → slice_get layout i ≡ Some z → slice_get known i ≡ Some k → slice_get s.zones i ≡ Some zone → StandsForKnown z k zone) where
+    (stands : (i : ℕ) (z : Zone) (k : KnownZone) (zone : OffZone) → slice_get layout i ≡ Some z
+    → slice_get known i ≡ Some k → slice_get s.zones i ≡ Some zone → StandsForKnown z k zone) where
   pub reports_are : (reports : List RustZoneReport) → length reports ≡ length layout
-      → ((i : ℕ) (z : Zone) (b : List ℕ) (k : KnownZone) (r : RustZoneReport) → slice_get layout i ≡ Some z → slice_get (cut_at layout image).spans i ≡ Some b → slice_get known i ≡ Some k
-      → slice_get reports i ≡ Some r → told_report r ≡ report_zone z k (zone_reading z b)) → map told_report reports ≡ report layout s
+      → ((i : ℕ) (z : Zone) (b : List ℕ) (k : KnownZone) (r : RustZoneReport) → slice_get layout i ≡ Some z
+      → slice_get (cut_at layout image).spans i ≡ Some b → slice_get known i ≡ Some k
+      → slice_get reports i ≡ Some r → told_report r ≡ report_zone z k (zone_reading z b))
+      → map told_report reports ≡ report layout s
   reports_are reports len is =
-      same_items (map told_report reports) (report layout s) (length-map reports told_report ∙ len ∙ sym (length-zip-map (λ (p : Zone × OffZone). zone_report p.0 p.1 (zone_bytes p.0 s.image)) layout s.zones count)) by
+      same_items (map told_report reports) (report layout s)
+      (length-map reports told_report ∙ len ∙ sym (length-zip-map
+      (λ (p : Zone × OffZone). zone_report p.0 p.1 (zone_bytes p.0 s.image)) layout s.zones count)) by
     where
-      by : (i : ℕ) (x y : ZoneReport) → slice_get (map told_report reports) i ≡ Some x → slice_get (report layout s) i ≡ Some y → x ≡ y
+      by : (i : ℕ) (x y : ZoneReport) → slice_get (map told_report reports) i ≡ Some x
+          → slice_get (report layout s) i ≡ Some y → x ≡ y
       by i x y ex ey =
-          let below : i < length layout = (let a = slice_get_within (map told_report reports) i x ex in let b = length-map reports told_report in omega (arith, a, b, len)) in
+          let below : i < length layout = (let a = slice_get_within (map told_report reports) i x ex in
+          let b = length-map reports told_report in omega (arith, a, b, len)) in
           let z = slice_get-some layout i below in
           let k = slice_get-some known i (omega (arith, below, kept)) in
           let r = slice_get-some reports i (omega (arith, below, len)) in
-          let zone = get-zip-map (λ (p : Zone × OffZone). zone_report p.0 p.1 (zone_bytes p.0 s.image)) layout s.zones i z.0 y z.1 ey in
-          sym (get-map told_report reports i r.0 x r.1 ex) ∙ is i z.0 (zone_bytes z.0 image) k.0 r.0 z.1 (span_got layout mem image lies size bytes i z.0 z.1) k.1 r.1
-          ∙ zone_reported z.0 k.0 zone.0 (zone_bytes z.0 image) (stands i z.0 k.0 zone.0 z.1 k.1 zone.1) ∙ ap (λ (im : List ℕ). zone_report z.0 zone.0 (zone_bytes z.0 im)) same ∙ zone.2
+          let zone = get-zip-map (λ (p : Zone × OffZone). zone_report p.0 p.1 (zone_bytes p.0 s.image))
+          layout s.zones i z.0 y z.1 ey in
+          sym (get-map told_report reports i r.0 x r.1 ex) ∙ is i z.0 (zone_bytes z.0 image) k.0 r.0 z.1
+          (span_got layout mem image lies size bytes i z.0 z.1) k.1 r.1
+          ∙ zone_reported z.0 k.0 zone.0 (zone_bytes z.0 image) (stands i z.0 k.0 zone.0 z.1 k.1 zone.1)
+          ∙ ap (λ (im : List ℕ). zone_report z.0 zone.0 (zone_bytes z.0 im)) same ∙ zone.2
 
-  pub logs_are : (logs : SavedLogs) → AreLogs layout (cut_at layout image).spans logs → saved logs ≡ saved_logs layout (booted layout s)
+  pub logs_are : (logs : SavedLogs) → AreLogs layout (cut_at layout image).spans logs
+      → saved logs ≡ saved_logs layout (booted layout s)
   logs_are logs are =
       ap (λ (zs : List Zone). zip zs logs.readings) are.zones
-      ∙ ap (λ (rs : List (Option ZoneReading)). zip layout rs) (same_items logs.readings (booted layout s).logs (are.len ∙ sym (length-map layout (λ (z : Zone). Some (zone_reading z (zone_bytes z s.image))))) by)
+      ∙ ap (λ (rs : List (Option ZoneReading)). zip layout rs)
+      (same_items logs.readings (booted layout s).logs (are.len
+      ∙ sym (length-map layout (λ (z : Zone). Some (zone_reading z (zone_bytes z s.image))))) by)
     where
-      by : (i : ℕ) (x y : Option ZoneReading) → slice_get logs.readings i ≡ Some x → slice_get (booted layout s).logs i ≡ Some y → x ≡ y
+      by : (i : ℕ) (x y : Option ZoneReading) → slice_get logs.readings i ≡ Some x
+          → slice_get (booted layout s).logs i ≡ Some y → x ≡ y
       by i x y ex ey =
-          let z = slice_get-some layout i (let a = slice_get_within logs.readings i x ex in let b = are.len in omega (arith, a, b)) in
-          let is : Some x ≡ Some (Some (zone_reading z.0 (zone_bytes z.0 image))) = sym ex ∙ are.readings i z.0 (zone_bytes z.0 image) z.1 (span_got layout mem image lies size bytes i z.0 z.1) in
+          let z = slice_get-some layout i (let a = slice_get_within logs.readings i x ex in let b = are.len in
+          omega (arith, a, b)) in
+          let is : Some x ≡ Some (Some (zone_reading z.0 (zone_bytes z.0 image))) =
+          sym ex ∙ are.readings i z.0 (zone_bytes z.0 image) z.1
+          (span_got layout mem image lies size bytes i z.0 z.1) in
           let x_is : x ≡ Some (zone_reading z.0 (zone_bytes z.0 image)) = cc in
-          x_is ∙ ap (λ (im : List ℕ). Some (zone_reading z.0 (zone_bytes z.0 im))) same ∙ get-map (λ (y' : Zone). Some (zone_reading y' (zone_bytes y' s.image))) layout i z.0 y z.1 ey
+          x_is ∙ ap (λ (im : List ℕ). Some (zone_reading z.0 (zone_bytes z.0 im))) same
+          ∙ get-map (λ (y' : Zone). Some (zone_reading y' (zone_bytes y' s.image))) layout i z.0 y z.1 ey
 
 -- ---- by an image that is open
 module _ (v : OffSeen) (o : OpenOff) (is : IsOpen v o) where
@@ -174,47 +232,71 @@ module _ (v : OffSeen) (o : OpenOff) (is : IsOpen v o) where
   M = rounded (params_of o.layout).mem
 
   pub open_fits : SpansFit L o.spans.spans
-  open_fits = subst (λ (c : CutRegion). SpansFit L c.spans) (sym is.spans) (cut_fits L M v.image is.lies is.size is.bytes)
+  open_fits = subst (λ (c : CutRegion). SpansFit L c.spans) (sym is.spans)
+      (cut_fits L M v.image is.lies is.size is.bytes)
 
   pub open_whole : concat o.spans.spans ++ o.spans.rest ≡ v.image
-  open_whole = ap (λ (c : CutRegion). concat c.spans ++ c.rest) is.spans ∙ cut_whole L M v.image is.lies is.size is.bytes
+  open_whole = ap (λ (c : CutRegion). concat c.spans ++ c.rest) is.spans
+      ∙ cut_whole L M v.image is.lies is.size is.bytes
 
   -- closed again the machine is as it was
   pub open_closed : seen_off o ≡ v
-  open_closed = ap (λ (im : List ℕ). record { layout = L; mem = M; image = im; zones = o.zones.items }) open_whole ∙ sym is.seen
+  open_closed = ap (λ (im : List ℕ). record { layout = L; mem = M; image = im; zones = o.zones.items }) open_whole
+      ∙ sym is.seen
 
-  pub logs_from : (p : Prepared) → PreparesTo L o.spans.spans o.zones.items (length L) p → AreLogs L o.spans.spans p.logs
-  logs_from p prepared = record { zones = prepared.zones; len = prepared.readings_len; readings = λ i z b ez eb. prepared.readings i z b (slice_get_within L i z ez) ez eb }
+  pub logs_from : (p : Prepared) → PreparesTo L o.spans.spans o.zones.items (length L) p
+      → AreLogs L o.spans.spans p.logs
+  logs_from p prepared = record {
+    zones = prepared.zones;
+    len = prepared.readings_len;
+    readings = λ i z b ez eb. prepared.readings i z b (slice_get_within L i z ez) ez eb;
+  }
 
-  module _ (p : Prepared) (prepared : PreparesTo L o.spans.spans o.zones.items (length L) p) (new : CutRegion) (settled : SettlesTo L o.spans new (length L)) where
+  module _ (p : Prepared) (prepared : PreparesTo L o.spans.spans o.zones.items (length L) p) (new : CutRegion)
+      (settled : SettlesTo L o.spans new (length L)) where
     own_prepared : PreparesTo L (cut_at L v.image).spans o.zones.items (length L) p
     own_prepared = subst (λ (c : CutRegion). PreparesTo L c.spans o.zones.items (length L) p) is.spans prepared
 
     own_settled : SettlesTo L (cut_at L v.image) new (length L)
     own_settled = subst (λ (c : CutRegion). SettlesTo L c new (length L)) is.spans settled
 
-    own_held : (i : ℕ) (z : Zone) (b : List ℕ) (h : HeldZone) → slice_get L i ≡ Some z → slice_get (cut_at L v.image).spans i ≡ Some b → slice_get p.held.items i ≡ Some h → h ≡ held_after z b
+    own_held : (i : ℕ) (z : Zone) (b : List ℕ) (h : HeldZone) → slice_get L i ≡ Some z
+        → slice_get (cut_at L v.image).spans i ≡ Some b → slice_get p.held.items i ≡ Some h → h ≡ held_after z b
     own_held i z b h ez eb eh = own_prepared.held i z b h (slice_get_within L i z ez) ez eb eh
 
     pub boot_runs : IsRunning (record { layout = L; mem = M; spans = new; zones = p.held.items; cursor = 0 })
-    boot_runs = booted_runs L M v.image is.lies is.size is.bytes new p.held.items own_settled own_prepared.held_len own_held
+    boot_runs = booted_runs L M v.image is.lies is.size is.bytes new p.held.items own_settled own_prepared.held_len
+        own_held
 
-    booted_own : (s : OffState) → StandsOff L M (record { layout = L; mem = M; image = v.image; zones = o.zones.items }) s
-        → Booted L M s (record { layout = L; mem = M; spans = new; zones = p.held.items; cursor = 0 }) (saved p.logs) (map told_report p.reports.items)
+    booted_own : (s : OffState) → StandsOff L M (record {
+      layout = L;
+      mem = M;
+      image = v.image;
+      zones = o.zones.items;
+    }) s
+        → Booted L M s (record { layout = L; mem = M; spans = new; zones = p.held.items; cursor = 0 }) (saved p.logs)
+        (map told_report p.reports.items)
     booted_own s stands = record {
-      live = booted_stands L M v.image is.lies is.size is.bytes new p.held.items own_settled own_prepared.held_len own_held s stands.image;
-      logs = logs_are L M v.image is.lies is.size is.bytes o.zones.items s stands.image is.known stands.count stands.zones p.logs (subst (λ (c : CutRegion). AreLogs L c.spans p.logs) is.spans (logs_from p prepared));
-      reports = reports_are L M v.image is.lies is.size is.bytes o.zones.items s stands.image is.known stands.count stands.zones p.reports.items own_prepared.reports_len
+      live = booted_stands L M v.image is.lies is.size is.bytes new p.held.items own_settled own_prepared.held_len
+          own_held s stands.image;
+      logs = logs_are L M v.image is.lies is.size is.bytes o.zones.items s stands.image is.known stands.count
+          stands.zones p.logs (subst (λ (c : CutRegion). AreLogs L c.spans p.logs) is.spans (logs_from p prepared));
+      reports = reports_are L M v.image is.lies is.size is.bytes o.zones.items s stands.image is.known stands.count
+          stands.zones p.reports.items own_prepared.reports_len
           (λ i z b k r ez eb ek er. own_prepared.reports i z b k r (slice_get_within L i z ez) ez eb ek er);
       reads = λ sound. all_read L M s is.lies sound;
     }
 
     pub boot_is : (layout : List Zone) (mem : ℕ) (s : OffState) → StandsOff layout mem v s
-        → Booted layout mem s (record { layout = L; mem = M; spans = new; zones = p.held.items; cursor = 0 }) (saved p.logs) (map told_report p.reports.items)
+        → Booted layout mem s (record { layout = L; mem = M; spans = new; zones = p.held.items; cursor = 0 })
+        (saved p.logs) (map told_report p.reports.items)
     boot_is layout mem s stands =
-        let st : StandsOff layout mem (record { layout = L; mem = M; image = v.image; zones = o.zones.items }) s = subst (λ (x : OffSeen). StandsOff layout mem x s) is.seen stands in
+        let st : StandsOff layout mem (record { layout = L; mem = M; image = v.image; zones = o.zones.items }) s =
+        subst (λ (x : OffSeen). StandsOff layout mem x s) is.seen stands in
         let after : LiveSeen = record { layout = L; mem = M; spans = new; zones = p.held.items; cursor = 0 } in
         subst (λ (l : List Zone). Booted l mem s after (saved p.logs) (map told_report p.reports.items)) st.same_layout
         (subst (λ (m : ℕ). Booted L m s after (saved p.logs) (map told_report p.reports.items)) st.same_mem
-        (booted_own s (subst (λ (l : List Zone). StandsOff l M (record { layout = L; mem = M; image = v.image; zones = o.zones.items }) s) (sym st.same_layout)
-        (subst (λ (m : ℕ). StandsOff layout m (record { layout = L; mem = M; image = v.image; zones = o.zones.items }) s) (sym st.same_mem) st))))
+        (booted_own s (subst (λ (l : List Zone). StandsOff l M
+        (record { layout = L; mem = M; image = v.image; zones = o.zones.items }) s) (sym st.same_layout)
+        (subst (λ (m : ℕ). StandsOff layout m (record { layout = L; mem = M; image = v.image; zones = o.zones.items })
+        s) (sym st.same_mem) st))))

@@ -24,7 +24,8 @@ pub log_fits : (z : Zone) (image : List ℕ) → length (zone_reading z image).l
 unfolding zone_reading
 log_fits z image = by (state_of z (words_read z image)) refl
   where
-    by : (s : State) → state_of z (words_read z image) ≡ s → length (reading_in z image (words_read z image) s).log ≤ z.cap
+    by : (s : State) → state_of z (words_read z image) ≡ s
+        → length (reading_in z image (words_read z image) s).log ≤ z.cap
     by Found e =
         let w : Words = words_read z image in
         let ring = ring-found z w e in
@@ -40,51 +41,69 @@ pub cap_small : (z : Zone) → IsValidZone z → z.cap < 2 ^ 32
 cap_small z valid = (let a = valid.cap in let b = valid.at_most in omega (arith, a, b))
 
 -- one zone more
-pub prepares_next : (layout : List Zone) (spans : List (List ℕ)) (known : List KnownZone) (n : ℕ) (p q : Prepared) (z : Zone) (bytes : List ℕ) (k : KnownZone) → PreparesTo layout spans known n p
-    → slice_get layout n ≡ Some z → slice_get spans n ≡ Some bytes → slice_get known n ≡ Some k → Adds p q z bytes k → PreparesTo layout spans known (n + 1) q
+pub prepares_next : (layout : List Zone) (spans : List (List ℕ)) (known : List KnownZone) (n : ℕ) (p q : Prepared)
+    (z : Zone) (bytes : List ℕ) (k : KnownZone) → PreparesTo layout spans known n p
+    → slice_get layout n ≡ Some z → slice_get spans n ≡ Some bytes → slice_get known n ≡ Some k → Adds p q z bytes k
+    → PreparesTo layout spans known (n + 1) q
 prepares_next layout spans known n p q z bytes k to ez eb ek adds = record {
   zones = adds.zones ∙ to.zones;
-  readings_len = (let a = ap length adds.readings in let b = length-append p.logs.readings (Some (zone_reading z bytes) ∷ []) in let c = to.readings_len in omega (arith, a, b, c));
-  reports_len = (let a = ap length adds.reports in let b = length-append p.reports.items (adds.report ∷ []) in let c = to.reports_len in omega (arith, a, b, c));
-  held_len = (let a = ap length adds.held in let b = length-append p.held.items (held_after z bytes ∷ []) in let c = to.held_len in omega (arith, a, b, c));
+  readings_len = (let a = ap length adds.readings in let b = length-append p.logs.readings
+      (Some (zone_reading z bytes) ∷ []) in let c = to.readings_len in omega (arith, a, b, c));
+  reports_len = (let a = ap length adds.reports in let b = length-append p.reports.items (adds.report ∷ []) in
+      let c = to.reports_len in omega (arith, a, b, c));
+  held_len = (let a = ap length adds.held in let b = length-append p.held.items (held_after z bytes ∷ []) in
+      let c = to.held_len in omega (arith, a, b, c));
   readings = λ i y b below ey eb'. elim (cases_lt i n) [
-    | inl l ↦ ap (λ rs. slice_get rs i) adds.readings ∙ slice_get-append_left p.logs.readings _ i (let c = to.readings_len in omega (arith, l, c)) ∙ to.readings i y b l ey eb'
+    | inl l ↦ ap (λ rs. slice_get rs i) adds.readings ∙ slice_get-append_left p.logs.readings _ i
+        (let c = to.readings_len in omega (arith, l, c)) ∙ to.readings i y b l ey eb'
     | inr g ↦ (let at : i ≡ n = omega (arith, below, g) in
         let sz : z ≡ y = (let s : Some z ≡ Some y = sym ez ∙ ap (slice_get layout) (sym at) ∙ ey in cc) in
         let sb : bytes ≡ b = (let s : Some bytes ≡ Some b = sym eb ∙ ap (slice_get spans) (sym at) ∙ eb' in cc) in
-        ap (λ rs. slice_get rs i) adds.readings ∙ slice_get-last p.logs.readings (Some (zone_reading z bytes)) i (at ∙ sym to.readings_len)
-        ∙ ap (λ (y' : Zone). Some (Some (zone_reading y' bytes))) sz ∙ ap (λ (b' : List ℕ). Some (Some (zone_reading y b'))) sb)
+        ap (λ rs. slice_get rs i) adds.readings ∙ slice_get-last p.logs.readings (Some (zone_reading z bytes)) i
+        (at ∙ sym to.readings_len)
+        ∙ ap (λ (y' : Zone). Some (Some (zone_reading y' bytes))) sz
+        ∙ ap (λ (b' : List ℕ). Some (Some (zone_reading y b'))) sb)
   ];
-  reports = λ i y b kn r below ey eb' ekn er. elim (get-pushed p.reports.items adds.report i r (ap (λ rs. slice_get rs i) (sym adds.reports) ∙ er)) [
-    | inl o ↦ to.reports i y b kn r (let c = to.reports_len in let l = o.0 in omega (arith, l, c)) ey eb' ekn o.1
-    | inr a ↦ (let at : i ≡ n = a.0 ∙ to.reports_len in
-        let sz : z ≡ y = (let s : Some z ≡ Some y = sym ez ∙ ap (slice_get layout) (sym at) ∙ ey in cc) in
-        let sb : bytes ≡ b = (let s : Some bytes ≡ Some b = sym eb ∙ ap (slice_get spans) (sym at) ∙ eb' in cc) in
-        let sk : k ≡ kn = (let s : Some k ≡ Some kn = sym ek ∙ ap (slice_get known) (sym at) ∙ ekn in cc) in
-        ap told_report (sym a.1) ∙ adds.told ∙ ap (λ (y' : Zone). report_zone y' k (zone_reading y' bytes)) sz ∙ ap (λ (b' : List ℕ). report_zone y k (zone_reading y b')) sb ∙ ap (λ (k' : KnownZone). report_zone y k' (zone_reading y b)) sk)
-  ];
-  held = λ i y b h below ey eb' eh. elim (get-pushed p.held.items (held_after z bytes) i h (ap (λ hs. slice_get hs i) (sym adds.held) ∙ eh)) [
-    | inl o ↦ to.held i y b h (let c = to.held_len in let l = o.0 in omega (arith, l, c)) ey eb' o.1
-    | inr a ↦ (let at : i ≡ n = a.0 ∙ to.held_len in
-        let sz : z ≡ y = (let s : Some z ≡ Some y = sym ez ∙ ap (slice_get layout) (sym at) ∙ ey in cc) in
-        let sb : bytes ≡ b = (let s : Some bytes ≡ Some b = sym eb ∙ ap (slice_get spans) (sym at) ∙ eb' in cc) in
-        sym a.1 ∙ ap (λ (y' : Zone). held_after y' bytes) sz ∙ ap (held_after y) sb)
-  ];
+  reports = λ i y b kn r below ey eb' ekn er. elim (get-pushed p.reports.items adds.report i r
+      (ap (λ rs. slice_get rs i) (sym adds.reports) ∙ er)) [
+        | inl o ↦ to.reports i y b kn r (let c = to.reports_len in let l = o.0 in omega (arith, l, c)) ey eb' ekn o.1
+        | inr a ↦ (let at : i ≡ n = a.0 ∙ to.reports_len in
+            let sz : z ≡ y = (let s : Some z ≡ Some y = sym ez ∙ ap (slice_get layout) (sym at) ∙ ey in cc) in
+            let sb : bytes ≡ b = (let s : Some bytes ≡ Some b = sym eb ∙ ap (slice_get spans) (sym at) ∙ eb' in cc) in
+            let sk : k ≡ kn = (let s : Some k ≡ Some kn = sym ek ∙ ap (slice_get known) (sym at) ∙ ekn in cc) in
+            ap told_report (sym a.1) ∙ adds.told ∙ ap (λ (y' : Zone). report_zone y' k (zone_reading y' bytes)) sz
+            ∙ ap (λ (b' : List ℕ). report_zone y k (zone_reading y b')) sb
+            ∙ ap (λ (k' : KnownZone). report_zone y k' (zone_reading y b)) sk)
+      ];
+  held = λ i y b h below ey eb' eh. elim (get-pushed p.held.items (held_after z bytes) i h
+      (ap (λ hs. slice_get hs i) (sym adds.held) ∙ eh)) [
+        | inl o ↦ to.held i y b h (let c = to.held_len in let l = o.0 in omega (arith, l, c)) ey eb' o.1
+        | inr a ↦ (let at : i ≡ n = a.0 ∙ to.held_len in
+            let sz : z ≡ y = (let s : Some z ≡ Some y = sym ez ∙ ap (slice_get layout) (sym at) ∙ ey in cc) in
+            let sb : bytes ≡ b = (let s : Some bytes ≡ Some b = sym eb ∙ ap (slice_get spans) (sym at) ∙ eb' in cc) in
+            sym a.1 ∙ ap (λ (y' : Zone). held_after y' bytes) sz ∙ ap (held_after y) sb)
+      ];
 }
 
 -- the zone, the span and what is known at a place, by what a boot reads
-pub record At (layout : List Zone) (spans : List (List ℕ)) (known : List KnownZone) (i : ℕ) (z : Zone) (bytes : List ℕ) (k : KnownZone) : Type 0 where
+pub record At (layout : List Zone) (spans : List (List ℕ)) (known : List KnownZone) (i : ℕ) (z : Zone)
+    (bytes : List ℕ) (k : KnownZone) : Type 0 where
   pub zone : slice_get layout i ≡ Some z
   pub span : slice_get spans i ≡ Some bytes
   pub known_zone : slice_get known i ≡ Some k
   pub size : length bytes ≡ z.size
 
-pub at_place : (layout zs : List Zone) (d : Zone) (spans all : List (List ℕ)) (known : List KnownZone) (i : ℕ) (bytes : List ℕ) (k : KnownZone) → SpansFit layout spans → length known ≡ length layout
-    → zs ≡ layout → all ≡ spans → i < length zs → bytes ≡ get_or all i bytes → k ≡ get_or known i k → At layout spans known i (get_or zs i d) bytes k
+pub at_place : (layout zs : List Zone) (d : Zone) (spans all : List (List ℕ)) (known : List KnownZone) (i : ℕ)
+    (bytes : List ℕ) (k : KnownZone) → SpansFit layout spans → length known ≡ length layout
+    → zs ≡ layout → all ≡ spans → i < length zs → bytes ≡ get_or all i bytes → k ≡ get_or known i k
+    → At layout spans known i (get_or zs i d) bytes k
 at_place layout zs d spans all known i bytes k fit len ezs eall below eb ek =
     let below' : i < length layout = subst (λ (l : List Zone). i < length l) ezs below in
-    let ez : slice_get layout i ≡ Some (get_or zs i d) = ap (λ (l : List Zone). slice_get l i) (sym ezs) ∙ slice_get-get_or zs i d below in
-    let gb : slice_get spans i ≡ Some bytes = ap (λ (l : List (List ℕ)). slice_get l i) (sym eall) ∙ slice_get_read all (length all) i bytes refl (let a = ap length eall in let b = fit.count in omega (arith, a, b, below')) eb in
+    let ez : slice_get layout i ≡ Some (get_or zs i d) = ap (λ (l : List Zone). slice_get l i) (sym ezs)
+    ∙ slice_get-get_or zs i d below in
+    let gb : slice_get spans i ≡ Some bytes = ap (λ (l : List (List ℕ)). slice_get l i) (sym eall)
+    ∙ slice_get_read all (length all) i bytes refl (let a = ap length eall in let b = fit.count in
+    omega (arith, a, b, below')) eb in
     record {
       zone = ez;
       span = gb;

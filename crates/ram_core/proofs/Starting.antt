@@ -23,7 +23,8 @@ use Rattle.ram_core.specs.LiveSeen.{StandsForZone}
 call_count : (z : Zone) (call : Call) (bytes : List ℕ) → IsValidZone z → IsImage z bytes → CanBegin z bytes call
     → length (call_stores z call bytes) ≡ sum_by (stage_count z) (call_stages z (standing_words bytes) call)
 unfolding call_stores
-call_count z call bytes valid im can = length-stores z valid (call_stages z (standing_words bytes) call) bytes im.1 (call-all z valid bytes call can)
+call_count z call bytes valid im can = length-stores z valid (call_stages z (standing_words bytes) call) bytes im.1
+    (call-all z valid bytes call can)
 
 -- a flight at its begin on a zone's bytes
 pub record Begins (z : Zone) (bytes : List ℕ) (call : Call) (seen : Flying) : Type 0 where
@@ -36,7 +37,8 @@ pub record Begins (z : Zone) (bytes : List ℕ) (call : Call) (seen : Flying) : 
   pub made : seen.made ≡ 0
   pub stands : StandsFor seen bytes bytes
 
-total_is : (z : Zone) (bytes : List ℕ) (call : Call) (seen : Flying) → Begins z bytes call seen → total_of seen ≡ length (call_stores z call bytes)
+total_is : (z : Zone) (bytes : List ℕ) (call : Call) (seen : Flying) → Begins z bytes call seen
+    → total_of seen ≡ length (call_stores z call bytes)
 total_is z bytes call seen b =
     ap (λ (y : Zone). sum_by (stage_count y) (call_stages y seen.words seen.call)) b.zone
     ∙ ap (λ (w : Words). sum_by (stage_count z) (call_stages z w seen.call)) b.words
@@ -44,16 +46,20 @@ total_is z bytes call seen b =
     ∙ sym (call_count z call bytes b.valid b.image b.can)
 
 -- stores are left: the flight stands
-pub begun_some : (z : Zone) (bytes : List ℕ) (call : Call) (seen : Flying) (old new : HeldZone) (live : LiveZone) → Begins z bytes call seen → 0 < total_of seen
-    → new ≡ record { told = old.told; flight = Some seen } → StandsForZone z bytes old live → StandsForZone z bytes new (begun z call live)
+pub begun_some : (z : Zone) (bytes : List ℕ) (call : Call) (seen : Flying) (old new : HeldZone) (live : LiveZone)
+    → Begins z bytes call seen → 0 < total_of seen
+    → new ≡ record { told = old.told; flight = Some seen } → StandsForZone z bytes old live
+    → StandsForZone z bytes new (begun z call live)
 begun_some z bytes call seen old new live b some e stands =
-    subst (λ (h : HeldZone). StandsForZone z bytes h (begun z call live)) (sym e) (by (length (call_stores z call live.image) == 0) refl)
+    subst (λ (h : HeldZone). StandsForZone z bytes h (begun z call live)) (sym e)
+    (by (length (call_stores z call live.image) == 0) refl)
   where
     counted : total_of seen ≡ length (call_stores z call live.image)
     counted = total_is z bytes call seen b ∙ ap (λ (im : List ℕ). length (call_stores z call im)) (sym stands.image)
 
     by : (t : Bool) → (length (call_stores z call live.image) == 0) ≡ t
-        → StandsForZone z bytes (record { told = old.told; flight = Some seen }) (cond t live (record live { flight = Some (record { image = live.image; call = call; made = 0 }) }))
+        → StandsForZone z bytes (record { told = old.told; flight = Some seen })
+        (cond t live (record live { flight = Some (record { image = live.image; call = call; made = 0 }) }))
     by true h = absurd (let c = counted in grind (arith, nat_tests))
     by false h = record {
       image = stands.image;
@@ -68,15 +74,18 @@ begun_some z bytes call seen old new live b some e stands =
     }
 
 -- no store is left: the call is finished
-pub begun_none : (z : Zone) (bytes : List ℕ) (call : Call) (seen : Flying) (old new : HeldZone) (live : LiveZone) → Begins z bytes call seen → total_of seen ≡ 0
+pub begun_none : (z : Zone) (bytes : List ℕ) (call : Call) (seen : Flying) (old new : HeldZone) (live : LiveZone)
+    → Begins z bytes call seen → total_of seen ≡ 0
     → new ≡ old → StandsForZone z bytes old live → StandsForZone z bytes new (begun z call live)
 begun_none z bytes call seen old new live b none e stands =
-    subst (λ (h : HeldZone). StandsForZone z bytes h (begun z call live)) (sym e) (by (length (call_stores z call live.image) == 0) refl)
+    subst (λ (h : HeldZone). StandsForZone z bytes h (begun z call live)) (sym e)
+    (by (length (call_stores z call live.image) == 0) refl)
   where
     counted : total_of seen ≡ length (call_stores z call live.image)
     counted = total_is z bytes call seen b ∙ ap (λ (im : List ℕ). length (call_stores z call im)) (sym stands.image)
 
     by : (t : Bool) → (length (call_stores z call live.image) == 0) ≡ t
-        → StandsForZone z bytes old (cond t live (record live { flight = Some (record { image = live.image; call = call; made = 0 }) }))
+        → StandsForZone z bytes old (cond t live (record live
+        { flight = Some (record { image = live.image; call = call; made = 0 }) }))
     by true h = stands
     by false h = absurd (let c = counted in grind (arith, nat_tests))

@@ -42,53 +42,102 @@ header_at z x long =
     words_same _ _ (λ i h. word_left z x Header i (omega (arith, n, h)) ∙ sym (slice_byte x 0 12 i (omega (arith, h))))
 
 -- a flight's cut shows what the flight tells
-module _ (z : Zone) (bytes : List ℕ) (seen : Flying) (f : Flight) (long : 12 ≤ length bytes) (s : StandsForFlight z bytes seen f) where
+module _ (z : Zone) (bytes : List ℕ) (seen : Flying) (f : Flight) (long : 12 ≤ length bytes)
+    (s : StandsForFlight z bytes seen f) where
   words : seen.words ≡ standing_words f.image
   words = sym s.image.words
 
   before_long : 12 ≤ length f.image
-  before_long = (let a = ap length s.image.underway.image in let b = length-after_stores f.image s.image.underway.done in omega (arith, a, b, long))
+  before_long = (let a = ap length s.image.underway.image in
+      let b = length-after_stores f.image s.image.underway.done in omega (arith, a, b, long))
 
-  stages : {X : Type 0} (P : Zone → List Stage → X) → P seen.zone (call_stages seen.zone seen.words seen.call) ≡ P z (call_stages z (standing_words f.image) f.call)
+  stages : {X : Type 0} (P : Zone → List Stage → X) → P seen.zone (call_stages seen.zone seen.words seen.call)
+      ≡ P z (call_stages z (standing_words f.image) f.call)
   stages P =
-      ap (λ (y : Zone). P y (call_stages y seen.words seen.call)) s.zone ∙ ap (λ (w : Words). P z (call_stages z w seen.call)) words ∙ ap (λ (c : Call). P z (call_stages z (standing_words f.image) c)) s.call
+      ap (λ (y : Zone). P y (call_stages y seen.words seen.call)) s.zone
+      ∙ ap (λ (w : Words). P z (call_stages z w seen.call)) words
+      ∙ ap (λ (c : Call). P z (call_stages z (standing_words f.image) c)) s.call
 
   pub flight_shows : cut_of_flight seen ≡ shown_cut z (cut_of z f)
   unfolding shown_cut
   flight_shows =
-      ap (λ (c : Call). record { kind = kind_of c; made = seen.made; total = total_of seen; pairs = pairs_of seen; runs = touched_runs seen }) s.call
-      ∙ ap (λ (n : ℕ). record { kind = kind_of f.call; made = n; total = total_of seen; pairs = pairs_of seen; runs = touched_runs seen }) s.made
-      ∙ ap (λ (n : ℕ). record { kind = kind_of f.call; made = f.made; total = n; pairs = pairs_of seen; runs = touched_runs seen }) (stages (λ y gs. sum_by (stage_count y) gs))
-      ∙ ap (λ (ps : List Pair). record { kind = kind_of f.call; made = f.made; total = sum_by (stage_count z) (call_stages z (standing_words f.image) f.call); pairs = ps; runs = touched_runs seen })
-      (stages (λ y gs. pairs_from (pair_of seen.words) gs) ∙ ap (λ (w : Words). pairs_from (pair_of w) (call_stages z (standing_words f.image) f.call)) (words ∙ sym (header_at z f.image before_long)))
-      ∙ ap (λ (rs : List (ℕ × ℕ)). record { kind = kind_of f.call; made = f.made; total = sum_by (stage_count z) (call_stages z (standing_words f.image) f.call); pairs = pairs_from (pair_of (words_in (part_word z f.image Header))) (call_stages z (standing_words f.image) f.call); runs = rs })
+      ap (λ (c : Call). record {
+        kind = kind_of c;
+        made = seen.made;
+        total = total_of seen;
+        pairs = pairs_of seen;
+        runs = touched_runs seen;
+      }) s.call
+      ∙ ap (λ (n : ℕ). record {
+        kind = kind_of f.call;
+        made = n;
+        total = total_of seen;
+        pairs = pairs_of seen;
+        runs = touched_runs seen;
+      }) s.made
+      ∙ ap (λ (n : ℕ). record {
+        kind = kind_of f.call;
+        made = f.made;
+        total = n;
+        pairs = pairs_of seen;
+        runs = touched_runs seen;
+      }) (stages (λ y gs. sum_by (stage_count y) gs))
+      ∙ ap (λ (ps : List Pair). record {
+        kind = kind_of f.call;
+        made = f.made;
+        total = sum_by (stage_count z) (call_stages z (standing_words f.image) f.call);
+        pairs = ps;
+        runs =
+            touched_runs seen;
+      })
+      (stages (λ y gs. pairs_from (pair_of seen.words) gs)
+      ∙ ap (λ (w : Words). pairs_from (pair_of w) (call_stages z (standing_words f.image) f.call))
+      (words ∙ sym (header_at z f.image before_long)))
+      ∙ ap (λ (rs : List (ℕ × ℕ)). record {
+        kind = kind_of f.call;
+        made = f.made;
+        total = sum_by (stage_count z) (call_stages z (standing_words f.image) f.call);
+        pairs =
+            pairs_from (pair_of (words_in (part_word z f.image Header)))
+            (call_stages z (standing_words f.image) f.call);
+        runs = rs;
+      })
       (stages (λ y gs. runs_of (filter (λ b. list_any (λ c. c == b) (touched_by y gs)) (range_with_len 0 y.blocks))))
 
-cut_shows : (z : Zone) (bytes : List ℕ) (o : Option Flying) (p : Option Flight) → 12 ≤ length bytes → StandsForSome z bytes o p → option_map cut_of_flight o ≡ option_map (shown_cut z) (cut_by_stop z p)
+cut_shows : (z : Zone) (bytes : List ℕ) (o : Option Flying) (p : Option Flight) → 12 ≤ length bytes
+    → StandsForSome z bytes o p → option_map cut_of_flight o ≡ option_map (shown_cut z) (cut_by_stop z p)
 cut_shows z bytes None None long s = refl
 cut_shows z bytes None (Some f) long s = absurd s
 cut_shows z bytes (Some f) None long s = absurd s
 cut_shows z bytes (Some f) (Some g) long s = ap Some (flight_shows z bytes f g long s)
 
 -- the zones' bytes end to end
-images : (layout : List Zone) (spans : List (List ℕ)) (live : List LiveZone) → length spans ≡ length layout → length live ≡ length layout
-    → ((i : ℕ) (b : List ℕ) (l : LiveZone) → slice_get spans i ≡ Some b → slice_get live i ≡ Some l → l.image ≡ b) → concat spans ≡ flat_map (λ (l : LiveZone). l.image) live
+images : (layout : List Zone) (spans : List (List ℕ)) (live : List LiveZone) → length spans ≡ length layout
+    → length live ≡ length layout
+    → ((i : ℕ) (b : List ℕ) (l : LiveZone) → slice_get spans i ≡ Some b → slice_get live i ≡ Some l → l.image ≡ b)
+    → concat spans ≡ flat_map (λ (l : LiveZone). l.image) live
 images [] [] [] a b same = refl
 images [] [] (l ∷ ls) a b same = absurd (omega (arith, b))
 images [] (x ∷ xs) live a b same = absurd (omega (arith, a))
 images (z ∷ zs) [] live a b same = absurd (omega (arith, a))
 images (z ∷ zs) (x ∷ xs) [] a b same = absurd (omega (arith, b))
 images (z ∷ zs) (x ∷ xs) (l ∷ ls) a b same =
-    ap (λ (y : List ℕ). y ++ concat xs) (sym (same 0 x l refl refl)) ∙ ap (λ (y : List ℕ). l.image ++ y) (images zs xs ls (omega (arith, a)) (omega (arith, b)) (λ i c m ec em. same (suc i) c m ec em))
+    ap (λ (y : List ℕ). y ++ concat xs) (sym (same 0 x l refl refl))
+    ∙ ap (λ (y : List ℕ). l.image ++ y) (images zs xs ls (omega (arith, a)) (omega (arith, b))
+    (λ i c m ec em. same (suc i) c m ec em))
     ∙ sym (flat_map-cons (λ (k : LiveZone). k.image) l ls)
 
-pub image_is : (v : LiveSeen) (s : LiveState) → StandsLive v.layout v.mem v s → concat v.spans.spans ++ v.spans.rest ≡ live_image s
+pub image_is : (v : LiveSeen) (s : LiveState) → StandsLive v.layout v.mem v s
+    → concat v.spans.spans ++ v.spans.rest ≡ live_image s
 image_is v s stands =
-    ap (λ (y : List ℕ). y ++ v.spans.rest) (images v.layout v.spans.spans s.zones stands.spans stands.count (λ i b l eb el. by i b l eb el)) ∙ ap (λ (y : List ℕ). live_image (record s { rest = y })) (sym stands.rest)
+    ap (λ (y : List ℕ). y ++ v.spans.rest) (images v.layout v.spans.spans s.zones stands.spans stands.count
+    (λ i b l eb el. by i b l eb el)) ∙ ap (λ (y : List ℕ). live_image (record s { rest = y })) (sym stands.rest)
   where
-    by : (i : ℕ) (b : List ℕ) (l : LiveZone) → slice_get v.spans.spans i ≡ Some b → slice_get s.zones i ≡ Some l → l.image ≡ b
+    by : (i : ℕ) (b : List ℕ) (l : LiveZone) → slice_get v.spans.spans i ≡ Some b → slice_get s.zones i ≡ Some l
+        → l.image ≡ b
     by i b l eb el =
-        let below : i < length v.layout = (let n = slice_get_within v.spans.spans i b eb in let m = stands.spans in omega (arith, n, m)) in
+        let below : i < length v.layout = (let n = slice_get_within v.spans.spans i b eb in let m = stands.spans in
+        omega (arith, n, m)) in
         let z = slice_get-some v.layout i below in
         let h = slice_get-some v.zones i (let m = stands.kept in omega (arith, below, m)) in
         (stands.zones i z.0 b h.0 l z.1 eb h.1 el).image
@@ -103,8 +152,10 @@ module _ (v : LiveSeen) (running : IsRunning v) where
       let least = (running.lies.valid i z ez).0.at_least in
       omega (arith, size, same, least)
 
-  stopped_own : (image : List ℕ) (known : List KnownZone) (s : LiveState) → image ≡ concat v.spans.spans ++ v.spans.rest → known ≡ map stop_zone v.zones → StandsLive v.layout v.mem v s
-      → StandsOff v.layout v.mem (record { layout = v.layout; mem = v.mem; image = image; zones = known }) (stopped v.layout s)
+  stopped_own : (image : List ℕ) (known : List KnownZone) (s : LiveState)
+      → image ≡ concat v.spans.spans ++ v.spans.rest → known ≡ map stop_zone v.zones → StandsLive v.layout v.mem v s
+      → StandsOff v.layout v.mem (record { layout = v.layout; mem = v.mem; image = image; zones = known })
+      (stopped v.layout s)
   stopped_own image known s ei ek stands = record {
     same_layout = refl;
     same_mem = refl;
@@ -114,27 +165,43 @@ module _ (v : LiveSeen) (running : IsRunning v) where
     zones = λ i z k o ez gk go. by i z k o ez (ap (λ ks. slice_get ks i) (sym ek) ∙ gk) go;
   }
     where
-      by : (i : ℕ) (z : Zone) (k : KnownZone) (o : OffZone) → slice_get v.layout i ≡ Some z → slice_get (map stop_zone v.zones) i ≡ Some k → slice_get (map zone_stopped (zip v.layout s.zones)) i ≡ Some o → StandsForKnown z k o
+      by : (i : ℕ) (z : Zone) (k : KnownZone) (o : OffZone) → slice_get v.layout i ≡ Some z
+          → slice_get (map stop_zone v.zones) i ≡ Some k → slice_get (map zone_stopped (zip v.layout s.zones)) i
+          ≡ Some o → StandsForKnown z k o
       by i z k o ez gk go =
           let at = here v.layout v.mem v s stands i (slice_get_within v.layout i z ez) in
           let same : at.zone ≡ z = (let g : Some at.zone ≡ Some z = sym at.of_layout ∙ ez in cc) in
-          let zone : StandsForZone z (span v.spans i) at.held at.live = subst (λ (y : Zone). StandsForZone y (span v.spans i) at.held at.live) same at.stands_for in
+          let zone : StandsForZone z (span v.spans i) at.held at.live =
+          subst (λ (y : Zone). StandsForZone y (span v.spans i) at.held at.live) same at.stands_for in
           let ko : stop_zone at.held ≡ k = get-map stop_zone v.zones i at.held k at.of_held gk in
           let lo = get-zip-map zone_stopped v.layout s.zones i z o ez go in
           let live : lo.0 ≡ at.live = (let g : Some lo.0 ≡ Some at.live = sym lo.1 ∙ at.of_state in cc) in
           let oo : zone_stopped (z, at.live) ≡ o = ap (λ (l : LiveZone). zone_stopped (z, l)) (sym live) ∙ lo.2 in
-          subst (λ (x : KnownZone). StandsForKnown z x o) ko (subst (λ (x : OffZone). StandsForKnown z (stop_zone at.held) x) oo (record {
+          subst (λ (x : KnownZone). StandsForKnown z x o) ko
+          (subst (λ (x : OffZone). StandsForKnown z (stop_zone at.held) x) oo (record {
             told = ap Some (sym zone.told);
             cut = cut_shows z (span v.spans i) at.held.flight at.live.flight (long_here i z ez) zone.flight;
           }))
 
-  pub stopped_stands : (image : List ℕ) (known : List KnownZone) → image ≡ concat v.spans.spans ++ v.spans.rest → known ≡ map stop_zone v.zones → (layout : List Zone) (mem : ℕ) (s : LiveState)
-      → StandsLive layout mem v s → StandsOff layout mem (record { layout = v.layout; mem = v.mem; image = image; zones = known }) (stopped layout s)
+  pub stopped_stands : (image : List ℕ) (known : List KnownZone) → image ≡ concat v.spans.spans ++ v.spans.rest
+      → known ≡ map stop_zone v.zones → (layout : List Zone) (mem : ℕ) (s : LiveState)
+      → StandsLive layout mem v s → StandsOff layout mem (record {
+        layout = v.layout;
+        mem = v.mem;
+        image = image;
+        zones = known;
+      }) (stopped layout s)
   stopped_stands image known ei ek layout mem s stands =
-      over layout mem v s (λ l m. StandsOff l m (record { layout = v.layout; mem = v.mem; image = image; zones = known }) (stopped l s)) stands (stopped_own image known s ei ek (own layout mem v s stands))
+      over layout mem v s (λ l m. StandsOff l m (record {
+        layout = v.layout;
+        mem = v.mem;
+        image = image;
+        zones = known;
+      }) (stopped l s)) stands (stopped_own image known s ei ek (own layout mem v s stands))
 
   -- the image and the zones are as many as they were
-  pub stopped_sizes : (image : List ℕ) (known : List KnownZone) → image ≡ concat v.spans.spans ++ v.spans.rest → known ≡ map stop_zone v.zones → (length image ≡ v.mem) × (length known ≡ length v.layout)
+  pub stopped_sizes : (image : List ℕ) (known : List KnownZone) → image ≡ concat v.spans.spans ++ v.spans.rest
+      → known ≡ map stop_zone v.zones → (length image ≡ v.mem) × (length known ≡ length v.layout)
   stopped_sizes image known ei ek = (
     ap length (ei ∙ image_is v running.state running.stands) ∙ running.sound.image.0,
     ap length ek ∙ length-map v.zones stop_zone ∙ running.stands.kept,

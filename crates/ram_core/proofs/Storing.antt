@@ -33,10 +33,19 @@ module _ (z : Zone) (f g : Flying) (old new : List ℕ) (steps : Steps f g old n
       ∙ sym (stands_image g new h.image (steps.stands h.image s.image))
 
   -- with stores left the flight goes on
-  stored_in : (held : Buffer ℕ) (live : LiveZone) (h : Flight) (t : Bool) → StandsForZone z old (record { told = held; flight = Some f }) live → StandsForFlight z old f h
+  stored_in : (held : Buffer ℕ) (live : LiveZone) (h : Flight) (t : Bool)
+      → StandsForZone z old (record { told = held; flight = Some f }) live → StandsForFlight z old f h
       → g.made ≢ total_of g → nat_lt (h.made + 1) (total_stores z h) ≡ t
-      → StandsForZone z new (record { told = held; flight = Some g }) (cond t (record live { image = image_after z h.call h.image (h.made + 1); flight = Some (record h { made = h.made + 1 }) })
-      (record { image = image_after z h.call h.image (total_stores z h); told = told_after z.cap h.call live.told; flight = None }))
+      → StandsForZone z new (record { told = held; flight = Some g })
+      (cond t (record live {
+        image = image_after z h.call h.image (h.made + 1);
+        flight = Some (record h { made = h.made + 1 });
+      })
+      (record {
+        image = image_after z h.call h.image (total_stores z h);
+        told = told_after z.cap h.call live.told;
+        flight = None;
+      }))
   stored_in held live h true stands s some e = record {
     image = image_is h s;
     told = stands.told;
@@ -49,40 +58,60 @@ module _ (z : Zone) (f g : Flying) (old new : List ℕ) (steps : Steps f g old n
     };
   }
   stored_in held live h false stands s some e =
-      absurd (some (let m = steps.made in let l = steps.left in let a = s.made in let b = s.total in let n = total_same steps.same in grind (arith, nat_tests)))
+      absurd (some (let m = steps.made in let l = steps.left in let a = s.made in let b = s.total in
+      let n = total_same steps.same in grind (arith, nat_tests)))
 
-  stored_by : (held : Buffer ℕ) (live : LiveZone) (o : Option Flight) → StandsForZone z old (record { told = held; flight = Some f }) live → StandsForSome z old (Some f) o
+  stored_by : (held : Buffer ℕ) (live : LiveZone) (o : Option Flight)
+      → StandsForZone z old (record { told = held; flight = Some f }) live → StandsForSome z old (Some f) o
       → g.made ≢ total_of g → StandsForZone z new (record { told = held; flight = Some g }) (stepped_by o z 1 live)
   stored_by held live None stands s some = absurd s
   stored_by held live (Some h) stands s some = stored_in held live h _ stands s some refl
 
-  pub stored : (held : Buffer ℕ) (live : LiveZone) → StandsForZone z old (record { told = held; flight = Some f }) live → g.made ≢ total_of g
+  pub stored : (held : Buffer ℕ) (live : LiveZone) → StandsForZone z old (record { told = held; flight = Some f })
+      live → g.made ≢ total_of g
       → StandsForZone z new (record { told = held; flight = Some g }) (stepped z 1 live)
   stored held live stands some = stored_by held live live.flight stands stands.flight some
 
   -- with the last store the flight is gone, and the list is told
-  ended_in : (held : Buffer ℕ) (told : List ℕ) (live : LiveZone) (h : Flight) (t : Bool) → held.capacity ≡ z.cap → StandsForZone z old (record { told = held; flight = Some f }) live
-      → StandsForFlight z old f h → g.made ≡ total_of g → told ≡ told_after held.capacity g.call held.items → nat_lt (h.made + 1) (total_stores z h) ≡ t
-      → StandsForZone z new (record { told = buffer told held.capacity; flight = None }) (cond t (record live { image = image_after z h.call h.image (h.made + 1); flight = Some (record h { made = h.made + 1 }) })
-      (record { image = image_after z h.call h.image (total_stores z h); told = told_after z.cap h.call live.told; flight = None }))
+  ended_in : (held : Buffer ℕ) (told : List ℕ) (live : LiveZone) (h : Flight) (t : Bool) → held.capacity ≡ z.cap
+      → StandsForZone z old (record { told = held; flight = Some f }) live
+      → StandsForFlight z old f h → g.made ≡ total_of g → told ≡ told_after held.capacity g.call held.items
+      → nat_lt (h.made + 1) (total_stores z h) ≡ t
+      → StandsForZone z new (record { told = buffer told held.capacity; flight = None })
+      (cond t (record live {
+        image = image_after z h.call h.image (h.made + 1);
+        flight = Some (record h { made = h.made + 1 });
+      })
+      (record {
+        image = image_after z h.call h.image (total_stores z h);
+        told = told_after z.cap h.call live.told;
+        flight = None;
+      }))
   ended_in held told live h true room stands s all e k =
-      absurd (let m = steps.made in let l = steps.left in let a = s.made in let b = s.total in let n = total_same steps.same in grind (arith, nat_tests))
+      absurd (let m = steps.made in let l = steps.left in let a = s.made in let b = s.total in
+      let n = total_same steps.same in grind (arith, nat_tests))
   ended_in held told live h false room stands s all e k = record {
-    image = ap (λ (n : ℕ). image_after z h.call h.image n) (let m = steps.made in let a = s.made in let b = s.total in let n = total_same steps.same in omega (arith, m, a, b, n, all)) ∙ image_is h s;
+    image = ap (λ (n : ℕ). image_after z h.call h.image n)
+        (let m = steps.made in let a = s.made in let b = s.total in let n = total_same steps.same in
+        omega (arith, m, a, b, n, all)) ∙ image_is h s;
     told =
-        ap (λ (n : ℕ). told_after n h.call live.told) (sym room) ∙ ap (λ (c : Call). told_after held.capacity c live.told) (sym s.call ∙ sym steps.same.call)
+        ap (λ (n : ℕ). told_after n h.call live.told) (sym room)
+        ∙ ap (λ (c : Call). told_after held.capacity c live.told) (sym s.call ∙ sym steps.same.call)
         ∙ ap (λ (xs : List ℕ). told_after held.capacity g.call xs) stands.told ∙ sym e;
     flight = tt;
   }
 
-  ended_by : (held : Buffer ℕ) (told : List ℕ) (live : LiveZone) (o : Option Flight) → held.capacity ≡ z.cap → StandsForZone z old (record { told = held; flight = Some f }) live
+  ended_by : (held : Buffer ℕ) (told : List ℕ) (live : LiveZone) (o : Option Flight) → held.capacity ≡ z.cap
+      → StandsForZone z old (record { told = held; flight = Some f }) live
       → StandsForSome z old (Some f) o → g.made ≡ total_of g → told ≡ told_after held.capacity g.call held.items
       → StandsForZone z new (record { told = buffer told held.capacity; flight = None }) (stepped_by o z 1 live)
   ended_by held told live None room stands s all e = absurd s
   ended_by held told live (Some h) room stands s all e = ended_in held told live h _ room stands s all e refl
 
-  pub ended : (held : Buffer ℕ) (told : List ℕ) (live : LiveZone) → held.capacity ≡ z.cap → StandsForZone z old (record { told = held; flight = Some f }) live → g.made ≡ total_of g
-      → told ≡ told_after held.capacity g.call held.items → StandsForZone z new (record { told = buffer told held.capacity; flight = None }) (stepped z 1 live)
+  pub ended : (held : Buffer ℕ) (told : List ℕ) (live : LiveZone) → held.capacity ≡ z.cap
+      → StandsForZone z old (record { told = held; flight = Some f }) live → g.made ≡ total_of g
+      → told ≡ told_after held.capacity g.call held.items
+      → StandsForZone z new (record { told = buffer told held.capacity; flight = None }) (stepped z 1 live)
   ended held told live room stands all e = ended_by held told live live.flight room stands stands.flight all e
 
   -- a dump's last store is a flight's last, whose call is a dump
@@ -91,7 +120,8 @@ module _ (z : Zone) (f g : Flying) (old new : List ℕ) (steps : Steps f g old n
   dump_kind Erase = refl
   dump_kind (Dump line body) = refl
 
-  not_last : (live : LiveZone) (o : Option Flight) → StandsForSome z old (Some f) o → g.made ≢ total_of g → (flies_dump o && not (is_some (stepped_by o z 1 live).flight)) ≡ false
+  not_last : (live : LiveZone) (o : Option Flight) → StandsForSome z old (Some f) o → g.made ≢ total_of g
+      → (flies_dump o && not (is_some (stepped_by o z 1 live).flight)) ≡ false
   not_last live None s some = absurd s
   not_last live (Some h) s some = by (nat_lt (h.made + 1) (total_stores z h)) refl
     where
@@ -100,15 +130,26 @@ module _ (z : Zone) (f g : Flying) (old new : List ℕ) (steps : Steps f g old n
       none false = refl
 
       by : (t : Bool) → nat_lt (h.made + 1) (total_stores z h) ≡ t
-          → (is_dump h.call && not (is_some (LiveZone.flight (cond t (record live { image = image_after z h.call h.image (h.made + 1); flight = Some (record h { made = h.made + 1 }) })
-          (record { image = image_after z h.call h.image (total_stores z h); told = told_after z.cap h.call live.told; flight = None }))))) ≡ false
+          → (is_dump h.call && not (is_some (LiveZone.flight
+          (cond t (record live {
+            image = image_after z h.call h.image (h.made + 1);
+            flight = Some (record h { made = h.made + 1 });
+          })
+          (record {
+            image = image_after z h.call h.image (total_stores z h);
+            told = told_after z.cap h.call live.told;
+            flight = None;
+          }))))) ≡ false
       by true k = none (is_dump h.call)
-      by false k = absurd (some (let m = steps.made in let l = steps.left in let a = s.made in let b = s.total in let n = total_same steps.same in grind (arith, nat_tests)))
+      by false k = absurd (some (let m = steps.made in let l = steps.left in let a = s.made in let b = s.total in
+          let n = total_same steps.same in grind (arith, nat_tests)))
 
-  pub no_last : (live : LiveZone) → StandsForSome z old (Some f) live.flight → g.made ≢ total_of g → (flies_dump live.flight && not (is_some (stepped z 1 live).flight)) ≡ false
+  pub no_last : (live : LiveZone) → StandsForSome z old (Some f) live.flight → g.made ≢ total_of g
+      → (flies_dump live.flight && not (is_some (stepped z 1 live).flight)) ≡ false
   no_last live s some = not_last live live.flight s some
 
-  is_last : (live : LiveZone) (kind : CallKind) (o : Option Flight) → StandsForSome z old (Some f) o → g.made ≡ total_of g → kind ≡ kind_of g.call
+  is_last : (live : LiveZone) (kind : CallKind) (o : Option Flight) → StandsForSome z old (Some f) o
+      → g.made ≡ total_of g → kind ≡ kind_of g.call
       → (flies_dump o && not (is_some (stepped_by o z 1 live).flight)) ≡ is_dump_kind kind
   is_last live kind None s all e = absurd s
   is_last live kind (Some h) s all e = by (nat_lt (h.made + 1) (total_stores z h)) refl
@@ -118,11 +159,22 @@ module _ (z : Zone) (f g : Flying) (old new : List ℕ) (steps : Steps f g old n
       whole false = refl
 
       by : (t : Bool) → nat_lt (h.made + 1) (total_stores z h) ≡ t
-          → (is_dump h.call && not (is_some (LiveZone.flight (cond t (record live { image = image_after z h.call h.image (h.made + 1); flight = Some (record h { made = h.made + 1 }) })
-          (record { image = image_after z h.call h.image (total_stores z h); told = told_after z.cap h.call live.told; flight = None }))))) ≡ is_dump_kind kind
-      by true k = absurd (let m = steps.made in let l = steps.left in let a = s.made in let b = s.total in let n = total_same steps.same in grind (arith, nat_tests))
-      by false k = whole (is_dump h.call) ∙ dump_kind h.call ∙ ap (λ (c : Call). is_dump_kind (kind_of c)) (sym s.call ∙ sym steps.same.call) ∙ ap is_dump_kind (sym e)
+          → (is_dump h.call && not (is_some (LiveZone.flight
+          (cond t (record live {
+            image = image_after z h.call h.image (h.made + 1);
+            flight = Some (record h { made = h.made + 1 });
+          })
+          (record {
+            image = image_after z h.call h.image (total_stores z h);
+            told = told_after z.cap h.call live.told;
+            flight = None;
+          }))))) ≡ is_dump_kind kind
+      by true k = absurd (let m = steps.made in let l = steps.left in let a = s.made in let b = s.total in
+          let n = total_same steps.same in grind (arith, nat_tests))
+      by false k = whole (is_dump h.call) ∙ dump_kind h.call
+          ∙ ap (λ (c : Call). is_dump_kind (kind_of c)) (sym s.call ∙ sym steps.same.call) ∙ ap is_dump_kind (sym e)
 
-  pub last_is : (live : LiveZone) (kind : CallKind) → StandsForSome z old (Some f) live.flight → g.made ≡ total_of g → kind ≡ kind_of g.call
+  pub last_is : (live : LiveZone) (kind : CallKind) → StandsForSome z old (Some f) live.flight → g.made ≡ total_of g
+      → kind ≡ kind_of g.call
       → (flies_dump live.flight && not (is_some (stepped z 1 live).flight)) ≡ is_dump_kind kind
   last_is live kind s all e = is_last live kind live.flight s all e

@@ -24,7 +24,8 @@ use Rattle.ram_core.specs.Reports.{told_report, report_zone}
 -- each span has its zone's size
 pub record SpansFit (layout : List Zone) (spans : List (List ℕ)) : Type 0 where
   pub count : length spans ≡ length layout
-  pub sizes : (i : ℕ) (z : Zone) (bytes : List ℕ) → slice_get layout i ≡ Some z → slice_get spans i ≡ Some bytes → length bytes ≡ z.size
+  pub sizes : (i : ℕ) (z : Zone) (bytes : List ℕ) → slice_get layout i ≡ Some z → slice_get spans i ≡ Some bytes
+      → length bytes ≡ z.size
 
 -- what is kept of a zone that a boot has finished
 abbrev pub held_after : Zone → List ℕ → HeldZone
@@ -40,15 +41,19 @@ pub record Adds (old new : Prepared) (z : Zone) (bytes : List ℕ) (known : Know
   pub held : new.held.items ≡ old.held.items ++ held_after z bytes ∷ []
 
 -- of the first n zones the readings, the reports and the told lists
-pub record PreparesTo (layout : List Zone) (spans : List (List ℕ)) (known : List KnownZone) (n : ℕ) (p : Prepared) : Type 0 where
+pub record PreparesTo (layout : List Zone) (spans : List (List ℕ)) (known : List KnownZone) (n : ℕ)
+    (p : Prepared) : Type 0 where
   pub zones : p.logs.zones ≡ layout
   pub readings_len : length p.logs.readings ≡ n
   pub reports_len : length p.reports.items ≡ n
   pub held_len : length p.held.items ≡ n
-  pub readings : (i : ℕ) (z : Zone) (bytes : List ℕ) → i < n → slice_get layout i ≡ Some z → slice_get spans i ≡ Some bytes → slice_get p.logs.readings i ≡ Some (Some (zone_reading z bytes))
-  pub reports : (i : ℕ) (z : Zone) (bytes : List ℕ) (k : KnownZone) (r : ZoneReport) → i < n → slice_get layout i ≡ Some z → slice_get spans i ≡ Some bytes → slice_get known i ≡ Some k
+  pub readings : (i : ℕ) (z : Zone) (bytes : List ℕ) → i < n → slice_get layout i ≡ Some z
+      → slice_get spans i ≡ Some bytes → slice_get p.logs.readings i ≡ Some (Some (zone_reading z bytes))
+  pub reports : (i : ℕ) (z : Zone) (bytes : List ℕ) (k : KnownZone) (r : ZoneReport) → i < n
+      → slice_get layout i ≡ Some z → slice_get spans i ≡ Some bytes → slice_get known i ≡ Some k
       → slice_get p.reports.items i ≡ Some r → told_report r ≡ report_zone z k (zone_reading z bytes)
-  pub held : (i : ℕ) (z : Zone) (bytes : List ℕ) (h : HeldZone) → i < n → slice_get layout i ≡ Some z → slice_get spans i ≡ Some bytes → slice_get p.held.items i ≡ Some h → h ≡ held_after z bytes
+  pub held : (i : ℕ) (z : Zone) (bytes : List ℕ) (h : HeldZone) → i < n → slice_get layout i ≡ Some z
+      → slice_get spans i ≡ Some bytes → slice_get p.held.items i ≡ Some h → h ≡ held_after z bytes
 
 -- of all zones
 abbrev pub Prepares : List Zone → List (List ℕ) → List KnownZone → Prepared → Type 0
@@ -58,13 +63,15 @@ Prepares layout spans known p = PreparesTo layout spans known (length layout) p
 pub record AreLogs (layout : List Zone) (spans : List (List ℕ)) (logs : SavedLogs) : Type 0 where
   pub zones : logs.zones ≡ layout
   pub len : length logs.readings ≡ length layout
-  pub readings : (i : ℕ) (z : Zone) (bytes : List ℕ) → slice_get layout i ≡ Some z → slice_get spans i ≡ Some bytes → slice_get logs.readings i ≡ Some (Some (zone_reading z bytes))
+  pub readings : (i : ℕ) (z : Zone) (bytes : List ℕ) → slice_get layout i ≡ Some z → slice_get spans i ≡ Some bytes
+      → slice_get logs.readings i ≡ Some (Some (zone_reading z bytes))
 
 -- of the first n zones all boot stores are made, and no other store
 pub record SettlesTo (layout : List Zone) (old new : CutRegion) (n : ℕ) : Type 0 where
   pub count : length new.spans ≡ length old.spans
   pub rest : new.rest ≡ old.rest
-  pub made : (i : ℕ) (z : Zone) → i < n → slice_get layout i ≡ Some z → span new i ≡ after_stores (span old i) (boot_stores z (span old i))
+  pub made : (i : ℕ) (z : Zone) → i < n → slice_get layout i ≡ Some z
+      → span new i ≡ after_stores (span old i) (boot_stores z (span old i))
   pub others : (i : ℕ) → n ≤ i → span new i ≡ span old i
 
 abbrev pub Settles : List Zone → CutRegion → CutRegion → Type 0
@@ -72,7 +79,12 @@ Settles layout old new = SettlesTo layout old new (length layout)
 
 -- an image that is cut into its zones' spans, with what is known of them
 pub record IsOpen (v : OffSeen) (o : OpenOff) : Type 0 where
-  pub seen : v ≡ record { layout = zones_of o.layout; mem = rounded (params_of o.layout).mem; image = v.image; zones = o.zones.items }
+  pub seen : v ≡ record {
+    layout = zones_of o.layout;
+    mem = rounded (params_of o.layout).mem;
+    image = v.image;
+    zones = o.zones.items;
+  }
   pub spans : o.spans ≡ cut_at (zones_of o.layout) v.image
   pub lies : IsLayout (zones_of o.layout) (rounded (params_of o.layout).mem)
   pub size : length v.image ≡ rounded (params_of o.layout).mem
@@ -81,8 +93,19 @@ pub record IsOpen (v : OffSeen) (o : OpenOff) : Type 0 where
 
 -- what a contract sees of the machine when the image is whole again
 abbrev pub seen_off : OpenOff → OffSeen
-seen_off o = record { layout = zones_of o.layout; mem = rounded (params_of o.layout).mem; image = concat o.spans.spans ++ o.spans.rest; zones = o.zones.items }
+seen_off o = record {
+  layout = zones_of o.layout;
+  mem = rounded (params_of o.layout).mem;
+  image = concat o.spans.spans ++ o.spans.rest;
+  zones = o.zones.items;
+}
 
 -- and when a boot has finished
 abbrev pub seen_booted : OpenOff → List HeldZone → LiveSeen
-seen_booted o held = record { layout = zones_of o.layout; mem = rounded (params_of o.layout).mem; spans = o.spans; zones = held; cursor = 0 }
+seen_booted o held = record {
+  layout = zones_of o.layout;
+  mem = rounded (params_of o.layout).mem;
+  spans = o.spans;
+  zones = held;
+  cursor = 0;
+}

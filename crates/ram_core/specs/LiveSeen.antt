@@ -15,7 +15,8 @@ use Rattle.session_spec.specs.LiveZones.{with_zone}
 use Rattle.zone_flight.specs.Counts.{total_of}
 use Rattle.ram_core.specs.declared.zones.HeldZone.{HeldZone}
 
--- the zones of the layout and the bytes of the image, the zones' bytes and those behind them, what is kept of each zone, and the number of the next dump's zone
+-- the zones of the layout and the bytes of the image, the zones' bytes and those behind them, what is kept of each
+-- zone, and the number of the next dump's zone
 pub record LiveSeen : Type 0 where
   pub layout : List Zone
   pub mem : ℕ
@@ -23,7 +24,8 @@ pub record LiveSeen : Type 0 where
   pub zones : List HeldZone
   pub cursor : ℕ
 
--- a flight and its zone's bytes stand for a flight of the definitions: its call on the zone, so many of its stores made and in all, on the image that the zone had
+-- a flight and its zone's bytes stand for a flight of the definitions: its call on the zone, so many of its stores
+-- made and in all, on the image that the zone had
 pub record StandsForFlight (z : Zone) (bytes : List ℕ) (seen : Flying) (f : Flight) : Type 0 where
   pub zone : seen.zone ≡ z
   pub call : seen.call ≡ f.call
@@ -51,7 +53,8 @@ pub record StandsLive (layout : List Zone) (mem : ℕ) (v : LiveSeen) (s : LiveS
   pub spans : length v.spans.spans ≡ length layout
   pub kept : length v.zones ≡ length layout
   pub count : length s.zones ≡ length layout
-  pub zones : (i : ℕ) (z : Zone) (bytes : List ℕ) (seen : HeldZone) (zone : LiveZone) → slice_get layout i ≡ Some z → slice_get v.spans.spans i ≡ Some bytes
+  pub zones : (i : ℕ) (z : Zone) (bytes : List ℕ) (seen : HeldZone) (zone : LiveZone) → slice_get layout i ≡ Some z
+      → slice_get v.spans.spans i ≡ Some bytes
       → slice_get v.zones i ≡ Some seen → slice_get s.zones i ≡ Some zone → StandsForZone z bytes seen zone
   pub rest : s.rest ≡ v.spans.rest
   pub cursor : s.cursor ≡ v.cursor
@@ -65,11 +68,14 @@ pub record Leaves (layout : List Zone) (mem : ℕ) (answer : Result LiveState Re
 -- the next store of the i-th zone's flight, if one stands there, in every state for which the machine stood
 abbrev pub StoresNext : ℕ → LiveSeen → LiveSeen → Type 0
 StoresNext i old new =
-    (layout : List Zone) (mem : ℕ) (s : LiveState) (z : Zone) (live : LiveZone) → StandsLive layout mem old s → slice_get layout i ≡ Some z → slice_get s.zones i ≡ Some live
+    (layout : List Zone) (mem : ℕ) (s : LiveState) (z : Zone) (live : LiveZone) → StandsLive layout mem old s
+    → slice_get layout i ≡ Some z → slice_get s.zones i ≡ Some live
     → StandsLive layout mem new (with_zone layout s i live (stepped z 1 live))
 
--- a zone's told list is kept in a ring of the zone's capacity; where no flight stands, the zone's bytes are in ring form with it
+-- a zone's told list is kept in a ring of the zone's capacity; where no flight stands, the zone's bytes are in ring
+-- form with it
 abbrev pub RingOf : LiveSeen → ZoneName → Buffer ℕ → Type 0
 RingOf v name told =
-    (i : ℕ) (z : Zone) (held : HeldZone) → zone_place v.layout name ≡ Some i → slice_get v.layout i ≡ Some z → slice_get v.zones i ≡ Some held
+    (i : ℕ) (z : Zone) (held : HeldZone) → zone_place v.layout name ≡ Some i → slice_get v.layout i ≡ Some z
+    → slice_get v.zones i ≡ Some held
     → (told ≡ held.told) × (told.capacity ≡ z.cap) × (held.flight ≡ None → IsRingForm z (span v.spans i) told.items)

@@ -40,8 +40,10 @@ pub record StandsOff (layout : List Zone) (mem : ℕ) (v : OffSeen) (s : OffStat
   pub image : v.image ≡ s.image
   pub kept : length v.zones ≡ length layout
   pub count : length s.zones ≡ length layout
-  pub zones : (i : ℕ) (z : Zone) (known : KnownZone) (zone : OffZone) → slice_get layout i ≡ Some z → slice_get v.zones i ≡ Some known → slice_get s.zones i ≡ Some zone → StandsForKnown z known zone
+  pub zones : (i : ℕ) (z : Zone) (known : KnownZone) (zone : OffZone) → slice_get layout i ≡ Some z
+      → slice_get v.zones i ≡ Some known → slice_get s.zones i ≡ Some zone → StandsForKnown z known zone
 
 -- nothing is known of the zones
 abbrev pub AreUnknown : List KnownZone → Type 0
-AreUnknown zones = (i : ℕ) (known : KnownZone) → slice_get zones i ≡ Some known → (known.told ≡ None) × (known.cut ≡ None)
+AreUnknown zones = (i : ℕ) (known : KnownZone) → slice_get zones i ≡ Some known
+    → (known.told ≡ None) × (known.cut ≡ None)

@@ -11,7 +11,11 @@ abbrev pub parted : Passed → Bool → Buffer ℕ → KnownZone → KnownZone
 parted p whole told known =
     if whole || (nat_lt 0 p.left && nat_le p.settled.all p.left) then record { told = Some told; cut = None }
     else (if nat_lt p.settled.erase_at p.left
-    then record { told = known.told; cut = Some (cut_of_erasure p.words (p.left - p.settled.erase_at) (p.settled.all - p.settled.erase_at)) }
+    then record {
+      told = known.told;
+      cut = Some (cut_of_erasure p.words (p.left - p.settled.erase_at)
+          (p.settled.all - p.settled.erase_at));
+    }
     else known)
 
 -- no erasure begins behind a zone's last store
@@ -19,7 +23,9 @@ abbrev pub AreInOrder : List Passed → Type 0
 AreInOrder passed = (i : ℕ) (p : Passed) → slice_get passed i ≡ Some p → p.settled.erase_at ≤ p.settled.all
 
 -- of each zone
-pub record IsParted (passed : List Passed) (whole : Bool) (held : List HeldZone) (old new : List KnownZone) : Type 0 where
+pub record IsParted (passed : List Passed) (whole : Bool) (held : List HeldZone)
+    (old new : List KnownZone) : Type 0 where
   pub len : length new ≡ length old
-  pub each : (i : ℕ) (p : Passed) (h : HeldZone) (k : KnownZone) → slice_get passed i ≡ Some p → slice_get held i ≡ Some h → slice_get old i ≡ Some k
+  pub each : (i : ℕ) (p : Passed) (h : HeldZone) (k : KnownZone) → slice_get passed i ≡ Some p
+      → slice_get held i ≡ Some h → slice_get old i ≡ Some k
       → slice_get new i ≡ Some (parted p whole h.told k)

@@ -30,12 +30,15 @@ pub record Passes (z : Zone) (bytes : List ℕ) (left : ℕ) (p : Passed) : Type
   pub erase_at : p.settled.erase_at ≡ length (boot_fixes z bytes)
 
 -- of the first n zones as many boot stores are made as the limit leaves, and no other store
-pub record PartsTo (layout : List Zone) (old new : CutRegion) (limit n : ℕ) (progress : Progress) (passed : List Passed) : Type 0 where
+pub record PartsTo (layout : List Zone) (old new : CutRegion) (limit n : ℕ) (progress : Progress)
+    (passed : List Passed) : Type 0 where
   pub count : length new.spans ≡ length old.spans
   pub rest : new.rest ≡ old.rest
-  pub made : (i : ℕ) (z : Zone) → i < n → slice_get layout i ≡ Some z → span new i ≡ after_stores (span old i) (take (left_for layout old limit i) (boot_stores z (span old i)))
+  pub made : (i : ℕ) (z : Zone) → i < n → slice_get layout i ≡ Some z
+      → span new i ≡ after_stores (span old i) (take (left_for layout old limit i) (boot_stores z (span old i)))
   pub others : (i : ℕ) → n ≤ i → span new i ≡ span old i
   pub left_is : progress.left ≡ left_for layout old limit n
   pub whole : progress.is_whole ≡ nat_le (stores_before layout old n) limit
   pub passed_len : length passed ≡ n
-  pub passes : (i : ℕ) (z : Zone) (p : Passed) → i < n → slice_get layout i ≡ Some z → slice_get passed i ≡ Some p → Passes z (span old i) (left_for layout old limit i) p
+  pub passes : (i : ℕ) (z : Zone) (p : Passed) → i < n → slice_get layout i ≡ Some z → slice_get passed i ≡ Some p
+      → Passes z (span old i) (left_for layout old limit i) p

@@ -33,7 +33,8 @@ place_asked layout cursor (Dump time packed body) = zone_place layout (name_of c
 
 -- whether a dump zone has a flight
 abbrev pub dump_flies : List Zone → List HeldZone → Bool
-dump_flies layout zones = list_any (λ (pair : Zone × HeldZone). is_of DumpKind pair.0.name.kind && is_some pair.1.flight) (zip layout zones)
+dump_flies layout zones = list_any (λ (pair : Zone × HeldZone). is_of DumpKind pair.0.name.kind && is_some
+    pair.1.flight) (zip layout zones)
 
 -- whether that is in the call's way
 abbrev pub barred : List Zone → List HeldZone → Ask → Bool

@@ -21,7 +21,18 @@ told_report r = record { name = r.name; verdict = r.verdict; cut = option_map to
 
 -- by the zone's reading and what was known of it
 abbrev pub report_cut : Zone → ZoneReading → SeenCut → CutReport
-report_cut z reading cut = record { kind = cut.kind; made = cut.made; total = cut.total; header = header_seen z reading.words cut.pairs; runs = cut.runs }
+report_cut z reading cut = record {
+  kind = cut.kind;
+  made = cut.made;
+  total = cut.total;
+  header = header_seen z reading.words cut.pairs;
+  runs = cut.runs;
+}
 
 abbrev pub report_zone : Zone → KnownZone → ZoneReading → ZoneReport
-report_zone z known reading = record { name = z.name; verdict = verdict_of (option_map (λ (t : Buffer ℕ). t.items) known.told) reading.log; cut = option_map (report_cut z reading) known.cut }
+report_zone z known reading = record {
+  name = z.name;
+  verdict = verdict_of
+      (option_map (λ (t : Buffer ℕ). t.items) known.told) reading.log;
+  cut = option_map (report_cut z reading) known.cut;
+}

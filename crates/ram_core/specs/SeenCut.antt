@@ -18,7 +18,13 @@ pub record SeenCut : Type 0 where
 
 -- that of a flight
 abbrev pub cut_of_flight : Flying → SeenCut
-cut_of_flight f = record { kind = kind_of f.call; made = f.made; total = total_of f; pairs = pairs_of f; runs = touched_runs f }
+cut_of_flight f = record {
+  kind = kind_of f.call;
+  made = f.made;
+  total = total_of f;
+  pairs = pairs_of f;
+  runs = touched_runs f;
+}
 
 -- that of a boot's erasure of a zone whose header read these words
 abbrev pub cut_of_erasure : Words → ℕ → ℕ → SeenCut
@@ -26,6 +32,7 @@ cut_of_erasure w made total = record {
   kind = Erase;
   made = made;
   total = total;
-  pairs = record { start = w.start; size = w.size } ∷ record { start = 0; size = w.size } ∷ record { start = 0; size = 0 } ∷ [];
+  pairs = record { start = w.start; size = w.size } ∷ record { start = 0; size = w.size }
+      ∷ record { start = 0; size = 0 } ∷ [];
   runs = [];
 }

@@ -35,7 +35,11 @@ pub struct Prepared {
 // What is kept of a zone with this reading.
 fn hold(alloc: Global, zone: &Zone, reading: &Reading) -> Result<HeldZone, AllocError>
     requires { length reading.now.log ≤ zone.now.cap }
-    ensures { IfOk result (λ held. held ≡ record { told = buffer (if keeps_zone zone.now reading.now then reading.now.log else []) zone.now.cap; flight = None }) }
+    ensures { IfOk result (λ held. held ≡ record {
+      told = buffer
+          (if keeps_zone zone.now reading.now then reading.now.log else []) zone.now.cap;
+      flight = None;
+    }) }
 {
     let mut told = Told::with_capacity(alloc, zone.cap)?;
     if keeps(zone, reading) {
@@ -92,7 +96,8 @@ pub(crate) fn prepare(
     Ok(prepared)
 }
 
-/// A zone that a boot came to: how many of the boot's stores were then left to be made, the words that it read, and how many
+/// A zone that a boot came to: how many of the boot's stores were then left to be made, the words that it read, and
+/// how many
 /// stores it has there.
 #[derive(Clone, Copy)]
 pub struct Passed {
@@ -108,7 +113,8 @@ fn pass(spans: &mut Spans, i: u32, zone: &Zone, logs: &Logs, left: u64) -> Passe
     requires size { length (span spans.old i) ≡ zone.now.size }
     requires zones { i < length logs.now.zones }
     requires reading { slice_get logs.now.readings i ≡ Some (Some (zone_reading zone.now (span spans.old i))) }
-    ensures stores { spans.new ≡ with_span spans.old i (after_stores (span spans.old i) (take left (boot_stores zone.now (span spans.old i)))) }
+    ensures stores { spans.new ≡ with_span spans.old i (after_stores (span spans.old i)
+        (take left (boot_stores zone.now (span spans.old i)))) }
     ensures left { result.left ≡ left }
     ensures words { result.words ≡ (zone_reading zone.now (span spans.old i)).words }
     ensures made { result.settled.made ≡ min left (length (boot_stores zone.now (span spans.old i))) }
@@ -145,7 +151,8 @@ pub struct Progress {
     pub(crate) is_whole: bool,
 }
 
-/// Makes the first `limit` stores of a boot, or all, by the zones' readings, and notes how it passed each zone where there is
+/// Makes the first `limit` stores of a boot, or all, by the zones' readings, and notes how it passed each zone where
+/// there is
 /// room for it. Takes no memory.
 pub(crate) fn settle_part(
     spans: &mut Spans,
@@ -158,7 +165,8 @@ pub(crate) fn settle_part(
     requires logs { AreLogs (zones_of layout.now) spans.old.spans logs.now }
     requires none { passed.old.items ≡ [] }
     requires room { length (zones_of layout.now) ≤ vec_capacity passed.old }
-    ensures { PartsTo (zones_of layout.now) spans.old spans.new limit (length (zones_of layout.now)) result passed.new.items }
+    ensures { PartsTo (zones_of layout.now) spans.old spans.new limit (length (zones_of layout.now))
+        result passed.new.items }
 {
     let zones = layout.zones();
     let mut progress = Progress {

@@ -26,7 +26,13 @@ impl Model for HeldCut {
 
     ghost Value = { SeenCut };
 
-    ghost view = { λ c. record { kind = c.kind; made = c.made; total = c.total; pairs = c.pairs.items; runs = c.runs.items } };
+    ghost view = { λ c. record {
+      kind = c.kind;
+      made = c.made;
+      total = c.total;
+      pairs = c.pairs.items;
+      runs = c.runs.items;
+    } };
 }
 
 impl HeldCut {
@@ -77,7 +83,8 @@ pub struct KnownZone {
 impl KnownZone {
     ghost use Rattle.ram_core.specs.Parted.{parted};
 
-    /// What is known of the zone after a boot that passed it so: what the boot kept, where it has finished the zone or made
+    /// What is known of the zone after a boot that passed it so: what the boot kept, where it has finished the zone
+    /// or made
     /// all its stores; its erasure, where it is within that; else what was known.
     fn pass(&mut self, told: Told, passed: &Passed, is_whole: bool)
         requires { passed.now.settled.erase_at ≤ passed.now.settled.all }

@@ -55,9 +55,22 @@ impl Model for Live {
     ghost use Rattle.ram_core.specs.Running.{IsRunning};
     ghost use Rattle.ram_core.specs.Stopped.{HasRoom};
 
-    ghost view = { λ l. record { layout = zones_of l.layout; mem = rounded (params_of l.layout).mem; spans = l.spans; zones = l.zones.items; cursor = cursor_at l.cursor } };
+    ghost view = { λ l. record {
+      layout = zones_of l.layout;
+      mem = rounded (params_of l.layout).mem;
+      spans = l.spans;
+      zones = l.zones.items;
+      cursor = cursor_at l.cursor;
+    } };
 
-    ghost invariant = { λ l. IsRunning (record { layout = zones_of l.layout; mem = rounded (params_of l.layout).mem; spans = l.spans; zones = l.zones.items; cursor = cursor_at l.cursor }) × IsTurning (zones_of l.layout) l.cursor × HasRoom (zones_of l.layout) l.stopped };
+    ghost invariant = { λ l. IsRunning (record {
+      layout = zones_of l.layout;
+      mem = rounded (params_of l.layout).mem;
+      spans = l.spans;
+      zones = l.zones.items;
+      cursor = cursor_at l.cursor;
+    })
+        × IsTurning (zones_of l.layout) l.cursor × HasRoom (zones_of l.layout) l.stopped };
 }
 
 // The place of a console, ftrace or pmsg zone.
@@ -114,7 +127,8 @@ fn next_dump(cursor: &Option<Cursor>) -> u32
 
 // Goes to the next dump zone behind a dump's last store.
 fn turn(cursor: &mut Option<Cursor>, stored: Option<Stored>)
-    ensures { (layout : List Zone) → IsTurning layout cursor.old → (is_last_of_dump stored ≡ true → 0 < dump_zones layout)
+    ensures { (layout : List Zone) → IsTurning layout cursor.old
+        → (is_last_of_dump stored ≡ true → 0 < dump_zones layout)
         → (cursor_at cursor.new ≡ cursor_after layout stored (cursor_at cursor.old)) × IsTurning layout cursor.new }
 {
     if let Some(Stored::Last(CallKind::Dump)) = stored {
@@ -174,7 +188,8 @@ impl Live {
     // Tells whether a flight is in the call's way, in zone `i` or, for a dump, in a dump zone.
     fn is_busy(&self, i: u32, ask: &Ask) -> bool
         requires { i < length self.now.zones }
-        ensures { result ≡ (barred self.now.layout self.now.zones (told_ask ask.now) || flies_at (slice_get self.now.zones i)) }
+        ensures { result ≡ (barred self.now.layout self.now.zones (told_ask ask.now)
+            || flies_at (slice_get self.now.zones i)) }
     {
         let is_barred = match ask {
             Ask::Dump(_, _, _) => flies_in_dump_zone(self.layout.zones(), &self.zones),
@@ -188,8 +203,10 @@ impl Live {
         requires asked { CanBeAsked ask }
         requires place { place_asked self.old.layout self.old.cursor (told_ask ask) ≡ Some i }
         requires within { i < length self.old.layout }
-        requires free { (barred self.old.layout self.old.zones (told_ask ask) || flies_at (slice_get self.old.zones i)) ≡ false }
-        ensures { (layout : List Zone) (mem : ℕ) (s : LiveState) → StandsLive layout mem self.old s → Leaves layout mem (begins layout s (told_ask ask)) self.new }
+        requires free { (barred self.old.layout self.old.zones (told_ask ask)
+            || flies_at (slice_get self.old.zones i)) ≡ false }
+        ensures { (layout : List Zone) (mem : ℕ) (s : LiveState) → StandsLive layout mem self.old s
+            → Leaves layout mem (begins layout s (told_ask ask)) self.new }
     {
         ask.check();
         let zone = self.layout.zones()[i as usize];
@@ -206,13 +223,16 @@ impl Live {
         self.layout.zones()
     }
 
-    /// Begins a call, and makes no store. An append of no bytes is finished at once. A refusal changes nothing, and hands
+    /// Begins a call, and makes no store. An append of no bytes is finished at once. A refusal changes nothing, and
+    /// hands
     /// back what was asked. Takes no memory.
     pub fn begin(&mut self, ask: Ask) -> Result<ZoneName, Refused>
         requires { CanBeAsked ask }
-        ensures begun { IfOk result (λ name. (layout : List Zone) (mem : ℕ) (s : LiveState) → StandsLive layout mem self.old s
+        ensures begun { IfOk result (λ name. (layout : List Zone) (mem : ℕ) (s : LiveState)
+            → StandsLive layout mem self.old s
             → (name ≡ asked_name s (told_ask ask)) × Leaves layout mem (begins layout s (told_ask ask)) self.new) }
-        ensures refused { IfErr result (λ r. (layout : List Zone) (mem : ℕ) (s : LiveState) → StandsLive layout mem self.old s → begins layout s (told_ask ask) ≡ Err r.why) }
+        ensures refused { IfErr result (λ r. (layout : List Zone) (mem : ℕ) (s : LiveState)
+            → StandsLive layout mem self.old s → begins layout s (told_ask ask) ≡ Err r.why) }
         ensures unchanged { IfErr result (λ r. (r.ask ≡ ask) × (self.new ≡ self.old)) }
     {
         let Some(i) = self.place_asked(&ask) else {
@@ -254,12 +274,15 @@ impl Live {
         self.layout.find(zone)
     }
 
-    /// Makes the next store of a zone's flight. It is done with the last one: then no flight stands there, the told list is
+    /// Makes the next store of a zone's flight. It is done with the last one: then no flight stands there, the told
+    /// list is
     /// what the call means, and a dump's moves the cursor. Takes no memory.
     pub fn step(&mut self, zone: ZoneName) -> Result<Step, Refusal>
-        ensures stepped { IfOk result (λ step. (layout : List Zone) (mem : ℕ) (s : LiveState) → StandsLive layout mem self.old s → Leaves layout mem (steps layout s zone 1) self.new) }
+        ensures stepped { IfOk result (λ step. (layout : List Zone) (mem : ℕ) (s : LiveState)
+            → StandsLive layout mem self.old s → Leaves layout mem (steps layout s zone 1) self.new) }
         ensures done { IfOk result (λ step. (step ≡ Step.Done) ↔ (flies_in self.new zone ≡ false)) }
-        ensures refused { IfErr result (λ why. (layout : List Zone) (mem : ℕ) (s : LiveState) → StandsLive layout mem self.old s → steps layout s zone 1 ≡ Err why) }
+        ensures refused { IfErr result (λ why. (layout : List Zone) (mem : ℕ) (s : LiveState)
+            → StandsLive layout mem self.old s → steps layout s zone 1 ≡ Err why) }
         ensures unchanged { OnErr result (self.new ≡ self.old) }
     {
         let Some(i) = self.place(zone) else {
@@ -274,7 +297,8 @@ impl Live {
 
     /// The list that a zone was told; during a flight the one from before it.
     pub fn told(&self, zone: ZoneName) -> Result<&Told, Refusal>
-        ensures told { IfOk result (λ told. (layout : List Zone) (mem : ℕ) (s : LiveState) → StandsLive layout mem self.now s
+        ensures told { IfOk result (λ told. (layout : List Zone) (mem : ℕ) (s : LiveState)
+            → StandsLive layout mem self.now s
             → option_map (λ (t : Target). t.live.told) (target layout s zone) ≡ Some told.now.items) }
         ensures ring { IfOk result (λ told. RingOf self.now zone told.now) }
         ensures refused { IfErr result (λ why. (why ≡ Refusal.NoZone) × (zone_place self.now.layout zone ≡ None)) }
@@ -288,7 +312,8 @@ impl Live {
 
     /// Tells whether a flight stands in a zone.
     pub fn flies(&self, zone: ZoneName) -> Result<bool, Refusal>
-        ensures flies { IfOk result (λ flies. (layout : List Zone) (mem : ℕ) (s : LiveState) → StandsLive layout mem self.now s
+        ensures flies { IfOk result (λ flies. (layout : List Zone) (mem : ℕ) (s : LiveState)
+            → StandsLive layout mem self.now s
             → option_map (λ (t : Target). is_some t.live.flight) (target layout s zone) ≡ Some flies) }
         ensures refused { IfErr result (λ why. (why ≡ Refusal.NoZone) × (zone_place self.now.layout zone ≡ None)) }
     {
@@ -301,7 +326,8 @@ impl Live {
 
     /// How many stores are left of a zone's flight; none where no flight stands.
     pub fn left(&self, zone: ZoneName) -> Result<u64, Refusal>
-        ensures left { IfOk result (λ left. (layout : List Zone) (mem : ℕ) (s : LiveState) → StandsLive layout mem self.now s
+        ensures left { IfOk result (λ left. (layout : List Zone) (mem : ℕ) (s : LiveState)
+            → StandsLive layout mem self.now s
             → option_map (λ (t : Target). stores_left t.live.flight t.zone) (target layout s zone) ≡ Some left) }
         ensures refused { IfErr result (λ why. (why ≡ Refusal.NoZone) × (zone_place self.now.layout zone ≡ None)) }
     {
@@ -312,10 +338,12 @@ impl Live {
         }
     }
 
-    /// The machine is off: this moment is the stop of every zone, and each flight becomes a cut, also with no store made.
+    /// The machine is off: this moment is the stop of every zone, and each flight becomes a cut, also with no store
+    /// made.
     /// Takes no memory.
     pub fn stop(self) -> Off
-        ensures { (layout : List AZone) (mem : ℕ) (s : LiveState) → StandsLive layout mem self s → StandsOff layout mem result (stopped_state layout s) }
+        ensures { (layout : List AZone) (mem : ℕ) (s : LiveState) → StandsLive layout mem self s
+            → StandsOff layout mem result (stopped_state layout s) }
     {
         let _zones = self.layout.zones();
         let Live {

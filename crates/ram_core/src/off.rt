@@ -45,9 +45,15 @@ impl Model for Off {
 
     ghost Value = { OffSeen };
 
-    ghost view = { λ o. record { layout = zones_of o.layout; mem = rounded (params_of o.layout).mem; image = o.image; zones = o.zones.items } };
+    ghost view = { λ o. record {
+      layout = zones_of o.layout;
+      mem = rounded (params_of o.layout).mem;
+      image = o.image;
+      zones = o.zones.items;
+    } };
 
-    ghost invariant = { λ o. (length o.image ≡ rounded (params_of o.layout).mem) × (length o.zones.items ≡ length (zones_of o.layout)) };
+    ghost invariant = { λ o. (length o.image ≡ rounded (params_of o.layout).mem)
+        × (length o.zones.items ≡ length (zones_of o.layout)) };
 }
 
 /// A machine that is off, whose image is cut into the zones' spans.
@@ -84,7 +90,8 @@ impl OpenOff {
     fn prepare(&self) -> Result<(Prepared, Vec<KnownZone>), AllocError>
         requires spans { SpansFit (zones_of self.now.layout) self.now.spans.spans }
         requires known { length self.now.zones.items ≡ length (zones_of self.now.layout) }
-        ensures prepared { IfOk result (λ r. Prepares (zones_of self.now.layout) self.now.spans.spans self.now.zones.items r.0) }
+        ensures prepared { IfOk result (λ r. Prepares (zones_of self.now.layout)
+            self.now.spans.spans self.now.zones.items r.0) }
         ensures room { IfOk result (λ r. HasRoom (zones_of self.now.layout) r.1) }
     {
         let prepared = prepare(self.alloc, &self.layout, &self.spans, &self.zones)?;
@@ -96,7 +103,8 @@ impl OpenOff {
     fn prepare_part(&self) -> Result<(Prepared, Vec<Passed>), AllocError>
         requires spans { SpansFit (zones_of self.now.layout) self.now.spans.spans }
         requires known { length self.now.zones.items ≡ length (zones_of self.now.layout) }
-        ensures prepared { IfOk result (λ r. Prepares (zones_of self.now.layout) self.now.spans.spans self.now.zones.items r.0) }
+        ensures prepared { IfOk result (λ r. Prepares (zones_of self.now.layout)
+            self.now.spans.spans self.now.zones.items r.0) }
         ensures none { IfOk result (λ r. r.1.items ≡ []) }
         ensures room { IfOk result (λ r. length (zones_of self.now.layout) ≤ vec_capacity r.1) }
     {
@@ -149,7 +157,8 @@ impl Off {
     /// An image of the layout's `mem` bytes, of which nothing is known.
     pub fn fresh(alloc: Global, layout: Layout, image: Bytes) -> Result<Off, AllocError>
         requires { length image ≡ rounded (params_of layout).mem }
-        ensures { IfOk result (λ off. StandsOff (zones_of layout) (rounded (params_of layout).mem) off (fresh_state (zones_of layout) image)) }
+        ensures { IfOk result (λ off. StandsOff (zones_of layout) (rounded (params_of layout).mem) off
+            (fresh_state (zones_of layout) image)) }
     {
         let zones = unknown(alloc, layout.zones().len())?;
         Ok(Off {
@@ -174,7 +183,8 @@ impl Off {
 
     /// Exclusive-ors the byte at `at` with a mask. Takes no memory.
     pub fn flip(&mut self, at: u32, mask: u8) -> Result<(), Refusal>
-        ensures flipped { OnOk result ((layout : List AZone) (mem : ℕ) (s : OffState) → StandsOff layout mem self.old s → StandsOff layout mem self.new (flipped s at mask)) }
+        ensures flipped { OnOk result ((layout : List AZone) (mem : ℕ) (s : OffState)
+            → StandsOff layout mem self.old s → StandsOff layout mem self.new (flipped s at mask)) }
         ensures within { OnOk result (at < self.old.mem) }
         ensures refused { IfErr result (λ why. (why ≡ Refusal.OutOfImage) × (self.old.mem ≤ at)) }
         ensures unchanged { OnErr result (self.new ≡ self.old) }
@@ -220,10 +230,12 @@ impl Off {
         }
     }
 
-    /// Boots: each zone is read, its log saved and told against its told list, and its boot stores are made. All memory is
+    /// Boots: each zone is read, its log saved and told against its told list, and its boot stores are made. All
+    /// memory is
     /// taken before the first store; on a refusal the machine is as it was.
     pub fn boot(self) -> Result<(Live, Logs, Report), (Off, AllocError)>
-        ensures booted { IfOk result (λ r. (layout : List AZone) (mem : ℕ) (s : OffState) → StandsOff layout mem self s → Booted layout mem s r.0 (saved r.1) (map told_report r.2)) }
+        ensures booted { IfOk result (λ r. (layout : List AZone) (mem : ℕ) (s : OffState)
+            → StandsOff layout mem self s → Booted layout mem s r.0 (saved r.1) (map told_report r.2)) }
         ensures refused { IfErr result (λ e. e.0 ≡ self) }
     {
         let mut open = self.open()?;
@@ -242,10 +254,12 @@ impl Off {
     }
 
     /// Makes the first `limit` stores of a boot, or all, and tells how many. Zones in front of the last store made are
-    /// finished, and its own zone where that was its last; a zone within its erasure has that for its cut. All memory is
+    /// finished, and its own zone where that was its last; a zone within its erasure has that for its cut. All memory
+    /// is
     /// taken before the first store; on a refusal the machine is as it was.
     pub fn boot_part(self, limit: u64) -> Result<(Off, u64), (Off, AllocError)>
-        ensures parted { IfOk result (λ r. (layout : List AZone) (mem : ℕ) (s : OffState) → StandsOff layout mem self s → BootedInPart layout mem s limit r.0 r.1) }
+        ensures parted { IfOk result (λ r. (layout : List AZone) (mem : ℕ) (s : OffState)
+            → StandsOff layout mem self s → BootedInPart layout mem s limit r.0 r.1) }
         ensures refused { IfErr result (λ e. e.0 ≡ self) }
     {
         let mut open = self.open()?;

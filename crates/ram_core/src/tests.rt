@@ -1,4 +1,5 @@
-// Worked sessions: what a boot reports of cut and damaged zones, which calls are refused, and what a stopped boot leaves.
+// Worked sessions: what a boot reports of cut and damaged zones, which calls are refused, and what a stopped boot
+// leaves.
 ghost use Rattle.std.specs.Prelude.{◌<◌, ◌^◌, IfOk};
 ghost use Rattle.ram_core.specs.Asks.{CanBeAsked};
 
@@ -748,7 +749,8 @@ fn is_recorded(logs: &Logs, report: &Report) -> bool {
         && tells(report, 3, Verdict::AsTold)
 }
 
-// A boot whose memory is refused can be asked for again, with the same answer. Run with each allocation refused in turn.
+// A boot whose memory is refused can be asked for again, with the same answer. Run with each allocation refused in
+// turn.
 #[test]
 fn a_refused_boot_can_be_asked_for_again(rt: HostRuntime) -> Result<(), Fail> {
     let off = recorded(&rt, rt.alloc())?.stop();

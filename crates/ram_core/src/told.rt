@@ -78,7 +78,8 @@ impl Told {
     /// Of a line and then of a body the front that fits.
     fn become_dump(&mut self, line: &[u8], body: &[u8])
         requires { length line.now ≤ self.old.capacity }
-        ensures { self.new ≡ buffer (line.now ++ take (self.old.capacity - length line.now) body.now) self.old.capacity }
+        ensures { self.new ≡ buffer (line.now ++ take (self.old.capacity - length line.now) body.now)
+            self.old.capacity }
     {
         let room = self.ring.capacity() - line.len();
         self.clear();
@@ -89,7 +90,8 @@ impl Told {
     /// What the call means for the list. Takes no memory.
     pub(crate) fn tell(&mut self, call: &Call)
         requires { 36 ≤ self.old.capacity }
-        ensures { self.new ≡ buffer (told_after self.old.capacity (told_call call.now) self.old.items) self.old.capacity }
+        ensures { self.new ≡ buffer (told_after self.old.capacity (told_call call.now) self.old.items)
+            self.old.capacity }
     {
         match call {
             Call::Append(payload) => self.append(payload.as_slice()),

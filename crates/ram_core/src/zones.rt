@@ -60,7 +60,8 @@ pub(crate) fn start(zone: Zone, span: &Span, held: &mut HeldZone, call: Call)
     requires can { CanBegin zone span.now (told_call call) }
     ensures told { held.new.told ≡ held.old.told }
     ensures flies { (f : Flying) → held.new.flight ≡ Some f → f.call ≡ told_call call }
-    ensures begun { (live : LiveZone) → StandsForZone zone span.now held.old live → StandsForZone zone span.now held.new (begun zone (told_call call) live) }
+    ensures begun { (live : LiveZone) → StandsForZone zone span.now held.old live
+        → StandsForZone zone span.now held.new (begun zone (told_call call) live) }
 {
     let flight = Flight::begin(zone, span, call);
     if flight.left() > 0 {
@@ -77,7 +78,8 @@ pub enum Stored {
     Last(CallKind),
 }
 
-/// Makes the next store of the flight of a zone, whose bytes are span `i`. With the last one the flight is gone, and the
+/// Makes the next store of the flight of a zone, whose bytes are span `i`. With the last one the flight is gone, and
+/// the
 /// list is told what the call means.
 pub(crate) fn store_next(spans: &mut Spans, i: u32, held: &mut HeldZone) -> Option<Stored>
     requires has { i < length spans.old.spans }
@@ -90,7 +92,8 @@ pub(crate) fn store_next(spans: &mut Spans, i: u32, held: &mut HeldZone) -> Opti
     ensures capacity { held.new.told.capacity ≡ held.old.told.capacity }
     ensures others { spans.new ≡ with_span spans.old i (span spans.new i) }
     ensures len { length (span spans.new i) ≡ length (span spans.old i) }
-    ensures stored { (zone : Zone) (live : LiveZone) → held.old.told.capacity ≡ zone.cap → StandsForZone zone (span spans.old i) held.old live
+    ensures stored { (zone : Zone) (live : LiveZone) → held.old.told.capacity ≡ zone.cap
+        → StandsForZone zone (span spans.old i) held.old live
         → StandsForZone zone (span spans.new i) held.new (stepped zone 1 live) }
     ensures last { (zone : Zone) (live : LiveZone) → StandsForZone zone (span spans.old i) held.old live
         → (flies_dump live.flight && not (is_some (stepped zone 1 live).flight)) ≡ is_last_of_dump result }

@@ -14,15 +14,23 @@ use Rattle.std.specs.Prelude.{slice_range}
 use Rattle.zone_spec.specs.Parts.{AreBytes}
 use Rattle.ram_region.specs.Chain.{piece_bytes, all_bytes, all_len, SamePlace, Chain, Laid}
 
-pub chain-set : (p q : Ptr) (ss : List Piece) (i : ℕ) (s s' : Piece) → i < length ss → s ≡ get_or ss i s → SamePlace s s' → Chain p ss q → Chain p (set ss i s') q
+pub chain-set : (p q : Ptr) (ss : List Piece) (i : ℕ) (s s' : Piece) → i < length ss → s ≡ get_or ss i s
+    → SamePlace s s' → Chain p ss q → Chain p (set ss i s') q
 chain-set p q [] i s s' lt e same c = absurd (omega arith)
-chain-set p q (x ∷ xs) zero s s' lt e same c =
-    (same.at ∙ ap (λ (t : Piece). slots_ptr t.slots) e ∙ c.0, subst (λ (n : ℕ). Chain (p +ₚ n) xs q) (sym (same.long ∙ ap (λ (t : Piece). slots_len t.slots) e)) c.1)
-chain-set p q (x ∷ xs) (suc i) s s' lt e same c = (c.0, chain-set (p +ₚ slots_len x.slots) q xs i s s' (omega arith) e same c.1)
+chain-set p q (x ∷ xs) zero s s' lt e same c = (
+  same.at ∙ ap (λ (t : Piece). slots_ptr t.slots) e ∙ c.0,
+  subst (λ (n : ℕ). Chain (p +ₚ n) xs q) (sym (same.long ∙ ap (λ (t : Piece). slots_len t.slots) e)) c.1,
+)
+chain-set p q (x ∷ xs) (suc i) s s' lt e same c = (
+  c.0,
+  chain-set (p +ₚ slots_len x.slots) q xs i s s' (omega arith) e same c.1,
+)
 
-pub len-set : (ss : List Piece) (i : ℕ) (s s' : Piece) → i < length ss → s ≡ get_or ss i s → SamePlace s s' → all_len (set ss i s') ≡ all_len ss
+pub len-set : (ss : List Piece) (i : ℕ) (s s' : Piece) → i < length ss → s ≡ get_or ss i s → SamePlace s s'
+    → all_len (set ss i s') ≡ all_len ss
 len-set [] i s s' lt e same = absurd (omega arith)
-len-set (x ∷ xs) zero s s' lt e same = ap (λ (n : ℕ). n + all_len xs) (same.long ∙ ap (λ (t : Piece). slots_len t.slots) e)
+len-set (x ∷ xs) zero s s' lt e same = ap (λ (n : ℕ). n + all_len xs)
+    (same.long ∙ ap (λ (t : Piece). slots_len t.slots) e)
 len-set (x ∷ xs) (suc i) s s' lt e same = ap (λ (n : ℕ). slots_len x.slots + n) (len-set xs i s s' (omega arith) e same)
 
 pub bytes-set : (ss : List Piece) (i : ℕ) (s' : Piece) → all_bytes (set ss i s') ≡ set (all_bytes ss) i (piece_bytes s')
@@ -30,7 +38,8 @@ bytes-set [] i s' = refl
 bytes-set (x ∷ xs) zero s' = refl
 bytes-set (x ∷ xs) (suc i) s' = ap (λ (l : List (List ℕ)). piece_bytes x ∷ l) (bytes-set xs i s')
 
-pub bytes-at : (ss : List Piece) (i : ℕ) (s : Piece) → i < length ss → s ≡ get_or ss i s → get_or (all_bytes ss) i [] ≡ piece_bytes s
+pub bytes-at : (ss : List Piece) (i : ℕ) (s : Piece) → i < length ss → s ≡ get_or ss i s
+    → get_or (all_bytes ss) i [] ≡ piece_bytes s
 bytes-at [] i s lt e = absurd (omega arith)
 bytes-at (x ∷ xs) zero s lt e = ap piece_bytes (sym e)
 bytes-at (x ∷ xs) (suc i) s lt e = bytes-at xs i s (omega arith) e
@@ -47,7 +56,8 @@ pub len-append : (ss : List Piece) (s : Piece) → all_len (ss ++ s ∷ []) ≡ 
 len-append [] s = omega arith
 len-append (x ∷ xs) s = let e = len-append xs s in omega (arith, e)
 
-pub chain-append : (p q : Ptr) (ss : List Piece) (s : Piece) → Chain p ss q → slots_ptr s.slots ≡ q → Chain p (ss ++ s ∷ []) (q +ₚ slots_len s.slots)
+pub chain-append : (p q : Ptr) (ss : List Piece) (s : Piece) → Chain p ss q → slots_ptr s.slots ≡ q
+    → Chain p (ss ++ s ∷ []) (q +ₚ slots_len s.slots)
 chain-append p q [] s c e = (e ∙ sym c, ap (λ (r : Ptr). r +ₚ slots_len s.slots) c)
 chain-append p q (x ∷ xs) s c e = (c.0, chain-append (p +ₚ slots_len x.slots) q xs s c.1 e)
 
@@ -55,23 +65,29 @@ pub chain-front : (p q : Ptr) (ss : List Piece) (s : Piece) → Chain p (ss ++ s
 chain-front p q [] s c = sym c.0
 chain-front p q (x ∷ xs) s c = (c.0, chain-front (p +ₚ slots_len x.slots) q xs s c.1)
 
-pub chain-last : (p q : Ptr) (ss : List Piece) (s : Piece) → Chain p (ss ++ s ∷ []) q → q ≡ slots_ptr s.slots +ₚ slots_len s.slots
+pub chain-last : (p q : Ptr) (ss : List Piece) (s : Piece) → Chain p (ss ++ s ∷ []) q
+    → q ≡ slots_ptr s.slots +ₚ slots_len s.slots
 chain-last p q [] s c = sym c.1 ∙ ap (λ (r : Ptr). r +ₚ slots_len s.slots) (sym c.0)
 chain-last p q (x ∷ xs) s c = chain-last (p +ₚ slots_len x.slots) q xs s c.1
 
 pub concat-more : (xss : List (List ℕ)) (ys zs : List ℕ) → concat (xss ++ ys ∷ []) ++ zs ≡ concat xss ++ (ys ++ zs)
 concat-more [] ys zs = ap (λ (l : List ℕ). l ++ zs) (append-nil ys)
-concat-more (x ∷ xs) ys zs = append_assoc x (concat (xs ++ ys ∷ [])) zs ∙ ap (λ (l : List ℕ). x ++ l) (concat-more xs ys zs) ∙ sym (append_assoc x (concat xs) (ys ++ zs))
+concat-more (x ∷ xs) ys zs = append_assoc x (concat (xs ++ ys ∷ [])) zs
+    ∙ ap (λ (l : List ℕ). x ++ l) (concat-more xs ys zs) ∙ sym (append_assoc x (concat xs) (ys ++ zs))
 
 -- the rest gives its first k places to a new span
-pub laid-more : (p : Ptr) (n k : ℕ) (ss ss' : List Piece) (rest rest' : Slots ℕ) (s : Piece) → Laid p n ss rest → ss' ≡ ss ++ s ∷ [] → slots_ptr s.slots ≡ slots_ptr rest → slots_len s.slots ≡ k → k ≤ slots_len rest
-    → slots_ptr rest' ≡ slots_ptr rest +ₚ (k * 1) → slots_len rest' ≡ slots_len rest - k → IsFull rest' → Laid p n ss' rest'
+pub laid-more : (p : Ptr) (n k : ℕ) (ss ss' : List Piece) (rest rest' : Slots ℕ) (s : Piece) → Laid p n ss rest
+    → ss' ≡ ss ++ s ∷ [] → slots_ptr s.slots ≡ slots_ptr rest → slots_len s.slots ≡ k → k ≤ slots_len rest
+    → slots_ptr rest' ≡ slots_ptr rest +ₚ (k * 1) → slots_len rest' ≡ slots_len rest - k → IsFull rest'
+    → Laid p n ss' rest'
 laid-more p n k ss ss' rest rest' s laid items at long le at' long' full' =
     let one : k * 1 ≡ slots_len s.slots = omega arith in
     let more = ap all_len items ∙ len-append ss s in
     let old = laid.long in
     record {
-      chain = subst (λ (ts : List Piece). Chain p ts (slots_ptr rest')) (sym items) (subst (λ (q : Ptr). Chain p (ss ++ s ∷ []) q) (sym (at' ∙ ap (λ (m : ℕ). slots_ptr rest +ₚ m) one)) (chain-append p (slots_ptr rest) ss s laid.chain at));
+      chain = subst (λ (ts : List Piece). Chain p ts (slots_ptr rest')) (sym items)
+          (subst (λ (q : Ptr). Chain p (ss ++ s ∷ []) q) (sym (at' ∙ ap (λ (m : ℕ). slots_ptr rest +ₚ m) one))
+          (chain-append p (slots_ptr rest) ss s laid.chain at));
       full = full';
       long = omega (arith, more, old);
     }

@@ -10,7 +10,10 @@ pub record CutRegion : Type 0 where
 
 -- each zone's own bytes, and those behind the last zone
 abbrev pub cut_at : List Zone → List ℕ → CutRegion
-cut_at zones bytes = record { spans = map (λ (z : Zone). slice_range bytes z.at (z.at + z.size)) zones; rest = drop (zones_end zones) bytes }
+cut_at zones bytes = record {
+  spans = map (λ (z : Zone). slice_range bytes z.at (z.at + z.size)) zones;
+  rest = drop (zones_end zones) bytes;
+}
 
 -- the i-th span
 abbrev pub span : CutRegion → ℕ → List ℕ

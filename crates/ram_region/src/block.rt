@@ -40,7 +40,8 @@ pub(crate) fn open<T, A: Allocator>(
     len: usize,
 ) -> (Slots<T>, Shell<T, A>)
     requires { (ptr ≡ vec_ptr vec) × (len ≡ vec_len vec) }
-    ensures row { (slots_items result.0 ≡ vec.items) × IsFull result.0 × (slots_ptr result.0 ≡ vec_ptr vec) × (slots_len result.0 ≡ vec_len vec) }
+    ensures row { (slots_items result.0 ≡ vec.items) × IsFull result.0 × (slots_ptr result.0 ≡ vec_ptr vec)
+        × (slots_len result.0 ≡ vec_len vec) }
     ensures shell { result.1 ≡ vec }
 {
     let shell = Shell { vec };
@@ -60,8 +61,11 @@ pub(crate) fn close<T, A: Allocator>(row: Slots<T>, shell: Shell<T, A>) -> Vec<T
 /// Cuts a row in two, behind its first `count` places.
 pub(crate) fn split<T>(row: Slots<T>, count: usize) -> (Slots<T>, Slots<T>)
     requires { (count ≤ slots_len row) × IsFull row }
-    ensures low { (slots_items result.0 ≡ take count (slots_items row)) × IsFull result.0 × (slots_ptr result.0 ≡ slots_ptr row) × (slots_len result.0 ≡ count) }
-    ensures high { (slots_items result.1 ≡ drop count (slots_items row)) × IsFull result.1 × (slots_ptr result.1 ≡ slots_ptr row +ₚ (count * bytes_of T.row)) × (slots_len result.1 ≡ slots_len row - count) }
+    ensures low { (slots_items result.0 ≡ take count (slots_items row)) × IsFull result.0
+        × (slots_ptr result.0 ≡ slots_ptr row) × (slots_len result.0 ≡ count) }
+    ensures high { (slots_items result.1 ≡ drop count (slots_items row)) × IsFull result.1
+        × (slots_ptr result.1 ≡ slots_ptr row +ₚ (count * bytes_of T.row))
+        × (slots_len result.1 ≡ slots_len row - count) }
 {
     unsafe {
         let (ptr, len) = row.into_raw_parts();
@@ -73,8 +77,10 @@ pub(crate) fn split<T>(row: Slots<T>, count: usize) -> (Slots<T>, Slots<T>)
 
 /// Makes one row of two, of which the second begins where the first ends.
 pub(crate) fn glue<T>(low: Slots<T>, high: Slots<T>) -> Slots<T>
-    requires { (slots_ptr high ≡ slots_ptr low +ₚ (slots_len low * bytes_of T.row)) × IsFull low × IsFull high × ((slots_len low + slots_len high) * bytes_of T.row < 2 ^ 63) × (slots_len low + slots_len high < 2 ^ 64) }
-    ensures { (slots_items result ≡ slots_items low ++ slots_items high) × IsFull result × (slots_ptr result ≡ slots_ptr low) × (slots_len result ≡ slots_len low + slots_len high) }
+    requires { (slots_ptr high ≡ slots_ptr low +ₚ (slots_len low * bytes_of T.row)) × IsFull low × IsFull high
+        × ((slots_len low + slots_len high) * bytes_of T.row < 2 ^ 63) × (slots_len low + slots_len high < 2 ^ 64) }
+    ensures { (slots_items result ≡ slots_items low ++ slots_items high) × IsFull result
+        × (slots_ptr result ≡ slots_ptr low) × (slots_len result ≡ slots_len low + slots_len high) }
 {
     unsafe {
         let (ptr, count) = low.into_raw_parts();
@@ -86,7 +92,8 @@ pub(crate) fn glue<T>(low: Slots<T>, high: Slots<T>) -> Slots<T>
 /// A row with the place at which it begins.
 pub(crate) fn based<T>(row: Slots<T>) -> (Slots<T>, *mut T)
     requires { IsFull row }
-    ensures row { (slots_items result.0 ≡ slots_items row) × IsFull result.0 × (slots_ptr result.0 ≡ slots_ptr row) × (slots_len result.0 ≡ slots_len row) }
+    ensures row { (slots_items result.0 ≡ slots_items row) × IsFull result.0 × (slots_ptr result.0 ≡ slots_ptr row)
+        × (slots_len result.0 ≡ slots_len row) }
     ensures base { result.1 ≡ slots_ptr row }
 {
     unsafe {

@@ -158,7 +158,8 @@ impl Region {
         self.bytes
     }
 
-    /// Cuts the region, which has the layout's `mem` bytes, into a span for each zone. On a refusal the unchanged region
+    /// Cuts the region, which has the layout's `mem` bytes, into a span for each zone. On a refusal the unchanged
+    /// region
     /// comes back. The list of spans is the only memory taken.
     pub fn cut(self, layout: &Layout) -> Result<Spans, (Region, AllocError)>
         requires { length self ≡ rounded (params_of layout.now).mem }

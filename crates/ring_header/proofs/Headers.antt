@@ -6,13 +6,16 @@ use Rattle.std.specs.List.{range_with_len}
 use Rattle.std.proofs.lemmas.List.{drop-take, take-take}
 
 -- a piece of the front is that piece of the whole
-pub slice_range-front : (xs : List ℕ) (at n m : ℕ) → at + n ≤ m → slice_range (take m xs) at (at + n) ≡ slice_range xs at (at + n)
+pub slice_range-front : (xs : List ℕ) (at n m : ℕ) → at + n ≤ m
+    → slice_range (take m xs) at (at + n) ≡ slice_range xs at (at + n)
 slice_range-front xs at n m le =
     let whole : m ≡ at + (m - at) = omega arith in
-    ap (λ (k : ℕ). take (at + n - at) (drop at (take k xs))) whole ∙ ap (λ (ys : List ℕ). take (at + n - at) ys) (drop-take at (m - at) xs)
+    ap (λ (k : ℕ). take (at + n - at) (drop at (take k xs))) whole
+    ∙ ap (λ (ys : List ℕ). take (at + n - at) ys) (drop-take at (m - at) xs)
     ∙ take-take (at + n - at) (m - at) (drop at xs) (omega arith)
 
-pub word_of : (xs : List ℕ) (at : ℕ) → at + 4 ≤ 12 → from_le_bytes w32 (slice_range xs at (at + 4)) ≡ from_le_bytes w32 (slice_range (slice_range xs 0 12) at (at + 4))
+pub word_of : (xs : List ℕ) (at : ℕ) → at + 4 ≤ 12 → from_le_bytes w32 (slice_range xs at (at + 4))
+    ≡ from_le_bytes w32 (slice_range (slice_range xs 0 12) at (at + 4))
 word_of xs at le = ap (λ (bs : List ℕ). from_le_bytes w32 bs) (sym (slice_range-front xs at 4 12 le))
 
 -- the first of some places

@@ -17,14 +17,16 @@ unfoldable pub all_stages : Zone → List Stage → List ℕ → List ℕ
 all_stages z [] image = image
 all_stages z (g ∷ gs) image = all_stages z gs (stage_image z g image)
 
-pub after_stores-stores_in_turn : (z : Zone) (gs : List Stage) (image : List ℕ) → after_stores image (stores_in_turn z gs image) ≡ all_stages z gs image
+pub after_stores-stores_in_turn : (z : Zone) (gs : List Stage) (image : List ℕ)
+    → after_stores image (stores_in_turn z gs image) ≡ all_stages z gs image
 unfolding stores_in_turn after_stores all_stages
 after_stores-stores_in_turn z [] image = refl
 after_stores-stores_in_turn z (g ∷ gs) image =
     after_stores-append image (stage_stores z g image) (stores_in_turn z gs (stage_image z g image))
     ∙ after_stores-stores_in_turn z gs (stage_image z g image)
 
-pub all_stages-append : (z : Zone) (gs hs : List Stage) (image : List ℕ) → all_stages z (gs ++ hs) image ≡ all_stages z hs (all_stages z gs image)
+pub all_stages-append : (z : Zone) (gs hs : List Stage) (image : List ℕ)
+    → all_stages z (gs ++ hs) image ≡ all_stages z hs (all_stages z gs image)
 unfolding all_stages
 all_stages-append z [] hs image = refl
 all_stages-append z (g ∷ gs) hs image = all_stages-append z gs hs (stage_image z g image)
@@ -32,13 +34,15 @@ all_stages-append z (g ∷ gs) hs image = all_stages-append z gs hs (stage_image
 pub length-all_stages : (z : Zone) (gs : List Stage) (image : List ℕ) → length (all_stages z gs image) ≡ length image
 unfolding all_stages
 length-all_stages z [] image = refl
-length-all_stages z (g ∷ gs) image = length-all_stages z gs (stage_image z g image) ∙ length-after_stores image (stage_stores z g image)
+length-all_stages z (g ∷ gs) image = length-all_stages z gs (stage_image z g image)
+    ∙ length-after_stores image (stage_stores z g image)
 
 -- the header's words put by an append
 abbrev pub size_put : Bool → ℕ → List ℕ → List ℕ
 size_put full size image = cond full image (put image 8 (to_le_bytes w32 size))
 
-pub all_stages-size : (z : Zone) (full : Bool) (size : ℕ) (image : List ℕ) → all_stages z (cond full [] (SizeWord size ∷ [])) image ≡ size_put full size image
+pub all_stages-size : (z : Zone) (full : Bool) (size : ℕ) (image : List ℕ)
+    → all_stages z (cond full [] (SizeWord size ∷ [])) image ≡ size_put full size image
 unfolding all_stages stage_stores after_stores
 all_stages-size z true size image = refl
 all_stages-size z false size image = refl
@@ -46,7 +50,8 @@ all_stages-size z false size image = refl
 -- the image after an append of these bytes
 abbrev pub appended : Zone → ℕ → ℕ → List ℕ → List ℕ → List ℕ
 appended z start size q image =
-    put (put (put (size_put (size == z.cap) (min z.cap (size + length q)) image) 4 (to_le_bytes w32 ((start + length q) % z.cap)))
+    put (put (put (size_put (size == z.cap) (min z.cap (size + length q)) image) 4
+    (to_le_bytes w32 ((start + length q) % z.cap)))
     (12 + start) (take (z.cap - start) q)) (12 + 0) (drop (z.cap - start) q)
 
 pub start_last : (z : Zone) (x : List ℕ) (n : ℕ) → all_stages z (StartWord n ∷ []) x ≡ put x 4 (to_le_bytes w32 n)
@@ -55,7 +60,8 @@ start_last z x n = refl
 
 -- ---- the words
 
-pub from_le_bytes-same : (xs ys : List ℕ) → ((i : ℕ) → i < 4 → get_or xs i 0 ≡ get_or ys i 0) → from_le_bytes w32 xs ≡ from_le_bytes w32 ys
+pub from_le_bytes-same : (xs ys : List ℕ) → ((i : ℕ) → i < 4 → get_or xs i 0 ≡ get_or ys i 0)
+    → from_le_bytes w32 xs ≡ from_le_bytes w32 ys
 from_le_bytes-same xs ys h =
     let e0 : get_or xs 0 0 ≡ get_or ys 0 0 = h 0 (omega arith) in
     let e1 : get_or xs 1 0 ≡ get_or ys 1 0 = h 1 (omega arith) in
@@ -64,7 +70,8 @@ from_le_bytes-same xs ys h =
     cc
 
 -- a byte of the header's word at this place
-get_or-word : (image : List ℕ) (at i : ℕ) → at + 4 ≤ 12 → i < 4 → get_or (slice_range (slice_range image 0 12) at (at + 4)) i 0 ≡ get_or image (at + i) 0
+get_or-word : (image : List ℕ) (at i : ℕ) → at + 4 ≤ 12 → i < 4
+    → get_or (slice_range (slice_range image 0 12) at (at + 4)) i 0 ≡ get_or image (at + i) 0
 get_or-word image at i h k =
     get_or-take ((at + 4) - at) (drop at (take 12 (drop 0 image))) i 0 (omega arith)
     ∙ get_or-drop at (take 12 (drop 0 image)) i 0
@@ -72,11 +79,16 @@ get_or-word image at i h k =
     ∙ get_or-drop 0 image (at + i) 0
     ∙ ap (λ j. get_or image j 0) (let e : 0 + (at + i) ≡ at + i = omega arith in e)
 
-pub word_of-stored : (image : List ℕ) (at n : ℕ) → at + 4 ≤ 12 → n < 2 ^ 32 → ((i : ℕ) → i < 4 → get_or image (at + i) 0 ≡ get_or (to_le_bytes w32 n) i 0) → from_le_bytes w32 (slice_range (slice_range image 0 12) at (at + 4)) ≡ n
+pub word_of-stored : (image : List ℕ) (at n : ℕ) → at + 4 ≤ 12 → n < 2 ^ 32
+    → ((i : ℕ) → i < 4 → get_or image (at + i) 0 ≡ get_or (to_le_bytes w32 n) i 0)
+    → from_le_bytes w32 (slice_range (slice_range image 0 12) at (at + 4)) ≡ n
 word_of-stored image at n h l same =
     from_le_bytes-same _ (to_le_bytes w32 n) (λ i k. get_or-word image at i h k ∙ same i k)
     ∙ from_le_bytes-to_le_bytes_4 n l
 
-pub word_of-same : (image image' : List ℕ) (at : ℕ) → at + 4 ≤ 12 → ((i : ℕ) → i < 4 → get_or image (at + i) 0 ≡ get_or image' (at + i) 0) → from_le_bytes w32 (slice_range (slice_range image 0 12) at (at + 4)) ≡ from_le_bytes w32 (slice_range (slice_range image' 0 12) at (at + 4))
+pub word_of-same : (image image' : List ℕ) (at : ℕ) → at + 4 ≤ 12
+    → ((i : ℕ) → i < 4 → get_or image (at + i) 0 ≡ get_or image' (at + i) 0)
+    → from_le_bytes w32 (slice_range (slice_range image 0 12) at (at + 4))
+    ≡ from_le_bytes w32 (slice_range (slice_range image' 0 12) at (at + 4))
 word_of-same image image' at h same =
     from_le_bytes-same _ _ (λ i k. get_or-word image at i h k ∙ same i k ∙ sym (get_or-word image' at i h k))

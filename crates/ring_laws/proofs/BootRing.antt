@@ -35,21 +35,25 @@ never : (b : Bool) → (b && false) ≡ true → ⊥
 never true e = true≢false (sym e)
 never false e = true≢false (sym e)
 
-ftrace_open : (s n cap : ℕ) → s ≤ n → n ≤ cap → ((s == n || n == cap) && not (s == cap)) ≡ true → (s < cap) × (n < cap → s ≡ n)
+ftrace_open : (s n cap : ℕ) → s ≤ n → n ≤ cap → ((s == n || n == cap) && not (s == cap)) ≡ true
+    → (s < cap) × (n < cap → s ≡ n)
 ftrace_open s n cap h k e = elim (cases_eq s cap) [
-  | inl a ↦ (let f : (s == cap) ≡ true = eq-eqb s cap a in let g : ((s == n || n == cap) && false) ≡ true = (rw f at e) in absurd (never _ g))
+  | inl a ↦ (let f : (s == cap) ≡ true = eq-eqb s cap a in
+      let g : ((s == n || n == cap) && false) ≡ true = (rw f at e) in absurd (never _ g))
   | inr b ↦ (
     omega arith,
     λ l. elim (cases_eq s n) [
       | inl c ↦ c
-      | inr d ↦ (let f : (s == n) ≡ false = grind (arith, nat_tests) in let g : (n == cap) ≡ false = grind (arith, nat_tests) in
+      | inr d ↦ (let f : (s == n) ≡ false = grind (arith, nat_tests) in
+          let g : (n == cap) ≡ false = grind (arith, nat_tests) in
           let m : (false && not (s == cap)) ≡ true = (rw (f, g) at e) in absurd (true≢false (sym m)))
     ],
   )
 ]
 
 -- a zone that is kept is one that can be appended to
-kept_open : (z : Zone) (r : ZoneReading) (kind : Kind) → r.words.start ≤ r.words.size → r.words.size ≤ z.cap → is_kept z r kind ≡ true → IsOpenUnlessDump kind r.words z.cap
+kept_open : (z : Zone) (r : ZoneReading) (kind : Kind) → r.words.start ≤ r.words.size → r.words.size ≤ z.cap
+    → is_kept z r kind ≡ true → IsOpenUnlessDump kind r.words z.cap
 kept_open z r Dump h k e = tt
 kept_open z r Console h k e = absurd (true≢false (sym e))
 kept_open z r Pmsg h k e = absurd (true≢false (sym e))
@@ -59,7 +63,8 @@ no_stage : (z : Zone) (image : List ℕ) → all_stages z [] image ≡ image
 unfolding all_stages
 no_stage z image = refl
 
-sig_stage : (z : Zone) (image : List ℕ) → all_stages z (SigWord z.sig ∷ erase_stages) image ≡ all_stages z erase_stages (put image 0 (to_le_bytes w32 z.sig))
+sig_stage : (z : Zone) (image : List ℕ) → all_stages z (SigWord z.sig ∷ erase_stages) image
+    ≡ all_stages z erase_stages (put image 0 (to_le_bytes w32 z.sig))
 unfolding all_stages stage_stores after_stores
 sig_stage z image = refl
 
@@ -92,21 +97,26 @@ module _ (z : Zone) (valid : IsValidZone z) (image : List ℕ) (im : IsImage z i
   x_reads part = (booted_mended z valid image im part).reading
 
   signed_stage : (standing_words (put x 0 (to_le_bytes w32 z.sig))).sig ≡ z.sig
-  signed_stage = word_of-stored (put x 0 (to_le_bytes w32 z.sig)) 0 z.sig (omega arith) valid.word (λ i k. put-inside x 0 i (to_le_bytes w32 z.sig) (omega (arith, valid.at_least, x_image.0)) k)
+  signed_stage = word_of-stored (put x 0 (to_le_bytes w32 z.sig)) 0 z.sig (omega arith) valid.word
+      (λ i k. put-inside x 0 i (to_le_bytes w32 z.sig) (omega (arith, valid.at_least, x_image.0)) k)
 
   sig_known : (standing_words x).sig ≡ z.sig → IsRingForm z (all_stages z erase_stages x) []
   sig_known e = erase_law z valid x x_image.0 x_image.1 e
 
   -- by the state that was read
-  boot_by : (s : State) → Says z (words_read z image) s → ((part : Part) → IsRead z (reading_in z image (words_read z image) s) s part → ReadsAsStands z x part)
-      → IsRingForm z (all_stages z (erasure_by z (reading_in z image (words_read z image) s)) x) (told_by z (reading_in z image (words_read z image) s))
+  boot_by : (s : State) → Says z (words_read z image) s
+      → ((part : Part) → IsRead z (reading_in z image (words_read z image) s) s part → ReadsAsStands z x part)
+      → IsRingForm z (all_stages z (erasure_by z (reading_in z image (words_read z image) s)) x)
+      (told_by z (reading_in z image (words_read z image) s))
   unfolding erasure_by told_by
   boot_by Unsigned says parts =
       subst (λ y. IsRingForm z y []) (sym (sig_stage z x))
-      (erase_law z valid (put x 0 (to_le_bytes w32 z.sig)) (length-put x 0 (to_le_bytes w32 z.sig) ∙ x_image.0) (put-bytes x 0 _ x_image.1 (word-bytes z.sig)) signed_stage)
+      (erase_law z valid (put x 0 (to_le_bytes w32 z.sig)) (length-put x 0 (to_le_bytes w32 z.sig) ∙ x_image.0)
+      (put-bytes x 0 _ x_image.1 (word-bytes z.sig)) signed_stage)
   boot_by Empty says parts =
       subst (λ y. IsRingForm z y []) (sym (no_stage z x))
-      (ring_none z x (omega (arith, valid.room)) (ap (λ w. w.sig) x_words ∙ says.0) (ap (λ w. w.start) x_words ∙ says.2) (ap (λ w. w.size) x_words ∙ says.1) x_header)
+      (ring_none z x (omega (arith, valid.room)) (ap (λ w. w.sig) x_words ∙ says.0)
+      (ap (λ w. w.start) x_words ∙ says.2) (ap (λ w. w.size) x_words ∙ says.1) x_header)
   boot_by Invalid says parts = sig_known (ap (λ w. w.sig) x_words ∙ says)
   boot_by Found says parts = by (is_kept z r z.name.kind) refl
     where
@@ -116,25 +126,32 @@ module _ (z : Zone) (valid : IsValidZone z) (image : List ℕ) (im : IsImage z i
       r : ZoneReading
       r = reading_in z image (words_read z image) Found
 
-      by : (b : Bool) → is_kept z r z.name.kind ≡ b → IsRingForm z (all_stages z (cond b [] erase_stages) x) (cond b (log_read z image w) [])
+      by : (b : Bool) → is_kept z r z.name.kind ≡ b → IsRingForm z (all_stages z (cond b [] erase_stages) x)
+          (cond b (log_read z image w) [])
       by false e = sig_known (ap (λ w. w.sig) x_words ∙ says.0)
       by true e = subst (λ y. IsRingForm z y (log_read z image w)) (sym (no_stage z x)) (record {
         ring = subst (λ v. IsRing v z.cap) (sym x_words) (says.2, says.1);
         signed = ap (λ w. w.sig) x_words ∙ says.0;
-        told_length = ap (λ w. w.size) x_words ∙ sym (length-map (log_places w.start w.size) (λ place. byte_read z image place) ∙ length-log_places w.start w.size says.2);
+        told_length = ap (λ w. w.size) x_words ∙ sym (length-map (log_places w.start w.size)
+            (λ place. byte_read z image place) ∙ length-log_places w.start w.size says.2);
         bytes = ap (λ v. map (λ p. get_or x (12 + p) 0) (log_places v.start v.size)) x_words
             ∙ log_same _ _ w.start w.size says.2 (λ p h.
-            sym (byte_read-stands z x p (block_some z valid) (omega (arith, says.1)) (parts (Block (p / z.block)) (let m : z.block * (p / z.block) ≤ p = omega (arith, block_some z valid) in omega arith)))
+            sym (byte_read-stands z x p (block_some z valid) (omega (arith, says.1))
+            (parts (Block (p / z.block)) (let m : z.block * (p / z.block)
+            ≤ p = omega (arith, block_some z valid) in omega arith)))
             ∙ ap (λ xs. get_or xs (p % z.block) 0) (x_reads (Block (p / z.block))));
-        is_open = subst (λ v. IsOpenUnlessDump z.name.kind v z.cap) (sym x_words) (kept_open z r z.name.kind says.2 says.1 e);
+        is_open = subst (λ v. IsOpenUnlessDump z.name.kind v z.cap) (sym x_words)
+            (kept_open z r z.name.kind says.2 says.1 e);
         header = x_header;
-        blocks = λ b h. parts (Block b) (let n : (standing_words x).size ≡ w.size = ap (λ w. w.size) x_words in omega (arith, n));
+        blocks = λ b h. parts (Block b) (let n : (standing_words x).size ≡ w.size = ap (λ w. w.size) x_words in
+            omega (arith, n));
       })
 
   after_boot : after_stores image (boot_stores z image) ≡ all_stages z (erasure_by z (zone_reading z image)) x
   unfolding boot_stores boot_erasure x booted_bytes erasure_by
   after_boot =
-      after_stores-append image (boot_fixes z image) (stores_in_turn z (boot_erasure z image) (after_stores image (boot_fixes z image)))
+      after_stores-append image (boot_fixes z image) (stores_in_turn z (boot_erasure z image)
+      (after_stores image (boot_fixes z image)))
       ∙ after_stores-stores_in_turn z (boot_erasure z image) (after_stores image (boot_fixes z image))
 
   -- each zone is in ring form for what the boot kept
@@ -146,10 +163,12 @@ module _ (z : Zone) (valid : IsValidZone z) (image : List ℕ) (im : IsImage z i
       (boot_by (state_of z (words_read z image)) (state_says z (words_read z image))
       (λ part h. read_stands z valid image im part (moved part h))))
     where
-      moved : (part : Part) → IsRead z (reading_in z image (words_read z image) (state_of z (words_read z image))) (state_of z (words_read z image)) part → IsRead z (zone_reading z image) (zone_reading z image).state part
+      moved : (part : Part) → IsRead z (reading_in z image (words_read z image) (state_of z (words_read z image)))
+          (state_of z (words_read z image)) part → IsRead z (zone_reading z image) (zone_reading z image).state part
       moved part h =
           subst (λ r. IsRead z r r.state part) (sym (reading_is z image))
-          (subst (λ s. IsRead z (reading_in z image (words_read z image) (state_of z (words_read z image))) s part) (sym (state_in_reading z image (words_read z image) (state_of z (words_read z image)))) h)
+          (subst (λ s. IsRead z (reading_in z image (words_read z image) (state_of z (words_read z image))) s part)
+          (sym (state_in_reading z image (words_read z image) (state_of z (words_read z image)))) h)
 
   erasure-all : (r : ZoneReading) → AllByRecursion HasBytes (erasure_by z r)
   unfolding erasure_by
@@ -165,8 +184,10 @@ module _ (z : Zone) (valid : IsValidZone z) (image : List ℕ) (im : IsImage z i
   pub boot_stores-all : AllByRecursion IsStore (boot_stores z image)
   unfolding boot_stores boot_erasure x booted_bytes erasure_by
   boot_stores-all =
-      all-append IsStore (boot_fixes z image) _ (fixes-stores z valid image im (boot_fixes z image) (boot_fixes-all z valid image im))
-      (stores_in_turn-all z valid (boot_erasure z image) (after_stores image (boot_fixes z image)) x_image.1 (erasure-all (zone_reading z image)))
+      all-append IsStore (boot_fixes z image) _ (fixes-stores z valid image im (boot_fixes z image)
+      (boot_fixes-all z valid image im))
+      (stores_in_turn-all z valid (boot_erasure z image) (after_stores image (boot_fixes z image)) x_image.1
+      (erasure-all (zone_reading z image)))
 
   -- the image after any of its stores
   pub boot_image : (k : ℕ) → IsImage z (after_stores image (take k (boot_stores z image)))
@@ -176,4 +197,8 @@ module _ (z : Zone) (valid : IsValidZone z) (image : List ℕ) (im : IsImage z i
   )
 
   pub boot_image_all : IsImage z (after_stores image (boot_stores z image))
-  boot_image_all = (length-after_stores image (boot_stores z image) ∙ im.0, after-bytes image (boot_stores z image) im.1 boot_stores-all)
+  boot_image_all = (
+    length-after_stores image (boot_stores z image)
+        ∙ im.0,
+    after-bytes image (boot_stores z image) im.1 boot_stores-all,
+  )

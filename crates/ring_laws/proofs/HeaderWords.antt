@@ -11,30 +11,40 @@ use Rattle.ring_laws.proofs.Fixes.{slice_byte, slice_length, word_left}
 
 pub words_eq : (v w : Words) → v.sig ≡ w.sig → v.start ≡ w.start → v.size ≡ w.size → v ≡ w
 words_eq v w a b c =
-    (let e : v ≡ record { sig = w.sig; start = v.start; size = v.size } = ap (λ s. record { sig = s; start = v.start; size = v.size }) a in e)
-    ∙ (let e : record { sig = w.sig; start = v.start; size = v.size } ≡ record { sig = w.sig; start = w.start; size = v.size } = ap (λ s. record { sig = w.sig; start = s; size = v.size }) b in e)
-    ∙ (let e : record { sig = w.sig; start = w.start; size = v.size } ≡ w = ap (λ s. record { sig = w.sig; start = w.start; size = s }) c in e)
+    (let e : v ≡ record { sig = w.sig; start = v.start; size = v.size } = ap
+    (λ s. record { sig = s; start = v.start; size = v.size }) a in e)
+    ∙ (let e : record { sig = w.sig; start = v.start; size = v.size }
+    ≡ record { sig = w.sig; start = w.start; size = v.size } =
+    ap (λ s. record { sig = w.sig; start = s; size = v.size }) b in e)
+    ∙ (let e : record { sig = w.sig; start = w.start; size = v.size }
+    ≡ w = ap (λ s. record { sig = w.sig; start = w.start; size = s }) c in e)
 
 -- the first twelve bytes make the words
 pub words_same : (xs ys : List ℕ) → ((i : ℕ) → i < 12 → get_or xs i 0 ≡ get_or ys i 0) → words_in xs ≡ words_in ys
 words_same xs ys h =
-    let each : (a : ℕ) → a + 4 ≤ 12 → from_le_bytes w32 (slice_range xs a (a + 4)) ≡ from_le_bytes w32 (slice_range ys a (a + 4)) =
-    (λ a l. from_le_bytes-same _ _ (λ i k. slice_byte xs a (a + 4) i (omega arith) ∙ h (a + i) (omega arith) ∙ sym (slice_byte ys a (a + 4) i (omega arith)))) in
+    let each : (a : ℕ) → a + 4 ≤ 12 → from_le_bytes w32 (slice_range xs a (a + 4))
+    ≡ from_le_bytes w32 (slice_range ys a (a + 4)) =
+    (λ a l. from_le_bytes-same _ _ (λ i k. slice_byte xs a (a + 4) i (omega arith) ∙ h (a + i) (omega arith)
+    ∙ sym (slice_byte ys a (a + 4) i (omega arith)))) in
     let e0 : (words_in xs).sig ≡ (words_in ys).sig = each 0 (omega arith) in
     let e1 : (words_in xs).start ≡ (words_in ys).start = each 4 (omega arith) in
     let e2 : (words_in xs).size ≡ (words_in ys).size = each 8 (omega arith) in
     words_eq (words_in xs) (words_in ys) e0 e1 e2
 
-pub header_length : (z : Zone) (x : List ℕ) → IsValidZone z → IsImage z x → (length (part_bytes z x Header) ≡ 12) × (length (part_word z x Header) ≡ 12 + z.parity)
+pub header_length : (z : Zone) (x : List ℕ) → IsValidZone z → IsImage z x
+    → (length (part_bytes z x Header) ≡ 12) × (length (part_word z x Header) ≡ 12 + z.parity)
 unfolding part_bytes part_word
 header_length z x valid im =
     let b : length (slice_range x 0 (0 + 12)) ≡ 12 = slice_length x 0 12 (omega (arith, im.0, valid.at_least)) in
-    let p : length (slice_range x (part_parity_at z Header) (part_parity_at z Header + z.parity)) ≡ z.parity = slice_length x (part_parity_at z Header) z.parity (omega (arith, im.0, part_fits z Header valid tt)) in
+    let p : length (slice_range x (part_parity_at z Header) (part_parity_at z Header + z.parity)) ≡ z.parity =
+    slice_length x (part_parity_at z Header) z.parity (omega (arith, im.0, part_fits z Header valid tt)) in
     (b, length-append (slice_range x 0 (0 + 12)) _ ∙ omega (arith, b, p))
 
-pub header_words : (z : Zone) (x : List ℕ) → IsValidZone z → IsImage z x → words_in (part_word z x Header) ≡ standing_words x
+pub header_words : (z : Zone) (x : List ℕ) → IsValidZone z → IsImage z x
+    → words_in (part_word z x Header) ≡ standing_words x
 header_words z x valid im =
-    words_same _ _ (λ i h. word_left z x Header i (omega (arith, (header_length z x valid im).0)) ∙ sym (slice_byte x 0 12 i (omega arith)))
+    words_same _ _ (λ i h. word_left z x Header i (omega (arith, (header_length z x valid im).0))
+    ∙ sym (slice_byte x 0 12 i (omega arith)))
 
 pub words_taken : (xs : List ℕ) (n : ℕ) → n ≡ 12 → words_in (take n xs) ≡ words_in xs
 words_taken xs n e = words_same _ _ (λ i h. get_or-take n xs i 0 (omega arith))
@@ -42,5 +52,6 @@ words_taken xs n e = words_same _ _ (λ i h. get_or-take n xs i 0 (omega arith))
 pub front_byte : (x : List ℕ) (i : ℕ) → i < 12 → get_or (slice_range x 0 12) i 0 ≡ get_or x i 0
 front_byte x i l = slice_byte x 0 12 i (omega arith) ∙ ap (λ n. get_or x n 0) (let e : 0 + i ≡ i = omega arith in e)
 
-pub standing_same : (x y : List ℕ) → ((i : ℕ) → i < 12 → get_or x i 0 ≡ get_or y i 0) → standing_words x ≡ standing_words y
+pub standing_same : (x y : List ℕ) → ((i : ℕ) → i < 12 → get_or x i 0 ≡ get_or y i 0)
+    → standing_words x ≡ standing_words y
 standing_same x y h = words_same _ _ (λ i l. front_byte x i l ∙ h i l ∙ sym (front_byte y i l))

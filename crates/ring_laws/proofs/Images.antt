@@ -18,7 +18,8 @@ put-below image at i (b ∷ bs) h =
     put-below (set image at b) (at + 1) i bs (omega arith)
     ∙ (let ne : i ≢ at = omega arith in get_or-set_other image at i b 0 ne)
 
-pub put-above : (image : List ℕ) (at i : ℕ) (bs : List ℕ) → at + length bs ≤ i → get_or (put image at bs) i 0 ≡ get_or image i 0
+pub put-above : (image : List ℕ) (at i : ℕ) (bs : List ℕ) → at + length bs ≤ i
+    → get_or (put image at bs) i 0 ≡ get_or image i 0
 unfolding put
 put-above image at i [] h = refl
 put-above image at i (b ∷ bs) h =
@@ -26,7 +27,8 @@ put-above image at i (b ∷ bs) h =
     ∙ (let ne : i ≢ at = omega arith in get_or-set_other image at i b 0 ne)
 
 -- the bytes stand where they were put
-pub put-inside : (image : List ℕ) (at j : ℕ) (bs : List ℕ) → at + length bs ≤ length image → j < length bs → get_or (put image at bs) (at + j) 0 ≡ get_or bs j 0
+pub put-inside : (image : List ℕ) (at j : ℕ) (bs : List ℕ) → at + length bs ≤ length image → j < length bs
+    → get_or (put image at bs) (at + j) 0 ≡ get_or bs j 0
 unfolding put
 put-inside image at j [] h k = absurd (omega arith)
 put-inside image at zero (b ∷ bs) h k =
@@ -38,13 +40,15 @@ put-inside image at (suc j) (b ∷ bs) h k =
     (let e : at + suc j ≡ (at + 1) + j = omega arith in ap (λ i. get_or (put (set image at b) (at + 1) bs) i 0) e)
     ∙ put-inside (set image at b) (at + 1) j bs (omega (arith, length-set image at b)) (omega arith)
 
-pub after_stores-append : (image : List ℕ) (xs ys : List Store) → after_stores image (xs ++ ys) ≡ after_stores (after_stores image xs) ys
+pub after_stores-append : (image : List ℕ) (xs ys : List Store)
+    → after_stores image (xs ++ ys) ≡ after_stores (after_stores image xs) ys
 unfolding after_stores
 after_stores-append image [] ys = refl
 after_stores-append image (x ∷ xs) ys = after_stores-append (put image x.place x.bytes) xs ys
 
 -- a run of bytes stored one by one leaves what they leave at once
-pub after_stores-byte_stores : (image : List ℕ) (at : ℕ) (bs : List ℕ) → after_stores image (byte_stores at bs) ≡ put image at bs
+pub after_stores-byte_stores : (image : List ℕ) (at : ℕ) (bs : List ℕ)
+    → after_stores image (byte_stores at bs) ≡ put image at bs
 unfolding after_stores byte_stores put
 after_stores-byte_stores image at [] = refl
 after_stores-byte_stores image at (b ∷ bs) = after_stores-byte_stores (set image at b) (at + 1) bs
@@ -52,16 +56,19 @@ after_stores-byte_stores image at (b ∷ bs) = after_stores-byte_stores (set ima
 pub length-after_stores : (image : List ℕ) (ss : List Store) → length (after_stores image ss) ≡ length image
 unfolding after_stores
 length-after_stores image [] = refl
-length-after_stores image (s ∷ ss) = length-after_stores (put image s.place s.bytes) ss ∙ length-put image s.place s.bytes
+length-after_stores image (s ∷ ss) = length-after_stores (put image s.place s.bytes) ss
+    ∙ length-put image s.place s.bytes
 
 -- ---- a call that is underway
 
-pub IsUnderway-begin : (z : Zone) (call : Call) (image : List ℕ) → IsUnderway z call image image 0 (call_stores z call image)
+pub IsUnderway-begin : (z : Zone) (call : Call) (image : List ℕ)
+    → IsUnderway z call image image 0 (call_stores z call image)
 unfolding after_stores
 IsUnderway-begin z call image = record { done = []; whole = refl; image = refl; count = refl }
 
 -- one store more
-pub IsUnderway-step : {z : Zone} {call : Call} {before now : List ℕ} {made : ℕ} {s : Store} {left : List Store} → IsUnderway z call before now made (s ∷ left) → IsUnderway z call before (put now s.place s.bytes) (made + 1) left
+pub IsUnderway-step : {z : Zone} {call : Call} {before now : List ℕ} {made : ℕ} {s : Store} {left : List Store}
+    → IsUnderway z call before now made (s ∷ left) → IsUnderway z call before (put now s.place s.bytes) (made + 1) left
 unfolding after_stores
 IsUnderway-step {z} {call} {before} {now} {made} {s} {left} u = record {
   done = u.done ++ s ∷ [];
@@ -71,6 +78,7 @@ IsUnderway-step {z} {call} {before} {now} {made} {s} {left} u = record {
 }
 
 -- the image is that after so many stores of the call
-pub IsUnderway-image : {z : Zone} {call : Call} {before now : List ℕ} {made : ℕ} {left : List Store} → IsUnderway z call before now made left → now ≡ image_after z call before made
+pub IsUnderway-image : {z : Zone} {call : Call} {before now : List ℕ} {made : ℕ} {left : List Store}
+    → IsUnderway z call before now made left → now ≡ image_after z call before made
 IsUnderway-image {z} {call} {before} {now} {made} {left} u =
     u.image ∙ ap (after_stores before) (sym (ap (take made) u.whole ∙ take_at u.done left made (sym u.count)))

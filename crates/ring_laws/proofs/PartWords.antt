@@ -9,7 +9,8 @@ use Rattle.zone_spec.specs.PartReadings.{part_reading, reading_by}
 use Rattle.code_laws.proofs.Laws.{parity_made}
 use Rattle.ring_laws.proofs.PartsLaw.{IsBytes, HasParity, slice_range-bytes, part_short}
 
-pub bytes-append : (xs ys : List ℕ) → AllByRecursion (λ b. b < 256) xs → AllByRecursion (λ b. b < 256) ys → AllByRecursion (λ b. b < 256) (xs ++ ys)
+pub bytes-append : (xs ys : List ℕ) → AllByRecursion (λ b. b < 256) xs → AllByRecursion (λ b. b < 256) ys
+    → AllByRecursion (λ b. b < 256) (xs ++ ys)
 bytes-append [] ys h k = k
 bytes-append (x ∷ xs) ys h k = (h.0, bytes-append xs ys h.1 k)
 
@@ -29,19 +30,34 @@ bytes-each (x ∷ xs) h (suc i) = bytes-each xs h.1 i
 -- every message has its parity
 pub has_parity : (r : ℕ) → HasParity r
 has_parity r m h l =
-    let made : IsWord r (parity_of r m) × IsTrue (is_codeword r (m ++ parity_of r m)) = parity_made r m (refl, bytes-all m h) in
+    let made : IsWord r (parity_of r m) × IsTrue (is_codeword r (m ++ parity_of r m)) =
+    parity_made r m (refl, bytes-all m h) in
     (made.0.0, bytes-each _ made.0.1, made.1)
 
 module _ (z : Zone) where
   pub part_word-IsWord : (x : List ℕ) (p : Part) → IsBytes x → IsWord (length (part_word z x p)) (part_word z x p)
   unfolding part_word part_bytes
-  part_word-IsWord x p h = (refl, bytes-append _ _ (bytes-all _ (slice_range-bytes x (part_at z p) (part_at z p + part_len z p) h)) (bytes-all _ (slice_range-bytes x (part_parity_at z p) (part_parity_at z p + z.parity) h)))
+  part_word-IsWord x p h = (
+    refl,
+    bytes-append _ _ (bytes-all _
+        (slice_range-bytes x (part_at z p) (part_at z p + part_len z p) h))
+        (bytes-all _ (slice_range-bytes x (part_parity_at z p) (part_parity_at z p + z.parity) h)),
+  )
 
-  pub length-part_bytes : (x y : List ℕ) (p : Part) → length x ≡ length y → length (part_bytes z x p) ≡ length (part_bytes z y p)
+  pub length-part_bytes : (x y : List ℕ) (p : Part) → length x ≡ length y
+      → length (part_bytes z x p) ≡ length (part_bytes z y p)
   unfolding part_bytes
-  length-part_bytes x y p l = omega (arith, length-take ((part_at z p + part_len z p) - part_at z p) (drop (part_at z p) x), length-take ((part_at z p + part_len z p) - part_at z p) (drop (part_at z p) y), length-drop (part_at z p) x, length-drop (part_at z p) y)
+  length-part_bytes x y p l = omega (
+    arith,
+    length-take ((part_at z p + part_len z p) - part_at z p)
+        (drop (part_at z p) x),
+    length-take ((part_at z p + part_len z p) - part_at z p) (drop (part_at z p) y),
+    length-drop (part_at z p) x,
+    length-drop (part_at z p) y,
+  )
 
-  pub length-part_word : (x y : List ℕ) (p : Part) → length x ≡ length y → length (part_word z x p) ≡ length (part_word z y p)
+  pub length-part_word : (x y : List ℕ) (p : Part) → length x ≡ length y
+      → length (part_word z x p) ≡ length (part_word z y p)
   unfolding part_word
   length-part_word x y p l =
       omega (
@@ -70,10 +86,12 @@ module _ (z : Zone) where
   unfolding part_word
   part_bytes-word x p = take_at (part_bytes z x p) _ (length (part_bytes z x p)) refl
 
-  pub reading_near : (x : List ℕ) (p : Part) (c : List ℕ) → nearest z.parity (part_word z x p) ≡ Some c → (part_reading z x p).bytes ≡ take (length (part_bytes z x p)) c
+  pub reading_near : (x : List ℕ) (p : Part) (c : List ℕ) → nearest z.parity (part_word z x p) ≡ Some c
+      → (part_reading z x p).bytes ≡ take (length (part_bytes z x p)) c
   unfolding part_reading
   reading_near x p c e = ap (λ o. (reading_by (part_bytes z x p) (part_word z x p) o).bytes) e
 
-  pub reading_none : (x : List ℕ) (p : Part) → nearest z.parity (part_word z x p) ≡ None → (part_reading z x p).bytes ≡ part_bytes z x p
+  pub reading_none : (x : List ℕ) (p : Part) → nearest z.parity (part_word z x p) ≡ None
+      → (part_reading z x p).bytes ≡ part_bytes z x p
   unfolding part_reading
   reading_none x p e = ap (λ o. (reading_by (part_bytes z x p) (part_word z x p) o).bytes) e

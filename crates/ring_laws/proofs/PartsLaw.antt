@@ -19,7 +19,8 @@ IsBytes xs = (i : ℕ) → get_or xs i 0 < 256
 
 -- parity makes a codeword of every message that leaves it room
 abbrev pub HasParity : ℕ → Type 0
-HasParity r = (m : List ℕ) → IsBytes m → length m + r ≤ 255 → (length (parity_of r m) ≡ r) × IsBytes (parity_of r m) × IsTrue (is_codeword r (m ++ parity_of r m))
+HasParity r = (m : List ℕ) → IsBytes m → length m + r ≤ 255
+    → (length (parity_of r m) ≡ r) × IsBytes (parity_of r m) × IsTrue (is_codeword r (m ++ parity_of r m))
 
 -- a part's place among the parities: the blocks in order, and then the header
 abbrev pub part_number : Zone → Part → ℕ
@@ -44,15 +45,23 @@ pub part_end : (z : Zone) (p : Part) → 0 < z.cap → part_at z p + part_len z 
 part_end z Header h = inl (omega arith)
 part_end z (Block b) h = elim (cases_lt (z.block * b) z.cap) [ inl a ↦ inl (omega arith) | inr k ↦ inr (omega arith) ]
 
-pub slice_range-same : (xs ys : List ℕ) (a b : ℕ) → length xs ≡ length ys → ((i : ℕ) → a ≤ i → i < b → get_or xs i 0 ≡ get_or ys i 0) → slice_range xs a b ≡ slice_range ys a b
+pub slice_range-same : (xs ys : List ℕ) (a b : ℕ) → length xs ≡ length ys
+    → ((i : ℕ) → a ≤ i → i < b → get_or xs i 0 ≡ get_or ys i 0) → slice_range xs a b ≡ slice_range ys a b
 slice_range-same xs ys a b l h =
-    same_lists _ _ (omega (arith, length-take (b - a) (drop a xs), length-take (b - a) (drop a ys), length-drop a xs, length-drop a ys))
+    same_lists _ _ (omega (
+      arith,
+      length-take (b - a) (drop a xs),
+      length-take (b - a) (drop a ys),
+      length-drop a xs,
+      length-drop a ys,
+    ))
     (λ k d m.
     let k_low : k < b - a = omega (arith, length-take (b - a) (drop a xs)) in
     let k_in : a + k < length xs = omega (arith, length-take (b - a) (drop a xs), length-drop a xs) in
     get_or-take (b - a) (drop a xs) k d k_low ∙ get_or-drop a xs k d ∙ get_or_default xs (a + k) d 0 k_in
     ∙ h (a + k) (omega arith) (omega arith)
-    ∙ sym (get_or-take (b - a) (drop a ys) k d k_low ∙ get_or-drop a ys k d ∙ get_or_default ys (a + k) d 0 (omega arith)))
+    ∙ sym (get_or-take (b - a) (drop a ys) k d k_low ∙ get_or-drop a ys k d
+    ∙ get_or_default ys (a + k) d 0 (omega arith)))
 
 -- two images in which a part has the same bytes and parity
 pub record SamePart (z : Zone) (x y : List ℕ) (p : Part) : Type 0 where
@@ -62,27 +71,32 @@ pub record SamePart (z : Zone) (x y : List ℕ) (p : Part) : Type 0 where
 pub SamePart-trans : {z : Zone} {x y w : List ℕ} {p : Part} → SamePart z x y p → SamePart z y w p → SamePart z x w p
 SamePart-trans a b = record { bytes = a.bytes ∙ b.bytes; word = a.word ∙ b.word }
 
-pub ReadsAsStands-same : {z : Zone} {x y : List ℕ} {p : Part} → SamePart z x y p → ReadsAsStands z y p → ReadsAsStands z x p
+pub ReadsAsStands-same : {z : Zone} {x y : List ℕ} {p : Part} → SamePart z x y p → ReadsAsStands z y p
+    → ReadsAsStands z x p
 ReadsAsStands-same {z} {x} {y} {p} s h =
-    subst (λ w. (c : List ℕ) → nearest z.parity w ≡ Some c → take (length (part_bytes z x p)) c ≡ part_bytes z x p) (sym s.word)
+    subst (λ w. (c : List ℕ) → nearest z.parity w ≡ Some c → take (length (part_bytes z x p)) c ≡ part_bytes z x p)
+    (sym s.word)
     (subst (λ bs. (c : List ℕ) → nearest z.parity (part_word z y p) ≡ Some c → take (length bs) c ≡ bs) (sym s.bytes) h)
 
 -- it is so where the images agree at the part's places
 pub SamePart-places : (z : Zone) (x y : List ℕ) (p : Part) → length x ≡ length y
     → ((i : ℕ) → part_at z p ≤ i → i < part_at z p + part_len z p → get_or x i 0 ≡ get_or y i 0)
-    → ((i : ℕ) → part_parity_at z p ≤ i → i < part_parity_at z p + z.parity → get_or x i 0 ≡ get_or y i 0) → SamePart z x y p
+    → ((i : ℕ) → part_parity_at z p ≤ i → i < part_parity_at z p + z.parity → get_or x i 0 ≡ get_or y i 0)
+    → SamePart z x y p
 unfolding part_bytes part_word
 SamePart-places z x y p l h k =
     let b : part_bytes z x p ≡ part_bytes z y p = slice_range-same x y _ _ l h in
     record { bytes = b; word = ap₂ (λ u v. u ++ v) b (slice_range-same x y _ _ l k) }
 
 -- bytes put behind the parts' bytes, over another part's parity, leave a part alone
-SamePart-parity : (z : Zone) (x bs : List ℕ) (p q : Part) → 0 < z.cap → length bs ≡ z.parity → part_number z p ≢ part_number z q → SamePart z (put x (part_parity_at z p) bs) x q
+SamePart-parity : (z : Zone) (x bs : List ℕ) (p q : Part) → 0 < z.cap → length bs ≡ z.parity
+    → part_number z p ≢ part_number z q → SamePart z (put x (part_parity_at z p) bs) x q
 SamePart-parity z x bs p q room l ne =
     let ep : part_parity_at z p ≡ 12 + z.cap + part_number z p * z.parity = part_parity_at-number z p in
     let eq : part_parity_at z q ≡ 12 + z.cap + part_number z q * z.parity = part_parity_at-number z q in
     SamePart-places z _ x q (length-put x (part_parity_at z p) bs)
-    (λ i h k. put-below x (part_parity_at z p) i bs (elim (part_end z q room) [ inl a ↦ omega arith | inr e ↦ absurd (omega arith) ]))
+    (λ i h k. put-below x (part_parity_at z p) i bs (elim (part_end z q room)
+    [ inl a ↦ omega arith | inr e ↦ absurd (omega arith) ]))
     (λ i h k. elim (cases_lt (part_number z p) (part_number z q)) [
       | inl a ↦ (let d : part_number z p + 1 ≤ part_number z q = omega arith in
           let m : (part_number z p + 1) * z.parity ≤ part_number z q * z.parity = mul-le-mul_right z.parity d in
@@ -99,19 +113,28 @@ nearest-codeword r w h = rw h refl
 
 pub part_fits : (z : Zone) (p : Part) → IsValidZone z → HasPart z p → part_parity_at z p + z.parity ≤ z.size
 part_fits z p valid has =
-    let m : (part_number z p + 1) * z.parity ≤ (z.blocks + 1) * z.parity = mul-le-mul_right z.parity (let h : part_number z p + 1 ≤ z.blocks + 1 = omega (arith, part_number-below z p has) in h) in
+    let m : (part_number z p + 1) * z.parity ≤ (z.blocks + 1) * z.parity =
+    mul-le-mul_right z.parity (let h : part_number z p + 1
+    ≤ z.blocks + 1 = omega (arith, part_number-below z p has) in h) in
     omega (arith, part_parity_at-number z p, valid.cap, add-mul (part_number z p) 1 z.parity)
 
 pub slice_range-bytes : (xs : List ℕ) (a b : ℕ) → IsBytes xs → IsBytes (slice_range xs a b)
 slice_range-bytes xs a b h i = elim (cases_lt i (b - a)) [
   | inl l ↦ rw (get_or-take (b - a) (drop a xs) i 0 l, get_or-drop a xs i 0) (h (a + i))
-  | inr g ↦ (let e : get_or (slice_range xs a b) i 0 ≡ 0 = get_or_past (slice_range xs a b) i 0 (omega (arith, length-take (b - a) (drop a xs))) in omega arith)
+  | inr g ↦ (let e : get_or (slice_range xs a b) i 0 ≡ 0 = get_or_past (slice_range xs a b) i 0
+      (omega (arith, length-take (b - a) (drop a xs))) in omega arith)
 ]
 
 -- what was put reads back
-slice_range-put : (x bs : List ℕ) (at n : ℕ) → length bs ≡ n → at + n ≤ length x → slice_range (put x at bs) at (at + n) ≡ bs
+slice_range-put : (x bs : List ℕ) (at n : ℕ) → length bs ≡ n → at + n ≤ length x
+    → slice_range (put x at bs) at (at + n) ≡ bs
 slice_range-put x bs at n l h =
-    same_lists _ _ (omega (arith, length-take ((at + n) - at) (drop at (put x at bs)), length-drop at (put x at bs), length-put x at bs))
+    same_lists _ _ (omega (
+      arith,
+      length-take ((at + n) - at) (drop at (put x at bs)),
+      length-drop at (put x at bs),
+      length-put x at bs,
+    ))
     (λ k d m.
     let k_low : k < n = omega (arith, length-take ((at + n) - at) (drop at (put x at bs))) in
     get_or-take ((at + n) - at) (drop at (put x at bs)) k d (omega arith) ∙ get_or-drop at (put x at bs) k d
@@ -119,21 +142,26 @@ slice_range-put x bs at n l h =
     ∙ put-inside x at k bs (omega arith) (omega arith) ∙ get_or_default bs k 0 d (omega arith))
 
 -- a word whose parity was just computed reads as it stands
-pub ReadsAsStands-parity : (z : Zone) (x : List ℕ) (p : Part) → IsValidZone z → HasPart z p → HasParity z.parity → length x ≡ z.size → IsBytes x
-    → length (part_bytes z x p) + z.parity ≤ 255 → ReadsAsStands z (put x (part_parity_at z p) (parity_of z.parity (part_bytes z x p))) p
+pub ReadsAsStands-parity : (z : Zone) (x : List ℕ) (p : Part) → IsValidZone z → HasPart z p → HasParity z.parity
+    → length x ≡ z.size → IsBytes x
+    → length (part_bytes z x p) + z.parity ≤ 255 → ReadsAsStands z
+    (put x (part_parity_at z p) (parity_of z.parity (part_bytes z x p))) p
 unfolding part_bytes part_word
 ReadsAsStands-parity z x p valid has parity len bytes short c near =
     let msg : List ℕ = part_bytes z x p in
     let par : List ℕ = parity_of z.parity msg in
-    let made : (length par ≡ z.parity) × IsBytes par × IsTrue (is_codeword z.parity (msg ++ par)) = parity msg (slice_range-bytes x _ _ bytes) short in
+    let made : (length par ≡ z.parity) × IsBytes par × IsTrue (is_codeword z.parity (msg ++ par)) =
+    parity msg (slice_range-bytes x _ _ bytes) short in
     let at : part_parity_at z p ≡ 12 + z.cap + part_number z p * z.parity = part_parity_at-number z p in
     let same : part_bytes z (put x (part_parity_at z p) par) p ≡ msg =
     slice_range-same _ x _ _ (length-put x (part_parity_at z p) par)
-    (λ i h k. put-below x (part_parity_at z p) i par (elim (part_end z p (omega (arith, valid.room))) [ inl a ↦ omega arith | inr e ↦ absurd (omega arith) ])) in
+    (λ i h k. put-below x (part_parity_at z p) i par (elim (part_end z p (omega (arith, valid.room)))
+    [ inl a ↦ omega arith | inr e ↦ absurd (omega arith) ])) in
     let back : slice_range (put x (part_parity_at z p) par) (part_parity_at z p) (part_parity_at z p + z.parity) ≡ par =
     slice_range-put x par (part_parity_at z p) z.parity made.0 (omega (arith, part_fits z p valid has)) in
     let word : part_word z (put x (part_parity_at z p) par) p ≡ msg ++ par = ap₂ (λ u v. u ++ v) same back in
-    let own : nearest z.parity (part_word z (put x (part_parity_at z p) par) p) ≡ Some (msg ++ par) = ap (nearest z.parity) word ∙ nearest-codeword z.parity (msg ++ par) made.2 in
+    let own : nearest z.parity (part_word z (put x (part_parity_at z p) par) p) ≡ Some (msg ++ par) =
+    ap (nearest z.parity) word ∙ nearest-codeword z.parity (msg ++ par) made.2 in
     let is : c ≡ msg ++ par = (let e : Some c ≡ Some (msg ++ par) = sym near ∙ own in cc) in
     rw same (ap (take (length msg)) is ∙ take_at msg par (length msg) refl)
 
@@ -151,39 +179,48 @@ pub SameData-trans : {z : Zone} {x y w : List ℕ} → SameData z x y → SameDa
 SameData-trans a b = record { total = a.total ∙ b.total; each = λ i h. a.each i h ∙ b.each i h }
 
 -- the same bytes put into both
-pub SameData-put : {z : Zone} {x y : List ℕ} (at : ℕ) (bs : List ℕ) → SameData z x y → SameData z (put x at bs) (put y at bs)
+pub SameData-put : {z : Zone} {x y : List ℕ} (at : ℕ) (bs : List ℕ) → SameData z x y
+    → SameData z (put x at bs) (put y at bs)
 unfolding put
 SameData-put {z} {x} {y} at bs s = record {
   total = length-put x at bs ∙ s.total ∙ sym (length-put y at bs);
   each = put_both x y at bs s.total s.each;
 }
   where
-    step : (x y : List ℕ) (at b : ℕ) → length x ≡ length y → ((i : ℕ) → i < 12 + z.cap → get_or x i 0 ≡ get_or y i 0) → (i : ℕ) → i < 12 + z.cap → get_or (set x at b) i 0 ≡ get_or (set y at b) i 0
+    step : (x y : List ℕ) (at b : ℕ) → length x ≡ length y → ((i : ℕ) → i < 12 + z.cap → get_or x i 0 ≡ get_or y i 0)
+        → (i : ℕ) → i < 12 + z.cap → get_or (set x at b) i 0 ≡ get_or (set y at b) i 0
     step x y at b l h i k = elim (cases_eq i at) [
       | inl e ↦ elim (cases_lt i (length x)) [
-        | inl m ↦ (let p : at < length x = omega arith in let q : at < length y = omega arith in rw e (get_or-set_same x at b 0 p ∙ sym (get_or-set_same y at b 0 q)))
-        | inr g ↦ get_or_past (set x at b) i 0 (omega (arith, length-set x at b)) ∙ sym (get_or_past (set y at b) i 0 (omega (arith, length-set y at b)))
+        | inl m ↦ (let p : at < length x = omega arith in let q : at < length y = omega arith in
+            rw e (get_or-set_same x at b 0 p ∙ sym (get_or-set_same y at b 0 q)))
+        | inr g ↦ get_or_past (set x at b) i 0 (omega (arith, length-set x at b))
+            ∙ sym (get_or_past (set y at b) i 0 (omega (arith, length-set y at b)))
       ]
       | inr n ↦ get_or-set_other x at i b 0 n ∙ h i k ∙ sym (get_or-set_other y at i b 0 n)
     ]
 
-    put_both : (x y : List ℕ) (at : ℕ) (bs : List ℕ) → length x ≡ length y → ((i : ℕ) → i < 12 + z.cap → get_or x i 0 ≡ get_or y i 0) → (i : ℕ) → i < 12 + z.cap → get_or (put x at bs) i 0 ≡ get_or (put y at bs) i 0
+    put_both : (x y : List ℕ) (at : ℕ) (bs : List ℕ) → length x ≡ length y
+        → ((i : ℕ) → i < 12 + z.cap → get_or x i 0 ≡ get_or y i 0) → (i : ℕ) → i < 12 + z.cap
+        → get_or (put x at bs) i 0 ≡ get_or (put y at bs) i 0
     put_both x y at [] l h = h
-    put_both x y at (b ∷ bs) l h = put_both (set x at b) (set y at b) (at + 1) bs (length-set x at b ∙ l ∙ sym (length-set y at b)) (step x y at b l h)
+    put_both x y at (b ∷ bs) l h = put_both (set x at b) (set y at b) (at + 1) bs
+        (length-set x at b ∙ l ∙ sym (length-set y at b)) (step x y at b l h)
 
 -- a parity changes no data
 pub stage_parity-data : (z : Zone) (x : List ℕ) (p : Part) → SameData z (stage_image z (ParityOf p) x) x
 unfolding stage_stores
 stage_parity-data z x p =
     let at : part_parity_at z p ≡ 12 + z.cap + part_number z p * z.parity = part_parity_at-number z p in
-    let e : stage_image z (ParityOf p) x ≡ put x (part_parity_at z p) (parity_of z.parity (part_bytes z x p)) = after_stores-byte_stores x (part_parity_at z p) (parity_of z.parity (part_bytes z x p)) in
+    let e : stage_image z (ParityOf p) x ≡ put x (part_parity_at z p) (parity_of z.parity (part_bytes z x p)) =
+    after_stores-byte_stores x (part_parity_at z p) (parity_of z.parity (part_bytes z x p)) in
     rw e (record { total = length-put x _ _; each = λ i h. put-below x _ i _ (omega arith) })
 
 pub set-bytes : (x : List ℕ) (at b : ℕ) → IsBytes x → b < 256 → IsBytes (set x at b)
 set-bytes x at b h l i = elim (cases_eq i at) [
   | inl e ↦ elim (cases_lt i (length x)) [
     | inl m ↦ (let p : at < length x = omega arith in rw (e, get_or-set_same x at b 0 p) l)
-    | inr g ↦ (let z : get_or (set x at b) i 0 ≡ 0 = get_or_past (set x at b) i 0 (omega (arith, length-set x at b)) in omega arith)
+    | inr g ↦ (let z : get_or (set x at b) i 0 ≡ 0 = get_or_past (set x at b) i 0
+        (omega (arith, length-set x at b)) in omega arith)
   ]
   | inr n ↦ rw (get_or-set_other x at i b 0 n) (h i)
 ]
@@ -197,13 +234,21 @@ module _ (z : Zone) (valid : IsValidZone z) (parity : HasParity z.parity) where
   pub part_short : (x : List ℕ) (p : Part) → length (part_bytes z x p) + z.parity ≤ 255
   unfolding part_bytes
   part_short x Header = omega (arith, length-take ((0 + 12) - 0) (drop 0 x), valid.parity)
-  part_short x (Block b) = omega (arith, length-take ((12 + z.block * b + (min (z.block * (b + 1)) z.cap - z.block * b)) - (12 + z.block * b)) (drop (12 + z.block * b) x), valid.parity, block_most valid.block, (let e : z.block * (b + 1) ≡ z.block * b + z.block = grind arith in e))
+  part_short x (Block b) = omega (
+    arith,
+    length-take ((12 + z.block * b
+        + (min (z.block * (b + 1)) z.cap - z.block * b)) - (12 + z.block * b)) (drop (12 + z.block * b) x),
+    valid.parity,
+    block_most valid.block,
+    (let e : z.block * (b + 1) ≡ z.block * b + z.block = grind arith in e),
+  )
     where
       block_most : (z.block ≡ 32) ⊎ (z.block ≡ 64) ⊎ (z.block ≡ 128) → z.block ≤ 128
       block_most h = grind (arith, h)
 
   -- the image after a part's parity
-  parity_image : (x : List ℕ) (p : Part) → stage_image z (ParityOf p) x ≡ put x (part_parity_at z p) (parity_of z.parity (part_bytes z x p))
+  parity_image : (x : List ℕ) (p : Part) → stage_image z (ParityOf p) x
+      ≡ put x (part_parity_at z p) (parity_of z.parity (part_bytes z x p))
   unfolding stage_stores
   parity_image x p = after_stores-byte_stores x (part_parity_at z p) (parity_of z.parity (part_bytes z x p))
 
@@ -211,19 +256,27 @@ module _ (z : Zone) (valid : IsValidZone z) (parity : HasParity z.parity) where
   pub parity-bytes : (x : List ℕ) (p : Part) → IsBytes x → IsBytes (stage_image z (ParityOf p) x)
   unfolding part_bytes
   parity-bytes x p bytes =
-      let made : (length (parity_of z.parity (part_bytes z x p)) ≡ z.parity) × IsBytes (parity_of z.parity (part_bytes z x p)) × IsTrue (is_codeword z.parity (part_bytes z x p ++ parity_of z.parity (part_bytes z x p))) =
+      let made : (length (parity_of z.parity (part_bytes z x p)) ≡ z.parity)
+      × IsBytes (parity_of z.parity (part_bytes z x p))
+      × IsTrue (is_codeword z.parity (part_bytes z x p ++ parity_of z.parity (part_bytes z x p))) =
       parity (part_bytes z x p) (slice_range-bytes x _ _ bytes) (part_short x p) in
       subst IsBytes (sym (parity_image x p)) (put-bytes x _ _ bytes made.1)
 
-  pub parity-own : (x : List ℕ) (p : Part) → HasPart z p → length x ≡ z.size → IsBytes x → ReadsAsStands z (stage_image z (ParityOf p) x) p
-  parity-own x p has len bytes = subst (λ y. ReadsAsStands z y p) (sym (parity_image x p)) (ReadsAsStands-parity z x p valid has parity len bytes (part_short x p))
+  pub parity-own : (x : List ℕ) (p : Part) → HasPart z p → length x ≡ z.size → IsBytes x
+      → ReadsAsStands z (stage_image z (ParityOf p) x) p
+  parity-own x p has len bytes = subst (λ y. ReadsAsStands z y p) (sym (parity_image x p))
+      (ReadsAsStands-parity z x p valid has parity len bytes (part_short x p))
 
-  pub parity-other : (x : List ℕ) (p q : Part) → IsBytes x → part_number z p ≢ part_number z q → SamePart z (stage_image z (ParityOf p) x) x q
+  pub parity-other : (x : List ℕ) (p q : Part) → IsBytes x → part_number z p ≢ part_number z q
+      → SamePart z (stage_image z (ParityOf p) x) x q
   unfolding part_bytes
   parity-other x p q bytes ne =
-      let made : (length (parity_of z.parity (part_bytes z x p)) ≡ z.parity) × IsBytes (parity_of z.parity (part_bytes z x p)) × IsTrue (is_codeword z.parity (part_bytes z x p ++ parity_of z.parity (part_bytes z x p))) =
+      let made : (length (parity_of z.parity (part_bytes z x p)) ≡ z.parity)
+      × IsBytes (parity_of z.parity (part_bytes z x p))
+      × IsTrue (is_codeword z.parity (part_bytes z x p ++ parity_of z.parity (part_bytes z x p))) =
       parity (part_bytes z x p) (slice_range-bytes x _ _ bytes) (part_short x p) in
-      subst (λ y. SamePart z y x q) (sym (parity_image x p)) (SamePart-parity z x _ p q (omega (arith, valid.room)) made.0 ne)
+      subst (λ y. SamePart z y x q) (sym (parity_image x p))
+      (SamePart-parity z x _ p q (omega (arith, valid.room)) made.0 ne)
 
 -- what a list of stages leaves of the parts: those of some blocks fresh, and all others as they were
 pub record LeavesParts (z : Zone) (x y : List ℕ) (low high : ℕ) : Type 0 where
@@ -234,7 +287,8 @@ pub record LeavesParts (z : Zone) (x y : List ℕ) (low high : ℕ) : Type 0 whe
   pub fresh : (b : ℕ) → low ≤ b → b < high → ReadsAsStands z y (Block b)
 
 -- the parities of the n blocks from a on
-pub parities_leave : (z : Zone) → IsValidZone z → HasParity z.parity → (n a : ℕ) (x : List ℕ) → a + n ≤ z.blocks → length x ≡ z.size → IsBytes x
+pub parities_leave : (z : Zone) → IsValidZone z → HasParity z.parity → (n a : ℕ) (x : List ℕ) → a + n ≤ z.blocks
+    → length x ≡ z.size → IsBytes x
     → LeavesParts z x (all_stages z (map (λ k. ParityOf (Block k)) (range_with_len a n)) x) a (a + n)
 unfolding all_stages
 parities_leave z valid parity zero a x fits len bytes = record {
@@ -247,18 +301,23 @@ parities_leave z valid parity zero a x fits len bytes = record {
 parities_leave z valid parity (suc n) a x fits len bytes =
     let x1 : List ℕ = stage_image z (ParityOf (Block a)) x in
     let same : SameData z x1 x = stage_parity-data z x (Block a) in
-    let rest : LeavesParts z x1 (all_stages z (map (λ k. ParityOf (Block k)) (range_with_len (a + 1) n)) x1) (a + 1) ((a + 1) + n) =
-    parities_leave z valid parity n (a + 1) x1 (omega arith) (same.total ∙ len) (parity-bytes z valid parity x (Block a) bytes) in
+    let rest : LeavesParts z x1 (all_stages z (map (λ k. ParityOf (Block k)) (range_with_len (a + 1) n)) x1) (a + 1)
+    ((a + 1) + n) =
+    parities_leave z valid parity n (a + 1) x1 (omega arith) (same.total ∙ len)
+    (parity-bytes z valid parity x (Block a) bytes) in
     record {
       data_same = SameData-trans rest.data_same same;
       bytes = rest.bytes;
       header = SamePart-trans rest.header (parity-other z valid parity x (Block a) Header bytes (omega arith));
       others = λ b h k. elim k [
-        | inl l ↦ SamePart-trans (rest.others b h (inl (omega arith))) (parity-other z valid parity x (Block a) (Block b) bytes (omega arith))
-        | inr g ↦ SamePart-trans (rest.others b h (inr (omega arith))) (parity-other z valid parity x (Block a) (Block b) bytes (omega arith))
+        | inl l ↦ SamePart-trans (rest.others b h (inl (omega arith)))
+            (parity-other z valid parity x (Block a) (Block b) bytes (omega arith))
+        | inr g ↦ SamePart-trans (rest.others b h (inr (omega arith)))
+            (parity-other z valid parity x (Block a) (Block b) bytes (omega arith))
       ];
       fresh = λ b h k. elim (cases_eq b a) [
-        | inl e ↦ rw e (ReadsAsStands-same (rest.others a (omega arith) (inl (omega arith))) (parity-own z valid parity x (Block a) (omega arith) len bytes))
+        | inl e ↦ rw e (ReadsAsStands-same (rest.others a (omega arith) (inl (omega arith)))
+            (parity-own z valid parity x (Block a) (omega arith) len bytes))
         | inr ne ↦ rest.fresh b (omega arith) (omega arith)
       ];
     }

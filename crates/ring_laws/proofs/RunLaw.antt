@@ -35,13 +35,16 @@ module _ (k place n b : ℕ) (some : 0 < k) where
   met_low h = let l : place / k < b + 1 = (div-lt_iff_lt-mul some).1 (omega (arith, mul_comm k (b + 1))) in omega arith
 
   pub met_high : k * b < place + n → b < ((place + n + k) - 1) / k
-  met_high h = let l : b + 1 ≤ ((place + n + k) - 1) / k = (le-div_iff_mul-le some).1 (omega (arith, mul_comm k b, add-mul b 1 k)) in omega arith
+  met_high h = let l : b + 1 ≤ ((place + n + k) - 1) / k =
+      (le-div_iff_mul-le some).1 (omega (arith, mul_comm k b, add-mul b 1 k)) in omega arith
 
   unmet_low : k * (b + 1) ≤ place → b < place / k
-  unmet_low h = let l : b + 1 ≤ place / k = (le-div_iff_mul-le some).1 (omega (arith, mul_comm k (b + 1))) in omega arith
+  unmet_low h = let l : b + 1 ≤ place / k = (le-div_iff_mul-le some).1 (omega (arith, mul_comm k (b + 1))) in
+      omega arith
 
   pub unmet_high : place + n ≤ k * b → ((place + n + k) - 1) / k ≤ b
-  unmet_high h = let l : ((place + n + k) - 1) / k < b + 1 = (div-lt_iff_lt-mul some).1 (omega (arith, mul_comm k b, add-mul b 1 k)) in omega arith
+  unmet_high h = let l : ((place + n + k) - 1) / k < b + 1 =
+      (div-lt_iff_lt-mul some).1 (omega (arith, mul_comm k b, add-mul b 1 k)) in omega arith
 
 pub met_order : (k place n : ℕ) → 0 < k → place / k ≤ ((place + n + k) - 1) / k
 met_order k place n some = (le-div_iff_mul-le some).1 (omega (arith, div-mul-le_self place k))
@@ -51,11 +54,14 @@ pub record RunLeaves (z : Zone) (place : ℕ) (xs x y : List ℕ) : Type 0 where
   pub data_same : SameData z y (put x (12 + place) xs)
   pub bytes : IsBytes y
   pub header : SamePart z y x Header
-  pub unmet : (b : ℕ) → b < z.blocks → (z.block * (b + 1) ≤ place) ⊎ (place + length xs ≤ z.block * b) → SamePart z y x (Block b)
-  pub met : (b : ℕ) → b < z.blocks → place < z.block * (b + 1) → z.block * b < place + length xs → 0 < length xs → ReadsAsStands z y (Block b)
+  pub unmet : (b : ℕ) → b < z.blocks → (z.block * (b + 1) ≤ place) ⊎ (place + length xs ≤ z.block * b)
+      → SamePart z y x (Block b)
+  pub met : (b : ℕ) → b < z.blocks → place < z.block * (b + 1) → z.block * b < place + length xs → 0 < length xs
+      → ReadsAsStands z y (Block b)
 
 -- bytes put into the data leave the parts that they do not meet
-data_put-other : (z : Zone) (x : List ℕ) (place : ℕ) (xs : List ℕ) (b : ℕ) → place + length xs ≤ z.cap → (z.block * (b + 1) ≤ place) ⊎ (place + length xs ≤ z.block * b) → SamePart z (put x (12 + place) xs) x (Block b)
+data_put-other : (z : Zone) (x : List ℕ) (place : ℕ) (xs : List ℕ) (b : ℕ) → place + length xs ≤ z.cap
+    → (z.block * (b + 1) ≤ place) ⊎ (place + length xs ≤ z.block * b) → SamePart z (put x (12 + place) xs) x (Block b)
 data_put-other z x place xs b fits side = SamePart-places z _ x (Block b) (length-put x (12 + place) xs)
     (λ i h k. elim side [
       | inl a ↦ put-below x (12 + place) i xs (omega arith)
@@ -63,12 +69,14 @@ data_put-other z x place xs b fits side = SamePart-places z _ x (Block b) (lengt
     ])
     (λ i h k. put-above x (12 + place) i xs (omega arith))
 
-data_put-header : (z : Zone) (x : List ℕ) (place : ℕ) (xs : List ℕ) → place + length xs ≤ z.cap → SamePart z (put x (12 + place) xs) x Header
+data_put-header : (z : Zone) (x : List ℕ) (place : ℕ) (xs : List ℕ) → place + length xs ≤ z.cap
+    → SamePart z (put x (12 + place) xs) x Header
 data_put-header z x place xs fits = SamePart-places z _ x Header (length-put x (12 + place) xs)
     (λ i h k. put-below x (12 + place) i xs (omega arith))
     (λ i h k. put-above x (12 + place) i xs (omega arith))
 
-pub run_leaves : (z : Zone) → IsValidZone z → HasParity z.parity → (place : ℕ) (xs x : List ℕ) → place + length xs ≤ z.cap → length x ≡ z.size → IsBytes x → IsBytes xs
+pub run_leaves : (z : Zone) → IsValidZone z → HasParity z.parity → (place : ℕ) (xs x : List ℕ)
+    → place + length xs ≤ z.cap → length x ≡ z.size → IsBytes x → IsBytes xs
     → RunLeaves z place xs x (all_stages z (run_stages z place xs) x)
 unfolding all_stages put stage_stores
 run_leaves z valid parity place [] x fits len bytes new = record {
@@ -86,15 +94,24 @@ run_leaves z valid parity place (c ∷ cs) x fits len bytes new =
     let a : ℕ = place / z.block in
     let e : ℕ = ((place + length xs + z.block) - 1) / z.block in
     let order : a ≤ e = met_order z.block place (length xs) k in
-    let most : e ≤ z.blocks = unmet_high z.block place (length xs) z.blocks k (omega (arith, cap_within z valid, mul_comm z.blocks z.block)) in
-    let rest : LeavesParts z x1 (all_stages z (map (λ j. ParityOf (Block j)) (range_with_len a (e - a))) x1) a (a + (e - a)) =
-    parities_leave z valid parity (e - a) a x1 (omega arith) (length-put x (12 + place) xs ∙ len) (put-bytes x (12 + place) xs bytes new) in
-    subst (λ y. RunLeaves z place xs x (all_stages z (map (λ j. ParityOf (Block j)) (range_with_len a (e - a))) y)) (sym stage) (record {
+    let most : e ≤ z.blocks = unmet_high z.block place (length xs) z.blocks k
+    (omega (arith, cap_within z valid, mul_comm z.blocks z.block)) in
+    let rest : LeavesParts z x1 (all_stages z (map (λ j. ParityOf (Block j)) (range_with_len a (e - a))) x1) a
+    (a + (e - a)) =
+    parities_leave z valid parity (e - a) a x1 (omega arith) (length-put x (12 + place) xs ∙ len)
+    (put-bytes x (12 + place) xs bytes new) in
+    subst (λ y. RunLeaves z place xs x (all_stages z (map (λ j. ParityOf (Block j)) (range_with_len a (e - a))) y))
+    (sym stage) (record {
       data_same = rest.data_same;
       bytes = rest.bytes;
       header = SamePart-trans rest.header (data_put-header z x place xs fits);
       unmet = λ b h side. SamePart-trans
-          (rest.others b h (elim side [ inl l ↦ inl (unmet_low z.block place (length xs) b k l) | inr g ↦ inr (let m : e ≤ b = unmet_high z.block place (length xs) b k g in omega arith) ]))
+          (rest.others b h (elim side [
+            | inl l ↦ inl (unmet_low z.block place (length xs) b k l)
+            | inr g ↦
+                inr (let m : e ≤ b = unmet_high z.block place (length xs) b k g in omega arith)
+          ]))
           (data_put-other z x place xs b fits side);
-      met = λ b h l m some. rest.fresh b (met_low z.block place (length xs) b k l) (let n : b < e = met_high z.block place (length xs) b k m in omega arith);
+      met = λ b h l m some. rest.fresh b (met_low z.block place (length xs) b k l)
+          (let n : b < e = met_high z.block place (length xs) b k m in omega arith);
     })

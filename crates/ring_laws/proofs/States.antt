@@ -18,12 +18,14 @@ Says z w Invalid = w.sig ≡ z.sig
 Says z w Found = (w.sig ≡ z.sig) × (w.size ≤ z.cap) × (w.start ≤ w.size)
 
 module _ (z : Zone) where
-  says_by : (w : Words) (b c : Bool) → nat_lt z.cap w.size ≡ b → nat_lt w.size w.start ≡ c → w.sig ≡ z.sig → Says z w (cond (b || c) Invalid Found)
+  says_by : (w : Words) (b c : Bool) → nat_lt z.cap w.size ≡ b → nat_lt w.size w.start ≡ c → w.sig ≡ z.sig
+      → Says z w (cond (b || c) Invalid Found)
   says_by w true c h k e = e
   says_by w false true h k e = e
   says_by w false false h k e = (e, ltb-false z.cap w.size h, ltb-false w.size w.start k)
 
-  invalid_or : (w : Words) → w.sig ≡ z.sig → Says z w (cond (nat_lt z.cap w.size || nat_lt w.size w.start) Invalid Found)
+  invalid_or : (w : Words) → w.sig ≡ z.sig → Says z w (cond (nat_lt z.cap w.size || nat_lt w.size w.start)
+      Invalid Found)
   invalid_or w e = says_by w _ _ refl refl e
 
   pub state_says : (w : Words) → Says z w (state_of z w)
@@ -32,7 +34,8 @@ module _ (z : Zone) where
     | inl e ↦ rw (eq-eqb w.sig z.sig e) (elim (cases_eq w.size 0) [
       | inl a ↦ elim (cases_eq w.start 0) [
         | inl b ↦ rw (eq-eqb w.size 0 a, eq-eqb w.start 0 b) (e, a, b)
-        | inr c ↦ (let n : (w.start == 0) ≡ false = grind (arith, nat_tests) in rw (eq-eqb w.size 0 a, n) (invalid_or w e))
+        | inr c ↦ (let n : (w.start == 0) ≡ false = grind (arith, nat_tests) in
+            rw (eq-eqb w.size 0 a, n) (invalid_or w e))
       ]
       | inr c ↦ (let n : (w.size == 0) ≡ false = grind (arith, nat_tests) in rw n (invalid_or w e))
     ])
@@ -58,7 +61,8 @@ module _ (z : Zone) where
   unfolding zone_reading
   reading_state image = state_in_reading image (words_read z image) (state_of z (words_read z image))
 
-  pub reading_is : (image : List ℕ) → zone_reading z image ≡ reading_in z image (words_read z image) (state_of z (words_read z image))
+  pub reading_is : (image : List ℕ) → zone_reading z image ≡ reading_in z image (words_read z image)
+      (state_of z (words_read z image))
   unfolding zone_reading
   reading_is image = refl
 
@@ -67,22 +71,28 @@ map-join : (f : ℕ → ℕ) (xs ys : List ℕ) → map f (xs ++ ys) ≡ map f x
 map-join f [] ys = refl
 map-join f (x ∷ xs) ys = ap (λ zs. f x ∷ zs) (map-join f xs ys)
 
-pub range_same : (f g : ℕ → ℕ) (n a : ℕ) → ((p : ℕ) → a ≤ p → p < a + n → f p ≡ g p) → map f (range_with_len a n) ≡ map g (range_with_len a n)
+pub range_same : (f g : ℕ → ℕ) (n a : ℕ) → ((p : ℕ) → a ≤ p → p < a + n → f p ≡ g p)
+    → map f (range_with_len a n) ≡ map g (range_with_len a n)
 range_same f g zero a h = refl
-range_same f g (suc n) a h = ap₂ (λ x xs. x ∷ xs) (h a (omega arith) (omega arith)) (range_same f g n (a + 1) (λ p k l. h p (omega arith) (omega arith)))
+range_same f g (suc n) a h = ap₂ (λ x xs. x ∷ xs) (h a (omega arith) (omega arith))
+    (range_same f g n (a + 1) (λ p k l. h p (omega arith) (omega arith)))
 
-pub log_same : (f g : ℕ → ℕ) (start size : ℕ) → start ≤ size → ((p : ℕ) → p < size → f p ≡ g p) → map f (log_places start size) ≡ map g (log_places start size)
+pub log_same : (f g : ℕ → ℕ) (start size : ℕ) → start ≤ size → ((p : ℕ) → p < size → f p ≡ g p)
+    → map f (log_places start size) ≡ map g (log_places start size)
 log_same f g start size l h =
     map-join f (range_with_len start (size - start)) (range_with_len 0 start)
-    ∙ ap₂ (λ xs ys. xs ++ ys) (range_same f g (size - start) start (λ p a b. h p (omega arith))) (range_same f g start 0 (λ p a b. h p (omega arith)))
+    ∙ ap₂ (λ xs ys. xs ++ ys) (range_same f g (size - start) start (λ p a b. h p (omega arith)))
+    (range_same f g start 0 (λ p a b. h p (omega arith)))
     ∙ sym (map-join g (range_with_len start (size - start)) (range_with_len 0 start))
 
 -- the blocks that begin below x
 pub below_count : (k x b : ℕ) → 0 < k → b < ((x + k) - 1) / k → k * b < x
 below_count k x b some h =
-    let l : (b + 1) * k ≤ (x + k) - 1 = (le-div_iff_mul-le some).0 (let m : b + 1 ≤ ((x + k) - 1) / k = omega arith in m) in
+    let l : (b + 1) * k ≤ (x + k) - 1 = (le-div_iff_mul-le some).0
+    (let m : b + 1 ≤ ((x + k) - 1) / k = omega arith in m) in
     omega (arith, add-mul b 1 k, mul_comm b k)
 
 pub count_below : (k x b : ℕ) → 0 < k → k * b < x → b < ((x + k) - 1) / k
 count_below k x b some h =
-    let l : b + 1 ≤ ((x + k) - 1) / k = (le-div_iff_mul-le some).1 (omega (arith, add-mul b 1 k, mul_comm b k)) in omega arith
+    let l : b + 1 ≤ ((x + k) - 1) / k = (le-div_iff_mul-le some).1 (omega (arith, add-mul b 1 k, mul_comm b k)) in
+    omega arith

@@ -16,10 +16,12 @@ use Rattle.ring_laws.proofs.PartWords.{has_parity, bytes-each}
 abbrev pub IsStore : Store → Type 0
 IsStore s = IsBytes s.bytes
 
-pub all-cons : {A : Type 0} (P : A → Type 0) (x : A) (xs : List A) → P x → AllByRecursion P xs → AllByRecursion P (x ∷ xs)
+pub all-cons : {A : Type 0} (P : A → Type 0) (x : A) (xs : List A) → P x → AllByRecursion P xs
+    → AllByRecursion P (x ∷ xs)
 all-cons P x xs h k = (h, k)
 
-pub all-append : {A : Type 0} (P : A → Type 0) (xs ys : List A) → AllByRecursion P xs → AllByRecursion P ys → AllByRecursion P (xs ++ ys)
+pub all-append : {A : Type 0} (P : A → Type 0) (xs ys : List A) → AllByRecursion P xs → AllByRecursion P ys
+    → AllByRecursion P (xs ++ ys)
 all-append P [] ys h k = k
 all-append P (x ∷ xs) ys h k = (h.0, all-append P xs ys h.1 k)
 
@@ -28,11 +30,13 @@ all-take P zero xs h = tt
 all-take P (suc n) [] h = tt
 all-take P (suc n) (x ∷ xs) h = (h.0, all-take P n xs h.1)
 
-pub all-map : {A B : Type 0} (P : B → Type 0) (f : A → B) (xs : List A) → ((x : A) → P (f x)) → AllByRecursion P (map f xs)
+pub all-map : {A B : Type 0} (P : B → Type 0) (f : A → B) (xs : List A) → ((x : A) → P (f x))
+    → AllByRecursion P (map f xs)
 all-map P f [] h = tt
 all-map P f (x ∷ xs) h = (h x, all-map P f xs h)
 
-pub after-bytes : (image : List ℕ) (ss : List Store) → IsBytes image → AllByRecursion IsStore ss → IsBytes (after_stores image ss)
+pub after-bytes : (image : List ℕ) (ss : List Store) → IsBytes image → AllByRecursion IsStore ss
+    → IsBytes (after_stores image ss)
 unfolding after_stores
 after-bytes image [] h k = h
 after-bytes image (s ∷ ss) h k = after-bytes (put image s.place s.bytes) ss (put-bytes image s.place s.bytes h k.0) k.1
@@ -54,7 +58,8 @@ HasBytes (StartWord n) = Unit {0}
 HasBytes (SizeWord n) = Unit {0}
 
 module _ (z : Zone) (valid : IsValidZone z) where
-  pub stage_stores-all : (g : Stage) (image : List ℕ) → IsBytes image → HasBytes g → AllByRecursion IsStore (stage_stores z g image)
+  pub stage_stores-all : (g : Stage) (image : List ℕ) → IsBytes image → HasBytes g
+      → AllByRecursion IsStore (stage_stores z g image)
   unfolding stage_stores part_bytes
   stage_stores-all (SigWord n) image h k = (word-bytes n, tt)
   stage_stores-all (StartWord n) image h k = (word-bytes n, tt)
@@ -62,18 +67,26 @@ module _ (z : Zone) (valid : IsValidZone z) where
   stage_stores-all (Run place bytes) image h k = byte_stores-all (12 + place) bytes k
   stage_stores-all (ParityOf part) image h k =
       byte_stores-all (part_parity_at z part) _
-      (has_parity z.parity (part_bytes z image part) (slice_range-bytes image (part_at z part) (part_at z part + part_len z part) h) (part_short z valid (has_parity z.parity) image part)).1
+      (has_parity z.parity (part_bytes z image part) (slice_range-bytes image (part_at z part)
+      (part_at z part + part_len z part) h) (part_short z valid (has_parity z.parity) image part)).1
 
-  pub stores_in_turn-all : (gs : List Stage) (image : List ℕ) → IsBytes image → AllByRecursion HasBytes gs → AllByRecursion IsStore (stores_in_turn z gs image)
+  pub stores_in_turn-all : (gs : List Stage) (image : List ℕ) → IsBytes image → AllByRecursion HasBytes gs
+      → AllByRecursion IsStore (stores_in_turn z gs image)
   unfolding stores_in_turn
   stores_in_turn-all [] image h k = tt
   stores_in_turn-all (g ∷ gs) image h k =
       let first = stage_stores-all g image h k.0 in
-      all-append IsStore (stage_stores z g image) _ first (stores_in_turn-all gs (after_stores image (stage_stores z g image)) (after-bytes image (stage_stores z g image) h first) k.1)
+      all-append IsStore (stage_stores z g image) _ first
+      (stores_in_turn-all gs (after_stores image (stage_stores z g image))
+      (after-bytes image (stage_stores z g image) h first) k.1)
 
   run-all : (place : ℕ) (bs : List ℕ) → IsBytes bs → AllByRecursion HasBytes (run_stages z place bs)
   run-all place [] h = tt
-  run-all place (b ∷ bs) h = (h, all-map HasBytes (λ k. ParityOf (Block k)) (blocks_met z place (length (b ∷ bs))) (λ x. tt))
+  run-all place (b ∷ bs) h = (
+    h,
+    all-map HasBytes (λ k. ParityOf (Block k)) (blocks_met z place (length (b ∷ bs)))
+        (λ x. tt),
+  )
 
   size-all : (full : Bool) (n : ℕ) → AllByRecursion HasBytes (cond full [] (SizeWord n ∷ []))
   size-all true n = tt
@@ -91,24 +104,33 @@ module _ (z : Zone) (valid : IsValidZone z) where
       let starts : List Stage = StartWord ((start + length q) % z.cap) ∷ [] in
       all-append HasBytes (sizes ++ starts ++ first ++ second) last
       (all-append HasBytes (sizes ++ starts ++ first) second
-      (all-append HasBytes (sizes ++ starts) first (all-append HasBytes sizes starts (size-all (size == z.cap) (min z.cap (size + length q))) (tt, tt)) (run-all start (take (z.cap - start) q) parts.0))
+      (all-append HasBytes (sizes ++ starts) first (all-append HasBytes sizes starts
+      (size-all (size == z.cap) (min z.cap (size + length q))) (tt, tt))
+      (run-all start (take (z.cap - start) q) parts.0))
       (run-all 0 (drop (z.cap - start) q) parts.1))
       (tt, tt)
 
-  pub call-all : (image : List ℕ) (call : Call) → CanBegin z image call → AllByRecursion HasBytes (call_stages z (standing_words image) call)
-  call-all image (Append payload) can = all-append HasBytes _ [] (append-all (standing_words image).start (standing_words image).size (last_items z.cap payload) (part-bytes (length payload - z.cap) payload can.1).1) tt
+  pub call-all : (image : List ℕ) (call : Call) → CanBegin z image call
+      → AllByRecursion HasBytes (call_stages z (standing_words image) call)
+  call-all image (Append payload) can = all-append HasBytes _ []
+      (append-all (standing_words image).start (standing_words image).size (last_items z.cap payload)
+      (part-bytes (length payload - z.cap) payload can.1).1) tt
   call-all image Erase can = (tt, (tt, (tt, tt)))
   call-all image (Dump line body) can =
       let h : ℕ = length line in
       let first : List Stage = append_stages z 0 0 line in
       let second : List Stage = append_stages z h h (take (z.cap - h) body) in
       all-append HasBytes erase_stages (first ++ (second ++ [])) (tt, (tt, (tt, tt)))
-      (all-append HasBytes first (second ++ []) (append-all 0 0 line can.2) (all-append HasBytes second [] (append-all h h (take (z.cap - h) body) (part-bytes (z.cap - h) body can.3).0) tt))
+      (all-append HasBytes first (second ++ []) (append-all 0 0 line can.2)
+      (all-append HasBytes second [] (append-all h h (take (z.cap - h) body)
+      (part-bytes (z.cap - h) body can.3).0) tt))
 
   -- the image after any stores of a call
-  pub call_image : (image : List ℕ) (call : Call) (k : ℕ) → IsImage z image → CanBegin z image call → IsImage z (image_after z call image k)
+  pub call_image : (image : List ℕ) (call : Call) (k : ℕ) → IsImage z image → CanBegin z image call
+      → IsImage z (image_after z call image k)
   unfolding call_stores
   call_image image call k im can = (
     length-after_stores image (take k (call_stores z call image)) ∙ im.0,
-    after-bytes image _ im.1 (all-take IsStore k _ (stores_in_turn-all (call_stages z (standing_words image) call) image im.1 (call-all image call can))),
+    after-bytes image _ im.1 (all-take IsStore k _ (stores_in_turn-all (call_stages z (standing_words image) call)
+        image im.1 (call-all image call can))),
   )

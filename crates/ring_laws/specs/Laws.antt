@@ -13,12 +13,14 @@ use Rattle.zone_spec.specs.Boot.{boot_stores, told_by_boot}
 
 -- a whole call leaves a zone in ring form for what the call means
 abbrev pub CallKeepsRingForm : Type 0
-CallKeepsRingForm = (z : Zone) (call : Call) (image told : List ℕ) → IsValidZone z → IsImage z image → IsRingForm z image told → CanBegin z image call
+CallKeepsRingForm = (z : Zone) (call : Call) (image told : List ℕ) → IsValidZone z → IsImage z image
+    → IsRingForm z image told → CanBegin z image call
     → IsRingForm z (image_after z call image (length (call_stores z call image))) (told_after z.cap call told)
 
 -- a boot leaves any zone in ring form for what it kept
 abbrev pub BootLeavesRingForm : Type 0
-BootLeavesRingForm = (z : Zone) (now : List ℕ) → IsValidZone z → IsImage z now → IsRingForm z (after_stores now (boot_stores z now)) (told_by_boot z now)
+BootLeavesRingForm = (z : Zone) (now : List ℕ) → IsValidZone z → IsImage z now
+    → IsRingForm z (after_stores now (boot_stores z now)) (told_by_boot z now)
 
 -- a zone in ring form reads its told list, and the words that stand
 pub record ReadsTold (z : Zone) (image told : List ℕ) : Type 0 where

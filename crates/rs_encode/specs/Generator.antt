@@ -13,4 +13,5 @@ pub record IsGenerator (g : List ℕ) : Type 0 where
 -- the multiples of g by f times scale, for each f below 16, without their first coefficient
 pub record IsRows (scale : ℕ) (g rows : List ℕ) : Type 0 where
   pub len : length rows ≡ 2048
-  pub at : (f k : ℕ) → f < 16 → k + 1 < length g → slice_index rows (128 * f + k) ≡ gf_mul (f * scale) (slice_index g (k + 1))
+  pub at : (f k : ℕ) → f < 16 → k + 1 < length g → slice_index rows (128 * f + k)
+      ≡ gf_mul (f * scale) (slice_index g (k + 1))

@@ -27,7 +27,8 @@ impl Model for Parity {
 
     ghost view = { λ p. length p.generator.items - 1 };
 
-    ghost invariant = { λ p. IsGenerator p.generator.items × IsRows 1 p.generator.items p.low × IsRows 16 p.generator.items p.high };
+    ghost invariant = { λ p. IsGenerator p.generator.items × IsRows 1 p.generator.items p.low
+        × IsRows 16 p.generator.items p.high };
 }
 
 /// Multiplies the polynomial, whose last coefficient is 0, by x plus `root`, and divides it by x.
@@ -62,7 +63,8 @@ fn generator_of(r: usize) -> ArrayVec<u8, 128>
 fn fill_row(rows: &mut [u8], start: usize, factor: u8, generator: &[u8])
     requires some { 0 < length generator.now }
     requires fits { start + length generator.now ≤ length rows.old + 1 }
-    ensures row { (k : ℕ) → k + 1 < length generator.now → slice_index rows.new (start + k) ≡ gf_mul factor (slice_index generator.now (k + 1)) }
+    ensures row { (k : ℕ) → k + 1 < length generator.now
+        → slice_index rows.new (start + k) ≡ gf_mul factor (slice_index generator.now (k + 1)) }
     ensures before { (k : ℕ) → k < start → slice_index rows.new k ≡ slice_index rows.old k }
 {
     for k in 0..generator.len() - 1 {
@@ -100,7 +102,8 @@ fn shift_step(word: &mut [u8], low: &[u8], high: &[u8])
     requires low { length low.now ≡ length word.old }
     requires high { length high.now ≡ length word.old }
     ensures { (k : ℕ) → k < length word.new →
-        slice_index word.new k ≡ gf_add (slice_index word.old (k + 1)) (gf_add (slice_index low.now k) (slice_index high.now k)) }
+        slice_index word.new k
+        ≡ gf_add (slice_index word.old (k + 1)) (gf_add (slice_index low.now k) (slice_index high.now k)) }
 {
     let last = word.len() - 1;
     for i in 0..last {
@@ -137,7 +140,8 @@ impl Parity {
     /// Takes the rest of a message to the rest of the message with `symbol` behind it.
     fn step(&self, symbol: u8, rest: &mut [u8])
         requires { length rest.old ≡ self.now }
-        ensures { (w : List ℕ) → IsCodeword self.now (w ++ rest.old) → IsCodeword self.now ((w ++ symbol ∷ []) ++ rest.new) }
+        ensures { (w : List ℕ) → IsCodeword self.now (w ++ rest.old)
+            → IsCodeword self.now ((w ++ symbol ∷ []) ++ rest.new) }
     {
         let r = self.generator.len() - 1;
         let factor = add(symbol, rest[0]);
@@ -194,7 +198,8 @@ mod tests {
         assert_parity(&rt, &[], &[0, 0]);
     }
 
-    /// With two symbols of parity: a ring's header that is empty, one of start and size 3, and the block of a first record.
+    /// With two symbols of parity: a ring's header that is empty, one of start and size 3, and the block of a first
+    /// record.
     #[test]
     fn headers_and_a_block(rt: HostRuntime) {
         assert_parity(

@@ -9,16 +9,20 @@ use Rattle.code_spec.specs.Locators.{Spot, NotAmong, AreSpots}
 use Rattle.gf_poly.proofs.Series.{lin, hv, hv_times, none_times, none_is, hv_plus, hv_scale, hv_lin_is, lin_hv_is, hv_lin_comm}
 use Rattle.rs_errors.proofs.KeyEquation.{locator-below, evaluator-below}
 
-pub hv_tail : (X m : ℕ) (p : ℕ → ℕ) → X < 256 → hv X p (suc m) ≡ gf_add (gf_mul (p 0) (gf_pow X (suc m))) (hv X (tail p) m)
+pub hv_tail : (X m : ℕ) (p : ℕ → ℕ) → X < 256 → hv X p (suc m) ≡ gf_add (gf_mul (p 0) (gf_pow X (suc m)))
+    (hv X (tail p) m)
 unfolding hv
 hv_tail X zero p b =
-    ap (λ (x : ℕ). gf_add x (p 1)) (mul_comm X (p 0) ∙ ap (gf_mul (p 0)) (sym (mul_one X b) ∙ ap (gf_mul X) (sym (pow_zero X)) ∙ sym (pow_suc X 0)))
+    ap (λ (x : ℕ). gf_add x (p 1)) (mul_comm X (p 0) ∙ ap (gf_mul (p 0))
+    (sym (mul_one X b) ∙ ap (gf_mul X) (sym (pow_zero X)) ∙ sym (pow_suc X 0)))
 hv_tail X (suc m) p b =
     ap (λ (x : ℕ). gf_add (gf_mul X x) (p (suc (suc m)))) (hv_tail X m p b)
     ∙ alg X (p 0) (gf_pow X (suc m)) (hv X (tail p) m) (p (suc (suc m)))
-    ∙ ap (λ (x : ℕ). gf_add (gf_mul (p 0) x) (gf_add (gf_mul X (hv X (tail p) m)) (p (suc (suc m))))) (sym (pow_suc X (suc m)))
+    ∙ ap (λ (x : ℕ). gf_add (gf_mul (p 0) x) (gf_add (gf_mul X (hv X (tail p) m)) (p (suc (suc m)))))
+    (sym (pow_suc X (suc m)))
   where
-    alg : (X c w h d : ℕ) → gf_add (gf_mul X (gf_add (gf_mul c w) h)) d ≡ gf_add (gf_mul c (gf_mul X w)) (gf_add (gf_mul X h) d)
+    alg : (X c w h d : ℕ) → gf_add (gf_mul X (gf_add (gf_mul c w) h)) d
+        ≡ gf_add (gf_mul c (gf_mul X w)) (gf_add (gf_mul X h) d)
     alg X c w h d = simp ring
 
 pub hv-bytes : (X : ℕ) (p : ℕ → ℕ) → Bytes p → Bytes (hv X p)
@@ -31,10 +35,12 @@ hv-bytes X p h = record { at = go }
 
 pub hv_past : (X n j : ℕ) (q : ℕ → ℕ) → Bytes q → Below (suc n) q → hv X q (j + n) ≡ gf_mul (gf_pow X j) (hv X q n)
 unfolding hv
-hv_past X n zero q b h = ap (hv X q) (zero-add n) ∙ sym (ap (λ (x : ℕ). gf_mul x (hv X q n)) (pow_zero X) ∙ one_mul (hv X q n) ((hv-bytes X q b).at n))
+hv_past X n zero q b h = ap (hv X q) (zero-add n) ∙ sym
+    (ap (λ (x : ℕ). gf_mul x (hv X q n)) (pow_zero X) ∙ one_mul (hv X q n) ((hv-bytes X q b).at n))
 hv_past X n (suc j) q b h =
     ap (hv X q) (suc-add j n)
-    ∙ ap₂ gf_add (ap (gf_mul X) (hv_past X n j q b h)) (h.at (suc (j + n)) (omega arith)) ∙ add_zero (gf_mul X (gf_mul (gf_pow X j) (hv X q n)))
+    ∙ ap₂ gf_add (ap (gf_mul X) (hv_past X n j q b h)) (h.at (suc (j + n)) (omega arith))
+    ∙ add_zero (gf_mul X (gf_mul (gf_pow X j) (hv X q n)))
     ∙ sym (mul_assoc X (gf_pow X j) (hv X q n)) ∙ ap (λ (x : ℕ). gf_mul x (hv X q n)) (sym (pow_suc X j))
 
 none_at : (p g : ℕ → ℕ) (k : ℕ) → Below 0 p → times p g k ≡ 0
@@ -44,15 +50,18 @@ none_at p g k h = ap (λ (f : ℕ → ℕ). times f g k) (none_is p h) ∙ ap (�
 tail_below : (m : ℕ) (p : ℕ → ℕ) → Below (suc m) p → Below m (tail p)
 tail_below m p h = record { at = λ k l. h.at (suc k) (omega arith) }
 
-top : (X m n : ℕ) (p q : ℕ → ℕ) → X < 256 → Below (suc m) p → Below (suc n) q → Bytes q → times p (hv X q) (m + n) ≡ gf_mul (hv X p m) (hv X q n)
+top : (X m n : ℕ) (p q : ℕ → ℕ) → X < 256 → Below (suc m) p → Below (suc n) q → Bytes q
+    → times p (hv X q) (m + n) ≡ gf_mul (hv X p m) (hv X q n)
 unfolding times hv
 top X zero zero p q bX hp hq b = refl
 top X zero (suc n) p q bX hp hq b =
     ap (times p (hv X q)) (zero-add (suc n))
-    ∙ ap (gf_add (gf_mul (p 0) (hv X q (suc n)))) (none_at (tail p) (hv X q) n (tail_below 0 p hp)) ∙ add_zero (gf_mul (p 0) (hv X q (suc n)))
+    ∙ ap (gf_add (gf_mul (p 0) (hv X q (suc n)))) (none_at (tail p) (hv X q) n (tail_below 0 p hp))
+    ∙ add_zero (gf_mul (p 0) (hv X q (suc n)))
 top X (suc m) n p q bX hp hq b =
     ap (times p (hv X q)) (suc-add m n)
-    ∙ ap₂ gf_add (ap (gf_mul (p 0)) (ap (hv X q) (sym (suc-add m n)) ∙ hv_past X n (suc m) q b hq)) (top X m n (tail p) q bX (tail_below (suc m) p hp) hq b)
+    ∙ ap₂ gf_add (ap (gf_mul (p 0)) (ap (hv X q) (sym (suc-add m n)) ∙ hv_past X n (suc m) q b hq))
+    (top X m n (tail p) q bX (tail_below (suc m) p hp) hq b)
     ∙ alg (p 0) (gf_pow X (suc m)) (hv X q n) (hv X (tail p) m)
     ∙ ap (λ (x : ℕ). gf_mul x (hv X q n)) (sym (hv_tail X m p bX))
   where
@@ -60,7 +69,8 @@ top X (suc m) n p q bX hp hq b =
     alg c w g h = simp ring
 
 -- the value of a product
-pub hv_product : (X m n : ℕ) (p q : ℕ → ℕ) → X < 256 → Below (suc m) p → Below (suc n) q → Bytes q → hv X (times p q) (m + n) ≡ gf_mul (hv X p m) (hv X q n)
+pub hv_product : (X m n : ℕ) (p q : ℕ → ℕ) → X < 256 → Below (suc m) p → Below (suc n) q → Bytes q
+    → hv X (times p q) (m + n) ≡ gf_mul (hv X p m) (hv X q n)
 hv_product X m n p q bX hp hq b = ap (λ (f : ℕ → ℕ). f (m + n)) (hv_times X p q) ∙ top X m n p q bX hp hq b
 
 -- the value of p times a linear factor
@@ -84,7 +94,8 @@ gaps X (s ∷ ss) = gf_mul (gf_add X s.X) (gaps X ss)
 pub locator_value : (X : ℕ) (ss : List Spot) → hv X (locator ss) (length ss) ≡ gaps X ss
 unfolding gaps locator hv one
 locator_value X [] = refl
-locator_value X (s ∷ ss) = hv_factor X s.X (length ss) (locator ss) (locator-below ss) ∙ ap (gf_mul (gf_add X s.X)) (locator_value X ss)
+locator_value X (s ∷ ss) = hv_factor X s.X (length ss) (locator ss) (locator-below ss)
+    ∙ ap (gf_mul (gf_add X s.X)) (locator_value X ss)
 
 pub gaps_below : (X : ℕ) (ss : List Spot) → gaps X ss < 256
 unfolding gaps
@@ -95,7 +106,8 @@ pub gaps_zero : (X : ℕ) (ss : List Spot) → X < 256 → AreSpots ss → NotAm
 unfolding gaps
 gaps_zero X [] b h n e = absurd (cc)
 gaps_zero X (s ∷ ss) b h n e =
-    gaps_zero X ss b h.3 n.1 (mul_cancel_zero (gf_add X s.X) (gaps X ss) (add_below X s.X b h.0) (λ z. n.0 (equal_from_add X s.X z)) (gaps_below X ss) e)
+    gaps_zero X ss b h.3 n.1 (mul_cancel_zero (gf_add X s.X) (gaps X ss) (add_below X s.X b h.0)
+    (λ z. n.0 (equal_from_add X s.X z)) (gaps_below X ss) e)
 
 -- each spot's locator is a root of p, of degree at most d
 abbrev pub AllRoots : ℕ → (ℕ → ℕ) → List Spot → Type 0
@@ -108,7 +120,8 @@ root_below X d p h e = record { at = λ k l. subst (λ (x : ℕ). hv X p x ≡ 0
   where
     go : (j : ℕ) → hv X p (j + d) ≡ 0
     go zero = ap (hv X p) (zero-add d) ∙ e
-    go (suc j) = ap (hv X p) (suc-add j d) ∙ ap₂ gf_add (ap (gf_mul X) (go j) ∙ mul_zero X) (h.at (suc (j + d)) (omega arith)) ∙ zero_add 0
+    go (suc j) = ap (hv X p) (suc-add j d) ∙ ap₂ gf_add (ap (gf_mul X) (go j) ∙ mul_zero X)
+        (h.at (suc (j + d)) (omega arith)) ∙ zero_add 0
 
 lin_zero : (X : ℕ) (p : ℕ → ℕ) → ((k : ℕ) → p k ≡ 0) → (k : ℕ) → lin X p k ≡ 0
 unfolding lin
@@ -116,7 +129,8 @@ lin_zero X p h zero = h 0
 lin_zero X p h (suc k) = ap₂ gf_add (h (suc k)) (ap (gf_mul X) (h k) ∙ mul_zero X) ∙ zero_add 0
 
 -- the other roots stay when one is divided out
-roots_left : (X d : ℕ) (p : ℕ → ℕ) (ss : List Spot) → X < 256 → NotAmong X ss → AreSpots ss → Bytes p → Below (suc d) (hv X p) → AllRoots (suc d) p ss → AllRoots d (hv X p) ss
+roots_left : (X d : ℕ) (p : ℕ → ℕ) (ss : List Spot) → X < 256 → NotAmong X ss → AreSpots ss → Bytes p
+    → Below (suc d) (hv X p) → AllRoots (suc d) p ss → AllRoots d (hv X p) ss
 roots_left X d p [] b n h bp l r = tt
 roots_left X d p (s ∷ ss) b n h bp l r = (
   mul_cancel_zero (gf_add s.X X) (hv s.X (hv X p) d) (add_below s.X X h.0 b) (λ z. n.0 (sym (equal_from_add s.X X z)))
@@ -126,10 +140,12 @@ roots_left X d p (s ∷ ss) b n h bp l r = (
 )
 
 -- a polynomial with more roots than its degree is zero
-pub root_bound : (d : ℕ) (p : ℕ → ℕ) (ss : List Spot) → Bytes p → Below (suc d) p → AreSpots ss → AllRoots d p ss → d < length ss → (k : ℕ) → p k ≡ 0
+pub root_bound : (d : ℕ) (p : ℕ → ℕ) (ss : List Spot) → Bytes p → Below (suc d) p → AreSpots ss → AllRoots d p ss
+    → d < length ss → (k : ℕ) → p k ≡ 0
 root_bound d p [] bp h a r l k = absurd (omega arith)
 root_bound zero p (s ∷ ss) bp h a r l k =
-    ap (λ (f : ℕ → ℕ). f k) (sym (lin_hv_is s.X p)) ∙ lin_zero s.X (hv s.X p) (λ j. (root_below s.X 0 p h r.0).at j zero-le) k
+    ap (λ (f : ℕ → ℕ). f k) (sym (lin_hv_is s.X p)) ∙ lin_zero s.X (hv s.X p)
+    (λ j. (root_below s.X 0 p h r.0).at j zero-le) k
 root_bound (suc d) p (s ∷ ss) bp h a r l k =
     ap (λ (f : ℕ → ℕ). f k) (sym (lin_hv_is s.X p))
     ∙ lin_zero s.X (hv s.X p)
@@ -152,11 +168,14 @@ pub gaps_member : (i : ℕ) (ss : List Spot) → i < length ss → gaps (spot_at
 unfolding gaps spot_at
 gaps_member i [] l = absurd (omega arith)
 gaps_member zero (s ∷ ss) l = ap (λ (x : ℕ). gf_mul x (gaps s.X ss)) (add_self s.X) ∙ zero_mul (gaps s.X ss)
-gaps_member (suc i) (s ∷ ss) l = ap (gf_mul (gf_add (spot_at i ss).X s.X)) (gaps_member i ss (omega arith)) ∙ mul_zero (gf_add (spot_at i ss).X s.X)
+gaps_member (suc i) (s ∷ ss) l = ap (gf_mul (gf_add (spot_at i ss).X s.X)) (gaps_member i ss (omega arith))
+    ∙ mul_zero (gf_add (spot_at i ss).X s.X)
 
-pub evaluator_head : (s : Spot) (ss : List Spot) (X k : ℕ) → hv X (evaluator (s ∷ ss)) k ≡ gf_add (gf_mul s.mask (hv X (locator ss) k)) (hv X (lin s.X (evaluator ss)) k)
+pub evaluator_head : (s : Spot) (ss : List Spot) (X k : ℕ)
+    → hv X (evaluator (s ∷ ss)) k ≡ gf_add (gf_mul s.mask (hv X (locator ss) k)) (hv X (lin s.X (evaluator ss)) k)
 unfolding evaluator
-evaluator_head s ss X k = hv_plus X k (scale s.mask (locator ss)) (lin s.X (evaluator ss)) ∙ ap (λ (x : ℕ). gf_add x (hv X (lin s.X (evaluator ss)) k)) (hv_scale X s.mask k (locator ss))
+evaluator_head s ss X k = hv_plus X k (scale s.mask (locator ss)) (lin s.X (evaluator ss))
+    ∙ ap (λ (x : ℕ). gf_add x (hv X (lin s.X (evaluator ss)) k)) (hv_scale X s.mask k (locator ss))
 
 below_one : (n : ℕ) (p : ℕ → ℕ) → Below n p → Below (suc n) p
 below_one n p h = record { at = λ k l. h.at k (omega arith) }
@@ -175,10 +194,12 @@ evaluator_value zero n (s ∷ ss) e l =
 evaluator_value (suc i) zero (s ∷ ss) e l = absurd (omega (arith, e))
 evaluator_value (suc i) (suc n) (s ∷ ss) e l =
     let X : ℕ = (spot_at i ss).X in
-    let root : hv X (locator ss) (suc n) ≡ 0 = ap (hv X (locator ss)) (omega (arith, e)) ∙ locator_value X ss ∙ gaps_member i ss (omega arith) in
+    let root : hv X (locator ss) (suc n) ≡ 0 = ap (hv X (locator ss)) (omega (arith, e)) ∙ locator_value X ss
+    ∙ gaps_member i ss (omega arith) in
     let low : Below (suc n) (evaluator ss) = record { at = λ k h. (evaluator-below ss).at k (omega (arith, e)) } in
     evaluator_head s ss X (suc n)
     ∙ ap₂ gf_add (ap (gf_mul s.mask) root ∙ mul_zero s.mask)
-    (hv_factor X s.X n (evaluator ss) low ∙ ap (gf_mul (gf_add X s.X)) (evaluator_value i n ss (omega (arith, e)) (omega arith)))
+    (hv_factor X s.X n (evaluator ss) low ∙ ap (gf_mul (gf_add X s.X))
+    (evaluator_value i n ss (omega (arith, e)) (omega arith)))
     ∙ zero_add (gf_mul (gf_add X s.X) (gf_mul (spot_at i ss).mask (gaps X (others i ss))))
     ∙ mul_left_comm (gf_add X s.X) (spot_at i ss).mask (gaps X (others i ss))

@@ -58,29 +58,37 @@ agree_equal : (n : ℕ) (p p' q : ℕ → ℕ) → p ≡ p' → Agree n p' q →
 agree_equal n p p' q e h = record { at = λ j l. ap (λ (f : ℕ → ℕ). f j) e ∙ h.at j l }
 
 agree_times : (n : ℕ) (q p p' : ℕ → ℕ) → Agree n p p' → Agree n (times q p) (times q p')
-agree_times n q p p' h = record { at = λ j l. ap (λ (f : ℕ → ℕ). f j) (times_comm q p) ∙ (times_agree n p p' q h).at j l ∙ ap (λ (f : ℕ → ℕ). f j) (times_comm p' q) }
+agree_times n q p p' h = record {
+  at = λ j l. ap (λ (f : ℕ → ℕ). f j) (times_comm q p)
+      ∙ (times_agree n p p' q h).at j l ∙ ap (λ (f : ℕ → ℕ). f j) (times_comm p' q);
+}
 
 euclid_start : (n : ℕ) (S : ℕ → ℕ) → Bytes S → IsEuclid n S one none S (shift n one)
 unfolding none
 euclid_start n S b = record {
   solves = record { at = λ k l. ap (λ (f : ℕ → ℕ). f k) (one_times S b) };
   solved = record { at = λ k l. ap (λ (f : ℕ → ℕ). f k) (none_times S) ∙ sym (shift_low n k one l) };
-  determinant = ap₂ plus (one_times (shift n one) (shift_bytes n one one_bytes)) (none_times S) ∙ plus_none (shift n one);
+  determinant = ap₂ plus (one_times (shift n one) (shift_bytes n one one_bytes)) (none_times S)
+      ∙ plus_none (shift n one);
 }
 
-euclid_step : (n : ℕ) (S v v' r r' q : ℕ → ℕ) → IsEuclid n S v v' r r' → IsEuclid n S (plus v' (times q v)) v (plus r' (times q r)) r
+euclid_step : (n : ℕ) (S v v' r r' q : ℕ → ℕ) → IsEuclid n S v v' r r'
+    → IsEuclid n S (plus v' (times q v)) v (plus r' (times q r)) r
 euclid_step n S v v' r r' q h = record {
   solves = agree_equal n (times (plus v' (times q v)) S) (plus (times v' S) (times q (times v S))) (plus r' (times q r))
       (plus_times v' (times q v) S ∙ ap (plus (times v' S)) (times_assoc q v S))
-      (agree_plus n (times v' S) r' (times q (times v S)) (times q r) h.solved (agree_times n q (times v S) r h.solves));
+      (agree_plus n (times v' S) r' (times q (times v S)) (times q r) h.solved
+      (agree_times n q (times v S) r h.solves));
   solved = h.solves;
   determinant = alg v v' r r' q ∙ h.determinant;
 }
   where
-    alg : (v v' r r' q : ℕ → ℕ) → plus (times (plus v' (times q v)) r) (times v (plus r' (times q r))) ≡ plus (times v r') (times v' r)
+    alg : (v v' r r' q : ℕ → ℕ) → plus (times (plus v' (times q v)) r) (times v (plus r' (times q r)))
+        ≡ plus (times v r') (times v' r)
     alg v v' r r' q = simp series
 
-pub rows_start : (t : ℕ) (S : ℕ → ℕ) (v v' r r' : List ℕ) → Bytes S → 0 < t → v ≡ 1 ∷ replicate 0 0 → v' ≡ [] → poly r ≡ S → r' ≡ 1 ∷ replicate (t + t) 0
+pub rows_start : (t : ℕ) (S : ℕ → ℕ) (v v' r r' : List ℕ) → Bytes S → 0 < t → v ≡ 1 ∷ replicate 0 0 → v' ≡ []
+    → poly r ≡ S → r' ≡ 1 ∷ replicate (t + t) 0
     → length r ≤ t + t → (0 < length r → get_or r 0 0 ≢ 0) → IsRows t S v v' r r'
 rows_start t S v v' r r' b p ev ev' er er' l lead =
     let lr' : length r' ≡ t + t + 1 = ap length er' ∙ omega (arith, length-replicate {A = ℕ} (t + t) 0) in
@@ -102,7 +110,8 @@ rows_start t S v v' r r' b p ev ev' er er' l lead =
     }
 
 pub rows_step : (t : ℕ) (S : ℕ → ℕ) (v v' r r' v'' r'' : List ℕ) → IsRows t S v v' r r' → t < length r
-    → IsStep (poly r') (poly v') (poly r) (poly v) (poly r'') (poly v'') → length r'' < length r → (0 < length r'' → get_or r'' 0 0 ≢ 0)
+    → IsStep (poly r') (poly v') (poly r) (poly v) (poly r'') (poly v'') → length r'' < length r
+    → (0 < length r'' → get_or r'' 0 0 ≢ 0)
     → length v'' + length r ≡ length r' + length v → IsRows t S v'' v r'' r
 rows_step t S v v' r r' v'' r'' h l s f lead e = record {
   euclid = rw (s.rest, s.factor) (euclid_step (t + t) S (poly v) (poly v') (poly r) (poly r') s.quotient h.euclid);
@@ -112,9 +121,11 @@ rows_step t S v v' r r' v'' r'' h l s f lead e = record {
   some_factor = omega (arith, h.some_factor, h.falls);
   grows = omega (arith, h.falls);
   leading = lead;
-  bytes = subst Bytes (sym s.factor) (plus_bytes (poly v') (times s.quotient (poly v)) h.old_bytes (times_bytes s.quotient (poly v)));
+  bytes = subst Bytes (sym s.factor) (plus_bytes (poly v') (times s.quotient (poly v)) h.old_bytes
+      (times_bytes s.quotient (poly v)));
   old_bytes = h.bytes;
-  rest_bytes = subst Bytes (sym s.rest) (plus_bytes (poly r') (times s.quotient (poly r)) h.old_rest_bytes (times_bytes s.quotient (poly r)));
+  rest_bytes = subst Bytes (sym s.rest) (plus_bytes (poly r') (times s.quotient (poly r)) h.old_rest_bytes
+      (times_bytes s.quotient (poly r)));
   old_rest_bytes = h.rest_bytes;
 }
 
@@ -147,13 +158,17 @@ unfolding scale
 scale_one p h = λ i k. one_mul (p k) (h.at k) i
 
 -- ---- one row, from what the calls leave
-pub step_of : (a b q r f v v' : List ℕ) (n : List ℕ) → poly a ≡ plus (times (poly b) (poly q)) (poly r) → poly n ≡ poly r
+pub step_of : (a b q r f v v' : List ℕ) (n : List ℕ) → poly a ≡ plus (times (poly b) (poly q)) (poly r)
+    → poly n ≡ poly r
     → poly f ≡ plus (times (poly q) (poly v')) (scale 1 (poly v)) → Bytes (poly v)
     → IsStep (poly a) (poly v) (poly b) (poly v') (poly n) (poly f)
 step_of a b q r f v v' n ea en ef bv = record {
   quotient = poly q;
-  rest = en ∙ sym (ap (λ (p : ℕ → ℕ). plus p (times (poly q) (poly b))) ea ∙ ap (λ (p : ℕ → ℕ). plus (plus (times (poly b) (poly q)) (poly r)) p) (times_comm (poly q) (poly b)) ∙ alg (times (poly b) (poly q)) (poly r));
-  factor = ef ∙ ap (plus (times (poly q) (poly v'))) (scale_one (poly v) bv) ∙ plus_comm (times (poly q) (poly v')) (poly v);
+  rest = en ∙ sym (ap (λ (p : ℕ → ℕ). plus p (times (poly q) (poly b))) ea
+      ∙ ap (λ (p : ℕ → ℕ). plus (plus (times (poly b) (poly q)) (poly r)) p) (times_comm (poly q) (poly b))
+      ∙ alg (times (poly b) (poly q)) (poly r));
+  factor = ef ∙ ap (plus (times (poly q) (poly v'))) (scale_one (poly v) bv)
+      ∙ plus_comm (times (poly q) (poly v')) (poly v);
 }
   where
     alg : (p r : ℕ → ℕ) → plus (plus p r) p ≡ r

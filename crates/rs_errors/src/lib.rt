@@ -62,10 +62,12 @@ fn next_row(old: &Row, new: &Row) -> Row
     requires grows { length old.now.factor.items ≤ length new.now.factor.items }
     requires fits { length old.now.rest.items + length new.now.factor.items ≤ 256 }
     requires bytes { Bytes (poly old.now.factor.items) }
-    ensures step { IsStep (poly old.now.rest.items) (poly old.now.factor.items) (poly new.now.rest.items) (poly new.now.factor.items) (poly result.rest.items) (poly result.factor.items) }
+    ensures step { IsStep (poly old.now.rest.items) (poly old.now.factor.items) (poly new.now.rest.items)
+        (poly new.now.factor.items) (poly result.rest.items) (poly result.factor.items) }
     ensures falls { length result.rest.items < length new.now.rest.items }
     ensures leading { 0 < length result.rest.items → slice_index result.rest.items 0 ≢ 0 }
-    ensures factor { length result.factor.items + length new.now.rest.items ≡ length old.now.rest.items + length new.now.factor.items }
+    ensures factor { length result.factor.items + length new.now.rest.items
+        ≡ length old.now.rest.items + length new.now.factor.items }
 {
     let mut quotient: ArrayVec<u8, 255> = ArrayVec::new();
     let mut rest: ArrayVec<u8, 255> = ArrayVec::new();
@@ -207,7 +209,8 @@ fn candidate(t: usize, syndromes: &[u8], places: usize, fixes: &mut ArrayVec<Fix
     requires places { places ≤ 255 }
     ensures few { length fixes.new.items ≤ t }
     ensures inside { AllInside places fixes.new.items }
-    ensures found { (D : List ℕ) → IsDamage t places syndromes.now D → (result ≡ true) × (fixes.new.items ≡ fixes_from places D) }
+    ensures found { (D : List ℕ) → IsDamage t places syndromes.now D
+        → (result ≡ true) × (fixes.new.items ≡ fixes_from places D) }
 {
     fixes.clear();
     let row = solve(t, syndromes);
@@ -267,7 +270,8 @@ fn is_damaged(coder: &Parity, msg: &[u8], par: &[u8], values: &mut [u8]) -> bool
     requires len { length values.old ≡ length par.now }
     ensures clean { result ≡ false → HasRoots (length par.now) (msg.now ++ par.now) }
     ensures damaged { result ≡ true → ¬ HasRoots (length par.now) (msg.now ++ par.now) }
-    ensures values { result ≡ true → (k : ℕ) → k < length par.now → slice_index values.new k ≡ value_of (msg.now ++ par.now) (gf_pow 2 k) }
+    ensures values { result ≡ true → (k : ℕ) → k < length par.now
+        → slice_index values.new k ≡ value_of (msg.now ++ par.now) (gf_pow 2 k) }
 {
     let mut buffer = [0u8; 127];
     let out = &mut buffer[..par.len()];
@@ -316,12 +320,14 @@ fn corrected(
     requires few { length par.now ≤ 127 }
     requires fits { length msg.now + length par.now ≤ 255 }
     requires len { length values.now ≡ length par.now }
-    requires values { (k : ℕ) → k < length par.now → slice_index values.now k ≡ value_of (msg.now ++ par.now) (gf_pow 2 k) }
+    requires values { (k : ℕ) → k < length par.now → slice_index values.now k
+        ≡ value_of (msg.now ++ par.now) (gf_pow 2 k) }
     requires wrong { ¬ HasRoots (length par.now) (msg.now ++ par.now) }
     ensures near { IfSome result (λ w. IsWithin (length par.now / 2) (length par.now) (msg.now ++ par.now) w.items) }
     ensures fixes { IfSome result (λ w. fixes.new.items ≡ fixes_between (msg.now ++ par.now) w.items) }
     ensures some { IfSome result (λ w. 0 < distance (msg.now ++ par.now) w.items) }
-    ensures none { IfNone result ((c : List ℕ) → IsWithin (length par.now / 2) (length par.now) (msg.now ++ par.now) c → ⊥) }
+    ensures none { IfNone result ((c : List ℕ) → IsWithin (length par.now / 2) (length par.now) (msg.now ++ par.now) c
+        → ⊥) }
     ensures nearest { IfSome result (λ w. nearest (length par.now) (msg.now ++ par.now) ≡ Some w.items) }
     ensures nowhere { IfNone result (nearest (length par.now) (msg.now ++ par.now) ≡ None) }
 {
@@ -351,7 +357,8 @@ pub fn decode(msg: &mut [u8], par: &[u8], fixes: &mut ArrayVec<Fix, 63>) -> Deco
     requires some_msg { 1 ≤ length msg.old }
     requires fits { length msg.old + length par.now ≤ 255 }
     ensures answer { let word = msg.old ++ par.now in result ≡ decoded_by word (nearest (length par.now) word) }
-    ensures data { let word = msg.old ++ par.now in msg.new ≡ take (length msg.old) (unwrap_or (nearest (length par.now) word) word) }
+    ensures data { let word = msg.old ++ par.now in msg.new
+        ≡ take (length msg.old) (unwrap_or (nearest (length par.now) word) word) }
     ensures fixes { let word = msg.old ++ par.now in fixes.new.items ≡ fixes_by word (nearest (length par.now) word) }
 {
     decode_with(&Parity::new(par.len()), msg, par, fixes)
@@ -370,7 +377,8 @@ pub fn decode_with(
     requires some_msg { 1 ≤ length msg.old }
     requires fits { length msg.old + length par.now ≤ 255 }
     ensures answer { let word = msg.old ++ par.now in result ≡ decoded_by word (nearest (length par.now) word) }
-    ensures data { let word = msg.old ++ par.now in msg.new ≡ take (length msg.old) (unwrap_or (nearest (length par.now) word) word) }
+    ensures data { let word = msg.old ++ par.now in msg.new
+        ≡ take (length msg.old) (unwrap_or (nearest (length par.now) word) word) }
     ensures fixes { let word = msg.old ++ par.now in fixes.new.items ≡ fixes_by word (nearest (length par.now) word) }
 {
     fixes.clear();
@@ -487,7 +495,8 @@ mod tests {
         msg
     }
 
-    /// Adds the masks of `places` to the word, and wants them found again where there are at most half as many as parity.
+    /// Adds the masks of `places` to the word, and wants them found again where there are at most half as many as
+    /// parity.
     fn assert_found(rt: &impl Abort, par: &[u8], places: &[(u8, u8)]) {
         let msg = ramp();
         let r = par.len();

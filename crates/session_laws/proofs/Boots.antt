@@ -32,7 +32,8 @@ equal_lists : (xs ys : List ℕ) → bytes_eq xs ys ≡ true → xs ≡ ys
 equal_lists [] [] e = refl
 equal_lists [] (y ∷ ys) e = let n : ◌≡◌ {A = ℕ} 0 1 = cc in absurd (omega (arith, n))
 equal_lists (x ∷ xs) [] e = let n : ◌≡◌ {A = ℕ} 0 1 = cc in absurd (omega (arith, n))
-equal_lists (x ∷ xs) (y ∷ ys) e = let b = both (nat_eq x y) (bytes_eq xs ys) e in ap₂ (λ v vs. v ∷ vs) (eqb-true x y b.0) (equal_lists xs ys b.1)
+equal_lists (x ∷ xs) (y ∷ ys) e = let b = both (nat_eq x y) (bytes_eq xs ys) e in
+    ap₂ (λ v vs. v ∷ vs) (eqb-true x y b.0) (equal_lists xs ys b.1)
   where
     both : (a c : Bool) → (a && c) ≡ true → (a ≡ true) × (c ≡ true)
     both true c h = (refl, h)
@@ -48,30 +49,40 @@ same_front [] (y ∷ ys) = refl
 same_front (x ∷ xs) [] = refl
 same_front (x ∷ xs) (y ∷ ys) = by (nat_eq x y) refl (same_front xs ys)
   where
-    by : (b : Bool) → nat_eq x y ≡ b → take (common_prefix_len nat_eq xs ys) xs ≡ take (common_prefix_len nat_eq xs ys) ys
-        → take (cond b (1 + common_prefix_len nat_eq xs ys) 0) (x ∷ xs) ≡ take (cond b (1 + common_prefix_len nat_eq xs ys) 0) (y ∷ ys)
+    by : (b : Bool) → nat_eq x y ≡ b → take (common_prefix_len nat_eq xs ys) xs
+        ≡ take (common_prefix_len nat_eq xs ys) ys
+        → take (cond b (1 + common_prefix_len nat_eq xs ys) 0) (x ∷ xs)
+        ≡ take (cond b (1 + common_prefix_len nat_eq xs ys) 0) (y ∷ ys)
     by true e h =
         let m : suc (common_prefix_len nat_eq xs ys) ≡ 1 + common_prefix_len nat_eq xs ys = omega arith in
         subst (λ n. take n (x ∷ xs) ≡ take n (y ∷ ys)) m (ap₂ (λ v vs. v ∷ vs) (eqb-true x y e) h)
     by false e h = refl
 
-first_differs : (xs ys : List ℕ) → xs ≢ ys → slice_get xs (common_prefix_len nat_eq xs ys) ≢ slice_get ys (common_prefix_len nat_eq xs ys)
+first_differs : (xs ys : List ℕ) → xs ≢ ys → slice_get xs (common_prefix_len nat_eq xs ys)
+    ≢ slice_get ys (common_prefix_len nat_eq xs ys)
 first_differs [] [] ne = absurd (ne refl)
 first_differs [] (y ∷ ys) ne = λ e. (let n : ◌≡◌ {A = ℕ} 0 1 = cc in omega (arith, n))
 first_differs (x ∷ xs) [] ne = λ e. (let n : ◌≡◌ {A = ℕ} 0 1 = cc in omega (arith, n))
 first_differs (x ∷ xs) (y ∷ ys) ne = by (nat_eq x y) refl (first_differs xs ys)
   where
-    by : (b : Bool) → nat_eq x y ≡ b → (xs ≢ ys → slice_get xs (common_prefix_len nat_eq xs ys) ≢ slice_get ys (common_prefix_len nat_eq xs ys))
-        → slice_get (x ∷ xs) (cond b (1 + common_prefix_len nat_eq xs ys) 0) ≢ slice_get (y ∷ ys) (cond b (1 + common_prefix_len nat_eq xs ys) 0)
+    by : (b : Bool) → nat_eq x y ≡ b → (xs ≢ ys → slice_get xs (common_prefix_len nat_eq xs ys)
+        ≢ slice_get ys (common_prefix_len nat_eq xs ys))
+        → slice_get (x ∷ xs) (cond b (1 + common_prefix_len nat_eq xs ys) 0)
+        ≢ slice_get (y ∷ ys) (cond b (1 + common_prefix_len nat_eq xs ys) 0)
     by true e h =
         let m : suc (common_prefix_len nat_eq xs ys) ≡ 1 + common_prefix_len nat_eq xs ys = omega arith in
-        subst (λ n. slice_get (x ∷ xs) n ≢ slice_get (y ∷ ys) n) m (h (λ s. ne (ap₂ (λ v vs. v ∷ vs) (eqb-true x y e) s)))
-    by false e h = λ s. (let k : x ≡ y = cc in let n : ◌≡◌ {A = Bool} false true = sym e ∙ eq-eqb x y k in let f : ◌≡◌ {A = ℕ} 0 1 = cc in omega (arith, f))
+        subst (λ n. slice_get (x ∷ xs) n ≢ slice_get (y ∷ ys) n) m
+        (h (λ s. ne (ap₂ (λ v vs. v ∷ vs) (eqb-true x y e) s)))
+    by false e h = λ s. (let k : x ≡ y = cc in let n : ◌≡◌ {A = Bool} false true = sym e ∙ eq-eqb x y k in
+        let f : ◌≡◌ {A = ℕ} 0 1 = cc in omega (arith, f))
 
 pub verdict_is_exact : VerdictIsExact
 verdict_is_exact None log = record {
   nothing_told = ((λ e. refl), (λ e. refl));
-  as_told = ((λ e. (let n : ◌≡◌ {A = ℕ} 0 1 = cc in absurd (omega (arith, n)))), (λ e. (let n : ◌≡◌ {A = ℕ} 0 1 = cc in absurd (omega (arith, n)))));
+  as_told = (
+    (λ e. (let n : ◌≡◌ {A = ℕ} 0 1 = cc in absurd (omega (arith, n)))),
+    (λ e. (let n : ◌≡◌ {A = ℕ} 0 1 = cc in absurd (omega (arith, n)))),
+  );
   differs = λ list e ne. (let n : ◌≡◌ {A = ℕ} 0 1 = cc in absurd (omega (arith, n)));
 }
 verdict_is_exact (Some told) log = by (bytes_eq log told) refl
@@ -81,21 +92,36 @@ verdict_is_exact (Some told) log = by (bytes_eq log told) refl
         let same : log ≡ told = equal_lists log told e in
         let is : verdict_of (Some told) log ≡ AsTold = (rw e refl) in
         record {
-          nothing_told = ((λ h. (let n : AsTold ≡ NothingTold = sym is ∙ h in let f : ◌≡◌ {A = ℕ} 0 1 = cc in absurd (omega (arith, f)))), (λ h. (let f : ◌≡◌ {A = ℕ} 0 1 = cc in absurd (omega (arith, f)))));
+          nothing_told = (
+            (λ h. (let n : AsTold ≡ NothingTold = sym is ∙ h in let f : ◌≡◌ {A = ℕ} 0 1 = cc in
+                absurd (omega (arith, f)))),
+            (λ h. (let f : ◌≡◌ {A = ℕ} 0 1 = cc in absurd (omega (arith, f)))),
+          );
           as_told = ((λ h. ap Some (sym same)), (λ h. is));
           differs = λ list h ne. (let s : told ≡ list = cc in absurd (ne (sym s ∙ sym same)));
         }
     by false e =
-        let is : verdict_of (Some told) log ≡ Differs (length told) (length log) (common_prefix_len nat_eq told log) = (rw e refl) in
+        let is : verdict_of (Some told) log ≡ Differs (length told) (length log) (common_prefix_len nat_eq told log) =
+        (rw e refl) in
         record {
-          nothing_told = ((λ h. (let n : Differs (length told) (length log) (common_prefix_len nat_eq told log) ≡ NothingTold = sym is ∙ h in let f : ◌≡◌ {A = ℕ} 0 1 = cc in absurd (omega (arith, f)))), (λ h. (let f : ◌≡◌ {A = ℕ} 0 1 = cc in absurd (omega (arith, f)))));
+          nothing_told = (
+            (λ h. (let n : Differs (length told) (length log) (common_prefix_len nat_eq told log)
+                ≡ NothingTold = sym is ∙ h in let f : ◌≡◌ {A = ℕ} 0 1 = cc in absurd (omega (arith, f)))),
+            (λ h. (let f : ◌≡◌ {A = ℕ} 0 1 = cc in absurd (omega (arith, f)))),
+          );
           as_told = (
-            (λ h. (let n : Differs (length told) (length log) (common_prefix_len nat_eq told log) ≡ AsTold = sym is ∙ h in let f : ◌≡◌ {A = ℕ} 0 1 = cc in absurd (omega (arith, f)))),
-            (λ h. (let s : told ≡ log = cc in let n : false ≡ true = sym e ∙ (subst (λ v. bytes_eq log v ≡ true) (sym s) (same_list log)) in let f : ◌≡◌ {A = ℕ} 0 1 = cc in absurd (omega (arith, f)))),
+            (λ h. (let n : Differs (length told) (length log) (common_prefix_len nat_eq told log) ≡ AsTold = sym is
+                ∙ h in let f : ◌≡◌ {A = ℕ} 0 1 = cc in absurd (omega (arith, f)))),
+            (λ h. (let s : told ≡ log = cc in let n : false ≡ true = sym e
+                ∙ (subst (λ v. bytes_eq log v ≡ true) (sym s) (same_list log)) in let f : ◌≡◌ {A = ℕ} 0 1 = cc in
+                absurd (omega (arith, f)))),
           );
           differs = λ list h ne. (
               let s : told ≡ list = cc in
-              subst (λ v. (verdict_of (Some told) log ≡ Differs (length v) (length log) (common_prefix_len nat_eq v log)) × (take (common_prefix_len nat_eq v log) v ≡ take (common_prefix_len nat_eq v log) log) × (slice_get v (common_prefix_len nat_eq v log) ≢ slice_get log (common_prefix_len nat_eq v log))) s
+              subst (λ v. (verdict_of (Some told) log ≡ Differs (length v) (length log)
+              (common_prefix_len nat_eq v log)) × (take (common_prefix_len nat_eq v log) v
+              ≡ take (common_prefix_len nat_eq v log) log) × (slice_get v (common_prefix_len nat_eq v log)
+              ≢ slice_get log (common_prefix_len nat_eq v log))) s
               (is, same_front told log, first_differs told log (λ k. ne (sym s ∙ k))));
         }
 
@@ -113,7 +139,9 @@ zone_reports z zone now valid sound =
             cut_report z reading cut,
             f.3,
             ap (report_cut z reading) c,
-            subst (λ k. IsExactReport z reading k (kind_of f.1.call) f.1.made (length (call_stores z f.1.call f.1.image)) (cut_report z reading k)) (sym f.3) (cut_report_is_exact z f.1 zone.stop f.0 reading valid f.4),
+            subst (λ k. IsExactReport z reading k (kind_of f.1.call) f.1.made
+                (length (call_stores z f.1.call f.1.image)) (cut_report z reading k)) (sym f.3)
+                (cut_report_is_exact z f.1 zone.stop f.0 reading valid f.4),
           );
       cut_erasure = λ cut c own.
           let b = sound.in_erasure cut c own in (
@@ -122,28 +150,40 @@ zone_reports z zone now valid sound =
             cut_report z reading cut,
             b.4,
             ap (report_cut z reading) c,
-            subst (λ k. IsExactReport z reading k Erase (b.1 - length (boot_fixes z b.0)) (length (boot_stores z b.0) - length (boot_fixes z b.0)) (cut_report z reading k)) (sym b.4) (boot_cut_report_is_exact z b.0 b.1 reading valid b.2 b.3).0,
+            subst (λ k. IsExactReport z reading k Erase (b.1 - length (boot_fixes z b.0))
+                (length (boot_stores z b.0) - length (boot_fixes z b.0)) (cut_report z reading k)) (sym b.4)
+                (boot_cut_report_is_exact z b.0 b.1 reading valid b.2 b.3).0,
           );
     }
 
 pub report_is_exact : ReportIsExact
-report_is_exact layout mem off lies state =
-    (state.zones.0, λ i z zone hz hv. zone_reports z zone (zone_bytes z off.image) (lies.valid i z hz).0 (state.zones.1 i z zone hz hv))
+report_is_exact layout mem off lies state = (
+  state.zones.0,
+  λ i z zone hz hv. zone_reports z zone (zone_bytes z off.image) (lies.valid i z hz).0
+      (state.zones.1 i z zone hz hv),
+)
 
-zone_cuts : (z : Zone) (zone : OffZone) (now : List ℕ) → IsValidZone z → IsOffZone z zone → IsImage z now → ReadsCut z zone now
+zone_cuts : (z : Zone) (zone : OffZone) (now : List ℕ) → IsValidZone z → IsOffZone z zone → IsImage z now
+    → ReadsCut z zone now
 zone_cuts z zone now valid sound hn = record {
   call = λ told cut t c own damage.
       let f = sound.in_flight cut c own in
       let same : f.0 ≡ told = (let e : Some f.0 ≡ Some told = sym f.2 ∙ t in cc) in
-      subst (λ k. CutReads z k told zone.stop now) (sym f.3) (cut_zone_reads z zone.stop now told f.1 valid (subst (λ xs. IsInFlight z zone.stop xs f.1) same f.4) hn damage);
+      subst (λ k. CutReads z k told zone.stop now) (sym f.3)
+      (cut_zone_reads z zone.stop now told f.1 valid (subst (λ xs. IsInFlight z zone.stop xs f.1) same f.4)
+      hn damage);
   erasure = λ cut c own.
       let b = sound.in_erasure cut c own in (
         b.0,
         subst (λ k. BootCutReads z b.0 zone.stop now k) (sym b.4)
-            (subst (λ s. BootCutReads z b.0 s now (boot_cut z b.0 b.1)) (sym b.5) (boot_cut_zone_reads z b.0 now b.1 valid b.2 hn b.3)),
+            (subst (λ s. BootCutReads z b.0 s now (boot_cut z b.0 b.1)) (sym b.5)
+            (boot_cut_zone_reads z b.0 now b.1 valid b.2 hn b.3)),
       );
 }
 
 pub cut_zones_read : CutZonesRead
-cut_zones_read layout mem off lies state =
-    (state.zones.0, λ i z zone hz hv. zone_cuts z zone (zone_bytes z off.image) (lies.valid i z hz).0 (state.zones.1 i z zone hz hv) (off_bytes layout mem lies off state i z hz))
+cut_zones_read layout mem off lies state = (
+  state.zones.0,
+  λ i z zone hz hv. zone_cuts z zone (zone_bytes z off.image) (lies.valid i z hz).0
+      (state.zones.1 i z zone hz hv) (off_bytes layout mem lies off state i z hz),
+)

@@ -45,7 +45,8 @@ take-none (suc k) [] e = refl
 take-none (suc k) (x ∷ xs) e = cc
 
 take-both : {X : Type 0} (k : ℕ) (xs ys : List X) → take k (xs ++ ys) ≡ take k xs ++ take (k - length xs) ys
-take-both k [] ys = (let e : k ≡ k - 0 = omega arith in ap (λ n. take n ys) e) ∙ ap (λ zs. zs ++ take (k - 0) ys) (sym (take-none k [] refl))
+take-both k [] ys = (let e : k ≡ k - 0 = omega arith in ap (λ n. take n ys) e)
+    ∙ ap (λ zs. zs ++ take (k - 0) ys) (sym (take-none k [] refl))
 take-both zero (x ∷ xs) ys = (let e : 0 - length (x ∷ xs) ≡ 0 = omega arith in ap (λ n. take n ys) (sym e))
 take-both (suc k) (x ∷ xs) ys = ap (λ zs. x ∷ zs) (take-both k xs ys ∙ ap (λ n. take k xs ++ take n ys) (omega arith))
 
@@ -71,7 +72,8 @@ zone_byte z x i h = slice_byte x z.at (z.at + z.size) i (omega arith)
 zone_length : (z : Zone) (x : List ℕ) → z.at + z.size ≤ length x → length (zone_bytes z x) ≡ z.size
 zone_length z x h = slice_length x z.at z.size h
 
-put_outside : (z : Zone) (x : List ℕ) (s : Store) → z.at + z.size ≤ length x → Outside z s → zone_bytes z (put x s.place s.bytes) ≡ zone_bytes z x
+put_outside : (z : Zone) (x : List ℕ) (s : Store) → z.at + z.size ≤ length x → Outside z s
+    → zone_bytes z (put x s.place s.bytes) ≡ zone_bytes z x
 unfolding Outside
 put_outside z x s fits out =
     let n = zone_length z x fits in
@@ -84,29 +86,38 @@ put_outside z x s fits out =
     ])
     ∙ sym (zone_byte z x i (omega (arith, m))))
 
-put_inside : (z : Zone) (x : List ℕ) (p : ℕ) (bs : List ℕ) → z.at + z.size ≤ length x → p + length bs ≤ z.size → zone_bytes z (put x (z.at + p) bs) ≡ put (zone_bytes z x) p bs
+put_inside : (z : Zone) (x : List ℕ) (p : ℕ) (bs : List ℕ) → z.at + z.size ≤ length x → p + length bs ≤ z.size
+    → zone_bytes z (put x (z.at + p) bs) ≡ put (zone_bytes z x) p bs
 put_inside z x p bs fits inside =
     let n = zone_length z x fits in
     let m = zone_length z (put x (z.at + p) bs) (omega (arith, length-put x (z.at + p) bs)) in
-    ext_get_or 0 (zone_bytes z (put x (z.at + p) bs)) (put (zone_bytes z x) p bs) (m ∙ sym n ∙ sym (length-put (zone_bytes z x) p bs))
+    ext_get_or 0 (zone_bytes z (put x (z.at + p) bs)) (put (zone_bytes z x) p bs)
+    (m ∙ sym n ∙ sym (length-put (zone_bytes z x) p bs))
     (λ i h. zone_byte z (put x (z.at + p) bs) i (omega (arith, m))
     ∙ elim (cases_lt i p) [
-      | inl a ↦ put-below x (z.at + p) (z.at + i) bs (omega arith) ∙ sym (zone_byte z x i (omega (arith, m))) ∙ sym (put-below (zone_bytes z x) p i bs a)
+      | inl a ↦ put-below x (z.at + p) (z.at + i) bs (omega arith) ∙ sym (zone_byte z x i (omega (arith, m)))
+          ∙ sym (put-below (zone_bytes z x) p i bs a)
       | inr b ↦ elim (cases_lt i (p + length bs)) [
-        | inl c ↦ ap (λ k. get_or (put x (z.at + p) bs) k 0) (let e : z.at + i ≡ (z.at + p) + (i - p) = omega arith in e)
+        | inl c ↦ ap (λ k. get_or (put x (z.at + p) bs) k 0)
+            (let e : z.at + i ≡ (z.at + p) + (i - p) = omega arith in e)
             ∙ put-inside x (z.at + p) (i - p) bs (omega arith) (omega arith)
             ∙ sym (put-inside (zone_bytes z x) p (i - p) bs (omega (arith, n)) (omega arith))
             ∙ ap (λ k. get_or (put (zone_bytes z x) p bs) k 0) (let e : p + (i - p) ≡ i = omega arith in e)
-        | inr d ↦ put-above x (z.at + p) (z.at + i) bs (omega arith) ∙ sym (zone_byte z x i (omega (arith, m))) ∙ sym (put-above (zone_bytes z x) p i bs d)
+        | inr d ↦ put-above x (z.at + p) (z.at + i) bs (omega arith) ∙ sym (zone_byte z x i (omega (arith, m)))
+            ∙ sym (put-above (zone_bytes z x) p i bs d)
       ]
     ])
 
-after_outside : (z : Zone) (ss : List Store) (x : List ℕ) → z.at + z.size ≤ length x → AllByRecursion (Outside z) ss → zone_bytes z (after_stores x ss) ≡ zone_bytes z x
+after_outside : (z : Zone) (ss : List Store) (x : List ℕ) → z.at + z.size ≤ length x → AllByRecursion (Outside z) ss
+    → zone_bytes z (after_stores x ss) ≡ zone_bytes z x
 unfolding after_stores
 after_outside z [] x fits h = refl
-after_outside z (s ∷ ss) x fits h = after_outside z ss (put x s.place s.bytes) (omega (arith, length-put x s.place s.bytes)) h.1 ∙ put_outside z x s fits h.0
+after_outside z (s ∷ ss) x fits h = after_outside z ss (put x s.place s.bytes)
+    (omega (arith, length-put x s.place s.bytes)) h.1 ∙ put_outside z x s fits h.0
 
-after_inside : (z : Zone) (ss : List Store) (x : List ℕ) → z.at + z.size ≤ length x → AllByRecursion (InZone z.size) ss → zone_bytes z (after_stores x (map (λ s. moved z.at s) ss)) ≡ after_stores (zone_bytes z x) ss
+after_inside : (z : Zone) (ss : List Store) (x : List ℕ) → z.at + z.size ≤ length x
+    → AllByRecursion (InZone z.size) ss → zone_bytes z (after_stores x (map (λ s. moved z.at s) ss))
+    ≡ after_stores (zone_bytes z x) ss
 unfolding after_stores InZone
 after_inside z [] x fits h = refl
 after_inside z (s ∷ ss) x fits h =
@@ -118,18 +129,24 @@ abbrev Located : List Zone → ℕ → Type 0
 Located zs base = (i : ℕ) (z : Zone) → slice_get zs i ≡ Some z → z.at ≡ base + zones_end (take i zs)
 
 abbrev Inside : List Zone → List ℕ → Type 0
-Inside zs image = (i : ℕ) (z : Zone) → slice_get zs i ≡ Some z → AllByRecursion (InZone z.size) (boot_stores z (zone_bytes z image))
+Inside zs image = (i : ℕ) (z : Zone) → slice_get zs i ≡ Some z
+    → AllByRecursion (InZone z.size) (boot_stores z (zone_bytes z image))
 
 located_tail : (y : Zone) (ys : List Zone) (base : ℕ) → Located (y ∷ ys) base → Located ys (base + y.size)
 located_tail y ys base h i z e = h (suc i) z e ∙ omega (arith, sum_by-cons (λ (v : Zone). v.size) y (take i ys))
 
-moved_outside : (z y : Zone) (ss : List Store) → AllByRecursion (InZone y.size) ss → (y.at + y.size ≤ z.at) ⊎ (z.at + z.size ≤ y.at) → AllByRecursion (Outside z) (map (λ s. moved y.at s) ss)
+moved_outside : (z y : Zone) (ss : List Store) → AllByRecursion (InZone y.size) ss
+    → (y.at + y.size ≤ z.at) ⊎ (z.at + z.size ≤ y.at) → AllByRecursion (Outside z) (map (λ s. moved y.at s) ss)
 unfolding InZone Outside
 moved_outside z y [] h side = tt
-moved_outside z y (s ∷ ss) h side = (elim side [ inl a ↦ inl (omega (arith, h.0)) | inr b ↦ inr (omega arith) ], moved_outside z y ss h.1 side)
+moved_outside z y (s ∷ ss) h side = (
+  elim side [ inl a ↦ inl (omega (arith, h.0)) | inr b ↦ inr (omega arith) ],
+  moved_outside z y ss h.1 side,
+)
 
 -- the stores of zones behind z
-behind_outside : (z : Zone) (image : List ℕ) (zs : List Zone) (base : ℕ) → z.at + z.size ≤ base → Located zs base → Inside zs image → AllByRecursion (Outside z) (image_boot_stores zs image)
+behind_outside : (z : Zone) (image : List ℕ) (zs : List Zone) (base : ℕ) → z.at + z.size ≤ base → Located zs base
+    → Inside zs image → AllByRecursion (Outside z) (image_boot_stores zs image)
 behind_outside z image [] base h loc ins = tt
 behind_outside z image (y ∷ ys) base h loc ins =
     let at : y.at ≡ base + zones_end [] = loc 0 y refl in
@@ -138,12 +155,15 @@ behind_outside z image (y ∷ ys) base h loc ins =
     (behind_outside z image ys (base + y.size) (omega arith) (located_tail y ys base loc) (λ i v e. ins (suc i) v e))
 
 -- a zone's bytes after some of the stores of a boot are its own after so many of its own
-zone_after : (image : List ℕ) (zs : List Zone) (base k : ℕ) (x : List ℕ) (i : ℕ) (z : Zone) → slice_get zs i ≡ Some z → Located zs base → Inside zs image → z.at + z.size ≤ length x
-    → zone_bytes z (after_stores x (take k (image_boot_stores zs image))) ≡ after_stores (zone_bytes z x) (take (k - boot_count (take i zs) image) (boot_stores z (zone_bytes z image)))
+zone_after : (image : List ℕ) (zs : List Zone) (base k : ℕ) (x : List ℕ) (i : ℕ) (z : Zone) → slice_get zs i ≡ Some z
+    → Located zs base → Inside zs image → z.at + z.size ≤ length x
+    → zone_bytes z (after_stores x (take k (image_boot_stores zs image)))
+    ≡ after_stores (zone_bytes z x) (take (k - boot_count (take i zs) image) (boot_stores z (zone_bytes z image)))
 zone_after image [] base k x i z e loc ins fits = (let b : Some z ≡ None = sym e in cc)
 zone_after image (y ∷ ys) base k x zero z e loc ins fits =
     let s : y ≡ z = cc in
-    subst (λ v. zone_bytes z (after_stores x (take k (image_boot_stores (v ∷ ys) image))) ≡ after_stores (zone_bytes z x) (take (k - 0) (boot_stores z (zone_bytes z image)))) (sym s)
+    subst (λ v. zone_bytes z (after_stores x (take k (image_boot_stores (v ∷ ys) image)))
+    ≡ after_stores (zone_bytes z x) (take (k - 0) (boot_stores z (zone_bytes z image)))) (sym s)
     (let own : List Store = boot_stores z (zone_bytes z image) in
     let a : List Store = map (λ s. moved z.at s) own in
     let c : List Store = image_boot_stores ys image in
@@ -152,8 +172,10 @@ zone_after image (y ∷ ys) base k x zero z e loc ins fits =
     let k_is : k ≡ k - 0 = omega arith in
     ap (λ ss. zone_bytes z (after_stores x ss)) (take-both k a c)
     ∙ ap (zone_bytes z) (after_stores-append x (take k a) (take (k - length a) c))
-    ∙ after_outside z (take (k - length a) c) (after_stores x (take k a)) (omega (arith, length-after_stores x (take k a)))
-    (all-take (Outside z) (k - length a) c (behind_outside z image ys (base + y.size) (omega (arith, at, size)) (located_tail y ys base loc) (λ j v f. ins (suc j) v f)))
+    ∙ after_outside z (take (k - length a) c) (after_stores x (take k a))
+    (omega (arith, length-after_stores x (take k a)))
+    (all-take (Outside z) (k - length a) c (behind_outside z image ys (base + y.size) (omega (arith, at, size))
+    (located_tail y ys base loc) (λ j v f. ins (suc j) v f)))
     ∙ ap (λ ss. zone_bytes z (after_stores x ss)) (take-map (λ s. moved z.at s) k own)
     ∙ after_inside z (take k own) x fits (all-take (InZone z.size) k own (ins 0 z (ap Some s)))
     ∙ ap (λ n. after_stores (zone_bytes z x) (take n own)) k_is)
@@ -164,16 +186,20 @@ zone_after image (y ∷ ys) base k x (suc i) z e loc ins fits =
     let at : y.at ≡ base + zones_end [] = loc 0 y refl in
     let far : z.at ≡ (base + y.size) + zones_end (take i ys) = located_tail y ys base loc i z e in
     let x1 : List ℕ = after_stores x (take k a) in
-    let same : zone_bytes z x1 ≡ zone_bytes z x = after_outside z (take k a) x fits (all-take (Outside z) k a (moved_outside z y own (ins 0 y refl) (inl (omega (arith, at, far))))) in
-    let less : (k - length a) - boot_count (take i ys) image ≡ k - boot_count (y ∷ take i ys) image = omega (arith, length-append a (image_boot_stores (take i ys) image)) in
+    let same : zone_bytes z x1 ≡ zone_bytes z x = after_outside z (take k a) x fits
+    (all-take (Outside z) k a (moved_outside z y own (ins 0 y refl) (inl (omega (arith, at, far))))) in
+    let less : (k - length a) - boot_count (take i ys) image ≡ k - boot_count (y ∷ take i ys) image =
+    omega (arith, length-append a (image_boot_stores (take i ys) image)) in
     ap (λ ss. zone_bytes z (after_stores x ss)) (take-both k a c)
     ∙ ap (zone_bytes z) (after_stores-append x (take k a) (take (k - length a) c))
-    ∙ zone_after image ys (base + y.size) (k - length a) x1 i z e (located_tail y ys base loc) (λ j v f. ins (suc j) v f) (omega (arith, length-after_stores x (take k a)))
+    ∙ zone_after image ys (base + y.size) (k - length a) x1 i z e (located_tail y ys base loc)
+    (λ j v f. ins (suc j) v f) (omega (arith, length-after_stores x (take k a)))
     ∙ ap₂ (λ b n. after_stores b (take n (boot_stores z (zone_bytes z image)))) same less
 
 -- ---- a boot's stores lie in the zone
 
-bytes_in : (size place : ℕ) (bs : List ℕ) → place + length bs ≤ size → AllByRecursion (InZone size) (byte_stores place bs)
+bytes_in : (size place : ℕ) (bs : List ℕ) → place + length bs ≤ size
+    → AllByRecursion (InZone size) (byte_stores place bs)
 unfolding byte_stores InZone
 bytes_in size place [] h = tt
 bytes_in size place (b ∷ bs) h = (omega arith, bytes_in size (place + 1) bs (omega arith))
@@ -193,13 +219,17 @@ module _ (z : Zone) (valid : IsValidZone z) where
   stage_in (StartWord n) x h = (omega (arith, valid.at_least), tt)
   stage_in (SizeWord n) x h = (omega (arith, valid.at_least), tt)
   stage_in (Run place bytes) x h = absurd h
-  stage_in (ParityOf Header) x h = bytes_in z.size (part_parity_at z Header) (parity_of z.parity (part_bytes z x Header)) (omega (arith, part_fits z Header valid tt, parity_length z.parity (part_bytes z x Header)))
+  stage_in (ParityOf Header) x h = bytes_in z.size (part_parity_at z Header)
+      (parity_of z.parity (part_bytes z x Header)) (omega
+      (arith, part_fits z Header valid tt, parity_length z.parity (part_bytes z x Header)))
   stage_in (ParityOf (Block b)) x h = absurd h
 
-  turn_in : (gs : List Stage) (x : List ℕ) → AllByRecursion IsErasure gs → AllByRecursion (InZone z.size) (stores_in_turn z gs x)
+  turn_in : (gs : List Stage) (x : List ℕ) → AllByRecursion IsErasure gs
+      → AllByRecursion (InZone z.size) (stores_in_turn z gs x)
   unfolding stores_in_turn
   turn_in [] x h = tt
-  turn_in (g ∷ gs) x h = all-append (InZone z.size) (stage_stores z g x) _ (stage_in g x h.0) (turn_in gs (after_stores x (stage_stores z g x)) h.1)
+  turn_in (g ∷ gs) x h = all-append (InZone z.size) (stage_stores z g x) _ (stage_in g x h.0)
+      (turn_in gs (after_stores x (stage_stores z g x)) h.1)
 
   erasure_in : (b : Bool) (s : State) → AllByRecursion IsErasure (cond b [] (signing z s ++ erase_stages))
   erasure_in true s = tt
@@ -208,7 +238,8 @@ module _ (z : Zone) (valid : IsValidZone z) where
   erasure_in false Invalid = (tt, (tt, (tt, tt)))
   erasure_in false Found = (tt, (tt, (tt, tt)))
 
-  fixes_in : (image : List ℕ) (ss : List Store) → AllByRecursion (Fixes z image (IsPartOf z)) ss → AllByRecursion (InZone z.size) ss
+  fixes_in : (image : List ℕ) (ss : List Store) → AllByRecursion (Fixes z image (IsPartOf z)) ss
+      → AllByRecursion (InZone z.size) ss
   unfolding InZone
   fixes_in image [] h = tt
   fixes_in image (s ∷ ss) h = (omega (arith, ap length h.0.3, ends h.0.0 h.0.2, h.0.4.high), fixes_in image ss h.1)
@@ -221,70 +252,109 @@ module _ (z : Zone) (valid : IsValidZone z) where
   unfolding boot_stores boot_erasure
   stores_in now im =
       all-append (InZone z.size) (boot_fixes z now) _ (fixes_in now (boot_fixes z now) (boot_fixes-all z valid now im))
-      (turn_in (boot_erasure z now) (after_stores now (boot_fixes z now)) (erasure_in (keeps z (zone_reading z now)) (zone_reading z now).state))
+      (turn_in (boot_erasure z now) (after_stores now (boot_fixes z now))
+      (erasure_in (keeps z (zone_reading z now)) (zone_reading z now).state))
 
   -- ---- a zone that is left
-  within_left : (stop now y : List ℕ) (part : Part) → IsImage z stop → IsImage z now → IsMended z now y part → IsWithinBounds z stop now part → IsWithinBounds z stop y part
+  within_left : (stop now y : List ℕ) (part : Part) → IsImage z stop → IsImage z now → IsMended z now y part
+      → IsWithinBounds z stop now part → IsWithinBounds z stop y part
   within_left stop now y part hs hn mended (inl sound) =
       let c : List ℕ = sound.0 in
-      let near : IsNear z.parity (part_word z stop part) c = nearest-IsNear z.parity (part_word z stop part) c (part_word-IsWord z stop part hs.1) sound.1 in
+      let near : IsNear z.parity (part_word z stop part) c =
+      nearest-IsNear z.parity (part_word z stop part) c (part_word-IsWord z stop part hs.1) sound.1 in
       let here : nearest z.parity (part_word z now part) ≡ Some c =
-      near_is z now part c valid hn.1 (record { codeword = near.codeword; within = sound.2; word = subst (λ n. IsWord n c) (sym (length-part_word z now stop part (hn.0 ∙ sym hs.0))) near.word }) in
+      near_is z now part c valid hn.1 (record {
+        codeword = near.codeword;
+        within = sound.2;
+        word = subst (λ n. IsWord n c) (sym (length-part_word z now stop part (hn.0 ∙ sym hs.0))) near.word;
+      }) in
       inl (c, sound.1, omega (arith, mended.stands.closer c here, sound.2))
   within_left stop now y part hs hn mended (inr same) = by (nearest z.parity (part_word z now part)) refl
     where
       by : (o : Option (List ℕ)) → nearest z.parity (part_word z now part) ≡ o → IsWithinBounds z stop y part
       by None e = inr (mended.stands.none e ∙ same)
       by (Some c) e =
-          let near : IsNear z.parity (part_word z now part) c = nearest-IsNear z.parity (part_word z now part) c (part_word-IsWord z now part hn.1) e in
+          let near : IsNear z.parity (part_word z now part) c =
+          nearest-IsNear z.parity (part_word z now part) c (part_word-IsWord z now part hn.1) e in
           inl (c, ap (nearest z.parity) (sym same) ∙ e, omega (arith, mended.stands.closer c e, near.within))
 
-  damage_left : (stop now : List ℕ) (k : ℕ) → IsImage z stop → IsImage z now → IsNotDamagedFurther z stop now → IsNotDamagedFurther z stop (after_stores now (take k (boot_fixes z now)))
+  damage_left : (stop now : List ℕ) (k : ℕ) → IsImage z stop → IsImage z now → IsNotDamagedFurther z stop now
+      → IsNotDamagedFurther z stop (after_stores now (take k (boot_fixes z now)))
   damage_left stop now k hs hn h i l =
       let y : List ℕ = after_stores now (take k (boot_fixes z now)) in
       let t = fixed_toward z (IsPartOf z) now y Header valid (length-after_stores now (take k (boot_fixes z now)))
-      (λ j. some_fixed z now (IsPartOf z) (take k (boot_fixes z now)) now j (all-take (Fixes z now (IsPartOf z)) k (boot_fixes z now) (boot_fixes-all z valid now hn)) (inl refl)) i (omega (arith, (header_length z now valid hn).1)) in
+      (λ j. some_fixed z now (IsPartOf z) (take k (boot_fixes z now)) now j
+      (all-take (Fixes z now (IsPartOf z)) k (boot_fixes z now) (boot_fixes-all z valid now hn)) (inl refl)) i
+      (omega (arith, (header_length z now valid hn).1)) in
       elim t [
         | inl e ↦ elim (h i l) [ inl a ↦ inl (e ∙ a) | inr b ↦ inr (b.0, b.1, e ∙ b.2) ]
         | inr b ↦ inr (b.0, sym (header_toward z stop now valid hs hn h).stands.same ∙ b.1, b.2)
       ]
 
-pub count_within : (image : List ℕ) (zs : List Zone) (i : ℕ) (z : Zone) → slice_get zs i ≡ Some z → boot_count (take i zs) image + length (boot_stores z (zone_bytes z image)) ≤ boot_count zs image
+pub count_within : (image : List ℕ) (zs : List Zone) (i : ℕ) (z : Zone) → slice_get zs i ≡ Some z
+    → boot_count (take i zs) image + length (boot_stores z (zone_bytes z image)) ≤ boot_count zs image
 count_within image [] i z e = (let b : Some z ≡ None = sym e in cc)
 count_within image (y ∷ ys) zero z e =
     let s : y ≡ z = cc in
-    omega (arith, length-append (map (λ s. moved y.at s) (boot_stores y (zone_bytes y image))) (image_boot_stores ys image), length-maps (λ s. moved y.at s) (boot_stores y (zone_bytes y image)), ap (λ (v : Zone). length (boot_stores v (zone_bytes v image))) s)
+    omega (
+      arith,
+      length-append (map (λ s. moved y.at s) (boot_stores y (zone_bytes y image)))
+          (image_boot_stores ys image),
+      length-maps (λ s. moved y.at s) (boot_stores y (zone_bytes y image)),
+      ap (λ (v : Zone). length (boot_stores v (zone_bytes v image))) s,
+    )
 count_within image (y ∷ ys) (suc i) z e =
-    omega (arith, count_within image ys i z e, length-append (map (λ s. moved y.at s) (boot_stores y (zone_bytes y image))) (image_boot_stores ys image), length-append (map (λ s. moved y.at s) (boot_stores y (zone_bytes y image))) (image_boot_stores (take i ys) image))
+    omega (
+      arith,
+      count_within image ys i z e,
+      length-append
+          (map (λ s. moved y.at s) (boot_stores y (zone_bytes y image))) (image_boot_stores ys image),
+      length-append (map (λ s. moved y.at s) (boot_stores y (zone_bytes y image)))
+          (image_boot_stores (take i ys) image),
+    )
 
 -- by how far the boot came in the zone
-left_or_stopped : (z : Zone) (old : OffZone) (now later : List ℕ) (all : Bool) (n : ℕ) → IsValidZone z → IsImage z old.stop → IsImage z now → later ≡ after_stores now (take n (boot_stores z now)) → (all ≡ true → length (boot_stores z now) ≤ n)
-    → ((zone_parted z now all n old ≡ old) × ((part : Part) → IsPartOf z part → IsWithinBounds z old.stop now part → IsWithinBounds z old.stop later part) × (IsNotDamagedFurther z old.stop now → IsNotDamagedFurther z old.stop later))
+left_or_stopped : (z : Zone) (old : OffZone) (now later : List ℕ) (all : Bool) (n : ℕ) → IsValidZone z
+    → IsImage z old.stop → IsImage z now → later ≡ after_stores now (take n (boot_stores z now))
+    → (all ≡ true → length (boot_stores z now) ≤ n)
+    → ((zone_parted z now all n old ≡ old) × ((part : Part) → IsPartOf z part → IsWithinBounds z old.stop now part
+    → IsWithinBounds z old.stop later part) × (IsNotDamagedFurther z old.stop now
+    → IsNotDamagedFurther z old.stop later))
     ⊎ ((zone_parted z now all n old).stop ≡ later)
 unfolding boot_stores
-left_or_stopped z old now later all n valid hs hn is whole = by (all || (nat_lt 0 n && nat_le (length (boot_stores z now)) n)) refl (nat_lt (length (boot_fixes z now)) n) refl
+left_or_stopped z old now later all n valid hs hn is whole =
+    by (all || (nat_lt 0 n && nat_le (length (boot_stores z now)) n)) refl (nat_lt (length (boot_fixes z now)) n) refl
   where
     rest : List Store
     rest = stores_in_turn z (boot_erasure z now) (after_stores now (boot_fixes z now))
 
-    long : (a c : Bool) → a ≡ all → c ≡ nat_le (length (boot_stores z now)) n → (d : Bool) → (a || (d && c)) ≡ true → length (boot_stores z now) ≤ n
+    long : (a c : Bool) → a ≡ all → c ≡ nat_le (length (boot_stores z now)) n → (d : Bool) → (a || (d && c)) ≡ true
+        → length (boot_stores z now) ≤ n
     long true c e f d g = whole (sym e)
     long false true e f true g = leb-true (length (boot_stores z now)) n (sym f)
     long false true e f false g = absurd (true≢false (sym g))
     long false false e f true g = absurd (true≢false (sym g))
     long false false e f false g = absurd (true≢false (sym g))
 
-    by : (b : Bool) → (all || (nat_lt 0 n && nat_le (length (boot_stores z now)) n)) ≡ b → (c : Bool) → nat_lt (length (boot_fixes z now)) n ≡ c
-        → ((cond b (zone_finished z now) (cond c (zone_cut z now n old) old) ≡ old) × ((part : Part) → IsPartOf z part → IsWithinBounds z old.stop now part → IsWithinBounds z old.stop later part) × (IsNotDamagedFurther z old.stop now → IsNotDamagedFurther z old.stop later))
+    by : (b : Bool) → (all || (nat_lt 0 n && nat_le (length (boot_stores z now)) n)) ≡ b → (c : Bool)
+        → nat_lt (length (boot_fixes z now)) n ≡ c
+        → ((cond b (zone_finished z now) (cond c (zone_cut z now n old) old) ≡ old)
+        × ((part : Part) → IsPartOf z part → IsWithinBounds z old.stop now part
+        → IsWithinBounds z old.stop later part) × (IsNotDamagedFurther z old.stop now
+        → IsNotDamagedFurther z old.stop later))
         ⊎ ((cond b (zone_finished z now) (cond c (zone_cut z now n old) old)).stop ≡ later)
-    by true e c f = inr (sym (is ∙ ap (after_stores now) (take_all n (boot_stores z now) (long all (nat_le (length (boot_stores z now)) n) refl refl (nat_lt 0 n) e))))
+    by true e c f = inr (sym (is ∙ ap (after_stores now)
+        (take_all n (boot_stores z now) (long all (nat_le (length (boot_stores z now)) n) refl refl (nat_lt 0 n) e))))
     by false e true f = inr (sym is)
     by false e false f =
         let most : n ≤ length (boot_fixes z now) = ltb-false (length (boot_fixes z now)) n f in
-        let at : later ≡ after_stores now (take n (boot_fixes z now)) = is ∙ ap (after_stores now) (take-left n (boot_fixes z now) rest most) in
+        let at : later ≡ after_stores now (take n (boot_fixes z now)) =
+        is ∙ ap (after_stores now) (take-left n (boot_fixes z now) rest most) in
         inl (
           refl,
-          (λ part own h. subst (λ y. IsWithinBounds z old.stop y part) (sym at) (within_left z valid old.stop now (after_stores now (take n (boot_fixes z now))) part hs hn (fixed_mended z valid now hn n part) h)),
+          (λ part own h. subst (λ y. IsWithinBounds z old.stop y part) (sym at)
+              (within_left z valid old.stop now (after_stores now (take n (boot_fixes z now))) part hs hn
+              (fixed_mended z valid now hn n part) h)),
           (λ h. subst (IsNotDamagedFurther z old.stop) (sym at) (damage_left z valid old.stop now n hs hn h)),
         )
 
@@ -299,23 +369,30 @@ cut_boot_makes_stores layout mem off k i z lies state hz =
 Below : ℕ → Store → Type 0
 Below e s = s.place + length s.bytes ≤ e
 
-after_below : (e : ℕ) (ss : List Store) (x : List ℕ) (i : ℕ) → e ≤ i → AllByRecursion (Below e) ss → get_or (after_stores x ss) i 0 ≡ get_or x i 0
+after_below : (e : ℕ) (ss : List Store) (x : List ℕ) (i : ℕ) → e ≤ i → AllByRecursion (Below e) ss
+    → get_or (after_stores x ss) i 0 ≡ get_or x i 0
 unfolding after_stores Below
 after_below e [] x i h k = refl
-after_below e (s ∷ ss) x i h k = after_below e ss (put x s.place s.bytes) i h k.1 ∙ put-above x s.place i s.bytes (omega (arith, k.0))
+after_below e (s ∷ ss) x i h k = after_below e ss (put x s.place s.bytes) i h k.1
+    ∙ put-above x s.place i s.bytes (omega (arith, k.0))
 
-moved_below : (y : Zone) (e : ℕ) (ss : List Store) → y.at + y.size ≤ e → AllByRecursion (InZone y.size) ss → AllByRecursion (Below e) (map (λ s. moved y.at s) ss)
+moved_below : (y : Zone) (e : ℕ) (ss : List Store) → y.at + y.size ≤ e → AllByRecursion (InZone y.size) ss
+    → AllByRecursion (Below e) (map (λ s. moved y.at s) ss)
 unfolding InZone Below
 moved_below y e [] h k = tt
 moved_below y e (s ∷ ss) h k = (omega (arith, k.0), moved_below y e ss h k.1)
 
-stores_below : (image : List ℕ) (zs : List Zone) (base : ℕ) → Located zs base → Inside zs image → AllByRecursion (Below (base + zones_end zs)) (image_boot_stores zs image)
+stores_below : (image : List ℕ) (zs : List Zone) (base : ℕ) → Located zs base → Inside zs image
+    → AllByRecursion (Below (base + zones_end zs)) (image_boot_stores zs image)
 stores_below image [] base loc ins = tt
 stores_below image (y ∷ ys) base loc ins =
     let at : y.at ≡ base + zones_end [] = loc 0 y refl in
-    let total : (base + y.size) + zones_end ys ≡ base + zones_end (y ∷ ys) = omega (arith, sum_by-cons (λ (v : Zone). v.size) y ys) in
-    all-append (Below (base + zones_end (y ∷ ys))) (map (λ s. moved y.at s) (boot_stores y (zone_bytes y image))) (image_boot_stores ys image)
-    (moved_below y (base + zones_end (y ∷ ys)) (boot_stores y (zone_bytes y image)) (omega (arith, at, total)) (ins 0 y refl))
+    let total : (base + y.size) + zones_end ys ≡ base + zones_end (y ∷ ys) =
+    omega (arith, sum_by-cons (λ (v : Zone). v.size) y ys) in
+    all-append (Below (base + zones_end (y ∷ ys))) (map (λ s. moved y.at s) (boot_stores y (zone_bytes y image)))
+    (image_boot_stores ys image)
+    (moved_below y (base + zones_end (y ∷ ys)) (boot_stores y (zone_bytes y image)) (omega (arith, at, total))
+    (ins 0 y refl))
     (subst (λ e. AllByRecursion (Below e) (image_boot_stores ys image)) total
     (stores_below image ys (base + y.size) (located_tail y ys base loc) (λ i v e. ins (suc i) v e)))
 
@@ -325,43 +402,58 @@ cut_boot_leaves_rest layout mem off k lies state =
     let ss : List Store = take k (image_boot_stores layout image) in
     let e : ℕ = zones_end layout in
     let whole : AllByRecursion (Below (0 + e)) (image_boot_stores layout image) =
-    stores_below image layout 0 (λ j y h. (lies.valid j y h).1 ∙ omega arith) (λ j y h. stores_in y (lies.valid j y h).0 (zone_bytes y image) (off_bytes layout mem lies off state j y h)) in
+    stores_below image layout 0 (λ j y h. (lies.valid j y h).1 ∙ omega arith)
+    (λ j y h. stores_in y (lies.valid j y h).0 (zone_bytes y image) (off_bytes layout mem lies off state j y h)) in
     let n : 0 + e ≡ e = omega arith in
-    let below : AllByRecursion (Below e) ss = all-take (Below e) k (image_boot_stores layout image) (subst (λ m. AllByRecursion (Below m) (image_boot_stores layout image)) n whole) in
+    let below : AllByRecursion (Below e) ss = all-take (Below e) k (image_boot_stores layout image)
+    (subst (λ m. AllByRecursion (Below m) (image_boot_stores layout image)) n whole) in
     ext_get_or 0 (drop e (after_stores image ss)) (drop e image)
     (omega (arith, length-drop e (after_stores image ss), length-drop e image, length-after_stores image ss))
-    (λ i h. get_or-drop e (after_stores image ss) i 0 ∙ after_below e ss image (e + i) (omega arith) below ∙ sym (get_or-drop e image i 0))
+    (λ i h. get_or-drop e (after_stores image ss) i 0 ∙ after_below e ss image (e + i) (omega arith) below
+    ∙ sym (get_or-drop e image i 0))
 
 pub cut_boot_reads : CutBootReads
 cut_boot_reads layout mem off k i z lies state hz =
     let now : List ℕ = zone_bytes z off.image in
     let n : ℕ = left_at layout off.image k i in
-    let is : after_stores now (take n (boot_stores z now)) ≡ zone_bytes z (boot_parted layout k off).image = sym (cut_boot_makes_stores layout mem off k i z lies state hz) in
+    let is : after_stores now (take n (boot_stores z now)) ≡ zone_bytes z (boot_parted layout k off).image =
+    sym (cut_boot_makes_stores layout mem off k i z lies state hz) in
     let valid : IsValidZone z = (lies.valid i z hz).0 in
     let im : IsImage z now = off_bytes layout mem lies off state i z hz in (
-      (λ h. subst (λ x. ((zone_reading z x).state ≡ (zone_reading z now).state) × ((zone_reading z x).words ≡ (zone_reading z now).words)
-          × ((zone_reading z x).log ≡ (zone_reading z now).log) × ((zone_reading z x).corrected + n ≡ (zone_reading z now).corrected)) is
+      (λ h. subst (λ x. ((zone_reading z x).state ≡ (zone_reading z now).state)
+          × ((zone_reading z x).words ≡ (zone_reading z now).words)
+          × ((zone_reading z x).log ≡ (zone_reading z now).log)
+          × ((zone_reading z x).corrected + n ≡ (zone_reading z now).corrected)) is
           (corrections_keep_reading z now n valid im h)),
-      (λ h. subst (λ x. ReadsTold z x (told_by_boot z now)) (sym (ap (after_stores now) (take_all n (boot_stores z now) h)) ∙ is)
+      (λ h. subst (λ x. ReadsTold z x (told_by_boot z now))
+          (sym (ap (after_stores now) (take_all n (boot_stores z now) h)) ∙ is)
           (finished_zone_reads_told z now valid im)),
     )
 
 -- a zone of the state that a cut boot leaves
-pub new_zone : (layout : List Zone) (off : OffState) (k i : ℕ) (z : Zone) (old new : OffZone) → slice_get layout i ≡ Some z → slice_get off.zones i ≡ Some old → slice_get (boot_parted layout k off).zones i ≡ Some new
-    → zone_parted z (zone_bytes z off.image) (nat_le (boot_count layout off.image) k) (left_at layout off.image k i) old ≡ new
+pub new_zone : (layout : List Zone) (off : OffState) (k i : ℕ) (z : Zone) (old new : OffZone)
+    → slice_get layout i ≡ Some z → slice_get off.zones i ≡ Some old
+    → slice_get (boot_parted layout k off).zones i ≡ Some new
+    → zone_parted z (zone_bytes z off.image) (nat_le (boot_count layout off.image) k) (left_at layout off.image k i)
+    old ≡ new
 new_zone layout off k i z old new hz ho hv =
     let image : List ℕ = off.image in
-    let r = get-numbered (λ (at : ℕ × (Zone × OffZone)). zone_parted at.1.0 (zone_bytes at.1.0 image) (nat_le (boot_count layout image) k) (left_at layout image k at.0) at.1.1) 0 layout off.zones i z new hz hv in
+    let r = get-numbered (λ (at : ℕ × (Zone × OffZone)). zone_parted at.1.0 (zone_bytes at.1.0 image)
+    (nat_le (boot_count layout image) k) (left_at layout image k at.0) at.1.1) 0 layout off.zones i z new hz hv in
     let same : r.0 ≡ old = (let e : Some r.0 ≡ Some old = sym r.1 ∙ ho in cc) in
     let n_is : 0 + i ≡ i = omega arith in
-    ap₂ (λ n v. zone_parted z (zone_bytes z image) (nat_le (boot_count layout image) k) (left_at layout image k n) v) (sym n_is) (sym same) ∙ r.2
+    ap₂ (λ n v. zone_parted z (zone_bytes z image) (nat_le (boot_count layout image) k) (left_at layout image k n) v)
+    (sym n_is) (sym same) ∙ r.2
 
 -- the tests of zone_parted
-done_is : (z : Zone) (now : List ℕ) (all : Bool) (n : ℕ) (old : OffZone) → (all ≡ true) ⊎ ((0 < n) × (length (boot_stores z now) ≤ n)) → zone_parted z now all n old ≡ zone_finished z now
-done_is z now all n old h = ap (λ b. cond b (zone_finished z now) (cond (nat_lt (length (boot_fixes z now)) n) (zone_cut z now n old) old)) (elim h [
-  | inl e ↦ left all (nat_lt 0 n && nat_le (length (boot_stores z now)) n) e
-  | inr p ↦ right all (nat_lt 0 n) (nat_le (length (boot_stores z now)) n) (grind (arith, nat_tests, p.0)) (grind (arith, nat_tests, p.1))
-])
+done_is : (z : Zone) (now : List ℕ) (all : Bool) (n : ℕ) (old : OffZone)
+    → (all ≡ true) ⊎ ((0 < n) × (length (boot_stores z now) ≤ n)) → zone_parted z now all n old ≡ zone_finished z now
+done_is z now all n old h = ap (λ b. cond b (zone_finished z now)
+    (cond (nat_lt (length (boot_fixes z now)) n) (zone_cut z now n old) old)) (elim h [
+      | inl e ↦ left all (nat_lt 0 n && nat_le (length (boot_stores z now)) n) e
+      | inr p ↦ right all (nat_lt 0 n) (nat_le (length (boot_stores z now)) n) (grind (arith, nat_tests, p.0))
+          (grind (arith, nat_tests, p.1))
+    ])
   where
     left : (a b : Bool) → a ≡ true → (a || b) ≡ true
     left true b e = refl
@@ -378,10 +470,12 @@ not_done false true c e (inl h) = absurd (true≢false h)
 not_done false true c e (inr h) = h
 not_done false false c e h = refl
 
-rest_is : (z : Zone) (now : List ℕ) (all : Bool) (n : ℕ) (old : OffZone) (c : Bool) → all ≡ false → (n ≡ 0) ⊎ (n < length (boot_stores z now)) → nat_lt (length (boot_fixes z now)) n ≡ c
+rest_is : (z : Zone) (now : List ℕ) (all : Bool) (n : ℕ) (old : OffZone) (c : Bool) → all ≡ false
+    → (n ≡ 0) ⊎ (n < length (boot_stores z now)) → nat_lt (length (boot_fixes z now)) n ≡ c
     → zone_parted z now all n old ≡ cond c (zone_cut z now n old) old
 rest_is z now all n old c e h f =
-    ap₂ (λ b d. cond b (zone_finished z now) (cond d (zone_cut z now n old) old)) (not_done all (nat_lt 0 n) (nat_le (length (boot_stores z now)) n) e (elim h [
+    ap₂ (λ b d. cond b (zone_finished z now) (cond d (zone_cut z now n old) old))
+    (not_done all (nat_lt 0 n) (nat_le (length (boot_stores z now)) n) e (elim h [
       | inl m ↦ inl (grind (arith, nat_tests, m))
       | inr m ↦ inr (grind (arith, nat_tests, m))
     ])) f
@@ -393,23 +487,30 @@ cut_boot_holds layout mem off k i z old new lies state hz ho hv =
     let n : ℕ = left_at layout image k i in
     let all : Bool = nat_le (boot_count layout image) k in
     let is : zone_parted z now all n old ≡ new = new_zone layout off k i z old new hz ho hv in
-    let made : zone_bytes z (boot_parted layout k off).image ≡ after_stores now (take n (boot_stores z now)) = cut_boot_makes_stores layout mem off k i z lies state hz in
-    let within : boot_count layout image ≤ k → length (boot_stores z now) ≤ n = (λ h. omega (arith, h, count_within image layout i z hz)) in (
+    let made : zone_bytes z (boot_parted layout k off).image ≡ after_stores now (take n (boot_stores z now)) =
+    cut_boot_makes_stores layout mem off k i z lies state hz in
+    let within : boot_count layout image ≤ k → length (boot_stores z now) ≤ n =
+    (λ h. omega (arith, h, count_within image layout i z hz)) in (
       (λ h.
-          let e : zone_finished z now ≡ new = sym (done_is z now all n old (elim h [ inl a ↦ inl (le-leb (boot_count layout image) k a) | inr p ↦ inr p ])) ∙ is in
+          let e : zone_finished z now ≡ new = sym (done_is z now all n old
+          (elim h [ inl a ↦ inl (le-leb (boot_count layout image) k a) | inr p ↦ inr p ])) ∙ is in
           let most : length (boot_stores z now) ≤ n = elim h [ inl a ↦ within a | inr p ↦ p.1 ] in (
             ap (λ (v : OffZone). v.told) (sym e),
             ap (λ (v : OffZone). v.cut) (sym e),
-            ap (λ (v : OffZone). v.stop) (sym e) ∙ sym (made ∙ ap (after_stores now) (take_all n (boot_stores z now) most)),
+            ap (λ (v : OffZone). v.stop) (sym e) ∙ sym (made
+                ∙ ap (after_stores now) (take_all n (boot_stores z now) most)),
           )),
       (λ h.
-          let some : all ≡ false = elim (cases_lt k (boot_count layout image)) [ inl a ↦ grind (arith, nat_tests, a) | inr b ↦ absurd (omega (arith, within b, h.1)) ] in
-          let e : zone_cut z now n old ≡ new = sym (rest_is z now all n old true some (inr h.1) (grind (arith, nat_tests, h.0))) ∙ is in (
+          let some : all ≡ false = elim (cases_lt k (boot_count layout image))
+          [ inl a ↦ grind (arith, nat_tests, a) | inr b ↦ absurd (omega (arith, within b, h.1)) ] in
+          let e : zone_cut z now n old ≡ new = sym (rest_is z now all n old true some (inr h.1)
+          (grind (arith, nat_tests, h.0))) ∙ is in (
             ap (λ (v : OffZone). v.told) (sym e),
             ap (λ (v : OffZone). v.cut) (sym e),
             ap (λ (v : OffZone). v.stop) (sym e) ∙ sym made,
           )),
-      (λ some few left. sym (sym (rest_is z now all n old false (grind (arith, nat_tests, some)) left (grind (arith, nat_tests, few))) ∙ is)),
+      (λ some few left. sym (sym (rest_is z now all n old false (grind (arith, nat_tests, some)) left
+          (grind (arith, nat_tests, few))) ∙ is)),
     )
 
 pub cut_boot_keeps_stops : CutBootKeepsStops
@@ -420,10 +521,14 @@ cut_boot_keeps_stops layout mem off k lies state = (
       let now : List ℕ = zone_bytes z image in
       let valid : IsValidZone z = (lies.valid i z hz).0 in
       let later : List ℕ = zone_bytes z (boot_parted layout k off).image in
-      let is : later ≡ after_stores now (take (left_at layout image k i) (boot_stores z now)) = cut_boot_makes_stores layout mem off k i z lies state hz in
-      let new_is : zone_parted z now (nat_le (boot_count layout image) k) (left_at layout image k i) old ≡ new = new_zone layout off k i z old new hz ho hv in
-      let sides = left_or_stopped z old now later (nat_le (boot_count layout image) k) (left_at layout image k i) valid (state.zones.1 i z old hz ho).size (off_bytes layout mem lies off state i z hz) is
-      (λ e. (let m : boot_count layout image ≤ k = leb-true (boot_count layout image) k e in omega (arith, m, count_within image layout i z hz))) in
+      let is : later ≡ after_stores now (take (left_at layout image k i) (boot_stores z now)) =
+      cut_boot_makes_stores layout mem off k i z lies state hz in
+      let new_is : zone_parted z now (nat_le (boot_count layout image) k) (left_at layout image k i) old ≡ new =
+      new_zone layout off k i z old new hz ho hv in
+      let sides = left_or_stopped z old now later (nat_le (boot_count layout image) k) (left_at layout image k i)
+      valid (state.zones.1 i z old hz ho).size (off_bytes layout mem lies off state i z hz) is
+      (λ e. (let m : boot_count layout image ≤ k = leb-true (boot_count layout image) k e in
+      omega (arith, m, count_within image layout i z hz))) in
       elim sides [
         | inl a ↦ inl (sym new_is ∙ a.0, a.1, a.2)
         | inr b ↦ inr (ap (λ (v : OffZone). v.stop) (sym new_is) ∙ b)

@@ -17,11 +17,13 @@ use Rattle.session_spec.specs.Headline.{ReadsLastWritten, EachOffZone, OldPlaces
 use Rattle.session_laws.proofs.OffStates.{off_bytes}
 
 -- of one zone
-zone_reads : (z : Zone) (zone : OffZone) (now : List ℕ) → IsValidZone z → IsOffZone z zone → IsImage z now → ReadsLastWritten z zone now
+zone_reads : (z : Zone) (zone : OffZone) (now : List ℕ) → IsValidZone z → IsOffZone z zone → IsImage z now
+    → ReadsLastWritten z zone now
 zone_reads z zone now valid sound hn = record {
   idle = λ told t c within.
       let ring : IsRingForm z zone.stop told = sound.idle told t c in
-      idle_log z zone.stop now told valid sound.size hn ring (within Header tt) (λ b h. within (Block b) (omega (arith, ring.told_length, ring.ring.1)));
+      idle_log z zone.stop now told valid sound.size hn ring (within Header tt)
+      (λ b h. within (Block b) (omega (arith, ring.told_length, ring.ring.1)));
   places = λ told cut t c own damage.
       let f = sound.in_flight cut c own in
       let same : f.0 ≡ told = (let e : Some f.0 ≡ Some told = sym f.2 ∙ t in cc) in
@@ -31,9 +33,14 @@ zone_reads z zone now valid sound hn = record {
       );
   reported = λ cut c own.
       let f = sound.in_flight cut c own in
-      subst (λ k. RunsAreTouched z k (cut_report z (zone_reading z now) k).runs) (sym f.3) (cut_touched z f.1 zone.stop f.0 valid f.4);
+      subst (λ k. RunsAreTouched z k (cut_report z (zone_reading z now) k).runs) (sym f.3)
+      (cut_touched z f.1 zone.stop f.0 valid f.4);
 }
 
-pub state_reads : (layout : List Zone) (mem : ℕ) (off : OffState) → IsLayout layout mem → IsState layout mem (Off off) → EachOffZone layout off ReadsLastWritten
-state_reads layout mem off lies state =
-    (state.zones.0, λ i z zone hz hv. zone_reads z zone (zone_bytes z off.image) (lies.valid i z hz).0 (state.zones.1 i z zone hz hv) (off_bytes layout mem lies off state i z hz))
+pub state_reads : (layout : List Zone) (mem : ℕ) (off : OffState) → IsLayout layout mem → IsState layout mem (Off off)
+    → EachOffZone layout off ReadsLastWritten
+state_reads layout mem off lies state = (
+  state.zones.0,
+  λ i z zone hz hv. zone_reads z zone (zone_bytes z off.image) (lies.valid i z hz).0
+      (state.zones.1 i z zone hz hv) (off_bytes layout mem lies off state i z hz),
+)

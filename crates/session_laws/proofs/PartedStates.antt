@@ -24,12 +24,19 @@ module _ (layout : List Zone) (mem : ℕ) (lies : IsLayout layout mem) where
   moved-all at [] h = tt
   moved-all at (s ∷ ss) h = (h.0, moved-all at ss h.1)
 
-  image_stores-all : (image : List ℕ) (zs : List Zone) → ((i : ℕ) (z : Zone) → slice_get zs i ≡ Some z → AllByRecursion IsStore (boot_stores z (zone_bytes z image))) → AllByRecursion IsStore (image_boot_stores zs image)
+  image_stores-all : (image : List ℕ) (zs : List Zone) → ((i : ℕ) (z : Zone) → slice_get zs i ≡ Some z
+      → AllByRecursion IsStore (boot_stores z (zone_bytes z image)))
+      → AllByRecursion IsStore (image_boot_stores zs image)
   image_stores-all image [] h = tt
-  image_stores-all image (z ∷ zs) h = all-append IsStore (map (λ s. moved z.at s) (boot_stores z (zone_bytes z image))) _ (moved-all z.at _ (h 0 z refl)) (image_stores-all image zs (λ i y e. h (suc i) y e))
+  image_stores-all image (z ∷ zs) h = all-append IsStore
+      (map (λ s. moved z.at s) (boot_stores z (zone_bytes z image))) _ (moved-all z.at _ (h 0 z refl))
+      (image_stores-all image zs (λ i y e. h (suc i) y e))
 
-  zone_parted-sound : (z : Zone) → IsValidZone z → (bytes : List ℕ) → IsImage z bytes → (all : Bool) (count : ℕ) (zone : OffZone) → IsOffZone z zone → IsOffZone z (zone_parted z bytes all count zone)
-  zone_parted-sound z valid bytes im all count zone sound = by (all || (nat_lt 0 count && nat_le (length (boot_stores z bytes)) count)) refl (nat_lt (length (boot_fixes z bytes)) count) refl
+  zone_parted-sound : (z : Zone) → IsValidZone z → (bytes : List ℕ) → IsImage z bytes
+      → (all : Bool) (count : ℕ) (zone : OffZone) → IsOffZone z zone → IsOffZone z (zone_parted z bytes all count zone)
+  zone_parted-sound z valid bytes im all count zone sound =
+      by (all || (nat_lt 0 count && nat_le (length (boot_stores z bytes)) count)) refl
+      (nat_lt (length (boot_fixes z bytes)) count) refl
     where
       -- the boot has not finished the zone, and has begun its erasure
       within : (a b c : Bool) → (a || (b && c)) ≡ false → b ≡ true → c ≡ false
@@ -37,37 +44,57 @@ module _ (layout : List Zone) (mem : ℕ) (lies : IsLayout layout mem) where
       within false true c e t = e
       within false false c e t = absurd (true≢false (sym t))
 
-      by : (b : Bool) → (all || (nat_lt 0 count && nat_le (length (boot_stores z bytes)) count)) ≡ b → (c : Bool) → nat_lt (length (boot_fixes z bytes)) count ≡ c
+      by : (b : Bool) → (all || (nat_lt 0 count && nat_le (length (boot_stores z bytes)) count)) ≡ b → (c : Bool)
+          → nat_lt (length (boot_fixes z bytes)) count ≡ c
           → IsOffZone z (cond b (zone_finished z bytes) (cond c (zone_cut z bytes count zone) zone))
       by true e c f = record {
         size = boot_image_all z valid bytes im;
-        idle = λ told t c. (let s : told_by_boot z bytes ≡ told = cc in subst (IsRingForm z (after_stores bytes (boot_stores z bytes))) s (boot_keeps z valid bytes im));
+        idle = λ told t c. (let s : told_by_boot z bytes ≡ told = cc in
+            subst (IsRingForm z (after_stores bytes (boot_stores z bytes))) s (boot_keeps z valid bytes im));
         in_flight = λ cut c b. (let n : None ≡ Some cut = c in cc);
         in_erasure = λ cut c b. (let n : None ≡ Some cut = c in cc);
       }
       by false e true f =
           let begun : length (boot_fixes z bytes) < count = ltb-true (length (boot_fixes z bytes)) count f in
           let some : nat_lt 0 count ≡ true = lt-ltb 0 count (omega (arith, begun)) in
-          let left : count < length (boot_stores z bytes) = leb-false (length (boot_stores z bytes)) count (within all (nat_lt 0 count) (nat_le (length (boot_stores z bytes)) count) e some) in
+          let left : count < length (boot_stores z bytes) =
+          leb-false (length (boot_stores z bytes)) count (within all (nat_lt 0 count)
+          (nat_le (length (boot_stores z bytes)) count) e some) in
           record {
             size = boot_image z valid bytes im count;
             idle = λ told t c. (let n : Some _ ≡ None = c in cc);
-            in_flight = λ cut c b. absurd (true≢false (let d : boot_cut z bytes count ≡ cut = cc in ap (λ (k : Cut). k.by_boot) d ∙ b));
-            in_erasure = λ cut c b. (bytes, count, im, (begun, left), (let d : boot_cut z bytes count ≡ cut = cc in sym d), refl);
+            in_flight = λ cut c b. absurd (true≢false (let d : boot_cut z bytes count ≡ cut = cc in
+                ap (λ (k : Cut). k.by_boot) d ∙ b));
+            in_erasure = λ cut c b. (
+              bytes,
+              count,
+              im,
+              (begun, left),
+              (let d : boot_cut z bytes count ≡ cut = cc in sym d),
+              refl,
+            );
           }
       by false e false f = sound
 
-  pub parted-state : (count : ℕ) (off : OffState) → IsState layout mem (Off off) → IsState layout mem (Off (boot_parted layout count off))
+  pub parted-state : (count : ℕ) (off : OffState) → IsState layout mem (Off off)
+      → IsState layout mem (Off (boot_parted layout count off))
   parted-state count off state = record {
     zones = (
-      length-numbered (λ (at : ℕ × (Zone × OffZone)). zone_parted at.1.0 (zone_bytes at.1.0 off.image) (nat_le (boot_count layout off.image) count) (left_at layout off.image count at.0) at.1.1) 0 layout off.zones state.zones.0,
+      length-numbered (λ (at : ℕ × (Zone × OffZone)). zone_parted at.1.0 (zone_bytes at.1.0 off.image)
+          (nat_le (boot_count layout off.image) count) (left_at layout off.image count at.0) at.1.1)
+          0 layout off.zones state.zones.0,
       λ i z v hz hv.
-          let r = get-numbered (λ (at : ℕ × (Zone × OffZone)). zone_parted at.1.0 (zone_bytes at.1.0 off.image) (nat_le (boot_count layout off.image) count) (left_at layout off.image count at.0) at.1.1) 0 layout off.zones i z v hz hv in
-          subst (IsOffZone z) r.2 (zone_parted-sound z (lies.valid i z hz).0 (zone_bytes z off.image) (off_bytes layout mem lies off state i z hz) (nat_le (boot_count layout off.image) count) (left_at layout off.image count (0 + i)) r.0 (state.zones.1 i z r.0 hz r.1)),
+          let r = get-numbered (λ (at : ℕ × (Zone × OffZone)). zone_parted at.1.0 (zone_bytes at.1.0 off.image)
+          (nat_le (boot_count layout off.image) count) (left_at layout off.image count at.0) at.1.1)
+          0 layout off.zones i z v hz hv in
+          subst (IsOffZone z) r.2 (zone_parted-sound z (lies.valid i z hz).0 (zone_bytes z off.image)
+          (off_bytes layout mem lies off state i z hz) (nat_le (boot_count layout off.image) count)
+          (left_at layout off.image count (0 + i)) r.0 (state.zones.1 i z r.0 hz r.1)),
     );
     image = (
       length-after_stores off.image (take count (image_boot_stores layout off.image)) ∙ state.image.0,
       after-bytes off.image _ state.image.1 (all-take IsStore count _ (image_stores-all off.image layout
-          (λ i z h. boot_stores-all z (lies.valid i z h).0 (zone_bytes z off.image) (off_bytes layout mem lies off state i z h)))),
+          (λ i z h. boot_stores-all z (lies.valid i z h).0 (zone_bytes z off.image)
+          (off_bytes layout mem lies off state i z h)))),
     );
   }

@@ -32,7 +32,8 @@ front_last cap xs ys = elim (cases_lt cap (length xs)) [
   | inl a ↦
       (let d : ℕ = length xs - cap in
       let f : drop d xs ++ ys ≡ drop d (xs ++ ys) = sym (drop_front d xs ys (omega arith)) in
-      let n : length (drop d xs ++ ys) - cap ≡ length ys = omega (arith, length-append (drop d xs) ys, length-drop d xs) in
+      let n : length (drop d xs ++ ys) - cap ≡ length ys =
+      omega (arith, length-append (drop d xs) ys, length-drop d xs) in
       let m : length (xs ++ ys) - cap ≡ d + length ys = omega (arith, length-append xs ys) in
       ap₂ drop n f ∙ drop-drop (length ys) d (xs ++ ys) ∙ ap (λ k. drop k (xs ++ ys)) (sym m))
   | inr g ↦ (let e : length xs - cap ≡ 0 = omega arith in ap (λ k. last_items cap (drop k xs ++ ys)) e)
@@ -41,7 +42,8 @@ front_last cap xs ys = elim (cases_lt cap (length xs)) [
 pub appends_tell_last_bytes : AppendsTellLastBytes
 appends_tell_last_bytes cap told [] l = sym (ap (last_items cap) (append-nil told) ∙ last_items-short cap told l)
 appends_tell_last_bytes cap told (p ∷ ps) l =
-    appends_tell_last_bytes cap (last_items cap (told ++ p)) ps (omega (arith, length-drop (length (told ++ p) - cap) (told ++ p)))
+    appends_tell_last_bytes cap (last_items cap (told ++ p)) ps
+    (omega (arith, length-drop (length (told ++ p) - cap) (told ++ p)))
     ∙ front_last cap (told ++ p) (flat_map (λ payload. payload) ps)
     ∙ ap (last_items cap) (append_assoc told p (flat_map (λ payload. payload) ps))
 
@@ -58,13 +60,16 @@ undamaged_reads_told layout mem off lies state = (
       record {
         idle = λ told t c same.
             let whole : verdict_of (Some told) (zone_reading z now).log ≡ AsTold =
-            (idle_zone_reads_told z zone.stop now told valid sound.size hn (sound.idle told t c) (inr (ap (λ x. part_word z x Header) same))).whole (λ b h. inr (ap (λ x. part_word z x (Block b)) same)) in
+            (idle_zone_reads_told z zone.stop now told valid sound.size hn (sound.idle told t c)
+            (inr (ap (λ x. part_word z x Header) same))).whole
+            (λ b h. inr (ap (λ x. part_word z x (Block b)) same)) in
             ap (λ o. verdict_of o (zone_reading z now).log) t ∙ whole;
         places = λ told cut t c own same.
             let f = sound.in_flight cut c own in
             let e : f.0 ≡ told = (let g : Some f.0 ≡ Some told = sym f.2 ∙ t in cc) in
             subst (λ k. OldPlacesRead z k told zone.stop now) (sym f.3)
-            (old_places z zone.stop now told f.1 valid sound.size (subst (λ xs. IsInFlight z zone.stop xs f.1) e f.4) hn);
+            (old_places z zone.stop now told f.1 valid sound.size (subst (λ xs. IsInFlight z zone.stop xs f.1) e f.4)
+            hn);
       },
 )
 
@@ -80,16 +85,22 @@ flip_changes_one_byte off place mask = (
 
 -- ---- images
 
-zones_and_rest : (image : List ℕ) (zs : List Zone) (base : ℕ) → ((i : ℕ) (z : Zone) → slice_get zs i ≡ Some z → z.at ≡ base + zones_end (take i zs))
+zones_and_rest : (image : List ℕ) (zs : List Zone) (base : ℕ)
+    → ((i : ℕ) (z : Zone) → slice_get zs i ≡ Some z → z.at ≡ base + zones_end (take i zs))
     → flat_map (λ z. zone_bytes z image) zs ++ drop (base + zones_end zs) image ≡ drop base image
 zones_and_rest image [] base at = ap (λ n. drop n image) (let e : base + zones_end [] ≡ base = omega arith in e)
 zones_and_rest image (y ∷ ys) base at =
     let here : y.at ≡ base + zones_end [] = at 0 y refl in
-    let own : zone_bytes y image ≡ take y.size (drop base image) = ap₂ (λ n d. take n (drop d image)) (let e : (y.at + y.size) - y.at ≡ y.size = omega arith in e) (let e : y.at ≡ base = omega (arith, here) in e) in
-    let total : base + zones_end (y ∷ ys) ≡ (base + y.size) + zones_end ys = omega (arith, sum_by-cons (λ (v : Zone). v.size) y ys) in
-    let rest = zones_and_rest image ys (base + y.size) (λ i z e. at (suc i) z e ∙ omega (arith, sum_by-cons (λ (v : Zone). v.size) y (take i ys))) in
+    let own : zone_bytes y image ≡ take y.size (drop base image) =
+    ap₂ (λ n d. take n (drop d image)) (let e : (y.at + y.size) - y.at ≡ y.size = omega arith in e)
+    (let e : y.at ≡ base = omega (arith, here) in e) in
+    let total : base + zones_end (y ∷ ys) ≡ (base + y.size) + zones_end ys =
+    omega (arith, sum_by-cons (λ (v : Zone). v.size) y ys) in
+    let rest = zones_and_rest image ys (base + y.size) (λ i z e. at (suc i) z e
+    ∙ omega (arith, sum_by-cons (λ (v : Zone). v.size) y (take i ys))) in
     append_assoc (zone_bytes y image) (flat_map (λ z. zone_bytes z image) ys) (drop (base + zones_end (y ∷ ys)) image)
-    ∙ ap₂ (λ a b. a ++ b) own (ap (λ n. flat_map (λ z. zone_bytes z image) ys ++ drop n image) total ∙ rest ∙ sym (drop-drop y.size base image))
+    ∙ ap₂ (λ a b. a ++ b) own (ap (λ n. flat_map (λ z. zone_bytes z image) ys ++ drop n image) total ∙ rest
+    ∙ sym (drop-drop y.size base image))
     ∙ take-append-drop y.size (drop base image)
 
 pub image_is_zones_and_rest : ImageIsZonesAndRest

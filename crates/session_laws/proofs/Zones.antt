@@ -21,8 +21,12 @@ use Rattle.ring_laws.proofs.StoreBytes.{call_image}
 use Rattle.ring_laws.proofs.BootRing.{boot_keeps, boot_image_all}
 
 module _ (z : Zone) (valid : IsValidZone z) where
-  begun_by : (live : LiveZone) (call : Call) (b : Bool) → IsLiveZone z live → live.flight ≡ None → CanBegin z live.image call → (length (call_stores z call live.image) == 0) ≡ b
-      → IsLiveZone z (cond b live (record live { flight = Some (record { image = live.image; call = call; made = 0 }) }))
+  begun_by : (live : LiveZone) (call : Call) (b : Bool) → IsLiveZone z live → live.flight ≡ None
+      → CanBegin z live.image call → (length (call_stores z call live.image) == 0) ≡ b
+      → IsLiveZone z (cond b live (record live {
+        flight = Some
+            (record { image = live.image; call = call; made = 0 });
+      }))
   unfolding after_stores
   begun_by live call true sound e can none_left = sound
   begun_by live call false sound e can some = record {
@@ -37,22 +41,38 @@ module _ (z : Zone) (valid : IsValidZone z) where
   }
 
   -- a call that may begin keeps it so
-  pub begun-sound : (live : LiveZone) (call : Call) → IsLiveZone z live → live.flight ≡ None → CanBegin z live.image call → IsLiveZone z (begun z call live)
+  pub begun-sound : (live : LiveZone) (call : Call) → IsLiveZone z live → live.flight ≡ None
+      → CanBegin z live.image call → IsLiveZone z (begun z call live)
   begun-sound live call sound e can = begun_by live call _ sound e can refl
 
-  stepped_in : (live : LiveZone) (f : Flight) (k : ℕ) (b : Bool) → IsInFlight z live.image live.told f → nat_lt (f.made + k) (total_stores z f) ≡ b
-      → IsLiveZone z (cond b (record live { image = image_after z f.call f.image (f.made + k); flight = Some (record f { made = f.made + k }) })
-      (record { image = image_after z f.call f.image (total_stores z f); told = told_after z.cap f.call live.told; flight = None }))
+  stepped_in : (live : LiveZone) (f : Flight) (k : ℕ) (b : Bool) → IsInFlight z live.image live.told f
+      → nat_lt (f.made + k) (total_stores z f) ≡ b
+      → IsLiveZone z (cond b (record live {
+        image = image_after z f.call f.image (f.made + k);
+        flight = Some (record f { made = f.made + k });
+      })
+      (record {
+        image = image_after z f.call f.image (total_stores z f);
+        told = told_after z.cap f.call live.told;
+        flight = None;
+      }))
   stepped_in live f k true flies e = record {
     size = call_image z valid f.image f.call (f.made + k) flies.size flies.can;
-    stands = record { size = flies.size; ring = flies.ring; can = flies.can; now = refl; left = ltb-true (f.made + k) (total_stores z f) e };
+    stands = record {
+      size = flies.size;
+      ring = flies.ring;
+      can = flies.can;
+      now = refl;
+      left = ltb-true (f.made + k) (total_stores z f) e;
+    };
   }
   stepped_in live f k false flies e = record {
     size = call_image z valid f.image f.call (total_stores z f) flies.size flies.can;
     stands = call_law z valid f.call f.image live.told flies.size flies.ring flies.can;
   }
 
-  stepped_on : (live : LiveZone) (o : Option Flight) (k : ℕ) → IsLiveZone z live → live.flight ≡ o → IsLiveZone z (stepped_by o z k live)
+  stepped_on : (live : LiveZone) (o : Option Flight) (k : ℕ) → IsLiveZone z live → live.flight ≡ o
+      → IsLiveZone z (stepped_by o z k live)
   stepped_on live None k sound e = sound
   stepped_on live (Some f) k sound e = stepped_in live f k _ (subst (Stands z live.image live.told) e sound.stands) refl
 
@@ -63,7 +83,8 @@ module _ (z : Zone) (valid : IsValidZone z) where
   pub finished-sound : (live : LiveZone) → IsLiveZone z live → IsLiveZone z (finished z live)
   finished-sound live sound = stepped-sound (stores_left live.flight z) live sound
 
-  pub erased-sound : (name : Name) (live : LiveZone) → IsLiveZone z live → (is_in name z ≡ true → live.flight ≡ None) → IsLiveZone z (erase_zone name z live)
+  pub erased-sound : (name : Name) (live : LiveZone) → IsLiveZone z live → (is_in name z ≡ true → live.flight ≡ None)
+      → IsLiveZone z (erase_zone name z live)
   erased-sound name live sound h = by (is_in name z) refl
     where
       by : (b : Bool) → is_in name z ≡ b → IsLiveZone z (cond b (finished z (begun z Erase live)) live)
@@ -77,7 +98,11 @@ module _ (z : Zone) (valid : IsValidZone z) where
     slice_range-bytes image z.at (z.at + z.size) bytes,
   )
 
-  pub booted-sound : (image : List ℕ) → z.at + z.size ≤ length image → AreBytes image → IsLiveZone z (booted_zone image z)
+  pub booted-sound : (image : List ℕ) → z.at + z.size ≤ length image → AreBytes image
+      → IsLiveZone z (booted_zone image z)
   booted-sound image h bytes =
       let im : IsImage z (zone_bytes z image) = zone_image image h bytes in
-      record { size = boot_image_all z valid (zone_bytes z image) im; stands = boot_keeps z valid (zone_bytes z image) im }
+      record {
+        size = boot_image_all z valid (zone_bytes z image) im;
+        stands = boot_keeps z valid (zone_bytes z image) im;
+      }

@@ -27,7 +27,8 @@ pub record IsExactVerdict (told : Option (List ℕ)) (log : List ℕ) : Type 0 w
   pub as_told : (verdict_of told log ≡ AsTold) ↔ (told ≡ Some log)
   pub differs : (list : List ℕ) → told ≡ Some list → list ≢ log
       → let first = common_prefix_len nat_eq list log in
-      (verdict_of told log ≡ Differs (length list) (length log) first) × (take first list ≡ take first log) × (slice_get list first ≢ slice_get log first)
+      (verdict_of told log ≡ Differs (length list) (length log) first) × (take first list ≡ take first log)
+      × (slice_get list first ≢ slice_get log first)
 
 -- so is every verdict
 abbrev pub VerdictIsExact : Type 0
@@ -42,20 +43,26 @@ pub record ReportsExactly (z : Zone) (zone : OffZone) (now : List ℕ) : Type 0 
       → (f : Flight) × (r : CutReport) × (cut ≡ cut_of z f) × ((zone_report z zone now).cut ≡ Some r)
       × IsExactReport z (zone_reading z now) cut (kind_of f.call) f.made (length (call_stores z f.call f.image)) r
   pub cut_erasure : (cut : Cut) → zone.cut ≡ Some cut → cut.by_boot ≡ true
-      → (before : List ℕ) × (count : ℕ) × (r : CutReport) × (cut ≡ boot_cut z before count) × ((zone_report z zone now).cut ≡ Some r)
-      × IsExactReport z (zone_reading z now) cut Erase (count - length (boot_fixes z before)) (length (boot_stores z before) - length (boot_fixes z before)) r
+      → (before : List ℕ) × (count : ℕ) × (r : CutReport) × (cut ≡ boot_cut z before count)
+      × ((zone_report z zone now).cut ≡ Some r)
+      × IsExactReport z (zone_reading z now) cut Erase (count - length (boot_fixes z before))
+      (length (boot_stores z before) - length (boot_fixes z before)) r
 
 -- so is the report of each zone of a sound state
 abbrev pub ReportIsExact : Type 0
-ReportIsExact = (layout : List Zone) (mem : ℕ) (off : OffState) → IsLayout layout mem → IsState layout mem (Off off) → EachOffZone layout off ReportsExactly
+ReportIsExact = (layout : List Zone) (mem : ℕ) (off : OffState) → IsLayout layout mem → IsState layout mem (Off off)
+    → EachOffZone layout off ReportsExactly
 
 -- a zone whose call a stop cut reads as such a zone does; a zone cut within its erasure reads as such a
 -- zone does, before being its bytes when that boot began
 pub record ReadsCut (z : Zone) (zone : OffZone) (now : List ℕ) : Type 0 where
-  pub call : (told : List ℕ) (cut : Cut) → zone.told ≡ Some told → zone.cut ≡ Some cut → cut.by_boot ≡ false → IsNotDamagedFurther z zone.stop now
+  pub call : (told : List ℕ) (cut : Cut) → zone.told ≡ Some told → zone.cut ≡ Some cut → cut.by_boot ≡ false
+      → IsNotDamagedFurther z zone.stop now
       → CutReads z cut told zone.stop now
-  pub erasure : (cut : Cut) → zone.cut ≡ Some cut → cut.by_boot ≡ true → (before : List ℕ) × BootCutReads z before zone.stop now cut
+  pub erasure : (cut : Cut) → zone.cut ≡ Some cut → cut.by_boot ≡ true
+      → (before : List ℕ) × BootCutReads z before zone.stop now cut
 
 -- so reads each zone of a sound state
 abbrev pub CutZonesRead : Type 0
-CutZonesRead = (layout : List Zone) (mem : ℕ) (off : OffState) → IsLayout layout mem → IsState layout mem (Off off) → EachOffZone layout off ReadsCut
+CutZonesRead = (layout : List Zone) (mem : ℕ) (off : OffState) → IsLayout layout mem → IsState layout mem (Off off)
+    → EachOffZone layout off ReadsCut

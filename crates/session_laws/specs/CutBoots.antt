@@ -17,45 +17,56 @@ use Rattle.ring_laws.specs.Laws.{ReadsTold}
 abbrev pub MakesOwnStores : List Zone → OffState → ℕ → ℕ → Zone → Type 0
 MakesOwnStores layout off k i z =
     let now = zone_bytes z off.image in
-    zone_bytes z (boot_parted layout k off).image ≡ after_stores now (take (left_at layout off.image k i) (boot_stores z now))
+    zone_bytes z (boot_parted layout k off).image ≡ after_stores now
+    (take (left_at layout off.image k i) (boot_stores z now))
 
 -- so has each zone
 abbrev pub CutBootMakesStores : Type 0
-CutBootMakesStores = (layout : List Zone) (mem : ℕ) (off : OffState) (k i : ℕ) (z : Zone) → IsLayout layout mem → IsState layout mem (Off off) → slice_get layout i ≡ Some z
+CutBootMakesStores = (layout : List Zone) (mem : ℕ) (off : OffState) (k i : ℕ) (z : Zone) → IsLayout layout mem
+    → IsState layout mem (Off off) → slice_get layout i ≡ Some z
     → MakesOwnStores layout off k i z
 
 -- the bytes behind the last zone are left
 abbrev pub CutBootLeavesRest : Type 0
-CutBootLeavesRest = (layout : List Zone) (mem : ℕ) (off : OffState) (k : ℕ) → IsLayout layout mem → IsState layout mem (Off off)
+CutBootLeavesRest = (layout : List Zone) (mem : ℕ) (off : OffState) (k : ℕ) → IsLayout layout mem
+    → IsState layout mem (Off off)
     → drop (zones_end layout) (boot_parted layout k off).image ≡ drop (zones_end layout) off.image
 
 -- what is held of a zone, of whose own stores and those behind it n were made: it was finished, by its
 -- last store, by one behind it or by all; it was within its erasure; or neither
 abbrev pub HoldsAfter : List Zone → OffState → ℕ → ℕ → Zone → OffZone → OffZone → Type 0
 HoldsAfter layout off k i z old new =
-    let now = zone_bytes z off.image in let later = zone_bytes z (boot_parted layout k off).image in let n = left_at layout off.image k i in
-    ((boot_count layout off.image ≤ k) ⊎ ((0 < n) × (length (boot_stores z now) ≤ n)) → (new.told ≡ Some (told_by_boot z now)) × (new.cut ≡ None) × (new.stop ≡ later))
+    let now = zone_bytes z off.image in let later = zone_bytes z (boot_parted layout k off).image in let n =
+    left_at layout off.image k i in
+    ((boot_count layout off.image ≤ k) ⊎ ((0 < n) × (length (boot_stores z now) ≤ n))
+    → (new.told ≡ Some (told_by_boot z now)) × (new.cut ≡ None) × (new.stop ≡ later))
     × (IsWithinErasure z now n → (new.told ≡ old.told) × (new.cut ≡ Some (boot_cut z now n)) × (new.stop ≡ later))
-    × (k < boot_count layout off.image → n ≤ length (boot_fixes z now) → (n ≡ 0) ⊎ (n < length (boot_stores z now)) → new ≡ old)
+    × (k < boot_count layout off.image → n ≤ length (boot_fixes z now) → (n ≡ 0) ⊎ (n < length (boot_stores z now))
+    → new ≡ old)
 
 -- so it is of each zone
 abbrev pub CutBootHolds : Type 0
-CutBootHolds = (layout : List Zone) (mem : ℕ) (off : OffState) (k i : ℕ) (z : Zone) (old new : OffZone) → IsLayout layout mem → IsState layout mem (Off off)
-    → slice_get layout i ≡ Some z → slice_get off.zones i ≡ Some old → slice_get (boot_parted layout k off).zones i ≡ Some new
+CutBootHolds = (layout : List Zone) (mem : ℕ) (off : OffState) (k i : ℕ) (z : Zone) (old new : OffZone)
+    → IsLayout layout mem → IsState layout mem (Off off)
+    → slice_get layout i ≡ Some z → slice_get off.zones i ≡ Some old
+    → slice_get (boot_parted layout k off).zones i ≡ Some new
     → HoldsAfter layout off k i z old new
 
 -- a zone reads the same until its erasure has begun, but that each store made is a correction less; and
 -- what the boot kept, once it has finished
 abbrev pub ReadsAfter : List Zone → OffState → ℕ → ℕ → Zone → Type 0
 ReadsAfter layout off k i z =
-    let now = zone_bytes z off.image in let later = zone_bytes z (boot_parted layout k off).image in let n = left_at layout off.image k i in
+    let now = zone_bytes z off.image in let later = zone_bytes z (boot_parted layout k off).image in let n =
+    left_at layout off.image k i in
     let before = zone_reading z now in let after = zone_reading z later in
-    (n ≤ length (boot_fixes z now) → (after.state ≡ before.state) × (after.words ≡ before.words) × (after.log ≡ before.log) × (after.corrected + n ≡ before.corrected))
+    (n ≤ length (boot_fixes z now) → (after.state ≡ before.state) × (after.words ≡ before.words)
+    × (after.log ≡ before.log) × (after.corrected + n ≡ before.corrected))
     × (length (boot_stores z now) ≤ n → ReadsTold z later (told_by_boot z now))
 
 -- so reads each zone
 abbrev pub CutBootReads : Type 0
-CutBootReads = (layout : List Zone) (mem : ℕ) (off : OffState) (k i : ℕ) (z : Zone) → IsLayout layout mem → IsState layout mem (Off off) → slice_get layout i ≡ Some z
+CutBootReads = (layout : List Zone) (mem : ℕ) (off : OffState) (k i : ℕ) (z : Zone) → IsLayout layout mem
+    → IsState layout mem (Off off) → slice_get layout i ≡ Some z
     → ReadsAfter layout off k i z
 
 -- what is held of a zone is as before, and damage from before and after the boot counts together; or the
@@ -63,14 +74,17 @@ CutBootReads = (layout : List Zone) (mem : ℕ) (off : OffState) (k i : ℕ) (z 
 abbrev pub IsLeftOrStopped : OffState → OffState → Zone → OffZone × OffZone → Type 0
 IsLeftOrStopped off after z (old, new) =
     let now = zone_bytes z off.image in let later = zone_bytes z after.image in
-    ((new ≡ old) × ((part : Part) → IsPartOf z part → IsWithinBounds z old.stop now part → IsWithinBounds z old.stop later part)
+    ((new ≡ old) × ((part : Part) → IsPartOf z part → IsWithinBounds z old.stop now part
+    → IsWithinBounds z old.stop later part)
     × (IsNotDamagedFurther z old.stop now → IsNotDamagedFurther z old.stop later))
     ⊎ (new.stop ≡ later)
 
 -- so it is of each zone, and the state that a cut boot leaves is sound
 abbrev pub CutBootKeepsStops : Type 0
-CutBootKeepsStops = (layout : List Zone) (mem : ℕ) (off : OffState) (k : ℕ) → IsLayout layout mem → IsState layout mem (Off off)
+CutBootKeepsStops = (layout : List Zone) (mem : ℕ) (off : OffState) (k : ℕ) → IsLayout layout mem
+    → IsState layout mem (Off off)
     → let after = boot_parted layout k off in
     IsState layout mem (Off after)
-    × ((i : ℕ) (z : Zone) (old new : OffZone) → slice_get layout i ≡ Some z → slice_get off.zones i ≡ Some old → slice_get after.zones i ≡ Some new
+    × ((i : ℕ) (z : Zone) (old new : OffZone) → slice_get layout i ≡ Some z → slice_get off.zones i ≡ Some old
+    → slice_get after.zones i ≡ Some new
     → IsLeftOrStopped off after z (old, new))

@@ -12,18 +12,22 @@ use Rattle.zone_spec.specs.Records.{Saved, listed_of, found}
 -- each byte of a log is that of its block's nearest codeword, or stands in the image, in a block that is
 -- counted bad
 abbrev pub LogBytesCome : Type 0
-LogBytesCome = (z : Zone) (now : List ℕ) (i place : ℕ) → IsValidZone z → length now ≡ z.size → (zone_reading z now).state ≡ Found
+LogBytesCome = (z : Zone) (now : List ℕ) (i place : ℕ) → IsValidZone z → length now ≡ z.size
+    → (zone_reading z now).state ≡ Found
     → slice_get (log_places (words_read z now).start (words_read z now).size) i ≡ Some place
     → MatchOption (nearest z.parity (part_word z now (Block (place / z.block))))
-    ((slice_get (zone_reading z now).log i ≡ Some (slice_index now (12 + place))) × ((part_reading z now (Block (place / z.block))).bad ≡ 1)
+    ((slice_get (zone_reading z now).log i ≡ Some (slice_index now (12 + place)))
+    × ((part_reading z now (Block (place / z.block))).bad ≡ 1)
     × Contains (blocks_below z (words_read z now).size) (place / z.block))
     (λ c. slice_get (zone_reading z now).log i ≡ Some (slice_index c (place % z.block)))
 
 -- a zone whose header reads without its signature has no log, and is not found
 abbrev pub UnsignedAddsNothing : Type 0
 UnsignedAddsNothing = (z : Zone) (now : List ℕ) → (words_read z now).sig ≢ z.sig
-    → ((zone_reading z now).state ≡ Unsigned) × ((zone_reading z now).log ≡ []) × (found (Some (zone_reading z now)) ≡ [])
+    → ((zone_reading z now).state ≡ Unsigned) × ((zone_reading z now).log ≡ [])
+    × (found (Some (zone_reading z now)) ≡ [])
 
 -- a zone that was not found adds no record, and no byte to one
 abbrev pub NotFoundAddsNothing : Type 0
-NotFoundAddsNothing = (before behind : List Saved) (zone : Saved) → found zone.1 ≡ [] → listed_of (before ++ (zone ∷ behind)) ≡ listed_of (before ++ behind)
+NotFoundAddsNothing = (before behind : List Saved) (zone : Saved) → found zone.1 ≡ []
+    → listed_of (before ++ (zone ∷ behind)) ≡ listed_of (before ++ behind)

@@ -22,31 +22,38 @@ ImageIsZonesAndRest = (layout : List Zone) (mem : ℕ) (image : List ℕ) → Is
 
 -- an image of which nothing is known makes a sound state
 abbrev pub FreshIsSound : Type 0
-FreshIsSound = (layout : List Zone) (mem : ℕ) (image : List ℕ) → IsLayout layout mem → length image ≡ mem → AreBytes image → IsState layout mem (Off (fresh layout image))
+FreshIsSound = (layout : List Zone) (mem : ℕ) (image : List ℕ) → IsLayout layout mem → length image ≡ mem
+    → AreBytes image → IsState layout mem (Off (fresh layout image))
 
 -- every operation leaves a sound state sound
 abbrev pub OperationsKeepStatesSound : Type 0
-OperationsKeepStatesSound = (layout : List Zone) (mem : ℕ) (session : Session) (operation : Operation) → IsLayout layout mem → IsState layout mem session → IsOperation operation
+OperationsKeepStatesSound = (layout : List Zone) (mem : ℕ) (session : Session) (operation : Operation)
+    → IsLayout layout mem → IsState layout mem session → IsOperation operation
     → IsState layout mem (left_by session (operated layout session operation))
 
 -- so every state that a session reaches is sound
 abbrev pub StatesAreSound : Type 0
-StatesAreSound = (layout : List Zone) (mem : ℕ) (session : Session) → IsLayout layout mem → IsReached layout mem session → IsState layout mem session
+StatesAreSound = (layout : List Zone) (mem : ℕ) (session : Session) → IsLayout layout mem
+    → IsReached layout mem session → IsState layout mem session
 
 -- appends one after the other tell the last bytes of all that they wrote
 abbrev pub AppendsTellLastBytes : Type 0
 AppendsTellLastBytes = (cap : ℕ) (told : List ℕ) (payloads : List (List ℕ)) → length told ≤ cap
-    → fold (λ before payload. told_after cap (Append payload) before) told payloads ≡ last_items cap (told ++ flat_map (λ payload. payload) payloads)
+    → fold (λ before payload. told_after cap (Append payload) before) told payloads
+    ≡ last_items cap (told ++ flat_map (λ payload. payload) payloads)
 
 -- a zone whose bytes are those at its stop reads as told, and at its old ring places where a stop cut
 -- its call
 pub record ReadsAsAtStop (z : Zone) (zone : OffZone) (now : List ℕ) : Type 0 where
-  pub idle : (told : List ℕ) → zone.told ≡ Some told → zone.cut ≡ None → now ≡ zone.stop → verdict_of zone.told (zone_reading z now).log ≡ AsTold
-  pub places : (told : List ℕ) (cut : Cut) → zone.told ≡ Some told → zone.cut ≡ Some cut → cut.by_boot ≡ false → now ≡ zone.stop → OldPlacesRead z cut told zone.stop now
+  pub idle : (told : List ℕ) → zone.told ≡ Some told → zone.cut ≡ None → now ≡ zone.stop
+      → verdict_of zone.told (zone_reading z now).log ≡ AsTold
+  pub places : (told : List ℕ) (cut : Cut) → zone.told ≡ Some told → zone.cut ≡ Some cut → cut.by_boot ≡ false
+      → now ≡ zone.stop → OldPlacesRead z cut told zone.stop now
 
 -- so reads each zone of a sound state
 abbrev pub UndamagedReadsTold : Type 0
-UndamagedReadsTold = (layout : List Zone) (mem : ℕ) (off : OffState) → IsLayout layout mem → IsState layout mem (Off off) → EachOffZone layout off ReadsAsAtStop
+UndamagedReadsTold = (layout : List Zone) (mem : ℕ) (off : OffState) → IsLayout layout mem
+    → IsState layout mem (Off off) → EachOffZone layout off ReadsAsAtStop
 
 -- a flip changes one byte of the image, and neither stop, told list nor cut
 abbrev pub FlipChangesOneByte : Type 0

@@ -22,7 +22,8 @@ pub fn operations_keep_states_sound()
     ensures { OperationsKeepStatesSound }
 {}
 
-/// Every state that a session reaches is sound: live zones hold what they were told or a flight's image, and so did each
+/// Every state that a session reaches is sound: live zones hold what they were told or a flight's image, and so did
+/// each
 /// zone at its stop.
 pub fn states_are_sound()
     ensures { StatesAreSound }

@@ -15,7 +15,8 @@ moved at s = record { place = at + s.place; bytes = s.bytes }
 
 -- the boot stores of an image: those of its zones in layout order, end to end
 abbrev pub image_boot_stores : List Zone → List ℕ → List Store
-image_boot_stores layout image = flat_map (λ (z : Zone). map (λ s. moved z.at s) (boot_stores z (zone_bytes z image))) layout
+image_boot_stores layout image = flat_map (λ (z : Zone). map (λ s. moved z.at s) (boot_stores z (zone_bytes z image)))
+    layout
 
 -- how many they are
 abbrev pub boot_count : List Zone → List ℕ → ℕ
@@ -38,12 +39,20 @@ boot_cut z bytes count = record {
 
 -- a zone that the boot has finished: it is told what the boot kept
 abbrev pub zone_finished : Zone → List ℕ → OffZone
-zone_finished z bytes = record { stop = after_stores bytes (boot_stores z bytes); told = Some (told_by_boot z bytes); cut = None }
+zone_finished z bytes = record {
+  stop = after_stores bytes (boot_stores z bytes);
+  told = Some (told_by_boot z bytes);
+  cut = None;
+}
 
 -- a zone that the boot was erasing: its told list stays, also none
 abbrev pub zone_cut : Zone → List ℕ → ℕ → OffZone → OffZone
 zone_cut z bytes count zone =
-    record { stop = after_stores bytes (take count (boot_stores z bytes)); told = zone.told; cut = Some (boot_cut z bytes count) }
+    record {
+      stop = after_stores bytes (take count (boot_stores z bytes));
+      told = zone.told;
+      cut = Some (boot_cut z bytes count);
+    }
 
 -- a zone, where so many of the stores made come at or behind it: finished, where the boot ends in its
 -- last store or behind it; cut, within its erasure; else as it was
@@ -70,5 +79,7 @@ boot_made layout count off = min count (boot_count layout off.image)
 abbrev pub boot_parted : List Zone → ℕ → OffState → OffState
 boot_parted layout count off = record {
   image = after_stores off.image (take count (image_boot_stores layout off.image));
-  zones = map (λ (at : ℕ × (Zone × OffZone)). zone_parted at.1.0 (zone_bytes at.1.0 off.image) (nat_le (boot_count layout off.image) count) (left_at layout off.image count at.0) at.1.1) (numbered_from 0 (zip layout off.zones));
+  zones = map (λ (at : ℕ × (Zone × OffZone)). zone_parted at.1.0 (zone_bytes at.1.0 off.image)
+      (nat_le (boot_count layout off.image) count) (left_at layout off.image count at.0) at.1.1)
+      (numbered_from 0 (zip layout off.zones));
 }

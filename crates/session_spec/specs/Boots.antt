@@ -9,7 +9,8 @@ use Rattle.session_spec.specs.Report.{ZoneReport, report}
 use Rattle.session_spec.specs.Headline.{EachOffZone, ReadsLastWritten}
 
 -- a boot: the live state, the saved logs and the report, and what they say of what was told
-pub record Boots (layout : List Zone) (off : OffState) (after : LiveState) (saved : List (Option ZoneReading)) (reports : List ZoneReport) : Type 0 where
+pub record Boots (layout : List Zone) (off : OffState) (after : LiveState) (saved : List (Option ZoneReading))
+    (reports : List ZoneReport) : Type 0 where
   pub state : after ≡ booted layout off
   pub logs : saved ≡ after.logs
   pub report : reports ≡ report layout off

@@ -23,21 +23,25 @@ OldPlacesRead z cut told stop now =
 abbrev pub NoOtherPlaces : Zone → Cut → List ℕ → Type 0
 NoOtherPlaces z cut now =
     (j place : ℕ) → header_seen z (words_read z now) (cut_pairs cut) ≡ SeenPair j
-    → Contains (log_places (words_read z now).start (words_read z now).size) place → is_touched z cut (place / z.block) ≡ false
+    → Contains (log_places (words_read z now).start (words_read z now).size) place
+    → is_touched z cut (place / z.block) ≡ false
     → Contains (log_places (words_before cut).start (words_before cut).size) place
 
 -- these runs are just the touched blocks
 abbrev pub RunsAreTouched : Zone → Cut → List (ℕ × ℕ) → Type 0
-RunsAreTouched z cut runs = (b : ℕ) → (is_touched z cut b ≡ true) ↔ ((lo hi : ℕ) × Contains runs (lo, hi) × (lo ≤ b) × (b ≤ hi))
+RunsAreTouched z cut runs = (b : ℕ) → (is_touched z cut b ≡ true) ↔
+    ((lo hi : ℕ) × Contains runs (lo, hi) × (lo ≤ b) × (b ≤ hi))
 
 -- an idle zone reads the last bytes written that fit; in a zone whose call a stop cut, only touched
 -- blocks and the header, both reported, make a difference
 pub record ReadsLastWritten (z : Zone) (zone : OffZone) (now : List ℕ) : Type 0 where
   pub idle : (told : List ℕ) → zone.told ≡ Some told → zone.cut ≡ None → IsZoneWithinBounds z zone.stop now
       → (zone_reading z now).log ≡ told
-  pub places : (told : List ℕ) (cut : Cut) → zone.told ≡ Some told → zone.cut ≡ Some cut → cut.by_boot ≡ false → IsNotDamagedFurther z zone.stop now
+  pub places : (told : List ℕ) (cut : Cut) → zone.told ≡ Some told → zone.cut ≡ Some cut → cut.by_boot ≡ false
+      → IsNotDamagedFurther z zone.stop now
       → OldPlacesRead z cut told zone.stop now × NoOtherPlaces z cut now
-  pub reported : (cut : Cut) → zone.cut ≡ Some cut → cut.by_boot ≡ false → RunsAreTouched z cut (cut_report z (zone_reading z now) cut).runs
+  pub reported : (cut : Cut) → zone.cut ≡ Some cut → cut.by_boot ≡ false
+      → RunsAreTouched z cut (cut_report z (zone_reading z now) cut).runs
 
 -- it is so of each zone of an off state and of its bytes as they stand
 abbrev pub EachOffZone : List Zone → OffState → (Zone → OffZone → List ℕ → Type 0) → Type 0

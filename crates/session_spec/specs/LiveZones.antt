@@ -38,7 +38,8 @@ ring_only (Some t) = if is_of DumpKind t.zone.name.kind then None else Some t
 
 -- whether a flight stands in a zone of which the test holds
 abbrev pub flies : List Zone → LiveState → (Zone → Bool) → Bool
-flies layout live test = list_any (λ (pair : Zone × LiveZone). test pair.0 && is_some pair.1.flight) (zip layout live.zones)
+flies layout live test = list_any (λ (pair : Zone × LiveZone). test pair.0 && is_some pair.1.flight)
+    (zip layout live.zones)
 
 -- whether a dump is in flight
 abbrev pub is_dump : Call → Bool
@@ -56,7 +57,8 @@ flies_dump (Some f) = is_dump f.call
 abbrev pub with_zone : List Zone → LiveState → ℕ → LiveZone → LiveZone → LiveState
 with_zone layout live i old new = record live {
   zones = slice_set live.zones i new;
-  cursor = if flies_dump old.flight && not (is_some new.flight) then (live.cursor + 1) % dump_zones layout else live.cursor;
+  cursor = if flies_dump old.flight && not (is_some new.flight) then (live.cursor + 1)
+      % dump_zones layout else live.cursor;
 }
 
 -- the state after a change of one zone

@@ -6,7 +6,11 @@ use Rattle.session_spec.specs.States.{OffState}
 
 -- an image of which nothing is known: this moment is the stop of every zone
 abbrev pub fresh : List Zone → List ℕ → OffState
-fresh layout image = record { image = image; zones = map (λ z. record { stop = zone_bytes z image; told = None; cut = None }) layout }
+fresh layout image = record {
+  image = image;
+  zones = map
+      (λ z. record { stop = zone_bytes z image; told = None; cut = None }) layout;
+}
 
 -- one byte exclusive-ored with a mask
 abbrev pub flipped : OffState → ℕ → ℕ → OffState

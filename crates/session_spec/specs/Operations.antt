@@ -61,7 +61,8 @@ live_operated layout live (BootPart limit) = Err WrongState
 
 -- the same while the machine is off
 abbrev pub off_operated : List Zone → OffState → Operation → Result Session Cause
-off_operated layout off (Flip place mask) = if nat_lt place (length off.image) then Ok (Off (flipped off place mask)) else Err (Refused OutOfImage)
+off_operated layout off (Flip place mask) = if nat_lt place (length off.image) then Ok (Off (flipped off place mask))
+    else Err (Refused OutOfImage)
 off_operated layout off Boot = Ok (Live (booted layout off))
 off_operated layout off (BootPart limit) = Ok (Off (boot_parted layout limit off))
 off_operated layout off other = Err WrongState
@@ -89,4 +90,5 @@ session_after layout session (o ∷ os) = session_after layout (left_by session 
 -- the cause of each operation of a run that was refused
 unfoldable pub causes : List Zone → Session → List Operation → List (Option Cause)
 causes layout session [] = []
-causes layout session (o ∷ os) = cause_of (operated layout session o) ∷ causes layout (left_by session (operated layout session o)) os
+causes layout session (o ∷ os) = cause_of (operated layout session o) ∷ causes layout
+    (left_by session (operated layout session o)) os

@@ -28,4 +28,5 @@ zone_report z zone now =
 
 -- the report of a boot, in layout order
 abbrev pub report : List Zone → OffState → List ZoneReport
-report layout off = map (λ (pair : Zone × OffZone). zone_report pair.0 pair.1 (zone_bytes pair.0 off.image)) (zip layout off.zones)
+report layout off = map (λ (pair : Zone × OffZone). zone_report pair.0 pair.1 (zone_bytes pair.0 off.image))
+    (zip layout off.zones)

@@ -21,8 +21,15 @@ abbrev pub stepped_by : Option Flight → Zone → ℕ → LiveZone → LiveZone
 stepped_by None z k live = live
 stepped_by (Some f) z k live =
     if nat_lt (f.made + k) (total_stores z f)
-    then record live { image = image_after z f.call f.image (f.made + k); flight = Some (record f { made = f.made + k }) }
-    else record { image = image_after z f.call f.image (total_stores z f); told = told_after z.cap f.call live.told; flight = None }
+    then record live {
+      image = image_after z f.call f.image (f.made + k);
+      flight = Some (record f { made = f.made + k });
+    }
+    else record {
+      image = image_after z f.call f.image (total_stores z f);
+      told = told_after z.cap f.call live.told;
+      flight = None;
+    }
 
 -- the same of a zone by its own flight
 abbrev pub stepped : Zone → ℕ → LiveZone → LiveZone

@@ -14,4 +14,5 @@ zone_bytes z image = slice_range image z.at (z.at + z.size)
 
 -- the list has one item for each zone of the layout, and each item is so beside its zone
 abbrev pub EachZone : {A : Type 0} → List Zone → List A → (Zone → A → Type 0) → Type 0
-EachZone {A} layout items P = (length items ≡ length layout) × ((i : ℕ) (z : Zone) (a : A) → slice_get layout i ≡ Some z → slice_get items i ≡ Some a → P z a)
+EachZone {A} layout items P = (length items ≡ length layout)
+    × ((i : ℕ) (z : Zone) (a : A) → slice_get layout i ≡ Some z → slice_get items i ≡ Some a → P z a)

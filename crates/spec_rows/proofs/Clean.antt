@@ -8,7 +8,8 @@ use Rattle.spec_rows.proofs.Given.{is_nearest, given_nearest, is_far, given_none
 use Rattle.spec_rows.proofs.Reading.{given_part}
 
 -- a part that reads as the given codeword
-pub read_as : (z : Zone) (image : List ℕ) (part : Part) (c : List ℕ) → IsTrue (is_nearest z.parity (part_word z image part) c)
+pub read_as : (z : Zone) (image : List ℕ) (part : Part) (c : List ℕ)
+    → IsTrue (is_nearest z.parity (part_word z image part) c)
     → part_reading z image part ≡ reading_by (part_bytes z image part) (part_word z image part) (Some c)
 read_as z image part c h = given_part z image part (Some c) (given_nearest z.parity (part_word z image part) c h)
 

@@ -21,7 +21,10 @@ use Rattle.spec_rows.specs.Shown.{answers}
 
 -- all but parity, and the search for a codeword
 unfoldable pub computing : ℕ
-unfolding digits power_within rounded zones_from layout_of zone_reading part_reading part_word part_bytes nearest is_codeword distance call_stores stores_in_turn stage_stores byte_stores after_stores put boot_fixes boot_erasure boot_stores fix_stores read_line pairs_from touched_by runs_of words_after windows_from window_at numbered_from session_after causes answers value_of gf_add gf_mul gf_pow
+unfolding digits power_within rounded zones_from layout_of zone_reading part_reading part_word part_bytes nearest
+    is_codeword distance call_stores stores_in_turn stage_stores byte_stores after_stores put boot_fixes boot_erasure
+    boot_stores fix_stores read_line pairs_from touched_by runs_of words_after windows_from window_at numbered_from
+    session_after causes answers value_of gf_add gf_mul gf_pow
 computing = 0
 
 -- these too: for zones without parity

@@ -24,35 +24,53 @@ bytes_are (x ∷ xs) h =
 codeword_by : (r : ℕ) (w : List ℕ) → AllByRecursion (λ b. b < 256) w → IsTrue (vanishes r w) → IsCodeword r w
 codeword_by r w bytes h = vanishes-is r w bytes ∙ h
 
-append_bytes : (xs ys : List ℕ) → AllByRecursion (λ b. b < 256) xs → AllByRecursion (λ b. b < 256) ys → AllByRecursion (λ b. b < 256) (xs ++ ys)
+append_bytes : (xs ys : List ℕ) → AllByRecursion (λ b. b < 256) xs → AllByRecursion (λ b. b < 256) ys
+    → AllByRecursion (λ b. b < 256) (xs ++ ys)
 append_bytes [] ys h k = k
 append_bytes (x ∷ xs) ys h k = (h.0, append_bytes xs ys h.1 k)
 
 -- p is r bytes, and makes a codeword of m
 abbrev pub is_parity : ℕ → List ℕ → List ℕ → Bool
-is_parity r m p = nat_le (length m + r) 255 && (are_bytes m && ((length p == r) && (are_bytes p && vanishes r (m ++ p))))
+is_parity r m p = nat_le (length m + r) 255 && (are_bytes m &&
+    ((length p == r) && (are_bytes p && vanishes r (m ++ p))))
 
 pub given_parity : (r : ℕ) (m p : List ℕ) → IsTrue (is_parity r m p) → parity_of r m ≡ p
 given_parity r m p h =
-    let short : IsTrue (nat_le (length m + r) 255) × IsTrue (are_bytes m && ((length p == r) && (are_bytes p && vanishes r (m ++ p)))) = both (nat_le (length m + r) 255) _ h in
-    let message : IsTrue (are_bytes m) × IsTrue ((length p == r) && (are_bytes p && vanishes r (m ++ p))) = both (are_bytes m) _ short.1 in
-    let total : IsTrue (length p == r) × IsTrue (are_bytes p && vanishes r (m ++ p)) = both (length p == r) _ message.1 in
+    let short : IsTrue (nat_le (length m + r) 255) × IsTrue
+    (are_bytes m && ((length p == r) && (are_bytes p && vanishes r (m ++ p)))) =
+    both (nat_le (length m + r) 255) _ h in
+    let message : IsTrue (are_bytes m) × IsTrue ((length p == r) && (are_bytes p && vanishes r (m ++ p))) =
+    both (are_bytes m) _ short.1 in
+    let total : IsTrue (length p == r) × IsTrue (are_bytes p && vanishes r (m ++ p)) =
+    both (length p == r) _ message.1 in
     let codeword : IsTrue (are_bytes p) × IsTrue (vanishes r (m ++ p)) = both (are_bytes p) _ total.1 in
-    let bytes : AllByRecursion (λ b. b < 256) (m ++ p) = append_bytes m p (bytes_are m message.0) (bytes_are p codeword.0) in
-    (parity_law r m p (leb-true (length m + r) 255 short.0) (refl, bytes_are m message.0)).1 ((eqb-true (length p) r total.0, bytes_are p codeword.0), codeword_by r (m ++ p) bytes codeword.1)
+    let bytes : AllByRecursion (λ b. b < 256) (m ++ p) =
+    append_bytes m p (bytes_are m message.0) (bytes_are p codeword.0) in
+    (parity_law r m p (leb-true (length m + r) 255 short.0) (refl, bytes_are m message.0)).1
+    ((eqb-true (length p) r total.0, bytes_are p codeword.0), codeword_by r (m ++ p) bytes codeword.1)
 
 -- c is a codeword of w's length within half the parity of it
 abbrev pub is_nearest : ℕ → List ℕ → List ℕ → Bool
-is_nearest r w c = nat_le (length w) 255 && (are_bytes w && ((length c == length w) && (are_bytes c && (vanishes r c && nat_le (distance w c) (r / 2)))))
+is_nearest r w c = nat_le (length w) 255 && (are_bytes w &&
+    ((length c == length w) && (are_bytes c && (vanishes r c && nat_le (distance w c) (r / 2)))))
 
 pub given_nearest : (r : ℕ) (w c : List ℕ) → IsTrue (is_nearest r w c) → nearest r w ≡ Some c
 given_nearest r w c h =
-    let short : IsTrue (nat_le (length w) 255) × IsTrue (are_bytes w && ((length c == length w) && (are_bytes c && (vanishes r c && nat_le (distance w c) (r / 2))))) = both (nat_le (length w) 255) _ h in
-    let word : IsTrue (are_bytes w) × IsTrue ((length c == length w) && (are_bytes c && (vanishes r c && nat_le (distance w c) (r / 2)))) = both (are_bytes w) _ short.1 in
-    let total : IsTrue (length c == length w) × IsTrue (are_bytes c && (vanishes r c && nat_le (distance w c) (r / 2))) = both (length c == length w) _ word.1 in
-    let bytes : IsTrue (are_bytes c) × IsTrue (vanishes r c && nat_le (distance w c) (r / 2)) = both (are_bytes c) _ total.1 in
+    let short : IsTrue (nat_le (length w) 255) × IsTrue (are_bytes w &&
+    ((length c == length w) && (are_bytes c && (vanishes r c && nat_le (distance w c) (r / 2))))) = both
+    (nat_le (length w) 255) _ h in
+    let word : IsTrue (are_bytes w) × IsTrue ((length c == length w) &&
+    (are_bytes c && (vanishes r c && nat_le (distance w c) (r / 2)))) = both (are_bytes w) _ short.1 in
+    let total : IsTrue (length c == length w) × IsTrue (are_bytes c &&
+    (vanishes r c && nat_le (distance w c) (r / 2))) = both (length c == length w) _ word.1 in
+    let bytes : IsTrue (are_bytes c) × IsTrue (vanishes r c && nat_le (distance w c) (r / 2)) =
+    both (are_bytes c) _ total.1 in
     let near : IsTrue (vanishes r c) × IsTrue (nat_le (distance w c) (r / 2)) = both (vanishes r c) _ bytes.1 in
-    (nearest_law r w c (leb-true (length w) 255 short.0) (refl, bytes_are w word.0)).1 ((eqb-true (length c) (length w) total.0, bytes_are c bytes.0), codeword_by r c (bytes_are c bytes.0) near.0, leb-true (distance w c) (r / 2) near.1)
+    (nearest_law r w c (leb-true (length w) 255 short.0) (refl, bytes_are w word.0)).1 (
+      (eqb-true (length c) (length w) total.0, bytes_are c bytes.0),
+      codeword_by r c (bytes_are c bytes.0) near.0,
+      leb-true (distance w c) (r / 2) near.1,
+    )
 
 -- a codeword is one of less parity too
 fewer : (q r : ℕ) (w : List ℕ) → q ≤ r → IsCodeword r w → IsCodeword q w
@@ -90,5 +108,6 @@ given_none r w h = by (nearest r w) refl
     by (Some c) e =
         let l : length w ≤ 255 = leb-true (length w) 255 short.0 in
         let near : IsWord (length w) c × IsCodeword r c × (distance w c ≤ r / 2) = (nearest_law r w c l bytes).0 e in
-        let same : w ≡ c = apart (r / 2) (length w) w c l bytes near.0 (codeword_by (r / 2) w bytes.1 half.0) (fewer (r / 2) r c (half_below r) near.1) near.2 in
+        let same : w ≡ c = apart (r / 2) (length w) w c l bytes near.0 (codeword_by (r / 2) w bytes.1 half.0)
+        (fewer (r / 2) r c (half_below r) near.1) near.2 in
         absurd (clash (vanishes r w) (sym (vanishes-is r w bytes.1) ∙ subst (IsCodeword r) (sym same) near.1) half.1)

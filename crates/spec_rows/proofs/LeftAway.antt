@@ -46,7 +46,8 @@ unfolding no_codeword gf_add gf_mul gf_pow
 third_open d l = all_checked (λ x. no_codeword 0 7 x) 256 d l refl
 
 -- one place at most differs, so two are as they were
-two_stay : (x y z : Bool) → (if x then 0 else 1) + ((if y then 0 else 1) + ((if z then 0 else 1) + 0)) ≤ 1 → IsTrue (x && y) ⊎ (IsTrue (x && z) ⊎ IsTrue (y && z))
+two_stay : (x y z : Bool) → (if x then 0 else 1) + ((if y then 0 else 1) + ((if z then 0 else 1) + 0)) ≤ 1
+    → IsTrue (x && y) ⊎ (IsTrue (x && z) ⊎ IsTrue (y && z))
 two_stay true true z h = inl refl
 two_stay true false true h = inr (inl refl)
 two_stay false true true h = inr (inr refl)
@@ -55,15 +56,19 @@ two_stay false true false h = absurd (omega (arith, h))
 two_stay false false true h = absurd (omega (arith, h))
 two_stay false false false h = absurd (omega (arith, h))
 
-none_near : (a b d : ℕ) → a < 256 → b < 256 → d < 256 → IsTrue (vanishes 2 (a ∷ b ∷ d ∷ [])) → distance (0 ∷ 7 ∷ 6 ∷ []) (a ∷ b ∷ d ∷ []) ≤ 1 → ⊥
+none_near : (a b d : ℕ) → a < 256 → b < 256 → d < 256 → IsTrue (vanishes 2 (a ∷ b ∷ d ∷ []))
+    → distance (0 ∷ 7 ∷ 6 ∷ []) (a ∷ b ∷ d ∷ []) ≤ 1 → ⊥
 unfolding distance no_codeword
 none_near a b d la lb ld k h = elim (two_stay (0 == a) (7 == b) (6 == d) h) [
   | inl s ↦ let t = both (0 == a) (7 == b) s in
-      clash (vanishes 2 (a ∷ b ∷ d ∷ [])) k (subst (λ x. IsTrue (no_codeword x b d)) (eqb-true 0 a t.0) (subst (λ y. IsTrue (no_codeword 0 y d)) (eqb-true 7 b t.1) (third_open d ld)))
+      clash (vanishes 2 (a ∷ b ∷ d ∷ [])) k (subst (λ x. IsTrue (no_codeword x b d)) (eqb-true 0 a t.0)
+      (subst (λ y. IsTrue (no_codeword 0 y d)) (eqb-true 7 b t.1) (third_open d ld)))
   | inr (inl s) ↦ let t = both (0 == a) (6 == d) s in
-      clash (vanishes 2 (a ∷ b ∷ d ∷ [])) k (subst (λ x. IsTrue (no_codeword x b d)) (eqb-true 0 a t.0) (subst (λ y. IsTrue (no_codeword 0 b y)) (eqb-true 6 d t.1) (second_open b lb)))
+      clash (vanishes 2 (a ∷ b ∷ d ∷ [])) k (subst (λ x. IsTrue (no_codeword x b d)) (eqb-true 0 a t.0)
+      (subst (λ y. IsTrue (no_codeword 0 b y)) (eqb-true 6 d t.1) (second_open b lb)))
   | inr (inr s) ↦ let t = both (7 == b) (6 == d) s in
-      clash (vanishes 2 (a ∷ b ∷ d ∷ [])) k (subst (λ x. IsTrue (no_codeword a x d)) (eqb-true 7 b t.0) (subst (λ y. IsTrue (no_codeword a 7 y)) (eqb-true 6 d t.1) (first_open a la)))
+      clash (vanishes 2 (a ∷ b ∷ d ∷ [])) k (subst (λ x. IsTrue (no_codeword a x d)) (eqb-true 7 b t.0)
+      (subst (λ y. IsTrue (no_codeword a 7 y)) (eqb-true 6 d t.1) (first_open a la)))
 ]
 
 near_none : (c : List ℕ) → IsWord 3 c → IsTrue (vanishes 2 c) → distance (0 ∷ 7 ∷ 6 ∷ []) c ≤ 1 → ⊥
@@ -82,5 +87,6 @@ left_away = by (nearest 2 (0 ∷ 7 ∷ 6 ∷ [])) refl
     by : (o : Option (List ℕ)) → nearest 2 (0 ∷ 7 ∷ 6 ∷ []) ≡ o → o ≡ None
     by None e = refl
     by (Some c) e =
-        let near : IsWord 3 c × IsCodeword 2 c × (distance (0 ∷ 7 ∷ 6 ∷ []) c ≤ 1) = (nearest_law 2 (0 ∷ 7 ∷ 6 ∷ []) c (omega arith) word).0 e in
+        let near : IsWord 3 c × IsCodeword 2 c × (distance (0 ∷ 7 ∷ 6 ∷ []) c ≤ 1) =
+        (nearest_law 2 (0 ∷ 7 ∷ 6 ∷ []) c (omega arith) word).0 e in
         absurd (near_none c near.0 (sym (vanishes-is 2 c near.0.1) ∙ near.1) near.2)

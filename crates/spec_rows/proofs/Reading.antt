@@ -18,12 +18,20 @@ reading_in_parts z part w Found = record {
   corrected = (part Header).corrected + sum_by (λ b. (part (Block b)).corrected) (blocks_below z w.size);
   bad = (part Header).bad + sum_by (λ b. (part (Block b)).bad) (blocks_below z w.size);
 }
-reading_in_parts z part w other = record { state = other; words = w; log = []; corrected = (part Header).corrected; bad = (part Header).bad }
+reading_in_parts z part w other = record {
+  state = other;
+  words = w;
+  log = [];
+  corrected = (part Header).corrected;
+  bad = (part Header).bad;
+}
 
 abbrev pub reading_of_parts : Zone → (Part → PartReading) → ZoneReading
-reading_of_parts z part = reading_in_parts z part (words_in (part Header).bytes) (state_of z (words_in (part Header).bytes))
+reading_of_parts z part = reading_in_parts z part (words_in (part Header).bytes)
+    (state_of z (words_in (part Header).bytes))
 
-in_parts : (z : Zone) (image : List ℕ) (w : Words) (s : State) → reading_in z image w s ≡ reading_in_parts z (part_reading z image) w s
+in_parts : (z : Zone) (image : List ℕ) (w : Words) (s : State)
+    → reading_in z image w s ≡ reading_in_parts z (part_reading z image) w s
 in_parts z image w Found = refl
 in_parts z image w other = refl
 
@@ -39,11 +47,15 @@ parts_given z image header first second (Block (suc zero)) = second
 parts_given z image header first second (Block (suc (suc b))) = part_reading z image (Block (suc (suc b)))
 
 -- a part's reading by the given nearest codeword, or by none
-pub given_part : (z : Zone) (image : List ℕ) (part : Part) (o : Option (List ℕ)) → nearest z.parity (part_word z image part) ≡ o → part_reading z image part ≡ reading_by (part_bytes z image part) (part_word z image part) o
+pub given_part : (z : Zone) (image : List ℕ) (part : Part) (o : Option (List ℕ))
+    → nearest z.parity (part_word z image part) ≡ o → part_reading z image part
+    ≡ reading_by (part_bytes z image part) (part_word z image part) o
 unfolding part_reading
 given_part z image part o e = ap (reading_by (part_bytes z image part) (part_word z image part)) e
 
-pub given_parts : (z : Zone) (image : List ℕ) (header first second : PartReading) → part_reading z image Header ≡ header → part_reading z image (Block 0) ≡ first → part_reading z image (Block 1) ≡ second
+pub given_parts : (z : Zone) (image : List ℕ) (header first second : PartReading)
+    → part_reading z image Header ≡ header → part_reading z image (Block 0) ≡ first
+    → part_reading z image (Block 1) ≡ second
     → zone_reading z image ≡ reading_of_parts z (parts_given z image header first second)
 given_parts z image header first second h f s = of_parts z image ∙ ap (reading_of_parts z) (λ i part. same part i)
   where

@@ -30,7 +30,8 @@ StoppedFirstBoot =
 -- with more stores than there are, the boot is whole
 abbrev pub BootNotStopped : Type 0
 BootNotStopped =
-    run lone_console (replicate 4096 0) (BootPart 9 ∷ Boot ∷ []) ≡ Stops 3 ∷ Boots (boot console Empty 0 0 0 0 AsTold ∷ []) ∷ []
+    run lone_console (replicate 4096 0) (BootPart 9 ∷ Boot ∷ [])
+    ≡ Stops 3 ∷ Boots (boot console Empty 0 0 0 0 AsTold ∷ []) ∷ []
 
 -- with none made and some left, nothing is finished
 abbrev pub StoppedBeforeFirstStore : Type 0
@@ -73,7 +74,8 @@ abbrev pub StoppedBehindLastStore : Type 0
 StoppedBehindLastStore =
     run four_small_zones mixed (BootPart 0 ∷ BootPart 6 ∷ Boot ∷ [])
     ≡ Stops 0 ∷ Stops 6
-    ∷ Boots (boot (dump 0) Empty 0 0 0 0 AsTold ∷ boot (dump 1) Empty 0 0 0 0 AsTold ∷ boot console Empty 0 0 0 0 AsTold ∷ boot pmsg Empty 0 0 0 0 AsTold ∷ [])
+    ∷ Boots (boot (dump 0) Empty 0 0 0 0 AsTold ∷ boot (dump 1) Empty 0 0 0 0 AsTold
+    ∷ boot console Empty 0 0 0 0 AsTold ∷ boot pmsg Empty 0 0 0 0 AsTold ∷ [])
     ∷ []
 
 -- a boot without stores finishes every zone, also where its limit is 0
@@ -94,8 +96,10 @@ UnsignedAsTold =
 -- an image of which nothing is known: every byte 255; a size above the capacity
 abbrev pub UnknownHeaders : Type 0
 UnknownHeaders =
-    (run lone_console (replicate 4096 0xff) (Boot ∷ []) ≡ Boots (boot console Unsigned 4294967295 4294967295 0 0 NothingTold ∷ []) ∷ [])
-    × (run lone_console (then_zeros 4096 (signature ++ 5 ∷ 0 ∷ 0 ∷ 0 ∷ 0xf5 ∷ 0x0f ∷ 0 ∷ 0 ∷ [])) (Boot ∷ []) ≡ Boots (boot console Invalid 5 4085 0 0 NothingTold ∷ []) ∷ [])
+    (run lone_console (replicate 4096 0xff) (Boot ∷ []) ≡ Boots
+    (boot console Unsigned 4294967295 4294967295 0 0 NothingTold ∷ []) ∷ [])
+    × (run lone_console (then_zeros 4096 (signature ++ 5 ∷ 0 ∷ 0 ∷ 0 ∷ 0xf5 ∷ 0x0f ∷ 0 ∷ 0 ∷ [])) (Boot ∷ [])
+    ≡ Boots (boot console Invalid 5 4085 0 0 NothingTold ∷ []) ∷ [])
     × (state_of (plain_zone console 0) (record { sig = 0x43474244; start = 4084; size = 4084 }) ≡ Found)
     × (state_of (plain_zone console 0) (record { sig = 0x43474244; start = 5; size = 0 }) ≡ Invalid)
     × (state_of (plain_zone console 0) (record { sig = 0x43474244; start = 5; size = 4 }) ≡ Invalid)
@@ -112,9 +116,14 @@ told_and_flipped = Boot ∷ Make (Append console abc) ∷ Stop ∷ Flip 12 1 ∷
 
 abbrev pub StopsOfCutBoots : Type 0
 StopsOfCutBoots =
-    (map (λ stop. slice_range stop 4 15) (stops (left small_console (replicate 256 0) told_and_flipped)) ≡ (3 ∷ 0 ∷ 0 ∷ 0 ∷ 3 ∷ 0 ∷ 0 ∷ 0 ∷ abc) ∷ [])
-    × (map (λ stop. slice_range stop 4 15) (stops (left small_console (replicate 256 0) (told_and_flipped ++ BootPart 0 ∷ []))) ≡ (3 ∷ 0 ∷ 0 ∷ 0 ∷ 3 ∷ 0 ∷ 0 ∷ 0 ∷ abc) ∷ [])
-    × (map (λ stop. slice_range stop 4 15) (stops (left small_console (replicate 256 0) (told_and_flipped ++ BootPart 1 ∷ []))) ≡ (0 ∷ 0 ∷ 0 ∷ 0 ∷ 3 ∷ 0 ∷ 0 ∷ 0 ∷ 0x60 ∷ 0x62 ∷ 0x63 ∷ []) ∷ [])
-    × (map (λ stop. slice_range stop 4 15) (stops (left small_console (replicate 256 0) (told_and_flipped ++ BootPart 2 ∷ []))) ≡ (0 ∷ 0 ∷ 0 ∷ 0 ∷ 0 ∷ 0 ∷ 0 ∷ 0 ∷ 0x60 ∷ 0x62 ∷ 0x63 ∷ []) ∷ [])
+    (map (λ stop. slice_range stop 4 15) (stops (left small_console (replicate 256 0) told_and_flipped))
+    ≡ (3 ∷ 0 ∷ 0 ∷ 0 ∷ 3 ∷ 0 ∷ 0 ∷ 0 ∷ abc) ∷ [])
+    × (map (λ stop. slice_range stop 4 15) (stops (left small_console (replicate 256 0)
+    (told_and_flipped ++ BootPart 0 ∷ []))) ≡ (3 ∷ 0 ∷ 0 ∷ 0 ∷ 3 ∷ 0 ∷ 0 ∷ 0 ∷ abc) ∷ [])
+    × (map (λ stop. slice_range stop 4 15) (stops (left small_console (replicate 256 0)
+    (told_and_flipped ++ BootPart 1 ∷ []))) ≡ (0 ∷ 0 ∷ 0 ∷ 0 ∷ 3 ∷ 0 ∷ 0 ∷ 0 ∷ 0x60 ∷ 0x62 ∷ 0x63 ∷ []) ∷ [])
+    × (map (λ stop. slice_range stop 4 15) (stops (left small_console (replicate 256 0)
+    (told_and_flipped ++ BootPart 2 ∷ []))) ≡ (0 ∷ 0 ∷ 0 ∷ 0 ∷ 0 ∷ 0 ∷ 0 ∷ 0 ∷ 0x60 ∷ 0x62 ∷ 0x63 ∷ []) ∷ [])
     -- one byte of each signed zone flipped: the first zone is finished, the third stays
-    × (map (λ stop. slice_index stop 20) (stops (left four_small_zones mixed (Flip 20 1 ∷ Flip 532 1 ∷ BootPart 1 ∷ []))) ≡ 1 ∷ 0 ∷ 0 ∷ 0 ∷ [])
+    × (map (λ stop. slice_index stop 20) (stops (left four_small_zones mixed
+    (Flip 20 1 ∷ Flip 532 1 ∷ BootPart 1 ∷ []))) ≡ 1 ∷ 0 ∷ 0 ∷ 0 ∷ [])

@@ -32,7 +32,11 @@ words_of_window (Some w) = pair_of w.opening ∷ pair_of w.closing ∷ []
 abbrev pub window_of_dump : ℕ → List Pair
 window_of_dump made =
     let z = small_zone (dump 0) 0 in
-    words_of_window (current_window z (cut_of z (record { image = zone_booted z; call = Dump (codes "====5.000006-D\n") (codes "x"); made = made })))
+    words_of_window (current_window z (cut_of z (record {
+      image = zone_booted z;
+      call = Dump (codes "====5.000006-D\n") (codes "x");
+      made = made;
+    })))
 
 abbrev pub words_between : ℕ → ℕ → List Pair
 words_between before after = record { start = before; size = before } ∷ record { start = after; size = after } ∷ []
@@ -40,4 +44,5 @@ words_between before after = record { start = before; size = before } ∷ record
 abbrev pub WindowsOfDump : Type 0
 WindowsOfDump =
     map window_of_dump (0 ∷ 2 ∷ 3 ∷ 19 ∷ 20 ∷ 22 ∷ [])
-    ≡ words_between 0 0 ∷ words_between 0 0 ∷ words_between 0 15 ∷ words_between 0 15 ∷ words_between 15 16 ∷ words_between 15 16 ∷ []
+    ≡ words_between 0 0 ∷ words_between 0 0 ∷ words_between 0 15 ∷ words_between 0 15 ∷ words_between 15 16
+    ∷ words_between 15 16 ∷ []

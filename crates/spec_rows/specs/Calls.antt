@@ -26,9 +26,11 @@ FirstConsoleRecord =
     ≡ Boots (boot console Unsigned 0 0 0 0 NothingTold ∷ [])
     ∷ Boots (boot console Found 3 3 0 0 AsTold ∷ [])
     ∷ [])
-    × (records lone_console (left lone_console (replicate 4096 0) first_record) ≡ (codes "console-ramoops-0", 3, None) ∷ [])
+    × (records lone_console (left lone_console (replicate 4096 0) first_record)
+    ≡ (codes "console-ramoops-0", 3, None) ∷ [])
     × (contents lone_console (left lone_console (replicate 4096 0) first_record) ≡ codes "abc" ∷ [])
-    × (slice_range (session_image (left lone_console (replicate 4096 0) first_record)) 0 15 ≡ signature ++ replicate 8 0 ++ abc)
+    × (slice_range (session_image (left lone_console (replicate 4096 0) first_record)) 0 15
+    ≡ signature ++ replicate 8 0 ++ abc)
 
 abbrev pub BytesOfFirstRecord : Type 0
 BytesOfFirstRecord =
@@ -48,7 +50,8 @@ CutAfterSizeWord =
     ≡ Boots (boot console Unsigned 0 0 0 0 NothingTold ∷ [])
     ∷ Boots (and_cut (boot console Found 3 6 0 0 (Differs 3 6 0)) AppendCall 1 5 (Pair 1) ((0, 0) ∷ []) ∷ [])
     ∷ [])
-    × (contents lone_console (left lone_console (replicate 4096 0) cut_after_size_word) ≡ (0 ∷ 0 ∷ 0 ∷ 0x61 ∷ 0x62 ∷ 0x63 ∷ []) ∷ [])
+    × (contents lone_console (left lone_console (replicate 4096 0) cut_after_size_word)
+    ≡ (0 ∷ 0 ∷ 0 ∷ 0x61 ∷ 0x62 ∷ 0x63 ∷ []) ∷ [])
 
 -- a console of 256 bytes that was filled, and one byte more: the log is the last 244
 abbrev pub letters : ℕ → ℕ → List ℕ
@@ -63,7 +66,8 @@ WrappedRing =
     ≡ Boots (boot console Unsigned 0 0 0 0 NothingTold ∷ [])
     ∷ Boots (boot console Found 1 244 0 0 AsTold ∷ [])
     ∷ [])
-    × (contents small_console (left small_console (replicate 256 0) (wrapped ++ Stop ∷ Boot ∷ [])) ≡ (letters 1 243 ++ 0x21 ∷ []) ∷ [])
+    × (contents small_console (left small_console (replicate 256 0) (wrapped ++ Stop ∷ Boot ∷ []))
+    ≡ (letters 1 243 ++ 0x21 ∷ []) ∷ [])
 
 -- an erasure of a full ring that is cut after its start word: the log is the data from place 0 on
 abbrev pub cut_erasure : List Operation
@@ -91,7 +95,8 @@ WrappedLargeRing =
     let words = standing_words image in
     (words ≡ record { sig = 0x43474244; start = 1; size = 4084 })
     × (log_places words.start words.size ≡ range_with_len 1 4083 ++ 0 ∷ [])
-    × (map (λ place. byte_read (plain_zone console 0) image place) (1 ∷ 2 ∷ 2048 ∷ 4083 ∷ 0 ∷ []) ≡ 0x61 ∷ 0x61 ∷ 0x61 ∷ 0x61 ∷ 0x62 ∷ [])
+    × (map (λ place. byte_read (plain_zone console 0) image place) (1 ∷ 2 ∷ 2048 ∷ 4083 ∷ 0 ∷ [])
+    ≡ 0x61 ∷ 0x61 ∷ 0x61 ∷ 0x61 ∷ 0x62 ∷ [])
     × (told_after 4084 (AppendOf (0x62 ∷ [])) (replicate 4084 0x61) ≡ replicate 4083 0x61 ++ 0x62 ∷ [])
 
 abbrev pub CutErasureOfLargeRing : Type 0
@@ -100,4 +105,5 @@ CutErasureOfLargeRing =
     let words = standing_words image in
     (words ≡ record { sig = 0x43474244; start = 0; size = 4084 })
     × (log_places words.start words.size ≡ range_with_len 0 4084)
-    × (map (λ place. byte_read (plain_zone console 0) image place) (0 ∷ 1 ∷ 2 ∷ 4083 ∷ []) ≡ 0x21 ∷ 0x62 ∷ 0x63 ∷ 0x62 ∷ [])
+    × (map (λ place. byte_read (plain_zone console 0) image place) (0 ∷ 1 ∷ 2 ∷ 4083 ∷ [])
+    ≡ 0x21 ∷ 0x62 ∷ 0x63 ∷ 0x62 ∷ [])

@@ -26,7 +26,8 @@ stores z w call = sum_by (stage_count z) (call_stages z w call)
 
 abbrev pub StoresOfErasure : Type 0
 StoresOfErasure =
-    (stores (plain_zone console 0) (ring 3 3) Erase ≡ 2) × (stores console_of_two (ring 3 3) Erase ≡ 4) × (stores console_of_sixteen (ring 3 3) Erase ≡ 18)
+    (stores (plain_zone console 0) (ring 3 3) Erase ≡ 2) × (stores console_of_two (ring 3 3) Erase ≡ 4)
+    × (stores console_of_sixteen (ring 3 3) Erase ≡ 18)
 
 -- an append: a word or two, its bytes, the parity of the blocks that it meets, and that of the header
 abbrev pub StoresOfAppend : Type 0
@@ -46,7 +47,8 @@ abbrev pub StoresOfDump : Type 0
 StoresOfDump =
     (stores (plain_zone console 0) (ring 0 0) (Dump line (codes "x")) ≡ 22)
     × (stores (plain_zone console 0) (ring 0 0) (Dump line []) ≡ 19)
-    × (stores console_of_sixteen (ring 0 0) (Dump line (codes "x")) ≡ 2 + 16 + (1 + 15 + 16 + 16 + 1) + (1 + 1 + 16 + 16 + 1))
+    × (stores console_of_sixteen (ring 0 0) (Dump line (codes "x"))
+    ≡ 2 + 16 + (1 + 15 + 16 + 16 + 1) + (1 + 1 + 16 + 16 + 1))
 
 -- the words that a dump goes through, start first
 abbrev pub words_gone_through : Zone → Words → Call → List Pair
@@ -73,7 +75,9 @@ long = map (λ i. i % 251) (range_with_len 0 5000)
 abbrev pub PayloadLongerThanRing : Type 0
 PayloadLongerThanRing =
     (told_after 4084 (Append long) [] ≡ drop 916 long)
-    × (call_stages (plain_zone console 0) (ring 0 0) (Append long) ≡ SizeWord 4084 ∷ StartWord 0 ∷ Run 0 (drop 916 long) ∷ map (λ b. ParityOf (Block b)) (range_with_len 0 32) ++ ParityOf Header ∷ [])
+    × (call_stages (plain_zone console 0) (ring 0 0) (Append long)
+    ≡ SizeWord 4084 ∷ StartWord 0 ∷ Run 0 (drop 916 long) ∷ map (λ b. ParityOf (Block b)) (range_with_len 0 32)
+    ++ ParityOf Header ∷ [])
 
 -- of 256 bytes: a full ring that is appended all its bytes stores start, and the parity of the block
 -- that both runs meet twice
@@ -88,7 +92,8 @@ FullRingOverwritten =
 -- the runs of touched blocks
 abbrev pub RunsOfBlocks : Type 0
 RunsOfBlocks =
-    (runs_of (0 ∷ 1 ∷ 2 ∷ []) ≡ (0, 2) ∷ []) × (runs_of (0 ∷ 2 ∷ 3 ∷ 7 ∷ []) ≡ (0, 0) ∷ (2, 3) ∷ (7, 7) ∷ []) × (runs_of [] ≡ [])
+    (runs_of (0 ∷ 1 ∷ 2 ∷ []) ≡ (0, 2) ∷ []) × (runs_of (0 ∷ 2 ∷ 3 ∷ 7 ∷ []) ≡ (0, 0) ∷ (2, 3) ∷ (7, 7) ∷ [])
+    × (runs_of [] ≡ [])
 
 -- the pair that a header reads is the least, and only one with the zone's signature
 abbrev pub PairSeen : Type 0

@@ -40,7 +40,8 @@ NineFlipsInBlock =
     let stop = zone_written console_of_sixteen told in
     let now = flipped_from 12 nine_masks stop in
     (zone_shown console_of_sixteen (idle stop told) now ≡ boot console Found 200 200 0 1 (Differs 200 200 0))
-    × ((zone_reading console_of_sixteen now).log ≡ 0x60 ∷ 0x9e ∷ 0x6a ∷ 0x30 ∷ 0x57 ∷ 0x8e ∷ 0xcc ∷ 0xa9 ∷ 0x79 ∷ replicate 191 0x61)
+    × ((zone_reading console_of_sixteen now).log ≡ 0x60 ∷ 0x9e ∷ 0x6a ∷ 0x30 ∷ 0x57 ∷ 0x8e ∷ 0xcc ∷ 0xa9 ∷ 0x79
+    ∷ replicate 191 0x61)
 
 -- the header reads signed and as told, though its bytes as they stand are not
 abbrev pub EightFlipsInHeader : Type 0
@@ -53,7 +54,11 @@ EightFlipsInHeader =
 -- a zone whose call was cut after so many stores
 abbrev pub cut_zone : Zone → List ℕ → List ℕ → Call → ℕ → OffZone
 cut_zone z before told call made =
-    record { stop = image_after z call before made; told = Some told; cut = Some (cut_of z (record { image = before; call = call; made = made })) }
+    record {
+      stop = image_after z call before made;
+      told = Some told;
+      cut = Some (cut_of z (record { image = before; call = call; made = made }));
+    }
 
 -- the header's parity is still that of the words before, and corrects the size word
 abbrev pub CutWithParityAfterFirstStore : Type 0

@@ -17,7 +17,8 @@ use Rattle.spec_rows.specs.Scenes.{abc, signature}
 use Rattle.spec_rows.specs.Shown.{Boots, Answer, Refuses, boot, and_cut, run, left, records, contents}
 
 abbrev pub first_boot : Answer
-first_boot = Boots (boot (dump 0) Unsigned 0 0 0 0 NothingTold ∷ boot (dump 1) Unsigned 0 0 0 0 NothingTold ∷ boot console Unsigned 0 0 0 0 NothingTold ∷ boot pmsg Unsigned 0 0 0 0 NothingTold ∷ [])
+first_boot = Boots (boot (dump 0) Unsigned 0 0 0 0 NothingTold ∷ boot (dump 1) Unsigned 0 0 0 0 NothingTold
+    ∷ boot console Unsigned 0 0 0 0 NothingTold ∷ boot pmsg Unsigned 0 0 0 0 NothingTold ∷ [])
 
 -- two dumps, `one` and `two`, kept over a boot; the first is erased
 abbrev pub two_dumps : List Operation
@@ -33,10 +34,12 @@ abbrev pub DumpsKept : Type 0
 DumpsKept =
     (run four_zones (replicate 16384 0) (and_one_erased ++ EraseRecord (DumpName 0 false) ∷ [])
     ≡ first_boot
-    ∷ Boots (boot (dump 0) Found 27 27 0 0 AsTold ∷ boot (dump 1) Found 27 27 0 0 AsTold ∷ boot console Empty 0 0 0 0 AsTold ∷ boot pmsg Empty 0 0 0 0 AsTold ∷ [])
+    ∷ Boots (boot (dump 0) Found 27 27 0 0 AsTold ∷ boot (dump 1) Found 27 27 0 0 AsTold
+    ∷ boot console Empty 0 0 0 0 AsTold ∷ boot pmsg Empty 0 0 0 0 AsTold ∷ [])
     ∷ Refuses NoRecord
     ∷ [])
-    × (records four_zones (left four_zones (replicate 16384 0) and_one_erased) ≡ (codes "dmesg-ramoops-1", 3, Some (record { secs = 1700000001; micros = 0 })) ∷ [])
+    × (records four_zones (left four_zones (replicate 16384 0) and_one_erased)
+    ≡ (codes "dmesg-ramoops-1", 3, Some (record { secs = 1700000001; micros = 0 })) ∷ [])
     × (contents four_zones (left four_zones (replicate 16384 0) and_one_erased) ≡ codes "two" ∷ [])
 
 abbrev pub BytesOfKeptDumps : Type 0
@@ -68,13 +71,16 @@ CursorMovesAtLastStore =
 -- a dump keeps of its body what fits behind its line
 abbrev pub DumpKeepsFront : Type 0
 DumpKeepsFront =
-    length (told_after 4084 (DumpOf (line_text (record { secs = 1700000000; micros = 123 }) false) (replicate 5000 0x78)) []) - length (line_text (record { secs = 1700000000; micros = 123 }) false) ≡ 4060
+    length (told_after 4084 (DumpOf (line_text (record { secs = 1700000000; micros = 123 }) false)
+    (replicate 5000 0x78)) []) - length (line_text (record { secs = 1700000000; micros = 123 }) false) ≡ 4060
 
 -- a dump is in the way of a dump, and so is an erasure in any dump zone
 abbrev pub DumpIsBusy : Type 0
 DumpIsBusy =
-    (run four_zones (replicate 16384 0) (Boot ∷ Begin (Erase (dump 1)) ∷ dump_begun ∷ []) ≡ first_boot ∷ Refuses (Refused Busy) ∷ [])
-    × (run four_zones (replicate 16384 0) (Boot ∷ dump_begun ∷ Begin (Erase (dump 1)) ∷ dump_begun ∷ []) ≡ first_boot ∷ Refuses (Refused Busy) ∷ [])
+    (run four_zones (replicate 16384 0) (Boot ∷ Begin (Erase (dump 1)) ∷ dump_begun ∷ [])
+    ≡ first_boot ∷ Refuses (Refused Busy) ∷ [])
+    × (run four_zones (replicate 16384 0) (Boot ∷ dump_begun ∷ Begin (Erase (dump 1)) ∷ dump_begun ∷ [])
+    ≡ first_boot ∷ Refuses (Refused Busy) ∷ [])
 
 -- a dump cut after its line's size and start words, and an append cut after its first byte
 abbrev pub dump_and_console : List Operation
@@ -92,7 +98,10 @@ DumpAndConsoleCut =
     ∷ and_cut (boot console Found 3 3 0 0 (Differs 0 3 0)) AppendCall 3 5 (Pair 2) ((0, 0) ∷ [])
     ∷ boot pmsg Found 1 1 0 0 AsTold ∷ [])
     ∷ [])
-    × (records four_zones (left four_zones (replicate 16384 0) dump_and_console) ≡ (codes "console-ramoops-0", 3, None) ∷ (codes "pmsg-ramoops-0", 1, None) ∷ [])
-    × (contents four_zones (left four_zones (replicate 16384 0) dump_and_console) ≡ (0x61 ∷ 0 ∷ 0 ∷ []) ∷ (0x70 ∷ []) ∷ [])
+    × (records four_zones (left four_zones (replicate 16384 0) dump_and_console)
+    ≡ (codes "console-ramoops-0", 3, None) ∷ (codes "pmsg-ramoops-0", 1, None) ∷ [])
+    × (contents four_zones (left four_zones (replicate 16384 0) dump_and_console)
+    ≡ (0x61 ∷ 0 ∷ 0 ∷ []) ∷ (0x70 ∷ []) ∷ [])
     -- dump-0 has no time line and is erased
-    × (slice_range (session_image (left four_zones (replicate 16384 0) dump_and_console)) 0 12 ≡ signature ++ replicate 8 0)
+    × (slice_range (session_image (left four_zones (replicate 16384 0) dump_and_console)) 0 12
+    ≡ signature ++ replicate 8 0)

@@ -21,12 +21,15 @@ entry time processor = 1 ∷ replicate 7 0 ++ 2 ∷ replicate 7 0 ++ processor �
 
 -- the later zone's entry comes first where the times are equal
 abbrev pub two_logs : List Operation
-two_logs = Boot ∷ Make (Append (ftrace 0) (entry 5 0 ++ entry 7 0)) ∷ Make (Append (ftrace 1) (entry 5 1)) ∷ Stop ∷ Boot ∷ []
+two_logs = Boot ∷ Make (Append (ftrace 0) (entry 5 0 ++ entry 7 0)) ∷ Make (Append (ftrace 1) (entry 5 1)) ∷ Stop
+    ∷ Boot ∷ []
 
 abbrev pub TwoProcessorsMerged : Type 0
 TwoProcessorsMerged =
-    (records two_processors (left two_processors (replicate 4096 0) two_logs) ≡ (codes "ftrace-ramoops-0", 72, None) ∷ [])
-    × (contents two_processors (left two_processors (replicate 4096 0) two_logs) ≡ (entry 5 1 ++ entry 5 0 ++ entry 7 0) ∷ [])
+    (records two_processors (left two_processors (replicate 4096 0) two_logs)
+    ≡ (codes "ftrace-ramoops-0", 72, None) ∷ [])
+    × (contents two_processors (left two_processors (replicate 4096 0) two_logs)
+    ≡ (entry 5 1 ++ entry 5 0 ++ entry 7 0) ∷ [])
 
 -- an ftrace ring whose start is not its size, and that is not full, is listed once, and not kept
 abbrev pub strange_ring : List ℕ
@@ -50,19 +53,27 @@ FrontOfLogDropped =
 -- of two heads the earlier comes first; of a log's entries each keeps its order
 abbrev pub MergeByTime : Type 0
 MergeByTime =
-    (merged ((entry 3 0 ++ entry 9 0) ∷ (entry 1 1 ++ entry 4 1) ∷ []) ≡ entry 1 1 ++ entry 3 0 ++ entry 4 1 ++ entry 9 0)
+    (merged ((entry 3 0 ++ entry 9 0) ∷ (entry 1 1 ++ entry 4 1) ∷ [])
+    ≡ entry 1 1 ++ entry 3 0 ++ entry 4 1 ++ entry 9 0)
     × (merged ((0 ∷ 0 ∷ entry 3 0) ∷ (9 ∷ entry 3 1) ∷ (entry 3 2) ∷ []) ≡ entry 3 2 ++ entry 3 1 ++ entry 3 0)
 
 -- which rings are kept: those that can be appended to
 abbrev pub reading_of : ℕ → ℕ → ZoneReading
-reading_of start size = record { state = Found; words = record { sig = 0x43474244; start = start; size = size }; log = []; corrected = 0; bad = 0 }
+reading_of start size = record {
+  state = Found;
+  words = record { sig = 0x43474244; start = start; size = size };
+  log = [];
+  corrected = 0;
+  bad = 0;
+}
 
 abbrev pub keeps_ring : ℕ → ℕ → Bool
 keeps_ring start size = is_kept (ftrace_zone 0) (reading_of start size) Ftrace
 
 abbrev pub FtraceRingsKept : Type 0
 FtraceRingsKept =
-    (keeps_ring 48 48 ≡ true) × (keeps_ring 2 5 ≡ false) × (keeps_ring 48 2036 ≡ true) × (keeps_ring 0 2036 ≡ true) × (keeps_ring 2036 2036 ≡ false)
+    (keeps_ring 48 48 ≡ true) × (keeps_ring 2 5 ≡ false) × (keeps_ring 48 2036 ≡ true) × (keeps_ring 0 2036 ≡ true)
+    × (keeps_ring 2036 2036 ≡ false)
 
 -- with a tag that makes the signature 0, a zone of zeros is empty, and a boot stores nothing
 abbrev pub unsigned_zone : Zone
@@ -70,5 +81,6 @@ unsigned_zone = record (ftrace_zone 0) { sig = 0 }
 
 abbrev pub ZerosAreEmpty : Type 0
 ZerosAreEmpty =
-    (run (unsigned_zone ∷ []) (replicate 2048 0) (Boot ∷ []) ≡ Boots (boot (ftrace 0) Empty 0 0 0 0 NothingTold ∷ []) ∷ [])
+    (run (unsigned_zone ∷ []) (replicate 2048 0) (Boot ∷ []) ≡ Boots (boot (ftrace 0) Empty 0 0 0 0 NothingTold ∷ [])
+    ∷ [])
     × (boot_stores unsigned_zone (replicate 2048 0) ≡ [])

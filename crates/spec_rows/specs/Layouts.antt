@@ -10,7 +10,21 @@ use Rattle.spec_rows.specs.Zones.{console, pmsg, dump, ftrace, lone_console, fou
 
 -- what is not given: no memory, zones of 4096 bytes, no parity, one processor, blocks of 128 bytes
 abbrev pub default : Params
-default = record { mem = 0; dump = 4096; console = 4096; ftrace = 4096; pmsg = 4096; ecc = 0; cpus = 1; ftrace_sig = 0; block = 128; ecc_dump = 0; ecc_console = 0; ecc_ftrace = 0; ecc_pmsg = 0 }
+default = record {
+  mem = 0;
+  dump = 4096;
+  console = 4096;
+  ftrace = 4096;
+  pmsg = 4096;
+  ecc = 0;
+  cpus = 1;
+  ftrace_sig = 0;
+  block = 128;
+  ecc_dump = 0;
+  ecc_console = 0;
+  ecc_ftrace = 0;
+  ecc_pmsg = 0;
+}
 
 -- one value of ecc for every kind
 abbrev pub with_ecc : ℕ → Params → Params
@@ -19,7 +33,16 @@ with_ecc ecc p = record p { ecc = ecc; ecc_dump = ecc; ecc_console = ecc; ecc_ft
 -- a zone with the plain signature
 abbrev pub zone : ZoneName → ℕ → ℕ → ℕ → ℕ → ℕ → ℕ → Zone
 zone name at size cap blocks parity block =
-    record { name = name; at = at; size = size; cap = cap; blocks = blocks; parity = parity; sig = 0x43474244; block = block }
+    record {
+      name = name;
+      at = at;
+      size = size;
+      cap = cap;
+      blocks = blocks;
+      parity = parity;
+      sig = 0x43474244;
+      block = block;
+    }
 
 -- a console alone, without parity and with two parity bytes; four zones; two processors
 abbrev pub lone : Params
@@ -61,7 +84,8 @@ LayoutOfOddSizes =
     ∷ zone (dump 1) 596 596 584 5 0 128
     ∷ zone (dump 2) 1192 596 584 5 0 128
     ∷ zone console 1788 256 244 2 0 128 ∷ []))
-    × (layout_of (with_ecc 1 (record default { mem = 2048; dump = 0; console = 2048; ftrace = 0; pmsg = 0 })) ≡ Ok (zone console 0 2048 1780 15 16 128 ∷ []))
+    × (layout_of (with_ecc 1 (record default { mem = 2048; dump = 0; console = 2048; ftrace = 0; pmsg = 0 }))
+    ≡ Ok (zone console 0 2048 1780 15 16 128 ∷ []))
 
 -- sizes are rounded down to powers of two, the memory too
 abbrev pub LayoutRoundsSizes : Type 0
@@ -87,7 +111,8 @@ LayoutWithTag =
 abbrev pub WorkedFaults : Type 0
 WorkedFaults =
     (layout_of (record default { mem = 16777217 }) ≡ Err TooLarge)
-    × (layout_of (with_ecc 127 (record default { mem = 256; dump = 0; console = 256; ftrace = 0; pmsg = 0 })) ≡ Err EccInvalid)
+    × (layout_of (with_ecc 127 (record default { mem = 256; dump = 0; console = 256; ftrace = 0; pmsg = 0 }))
+    ≡ Err EccInvalid)
     × (layout_of (record four { block = 100 }) ≡ Err BlockBad)
 
 -- of two faults the first of these: no memory, no zone, too large, parity, block size, processors, room,
@@ -101,7 +126,8 @@ FaultsInOrder =
     × (layout_of (record four { block = 100; cpus = 0 }) ≡ Err BlockBad)
     × (layout_of (record four { cpus = 65; mem = 4096 }) ≡ Err CpusBad)
     × (layout_of (record default { mem = 4096; dump = 0; console = 4096; ftrace = 128; pmsg = 0 }) ≡ Err NoRoom)
-    × (layout_of (with_ecc 127 (record default { mem = 256; dump = 0; console = 128; ftrace = 0; pmsg = 0 })) ≡ Err ZoneTooSmall)
+    × (layout_of (with_ecc 127 (record default { mem = 256; dump = 0; console = 128; ftrace = 0; pmsg = 0 }))
+    ≡ Err ZoneTooSmall)
 
 -- the memory is too large as it is given, also where it would be rounded; the parity of a kind that has
 -- no zone counts; dumps need room for one
@@ -110,6 +136,14 @@ FaultsDecided =
     (layout_of (record default { mem = 16777216 + 1; console = 0 }) ≡ Err TooLarge)
     × (layout_of (record lone { ecc_ftrace = 128 }) ≡ Err EccTooLarge)
     × (layout_of (record default { mem = 16384; dump = 8192; console = 4096; ftrace = 4096; pmsg = 4096 }) ≡ Err NoRoom)
-    × (layout_of (record default { mem = 16384; dump = 8192; console = 8192; ftrace = 4096; pmsg = 4096 }) ≡ Ok (zone console 0 8192 8180 64 0 128 ∷ zone (ftrace 0) 8192 4096 4084 32 0 128 ∷ zone pmsg 12288 4096 4084 32 0 128 ∷ []))
+    × (layout_of (record default { mem = 16384; dump = 8192; console = 8192; ftrace = 4096; pmsg = 4096 })
+    ≡ Ok (zone console 0 8192 8180 64 0 128 ∷ zone (ftrace 0) 8192 4096 4084 32 0 128
+    ∷ zone pmsg 12288 4096 4084 32 0 128 ∷ []))
     × (layout_of (record default { mem = 4096; dump = 0; console = 0; pmsg = 0; cpus = 64 }) ≡ Err ZoneTooSmall)
-    × (layout_of (record default { mem = 4096; dump = 0; console = 2147483648; ftrace = 2147483648; pmsg = 2147483648 }) ≡ Err NoRoom)
+    × (layout_of (record default {
+      mem = 4096;
+      dump = 0;
+      console = 2147483648;
+      ftrace = 2147483648;
+      pmsg = 2147483648;
+    }) ≡ Err NoRoom)

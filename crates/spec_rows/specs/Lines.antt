@@ -5,7 +5,11 @@ use Rattle.zone_spec.specs.TimeLines.{line_text, six_digits, read_line}
 
 -- a line that was read
 abbrev pub line : ℕ → ℕ → Bool → ℕ → Option TimeLine
-line secs micros packed len = Some (record { time = record { secs = secs; micros = micros }; packed = packed; len = len })
+line secs micros packed len = Some (record {
+  time = record { secs = secs; micros = micros };
+  packed = packed;
+  len = len;
+})
 
 abbrev pub LinesWritten : Type 0
 LinesWritten =

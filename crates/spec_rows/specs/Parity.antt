@@ -22,16 +22,29 @@ use Rattle.spec_rows.specs.Damage.{flipped_from, idle, foreign_header}
 
 -- a console of 2048 bytes with sixteen parity bytes: fifteen blocks, the last without data
 abbrev pub unused_block : Zone
-unused_block = record { name = console; at = 0; size = 2048; cap = 1780; blocks = 15; parity = 16; sig = 0x43474244; block = 128 }
+unused_block = record {
+  name = console;
+  at = 0;
+  size = 2048;
+  cap = 1780;
+  blocks = 15;
+  parity = 16;
+  sig = 0x43474244;
+  block = 128;
+}
 
 -- the last block of a zone, and the header's parity behind that of all blocks, also of one without data
 abbrev pub PartsOfZones : Type 0
 PartsOfZones =
     ((part_at console_of_sixteen (Block 28) ≡ 12 + 3584) × (part_len console_of_sixteen (Block 28) ≡ 20))
-    × ((part_parity_at console_of_sixteen (Block 28) ≡ 12 + 3604 + 28 * 16) × (part_parity_at console_of_sixteen Header ≡ 4096 - 16))
-    × ((part_len unused_block (Block 13) ≡ 116) × (part_len unused_block (Block 14) ≡ 0) × (part_parity_at unused_block (Block 14) ≡ 2048 - 32) × (part_parity_at unused_block Header ≡ 2048 - 16))
+    × ((part_parity_at console_of_sixteen (Block 28) ≡ 12 + 3604 + 28 * 16)
+    × (part_parity_at console_of_sixteen Header ≡ 4096 - 16))
+    × ((part_len unused_block (Block 13) ≡ 116) × (part_len unused_block (Block 14) ≡ 0)
+    × (part_parity_at unused_block (Block 14) ≡ 2048 - 32) × (part_parity_at unused_block Header ≡ 2048 - 16))
     × ((part_parity_at console_of_two (Block 0) ≡ 4030) × (part_parity_at console_of_two Header ≡ 4094))
-    × ((blocks_in 4096 0 128 ≡ 32) × (blocks_in 4096 16 128 ≡ 29) × (blocks_in 4096 2 128 ≡ 32) × (blocks_in 596 0 128 ≡ 5) × (blocks_in 2048 16 128 ≡ 15) × (blocks_in 4096 16 32 ≡ 85) × (blocks_in 2048 0 128 ≡ 16))
+    × ((blocks_in 4096 0 128 ≡ 32) × (blocks_in 4096 16 128 ≡ 29) × (blocks_in 4096 2 128 ≡ 32)
+    × (blocks_in 596 0 128 ≡ 5) × (blocks_in 2048 16 128 ≡ 15) × (blocks_in 4096 16 32 ≡ 85)
+    × (blocks_in 2048 0 128 ≡ 16))
 
 abbrev pub ParityOfFirstBoot : Type 0
 ParityOfFirstBoot = slice_range (zone_booted console_of_two) 4094 4096 ≡ 0xe1 ∷ 0xe3 ∷ []
@@ -56,7 +69,8 @@ StoppedErasureWithParity =
 -- parity is counted, and stays
 abbrev pub CorrectionsAreOfData : Type 0
 CorrectionsAreOfData =
-    (boot_fixes console_of_two (flipped_from 62 (1 ∷ []) (zone_written console_of_two abc)) ≡ record { place = 62; bytes = 0 ∷ [] } ∷ [])
+    (boot_fixes console_of_two (flipped_from 62 (1 ∷ []) (zone_written console_of_two abc))
+    ≡ record { place = 62; bytes = 0 ∷ [] } ∷ [])
     × (boot_fixes console_of_two (flipped_from 4030 (1 ∷ []) (zone_written console_of_two abc)) ≡ [])
     × ((zone_reading console_of_two (flipped_from 4030 (1 ∷ []) (zone_written console_of_two abc))).corrected ≡ 1)
 
@@ -81,14 +95,25 @@ CutOfForeignHeader =
     (cut.header ≡ 0x44 ∷ 0x42 ∷ 0x47 ∷ 0x40 ∷ 5 ∷ 6 ∷ 0 ∷ 0 ∷ 0xb2 ∷ 0x0f ∷ 0 ∷ 0 ∷ 155 ∷ 36 ∷ [])
     × (cut.made ≡ 1)
     × (sum_by (stage_count console_of_two) (cut_stages cut) ≡ 5)
-    × (cut_pairs cut ≡ record { start = 1541; size = 4018 } ∷ record { start = 0; size = 4018 } ∷ record { start = 0; size = 0 } ∷ [])
+    × (cut_pairs cut ≡ record { start = 1541; size = 4018 } ∷ record { start = 0; size = 4018 }
+    ∷ record { start = 0; size = 0 } ∷ [])
 
 -- a whole session with one parity byte a part
 abbrev pub one_byte : List Zone
-one_byte = record { name = console; at = 0; size = 256; cap = 235; blocks = 8; parity = 1; sig = 0x43474244; block = 32 } ∷ []
+one_byte = record {
+  name = console;
+  at = 0;
+  size = 256;
+  cap = 235;
+  blocks = 8;
+  parity = 1;
+  sig = 0x43474244;
+  block = 32;
+} ∷ []
 
 abbrev pub SessionWithParity : Type 0
 SessionWithParity =
     (run one_byte (replicate 256 0) (Boot ∷ Make (Append console abc) ∷ Stop ∷ Boot ∷ [])
     ≡ Boots (boot console Unsigned 0 0 0 0 NothingTold ∷ []) ∷ Boots (boot console Found 3 3 0 0 AsTold ∷ []) ∷ [])
-    × (contents one_byte (left one_byte (replicate 256 0) (Boot ∷ Make (Append console abc) ∷ Stop ∷ Boot ∷ [])) ≡ (abc ++ codes "\nECC: No errors detected\n") ∷ [])
+    × (contents one_byte (left one_byte (replicate 256 0) (Boot ∷ Make (Append console abc) ∷ Stop ∷ Boot ∷ []))
+    ≡ (abc ++ codes "\nECC: No errors detected\n") ∷ [])

@@ -23,7 +23,8 @@ refused layout mem operations = causes layout (Off (fresh layout (replicate mem 
 
 abbrev pub WorkedRefusals : Type 0
 WorkedRefusals =
-    (refused lone_console 4096 (Boot ∷ Begin (Append console (0x61 ∷ [])) ∷ Begin (Append console (0x62 ∷ [])) ∷ []) ≡ None ∷ None ∷ Some (Refused Busy) ∷ [])
+    (refused lone_console 4096 (Boot ∷ Begin (Append console (0x61 ∷ [])) ∷ Begin (Append console (0x62 ∷ [])) ∷ [])
+    ≡ None ∷ None ∷ Some (Refused Busy) ∷ [])
     × (refused lone_console 4096 (Boot ∷ EraseRecord PmsgName ∷ []) ≡ None ∷ Some NoRecord ∷ [])
     × (refused lone_console 4096 (Flip 4096 1 ∷ Flip 4095 1 ∷ []) ≡ Some (Refused OutOfImage) ∷ None ∷ [])
     × (refused lone_console 4096 (Make (Append console (0x61 ∷ [])) ∷ []) ≡ Some WrongState ∷ [])
@@ -31,9 +32,11 @@ WorkedRefusals =
 -- what each state has not
 abbrev pub WrongStates : Type 0
 WrongStates =
-    (refused small_console 256 (Begin (Erase console) ∷ Step console 1 ∷ Finish console ∷ EraseRecord ConsoleName ∷ Stop ∷ [])
+    (refused small_console 256 (Begin (Erase console) ∷ Step console 1 ∷ Finish console ∷ EraseRecord ConsoleName
+    ∷ Stop ∷ [])
     ≡ Some WrongState ∷ Some WrongState ∷ Some WrongState ∷ Some WrongState ∷ Some WrongState ∷ [])
-    × (refused small_console 256 (Boot ∷ Boot ∷ BootPart 1 ∷ Flip 0 1 ∷ []) ≡ None ∷ Some WrongState ∷ Some WrongState ∷ Some WrongState ∷ [])
+    × (refused small_console 256 (Boot ∷ Boot ∷ BootPart 1 ∷ Flip 0 1 ∷ []) ≡ None ∷ Some WrongState ∷ Some WrongState
+    ∷ Some WrongState ∷ [])
 
 -- no such zone comes first, then busy or idle; dump zones take no appends
 abbrev pub time_five : Operation
@@ -41,17 +44,23 @@ time_five = Begin (Dump (record { secs = 5; micros = 6 }) false (codes "x"))
 
 abbrev pub NoSuchZone : Type 0
 NoSuchZone =
-    (refused small_console 256 (Boot ∷ Begin (Append pmsg abc) ∷ Begin (Erase (dump 0)) ∷ Step pmsg 0 ∷ Finish (ftrace 0) ∷ time_five ∷ [])
-    ≡ None ∷ Some (Refused NoZone) ∷ Some (Refused NoZone) ∷ Some (Refused NoZone) ∷ Some (Refused NoZone) ∷ Some (Refused NoZone) ∷ [])
-    × (refused four_small_zones 1024 (Boot ∷ time_five ∷ Begin (Append (dump 0) abc) ∷ []) ≡ None ∷ None ∷ Some (Refused NoZone) ∷ [])
+    (refused small_console 256 (Boot ∷ Begin (Append pmsg abc) ∷ Begin (Erase (dump 0)) ∷ Step pmsg 0 ∷ Finish
+    (ftrace 0) ∷ time_five ∷ [])
+    ≡ None ∷ Some (Refused NoZone) ∷ Some (Refused NoZone) ∷ Some (Refused NoZone) ∷ Some (Refused NoZone) ∷ Some
+    (Refused NoZone) ∷ [])
+    × (refused four_small_zones 1024 (Boot ∷ time_five ∷ Begin (Append (dump 0) abc) ∷ [])
+    ≡ None ∷ None ∷ Some (Refused NoZone) ∷ [])
 
 -- steps want a flight, also none of them; an append of no bytes is refused in a busy zone, and else
 -- leaves no flight
 abbrev pub IdleAndEmpty : Type 0
 IdleAndEmpty =
-    (refused small_console 256 (Boot ∷ Step console 0 ∷ Finish console ∷ []) ≡ None ∷ Some (Refused Idle) ∷ Some (Refused Idle) ∷ [])
-    × (refused small_console 256 (Boot ∷ Begin (Append console []) ∷ Step console 1 ∷ []) ≡ None ∷ None ∷ Some (Refused Idle) ∷ [])
-    × (refused small_console 256 (Boot ∷ Begin (Append console abc) ∷ Begin (Append console []) ∷ Step console 0 ∷ Step console 99 ∷ Step console 0 ∷ [])
+    (refused small_console 256 (Boot ∷ Step console 0 ∷ Finish console ∷ [])
+    ≡ None ∷ Some (Refused Idle) ∷ Some (Refused Idle) ∷ [])
+    × (refused small_console 256 (Boot ∷ Begin (Append console []) ∷ Step console 1 ∷ [])
+    ≡ None ∷ None ∷ Some (Refused Idle) ∷ [])
+    × (refused small_console 256 (Boot ∷ Begin (Append console abc) ∷ Begin (Append console []) ∷ Step console 0
+    ∷ Step console 99 ∷ Step console 0 ∷ [])
     ≡ None ∷ None ∷ Some (Refused Busy) ∷ None ∷ None ∷ Some (Refused Idle) ∷ [])
 
 -- the records in order, by their names: pmsg before ftrace
@@ -75,9 +84,11 @@ one_written = Boot ∷ Make (Append (ftrace 0) (replicate 24 0)) ∷ Stop ∷ Bo
 -- the erasure of a record asks of its own zones alone, and of all of them before its first store
 abbrev pub EraseRecordIsBusy : Type 0
 EraseRecordIsBusy =
-    (refused each_kind 1024 (each_written ++ Begin (Append pmsg abc) ∷ EraseRecord ConsoleName ∷ EraseRecord PmsgName ∷ [])
+    (refused each_kind 1024 (each_written ++ Begin (Append pmsg abc) ∷ EraseRecord ConsoleName ∷ EraseRecord PmsgName
+    ∷ [])
     ≡ None ∷ None ∷ None ∷ None ∷ None ∷ None ∷ None ∷ None ∷ None ∷ Some (Refused Busy) ∷ [])
-    × (slice_range (session_image (left two_small_ftrace (replicate 512 0) (one_written ++ Begin (Append (ftrace 1) abc) ∷ EraseRecord FtraceName ∷ []))) 0 12
+    × (slice_range (session_image (left two_small_ftrace (replicate 512 0)
+    (one_written ++ Begin (Append (ftrace 1) abc) ∷ EraseRecord FtraceName ∷ []))) 0 12
     ≡ signature ++ 24 ∷ 0 ∷ 0 ∷ 0 ∷ 24 ∷ 0 ∷ 0 ∷ 0 ∷ [])
 
 -- the erasure of the ftrace record erases and forgets all ftrace zones, also one that was not found
@@ -86,7 +97,8 @@ EraseFtraceErasesAll =
     let erased = one_written ++ Make (Append (ftrace 1) (replicate 24 1)) ∷ EraseRecord FtraceName ∷ [] in
     (records two_small_ftrace (left two_small_ftrace (replicate 512 0) erased) ≡ [])
     × (slice_range (session_image (left two_small_ftrace (replicate 512 0) erased)) 0 12 ≡ signature ++ replicate 8 0)
-    × (slice_range (session_image (left two_small_ftrace (replicate 512 0) erased)) 256 268 ≡ signature ++ replicate 8 0)
+    × (slice_range (session_image (left two_small_ftrace (replicate 512 0) erased)) 256 268
+    ≡ signature ++ replicate 8 0)
     × (run two_small_ftrace (replicate 512 0) (erased ++ Stop ∷ Boot ∷ [])
     ≡ Boots (boot (ftrace 0) Unsigned 0 0 0 0 NothingTold ∷ boot (ftrace 1) Unsigned 0 0 0 0 NothingTold ∷ [])
     ∷ Boots (boot (ftrace 0) Found 24 24 0 0 AsTold ∷ boot (ftrace 1) Empty 0 0 0 0 AsTold ∷ [])

@@ -34,7 +34,16 @@ pub record Shown : Type 0 where
 -- the same in the order of a printed line, without a cut and with one
 abbrev pub boot : ZoneName → State → ℕ → ℕ → ℕ → ℕ → Verdict → Shown
 boot name state start size corrected bad verdict =
-    record { name = name; state = state; start = start; size = size; corrected = corrected; bad = bad; verdict = verdict; cut = None }
+    record {
+      name = name;
+      state = state;
+      start = start;
+      size = size;
+      corrected = corrected;
+      bad = bad;
+      verdict = verdict;
+      cut = None;
+    }
 
 abbrev pub and_cut : Shown → CallKind → ℕ → ℕ → HeaderSeen → List (ℕ × ℕ) → Shown
 and_cut shown kind made total header runs =
@@ -42,13 +51,23 @@ and_cut shown kind made total header runs =
 
 abbrev pub shown_by : ZoneReading → ZoneReport → Shown
 shown_by r report =
-    record { name = report.name; state = r.state; start = r.words.start; size = r.words.size; corrected = r.corrected; bad = r.bad; verdict = report.verdict; cut = report.cut }
+    record {
+      name = report.name;
+      state = r.state;
+      start = r.words.start;
+      size = r.words.size;
+      corrected = r.corrected;
+      bad = r.bad;
+      verdict = report.verdict;
+      cut = report.cut;
+    }
 
 abbrev pub zone_shown : Zone → OffZone → List ℕ → Shown
 zone_shown z zone now = shown_by (zone_reading z now) (zone_report z zone now)
 
 abbrev pub shown : List Zone → OffState → List Shown
-shown layout off = map (λ (pair : Zone × OffZone). zone_shown pair.0 pair.1 (zone_bytes pair.0 off.image)) (zip layout off.zones)
+shown layout off = map (λ (pair : Zone × OffZone). zone_shown pair.0 pair.1 (zone_bytes pair.0 off.image))
+    (zip layout off.zones)
 
 -- an answer: of a boot, of a boot that is cut after so many stores, or of a refused operation
 pub data Answer : Type 0 where
@@ -67,7 +86,8 @@ answer layout session operation = refusal_in (operated layout session operation)
 
 unfoldable pub answers : List Zone → Session → List Operation → List Answer
 answers layout session [] = []
-answers layout session (o ∷ os) = answer layout session o ++ answers layout (left_by session (operated layout session o)) os
+answers layout session (o ∷ os) = answer layout session o ++ answers layout
+    (left_by session (operated layout session o)) os
 
 -- the answers of a run that begins with this image, of which nothing is known, and the state that it leaves
 abbrev pub run : List Zone → List ℕ → List Operation → List Answer
@@ -79,7 +99,8 @@ left layout image operations = session_after layout (Off (fresh layout image)) o
 -- the records of the last boot: name, length with notice, and a dump's time
 abbrev pub records : List Zone → Session → List (List ℕ × ℕ × Option Time)
 records layout (Off off) = []
-records layout (Live live) = map (λ r. (name_text r.name, length (content (saved_logs layout live) r), r.time)) (listed_of (saved_logs layout live))
+records layout (Live live) = map (λ r. (name_text r.name, length (content (saved_logs layout live) r), r.time))
+    (listed_of (saved_logs layout live))
 
 -- and their contents
 abbrev pub contents : List Zone → Session → List (List ℕ)

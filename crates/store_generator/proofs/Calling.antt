@@ -11,20 +11,27 @@ use Rattle.store_generator.specs.Counting.{AreBelow, Grows}
 use Rattle.store_generator.specs.Sessions.{RunsIdle}
 
 -- some calls are made, and these are left
-pub record HasLeft (layout : List Zone) (mem : ℕ) (v : LiveSeen) (c : Counts) (asks : List Ask) (all : Generated) : Type 0 where
+pub record HasLeft (layout : List Zone) (mem : ℕ) (v : LiveSeen) (c : Counts) (asks : List Ask)
+    (all : Generated) : Type 0 where
   pub now : Generated
   pub runs : RunsIdle layout mem v c now
   pub rest : fold (with_call layout) now (map told_ask asks) ≡ all
 
 abbrev pub Makes : LiveSeen → Counts → List Ask → LiveSeen → Counts → List Ask → Type 0
-Makes v0 c0 all v c asks = (layout : List Zone) (mem : ℕ) (g : Generated) → IsLayout layout mem → RunsIdle layout mem v0 c0 g → HasLeft layout mem v c asks (fold (with_call layout) g (map told_ask all))
+Makes v0 c0 all v c asks = (layout : List Zone) (mem : ℕ) (g : Generated) → IsLayout layout mem
+    → RunsIdle layout mem v0 c0 g → HasLeft layout mem v c asks (fold (with_call layout) g (map told_ask all))
 
 pub makes_more : (v0 v w : LiveSeen) (c0 c d : Counts) (all asks others : List Ask) (ask : Ask) → asks ≡ ask ∷ others
-    → ((layout : List Zone) (mem : ℕ) (g : Generated) → IsLayout layout mem → RunsIdle layout mem v c g → RunsIdle layout mem w d (with_call layout g (told_ask ask)))
+    → ((layout : List Zone) (mem : ℕ) (g : Generated) → IsLayout layout mem → RunsIdle layout mem v c g
+    → RunsIdle layout mem w d (with_call layout g (told_ask ask)))
     → Makes v0 c0 all v c asks → Makes v0 c0 all w d others
 makes_more v0 v w c0 c d all asks others ask next one so_far layout mem g lies r =
     let a = so_far layout mem g lies r in
-    record { now = with_call layout a.now (told_ask ask); runs = one layout mem a.now lies a.runs; rest = rw next at a.rest }
+    record {
+      now = with_call layout a.now (told_ask ask);
+      runs = one layout mem a.now lies a.runs;
+      rest = rw next at a.rest;
+    }
 
 -- ---- counts grow
 

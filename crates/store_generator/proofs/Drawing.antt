@@ -21,7 +21,8 @@ draws_none : (m x : ℕ) → draws 0 m x ≡ ([], x)
 unfolding draws
 draws_none m x = refl
 
-draws_more : (count i m x a y : ℕ) → i < count → (a, y) ≡ draw m x → draws (count - i) m x ≡ (a ∷ (draws (count - (i + 1)) m y).0, (draws (count - (i + 1)) m y).1)
+draws_more : (count i m x a y : ℕ) → i < count → (a, y) ≡ draw m x
+    → draws (count - i) m x ≡ (a ∷ (draws (count - (i + 1)) m y).0, (draws (count - (i + 1)) m y).1)
 draws_more count i m x a y lt e =
     let n : count - i ≡ suc (count - (i + 1)) = omega (arith, lt) in
     rw n (draws_next (count - (i + 1)) m x a y e)
@@ -29,7 +30,8 @@ draws_more count i m x a y lt e =
 pub drawn_first : (rest : List ℕ × ℕ) → IsDrawn [] rest rest
 drawn_first rest = record { items = refl; number = refl }
 
-pub drawn_more : (count i m x a y : ℕ) (so_far now : List ℕ) (all : List ℕ × ℕ) → i < count → (a, y) ≡ draw m x → now ≡ so_far ++ a ∷ []
+pub drawn_more : (count i m x a y : ℕ) (so_far now : List ℕ) (all : List ℕ × ℕ) → i < count → (a, y) ≡ draw m x
+    → now ≡ so_far ++ a ∷ []
     → IsDrawn so_far (draws (count - i) m x) all → IsDrawn now (draws (count - (i + 1)) m y) all
 drawn_more count i m x a y so_far now all lt e same h =
     let n = draws_more count i m x a y lt e in
@@ -42,7 +44,8 @@ drawn_more count i m x a y so_far now all lt e same h =
 drawn_end : (count i m x : ℕ) → i ≡ count → draws (count - i) m x ≡ ([], x)
 drawn_end count i m x same = let n : count - i ≡ 0 = omega (arith, same) in rw n (draws_none m x)
 
-pub drawn_all : (count i m x : ℕ) (so_far : List ℕ) (all : List ℕ × ℕ) → i ≡ count → IsDrawn so_far (draws (count - i) m x) all → (so_far ≡ all.0) × (x ≡ all.1)
+pub drawn_all : (count i m x : ℕ) (so_far : List ℕ) (all : List ℕ × ℕ) → i ≡ count
+    → IsDrawn so_far (draws (count - i) m x) all → (so_far ≡ all.0) × (x ≡ all.1)
 drawn_all count i m x so_far all same h =
     let g : IsDrawn so_far ([], x) all = rw (drawn_end count i m x same) at h in
     (sym (append-nil so_far) ∙ g.items, g.number)
@@ -53,8 +56,10 @@ masked_first flips place rest = record { items = let n : place + 0 ≡ place = o
 masked_cons : (place a : ℕ) (masks : List ℕ) → masked place (a ∷ masks) ≡ (place, 1 + a) ∷ masked (place + 1) masks
 masked_cons place a masks = refl
 
-pub masked_more : (count i m x a y place : ℕ) (old so_far now : List (ℕ × ℕ)) (all : List ℕ × ℕ) → i < count → (a, y) ≡ draw m x → now ≡ so_far ++ (place + i, 1 + a) ∷ []
-    → IsMasked old so_far place i (draws (count - i) m x) all → IsMasked old now place (i + 1) (draws (count - (i + 1)) m y) all
+pub masked_more : (count i m x a y place : ℕ) (old so_far now : List (ℕ × ℕ)) (all : List ℕ × ℕ) → i < count
+    → (a, y) ≡ draw m x → now ≡ so_far ++ (place + i, 1 + a) ∷ []
+    → IsMasked old so_far place i (draws (count - i) m x) all
+    → IsMasked old now place (i + 1) (draws (count - (i + 1)) m y) all
 masked_more count i m x a y place old so_far now all lt e same h =
     let n = draws_more count i m x a y lt e in
     let tail : List ℕ = (draws (count - (i + 1)) m y).0 in
@@ -65,7 +70,8 @@ masked_more count i m x a y place old so_far now all lt e same h =
       number = g.number;
     }
 
-pub masked_all : (count i m x place : ℕ) (old so_far : List (ℕ × ℕ)) (all : List ℕ × ℕ) → i ≡ count → IsMasked old so_far place i (draws (count - i) m x) all → (so_far ≡ old ++ masked place all.0) × (x ≡ all.1)
+pub masked_all : (count i m x place : ℕ) (old so_far : List (ℕ × ℕ)) (all : List ℕ × ℕ) → i ≡ count
+    → IsMasked old so_far place i (draws (count - i) m x) all → (so_far ≡ old ++ masked place all.0) × (x ≡ all.1)
 masked_all count i m x place old so_far all same h =
     let g : IsMasked old so_far place i ([], x) all = rw (drawn_end count i m x same) at h in
     (sym (append-nil so_far) ∙ g.items, g.number)

@@ -20,7 +20,14 @@ verdicts_added c as_told differs = record c { as_told = c.as_told + as_told; dif
 
 -- a session, and what was counted
 abbrev pub counted : Session → Counts → Generated
-counted session c = record { session = session; calls = c.calls; stores = c.stores; flips = c.flips; as_told = c.as_told; differs = c.differs }
+counted session c = record {
+  session = session;
+  calls = c.calls;
+  stores = c.stores;
+  flips = c.flips;
+  as_told = c.as_told;
+  differs = c.differs;
+}
 
 -- the end of a summary: ` calls C stores S flips F as-told A differs D`
 abbrev pub counts_text : Counts → Text

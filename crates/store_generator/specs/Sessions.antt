@@ -86,7 +86,8 @@ without_ring layout None = layout
 without_ring layout (Some name) = without layout (zone_place layout name)
 
 -- the same behind an append of which a ring, or none, has stores left: a stop cuts that zone alone
-pub record RunsCut (layout : List Zone) (mem : ℕ) (v : LiveSeen) (c : Counts) (ring : Option ZoneName) (g : Generated) : Type 0 where
+pub record RunsCut (layout : List Zone) (mem : ℕ) (v : LiveSeen) (c : Counts) (ring : Option ZoneName)
+    (g : Generated) : Type 0 where
   pub now : LiveState
   pub is : g ≡ counted (Live now) c
   pub stands : StandsLive layout mem v now
@@ -94,7 +95,8 @@ pub record RunsCut (layout : List Zone) (mem : ℕ) (v : LiveSeen) (c : Counts) 
   pub uncut : uncut layout (stopped layout now) ≡ without_ring layout ring
 
 -- a machine that is off, and the counts, stand for the session so far
-pub record IsHalted (layout : List Zone) (mem : ℕ) (v : OffSeen) (c : Counts) (left : List Zone) (g : Generated) : Type 0 where
+pub record IsHalted (layout : List Zone) (mem : ℕ) (v : OffSeen) (c : Counts) (left : List Zone)
+    (g : Generated) : Type 0 where
   pub now : OffState
   pub is : g ≡ counted (Off now) c
   pub stands : StandsOff layout mem v now

@@ -24,8 +24,10 @@ fn draw_flips(
 ) -> Result<(), AllocError>
     requires within { at + len < 2 ^ 32 }
     requires short { len < 2 ^ 31 }
-    ensures flips { OnOk result ((z : AZone) (part : Part) → at ≡ z.at + part_at z part → len ≡ part_len z part → flips.new.items ≡ flips.old.items ++ (drawn_flips most z part draws.old).0) }
-    ensures number { OnOk result ((z : AZone) (part : Part) → len ≡ part_len z part → draws.new ≡ (drawn_flips most z part draws.old).1) }
+    ensures flips { OnOk result ((z : AZone) (part : Part) → at ≡ z.at + part_at z part → len ≡ part_len z part
+        → flips.new.items ≡ flips.old.items ++ (drawn_flips most z part draws.old).0) }
+    ensures number { OnOk result ((z : AZone) (part : Part) → len ≡ part_len z part
+        → draws.new ≡ (drawn_flips most z part draws.old).1) }
 {
     let count = draws.draw(most.min(len) + 1);
     let place = draws.draw(len - count + 1);
@@ -42,8 +44,10 @@ fn draw_blocks(
 ) -> Result<(), AllocError>
     requires valid { IsValidZone zone.now }
     requires within { zone.now.at + zone.now.size < 2 ^ 32 }
-    ensures flips { OnOk result (flips.new.items ≡ flips.old.items ++ joined (draw_each (drawn_flips most zone.now) (blocks_of zone.now) draws.old).0) }
-    ensures number { OnOk result (draws.new ≡ (draw_each (drawn_flips most zone.now) (blocks_of zone.now) draws.old).1) }
+    ensures flips { OnOk result (flips.new.items ≡ flips.old.items ++ joined
+        (draw_each (drawn_flips most zone.now) (blocks_of zone.now) draws.old).0) }
+    ensures number { OnOk result (draws.new ≡ (draw_each (drawn_flips most zone.now) (blocks_of zone.now)
+        draws.old).1) }
 {
     let blocks = zone.cap.div_ceil(zone.block);
     'parts: for b in 0..blocks {
@@ -74,7 +78,8 @@ pub fn draw_all(
     zones: &[Zone],
 ) -> Result<Vec<(u32, u8)>, AllocError>
     requires { All IsWithin zones.now }
-    ensures flips { IfOk result (λ flips. flips.items ≡ joined (joined (draw_each drawn_damage zones.now draws.old).0)) }
+    ensures flips { IfOk result (λ flips. flips.items ≡ joined
+        (joined (draw_each drawn_damage zones.now draws.old).0)) }
     ensures number { OnOk result (draws.new ≡ (draw_each drawn_damage zones.now draws.old).1) }
 {
     let mut flips = Vec::new(alloc);
@@ -86,7 +91,8 @@ pub fn draw_all(
 
 /// Makes flips in their order. A flip beyond the image changes nothing.
 pub fn make_damage(off: &mut Off, flips: &[(u32, u8)])
-    ensures { (layout : List AZone) (mem : ℕ) (g : Generated) (s : OffState) → g.session ≡ OffOf s → StandsOff layout mem off.old s → length s.image ≡ mem → IsDamaged layout mem g flips.now off.new }
+    ensures { (layout : List AZone) (mem : ℕ) (g : Generated) (s : OffState) → g.session ≡ OffOf s
+        → StandsOff layout mem off.old s → length s.image ≡ mem → IsDamaged layout mem g flips.now off.new }
 {
     'flips: for flip in flips {
         let (place, mask) = *flip;
@@ -95,7 +101,8 @@ pub fn make_damage(off: &mut Off, flips: &[(u32, u8)])
 }
 
 fn make_flip(off: &mut Off, place: u32, mask: u8)
-    ensures { (layout : List AZone) (mem : ℕ) (g : Generated) (s : OffState) → g.session ≡ OffOf s → StandsOff layout mem off.old s → length s.image ≡ mem → IsFlipped layout mem g (place, mask) off.new }
+    ensures { (layout : List AZone) (mem : ℕ) (g : Generated) (s : OffState) → g.session ≡ OffOf s
+        → StandsOff layout mem off.old s → length s.image ≡ mem → IsFlipped layout mem g (place, mask) off.new }
 {
     match off.flip(place, mask) {
         Ok(()) => {}

@@ -91,7 +91,8 @@ fn halt(
     requires room { AreBelow counts.old (2 ^ 30) }
     ensures halted { IfOk result (λ r. (mem : ℕ) (g : Generated) → IsLayout plan.now.zones.items mem
         → RunsIdle plan.now.zones.items mem live counts.old g
-        → IsHalted plan.now.zones.items mem r.0 counts.new r.1.items (drawn_halt plan.now.zones.items g q draws.old).0) }
+        → IsHalted plan.now.zones.items mem r.0 counts.new r.1.items
+        (drawn_halt plan.now.zones.items g q draws.old).0) }
     ensures within { IfOk result (λ r. All IsWithin r.1.items) }
     ensures number { OnOk result ((g : Generated) → draws.new ≡ (drawn_halt plan.now.zones.items g q draws.old).1) }
     ensures grows { OnOk result (Grows counts.old counts.new 25) }

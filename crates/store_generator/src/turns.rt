@@ -92,9 +92,11 @@ impl Targets {
     fn draw_turn(&self, alloc: Global, draws: &mut Draws, q: u64) -> Result<Option<Ask>, AllocError>
         requires few { length self.now.rings.items < 2 ^ 31 }
         requires round { q < 2 ^ 63 }
-        ensures turn { IfOk result (λ turn. (layout : List Zone) → AreTargets layout self.now → turn_of turn ≡ (drawn_turn layout q draws.old).0) }
+        ensures turn { IfOk result (λ turn. (layout : List Zone) → AreTargets layout self.now
+            → turn_of turn ≡ (drawn_turn layout q draws.old).0) }
         ensures can { IfOk result TurnCanBeAsked }
-        ensures number { OnOk result ((layout : List Zone) → AreTargets layout self.now → draws.new ≡ (drawn_turn layout q draws.old).1) }
+        ensures number { OnOk result ((layout : List Zone) → AreTargets layout self.now
+            → draws.new ≡ (drawn_turn layout q draws.old).1) }
     {
         let c = draws.draw(self.rings.len() as u32 + 1) as usize;
         let count = 1 + draws.draw(700);
@@ -115,7 +117,8 @@ impl Targets {
         count: u32,
     ) -> Result<Option<Ask>, AllocError>
         requires { q < 2 ^ 63 }
-        ensures turn { IfOk result (λ turn. (layout : List Zone) → AreTargets layout self.now → turn_of turn ≡ (drawn_dump layout q count draws.old).0) }
+        ensures turn { IfOk result (λ turn. (layout : List Zone) → AreTargets layout self.now
+            → turn_of turn ≡ (drawn_dump layout q count draws.old).0) }
         ensures can { IfOk result TurnCanBeAsked }
         ensures number { OnOk result ((layout : List Zone) → draws.new ≡ (drawn_dump layout q count draws.old).1) }
     {
@@ -137,7 +140,8 @@ impl Targets {
         requires few { length self.now.rings.items < 2 ^ 31 }
         requires round { q < 2 ^ 63 }
         ensures turns { IfOk result (λ turns. (layout : List Zone) → AreTargets layout self.now
-            → map told_ask turns.items ≡ joined (draw_each (λ (i : ℕ). drawn_turn layout q) (range_with_len 0 24) draws.old).0) }
+            → map told_ask turns.items
+            ≡ joined (draw_each (λ (i : ℕ). drawn_turn layout q) (range_with_len 0 24) draws.old).0) }
         ensures can { IfOk result (λ turns. All CanBeAsked turns.items) }
         ensures number { OnOk result ((layout : List Zone) → AreTargets layout self.now
             → draws.new ≡ (draw_each (λ (i : ℕ). drawn_turn layout q) (range_with_len 0 24) draws.old).1) }

@@ -8,4 +8,5 @@ pub sound_state_reads_last_written : SoundStateReadsLastWritten
 sound_state_reads_last_written layout mem off lies state = state_reads layout mem off lies state
 
 pub headline : Headline
-headline layout mem off lies reached = state_reads layout mem off lies (states_are_sound layout mem (Off off) lies reached)
+headline layout mem off lies reached = state_reads layout mem off lies
+    (states_are_sound layout mem (Off off) lies reached)

@@ -14,8 +14,10 @@ use Rattle.session_spec.specs.Headline.{EachOffZone, ReadsLastWritten}
 
 -- of every state off that a session reaches
 abbrev pub Headline : Type 0
-Headline = (layout : List Zone) (mem : ℕ) (off : OffState) → IsLayout layout mem → IsReached layout mem (Off off) → EachOffZone layout off ReadsLastWritten
+Headline = (layout : List Zone) (mem : ℕ) (off : OffState) → IsLayout layout mem → IsReached layout mem (Off off)
+    → EachOffZone layout off ReadsLastWritten
 
 -- of every sound state off, as each call that boots can promise it
 abbrev pub SoundStateReadsLastWritten : Type 0
-SoundStateReadsLastWritten = (layout : List Zone) (mem : ℕ) (off : OffState) → IsLayout layout mem → IsState layout mem (Off off) → EachOffZone layout off ReadsLastWritten
+SoundStateReadsLastWritten = (layout : List Zone) (mem : ℕ) (off : OffState) → IsLayout layout mem
+    → IsState layout mem (Off off) → EachOffZone layout off ReadsLastWritten

@@ -19,11 +19,15 @@ use Rattle.store_session.specs.declared.machine.Machine.{Machine}
 use Rattle.store_session.specs.declared.machine.Machine.TheVariants.{Off, Live}
 
 -- a refusal whatever state the machine stands for
-refused_off : (off : OffSeen) (line : Line) (cause : Cause) → ((layout : List Zone) (s : OffState) → line_done layout (OffOf s) line ≡ Err cause) → LineRefused (Off off) line cause
+refused_off : (off : OffSeen) (line : Line) (cause : Cause)
+    → ((layout : List Zone) (s : OffState) → line_done layout (OffOf s) line ≡ Err cause)
+    → LineRefused (Off off) line cause
 refused_off off line cause is layout mem (OffOf s) lies stands state = is layout s
 refused_off off line cause is layout mem (LiveOf s) lies stands state = absurd stands
 
-refused_live : (live : LiveSeen) (logs : SavedLogs) (line : Line) (cause : Cause) → ((layout : List Zone) (s : LiveState) → line_done layout (LiveOf s) line ≡ Err cause) → LineRefused (Live live logs) line cause
+refused_live : (live : LiveSeen) (logs : SavedLogs) (line : Line) (cause : Cause)
+    → ((layout : List Zone) (s : LiveState) → line_done layout (LiveOf s) line ≡ Err cause)
+    → LineRefused (Live live logs) line cause
 refused_live live logs line cause is layout mem (OffOf s) lies stands state = absurd stands
 refused_live live logs line cause is layout mem (LiveOf s) lies stands state = is layout s
 
@@ -53,7 +57,8 @@ IsElsewhere (KDump a n k r b) = ⊤
 IsElsewhere (CutAfter n) = ⊤
 IsElsewhere other = ⊥
 
-waits_for_boot_line : (layout : List Zone) (s : OffState) (line : Line) → WaitsForBoot line → line_done layout (OffOf s) line ≡ Err IsOff
+waits_for_boot_line : (layout : List Zone) (s : OffState) (line : Line) → WaitsForBoot line
+    → line_done layout (OffOf s) line ≡ Err IsOff
 unfolding line_done
 waits_for_boot_line layout s (Write z b) h = refl
 waits_for_boot_line layout s (Dump t k b) h = refl
@@ -73,7 +78,8 @@ waits_for_boot_line layout s (KDump a n k r b) h = absurd h
 waits_for_boot_line layout s (CutAfter n) h = absurd h
 waits_for_boot_line layout s Blank h = absurd h
 
-waits_for_stop_line : (layout : List Zone) (s : LiveState) (line : Line) → WaitsForStop line → line_done layout (LiveOf s) line ≡ Err IsLive
+waits_for_stop_line : (layout : List Zone) (s : LiveState) (line : Line) → WaitsForStop line
+    → line_done layout (LiveOf s) line ≡ Err IsLive
 unfolding line_done
 waits_for_stop_line layout s (Write z b) h = absurd h
 waits_for_stop_line layout s (Dump t k b) h = absurd h
@@ -93,7 +99,8 @@ waits_for_stop_line layout s (KDump a n k r b) h = absurd h
 waits_for_stop_line layout s (CutAfter n) h = absurd h
 waits_for_stop_line layout s Blank h = absurd h
 
-elsewhere_off_line : (layout : List Zone) (s : OffState) (line : Line) → IsElsewhere line → line_done layout (OffOf s) line ≡ Err NotHere
+elsewhere_off_line : (layout : List Zone) (s : OffState) (line : Line) → IsElsewhere line
+    → line_done layout (OffOf s) line ≡ Err NotHere
 unfolding line_done
 elsewhere_off_line layout s (Write z b) h = absurd h
 elsewhere_off_line layout s (Dump t k b) h = absurd h
@@ -113,7 +120,8 @@ elsewhere_off_line layout s (KDump a n k r b) h = refl
 elsewhere_off_line layout s (CutAfter n) h = refl
 elsewhere_off_line layout s Blank h = absurd h
 
-elsewhere_live_line : (layout : List Zone) (s : LiveState) (line : Line) → IsElsewhere line → line_done layout (LiveOf s) line ≡ Err NotHere
+elsewhere_live_line : (layout : List Zone) (s : LiveState) (line : Line) → IsElsewhere line
+    → line_done layout (LiveOf s) line ≡ Err NotHere
 unfolding line_done
 elsewhere_live_line layout s (Write z b) h = absurd h
 elsewhere_live_line layout s (Dump t k b) h = absurd h
@@ -136,13 +144,15 @@ elsewhere_live_line layout s Blank h = absurd h
 pub waits_for_boot : (off : OffSeen) (line : Line) → WaitsForBoot line → LineRefused (Off off) line IsOff
 waits_for_boot off line h = refused_off off line IsOff (λ layout s. waits_for_boot_line layout s line h)
 
-pub waits_for_stop : (live : LiveSeen) (logs : SavedLogs) (line : Line) → WaitsForStop line → LineRefused (Live live logs) line IsLive
+pub waits_for_stop : (live : LiveSeen) (logs : SavedLogs) (line : Line) → WaitsForStop line
+    → LineRefused (Live live logs) line IsLive
 waits_for_stop live logs line h = refused_live live logs line IsLive (λ layout s. waits_for_stop_line layout s line h)
 
 pub elsewhere_off : (off : OffSeen) (line : Line) → IsElsewhere line → LineRefused (Off off) line NotHere
 elsewhere_off off line h = refused_off off line NotHere (λ layout s. elsewhere_off_line layout s line h)
 
-pub elsewhere_live : (live : LiveSeen) (logs : SavedLogs) (line : Line) → IsElsewhere line → LineRefused (Live live logs) line NotHere
+pub elsewhere_live : (live : LiveSeen) (logs : SavedLogs) (line : Line) → IsElsewhere line
+    → LineRefused (Live live logs) line NotHere
 elsewhere_live live logs line h = refused_live live logs line NotHere (λ layout s. elsewhere_live_line layout s line h)
 
 -- a line's time can be written

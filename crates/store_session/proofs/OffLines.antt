@@ -19,21 +19,30 @@ nat_lt-true h = grind (arith, nat_tests)
 nat_lt-false : {a b : ℕ} → b ≤ a → nat_lt a b ≡ false
 nat_lt-false h = grind (arith, nat_tests)
 
-flip_line : (layout : List Zone) (s : OffState) (place mask : ℕ) → place < length s.image → line_done layout (OffOf s) (Flip place mask) ≡ Ok (record { session = OffOf (flipped s place mask); text = [] })
+flip_line : (layout : List Zone) (s : OffState) (place mask : ℕ) → place < length s.image
+    → line_done layout (OffOf s) (Flip place mask) ≡ Ok (record { session = OffOf (flipped s place mask); text = [] })
 unfolding line_done
 flip_line layout s place mask h = rw (nat_lt-true h) refl
 
-flip_beyond : (layout : List Zone) (s : OffState) (place mask : ℕ) → length s.image ≤ place → line_done layout (OffOf s) (Flip place mask) ≡ Err OutOfImage
+flip_beyond : (layout : List Zone) (s : OffState) (place mask : ℕ) → length s.image ≤ place
+    → line_done layout (OffOf s) (Flip place mask) ≡ Err OutOfImage
 unfolding line_done
 flip_beyond layout s place mask h = rw (nat_lt-false h) refl
 
-pub flip_done : (old new : OffSeen) (place mask : ℕ) → place < old.mem → ((layout : List Zone) (mem : ℕ) (s : OffState) → StandsOff layout mem old s → StandsOff layout mem new (flipped s place mask)) → LineDone (Off old) (Flip place mask) (Off new) []
+pub flip_done : (old new : OffSeen) (place mask : ℕ) → place < old.mem
+    → ((layout : List Zone) (mem : ℕ) (s : OffState) → StandsOff layout mem old s
+    → StandsOff layout mem new (flipped s place mask)) → LineDone (Off old) (Flip place mask) (Off new) []
 flip_done old new place mask below flips layout mem (OffOf s) lies stands state =
     let inside : place < length s.image = rw (state.image.0, ← stands.same_mem) below in
-    record { next = OffOf (flipped s place mask); done = flip_line layout s place mask inside; stands = flips layout mem s stands }
+    record {
+      next = OffOf (flipped s place mask);
+      done = flip_line layout s place mask inside;
+      stands = flips layout mem s stands;
+    }
 flip_done old new place mask below flips layout mem (LiveOf s) lies stands state = absurd stands
 
-pub flip_refused : (old : OffSeen) (place mask : ℕ) → old.mem ≤ place → LineRefused (Off old) (Flip place mask) OutOfImage
+pub flip_refused : (old : OffSeen) (place mask : ℕ) → old.mem ≤ place
+    → LineRefused (Off old) (Flip place mask) OutOfImage
 flip_refused old place mask beyond layout mem (OffOf s) lies stands state =
     let outside : length s.image ≤ place = rw (state.image.0, ← stands.same_mem) beyond in
     flip_beyond layout s place mask outside

@@ -32,7 +32,8 @@ pub record PutsPart (old : Machine) (line : Line) (given given' : Option (List �
 abbrev pub LineStops : Stop → Machine → Line → ℕ → Option (List ℕ) → Option (List ℕ) → ℕ → ℕ → Type 0
 LineStops Memory old line number given given' faults faults' = given' ≡ given
 LineStops SinkFault old line number given given' faults faults' = Rose faults faults' × PutsPart old line given given'
-LineStops (Refused n cause) old line number given given' faults faults' = (n ≡ number) × (given' ≡ given) × LineRefused old line cause
+LineStops (Refused n cause) old line number given given' faults faults' =
+    (n ≡ number) × (given' ≡ given) × LineRefused old line cause
 LineStops stop old line number given given' faults faults' = ⊥
 
 -- a store of which nothing is known stands for this image
@@ -43,12 +44,15 @@ pub record StandsFresh (layout : List Zone) (mem : ℕ) (image : List ℕ) (off 
   pub stands : StandsOff layout mem off (fresh layout image)
 
 -- all lines were done, and the machine stands for the state that they leave
-pub record PlaysAll (layout : List Zone) (mem : ℕ) (image : List ℕ) (lines : List Line) (machine : Machine) (given given' : Option (List ℕ)) : Type 0 where
+pub record PlaysAll (layout : List Zone) (mem : ℕ) (image : List ℕ) (lines : List Line) (machine : Machine)
+    (given given' : Option (List ℕ)) : Type 0 where
   pub session : Session
   pub stands : Stands layout mem machine session
   pub played : Played layout image lines session given given'
 
 -- a script on a store, for each image for which that stands
 abbrev pub Plays : OffSeen → List Line → Option (List ℕ) → Option (List ℕ) → ℕ → ℕ → Result Machine Stop → Type 0
-Plays off lines given given' faults faults' (Ok machine) = (layout : List Zone) (mem : ℕ) (image : List ℕ) → StandsFresh layout mem image off → PlaysAll layout mem image lines machine given given'
-Plays off lines given given' faults faults' (Err stop) = (layout : List Zone) (mem : ℕ) (image : List ℕ) → StandsFresh layout mem image off → PlayStop stop layout image lines given given' faults faults'
+Plays off lines given given' faults faults' (Ok machine) = (layout : List Zone) (mem : ℕ) (image : List ℕ)
+    → StandsFresh layout mem image off → PlaysAll layout mem image lines machine given given'
+Plays off lines given given' faults faults' (Err stop) = (layout : List Zone) (mem : ℕ) (image : List ℕ)
+    → StandsFresh layout mem image off → PlayStop stop layout image lines given given' faults faults'

@@ -26,18 +26,21 @@ Stands layout mem (Live live logs) (LiveOf s) = StandsLive layout mem live s × 
 Stands layout mem (Live live logs) (OffOf s) = ⊥
 
 -- a line was done, and the machine stands for the state that it leaves
-pub record Leaves (layout : List Zone) (mem : ℕ) (s : Session) (line : Line) (machine : Machine) (text : Text) : Type 0 where
+pub record Leaves (layout : List Zone) (mem : ℕ) (s : Session) (line : Line) (machine : Machine)
+    (text : Text) : Type 0 where
   pub next : Session
   pub done : line_done layout s line ≡ Ok (record { session = next; text = text })
   pub stands : Stands layout mem machine next
 
 -- it was so of every sound state for which the machine stood
 abbrev pub LineDone : Machine → Line → Machine → Text → Type 0
-LineDone old line new text = (layout : List Zone) (mem : ℕ) (s : Session) → IsLayout layout mem → Stands layout mem old s → IsState layout mem s → Leaves layout mem s line new text
+LineDone old line new text = (layout : List Zone) (mem : ℕ) (s : Session) → IsLayout layout mem
+    → Stands layout mem old s → IsState layout mem s → Leaves layout mem s line new text
 
 -- a line was refused
 abbrev pub LineRefused : Machine → Line → Cause → Type 0
-LineRefused old line cause = (layout : List Zone) (mem : ℕ) (s : Session) → IsLayout layout mem → Stands layout mem old s → IsState layout mem s → line_done layout s line ≡ Err cause
+LineRefused old line cause = (layout : List Zone) (mem : ℕ) (s : Session) → IsLayout layout mem
+    → Stands layout mem old s → IsState layout mem s → line_done layout s line ≡ Err cause
 
 -- why a line was not done
 abbrev pub LineFails : Machine → Line → LineError → Type 0

@@ -48,7 +48,8 @@ fn flies_at(live: &Live, i: usize, name: Name) -> bool
 
 // Tells whether a flight stands in a zone of the record.
 fn flies_in_record(live: &Live, name: Name) -> bool
-    ensures { (layout : List Zone) (mem : ℕ) (s : LiveState) → StandsLive layout mem live.now s → result ≡ flies layout s (λ z. is_in_record name z) }
+    ensures { (layout : List Zone) (mem : ℕ) (s : LiveState) → StandsLive layout mem live.now s
+        → result ≡ flies layout s (λ z. is_in_record name z) }
 {
     for i in 0..live.zones().len() {
         if flies_at(live, i, name) {
@@ -93,7 +94,8 @@ fn forget_logs(logs: &mut Logs, name: Name)
 /// Erases the listed record whose name has this text: all its zones, and their saved logs are forgotten. Refused where
 /// no record has the name, or a flight stands in one of its zones.
 pub fn erase(alloc: Global, live: &mut Live, logs: &mut Logs, name: &[u8]) -> Result<(), LineError>
-    ensures erased { MatchResult result (λ _. ErasesNamed live.old logs.old name.now live.new logs.new) (EraseFails live.old logs.old name.now) }
+    ensures erased { MatchResult result (λ _. ErasesNamed live.old logs.old name.now live.new logs.new)
+        (EraseFails live.old logs.old name.now) }
     ensures unchanged { OnErr result ((live.new ≡ live.old) × (logs.new ≡ logs.old)) }
 {
     let name = match named(alloc, logs, name)? {

@@ -19,7 +19,8 @@ use tool_spec::Cause;
 fn do_call(alloc: Global, live: &mut Live, line: &Line) -> Result<(), LineError>
     requires fields { HasFields line.now }
     requires call { IsCall line.now }
-    ensures { (logs : SavedLogs) → MatchResult result (λ _. LineDone (LiveMachine live.old logs) line.now (LiveMachine live.new logs) []) (LineFails (LiveMachine live.old logs) line.now) }
+    ensures { (logs : SavedLogs) → MatchResult result (λ _. LineDone (LiveMachine live.old logs) line.now
+        (LiveMachine live.new logs) []) (LineFails (LiveMachine live.old logs) line.now) }
 {
     match line {
         Line::Write(zone, bytes) => live_lines::write(alloc, live, *zone, bytes),
@@ -43,7 +44,8 @@ fn do_live(
     line: &Line,
 ) -> Result<(Machine, Vec<u8>), LineError>
     requires fields { HasFields line.now }
-    ensures { MatchResult result (λ r. LineDone (LiveMachine live logs) line.now r.0 r.1.items) (LineFails (LiveMachine live logs) line.now) }
+    ensures { MatchResult result (λ r. LineDone (LiveMachine live logs) line.now r.0 r.1.items)
+        (LineFails (LiveMachine live logs) line.now) }
 {
     let (mut live, mut logs) = (live, logs);
     match line {
@@ -74,7 +76,8 @@ fn do_live(
 
 #[tactic(auto, using(crate::proofs::AnyLines::waits_for_boot, crate::proofs::AnyLines::elsewhere_off, crate::proofs::StateLines::blank_done))]
 fn do_off(alloc: Global, off: Off, line: &Line) -> Result<(Machine, Vec<u8>), LineError>
-    ensures { MatchResult result (λ r. LineDone (OffMachine off) line.now r.0 r.1.items) (LineFails (OffMachine off) line.now) }
+    ensures { MatchResult result (λ r. LineDone (OffMachine off) line.now r.0 r.1.items)
+        (LineFails (OffMachine off) line.now) }
 {
     match line {
         Line::Blank => Ok((Machine::Off(off), Vec::new(alloc))),

@@ -29,7 +29,8 @@ fn cause(why: Refusal) -> Cause
 /// An append, made whole.
 #[tactic(auto, using(crate::proofs::LiveLines::write_done, crate::proofs::LiveLines::write_refused))]
 pub fn write(alloc: Global, live: &mut Live, zone: ZoneName, bytes: &Bytes) -> Result<(), LineError>
-    ensures { (logs : SavedLogs) → MatchResult result (λ _. LineDone (LiveMachine live.old logs) (Write zone bytes.now) (LiveMachine live.new logs) [])
+    ensures { (logs : SavedLogs) → MatchResult result (λ _. LineDone (LiveMachine live.old logs)
+        (Write zone bytes.now) (LiveMachine live.new logs) [])
         (LineFails (LiveMachine live.old logs) (Write zone bytes.now)) }
 {
     let payload = Bytes::copy_of(alloc, bytes.as_slice())?;
@@ -42,7 +43,8 @@ pub fn write(alloc: Global, live: &mut Live, zone: ZoneName, bytes: &Bytes) -> R
 /// So many stores of a flight, or all that are left.
 #[tactic(auto, using(crate::proofs::LiveLines::step_done, crate::proofs::LiveLines::step_refused))]
 pub fn step(live: &mut Live, zone: ZoneName, count: u32) -> Result<(), LineError>
-    ensures { (logs : SavedLogs) → MatchResult result (λ _. LineDone (LiveMachine live.old logs) (Step zone count) (LiveMachine live.new logs) [])
+    ensures { (logs : SavedLogs) → MatchResult result (λ _. LineDone (LiveMachine live.old logs) (Step zone count)
+        (LiveMachine live.new logs) [])
         (LineFails (LiveMachine live.old logs) (Step zone count)) }
 {
     match calls::step(live, zone, u64::from(count)) {
@@ -54,7 +56,8 @@ pub fn step(live: &mut Live, zone: ZoneName, count: u32) -> Result<(), LineError
 /// All stores that are left of a flight.
 #[tactic(auto, using(crate::proofs::LiveLines::finish_done, crate::proofs::LiveLines::finish_refused))]
 pub fn finish(live: &mut Live, zone: ZoneName) -> Result<(), LineError>
-    ensures { (logs : SavedLogs) → MatchResult result (λ _. LineDone (LiveMachine live.old logs) (Finish zone) (LiveMachine live.new logs) [])
+    ensures { (logs : SavedLogs) → MatchResult result (λ _. LineDone (LiveMachine live.old logs) (Finish zone)
+        (LiveMachine live.new logs) [])
         (LineFails (LiveMachine live.old logs) (Finish zone)) }
 {
     match calls::finish(live, zone) {
@@ -73,7 +76,8 @@ pub fn dump(
     bytes: &Bytes,
 ) -> Result<(), LineError>
     requires { IsTime time }
-    ensures { (logs : SavedLogs) → MatchResult result (λ _. LineDone (LiveMachine live.old logs) (Dump time packed bytes.now) (LiveMachine live.new logs) [])
+    ensures { (logs : SavedLogs) → MatchResult result (λ _. LineDone (LiveMachine live.old logs)
+        (Dump time packed bytes.now) (LiveMachine live.new logs) [])
         (LineFails (LiveMachine live.old logs) (Dump time packed bytes.now)) }
 {
     let body = Bytes::copy_of(alloc, bytes.as_slice())?;
@@ -91,7 +95,8 @@ pub fn begin_write(
     zone: ZoneName,
     bytes: &Bytes,
 ) -> Result<(), LineError>
-    ensures { (logs : SavedLogs) → MatchResult result (λ _. LineDone (LiveMachine live.old logs) (BeginWrite zone bytes.now) (LiveMachine live.new logs) [])
+    ensures { (logs : SavedLogs) → MatchResult result (λ _. LineDone (LiveMachine live.old logs)
+        (BeginWrite zone bytes.now) (LiveMachine live.new logs) [])
         (LineFails (LiveMachine live.old logs) (BeginWrite zone bytes.now)) }
 {
     let payload = Bytes::copy_of(alloc, bytes.as_slice())?;
@@ -104,7 +109,8 @@ pub fn begin_write(
 /// An erasure that is begun.
 #[tactic(auto, using(crate::proofs::LiveLines::begin_erase_done, crate::proofs::LiveLines::begin_erase_refused))]
 pub fn begin_erase(live: &mut Live, zone: ZoneName) -> Result<(), LineError>
-    ensures { (logs : SavedLogs) → MatchResult result (λ _. LineDone (LiveMachine live.old logs) (BeginErase zone) (LiveMachine live.new logs) [])
+    ensures { (logs : SavedLogs) → MatchResult result (λ _. LineDone (LiveMachine live.old logs) (BeginErase zone)
+        (LiveMachine live.new logs) [])
         (LineFails (LiveMachine live.old logs) (BeginErase zone)) }
 {
     match calls::begin(live, Ask::Erase(zone)) {
@@ -123,7 +129,8 @@ pub fn begin_dump(
     bytes: &Bytes,
 ) -> Result<(), LineError>
     requires { IsTime time }
-    ensures { (logs : SavedLogs) → MatchResult result (λ _. LineDone (LiveMachine live.old logs) (BeginDump time packed bytes.now) (LiveMachine live.new logs) [])
+    ensures { (logs : SavedLogs) → MatchResult result (λ _. LineDone (LiveMachine live.old logs)
+        (BeginDump time packed bytes.now) (LiveMachine live.new logs) [])
         (LineFails (LiveMachine live.old logs) (BeginDump time packed bytes.now)) }
 {
     let body = Bytes::copy_of(alloc, bytes.as_slice())?;

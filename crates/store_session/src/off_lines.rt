@@ -12,7 +12,8 @@ use tool_spec::Cause;
 /// A flip of a byte.
 #[tactic(auto, using(crate::proofs::OffLines::flip_done, crate::proofs::OffLines::flip_refused))]
 pub fn flip(off: Off, place: u32, mask: u8) -> Result<Machine, Cause>
-    ensures { MatchResult result (λ machine. LineDone (OffMachine off) (Flip place mask) machine []) (LineRefused (OffMachine off) (Flip place mask)) }
+    ensures { MatchResult result (λ machine. LineDone (OffMachine off) (Flip place mask) machine [])
+        (LineRefused (OffMachine off) (Flip place mask)) }
 {
     let mut off = off;
     match off.flip(place, mask) {

@@ -22,7 +22,8 @@ fn play_line<O: Sink>(
     requires fields { HasFields line.now }
     ensures later { O.faults out.old ≤ O.faults out.new }
     ensures played { MatchResult result (λ next. Puts machine line.now next (O.given out.old) (O.given out.new))
-        (λ stop. LineStops stop machine line.now number (O.given out.old) (O.given out.new) (O.faults out.old) (O.faults out.new)) }
+        (λ stop. LineStops stop machine line.now number (O.given out.old) (O.given out.new) (O.faults out.old)
+        (O.faults out.new)) }
 {
     let (next, text) = match do_line(alloc, machine, line) {
         Ok(done) => done,
@@ -45,7 +46,8 @@ pub fn play<O: Sink>(alloc: Global, off: Off, lines: &[Line], out: &mut O) -> Re
     requires fields { AllHaveFields lines.now }
     requires few { length lines.now < 2 ^ 32 }
     ensures later { O.faults out.old ≤ O.faults out.new }
-    ensures played { Plays off lines.now (O.given out.old) (O.given out.new) (O.faults out.old) (O.faults out.new) result }
+    ensures played { Plays off lines.now (O.given out.old) (O.given out.new) (O.faults out.old) (O.faults out.new)
+        result }
 {
     let mut machine = Machine::Off(off);
     for (i, line) in lines.iter().enumerate() {

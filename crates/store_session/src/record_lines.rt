@@ -37,7 +37,8 @@ fn first_with(names: &[Name], text: &[u8]) -> Option<Name>
 
 // The name of the listed record whose name has this text.
 pub(crate) fn named(alloc: Global, logs: &Logs, text: &[u8]) -> Result<Option<Name>, AllocError>
-    ensures { IfOk result (λ name. name ≡ option_map (λ (r : Listed). r.name) (record_named (saved logs.now) text.now)) }
+    ensures { IfOk result (λ name. name ≡ option_map (λ (r : Listed). r.name)
+        (record_named (saved logs.now) text.now)) }
 {
     let names = names(alloc, logs)?;
     Ok(first_with(names.as_slice(), text))
@@ -45,7 +46,8 @@ pub(crate) fn named(alloc: Global, logs: &Logs, text: &[u8]) -> Result<Option<Na
 
 /// A record's name, length and content.
 pub fn extract(alloc: Global, logs: &Logs, name: &Bytes) -> Result<Vec<u8>, LineError>
-    ensures { (live : LiveSeen) → MatchResult result (λ text. LineDone (LiveMachine live logs.now) (Extract name.now) (LiveMachine live logs.now) text.items)
+    ensures { (live : LiveSeen) → MatchResult result (λ text. LineDone (LiveMachine live logs.now) (Extract name.now)
+        (LiveMachine live logs.now) text.items)
         (LineFails (LiveMachine live logs.now) (Extract name.now)) }
 {
     match named(alloc, logs, name.as_slice())? {

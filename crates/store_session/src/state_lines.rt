@@ -27,7 +27,8 @@ pub fn boot(alloc: Global, off: Off) -> Result<(Machine, Vec<u8>), LineError>
 /// A boot that is stopped after so many stores, or behind its last.
 #[tactic(auto, using(crate::proofs::StateLines::part_done))]
 pub fn boot_part(alloc: Global, off: Off, limit: u32) -> Result<(Machine, Vec<u8>), LineError>
-    ensures { MatchResult result (λ r. LineDone (OffMachine off) (BootPart limit) r.0 r.1.items) (LineFails (OffMachine off) (BootPart limit)) }
+    ensures { MatchResult result (λ r. LineDone (OffMachine off) (BootPart limit) r.0 r.1.items)
+        (LineFails (OffMachine off) (BootPart limit)) }
 {
     let (off, made) = match off.boot_part(u64::from(limit)) {
         Ok(parted) => parted,
@@ -49,7 +50,8 @@ pub fn stop(live: Live, logs: Logs) -> Machine
 /// The listing of the last boot's records.
 #[tactic(auto, using(crate::proofs::StateLines::list_done))]
 pub fn list(alloc: Global, logs: &Logs) -> Result<Vec<u8>, AllocError>
-    ensures { IfOk result (λ text. (live : LiveSeen) → LineDone (LiveMachine live logs.now) ListLine (LiveMachine live logs.now) text.items) }
+    ensures { IfOk result (λ text. (live : LiveSeen) → LineDone (LiveMachine live logs.now) ListLine
+        (LiveMachine live logs.now) text.items) }
 {
     listing(alloc, logs)
 }

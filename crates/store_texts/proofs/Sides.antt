@@ -21,22 +21,33 @@ sides zones reports = zip zones (map told_report reports)
 abbrev pub lines_of : List (Saved × ZoneReport) → List ℕ
 lines_of pairs = flat_map (λ (pair : Saved × ZoneReport). zone_lines pair.0.1 pair.1) pairs
 
-pub one-more : (zones : List Saved) (reports : List RustZoneReport) (i : ℕ) (r : RustZoneReport) (old new : List ℕ) → i < length zones → slice_get reports i ≡ Some r
-    → old ≡ lines_of (take i (sides zones reports)) → ((s : Saved) → slice_get zones i ≡ Some s → new ≡ old ++ zone_lines s.1 (told_report r)) → new ≡ lines_of (take (i + 1) (sides zones reports))
+pub one-more : (zones : List Saved) (reports : List RustZoneReport) (i : ℕ) (r : RustZoneReport) (old new : List ℕ)
+    → i < length zones → slice_get reports i ≡ Some r
+    → old ≡ lines_of (take i (sides zones reports)) → ((s : Saved) → slice_get zones i ≡ Some s
+    → new ≡ old ++ zone_lines s.1 (told_report r)) → new ≡ lines_of (take (i + 1) (sides zones reports))
 one-more zones reports i r old new lt here was pushed =
     let at = item-at zones i lt in
-    let told : slice_get (map told_report reports) i ≡ Some (told_report r) = slice_get-map told_report reports i ∙ ap (option_map told_report) here in
-    let beside : slice_get (sides zones reports) i ≡ Some (at.item, told_report r) = zip-at zones (map told_report reports) i at.item (told_report r) at.here told in
-    let both = item-at (sides zones reports) i (slice_get_within (sides zones reports) i (at.item, told_report r) beside) in
-    let same : both.item ≡ (at.item, told_report r) = some-is both.item (at.item, told_report r) (sym both.here ∙ beside) in
+    let told : slice_get (map told_report reports) i ≡ Some (told_report r) =
+    slice_get-map told_report reports i ∙ ap (option_map told_report) here in
+    let beside : slice_get (sides zones reports) i ≡ Some (at.item, told_report r) =
+    zip-at zones (map told_report reports) i at.item (told_report r) at.here told in
+    let both = item-at (sides zones reports) i (slice_get_within (sides zones reports) i (at.item, told_report r)
+    beside) in
+    let same : both.item ≡ (at.item, told_report r) = some-is both.item (at.item, told_report r)
+    (sym both.here ∙ beside) in
     pushed at.item at.here ∙ ap (λ (xs : List ℕ). xs ++ zone_lines at.item.1 (told_report r)) was
-    ∙ ap (λ (xs : List ℕ). lines_of (take i (sides zones reports)) ++ xs) (sym (append-nil (zone_lines at.item.1 (told_report r))))
-    ∙ sym (ap lines_of both.more ∙ flat_map-append (λ (pair : Saved × ZoneReport). zone_lines pair.0.1 pair.1) (take i (sides zones reports)) (both.item ∷ [])
+    ∙ ap (λ (xs : List ℕ). lines_of (take i (sides zones reports)) ++ xs)
+    (sym (append-nil (zone_lines at.item.1 (told_report r))))
+    ∙ sym (ap lines_of both.more ∙ flat_map-append (λ (pair : Saved × ZoneReport). zone_lines pair.0.1 pair.1)
+    (take i (sides zones reports)) (both.item ∷ [])
     ∙ ap (λ (p : Saved × ZoneReport). lines_of (take i (sides zones reports)) ++ lines_of (p ∷ [])) same)
   where
     some-is : {A : Type 0} (a b : A) → Some a ≡ Some b → a ≡ b
     some-is a b e = cc
 
-pub all-there : (zones : List Saved) (reports : List RustZoneReport) (i : ℕ) (text : List ℕ) → min (length zones) (length reports) ≤ i → text ≡ lines_of (take i (sides zones reports)) → text ≡ boot_text zones (map told_report reports)
+pub all-there : (zones : List Saved) (reports : List RustZoneReport) (i : ℕ) (text : List ℕ)
+    → min (length zones) (length reports) ≤ i → text ≡ lines_of (take i (sides zones reports))
+    → text ≡ boot_text zones (map told_report reports)
 all-there zones reports i text past e =
-    e ∙ ap lines_of (take_all i (sides zones reports) (omega (arith, past, length-zip zones (map told_report reports), length-map reports told_report)))
+    e ∙ ap lines_of (take_all i (sides zones reports) (omega
+    (arith, past, length-zip zones (map told_report reports), length-map reports told_report)))

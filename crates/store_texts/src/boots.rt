@@ -37,7 +37,8 @@ fn call_word(kind: CallKind) -> &'static str
 
 fn push_difference(text: &mut Vec<u8>, told: u32, seen: u32, first: u32) -> Result<(), AllocError>
     ensures { OnOk result (text.new.items ≡ text.old.items
-        ++ codes "differs told " ++ decimal told ++ codes " read " ++ decimal seen ++ codes " first " ++ decimal first) }
+        ++ codes "differs told " ++ decimal told ++ codes " read " ++ decimal seen ++ codes " first "
+        ++ decimal first) }
 {
     push_number(text, "differs told ", u64::from(told))?;
     push_number(text, " read ", u64::from(seen))?;

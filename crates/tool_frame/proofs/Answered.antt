@@ -21,7 +21,8 @@ appends_on (Some a) (Some b) None xs ys h k = absurd k
 appends_on (Some a) (Some b) (Some c) xs ys h k = rw (k, h) (append_assoc a xs ys)
 
 -- text, and then the front of more
-pub front_on : (a b c : Option (List ℕ)) (xs ys : List ℕ) → Appends a b xs → AppendsFront b c ys → AppendsFront a c (xs ++ ys)
+pub front_on : (a b c : Option (List ℕ)) (xs ys : List ℕ) → Appends a b xs → AppendsFront b c ys
+    → AppendsFront a c (xs ++ ys)
 front_on None b c xs ys h k = record { count = 0; within = omega arith; bytes = tt }
 front_on (Some a) None c xs ys h k = absurd h
 front_on (Some a) (Some b) None xs ys h k = absurd k.bytes
@@ -40,17 +41,27 @@ all_texts texts = grind (arith, common_steps)
 front_alone : (a b : Option (List ℕ)) (xs : List ℕ) → AppendsFront a b xs → AppendsFront a b (xs ++ [])
 front_alone a b xs h = rw (append-nil xs) h
 
-put_whole : (w : Wanted) (s : Stop) (a m b : Option (List ℕ)) → CanStop w.end s → Appends a m (whole w.texts) → AppendsFront m b (last_line s) → PutFront w.texts w.end a b
+put_whole : (w : Wanted) (s : Stop) (a m b : Option (List ℕ)) → CanStop w.end s → Appends a m (whole w.texts)
+    → AppendsFront m b (last_line s) → PutFront w.texts w.end a b
 put_whole w s a m b can puts last =
-    record { count = length w.texts; last = s; can = can; bytes = rw (all_texts w.texts) (front_on a m b (whole w.texts) (last_line s) puts last) }
+    record {
+      count = length w.texts;
+      last = s;
+      can = can;
+      bytes = rw (all_texts w.texts) (front_on a m b (whole w.texts) (last_line s) puts last);
+    }
 
 -- an end that the words, the image or the script alone decide
-pub answers_fixed : (s : Stop) (w : Wanted) (a m b : Outside) (status : ℕ) → 2 ≤ status_of (Err s) → status_of (Err s) ≢ 5 → status_of (Err s) ≢ 6 → status_of (Err s) ≢ 7 → CanStop w.end s → b.holds ≡ m.holds → w.end ≡ Err s → Appends a.given m.given (whole w.texts) → m.holds ≡ a.holds → LastPut s m.given b.given m.sink_faults b.sink_faults status → Answers w a b status
+pub answers_fixed : (s : Stop) (w : Wanted) (a m b : Outside) (status : ℕ) → 2 ≤ status_of (Err s)
+    → status_of (Err s) ≢ 5 → status_of (Err s) ≢ 6 → status_of (Err s) ≢ 7 → CanStop w.end s → b.holds ≡ m.holds
+    → w.end ≡ Err s → Appends a.given m.given (whole w.texts) → m.holds ≡ a.holds
+    → LastPut s m.given b.given m.sink_faults b.sink_faults status → Answers w a b status
 answers_fixed s w a m b status two five six seven can same e puts kept last = elim last.shown [
   | inl h ↦ record {
     exact = inl (rw e h.0);
     done = λ z. absurd (omega arith);
-    refused = λ s' e' nf. let same_stop : s' ≡ s = cc in rw same_stop (appends_on a.given m.given b.given (whole w.texts) (last_line s) puts h.1);
+    refused = λ s' e' nf. let same_stop : s' ≡ s = cc in
+        rw same_stop (appends_on a.given m.given b.given (whole w.texts) (last_line s) puts h.1);
     memory = λ z. absurd (omega arith);
     script_fault = λ z. absurd (five (sym h.0 ∙ z));
     image_fault = λ z. absurd (six (sym h.0 ∙ z));
@@ -71,7 +82,9 @@ answers_fixed s w a m b status two five six seven can same e puts kept last = el
   }
 ]
 
-answers_ok : (w : Wanted) (a m b : Outside) (status : ℕ) → b.holds ≡ m.holds → w.end ≡ Ok tt → Appends a.given m.given (whole w.texts) → WritesAll w.writes a.holds m.holds → status ≡ 0 → b.given ≡ m.given → Answers w a b status
+answers_ok : (w : Wanted) (a m b : Outside) (status : ℕ) → b.holds ≡ m.holds → w.end ≡ Ok tt
+    → Appends a.given m.given (whole w.texts) → WritesAll w.writes a.holds m.holds → status ≡ 0 → b.given ≡ m.given
+    → Answers w a b status
 answers_ok w a m b status same e puts wrote zero told = record {
   exact = inl (rw e zero);
   done = λ z. (e, rw told puts, rw same wrote);
@@ -84,13 +97,18 @@ answers_ok w a m b status same e puts wrote zero told = record {
   unwritten = λ z. absurd (z zero);
 }
 
-answers_memory : (w : Wanted) (a m b : Outside) (status : ℕ) → b.holds ≡ m.holds → PutTexts w.texts a.given m.given → m.holds ≡ a.holds → LastPut Memory m.given b.given m.sink_faults b.sink_faults status → Answers w a b status
+answers_memory : (w : Wanted) (a m b : Outside) (status : ℕ) → b.holds ≡ m.holds → PutTexts w.texts a.given m.given
+    → m.holds ≡ a.holds → LastPut Memory m.given b.given m.sink_faults b.sink_faults status → Answers w a b status
 answers_memory w a m b status same puts kept last = elim last.shown [
   | inl h ↦ record {
     exact = inr (inl h.0);
     done = λ z. absurd (omega arith);
     refused = λ s e nf. absurd (nf (inl h.0));
-    memory = λ z. record { count = puts.count; bytes = appends_on a.given m.given b.given _ (last_line Memory) puts.bytes h.1 };
+    memory = λ z. record {
+      count = puts.count;
+      bytes = appends_on a.given m.given b.given _ (last_line Memory)
+          puts.bytes h.1;
+    };
     script_fault = λ z. absurd (omega arith);
     image_fault = λ z. absurd (omega arith);
     sink_fault = λ z. absurd (omega arith);
@@ -104,13 +122,19 @@ answers_memory w a m b status same puts kept last = elim last.shown [
     memory = λ z. absurd (omega arith);
     script_fault = λ z. absurd (omega arith);
     image_fault = λ z. absurd (omega arith);
-    sink_fault = λ z. record { count = puts.count; last = Memory; can = tt; bytes = front_on a.given m.given b.given _ (last_line Memory) puts.bytes h.2 };
+    sink_fault = λ z. record {
+      count = puts.count;
+      last = Memory;
+      can = tt;
+      bytes = front_on a.given m.given b.given _ (last_line Memory) puts.bytes h.2;
+    };
     kept = λ p q r. absurd (r h.0);
     unwritten = λ z. inl (same ∙ kept);
   }
 ]
 
-answers_script_fault : (w : Wanted) (a m b : Outside) (status : ℕ) → b.holds ≡ m.holds → m.given ≡ a.given → m.holds ≡ a.holds → LastPut ScriptFault m.given b.given m.sink_faults b.sink_faults status → Answers w a b status
+answers_script_fault : (w : Wanted) (a m b : Outside) (status : ℕ) → b.holds ≡ m.holds → m.given ≡ a.given
+    → m.holds ≡ a.holds → LastPut ScriptFault m.given b.given m.sink_faults b.sink_faults status → Answers w a b status
 answers_script_fault w a m b status same quiet kept last = elim last.shown [
   | inl h ↦ record {
     exact = inr (inr (inl h.0));
@@ -137,7 +161,8 @@ answers_script_fault w a m b status same quiet kept last = elim last.shown [
 ]
 
 -- a fault in reading the image
-answers_unread : (w : Wanted) (a m b : Outside) (status : ℕ) → b.holds ≡ m.holds → m.given ≡ a.given → m.holds ≡ a.holds → LastPut ImageFault m.given b.given m.sink_faults b.sink_faults status → Answers w a b status
+answers_unread : (w : Wanted) (a m b : Outside) (status : ℕ) → b.holds ≡ m.holds → m.given ≡ a.given
+    → m.holds ≡ a.holds → LastPut ImageFault m.given b.given m.sink_faults b.sink_faults status → Answers w a b status
 answers_unread w a m b status same quiet kept last = elim last.shown [
   | inl h ↦ record {
     exact = inr (inr (inr (inl h.0)));
@@ -164,7 +189,9 @@ answers_unread w a m b status same quiet kept last = elim last.shown [
 ]
 
 -- a fault in writing the image
-answers_unwritten : (w : Wanted) (a m b : Outside) (status : ℕ) → b.holds ≡ m.holds → w.end ≡ Ok tt → Appends a.given m.given (whole w.texts) → WritesSome w.writes a.holds m.holds → LastPut ImageFault m.given b.given m.sink_faults b.sink_faults status → Answers w a b status
+answers_unwritten : (w : Wanted) (a m b : Outside) (status : ℕ) → b.holds ≡ m.holds → w.end ≡ Ok tt
+    → Appends a.given m.given (whole w.texts) → WritesSome w.writes a.holds m.holds
+    → LastPut ImageFault m.given b.given m.sink_faults b.sink_faults status → Answers w a b status
 answers_unwritten w a m b status same e puts wrote last = elim last.shown [
   | inl h ↦ record {
     exact = inr (inr (inr (inl h.0)));
@@ -172,7 +199,11 @@ answers_unwritten w a m b status same e puts wrote last = elim last.shown [
     refused = λ s e' nf. absurd (nf (inr (inr (inl h.0))));
     memory = λ z. absurd (omega arith);
     script_fault = λ z. absurd (omega arith);
-    image_fault = λ z. inr (e, appends_on a.given m.given b.given (whole w.texts) (last_line ImageFault) puts h.1, rw same wrote);
+    image_fault = λ z. inr (
+      e,
+      appends_on a.given m.given b.given (whole w.texts) (last_line ImageFault) puts h.1,
+      rw same wrote,
+    );
     sink_fault = λ z. absurd (omega arith);
     kept = λ p q r. absurd (q h.0);
     unwritten = λ z. inr (e, rw same wrote);
@@ -191,7 +222,8 @@ answers_unwritten w a m b status same e puts wrote last = elim last.shown [
 ]
 
 -- a fault in putting text
-answers_unput : (w : Wanted) (a m b : Outside) (status : ℕ) → b.holds ≡ m.holds → PutSome w.texts a.given m.given → m.holds ≡ a.holds → Silent 7 m.given b.given m.sink_faults b.sink_faults status → Answers w a b status
+answers_unput : (w : Wanted) (a m b : Outside) (status : ℕ) → b.holds ≡ m.holds → PutSome w.texts a.given m.given
+    → m.holds ≡ a.holds → Silent 7 m.given b.given m.sink_faults b.sink_faults status → Answers w a b status
 answers_unput w a m b status same puts kept last =
     let seven : status ≡ 7 = last.answer in record {
       exact = inr (inr (inr (inr seven)));
@@ -200,13 +232,19 @@ answers_unput w a m b status same puts kept last =
       memory = λ z. absurd (omega arith);
       script_fault = λ z. absurd (omega arith);
       image_fault = λ z. absurd (omega arith);
-      sink_fault = λ z. record { count = puts.count; last = SinkFault; can = tt; bytes = rw last.same (front_alone a.given m.given _ puts.bytes) };
+      sink_fault = λ z. record {
+        count = puts.count;
+        last = SinkFault;
+        can = tt;
+        bytes = rw last.same (front_alone a.given m.given _ puts.bytes);
+      };
       kept = λ p q r. absurd (r seven);
       unwritten = λ z. inl (same ∙ kept);
     }
 
 -- each end of the work with its last line
-pub answers : (e : End) (w : Wanted) (a m b : Outside) (status : ℕ) → b.holds ≡ m.holds → Ended w a m e → Finished e m.given b.given m.sink_faults b.sink_faults status → Answers w a b status
+pub answers : (e : End) (w : Wanted) (a m b : Outside) (status : ℕ) → b.holds ≡ m.holds → Ended w a m e
+    → Finished e m.given b.given m.sink_faults b.sink_faults status → Answers w a b status
 answers (Ok u) w a m b status same h f = answers_ok w a m b status same h.0 h.1 h.2 f.answer f.same
 answers (Err Memory) w a m b status same h f = answers_memory w a m b status same h.0 h.1 f
 answers (Err ScriptFault) w a m b status same h f = answers_script_fault w a m b status same h.0 h.1 f
@@ -215,10 +253,17 @@ answers (Err ImageFault) w a m b status same h f = elim h [
   | inr k ↦ answers_unwritten w a m b status same k.0 k.1 k.2 f
 ]
 answers (Err SinkFault) w a m b status same h f = answers_unput w a m b status same h.0 h.1 f
-answers (Err Usage) w a m b status same h f = answers_fixed Usage w a m b status (lit≤ tt) (λ z. absurd (omega arith)) (λ z. absurd (omega arith)) (λ z. absurd (omega arith)) h.0 same h.0 h.1 h.2 f
-answers (Err (Param x y)) w a m b status same h f = answers_fixed (Param x y) w a m b status (lit≤ tt) (λ z. absurd (omega arith)) (λ z. absurd (omega arith)) (λ z. absurd (omega arith)) h.0 same h.0 h.1 h.2 f
-answers (Err (Layout x)) w a m b status same h f = answers_fixed (Layout x) w a m b status (lit≤ tt) (λ z. absurd (omega arith)) (λ z. absurd (omega arith)) (λ z. absurd (omega arith)) h.0 same h.0 h.1 h.2 f
-answers (Err (Short x y)) w a m b status same h f = answers_fixed (Short x y) w a m b status (lit≤ tt) (λ z. absurd (omega arith)) (λ z. absurd (omega arith)) (λ z. absurd (omega arith)) h.0 same h.0 h.1 h.2 f
-answers (Err TooLong) w a m b status same h f = answers_fixed TooLong w a m b status (lit≤ tt) (λ z. absurd (omega arith)) (λ z. absurd (omega arith)) (λ z. absurd (omega arith)) h.0 same h.0 h.1 h.2 f
-answers (Err (BadLine x)) w a m b status same h f = answers_fixed (BadLine x) w a m b status (lit≤ tt) (λ z. absurd (omega arith)) (λ z. absurd (omega arith)) (λ z. absurd (omega arith)) h.0 same h.0 h.1 h.2 f
-answers (Err (Refused x y)) w a m b status same h f = answers_fixed (Refused x y) w a m b status (lit≤ tt) (λ z. absurd (omega arith)) (λ z. absurd (omega arith)) (λ z. absurd (omega arith)) h.0 same h.0 h.1 h.2 f
+answers (Err Usage) w a m b status same h f = answers_fixed Usage w a m b status (lit≤ tt) (λ z. absurd (omega arith))
+    (λ z. absurd (omega arith)) (λ z. absurd (omega arith)) h.0 same h.0 h.1 h.2 f
+answers (Err (Param x y)) w a m b status same h f = answers_fixed (Param x y) w a m b status (lit≤ tt)
+    (λ z. absurd (omega arith)) (λ z. absurd (omega arith)) (λ z. absurd (omega arith)) h.0 same h.0 h.1 h.2 f
+answers (Err (Layout x)) w a m b status same h f = answers_fixed (Layout x) w a m b status (lit≤ tt)
+    (λ z. absurd (omega arith)) (λ z. absurd (omega arith)) (λ z. absurd (omega arith)) h.0 same h.0 h.1 h.2 f
+answers (Err (Short x y)) w a m b status same h f = answers_fixed (Short x y) w a m b status (lit≤ tt)
+    (λ z. absurd (omega arith)) (λ z. absurd (omega arith)) (λ z. absurd (omega arith)) h.0 same h.0 h.1 h.2 f
+answers (Err TooLong) w a m b status same h f = answers_fixed TooLong w a m b status (lit≤ tt)
+    (λ z. absurd (omega arith)) (λ z. absurd (omega arith)) (λ z. absurd (omega arith)) h.0 same h.0 h.1 h.2 f
+answers (Err (BadLine x)) w a m b status same h f = answers_fixed (BadLine x) w a m b status (lit≤ tt)
+    (λ z. absurd (omega arith)) (λ z. absurd (omega arith)) (λ z. absurd (omega arith)) h.0 same h.0 h.1 h.2 f
+answers (Err (Refused x y)) w a m b status same h f = answers_fixed (Refused x y) w a m b status (lit≤ tt)
+    (λ z. absurd (omega arith)) (λ z. absurd (omega arith)) (λ z. absurd (omega arith)) h.0 same h.0 h.1 h.2 f

@@ -14,7 +14,8 @@ all_consumed None b xs h e = tt
 all_consumed (Some a) None xs h e = absurd h
 all_consumed (Some a) (Some b) xs h e = grind (arith, common_steps)
 
-pub longer : (a b : Option (List ℕ)) (xs : List ℕ) (n : ℕ) → Consumes a b xs → n < length xs → IfSome a (λ bs. n < length bs)
+pub longer : (a b : Option (List ℕ)) (xs : List ℕ) (n : ℕ) → Consumes a b xs → n < length xs
+    → IfSome a (λ bs. n < length bs)
 longer None b xs n h l = tt
 longer (Some a) None xs n h l = absurd h
 longer (Some a) (Some b) xs n h l = omega (arith, length-append xs b, ap length h)

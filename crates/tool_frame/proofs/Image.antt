@@ -16,23 +16,32 @@ nat_lt-true h = grind (arith, nat_tests)
 nat_lt-false : {a b : ℕ} → b ≤ a → nat_lt a b ≡ false
 nat_lt-false h = grind (arith, nat_tests)
 
-short_wanted : (plan : Plan) (c : Command) (bytes : List ℕ) → plan.command ≡ c → reads_image c ≡ true → length bytes < mem_of plan → wanted plan bytes [] ≡ stops (Short (length bytes) (mem_of plan))
+short_wanted : (plan : Plan) (c : Command) (bytes : List ℕ) → plan.command ≡ c → reads_image c ≡ true
+    → length bytes < mem_of plan → wanted plan bytes [] ≡ stops (Short (length bytes) (mem_of plan))
 short_wanted plan c bytes is reads h = rw (is, reads, nat_lt-true h) refl
 
-image_wanted : (plan : Plan) (c : Command) (bytes : List ℕ) → plan.command ≡ c → reads_image c ≡ true → mem_of plan ≤ length bytes → wanted plan bytes [] ≡ wanted_of plan.params plan.zones (take (mem_of plan) bytes) [] c
+image_wanted : (plan : Plan) (c : Command) (bytes : List ℕ) → plan.command ≡ c → reads_image c ≡ true
+    → mem_of plan ≤ length bytes → wanted plan bytes [] ≡ wanted_of plan.params plan.zones (take (mem_of plan) bytes)
+    [] c
 image_wanted plan c bytes is reads h = rw (is, reads, nat_lt-false h) refl
 
-stop_short : (plan : Plan) (c : Command) (a b : Outside) (has needed : ℕ) → plan.command ≡ c → reads_image c ≡ true → Quiet a b → (needed ≡ mem_of plan) × (has < mem_of plan) × IfSome a.holds (λ bs. has ≡ length bs) → IfHolds a (λ bytes. Ended (wanted plan bytes []) a b (Err (Short has needed)))
+stop_short : (plan : Plan) (c : Command) (a b : Outside) (has needed : ℕ) → plan.command ≡ c → reads_image c ≡ true
+    → Quiet a b → (needed ≡ mem_of plan) × (has < mem_of plan) × IfSome a.holds (λ bs. has ≡ length bs)
+    → IfHolds a (λ bytes. Ended (wanted plan bytes []) a b (Err (Short has needed)))
 stop_short plan c a b has needed is reads q h = record {
   told = λ bytes t.
       let size : has ≡ length bytes = rw t at h.2 in
       let few : length bytes < mem_of plan = rw size at h.1 in
-      ended_as (wanted plan bytes []) (stops (Short (length bytes) (mem_of plan))) a b (Err (Short has needed)) (short_wanted plan c bytes is reads few) (rw (size, h.0) refl, put_nothing a b q, q.holds);
+      ended_as (wanted plan bytes []) (stops (Short (length bytes) (mem_of plan))) a b (Err (Short has needed))
+      (short_wanted plan c bytes is reads few) (rw (size, h.0) refl, put_nothing a b q, q.holds);
 }
 
 -- the image was not read
-pub image_stopped : (plan : Plan) (c : Command) (a b : Outside) (s : Stop) (f g : ℕ) → plan.command ≡ c → reads_image c ≡ true → Quiet a b → LoadStop s (mem_of plan) a.holds f g → IfHolds a (λ bytes. Ended (wanted plan bytes []) a b (Err s))
-image_stopped plan c a b Memory f g is reads q h = record { told = λ bytes t. quiet_memory (wanted plan bytes []) a b q }
+pub image_stopped : (plan : Plan) (c : Command) (a b : Outside) (s : Stop) (f g : ℕ) → plan.command ≡ c
+    → reads_image c ≡ true → Quiet a b → LoadStop s (mem_of plan) a.holds f g
+    → IfHolds a (λ bytes. Ended (wanted plan bytes []) a b (Err s))
+image_stopped plan c a b Memory f g is reads q h = record
+    { told = λ bytes t. quiet_memory (wanted plan bytes []) a b q }
 image_stopped plan c a b ImageFault f g is reads q h = record { told = λ bytes t. inl (q.given, q.holds) }
 image_stopped plan c a b (Short has needed) f g is reads q h = stop_short plan c a b has needed is reads q h
 image_stopped plan c a b Usage f g is reads q h = absurd h
@@ -45,9 +54,13 @@ image_stopped plan c a b (BadLine x) f g is reads q h = absurd h
 image_stopped plan c a b (Refused x y) f g is reads q h = absurd h
 
 -- the image was read, and what is wanted of it was done
-pub image_done : (plan : Plan) (c : Command) (a b : Outside) (image : List ℕ) (e : End) → plan.command ≡ c → reads_image c ≡ true → IfSome a.holds (λ bs. (mem_of plan ≤ length bs) × (image ≡ take (mem_of plan) bs)) → Ended (wanted_of plan.params plan.zones image [] c) a b e → IfHolds a (λ bytes. Ended (wanted plan bytes []) a b e)
+pub image_done : (plan : Plan) (c : Command) (a b : Outside) (image : List ℕ) (e : End) → plan.command ≡ c
+    → reads_image c ≡ true → IfSome a.holds (λ bs. (mem_of plan ≤ length bs) × (image ≡ take (mem_of plan) bs))
+    → Ended (wanted_of plan.params plan.zones image [] c) a b e
+    → IfHolds a (λ bytes. Ended (wanted plan bytes []) a b e)
 image_done plan c a b image e is reads loaded h = record {
   told = λ bytes t.
       let l : (mem_of plan ≤ length bytes) × (image ≡ take (mem_of plan) bytes) = rw t at loaded in
-      ended_as (wanted plan bytes []) (wanted_of plan.params plan.zones image [] c) a b e (image_wanted plan c bytes is reads l.0 ∙ rw (← l.1) refl) h;
+      ended_as (wanted plan bytes []) (wanted_of plan.params plan.zones image [] c) a b e
+      (image_wanted plan c bytes is reads l.0 ∙ rw (← l.1) refl) h;
 }

@@ -7,7 +7,8 @@ use Rattle.std.proofs.Math.Seq.{take-add, take-append_seam, drop-append-add}
 use Rattle.box_io.specs.Outside.{Writes, WritesFront, written}
 
 -- what was read so far, and one more piece
-pub piece_read : (holds : Option (List ℕ)) (at n : ℕ) (front piece : List ℕ) → IfSome holds (λ bs. front ≡ take at bs) → IfSome holds (λ bs. piece ≡ take n (drop at bs)) → IfSome holds (λ bs. front ++ piece ≡ take (at + n) bs)
+pub piece_read : (holds : Option (List ℕ)) (at n : ℕ) (front piece : List ℕ) → IfSome holds (λ bs. front ≡ take at bs)
+    → IfSome holds (λ bs. piece ≡ take n (drop at bs)) → IfSome holds (λ bs. front ++ piece ≡ take (at + n) bs)
 piece_read None at n front piece h k = tt
 piece_read (Some bs) at n front piece h k = rw (h, k) (sym (take-add at n bs))
 
@@ -15,7 +16,8 @@ piece_read (Some bs) at n front piece h k = rw (h, k) (sym (take-add at n bs))
 pub written_twice : (xs p q : List ℕ) → written (written xs 0 p) (length p) q ≡ written xs 0 (p ++ q)
 written_twice xs p q = simp (take-append_seam, drop-append-add, drop-drop, length-append, zero-add)
 
-pub written_on : (a b c : Option (List ℕ)) (at : ℕ) (p q : List ℕ) → length p ≡ at → Writes a b 0 p → Writes b c at q → Writes a c 0 (p ++ q)
+pub written_on : (a b c : Option (List ℕ)) (at : ℕ) (p q : List ℕ) → length p ≡ at → Writes a b 0 p → Writes b c at q
+    → Writes a c 0 (p ++ q)
 written_on None None None at p q l h k = tt
 written_on None None (Some z) at p q l h k = absurd k
 written_on None (Some y) c at p q l h k = absurd h
@@ -23,7 +25,8 @@ written_on (Some x) None c at p q l h k = absurd h
 written_on (Some x) (Some y) None at p q l h k = absurd k
 written_on (Some x) (Some y) (Some z) at p q l h k = rw (k, h, ← l) (written_twice x p q)
 
-pub written_reach : (a b : Option (List ℕ)) (at : ℕ) (p : List ℕ) → at ≤ length p → Writes a b 0 p → IfSome b (λ bs. at ≤ length bs)
+pub written_reach : (a b : Option (List ℕ)) (at : ℕ) (p : List ℕ) → at ≤ length p → Writes a b 0 p
+    → IfSome b (λ bs. at ≤ length bs)
 written_reach a None at p l h = tt
 written_reach None (Some y) at p l h = absurd h
 written_reach (Some x) (Some y) at p l h = rw h (omega (arith, length-append p (drop (0 + length p) x)))
@@ -33,13 +36,16 @@ written_none None p e = tt
 written_none (Some x) p e = rw e refl
 
 -- a write of the next piece
-pub written_next : (a b c : Option (List ℕ)) (at n : ℕ) (bytes piece : List ℕ) → at + n ≤ length bytes → piece ≡ take n (drop at bytes) → Writes a b 0 (take at bytes) → Writes b c at piece → Writes a c 0 (take (at + n) bytes)
+pub written_next : (a b c : Option (List ℕ)) (at n : ℕ) (bytes piece : List ℕ) → at + n ≤ length bytes
+    → piece ≡ take n (drop at bytes) → Writes a b 0 (take at bytes) → Writes b c at piece
+    → Writes a c 0 (take (at + n) bytes)
 written_next a b c at n bytes piece fits e h k =
     let front : length (take at bytes) ≡ at = grind (arith, common_steps) in
     rw (take-add at n bytes, ← e) (written_on a b c at _ _ front h k)
 
 -- a write of the next piece that was cut short
-pub written_short : (a b c : Option (List ℕ)) (at n : ℕ) (bytes piece : List ℕ) → at + n ≤ length bytes → piece ≡ take n (drop at bytes) → Writes a b 0 (take at bytes) → WritesFront b c at piece → WritesFront a c 0 bytes
+pub written_short : (a b c : Option (List ℕ)) (at n : ℕ) (bytes piece : List ℕ) → at + n ≤ length bytes
+    → piece ≡ take n (drop at bytes) → Writes a b 0 (take at bytes) → WritesFront b c at piece → WritesFront a c 0 bytes
 written_short a b c at n bytes piece fits e h front =
     let m = front.count in
     let le = front.within in
@@ -47,25 +53,37 @@ written_short a b c at n bytes piece fits e h front =
     let short : m ≤ n = omega arith in
     let cut : take m piece ≡ take m (drop at bytes) = rw e (grind (arith, common_steps)) in
     let fits' : at + m ≤ length bytes = omega arith in
-    record { count = at + m; within = fits'; bytes = written_next a b c at m bytes (take m piece) fits' cut h front.bytes }
+    record {
+      count = at + m;
+      within = fits';
+      bytes = written_next a b c at m bytes (take m piece)
+          fits' cut h front.bytes;
+    }
 
 -- zeros, and more of them
-pub zeros_next : (a b c : Option (List ℕ)) (at n : ℕ) (piece : List ℕ) → n ≤ 65536 → piece ≡ take n (replicate 65536 0) → Writes a b 0 (replicate at 0) → Writes b c at piece → Writes a c 0 (replicate (at + n) 0)
+pub zeros_next : (a b c : Option (List ℕ)) (at n : ℕ) (piece : List ℕ) → n ≤ 65536
+    → piece ≡ take n (replicate 65536 0) → Writes a b 0 (replicate at 0) → Writes b c at piece
+    → Writes a c 0 (replicate (at + n) 0)
 zeros_next a b c at n piece small e h k =
     let zeros : piece ≡ replicate n 0 = e ∙ take-replicate {X = ℕ} n 65536 0 small in
-    rw (← replicate-append-replicate {A = ℕ} at n 0) (written_on a b c at (replicate at 0) (replicate n 0) (length-replicate {A = ℕ} at 0) h (rw zeros at k))
+    rw (← replicate-append-replicate {A = ℕ} at n 0) (written_on a b c at (replicate at 0) (replicate n 0)
+    (length-replicate {A = ℕ} at 0) h (rw zeros at k))
 
-pub zeros_short : (a b c : Option (List ℕ)) (at n size : ℕ) (piece : List ℕ) → n ≤ 65536 → at + n ≤ size → piece ≡ take n (replicate 65536 0) → Writes a b 0 (replicate at 0) → WritesFront b c at piece → WritesFront a c 0 (replicate size 0)
+pub zeros_short : (a b c : Option (List ℕ)) (at n size : ℕ) (piece : List ℕ) → n ≤ 65536 → at + n ≤ size
+    → piece ≡ take n (replicate 65536 0) → Writes a b 0 (replicate at 0) → WritesFront b c at piece
+    → WritesFront a c 0 (replicate size 0)
 zeros_short a b c at n size piece small fits e h front =
     let zeros : piece ≡ replicate n 0 = e ∙ take-replicate {X = ℕ} n 65536 0 small in
     let len : length piece ≡ n = rw zeros (length-replicate {A = ℕ} n 0) in
     let m = front.count in
     let short : m ≤ n = omega (arith, len, front.within) in
     let least : m ≤ 65536 = omega (arith, short, small) in
-    let some : take m piece ≡ take m (replicate 65536 0) = rw zeros (take-replicate {X = ℕ} m n 0 short ∙ sym (take-replicate {X = ℕ} m 65536 0 least)) in
+    let some : take m piece ≡ take m (replicate 65536 0) =
+    rw zeros (take-replicate {X = ℕ} m n 0 short ∙ sym (take-replicate {X = ℕ} m 65536 0 least)) in
     let within : at + m ≤ size = omega (arith, short, fits) in
     record {
       count = at + m;
       within = rw (length-replicate {A = ℕ} size 0) within;
-      bytes = rw (take-replicate {X = ℕ} (at + m) size 0 within) (zeros_next a b c at m (take m piece) least some h front.bytes);
+      bytes = rw (take-replicate {X = ℕ} (at + m) size 0 within)
+          (zeros_next a b c at m (take m piece) least some h front.bytes);
     }

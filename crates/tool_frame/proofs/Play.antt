@@ -30,19 +30,27 @@ pub extends_self : (texts : List Text) → Extends texts texts
 extends_self texts = record { more = []; is = sym (append-nil texts) }
 
 pub extends_on : (a b c : List Text) → Extends a b → Extends b c → Extends a c
-extends_on a b c h k = record { more = h.more ++ k.more; is = k.is ∙ ap (λ t. t ++ k.more) h.is ∙ append_assoc a h.more k.more }
+extends_on a b c h k = record {
+  more = h.more ++ k.more;
+  is = k.is ∙ ap (λ t. t ++ k.more) h.is
+      ∙ append_assoc a h.more k.more;
+}
 
 line_extends : (r : Ran) (c : Option Cause) (next : Result Done Cause) → Extends r.texts (ran_on r c next).texts
 line_extends r (Some c) next = extends_self r.texts
 line_extends r None (Ok d) = record { more = d.text ∷ []; is = refl }
 line_extends r None (Err c) = extends_self r.texts
 
-fold_extends : (layout : List Zone) (lines : List Line) (r : Ran) → Extends r.texts (fold (next_line layout) r lines).texts
+fold_extends : (layout : List Zone) (lines : List Line) (r : Ran)
+    → Extends r.texts (fold (next_line layout) r lines).texts
 fold_extends layout [] r = extends_self r.texts
 fold_extends layout (line ∷ lines) r =
-    extends_on r.texts (next_line layout r line).texts (fold (next_line layout) (next_line layout r line) lines).texts (line_extends r r.refused (line_done layout r.session line)) (fold_extends layout lines (next_line layout r line))
+    extends_on r.texts (next_line layout r line).texts (fold (next_line layout) (next_line layout r line) lines).texts
+    (line_extends r r.refused (line_done layout r.session line))
+    (fold_extends layout lines (next_line layout r line))
 
-take_extends : (layout : List Zone) (lines : List Line) (k : ℕ) (r : Ran) → Extends (fold (next_line layout) r (take k lines)).texts (fold (next_line layout) r lines).texts
+take_extends : (layout : List Zone) (lines : List Line) (k : ℕ) (r : Ran)
+    → Extends (fold (next_line layout) r (take k lines)).texts (fold (next_line layout) r lines).texts
 take_extends layout lines zero r = fold_extends layout lines r
 take_extends layout [] (suc k) r = extends_self r.texts
 take_extends layout (line ∷ lines) (suc k) r = take_extends layout lines k (next_line layout r line)
@@ -51,29 +59,50 @@ take_extends layout (line ∷ lines) (suc k) r = take_extends layout lines k (ne
 pub front_of : (short long : List Text) → Extends short long → front long (length short) ≡ whole short
 front_of short long h = rw h.is (grind (arith, common_steps))
 
-prefix_front : (layout : List Zone) (image : List ℕ) (lines : List Line) (k : ℕ) → front (ran layout image lines).texts (length (ran layout image (take k lines)).texts) ≡ whole (ran layout image (take k lines)).texts
-prefix_front layout image lines k = front_of (ran layout image (take k lines)).texts (ran layout image lines).texts (take_extends layout lines k (started layout image))
+prefix_front : (layout : List Zone) (image : List ℕ) (lines : List Line) (k : ℕ)
+    → front (ran layout image lines).texts (length (ran layout image (take k lines)).texts)
+    ≡ whole (ran layout image (take k lines)).texts
+prefix_front layout image lines k = front_of (ran layout image (take k lines)).texts (ran layout image lines).texts
+    (take_extends layout lines k (started layout image))
 
 -- ---- one line more
 
-on_done : (r : Ran) (c : Option Cause) (next : Result Done Cause) (d : Done) → c ≡ None → next ≡ Ok d → ran_on r c next ≡ record { session = d.session; texts = r.texts ++ d.text ∷ []; refused = None }
+on_done : (r : Ran) (c : Option Cause) (next : Result Done Cause) (d : Done) → c ≡ None → next ≡ Ok d
+    → ran_on r c next ≡ record { session = d.session; texts = r.texts ++ d.text ∷ []; refused = None }
 on_done r c next d e h = rw (e, h) refl
 
-on_refused : (r : Ran) (c : Option Cause) (next : Result Done Cause) (cause : Cause) → c ≡ None → next ≡ Err cause → ran_on r c next ≡ record r { refused = Some cause }
+on_refused : (r : Ran) (c : Option Cause) (next : Result Done Cause) (cause : Cause) → c ≡ None → next ≡ Err cause
+    → ran_on r c next ≡ record r { refused = Some cause }
 on_refused r c next cause e h = rw (e, h) refl
 
 -- a line that is refused ends the script
-refused_at : (layout : List Zone) (image : List ℕ) (lines : List Line) (i : ℕ) (line : Line) (cause : Cause) → i < length lines → line ≡ get_or lines i line → (ran layout image (take i lines)).refused ≡ None → line_done layout (ran layout image (take i lines)).session line ≡ Err cause → ran layout image lines ≡ record (ran layout image (take i lines)) { refused = Some cause }
+refused_at : (layout : List Zone) (image : List ℕ) (lines : List Line) (i : ℕ) (line : Line) (cause : Cause)
+    → i < length lines → line ≡ get_or lines i line → (ran layout image (take i lines)).refused ≡ None
+    → line_done layout (ran layout image (take i lines)).session line ≡ Err cause
+    → ran layout image lines ≡ record (ran layout image (take i lines)) { refused = Some cause }
 refused_at layout image lines i line cause h is e g =
     let r = ran layout image (take i lines) in
-    let now : next_line layout r (get_or lines i line) ≡ record r { refused = Some cause } = rw (← is) (on_refused r r.refused (line_done layout r.session line) cause e g) in
-    sym (fold_stuck (next_line layout) (record r { refused = Some cause }) (λ x. refl) (started layout image) lines i line h now)
+    let now : next_line layout r (get_or lines i line) ≡ record r { refused = Some cause } =
+    rw (← is) (on_refused r r.refused (line_done layout r.session line) cause e g) in
+    sym (fold_stuck (next_line layout) (record r { refused = Some cause }) (λ x. refl) (started layout image)
+    lines i line h now)
 
 -- a line that is done is the next of the script
-done_at : (layout : List Zone) (image : List ℕ) (lines : List Line) (i : ℕ) (line : Line) (d : Done) → i < length lines → line ≡ get_or lines i line → (ran layout image (take i lines)).refused ≡ None → line_done layout (ran layout image (take i lines)).session line ≡ Ok d → ran layout image (take (i + 1) lines) ≡ record { session = d.session; texts = (ran layout image (take i lines)).texts ++ d.text ∷ []; refused = None }
+done_at : (layout : List Zone) (image : List ℕ) (lines : List Line) (i : ℕ) (line : Line) (d : Done)
+    → i < length lines → line ≡ get_or lines i line → (ran layout image (take i lines)).refused ≡ None
+    → line_done layout (ran layout image (take i lines)).session line ≡ Ok d
+    → ran layout image (take (i + 1) lines) ≡ record {
+      session = d.session;
+      texts = (ran layout image (take i lines)).texts ++ d.text ∷ [];
+      refused = None;
+    }
 done_at layout image lines i line d h is e g =
     let r = ran layout image (take i lines) in
-    let now : next_line layout r (get_or lines i line) ≡ record { session = d.session; texts = r.texts ++ d.text ∷ []; refused = None } = rw (← is) (on_done r r.refused (line_done layout r.session line) d e g) in
+    let now : next_line layout r (get_or lines i line) ≡ record {
+      session = d.session;
+      texts = r.texts ++ d.text ∷ [];
+      refused = None;
+    } = rw (← is) (on_done r r.refused (line_done layout r.session line) d e g) in
     fold_more (next_line layout) (started layout image) lines i line h ∙ now
 
 pub whole_more : (texts : List Text) (text : Text) → whole (texts ++ text ∷ []) ≡ whole texts ++ text
@@ -84,14 +113,23 @@ pub nothing_put : (given : Option (List ℕ)) → Appends given given []
 nothing_put None = tt
 nothing_put (Some xs) = grind (arith, common_steps)
 
-pub played_none : (layout : List Zone) (image : List ℕ) (lines : List Line) (given : Option (List ℕ)) → PlayedTo layout image lines 0 (started layout image).session given given
-played_none layout image lines given = record { count = refl; so_far = record { state = refl; none = refl; texts = nothing_put given } }
+pub played_none : (layout : List Zone) (image : List ℕ) (lines : List Line) (given : Option (List ℕ))
+    → PlayedTo layout image lines 0 (started layout image).session given given
+played_none layout image lines given = record {
+  count = refl;
+  so_far = record { state = refl; none = refl; texts = nothing_put given };
+}
 
 -- one line more was done, and its text put
-pub played_on : (layout : List Zone) (image : List ℕ) (lines : List Line) (i : ℕ) (line : Line) (session next : Session) (text bytes : List ℕ) (a b c : Option (List ℕ)) → i < length lines → line ≡ get_or lines i line → PlayedTo layout image lines i session a b → line_done layout session line ≡ Ok (record { session = next; text = text }) → bytes ≡ text → Appends b c bytes → PlayedTo layout image lines (i + 1) next a c
+pub played_on : (layout : List Zone) (image : List ℕ) (lines : List Line) (i : ℕ) (line : Line)
+    (session next : Session) (text bytes : List ℕ) (a b c : Option (List ℕ)) → i < length lines
+    → line ≡ get_or lines i line → PlayedTo layout image lines i session a b
+    → line_done layout session line ≡ Ok (record { session = next; text = text }) → bytes ≡ text → Appends b c bytes
+    → PlayedTo layout image lines (i + 1) next a c
 played_on layout image lines i line session next text bytes a b c h is p g same put =
     let r = ran layout image (take i lines) in
-    let e = done_at layout image lines i line (record { session = next; text = text }) h is p.so_far.none (rw p.so_far.state g) in
+    let e = done_at layout image lines i line (record { session = next; text = text }) h is p.so_far.none
+    (rw p.so_far.state g) in
     record {
       count = rw e (omega (arith, length-append r.texts (text ∷ []), p.count));
       so_far = record {
@@ -105,27 +143,44 @@ take_all_lines : (lines : List Line) (i : ℕ) → length lines ≤ i → take i
 take_all_lines lines i h = grind (arith, common_steps)
 
 -- all lines were done
-pub played_all : (layout : List Zone) (image : List ℕ) (lines : List Line) (i : ℕ) (session : Session) (a b : Option (List ℕ)) → length lines ≤ i → PlayedTo layout image lines i session a b → Played layout image lines session a b
+pub played_all : (layout : List Zone) (image : List ℕ) (lines : List Line) (i : ℕ) (session : Session)
+    (a b : Option (List ℕ)) → length lines ≤ i → PlayedTo layout image lines i session a b
+    → Played layout image lines session a b
 played_all layout image lines i session a b h p = rw (take_all_lines lines i h) at p.so_far
 
 -- want of memory at a line
-pub stopped_memory : (layout : List Zone) (image : List ℕ) (lines : List Line) (i : ℕ) (session : Session) (a b : Option (List ℕ)) → PlayedTo layout image lines i session a b → PutTexts (ran layout image lines).texts a b
+pub stopped_memory : (layout : List Zone) (image : List ℕ) (lines : List Line) (i : ℕ) (session : Session)
+    (a b : Option (List ℕ)) → PlayedTo layout image lines i session a b → PutTexts (ran layout image lines).texts a b
 stopped_memory layout image lines i session a b p =
-    record { count = length (ran layout image (take i lines)).texts; bytes = rw (prefix_front layout image lines i) p.so_far.texts }
+    record {
+      count = length (ran layout image (take i lines)).texts;
+      bytes = rw (prefix_front layout image lines i) p.so_far.texts;
+    }
 
 -- a line was refused
-pub stopped_refused : (layout : List Zone) (image : List ℕ) (lines : List Line) (i : ℕ) (line : Line) (cause : Cause) (session : Session) (a b : Option (List ℕ)) → i < length lines → line ≡ get_or lines i line → PlayedTo layout image lines i session a b → line_done layout session line ≡ Err cause → (script_end (length (ran layout image lines).texts) (ran layout image lines).refused ≡ Err (Refused (i + 1) cause)) × Appends a b (whole (ran layout image lines).texts)
+pub stopped_refused : (layout : List Zone) (image : List ℕ) (lines : List Line) (i : ℕ) (line : Line) (cause : Cause)
+    (session : Session) (a b : Option (List ℕ)) → i < length lines → line ≡ get_or lines i line
+    → PlayedTo layout image lines i session a b → line_done layout session line ≡ Err cause
+    → (script_end (length (ran layout image lines).texts) (ran layout image lines).refused
+    ≡ Err (Refused (i + 1) cause)) × Appends a b (whole (ran layout image lines).texts)
 stopped_refused layout image lines i line cause session a b h is p g =
     let e = refused_at layout image lines i line cause h is p.so_far.none (rw p.so_far.state g) in
     rw e (rw p.count refl, p.so_far.texts)
 
 -- a text was put in part
-pub stopped_put : (layout : List Zone) (image : List ℕ) (lines : List Line) (i : ℕ) (line : Line) (session next : Session) (text bytes : List ℕ) (a b c : Option (List ℕ)) → i < length lines → line ≡ get_or lines i line → PlayedTo layout image lines i session a b → line_done layout session line ≡ Ok (record { session = next; text = text }) → bytes ≡ text → AppendsFront b c bytes → PutSome (ran layout image lines).texts a c
+pub stopped_put : (layout : List Zone) (image : List ℕ) (lines : List Line) (i : ℕ) (line : Line)
+    (session next : Session) (text bytes : List ℕ) (a b c : Option (List ℕ)) → i < length lines
+    → line ≡ get_or lines i line → PlayedTo layout image lines i session a b
+    → line_done layout session line ≡ Ok (record { session = next; text = text }) → bytes ≡ text
+    → AppendsFront b c bytes → PutSome (ran layout image lines).texts a c
 stopped_put layout image lines i line session next text bytes a b c h is p g same put =
     let r = ran layout image (take i lines) in
-    let e = done_at layout image lines i line (record { session = next; text = text }) h is p.so_far.none (rw p.so_far.state g) in
-    let all : whole (ran layout image (take (i + 1) lines)).texts ≡ whole r.texts ++ text = rw e (whole_more r.texts text) in
+    let e = done_at layout image lines i line (record { session = next; text = text }) h is p.so_far.none
+    (rw p.so_far.state g) in
+    let all : whole (ran layout image (take (i + 1) lines)).texts ≡ whole r.texts ++ text =
+    rw e (whole_more r.texts text) in
     record {
       count = length (ran layout image (take (i + 1) lines)).texts;
-      bytes = rw (prefix_front layout image lines (i + 1), all) (front_on a b c (whole r.texts) text p.so_far.texts (rw same at put));
+      bytes = rw (prefix_front layout image lines (i + 1), all)
+          (front_on a b c (whole r.texts) text p.so_far.texts (rw same at put));
     }

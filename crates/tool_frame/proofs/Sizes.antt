@@ -4,7 +4,8 @@ use Rattle.tool_spec.specs.declared.Stop.{Stop}
 use Rattle.tool_spec.specs.declared.Stop.TheVariants.{Memory, Usage, Param, Layout, Short, ScriptFault, ImageFault, SinkFault, TooLong, BadLine, Refused}
 use Rattle.tool_frame.specs.Stages.{SizeStop, LoadStop}
 
-pub size_load : (s : Stop) (mem : ℕ) (holds : Option (List ℕ)) (before now : ℕ) → SizeStop s mem holds before now → LoadStop s mem holds before now
+pub size_load : (s : Stop) (mem : ℕ) (holds : Option (List ℕ)) (before now : ℕ) → SizeStop s mem holds before now
+    → LoadStop s mem holds before now
 size_load ImageFault mem holds before now h = h
 size_load (Short has needed) mem holds before now h = h
 size_load Memory mem holds before now h = absurd h

@@ -20,7 +20,8 @@ pub image_on : (a m b : Outside) → NoImage a m → NoImage m b → NoImage a b
 image_on a m b h k = record { holds = k.holds ∙ h.holds; store = k.store ∙ h.store }
 
 -- the status is that of the end, or 7
-pub status_is : (e : End) (given given' : Option (List ℕ)) (before now status : ℕ) → Finished e given given' before now status → (status ≡ status_of e) ⊎ (status ≡ 7)
+pub status_is : (e : End) (given given' : Option (List ℕ)) (before now status : ℕ)
+    → Finished e given given' before now status → (status ≡ status_of e) ⊎ (status ≡ 7)
 status_is (Ok u) given given' before now status f = inl f.answer
 status_is (Err Memory) given given' before now status f = elim f.shown [ inl h ↦ inl h.0 | inr h ↦ inr h.0 ]
 status_is (Err Usage) given given' before now status f = elim f.shown [ inl h ↦ inl h.0 | inr h ↦ inr h.0 ]
@@ -36,13 +37,15 @@ status_is (Err (Refused x y)) given given' before now status f = elim f.shown [ 
 
 -- ---- an image that is too short
 
-enough : (mem n size status : ℕ) → n ≢ 4 → mem ≤ size → (status ≡ n) ⊎ (status ≡ 7) → (status ≡ 4 → size < mem) × (size < mem → (status ≡ 4) ⊎ IsFree status)
+enough : (mem n size status : ℕ) → n ≢ 4 → mem ≤ size → (status ≡ n) ⊎ (status ≡ 7)
+    → (status ≡ 4 → size < mem) × (size < mem → (status ≡ 4) ⊎ IsFree status)
 enough mem n size status four le h = elim h [
   | inl k ↦ (λ z. absurd (four (sym k ∙ z)), λ z. absurd (omega arith))
   | inr k ↦ (λ z. absurd (omega arith), λ z. inr (inr (inr (inr k))))
 ]
 
-pub short_at : (e : End) (mem size status : ℕ) → ShortAt mem size e → (status ≡ status_of e) ⊎ (status ≡ 7) → (status ≡ 4 → size < mem) × (size < mem → (status ≡ 4) ⊎ IsFree status)
+pub short_at : (e : End) (mem size status : ℕ) → ShortAt mem size e → (status ≡ status_of e) ⊎ (status ≡ 7)
+    → (status ≡ 4 → size < mem) × (size < mem → (status ≡ 4) ⊎ IsFree status)
 short_at (Ok u) mem size status h s = enough mem 0 size status (λ z. absurd (omega arith)) h s
 short_at (Err Memory) mem size status h s = elim s [
   | inl k ↦ (λ z. absurd (omega arith), λ z. inr (inl k))
@@ -68,7 +71,8 @@ short_at (Err (Refused x y)) mem size status h s = enough mem 10 size status (λ
 -- ---- a script
 
 -- a status that says nothing of the script
-early : (script : List ℕ) (a b : Outside) (status : ℕ) → (status ≡ 4) ⊎ IsFree status → status ≢ 8 → status ≢ 9 → ScriptAnswers script a b status
+early : (script : List ℕ) (a b : Outside) (status : ℕ) → (status ≡ 4) ⊎ IsFree status → status ≢ 8 → status ≢ 9
+    → ScriptAnswers script a b status
 early script a b status h eight nine = record {
   long = λ z. absurd (eight z);
   bad = λ z. absurd (nine z);
@@ -77,17 +81,22 @@ early script a b status h eight nine = record {
 }
 
 free_early : (script : List ℕ) (a b : Outside) (status : ℕ) → IsFree status → ScriptAnswers script a b status
-free_early script a b status (inl k) = early script a b status (inr (inl k)) (λ z. absurd (omega arith)) (λ z. absurd (omega arith))
-free_early script a b status (inr (inl k)) = early script a b status (inr (inr (inl k))) (λ z. absurd (omega arith)) (λ z. absurd (omega arith))
-free_early script a b status (inr (inr (inl k))) = early script a b status (inr (inr (inr (inl k)))) (λ z. absurd (omega arith)) (λ z. absurd (omega arith))
-free_early script a b status (inr (inr (inr k))) = early script a b status (inr (inr (inr (inr k)))) (λ z. absurd (omega arith)) (λ z. absurd (omega arith))
+free_early script a b status (inl k) = early script a b status (inr (inl k)) (λ z. absurd (omega arith))
+    (λ z. absurd (omega arith))
+free_early script a b status (inr (inl k)) = early script a b status (inr (inr (inl k))) (λ z. absurd (omega arith))
+    (λ z. absurd (omega arith))
+free_early script a b status (inr (inr (inl k))) = early script a b status (inr (inr (inr (inl k))))
+    (λ z. absurd (omega arith)) (λ z. absurd (omega arith))
+free_early script a b status (inr (inr (inr k))) = early script a b status (inr (inr (inr (inr k))))
+    (λ z. absurd (omega arith)) (λ z. absurd (omega arith))
 
 -- a good script
 no_error : {A B : Type 0} (r : Result A B) (b : B) → IsOk r → r ≡ Err b → ⊥
 no_error (Ok a) b h e = let clash : Ok a ≡ Err b = e in cc
 no_error (Err c) b h e = let clash : false ≡ true = h in cc
 
-good : (script : List ℕ) (a b : Outside) (n status : ℕ) → n ≢ 8 → n ≢ 9 → length script ≤ script_limit → IsOk (script_of script) → (status ≡ n) ⊎ (status ≡ 7) → ScriptAnswers script a b status
+good : (script : List ℕ) (a b : Outside) (n status : ℕ) → n ≢ 8 → n ≢ 9 → length script ≤ script_limit
+    → IsOk (script_of script) → (status ≡ n) ⊎ (status ≡ 7) → ScriptAnswers script a b status
 good script a b n status eight nine le ok s = elim s [
   | inl k ↦ record {
     long = λ z. absurd (eight (sym k ∙ z));
@@ -101,8 +110,10 @@ good script a b n status eight nine le ok s = elim s [
 same_error : {A B : Type 0} (r : Result A B) (b c : B) → r ≡ Err b → r ≡ Err c → c ≡ b
 same_error r b c e f = let g : Err b ≡ Err c = sym e ∙ f in cc
 
-pub script_at : (e : End) (script : List ℕ) (a m b : Outside) (status : ℕ) → ScriptAt script a.given m.given e → Finished e m.given b.given m.sink_faults b.sink_faults status → ScriptAnswers script a b status
-script_at (Ok u) script a m b status h f = good script a b 0 status (λ z. absurd (omega arith)) (λ z. absurd (omega arith)) h.0 h.1 (inl f.answer)
+pub script_at : (e : End) (script : List ℕ) (a m b : Outside) (status : ℕ) → ScriptAt script a.given m.given e
+    → Finished e m.given b.given m.sink_faults b.sink_faults status → ScriptAnswers script a b status
+script_at (Ok u) script a m b status h f = good script a b 0 status (λ z. absurd (omega arith))
+    (λ z. absurd (omega arith)) h.0 h.1 (inl f.answer)
 script_at (Err Memory) script a m b status h f = elim f.shown [
   | inl k ↦ free_early script a b status (inl k.0)
   | inr k ↦ free_early script a b status (inr (inr (inr k.0)))
@@ -138,66 +149,127 @@ script_at (Err (BadLine x)) script a m b status h f = elim f.shown [
   }
   | inr k ↦ free_early script a b status (inr (inr (inr k.0)))
 ]
-script_at (Err Usage) script a m b status h f = good script a b 2 status (λ z. absurd (omega arith)) (λ z. absurd (omega arith)) h.0 h.1 (status_is (Err Usage) m.given b.given m.sink_faults b.sink_faults status f)
-script_at (Err (Param x y)) script a m b status h f = good script a b 3 status (λ z. absurd (omega arith)) (λ z. absurd (omega arith)) h.0 h.1 (status_is (Err (Param x y)) m.given b.given m.sink_faults b.sink_faults status f)
-script_at (Err (Layout x)) script a m b status h f = good script a b 3 status (λ z. absurd (omega arith)) (λ z. absurd (omega arith)) h.0 h.1 (status_is (Err (Layout x)) m.given b.given m.sink_faults b.sink_faults status f)
-script_at (Err (Refused x y)) script a m b status h f = good script a b 10 status (λ z. absurd (omega arith)) (λ z. absurd (omega arith)) h.0 h.1 (status_is (Err (Refused x y)) m.given b.given m.sink_faults b.sink_faults status f)
+script_at (Err Usage) script a m b status h f = good script a b 2 status (λ z. absurd (omega arith))
+    (λ z. absurd (omega arith)) h.0 h.1 (status_is (Err Usage) m.given b.given m.sink_faults b.sink_faults status f)
+script_at (Err (Param x y)) script a m b status h f = good script a b 3 status (λ z. absurd (omega arith))
+    (λ z. absurd (omega arith)) h.0 h.1 (status_is (Err (Param x y))
+    m.given b.given m.sink_faults b.sink_faults status f)
+script_at (Err (Layout x)) script a m b status h f = good script a b 3 status (λ z. absurd (omega arith))
+    (λ z. absurd (omega arith)) h.0 h.1 (status_is (Err (Layout x))
+    m.given b.given m.sink_faults b.sink_faults status f)
+script_at (Err (Refused x y)) script a m b status h f =
+    good script a b 10 status (λ z. absurd (omega arith)) (λ z. absurd (omega arith)) h.0 h.1
+    (status_is (Err (Refused x y)) m.given b.given m.sink_faults b.sink_faults status f)
 
 -- ---- commands
 
-run_answers : (plan : Plan) (a m b : Outside) (e : End) (status : ℕ) → NoScript m b → NoImage m b → RunEnds plan a m e → Finished e m.given b.given m.sink_faults b.sink_faults status → RunAnswers plan a b status
+run_answers : (plan : Plan) (a m b : Outside) (e : End) (status : ℕ) → NoScript m b → NoImage m b → RunEnds plan a m e
+    → Finished e m.given b.given m.sink_faults b.sink_faults status → RunAnswers plan a b status
 run_answers plan a m b e status script image h f =
     let s = status_is e m.given b.given m.sink_faults b.sink_faults status f in
     record {
       whole = record { told = λ bytes text t l. answers e _ a m b status image.holds (h.whole.told bytes text t l) f };
-      image = record { told = λ bytes t. let r = short_at e _ _ status (h.image.told bytes t) s in record { short = r.0; told = r.1 } };
+      image = record {
+        told = λ bytes t. let r = short_at e _ _ status (h.image.told bytes t) s in
+            record { short = r.0; told = r.1 };
+      };
       script = record { told = λ text l. script_at e text a m b status (h.script.told text l) f };
     }
 
-plan_answers : (c : Command) (plan : Plan) (a m b : Outside) (e : End) (status : ℕ) → NoScript m b → NoImage m b → PlanEnds c plan a m e → Finished e m.given b.given m.sink_faults b.sink_faults status → PlanAnswers c plan a b status
+plan_answers : (c : Command) (plan : Plan) (a m b : Outside) (e : End) (status : ℕ) → NoScript m b → NoImage m b
+    → PlanEnds c plan a m e → Finished e m.given b.given m.sink_faults b.sink_faults status
+    → PlanAnswers c plan a b status
 plan_answers RunScript plan a m b e status script image h f = run_answers plan a m b e status script image h f
 plan_answers ListRecords plan a m b e status script image h f =
-    record { whole = record { told = λ bytes t. answers e _ a m b status image.holds (h.whole.told bytes t) f }; script = script_on a m b h.script script; image = image.holds ∙ h.image }
+    record {
+      whole = record { told = λ bytes t. answers e _ a m b status image.holds (h.whole.told bytes t) f };
+      script = script_on a m b h.script script;
+      image = image.holds ∙ h.image;
+    }
 plan_answers (ExtractRecord name) plan a m b e status script image h f =
-    record { whole = record { told = λ bytes t. answers e _ a m b status image.holds (h.whole.told bytes t) f }; script = script_on a m b h.script script; image = image.holds ∙ h.image }
+    record {
+      whole = record { told = λ bytes t. answers e _ a m b status image.holds (h.whole.told bytes t) f };
+      script = script_on a m b h.script script;
+      image = image.holds ∙ h.image;
+    }
 plan_answers (EraseRecord name) plan a m b e status script image h f =
-    record { whole = record { told = λ bytes t. answers e _ a m b status image.holds (h.whole.told bytes t) f }; script = script_on a m b h.script script }
+    record {
+      whole = record { told = λ bytes t. answers e _ a m b status image.holds (h.whole.told bytes t) f };
+      script = script_on a m b h.script script;
+    }
 plan_answers ShowLayout plan a m b e status script image h f =
-    record { whole = answers e _ a m b status image.holds h.whole f; script = script_on a m b h.script script; image = image_on a m b h.image image }
+    record {
+      whole = answers e _ a m b status image.holds h.whole f;
+      script = script_on a m b h.script script;
+      image = image_on a m b h.image image;
+    }
 plan_answers BlankImage plan a m b e status script image h f =
     record { whole = answers e _ a m b status image.holds h.whole f; script = script_on a m b h.script script }
 plan_answers (MakeImage n) plan a m b e status script image h f =
     record { whole = answers e _ a m b status image.holds h.whole f; script = script_on a m b h.script script }
 
-fault_put : (s : Stop) (a m b : Outside) (status : ℕ) → NoScript a b → NoImage a b → m.given ≡ a.given → LastPut s m.given b.given m.sink_faults b.sink_faults status → status_of (Err s) ≢ 7 → FaultAnswers s a b status
+fault_put : (s : Stop) (a m b : Outside) (status : ℕ) → NoScript a b → NoImage a b → m.given ≡ a.given
+    → LastPut s m.given b.given m.sink_faults b.sink_faults status → status_of (Err s) ≢ 7 → FaultAnswers s a b status
 fault_put s a m b status script image given f seven = elim f.shown [
-  | inl k ↦ record { exact = inl k.0; shown = λ z. rw given at k.1; sink_fault = λ z. absurd (seven (sym k.0 ∙ z)); script = script; image = image }
-  | inr k ↦ record { exact = inr k.0; shown = λ z. absurd (z k.0); sink_fault = λ z. rw given at k.2; script = script; image = image }
+  | inl k ↦ record {
+    exact = inl k.0;
+    shown = λ z. rw given at k.1;
+    sink_fault = λ z. absurd (seven (sym k.0 ∙ z));
+    script = script;
+    image = image;
+  }
+  | inr k ↦ record {
+    exact = inr k.0;
+    shown = λ z. absurd (z k.0);
+    sink_fault = λ z. rw given at k.2;
+    script = script;
+    image = image;
+  }
 ]
 
 pub nothing_put : (given : Option (List ℕ)) → Appends given given []
 nothing_put None = tt
 nothing_put (Some xs) = grind (arith, common_steps)
 
-pub fault_answers : (s : Stop) (a m b : Outside) (status : ℕ) → NoScript a b → NoImage a b → m.given ≡ a.given → Finished (Err s) m.given b.given m.sink_faults b.sink_faults status → FaultAnswers s a b status
-fault_answers Memory a m b status script image given f = fault_put Memory a m b status script image given f (λ z. absurd (omega arith))
-fault_answers Usage a m b status script image given f = fault_put Usage a m b status script image given f (λ z. absurd (omega arith))
-fault_answers (Param x y) a m b status script image given f = fault_put (Param x y) a m b status script image given f (λ z. absurd (omega arith))
-fault_answers (Layout x) a m b status script image given f = fault_put (Layout x) a m b status script image given f (λ z. absurd (omega arith))
-fault_answers (Short x y) a m b status script image given f = fault_put (Short x y) a m b status script image given f (λ z. absurd (omega arith))
-fault_answers ScriptFault a m b status script image given f = fault_put ScriptFault a m b status script image given f (λ z. absurd (omega arith))
-fault_answers ImageFault a m b status script image given f = fault_put ImageFault a m b status script image given f (λ z. absurd (omega arith))
-fault_answers TooLong a m b status script image given f = fault_put TooLong a m b status script image given f (λ z. absurd (omega arith))
-fault_answers (BadLine x) a m b status script image given f = fault_put (BadLine x) a m b status script image given f (λ z. absurd (omega arith))
-fault_answers (Refused x y) a m b status script image given f = fault_put (Refused x y) a m b status script image given f (λ z. absurd (omega arith))
+pub fault_answers : (s : Stop) (a m b : Outside) (status : ℕ) → NoScript a b → NoImage a b → m.given ≡ a.given
+    → Finished (Err s) m.given b.given m.sink_faults b.sink_faults status → FaultAnswers s a b status
+fault_answers Memory a m b status script image given f =
+    fault_put Memory a m b status script image given f (λ z. absurd (omega arith))
+fault_answers Usage a m b status script image given f =
+    fault_put Usage a m b status script image given f (λ z. absurd (omega arith))
+fault_answers (Param x y) a m b status script image given f =
+    fault_put (Param x y) a m b status script image given f (λ z. absurd (omega arith))
+fault_answers (Layout x) a m b status script image given f =
+    fault_put (Layout x) a m b status script image given f (λ z. absurd (omega arith))
+fault_answers (Short x y) a m b status script image given f =
+    fault_put (Short x y) a m b status script image given f (λ z. absurd (omega arith))
+fault_answers ScriptFault a m b status script image given f =
+    fault_put ScriptFault a m b status script image given f (λ z. absurd (omega arith))
+fault_answers ImageFault a m b status script image given f =
+    fault_put ImageFault a m b status script image given f (λ z. absurd (omega arith))
+fault_answers TooLong a m b status script image given f =
+    fault_put TooLong a m b status script image given f (λ z. absurd (omega arith))
+fault_answers (BadLine x) a m b status script image given f =
+    fault_put (BadLine x) a m b status script image given f (λ z. absurd (omega arith))
+fault_answers (Refused x y) a m b status script image given f =
+    fault_put (Refused x y) a m b status script image given f (λ z. absurd (omega arith))
 fault_answers SinkFault a m b status script image given f =
     let same : b.given ≡ a.given = f.same ∙ given in
-    record { exact = inr f.answer; shown = λ z. absurd (z f.answer); sink_fault = λ z. record { count = 0; within = omega arith; bytes = rw same (nothing_put a.given) }; script = script; image = image }
+    record {
+      exact = inr f.answer;
+      shown = λ z. absurd (z f.answer);
+      sink_fault = λ z. record { count = 0; within = omega arith; bytes = rw same (nothing_put a.given) };
+      script =
+          script;
+      image = image;
+    }
 
-pub tool_answers : (r : Result Plan Stop) (a m b : Outside) (e : End) (status : ℕ) → NoScript m b → NoImage m b → WorkEnds r a m e → Finished e m.given b.given m.sink_faults b.sink_faults status → ToolAnswers r a b status
+pub tool_answers : (r : Result Plan Stop) (a m b : Outside) (e : End) (status : ℕ) → NoScript m b → NoImage m b
+    → WorkEnds r a m e → Finished e m.given b.given m.sink_faults b.sink_faults status → ToolAnswers r a b status
 tool_answers (Ok p) a m b e status script image h f = plan_answers p.command p a m b e status script image h f
 tool_answers (Err s) a m b e status script image h f =
-    fault_answers s a m b status (script_on a m b h.1.script script) (image_on a m b h.1.image image) h.1.given (rw h.0 at f)
+    fault_answers s a m b status (script_on a m b h.1.script script) (image_on a m b h.1.image image) h.1.given
+    (rw h.0 at f)
 
 -- ---- work that nothing has come of
 
@@ -214,10 +286,28 @@ memory_ends RunScript plan a b h = record {
   image = record { told = λ bytes t. tt };
   script = record { told = λ script l. tt };
 }
-memory_ends ListRecords plan a b h = record { whole = record { told = λ bytes t. out_of_memory (wanted plan bytes []) a b h }; script = h.script; image = h.image.holds }
-memory_ends (ExtractRecord name) plan a b h = record { whole = record { told = λ bytes t. out_of_memory (wanted plan bytes []) a b h }; script = h.script; image = h.image.holds }
-memory_ends (EraseRecord name) plan a b h = record { whole = record { told = λ bytes t. out_of_memory (wanted plan bytes []) a b h }; script = h.script }
-memory_ends ShowLayout plan a b h = record { whole = out_of_memory (wanted plan [] []) a b h; script = h.script; image = h.image }
+memory_ends ListRecords plan a b h = record {
+  whole = record
+      { told = λ bytes t. out_of_memory (wanted plan bytes []) a b h };
+  script = h.script;
+  image = h.image.holds;
+}
+memory_ends (ExtractRecord name) plan a b h = record {
+  whole = record
+      { told = λ bytes t. out_of_memory (wanted plan bytes []) a b h };
+  script = h.script;
+  image = h.image.holds;
+}
+memory_ends (EraseRecord name) plan a b h = record {
+  whole = record
+      { told = λ bytes t. out_of_memory (wanted plan bytes []) a b h };
+  script = h.script;
+}
+memory_ends ShowLayout plan a b h = record {
+  whole = out_of_memory (wanted plan [] []) a b h;
+  script = h.script;
+  image = h.image;
+}
 memory_ends BlankImage plan a b h = record { whole = out_of_memory (wanted plan [] []) a b h; script = h.script }
 memory_ends (MakeImage n) plan a b h = record { whole = out_of_memory (wanted plan [] []) a b h; script = h.script }
 
@@ -228,7 +318,8 @@ same_stop : (f s : Stop) → (let r : Result Plan Stop = Err f in r) ≡ Err s �
 same_stop f s e = let same : s ≡ f = cc in ap (λ x. Err x) same
 
 -- words of which no plan was read
-pub plan_stopped : (r : Result Plan Stop) (s : Stop) (a b : Outside) → PlanStop s r → Nothing a b → WorkEnds r a b (Err s)
+pub plan_stopped : (r : Result Plan Stop) (s : Stop) (a b : Outside) → PlanStop s r → Nothing a b
+    → WorkEnds r a b (Err s)
 plan_stopped (Ok plan) Memory a b h n = memory_ends plan.command plan a b n
 plan_stopped (Ok plan) Usage a b h n = absurd (clash h)
 plan_stopped (Ok plan) (Param x y) a b h n = absurd (clash h)

@@ -22,11 +22,13 @@ pub record PutSome (texts : List Text) (old new : Option (List ℕ)) : Type 0 wh
 
 -- the output and the image after the work of a command that wants this
 abbrev pub EndedAt : Wanted → Option (List ℕ) → Option (List ℕ) → Option (List ℕ) → Option (List ℕ) → End → Type 0
-EndedAt w given given' holds holds' (Ok u) = (w.end ≡ Ok tt) × Appends given given' (whole w.texts) × WritesAll w.writes holds holds'
+EndedAt w given given' holds holds' (Ok u) = (w.end ≡ Ok tt) × Appends given given' (whole w.texts)
+    × WritesAll w.writes holds holds'
 EndedAt w given given' holds holds' (Err Memory) = PutTexts w.texts given given' × (holds' ≡ holds)
 EndedAt w given given' holds holds' (Err ScriptFault) = (given' ≡ given) × (holds' ≡ holds)
 EndedAt w given given' holds holds' (Err ImageFault) =
-    ((given' ≡ given) × (holds' ≡ holds)) ⊎ ((w.end ≡ Ok tt) × Appends given given' (whole w.texts) × WritesSome w.writes holds holds')
+    ((given' ≡ given) × (holds' ≡ holds)) ⊎ ((w.end ≡ Ok tt) × Appends given given' (whole w.texts)
+    × WritesSome w.writes holds holds')
 EndedAt w given given' holds holds' (Err SinkFault) = PutSome w.texts given given' × (holds' ≡ holds)
 EndedAt w given given' holds holds' (Err s) = (w.end ≡ Err s) × Appends given given' (whole w.texts) × (holds' ≡ holds)
 
@@ -64,7 +66,8 @@ ScriptAt script given given' (Err ScriptFault) = ⊤
 ScriptAt script given given' (Err ImageFault) = ⊤
 ScriptAt script given given' (Err SinkFault) = ⊤
 ScriptAt script given given' (Err TooLong) = (script_limit < length script) × (given' ≡ given)
-ScriptAt script given given' (Err (BadLine n)) = (length script ≤ script_limit) × (script_of script ≡ Err n) × (given' ≡ given)
+ScriptAt script given given' (Err (BadLine n)) = (length script ≤ script_limit) × (script_of script ≡ Err n)
+    × (given' ≡ given)
 ScriptAt script given given' e = (length script ≤ script_limit) × IsOk (script_of script)
 
 -- how each command's work ends, as far as the outside tells what it uses

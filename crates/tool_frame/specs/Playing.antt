@@ -13,20 +13,24 @@ use Rattle.tool_spec.specs.declared.Stop.{Stop}
 use Rattle.tool_spec.specs.declared.Stop.TheVariants.{Memory, SinkFault, Refused}
 
 -- a script whose lines were all done
-pub record Played (layout : List Zone) (image : List ℕ) (lines : List Line) (session : Session) (old new : Option (List ℕ)) : Type 0 where
+pub record Played (layout : List Zone) (image : List ℕ) (lines : List Line) (session : Session)
+    (old new : Option (List ℕ)) : Type 0 where
   pub state : (ran layout image lines).session ≡ session
   pub none : (ran layout image lines).refused ≡ None
   pub texts : Appends old new (whole (ran layout image lines).texts)
 
 -- the first i lines of a script were done
-pub record PlayedTo (layout : List Zone) (image : List ℕ) (lines : List Line) (i : ℕ) (session : Session) (old new : Option (List ℕ)) : Type 0 where
+pub record PlayedTo (layout : List Zone) (image : List ℕ) (lines : List Line) (i : ℕ) (session : Session)
+    (old new : Option (List ℕ)) : Type 0 where
   pub count : length (ran layout image (take i lines)).texts ≡ i
   pub so_far : Played layout image (take i lines) session old new
 
 -- why the lines of a script stop: the texts of the lines before were put, or some front of them and the next
 abbrev pub PlayStop : Stop → List Zone → List ℕ → List Line → Option (List ℕ) → Option (List ℕ) → ℕ → ℕ → Type 0
 PlayStop Memory layout image lines old new before now = PutTexts (ran layout image lines).texts old new
-PlayStop SinkFault layout image lines old new before now = Rose before now × PutSome (ran layout image lines).texts old new
+PlayStop SinkFault layout image lines old new before now =
+    Rose before now × PutSome (ran layout image lines).texts old new
 PlayStop (Refused n cause) layout image lines old new before now =
-    (script_end (length (ran layout image lines).texts) (ran layout image lines).refused ≡ Err (Refused n cause)) × Appends old new (whole (ran layout image lines).texts)
+    (script_end (length (ran layout image lines).texts) (ran layout image lines).refused ≡ Err (Refused n cause))
+    × Appends old new (whole (ran layout image lines).texts)
 PlayStop s layout image lines old new before now = ⊥

@@ -82,7 +82,8 @@ pub fn check_size<M: Store>(image: &mut M, mem: u32) -> Result<(), Stop>
 /// Reads an image of `mem` bytes from the front of a store.
 #[tactic(auto, using(crate::proofs::Sizes::size_load))]
 pub fn load<M: Store>(alloc: Global, image: &mut M, mem: u32) -> Result<Vec<u8>, Stop>
-    ensures ok { IfOk result (λ v. (vec_len v ≡ mem) × IfSome (M.holds image.old) (λ bs. (mem ≤ length bs) × (v.items ≡ take mem bs))) }
+    ensures ok { IfOk result (λ v. (vec_len v ≡ mem) × IfSome (M.holds image.old)
+        (λ bs. (mem ≤ length bs) × (v.items ≡ take mem bs))) }
     ensures err { IfErr result (λ s. LoadStop s mem (M.holds image.old) (M.faults image.old) (M.faults image.new)) }
     ensures same { M.holds image.new ≡ M.holds image.old }
     ensures later { M.faults image.old ≤ M.faults image.new }
@@ -115,7 +116,8 @@ pub fn save<M: Store>(image: &mut M, bytes: &[u8]) -> Result<(), Failed>
 #[tactic(auto, using(crate::proofs::Few::few))]
 pub fn lines(alloc: Global, script: &[u8]) -> Result<Lines, Stop>
     requires { length script.now < 2 ^ 32 }
-    ensures read { MatchResult result (λ lines. script_of script.now ≡ Ok lines) (λ stop. ParseStop stop (script_of script.now)) }
+    ensures read { MatchResult result (λ lines. script_of script.now ≡ Ok lines)
+        (λ stop. ParseStop stop (script_of script.now)) }
     ensures fields { IfOk result AllHaveFields }
     ensures few { IfOk result (λ lines. length lines ≤ length script.now + 1) }
 {

@@ -41,7 +41,11 @@ pub struct Plan<'a> {
 
 // A command that only parameters follow.
 fn plain<'a>(command: Command<'a>, params: &'a [String]) -> Asked<'a>
-    ensures { asked_seen result ≡ record { command = command_seen command.entry; before = 2; params = texts params.now } }
+    ensures { asked_seen result ≡ record {
+      command = command_seen command.entry;
+      before = 2;
+      params = texts params.now;
+    } }
 {
     Asked {
         command,
@@ -61,7 +65,8 @@ fn split_name(words: &[String]) -> Option<(&str, &[String])>
 }
 
 fn extract(words: &[String]) -> Option<Asked<'_>>
-    ensures { MatchOption result (with_name ExtractRecord (texts words.now) ≡ None) (λ a. with_name ExtractRecord (texts words.now) ≡ Some (asked_seen a)) }
+    ensures { MatchOption result (with_name ExtractRecord (texts words.now) ≡ None)
+        (λ a. with_name ExtractRecord (texts words.now) ≡ Some (asked_seen a)) }
 {
     let (name, params) = split_name(words)?;
     Some(Asked {
@@ -72,7 +77,8 @@ fn extract(words: &[String]) -> Option<Asked<'_>>
 }
 
 fn erase(words: &[String]) -> Option<Asked<'_>>
-    ensures { MatchOption result (with_name EraseRecord (texts words.now) ≡ None) (λ a. with_name EraseRecord (texts words.now) ≡ Some (asked_seen a)) }
+    ensures { MatchOption result (with_name EraseRecord (texts words.now) ≡ None)
+        (λ a. with_name EraseRecord (texts words.now) ≡ Some (asked_seen a)) }
 {
     let (name, params) = split_name(words)?;
     Some(Asked {
@@ -83,7 +89,8 @@ fn erase(words: &[String]) -> Option<Asked<'_>>
 }
 
 fn make(words: &[String]) -> Option<Asked<'_>>
-    ensures { MatchOption result (with_number (texts words.now) ≡ None) (λ a. with_number (texts words.now) ≡ Some (asked_seen a)) }
+    ensures { MatchOption result (with_number (texts words.now) ≡ None)
+        (λ a. with_number (texts words.now) ≡ Some (asked_seen a)) }
 {
     let (number, params) = split_name(words)?;
     let number = box_script::number(number.as_bytes())?;
@@ -96,7 +103,8 @@ fn make(words: &[String]) -> Option<Asked<'_>>
 
 // The command that a word names, with the words behind it.
 fn asked_by<'a>(word: &str, words: &'a [String]) -> Option<Asked<'a>>
-    ensures { MatchOption result (asked_by word.now (texts words.now) ≡ None) (λ a. asked_by word.now (texts words.now) ≡ Some (asked_seen a)) }
+    ensures { MatchOption result (asked_by word.now (texts words.now) ≡ None)
+        (λ a. asked_by word.now (texts words.now) ≡ Some (asked_seen a)) }
 {
     match word {
         "run" => Some(plain(Command::Run, words)),
@@ -122,7 +130,8 @@ fn read_command(words: &[String]) -> Option<Asked<'_>>
 /// What the words ask for: a command and the layout of its parameters. Want of memory comes only where they have no
 /// fault.
 pub fn read_plan(alloc: Global, words: &[String]) -> Result<Plan<'_>, Stop>
-    ensures plan { MatchResult result (λ plan. plan_of (texts words.now) ≡ Ok (plan_seen plan)) (λ stop. PlanStop stop (plan_of (texts words.now))) }
+    ensures plan { MatchResult result (λ plan. plan_of (texts words.now) ≡ Ok (plan_seen plan))
+        (λ stop. PlanStop stop (plan_of (texts words.now))) }
     ensures stops { IfErr result IsNoFault }
 {
     let Some(asked) = read_command(words) else {

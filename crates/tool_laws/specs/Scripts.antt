@@ -11,10 +11,12 @@ use Rattle.tool_spec.specs.Headline.{ScriptReadsLastWritten}
 
 -- every state of a script is sound
 abbrev pub ScriptStatesAreSound : Type 0
-ScriptStatesAreSound = (layout : List Zone) (mem : ℕ) (image : List ℕ) (lines : List Line) → IsLayout layout mem → length image ≡ mem → AreBytes image → AllHaveFields lines
+ScriptStatesAreSound = (layout : List Zone) (mem : ℕ) (image : List ℕ) (lines : List Line) → IsLayout layout mem
+    → length image ≡ mem → AreBytes image → AllHaveFields lines
     → (k : ℕ) → IsState layout mem (ran layout image (take k lines)).session
 
 -- and the headline holds at each of its boots
 abbrev pub ScriptsReadLastWritten : Type 0
-ScriptsReadLastWritten = (layout : List Zone) (mem : ℕ) (image : List ℕ) (lines : List Line) → IsLayout layout mem → length image ≡ mem → AreBytes image → AllHaveFields lines
+ScriptsReadLastWritten = (layout : List Zone) (mem : ℕ) (image : List ℕ) (lines : List Line) → IsLayout layout mem
+    → length image ≡ mem → AreBytes image → AllHaveFields lines
     → ScriptReadsLastWritten layout image lines

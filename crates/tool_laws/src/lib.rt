@@ -9,7 +9,8 @@ pub fn script_states_are_sound()
     ensures { ScriptStatesAreSound }
 {}
 
-/// At each boot of a script each idle zone within bounds reads the last bytes written since its erasure that fit, and in a
+/// At each boot of a script each idle zone within bounds reads the last bytes written since its erasure that fit, and
+/// in a
 /// zone whose call a stop cut only touched blocks and the header, both reported, make a difference.
 pub fn scripts_read_last_written()
     ensures { ScriptsReadLastWritten }

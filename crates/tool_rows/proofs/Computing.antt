@@ -20,10 +20,14 @@ use Rattle.blk_spec.specs.Session.{cause_of, session_after}
 use Rattle.tool_spec.specs.BlkScripts.{operation_of, blk_line_done}
 
 unfoldable pub computing_tool : ℕ
-unfolding computing_all decode_pairs number_of first_fault value_text given number_below zone_at ring zone payload flag reason name ring_hex time_flag_hex one_zone one_number one_name step_line flip_line kdump_line begin_row begin_line plain_row row lone_word line_of lines_from script_of line_done draw draws
+unfolding computing_all decode_pairs number_of first_fault value_text given number_below zone_at ring zone payload
+    flag reason name ring_hex time_flag_hex one_zone one_number one_name step_line flip_line kdump_line begin_row
+    begin_line plain_row row lone_word line_of lines_from script_of line_done draw draws
 computing_tool = 0
 
 -- these too: for the block store
 unfoldable pub computing_blk : ℕ
-unfolding computing_tool after_writes bytes_in first_bytes kept_writes append_writes words_after dump_writes saved_ring listed_dump dumps_listed greatest_counter dump_content load_writes names_of content_of time_of cause_of session_after operation_of blk_line_done
+unfolding computing_tool after_writes bytes_in first_bytes kept_writes append_writes words_after dump_writes
+    saved_ring listed_dump dumps_listed greatest_counter dump_content load_writes names_of content_of time_of cause_of
+    session_after operation_of blk_line_done
 computing_blk = 0

@@ -10,13 +10,15 @@ FirstDraws = (draws 3 1000 0).0 ≡ 563 ∷ 577 ∷ 494 ∷ []
 -- `abc` written, read by the next boot, listed and extracted
 abbrev pub FirstConsoleRecord : Type 0
 FirstConsoleRecord =
-    told (codes "image run " ++ lone) (replicate 4096 0) (codes "boot\nwrite console 616263\nstop\nboot\nlist\nextract console-ramoops-0\n")
+    told (codes "image run " ++ lone) (replicate 4096 0)
+    (codes "boot\nwrite console 616263\nstop\nboot\nlist\nextract console-ramoops-0\n")
     ≡ (codes "boot console unsigned start 0 size 0 corrected 0 bad 0 nothing told\nboot console found start 3 size 3 corrected 0 bad 0 as told\nrecords 1\nconsole-ramoops-0 3\nconsole-ramoops-0 3\nabc\n", 0)
 
 -- a second write, stopped after its first store
 abbrev pub CutAfterSizeWord : Type 0
 CutAfterSizeWord =
-    told (codes "image run " ++ lone) (replicate 4096 0) (codes "boot\nwrite console 616263\nbegin write console 646566\nstep console 1\nstop\nboot\nlist\n")
+    told (codes "image run " ++ lone) (replicate 4096 0)
+    (codes "boot\nwrite console 616263\nbegin write console 646566\nstep console 1\nstop\nboot\nlist\n")
     ≡ (codes "boot console unsigned start 0 size 0 corrected 0 bad 0 nothing told\nboot console found start 3 size 6 corrected 0 bad 0 differs told 3 read 6 first 0\ncut console write 1 of 5 header pair 1 blocks 0\nrecords 1\nconsole-ramoops-0 6\n", 0)
 
 -- a boot that is stopped within its erasure, and after all its stores
@@ -30,7 +32,8 @@ StoppedBoots =
 -- two dumps, of which one is erased
 abbrev pub DumpsWithKeptZone : Type 0
 DumpsWithKeptZone =
-    told (codes "image run mem_size=1024 record_size=256 console_size=256 ftrace_size=0 pmsg_size=256") (replicate 1024 0)
+    told (codes "image run mem_size=1024 record_size=256 console_size=256 ftrace_size=0 pmsg_size=256")
+    (replicate 1024 0)
     (codes "boot\ndump 1700000000 123 D 6f6e65\ndump 1700000001 0 D 74776f\nstop\nboot\nerase dmesg-ramoops-0\nlist\n")
     ≡ (codes "boot dump-0 unsigned start 0 size 0 corrected 0 bad 0 nothing told\nboot dump-1 unsigned start 0 size 0 corrected 0 bad 0 nothing told\nboot console unsigned start 0 size 0 corrected 0 bad 0 nothing told\nboot pmsg unsigned start 0 size 0 corrected 0 bad 0 nothing told\nboot dump-0 found start 27 size 27 corrected 0 bad 0 as told\nboot dump-1 found start 27 size 27 corrected 0 bad 0 as told\nboot console empty start 0 size 0 corrected 0 bad 0 as told\nboot pmsg empty start 0 size 0 corrected 0 bad 0 as told\nrecords 1\ndmesg-ramoops-1 3 1700000001.000000\n", 0)
 
@@ -66,11 +69,14 @@ WorkedRefusals =
 abbrev pub WorkedFaults : Type 0
 WorkedFaults =
     (told (codes "image run mem_size=16777217") [] [] ≡ (codes "layout fault 3\n", 3))
-    × (told (codes "image run mem_size=256 record_size=0 console_size=256 ftrace_size=0 pmsg_size=0 ecc=127") [] [] ≡ (codes "layout fault 7\n", 3))
-    × (told (codes "image layout mem_size=16384 ftrace_size=0 ecc=1 block_size=100") [] [] ≡ (codes "layout fault 11\n", 3))
+    × (told (codes "image run mem_size=256 record_size=0 console_size=256 ftrace_size=0 pmsg_size=0 ecc=127") [] []
+    ≡ (codes "layout fault 7\n", 3))
+    × (told (codes "image layout mem_size=16384 ftrace_size=0 ecc=1 block_size=100") [] []
+    ≡ (codes "layout fault 11\n", 3))
     × (told (codes "x run mem_size=4096 mem_size=1") [] [] ≡ (codes "parameter fault 2 at word 4\n", 3))
     × (told (codes "x extract run mem_size=4096 mem_size=1") [] [] ≡ (codes "parameter fault 2 at word 5\n", 3))
-    × (told (codes "x run mem_size=16384 ftrace_size=0") (replicate 16383 0) [] ≡ (codes "image has 16383 bytes, 16384 needed\n", 4))
+    × (told (codes "x run mem_size=16384 ftrace_size=0") (replicate 16383 0) []
+    ≡ (codes "image has 16383 bytes, 16384 needed\n", 4))
     × (told (codes "x") [] [] ≡ (codes "usage: oopsbox IMAGE COMMAND key=value ..\n", 2))
     × (told (codes "x walk") [] [] ≡ (codes "usage: oopsbox IMAGE COMMAND key=value ..\n", 2))
     × (told (codes "x extract") [] [] ≡ (codes "usage: oopsbox IMAGE COMMAND key=value ..\n", 2))
@@ -94,13 +100,15 @@ CommandsWithoutScript =
 -- a console record and a dump on the block store, read by the next loading, listed and extracted
 abbrev pub FirstBlockSession : Type 0
 FirstBlockSession =
-    blk_told (replicate 16384 0) (codes "boot\nwrite console 616263\nkdump 5 6000 D Panic 78\nboot\nlist\nextract dmesg-pstore_blk-0\n")
+    blk_told (replicate 16384 0)
+    (codes "boot\nwrite console 616263\nkdump 5 6000 D Panic 78\nboot\nlist\nextract dmesg-pstore_blk-0\n")
     ≡ (codes "records 2\ndmesg-pstore_blk-0 22 5.000006000\nconsole-pstore_blk-0 3\ndmesg-pstore_blk-0 22\nPanic: Total 1 times\nx\n", 0)
 
 -- a write that is cut within its data, and the next loading
 abbrev pub CutBlockWrite : Type 0
 CutBlockWrite =
-    blk_told (replicate 16384 0) (codes "boot\nwrite console 616263\ncut 5\nwrite console 6465666768\nboot\nextract console-pstore_blk-0\n")
+    blk_told (replicate 16384 0)
+    (codes "boot\nwrite console 616263\ncut 5\nwrite console 6465666768\nboot\nextract console-pstore_blk-0\n")
     ≡ (codes "console-pstore_blk-0 3\nabc\n", 0)
 
 -- lines that the block store refuses
@@ -109,4 +117,5 @@ BlockRefusals =
     (blk_told (replicate 16384 0) (codes "write console 61\n") ≡ (codes "line 1 refused: is off\n", 10))
     × (blk_told (replicate 16384 0) (codes "stop\n") ≡ (codes "line 1 refused: not here\n", 10))
     × (blk_told (replicate 16384 0) (codes "boot\nwrite ftrace-0 61\n") ≡ (codes "line 2 refused: no zone\n", 10))
-    × (blk_told (replicate 16384 0) (codes "boot\nextract console-pstore_blk-0\n") ≡ (codes "line 2 refused: no record\n", 10))
+    × (blk_told (replicate 16384 0) (codes "boot\nextract console-pstore_blk-0\n")
+    ≡ (codes "line 2 refused: no record\n", 10))

@@ -22,7 +22,14 @@ pub record Outside : Type 0 where
   pub sink_faults : ℕ
 
 abbrev pub outside : Option (List ℕ) → ℕ → Option (List ℕ) → ℕ → Option (List ℕ) → ℕ → Outside
-outside left f holds g given h = record { left = left; source_faults = f; holds = holds; store_faults = g; given = given; sink_faults = h }
+outside left f holds g given h = record {
+  left = left;
+  source_faults = f;
+  holds = holds;
+  store_faults = g;
+  given = given;
+  sink_faults = h;
+}
 
 -- P of the bytes of the image, where they are told
 pub record IfHolds (a : Outside) (P : List ℕ → Type 0) : Type 0 where
@@ -109,12 +116,14 @@ pub record Answers (w : Wanted) (a b : Outside) (status : ℕ) : Type 0 where
   -- all was done: the whole text was put, and what is to be written was
   pub done : status ≡ 0 → (w.end ≡ Ok tt) × Appends a.given b.given (whole w.texts) × WritesAll w.writes a.holds b.holds
   -- a refusal: the texts before it, and the last line
-  pub refused : (s : Stop) → w.end ≡ Err s → (IsFree status → ⊥) → Appends a.given b.given (whole w.texts ++ last_line s)
+  pub refused : (s : Stop) → w.end ≡ Err s → (IsFree status → ⊥)
+      → Appends a.given b.given (whole w.texts ++ last_line s)
   -- want of memory and faults: some first texts, and the last line
   pub memory : status ≡ 1 → PutThen w.texts a.given b.given (last_line Memory)
   pub script_fault : status ≡ 5 → Appends a.given b.given (last_line ScriptFault)
   pub image_fault : status ≡ 6 → (Appends a.given b.given (last_line ImageFault) × (b.holds ≡ a.holds))
-      ⊎ ((w.end ≡ Ok tt) × Appends a.given b.given (whole w.texts ++ last_line ImageFault) × WritesSome w.writes a.holds b.holds)
+      ⊎ ((w.end ≡ Ok tt) × Appends a.given b.given (whole w.texts ++ last_line ImageFault)
+      × WritesSome w.writes a.holds b.holds)
   pub sink_fault : status ≡ 7 → PutFront w.texts w.end a.given b.given
   -- the image is untouched, but for a fault in writing it, which also a fault of the last line can follow
   pub kept : status ≢ 0 → status ≢ 6 → status ≢ 7 → b.holds ≡ a.holds
@@ -139,7 +148,8 @@ pub record ScriptAnswers (script : List ℕ) (a b : Outside) (status : ℕ) : Ty
   pub long : status ≡ 8 → (script_limit < length script) × Appends a.given b.given (last_line TooLong)
   pub bad : status ≡ 9 → (n : ℕ) × (script_of script ≡ Err n) × Appends a.given b.given (last_line (BadLine n))
   pub told_long : script_limit < length script → (status ≡ 8) ⊎ (status ≡ 4) ⊎ IsFree status
-  pub told_bad : (n : ℕ) → script_of script ≡ Err n → length script ≤ script_limit → (status ≡ 9) ⊎ (status ≡ 4) ⊎ IsFree status
+  pub told_bad : (n : ℕ) → script_of script ≡ Err n → length script ≤ script_limit
+      → (status ≡ 9) ⊎ (status ≡ 4) ⊎ IsFree status
 
 -- a command reads a script, and what it wants stands on both the image and the script; what may be said
 -- where one of them is not told is said besides

@@ -20,7 +20,8 @@ abbrev pub blk_end : BlkRan → End
 blk_end ran = script_end (length ran.texts) ran.refused
 
 -- some first lines were done: this is their text, and the store holds what they leave
-pub record StopsBehind (layout : BlkLayout) (bytes : List ℕ) (lines : List Line) (text : Text) (now : Option (List ℕ)) : Type 0 where
+pub record StopsBehind (layout : BlkLayout) (bytes : List ℕ) (lines : List Line) (text : Text)
+    (now : Option (List ℕ)) : Type 0 where
   pub count : ℕ
   pub texts : text ≡ front (blk_ran layout bytes lines).texts count
   pub holds : now ≡ Some (blk_ran layout bytes (take count lines)).session.store
@@ -31,7 +32,8 @@ pub record StopsBefore (bytes : List ℕ) (text : Text) (now : Option (List ℕ)
   pub holds : now ≡ Some bytes
 
 -- some first lines were done, and of the next, which is not refused, the store has some first bytes of what it writes
-pub record StopsWriting (layout : BlkLayout) (bytes : List ℕ) (lines : List Line) (text : Text) (now : Option (List ℕ)) : Type 0 where
+pub record StopsWriting (layout : BlkLayout) (bytes : List ℕ) (lines : List Line) (text : Text)
+    (now : Option (List ℕ)) : Type 0 where
   pub count : ℕ
   pub line : Line
   pub next : slice_get lines count ≡ Some line
@@ -39,10 +41,13 @@ pub record StopsWriting (layout : BlkLayout) (bytes : List ℕ) (lines : List Li
   pub texts : text ≡ front (blk_ran layout bytes lines).texts count
   pub kept : ℕ
   pub within : kept ≤ bytes_in (line_writes layout (blk_ran layout bytes (take count lines)).session.blk line)
-  pub holds : now ≡ Some (after_writes (first_bytes kept (line_writes layout (blk_ran layout bytes (take count lines)).session.blk line)) (blk_ran layout bytes (take count lines)).session.store)
+  pub holds : now ≡ Some (after_writes (first_bytes kept
+      (line_writes layout (blk_ran layout bytes (take count lines)).session.blk line))
+      (blk_ran layout bytes (take count lines)).session.store)
 
 -- some first lines were done, and the next too, of whose text only a part is here
-pub record StopsPutting (layout : BlkLayout) (bytes : List ℕ) (lines : List Line) (text : Text) (now : Option (List ℕ)) : Type 0 where
+pub record StopsPutting (layout : BlkLayout) (bytes : List ℕ) (lines : List Line) (text : Text)
+    (now : Option (List ℕ)) : Type 0 where
   pub count : ℕ
   pub next : Text
   pub last : slice_get (blk_ran layout bytes lines).texts count ≡ Some next
@@ -51,7 +56,8 @@ pub record StopsPutting (layout : BlkLayout) (bytes : List ℕ) (lines : List Li
   pub holds : now ≡ Some (blk_ran layout bytes (take (count + 1) lines)).session.store
 
 -- all lines before a refused one were done
-pub record StopsRefused (layout : BlkLayout) (bytes : List ℕ) (lines : List Line) (stop : Stop) (text : Text) (now : Option (List ℕ)) : Type 0 where
+pub record StopsRefused (layout : BlkLayout) (bytes : List ℕ) (lines : List Line) (stop : Stop) (text : Text)
+    (now : Option (List ℕ)) : Type 0 where
   pub end : blk_end (blk_ran layout bytes lines) ≡ Err stop
   pub texts : text ≡ whole (blk_ran layout bytes lines).texts
   pub holds : now ≡ Some (blk_ran layout bytes lines).session.store
@@ -74,12 +80,14 @@ pub record AllDone (layout : BlkLayout) (bytes : List ℕ) (lines : List Line) (
   pub holds : b.holds ≡ Some (blk_ran layout bytes lines).session.store
 
 -- lines stopped for this cause, and then the last line was put
-pub record StoppedFor (stop : Stop) (layout : BlkLayout) (bytes : List ℕ) (lines : List Line) (a b : Outside) : Type 0 where
+pub record StoppedFor (stop : Stop) (layout : BlkLayout) (bytes : List ℕ) (lines : List Line)
+    (a b : Outside) : Type 0 where
   pub text : Text
   pub stops : LinesStop stop layout bytes lines text b.holds
   pub put : Appends a.given b.given (text ++ last_line stop)
 
--- lines stopped for some cause, and only a part of the last line was put; where the text of a line was put in part there
+-- lines stopped for some cause, and only a part of the last line was put; where the text of a line was put in part
+-- there
 -- is no last line
 pub record StoppedUnput (layout : BlkLayout) (bytes : List ℕ) (lines : List Line) (a b : Outside) : Type 0 where
   pub stop : Stop
@@ -89,11 +97,13 @@ pub record StoppedUnput (layout : BlkLayout) (bytes : List ℕ) (lines : List Li
   pub put : Appends a.given b.given (text ++ take part (last_line stop))
 
 -- good lines on a store with room
-pub record LinesAnswers (layout : BlkLayout) (bytes : List ℕ) (lines : List Line) (a b : Outside) (status : ℕ) : Type 0 where
+pub record LinesAnswers (layout : BlkLayout) (bytes : List ℕ) (lines : List Line) (a b : Outside)
+    (status : ℕ) : Type 0 where
   -- the status that is wanted, but for want of memory and faults
   pub exact : (status ≡ status_of (blk_end (blk_ran layout bytes lines))) ⊎ IsFree status
   pub done : status ≡ 0 → AllDone layout bytes lines a b
-  pub refused : status ≡ 10 → (stop : Stop) → blk_end (blk_ran layout bytes lines) ≡ Err stop → StoppedFor stop layout bytes lines a b
+  pub refused : status ≡ 10 → (stop : Stop) → blk_end (blk_ran layout bytes lines) ≡ Err stop
+      → StoppedFor stop layout bytes lines a b
   pub memory : status ≡ 1 → StoppedFor Memory layout bytes lines a b
   pub script_fault : status ≡ 5 → StoppedFor ScriptFault layout bytes lines a b
   pub image_fault : status ≡ 6 → StoppedFor ImageFault layout bytes lines a b

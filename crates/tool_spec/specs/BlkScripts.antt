@@ -83,7 +83,8 @@ blk_named (Some b) text = find (λ name. bytes_eq (name_text name) text) (names_
 -- None where a line is blank, or is one of the other store alone
 unfoldable pub operation_of : Option BlkState → Line → Option Operation
 operation_of blk (Write zone bytes) = Some (append_to (ring_for zone.kind) bytes)
-operation_of blk (KDump secs nanos packed reason bytes) = Some (DumpNow (record { secs = secs; nanos = nanos }) packed (reason_of reason) bytes)
+operation_of blk (KDump secs nanos packed reason bytes) =
+    Some (DumpNow (record { secs = secs; nanos = nanos }) packed (reason_of reason) bytes)
 operation_of blk (CutAfter limit) = Some (CutNow limit)
 operation_of blk Boot = Some Load
 operation_of blk ListLine = Some ListAll
@@ -121,7 +122,10 @@ done_unless (Some cause) done = Err (told_cause cause)
 -- an operation as a line does it
 abbrev pub performs : BlkLayout → Session → Operation → Result BlkDone Cause
 performs layout session operation =
-    done_unless (cause_of session.blk operation) (record { session = session_after layout session operation; text = put_by session.blk operation })
+    done_unless (cause_of session.blk operation) (record {
+      session = session_after layout session operation;
+      text = put_by session.blk operation;
+    })
 
 abbrev pub performs_if : BlkLayout → Session → Option Operation → Result BlkDone Cause
 performs_if layout session None = Err NotHere

@@ -133,7 +133,11 @@ script_end done None = Ok tt
 script_end done (Some cause) = Err (Refused (done + 1) cause)
 
 abbrev pub wanted_lines : Ran → Wanted
-wanted_lines r = record { texts = r.texts; end = script_end (length r.texts) r.refused; writes = Some (session_image r.session) }
+wanted_lines r = record {
+  texts = r.texts;
+  end = script_end (length r.texts) r.refused;
+  writes = Some (session_image r.session);
+}
 
 abbrev pub wanted_script : List Zone → List ℕ → Result (List Line) ℕ → Wanted
 wanted_script layout image (Ok lines) = wanted_lines (ran layout image lines)
@@ -164,7 +168,11 @@ wanted_erase layout live None = unlisted
 wanted_erase layout live (Some r) = leaves (stopped layout (erased layout live r.name)).image
 
 abbrev pub wanted_make : ℕ → List Zone → Generated → Wanted
-wanted_make n layout made = record { texts = summary n layout made ∷ []; end = Ok tt; writes = Some (session_image made.session) }
+wanted_make n layout made = record {
+  texts = summary n layout made ∷ [];
+  end = Ok tt;
+  writes = Some (session_image made.session);
+}
 
 -- what each command wants of an image of mem bytes and a script
 abbrev pub wanted_of : Params → List Zone → List ℕ → List ℕ → Command → Wanted

@@ -50,7 +50,8 @@ last_line Memory = codes "no memory" ++ newline
 last_line Usage = codes "usage: oopsbox IMAGE COMMAND key=value .." ++ newline
 last_line (Param fault before) = codes "parameter fault " ++ param_text fault before ++ newline
 last_line (Layout fault) = codes "layout fault " ++ decimal (fault_number fault) ++ newline
-last_line (Short has needed) = codes "image has " ++ decimal has ++ codes " bytes, " ++ decimal needed ++ codes " needed" ++ newline
+last_line (Short has needed) = codes "image has " ++ decimal has ++ codes " bytes, " ++ decimal needed
+    ++ codes " needed" ++ newline
 last_line ScriptFault = codes "script fault" ++ newline
 last_line ImageFault = codes "image fault" ++ newline
 last_line SinkFault = []

@@ -96,7 +96,8 @@ unfoldable pub drawn_turn : List Zone → ℕ → Drawn (List Ask)
 drawn_turn layout q = do
   c ← draw (length (rings layout) + 1)
   n ← draw 700
-  if nat_lt c (length (rings layout)) then drawn_append (slice_get (rings layout) c) (1 + n) else drawn_dump layout q (1 + n)
+  if nat_lt c (length (rings layout)) then drawn_append (slice_get (rings layout) c) (1 + n) else drawn_dump layout q
+      (1 + n)
 
 -- an append of which only the first stores are made, so many of them
 pub record CutAppend : Type 0 where
@@ -142,7 +143,8 @@ drawn_damage z = draw_each (drawn_flips (z.parity / 2) z) (parts_of z)
 
 -- the zones of a state off that no cut has
 abbrev pub uncut : List Zone → OffState → List Zone
-uncut layout off = map (λ (pair : Zone × OffZone). pair.0) (filter (λ (pair : Zone × OffZone). is_none pair.1.cut) (zip layout off.zones))
+uncut layout off = map (λ (pair : Zone × OffZone). pair.0)
+    (filter (λ (pair : Zone × OffZone). is_none pair.1.cut) (zip layout off.zones))
 
 -- ---- the session
 

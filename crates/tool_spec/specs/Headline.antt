@@ -10,4 +10,5 @@ use Rattle.tool_spec.specs.Scripts.{ran}
 -- each idle zone, and in a zone whose call a stop cut only touched blocks and the header, both reported, make
 -- a difference
 abbrev pub ScriptReadsLastWritten : List Zone → List ℕ → List Line → Type 0
-ScriptReadsLastWritten layout image lines = (k : ℕ) (off : OffState) → (ran layout image (take k lines)).session ≡ Off off → EachOffZone layout off ReadsLastWritten
+ScriptReadsLastWritten layout image lines = (k : ℕ) (off : OffState)
+    → (ran layout image (take k lines)).session ≡ Off off → EachOffZone layout off ReadsLastWritten

@@ -52,7 +52,8 @@ done_or_refused session text (Err cause) = Err (line_cause session cause)
 
 -- an operation as a line does it
 abbrev pub does : List Zone → Session → Operation → Result Done Cause
-does layout session operation = done_or_refused session (put_by layout session operation) (operated layout session operation)
+does layout session operation = done_or_refused session (put_by layout session operation)
+    (operated layout session operation)
 
 -- ---- a line that speaks of records
 

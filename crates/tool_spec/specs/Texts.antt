@@ -33,11 +33,13 @@ newline = 10 ∷ []
 -- blocks have 128 bytes, and each kind has the parity that `ecc` asks for
 abbrev pub is_uniform : Params → Bool
 is_uniform p =
-    (p.block == 128) && list_all (λ kind. parity_bytes (ecc_of p kind) == parity_bytes p.ecc) (Dump ∷ Console ∷ Ftrace ∷ Pmsg ∷ [])
+    (p.block == 128) && list_all (λ kind. parity_bytes (ecc_of p kind) == parity_bytes p.ecc)
+    (Dump ∷ Console ∷ Ftrace ∷ Pmsg ∷ [])
 
 -- ` parity R block K`, where parameters are not uniform
 abbrev pub own_parity : Bool → Zone → Text
-own_parity uniform z = if uniform then [] else codes " parity " ++ decimal z.parity ++ codes " block " ++ decimal z.block
+own_parity uniform z = if uniform then [] else codes " parity " ++ decimal z.parity ++ codes " block "
+    ++ decimal z.block
 
 -- `ZONE at A size S cap C blocks B`
 abbrev pub layout_line : Bool → Zone → Text

@@ -17,23 +17,29 @@ use Rattle.zone_blk.proofs.Readings.{if-true, if-false}
 
 pub packed-content : (d : BlkDump) → d.packed ≡ true → d.body ≡ dump_content d
 unfolding dump_content
-packed-content d h = sym (if-true d.packed d.body (reason_word d.reason ++ codes ": Total " ++ decimal d.counter ++ codes " times" ++ 10 ∷ d.body) h)
+packed-content d h = sym (if-true d.packed d.body (reason_word d.reason ++ codes ": Total " ++ decimal d.counter
+    ++ codes " times" ++ 10 ∷ d.body) h)
 
 pub plain-content : (d : BlkDump) (body : List ℕ) → d.packed ≡ false → body ≡ d.body
-    → reason_word d.reason ++ codes ": Total " ++ decimal d.counter ++ codes " times" ++ 10 ∷ [] ++ body ≡ dump_content d
+    → reason_word d.reason ++ codes ": Total " ++ decimal d.counter ++ codes " times" ++ 10 ∷ [] ++ body
+    ≡ dump_content d
 unfolding dump_content
 plain-content d body h e =
     append_assoc (reason_word d.reason ++ codes ": Total " ++ decimal d.counter ++ codes " times") (10 ∷ []) body
     ∙ ap (λ (xs : List ℕ). reason_word d.reason ++ codes ": Total " ++ decimal d.counter ++ codes " times" ++ 10 ∷ xs) e
-    ∙ sym (if-false d.packed d.body (reason_word d.reason ++ codes ": Total " ++ decimal d.counter ++ codes " times" ++ 10 ∷ d.body) h)
+    ∙ sym (if-false d.packed d.body (reason_word d.reason ++ codes ": Total " ++ decimal d.counter ++ codes " times"
+    ++ 10 ∷ d.body) h)
 
 -- a record is listed where it has a content
-any-dump : (name : BlkName) (dumps : List BlkDump) → list_any (is_name name) (map dump_name dumps) ≡ is_some (find (λ (d : BlkDump). is_name name (dump_name d)) dumps)
+any-dump : (name : BlkName) (dumps : List BlkDump) → list_any (is_name name) (map dump_name dumps)
+    ≡ is_some (find (λ (d : BlkDump). is_name name (dump_name d)) dumps)
 any-dump name [] = refl
 any-dump name (d ∷ dumps) = by-test (is_name name (dump_name d)) (any-dump name dumps)
   where
-    by-test : (b : Bool) → list_any (is_name name) (map dump_name dumps) ≡ is_some (find (λ (e : BlkDump). is_name name (dump_name e)) dumps)
-        → (b || list_any (is_name name) (map dump_name dumps)) ≡ is_some (if b then Some d else find (λ (e : BlkDump). is_name name (dump_name e)) dumps)
+    by-test : (b : Bool) → list_any (is_name name) (map dump_name dumps)
+        ≡ is_some (find (λ (e : BlkDump). is_name name (dump_name e)) dumps)
+        → (b || list_any (is_name name) (map dump_name dumps))
+        ≡ is_some (if b then Some d else find (λ (e : BlkDump). is_name name (dump_name e)) dumps)
     by-test true h = refl
     by-test false h = h
 
@@ -45,11 +51,13 @@ or-false : (b : Bool) → (b || false) ≡ b
 or-false true = refl
 or-false false = refl
 
-no-dump-named : (name : BlkName) (dumps : List BlkDump) → ((d : BlkDump) → is_name name (dump_name d) ≡ false) → list_any (is_name name) (map dump_name dumps) ≡ false
+no-dump-named : (name : BlkName) (dumps : List BlkDump) → ((d : BlkDump) → is_name name (dump_name d) ≡ false)
+    → list_any (is_name name) (map dump_name dumps) ≡ false
 no-dump-named name [] h = refl
 no-dump-named name (d ∷ dumps) h = rw (h d) (no-dump-named name dumps h)
 
-any-if : (name other : BlkName) (saved : Option (List ℕ)) → list_any (is_name name) (name_if other saved) ≡ (is_name name other && is_some saved)
+any-if : (name other : BlkName) (saved : Option (List ℕ))
+    → list_any (is_name name) (name_if other saved) ≡ (is_name name other && is_some saved)
 any-if name other None = and-none (is_name name other)
   where
     and-none : (b : Bool) → false ≡ (b && false)
@@ -61,27 +69,39 @@ any-if name other (Some log) = or-and (is_name name other)
     or-and true = refl
     or-and false = refl
 
-three : (name : BlkName) (b : BlkState) → is_listed b name ≡ (list_any (is_name name) (map dump_name b.dumps) || (is_name name Console && is_some b.console.saved) || (is_name name Pmsg && is_some b.pmsg.saved))
+three : (name : BlkName) (b : BlkState) → is_listed b name
+    ≡ (list_any (is_name name) (map dump_name b.dumps) || (is_name name Console && is_some b.console.saved)
+    || (is_name name Pmsg && is_some b.pmsg.saved))
 unfolding names_of
 three name b =
-    list_any-append (is_name name) (map dump_name b.dumps ++ name_if Console b.console.saved) (name_if Pmsg b.pmsg.saved)
-    ∙ ap (λ x. x || list_any (is_name name) (name_if Pmsg b.pmsg.saved)) (list_any-append (is_name name) (map dump_name b.dumps) (name_if Console b.console.saved))
-    ∙ ap (λ x. list_any (is_name name) (map dump_name b.dumps) || x || list_any (is_name name) (name_if Pmsg b.pmsg.saved)) (any-if name Console b.console.saved)
-    ∙ ap (λ x. list_any (is_name name) (map dump_name b.dumps) || (is_name name Console && is_some b.console.saved) || x) (any-if name Pmsg b.pmsg.saved)
+    list_any-append (is_name name) (map dump_name b.dumps ++ name_if Console b.console.saved)
+    (name_if Pmsg b.pmsg.saved)
+    ∙ ap (λ x. x || list_any (is_name name) (name_if Pmsg b.pmsg.saved))
+    (list_any-append (is_name name) (map dump_name b.dumps) (name_if Console b.console.saved))
+    ∙ ap (λ x. list_any (is_name name) (map dump_name b.dumps) || x
+    || list_any (is_name name) (name_if Pmsg b.pmsg.saved)) (any-if name Console b.console.saved)
+    ∙ ap (λ x. list_any (is_name name) (map dump_name b.dumps) || (is_name name Console && is_some b.console.saved)
+    || x) (any-if name Pmsg b.pmsg.saved)
 
 pub listed-content : (b : BlkState) (name : BlkName) → is_listed b name ≡ is_some (content_of b name)
 unfolding content_of
 listed-content b (Dump index packed) =
-    three (Dump index packed) b ∙ or-false (list_any (is_name (Dump index packed)) (map dump_name b.dumps) || false) ∙ or-false (list_any (is_name (Dump index packed)) (map dump_name b.dumps))
-    ∙ any-dump (Dump index packed) b.dumps ∙ sym (some-map dump_content (find (λ (d : BlkDump). is_name (Dump index packed) (dump_name d)) b.dumps))
+    three (Dump index packed) b ∙ or-false (list_any (is_name (Dump index packed)) (map dump_name b.dumps) || false)
+    ∙ or-false (list_any (is_name (Dump index packed)) (map dump_name b.dumps))
+    ∙ any-dump (Dump index packed) b.dumps ∙ sym (some-map dump_content
+    (find (λ (d : BlkDump). is_name (Dump index packed) (dump_name d)) b.dumps))
 listed-content b Console =
-    three Console b ∙ ap (λ x. x || is_some b.console.saved || false) (no-dump-named Console b.dumps (λ d. refl)) ∙ or-false (is_some b.console.saved)
+    three Console b ∙ ap (λ x. x || is_some b.console.saved || false) (no-dump-named Console b.dumps (λ d. refl))
+    ∙ or-false (is_some b.console.saved)
 listed-content b Pmsg =
     three Pmsg b ∙ ap (λ x. x || false || is_some b.pmsg.saved) (no-dump-named Pmsg b.dumps (λ d. refl))
 
-pub listed-dump : (b : BlkState) (index : ℕ) (packed : Bool) → is_listed b (Dump index packed) ≡ is_some (find (λ (d : BlkDump). is_name (Dump index packed) (dump_name d)) b.dumps)
+pub listed-dump : (b : BlkState) (index : ℕ) (packed : Bool)
+    → is_listed b (Dump index packed) ≡ is_some (find (λ (d : BlkDump). is_name (Dump index packed) (dump_name d))
+    b.dumps)
 unfolding content_of
-listed-dump b index packed = listed-content b (Dump index packed) ∙ some-map dump_content (find (λ (d : BlkDump). is_name (Dump index packed) (dump_name d)) b.dumps)
+listed-dump b index packed = listed-content b (Dump index packed)
+    ∙ some-map dump_content (find (λ (d : BlkDump). is_name (Dump index packed) (dump_name d)) b.dumps)
 
 pub listed-console : (b : BlkState) → is_listed b Console ≡ is_some b.console.saved
 unfolding content_of
@@ -100,18 +120,25 @@ some-not-none None h e = cc
 some-not-none (Some x) h e = cc
 
 -- a listed dump is of one of the layout's zones
-index-within : (l : BlkLayout) (index : ℕ) (packed : Bool) (dumps : List BlkDump) → ((k : ℕ) (d : BlkDump) → k < length dumps → IsIn l (get_or dumps k d))
+index-within : (l : BlkLayout) (index : ℕ) (packed : Bool) (dumps : List BlkDump)
+    → ((k : ℕ) (d : BlkDump) → k < length dumps → IsIn l (get_or dumps k d))
     → is_some (find (λ (d : BlkDump). is_name (Dump index packed) (dump_name d)) dumps) ≡ true → index < l.dumps
 index-within l index packed [] h t = cc
 index-within l index packed (d ∷ dumps) h t =
-    by-test (is_name (Dump index packed) (dump_name d)) refl t (λ s. index-within l index packed dumps (λ k x lt. h (suc k) x (omega arith)) s)
+    by-test (is_name (Dump index packed) (dump_name d)) refl t
+    (λ s. index-within l index packed dumps (λ k x lt. h (suc k) x (omega arith)) s)
   where
-    by-test : (b : Bool) → is_name (Dump index packed) (dump_name d) ≡ b → is_some (if b then Some d else find (λ (e : BlkDump). is_name (Dump index packed) (dump_name e)) dumps) ≡ true
-        → (is_some (find (λ (e : BlkDump). is_name (Dump index packed) (dump_name e)) dumps) ≡ true → index < l.dumps) → index < l.dumps
+    by-test : (b : Bool) → is_name (Dump index packed) (dump_name d) ≡ b
+        → is_some (if b then Some d else find (λ (e : BlkDump). is_name (Dump index packed) (dump_name e)) dumps) ≡ true
+        → (is_some (find (λ (e : BlkDump). is_name (Dump index packed) (dump_name e)) dumps) ≡ true → index < l.dumps)
+        → index < l.dumps
     by-test true e s next =
-        let same : index ≡ d.index = eqb-true index d.index (and_parts (index == d.index) (if packed then d.packed else not d.packed) e).0 in
+        let same : index ≡ d.index = eqb-true index d.index
+        (and_parts (index == d.index) (if packed then d.packed else not d.packed) e).0 in
         omega (arith, h 0 d (omega arith))
     by-test false e s next = next s
 
-pub dump-inside : (b : BlkState) (index : ℕ) (packed : Bool) → All (IsIn b.layout) b.dumps → is_listed b (Dump index packed) ≡ true → index < b.layout.dumps
-dump-inside b index packed inside listed = index-within b.layout index packed b.dumps inside (sym (listed-dump b index packed) ∙ listed)
+pub dump-inside : (b : BlkState) (index : ℕ) (packed : Bool) → All (IsIn b.layout) b.dumps
+    → is_listed b (Dump index packed) ≡ true → index < b.layout.dumps
+dump-inside b index packed inside listed = index-within b.layout index packed b.dumps inside
+    (sym (listed-dump b index packed) ∙ listed)

@@ -12,20 +12,25 @@ unfolding bytes_in
 bytes_in-append [] ws = omega arith
 bytes_in-append (v ∷ vs) ws = omega (arith, bytes_in-append vs ws)
 
-pub after-append : (vs ws : List Write) (store : List ℕ) → after_writes (vs ++ ws) store ≡ after_writes ws (after_writes vs store)
+pub after-append : (vs ws : List Write) (store : List ℕ)
+    → after_writes (vs ++ ws) store ≡ after_writes ws (after_writes vs store)
 unfolding after_writes
 after-append [] ws store = refl
 after-append (v ∷ vs) ws store = after-append vs ws (after_write store v)
 
-pub first-append : (n : ℕ) (vs ws : List Write) → first_bytes n (vs ++ ws) ≡ first_bytes n vs ++ first_bytes (n - bytes_in vs) ws
+pub first-append : (n : ℕ) (vs ws : List Write) → first_bytes n (vs ++ ws)
+    ≡ first_bytes n vs ++ first_bytes (n - bytes_in vs) ws
 unfolding first_bytes bytes_in
 first-append n [] ws = ap (λ k. first_bytes k ws) (omega arith)
 first-append n (v ∷ vs) ws =
-    ap (λ rest. record { at = v.at; bytes = take n v.bytes } ∷ rest) (first-append (n - length v.bytes) vs ws ∙ ap (λ k. first_bytes (n - length v.bytes) vs ++ first_bytes k ws) (omega arith))
+    ap (λ rest. record { at = v.at; bytes = take n v.bytes } ∷ rest)
+    (first-append (n - length v.bytes) vs ws ∙ ap (λ k. first_bytes (n - length v.bytes) vs ++ first_bytes k ws)
+    (omega arith))
 
 -- no byte changes nothing, and all bytes are all
 pub none-written : (store : List ℕ) (at : ℕ) → after_write store (record { at = at; bytes = [] }) ≡ store
-none-written store at = rw append-nil (ap (λ k. take at store ++ drop k store) (omega arith) ∙ take-append-drop at store)
+none-written store at = rw append-nil (ap (λ k. take at store ++ drop k store) (omega arith)
+    ∙ take-append-drop at store)
 
 pub after-none : (ws : List Write) (store : List ℕ) → after_writes (first_bytes 0 ws) store ≡ store
 unfolding after_writes first_bytes
@@ -38,16 +43,19 @@ pub first-all : (n : ℕ) (ws : List Write) → bytes_in ws ≤ n → first_byte
 unfolding first_bytes bytes_in
 first-all n [] h = refl
 first-all n (w ∷ ws) h =
-    ap (λ (bs : List ℕ). record { at = w.at; bytes = bs } ∷ first_bytes (n - length w.bytes) ws) (take_all n w.bytes (omega arith))
+    ap (λ (bs : List ℕ). record { at = w.at; bytes = bs } ∷ first_bytes (n - length w.bytes) ws)
+    (take_all n w.bytes (omega arith))
     ∙ ap (λ rest. w ∷ rest) (first-all (n - length w.bytes) ws (omega arith))
 
 -- a store after the first bytes of some writes, then of others
 pub in-turn : (a b : ℕ) (vs ws : List Write) (store : List ℕ) → a ≤ bytes_in vs → (a ≡ bytes_in vs) ⊎ (b ≡ 0)
-    → after_writes (first_bytes (a + b) (vs ++ ws)) store ≡ after_writes (first_bytes b ws) (after_writes (first_bytes a vs) store)
+    → after_writes (first_bytes (a + b) (vs ++ ws)) store
+    ≡ after_writes (first_bytes b ws) (after_writes (first_bytes a vs) store)
 in-turn a b vs ws store h (inl e) =
     ap (λ x. after_writes x store) (first-append (a + b) vs ws)
     ∙ after-append (first_bytes (a + b) vs) (first_bytes (a + b - bytes_in vs) ws) store
-    ∙ ap (λ x. after_writes (first_bytes (a + b - bytes_in vs) ws) (after_writes x store)) (first-all (a + b) vs (omega arith) ∙ sym (first-all a vs (omega arith)))
+    ∙ ap (λ x. after_writes (first_bytes (a + b - bytes_in vs) ws) (after_writes x store))
+    (first-all (a + b) vs (omega arith) ∙ sym (first-all a vs (omega arith)))
     ∙ ap (λ k. after_writes (first_bytes k ws) (after_writes (first_bytes a vs) store)) (omega arith)
 in-turn a b vs ws store h (inr e) =
     let k : a + b ≡ a = omega arith in
@@ -57,8 +65,10 @@ in-turn a b vs ws store h (inr e) =
     ∙ ap (λ n. after_writes (first_bytes (a + b - bytes_in vs) ws) (after_writes (first_bytes n vs) store)) k
     ∙ ap (λ n. after_writes (first_bytes n ws) (after_writes (first_bytes a vs) store)) z
 
-pub in-turn-told : (a b : ℕ) (vs ws : List Write) (store : Option (List ℕ)) → a ≤ bytes_in vs → (a ≡ bytes_in vs) ⊎ (b ≡ 0)
-    → store_after (first_bytes (a + b) (vs ++ ws)) store ≡ store_after (first_bytes b ws) (store_after (first_bytes a vs) store)
+pub in-turn-told : (a b : ℕ) (vs ws : List Write) (store : Option (List ℕ)) → a ≤ bytes_in vs
+    → (a ≡ bytes_in vs) ⊎ (b ≡ 0)
+    → store_after (first_bytes (a + b) (vs ++ ws)) store
+    ≡ store_after (first_bytes b ws) (store_after (first_bytes a vs) store)
 in-turn-told a b vs ws None h k = refl
 in-turn-told a b vs ws (Some store) h k = ap Some (in-turn a b vs ws store h k)
 
@@ -79,9 +89,11 @@ spent-more (After l) a b = both (nat_le a l) refl
     fits : nat_le a l ≡ true → (nat_le (a + b) l) ≡ nat_le b (l - a)
     fits e = let h : a ≤ l = leb-true a l e in grind (arith, nat_tests)
 
-    both : (t : Bool) → nat_le a l ≡ t → (if nat_le (a + b) l then After (l - (a + b)) else Dropped) ≡ spent b (if t then After (l - a) else Dropped)
+    both : (t : Bool) → nat_le a l ≡ t → (if nat_le (a + b) l then After (l - (a + b)) else Dropped)
+        ≡ spent b (if t then After (l - a) else Dropped)
     both true e = rw (fits e) (ap (λ k. if nat_le b (l - a) then After k else Dropped) (omega arith))
-    both false e = let h : l < a = leb-false a l e in let past : nat_le (a + b) l ≡ false = lt-leb (a + b) l (omega arith) in rw past refl
+    both false e = let h : l < a = leb-false a l e in let past : nat_le (a + b) l ≡ false =
+        lt-leb (a + b) l (omega arith) in rw past refl
 spent-more Dropped a b = refl
 
 pub through-within : (c : BlkCut) (n : ℕ) → through c n ≤ n

@@ -17,21 +17,25 @@ pub bytes_in-one : (at : ℕ) (bytes : List ℕ) → bytes_in (one_write at byte
 unfolding bytes_in
 bytes_in-one at bytes = omega arith
 
-written-one : (old new : Option (List ℕ)) (at k : ℕ) (bytes : List ℕ) → Writes old new at (take k bytes) → new ≡ store_after (first_bytes k (one_write at bytes)) old
+written-one : (old new : Option (List ℕ)) (at k : ℕ) (bytes : List ℕ) → Writes old new at (take k bytes)
+    → new ≡ store_after (first_bytes k (one_write at bytes)) old
 unfolding after_writes first_bytes
 written-one None None at k bytes w = refl
 written-one None (Some ys) at k bytes w = absurd w
 written-one (Some xs) None at k bytes w = absurd w
 written-one (Some xs) (Some ys) at k bytes w = ap Some w
 
-makes-one : (old new : Option (List ℕ)) (c d : BlkCut) (at count : ℕ) (bytes : List ℕ) → count ≡ through c (length bytes) → d ≡ spent (length bytes) c
+makes-one : (old new : Option (List ℕ)) (c d : BlkCut) (at count : ℕ) (bytes : List ℕ)
+    → count ≡ through c (length bytes) → d ≡ spent (length bytes) c
     → Writes old new at (take count bytes) → Makes (one_write at bytes) c d old new
 makes-one old new c d at count bytes k s w = record {
-  store = written-one old new at count bytes w ∙ ap (λ n. store_after (first_bytes n (one_write at bytes)) old) (k ∙ ap (through c) (sym (bytes_in-one at bytes)));
+  store = written-one old new at count bytes w ∙ ap (λ n. store_after (first_bytes n (one_write at bytes)) old)
+      (k ∙ ap (through c) (sym (bytes_in-one at bytes)));
   cut = s ∙ ap (λ n. spent n c) (sym (bytes_in-one at bytes));
 }
 
-fails-one : (old new : Option (List ℕ)) (c d : BlkCut) (at count : ℕ) (bytes : List ℕ) → count ≡ through c (length bytes) → d ≡ spent (length bytes) c
+fails-one : (old new : Option (List ℕ)) (c d : BlkCut) (at count : ℕ) (bytes : List ℕ)
+    → count ≡ through c (length bytes) → d ≡ spent (length bytes) c
     → WritesFront old new at (take count bytes) → FailsWithin (one_write at bytes) c d old new
 fails-one old new c d at count bytes k s w =
     let few : w.count ≤ count = omega (arith, w.within, length-take count bytes) in
@@ -46,8 +50,10 @@ fails-one old new c d at count bytes k s w =
     }
 
 -- what a call of the store gives, of as many bytes as reach it
-pub ends-one : (r : Result Unit Failed) (old new : Option (List ℕ)) (c d : BlkCut) (at count : ℕ) (bytes : List ℕ) → count ≡ through c (length bytes) → d ≡ spent (length bytes) c
-    → MatchResult r (λ _. Writes old new at (take count bytes)) (λ _. WritesFront old new at (take count bytes)) → Ends r (one_write at bytes) c d old new
+pub ends-one : (r : Result Unit Failed) (old new : Option (List ℕ)) (c d : BlkCut) (at count : ℕ) (bytes : List ℕ)
+    → count ≡ through c (length bytes) → d ≡ spent (length bytes) c
+    → MatchResult r (λ _. Writes old new at (take count bytes)) (λ _. WritesFront old new at (take count bytes))
+    → Ends r (one_write at bytes) c d old new
 ends-one (Ok done) old new c d at count bytes k s w = makes-one old new c d at count bytes k s w
 ends-one (Err failed) old new c d at count bytes k s w = fails-one old new c d at count bytes k s w
 
@@ -56,10 +62,12 @@ pub none-told : (ws : List Write) (store : Option (List ℕ)) → store ≡ stor
 none-told ws None = refl
 none-told ws (Some xs) = ap Some (sym (after-none ws xs))
 
-pub makes-none : (store : Option (List ℕ)) (c d : BlkCut) (at count : ℕ) (bytes : List ℕ) → count ≡ through c (length bytes) → count ≡ 0 → d ≡ spent (length bytes) c
+pub makes-none : (store : Option (List ℕ)) (c d : BlkCut) (at count : ℕ) (bytes : List ℕ)
+    → count ≡ through c (length bytes) → count ≡ 0 → d ≡ spent (length bytes) c
     → Makes (one_write at bytes) c d store store
 makes-none store c d at count bytes k z s = record {
-  store = none-told (one_write at bytes) store ∙ ap (λ n. store_after (first_bytes n (one_write at bytes)) store) (sym z ∙ k ∙ ap (through c) (sym (bytes_in-one at bytes)));
+  store = none-told (one_write at bytes) store ∙ ap (λ n. store_after (first_bytes n (one_write at bytes)) store)
+      (sym z ∙ k ∙ ap (through c) (sym (bytes_in-one at bytes)));
   cut = s ∙ ap (λ n. spent n c) (sym (bytes_in-one at bytes));
 }
 
@@ -73,7 +81,11 @@ spent-none Dropped = refl
 
 pub makes-no-write : (store : Option (List ℕ)) (c : BlkCut) → Makes [] c c store store
 unfolding bytes_in
-makes-no-write store c = record { store = none-told [] store ∙ ap (λ n. store_after (first_bytes n []) store) (sym (through-none c)); cut = sym (spent-none c) }
+makes-no-write store c = record {
+  store = none-told [] store
+      ∙ ap (λ n. store_after (first_bytes n []) store) (sym (through-none c));
+  cut = sym (spent-none c);
+}
 
 module _ (vs ws : List Write) (c0 c1 c2 : BlkCut) (h0 h1 h2 : Option (List ℕ)) where
   pub then-makes : Makes vs c0 c1 h0 h1 → Makes ws c1 c2 h1 h2 → Makes (vs ++ ws) c0 c2 h0 h2
@@ -81,21 +93,27 @@ module _ (vs ws : List Write) (c0 c1 c2 : BlkCut) (h0 h1 h2 : Option (List ℕ))
     store =
         q.store ∙ ap (λ c. store_after (first_bytes (through c (bytes_in ws)) ws) h1) p.cut
         ∙ ap (store_after (first_bytes (through (spent (bytes_in vs) c0) (bytes_in ws)) ws)) p.store
-        ∙ sym (in-turn-told (through c0 (bytes_in vs)) (through (spent (bytes_in vs) c0) (bytes_in ws)) vs ws h0 (through-within c0 (bytes_in vs)) (all-or-none c0 (bytes_in vs) (bytes_in ws)))
-        ∙ ap (λ n. store_after (first_bytes n (vs ++ ws)) h0) (sym (through-more c0 (bytes_in vs) (bytes_in ws)) ∙ ap (through c0) (sym (bytes_in-append vs ws)));
-    cut = q.cut ∙ ap (spent (bytes_in ws)) p.cut ∙ sym (spent-more c0 (bytes_in vs) (bytes_in ws)) ∙ ap (λ n. spent n c0) (sym (bytes_in-append vs ws));
+        ∙ sym (in-turn-told (through c0 (bytes_in vs)) (through (spent (bytes_in vs) c0) (bytes_in ws)) vs ws h0
+        (through-within c0 (bytes_in vs)) (all-or-none c0 (bytes_in vs) (bytes_in ws)))
+        ∙ ap (λ n. store_after (first_bytes n (vs ++ ws)) h0)
+        (sym (through-more c0 (bytes_in vs) (bytes_in ws)) ∙ ap (through c0) (sym (bytes_in-append vs ws)));
+    cut = q.cut ∙ ap (spent (bytes_in ws)) p.cut ∙ sym (spent-more c0 (bytes_in vs) (bytes_in ws))
+        ∙ ap (λ n. spent n c0) (sym (bytes_in-append vs ws));
   }
 
   pub then-fails : Makes vs c0 c1 h0 h1 → FailsWithin ws c1 c2 h1 h2 → FailsWithin (vs ++ ws) c0 c2 h0 h2
   then-fails p q =
-      let few : q.kept ≤ through (spent (bytes_in vs) c0) q.tried = subst (λ c. q.kept ≤ through c q.tried) p.cut q.fewer in
-      let whole : (through c0 (bytes_in vs) ≡ bytes_in vs) ⊎ (q.kept ≡ 0) = elim (all-or-none c0 (bytes_in vs) q.tried) [ inl e ↦ inl e | inr e ↦ inr (omega arith) ] in
+      let few : q.kept ≤ through (spent (bytes_in vs) c0) q.tried =
+      subst (λ c. q.kept ≤ through c q.tried) p.cut q.fewer in
+      let whole : (through c0 (bytes_in vs) ≡ bytes_in vs) ⊎ (q.kept ≡ 0) =
+      elim (all-or-none c0 (bytes_in vs) q.tried) [ inl e ↦ inl e | inr e ↦ inr (omega arith) ] in
       record {
         tried = bytes_in vs + q.tried;
         kept = through c0 (bytes_in vs) + q.kept;
         within = omega (arith, bytes_in-append vs ws, q.within);
         fewer = omega (arith, through-more c0 (bytes_in vs) q.tried);
-        store = q.store ∙ ap (store_after (first_bytes q.kept ws)) p.store ∙ sym (in-turn-told (through c0 (bytes_in vs)) q.kept vs ws h0 (through-within c0 (bytes_in vs)) whole);
+        store = q.store ∙ ap (store_after (first_bytes q.kept ws)) p.store
+            ∙ sym (in-turn-told (through c0 (bytes_in vs)) q.kept vs ws h0 (through-within c0 (bytes_in vs)) whole);
         cut = q.cut ∙ ap (spent q.tried) p.cut ∙ sym (spent-more c0 (bytes_in vs) q.tried);
       }
 
@@ -106,32 +124,42 @@ module _ (vs ws : List Write) (c0 c1 c2 : BlkCut) (h0 h1 h2 : Option (List ℕ))
     within = omega (arith, bytes_in-append vs ws, p.within);
     fewer = p.fewer;
     store = p.store ∙ none-told ws (store_after (first_bytes p.kept vs) h0)
-        ∙ sym (in-turn-told p.kept 0 vs ws h0 (omega (arith, p.within, p.fewer, through-within c0 p.tried)) (inr refl)) ∙ ap (λ n. store_after (first_bytes n (vs ++ ws)) h0) (omega arith);
+        ∙ sym (in-turn-told p.kept 0 vs ws h0 (omega (arith, p.within, p.fewer, through-within c0 p.tried))
+        (inr refl)) ∙ ap (λ n. store_after (first_bytes n (vs ++ ws)) h0) (omega arith);
     cut = p.cut;
   }
 
 -- bytes and the bytes right behind them, written one behind the other and at once
 take-both : (k : ℕ) (a b : List ℕ) → length a ≤ k → take k (a ++ b) ≡ a ++ take (k - length a) b
-take-both k a b h = same_lists (take k (a ++ b)) (a ++ take (k - length a) b) (grind (arith, common_steps)) (λ i d l. grind (arith, places))
+take-both k a b h = same_lists (take k (a ++ b)) (a ++ take (k - length a) b) (grind (arith, common_steps))
+    (λ i d l. grind (arith, places))
 
 joined : (k at : ℕ) (a b : List ℕ) (store : List ℕ) → at ≤ length store
-    → after_writes (first_bytes k (one_write at a ++ one_write (at + length a) b)) store ≡ after_writes (first_bytes k (one_write at (a ++ b))) store
+    → after_writes (first_bytes k (one_write at a ++ one_write (at + length a) b)) store
+    ≡ after_writes (first_bytes k (one_write at (a ++ b))) store
 unfolding after_writes first_bytes
 joined k at a b store h = elim (cases_lt k (length a)) [
   | inl less ↦ let none-left : k - length a ≡ 0 = omega arith in
-      ap (λ (bs : List ℕ). after_write (after_write store (record { at = at; bytes = take k a })) (record { at = at + length a; bytes = bs })) (ap (λ n. take n b) none-left)
+      ap (λ (bs : List ℕ). after_write (after_write store (record { at = at; bytes = take k a }))
+      (record { at = at + length a; bytes = bs })) (ap (λ n. take n b) none-left)
       ∙ none-written (after_write store (record { at = at; bytes = take k a })) (at + length a)
-      ∙ ap (λ (bs : List ℕ). after_write store (record { at = at; bytes = bs })) (sym (take-append-le k a b (omega arith)))
+      ∙ ap (λ (bs : List ℕ). after_write store (record { at = at; bytes = bs }))
+      (sym (take-append-le k a b (omega arith)))
   | inr more ↦
-      ap (λ (bs : List ℕ). after_write (after_write store (record { at = at; bytes = bs })) (record { at = at + length a; bytes = take (k - length a) b })) (take_all k a more)
+      ap (λ (bs : List ℕ). after_write (after_write store (record { at = at; bytes = bs }))
+      (record { at = at + length a; bytes = take (k - length a) b })) (take_all k a more)
       ∙ two (take (k - length a) b)
       ∙ ap (λ (bs : List ℕ). after_write store (record { at = at; bytes = bs })) (sym (take-both k a b more))
 ]
   where
-    two : (c : List ℕ) → after_write (after_write store (record { at = at; bytes = a })) (record { at = at + length a; bytes = c }) ≡ after_write store (record { at = at; bytes = a ++ c })
+    two : (c : List ℕ) → after_write (after_write store (record { at = at; bytes = a }))
+        (record { at = at + length a; bytes = c }) ≡ after_write store (record { at = at; bytes = a ++ c })
     two c =
-        let long : length (take at store ++ a) ≡ at + length a = omega (arith, length-append (take at store) a, length-take at store) in
-        ap (λ (bs : List ℕ). bs ++ c ++ drop (at + length a + length c) (take at store ++ a ++ drop (at + length a) store)) (take_at (take at store ++ a) (drop (at + length a) store) (at + length a) long)
+        let long : length (take at store ++ a) ≡ at + length a =
+        omega (arith, length-append (take at store) a, length-take at store) in
+        ap (λ (bs : List ℕ). bs ++ c ++ drop (at + length a + length c)
+        (take at store ++ a ++ drop (at + length a) store))
+        (take_at (take at store ++ a) (drop (at + length a) store) (at + length a) long)
         ∙ ap (λ (bs : List ℕ). take at store ++ a ++ c ++ bs)
         (sym (drop-drop (length c) (at + length a) (take at store ++ a ++ drop (at + length a) store))
         ∙ ap (drop (length c)) (drop_at (take at store ++ a) (drop (at + length a) store) (at + length a) long)
@@ -139,24 +167,36 @@ joined k at a b store h = elim (cases_lt k (length a)) [
         ∙ ap (λ (bs : List ℕ). bs ++ drop (at + length (a ++ c)) store) (append_assoc (take at store) a c)
 
 joined-told : (k at : ℕ) (a b : List ℕ) (store : Option (List ℕ)) → HasRoom at store
-    → store_after (first_bytes k (one_write at a ++ one_write (at + length a) b)) store ≡ store_after (first_bytes k (one_write at (a ++ b))) store
+    → store_after (first_bytes k (one_write at a ++ one_write (at + length a) b)) store
+    ≡ store_after (first_bytes k (one_write at (a ++ b))) store
 joined-told k at a b None h = refl
 joined-told k at a b (Some store) h = ap Some (joined k at a b store h.room)
 
-same-bytes : (at : ℕ) (a b : List ℕ) → bytes_in (one_write at a ++ one_write (at + length a) b) ≡ bytes_in (one_write at (a ++ b))
-same-bytes at a b = omega (arith, bytes_in-append (one_write at a) (one_write (at + length a) b), bytes_in-one at a, bytes_in-one (at + length a) b, bytes_in-one at (a ++ b), length-append a b)
+same-bytes : (at : ℕ) (a b : List ℕ) → bytes_in (one_write at a ++ one_write (at + length a) b)
+    ≡ bytes_in (one_write at (a ++ b))
+same-bytes at a b = omega (
+  arith,
+  bytes_in-append (one_write at a) (one_write (at + length a) b),
+  bytes_in-one at a,
+  bytes_in-one (at + length a) b,
+  bytes_in-one at (a ++ b),
+  length-append a b,
+)
 
 module _ (at : ℕ) (a b : List ℕ) (c0 c1 c2 : BlkCut) (h0 h1 h2 : Option (List ℕ)) (room : HasRoom at h0) where
-  pub makes-longer : Makes (one_write at a) c0 c1 h0 h1 → Makes (one_write (at + length a) b) c1 c2 h1 h2 → Makes (one_write at (a ++ b)) c0 c2 h0 h2
+  pub makes-longer : Makes (one_write at a) c0 c1 h0 h1 → Makes (one_write (at + length a) b) c1 c2 h1 h2
+      → Makes (one_write at (a ++ b)) c0 c2 h0 h2
   makes-longer p q =
       let both = then-makes (one_write at a) (one_write (at + length a) b) c0 c1 c2 h0 h1 h2 p q in
       record {
-        store = both.store ∙ joined-told (through c0 (bytes_in (one_write at a ++ one_write (at + length a) b))) at a b h0 room
+        store = both.store ∙ joined-told (through c0 (bytes_in (one_write at a ++ one_write (at + length a) b)))
+            at a b h0 room
             ∙ ap (λ n. store_after (first_bytes (through c0 n) (one_write at (a ++ b))) h0) (same-bytes at a b);
         cut = both.cut ∙ ap (λ n. spent n c0) (same-bytes at a b);
       }
 
-  as-one : (d : BlkCut) (h : Option (List ℕ)) → FailsWithin (one_write at a ++ one_write (at + length a) b) c0 d h0 h → FailsWithin (one_write at (a ++ b)) c0 d h0 h
+  as-one : (d : BlkCut) (h : Option (List ℕ)) → FailsWithin (one_write at a ++ one_write (at + length a) b) c0 d h0 h
+      → FailsWithin (one_write at (a ++ b)) c0 d h0 h
   as-one d h p = record {
     tried = p.tried;
     kept = p.kept;
@@ -166,18 +206,21 @@ module _ (at : ℕ) (a b : List ℕ) (c0 c1 c2 : BlkCut) (h0 h1 h2 : Option (Lis
     cut = p.cut;
   }
 
-  pub fails-longer : Makes (one_write at a) c0 c1 h0 h1 → FailsWithin (one_write (at + length a) b) c1 c2 h1 h2 → FailsWithin (one_write at (a ++ b)) c0 c2 h0 h2
+  pub fails-longer : Makes (one_write at a) c0 c1 h0 h1 → FailsWithin (one_write (at + length a) b) c1 c2 h1 h2
+      → FailsWithin (one_write at (a ++ b)) c0 c2 h0 h2
   fails-longer p q = as-one c2 h2 (then-fails (one_write at a) (one_write (at + length a) b) c0 c1 c2 h0 h1 h2 p q)
 
   pub fails-earlier : FailsWithin (one_write at a) c0 c1 h0 h1 → FailsWithin (one_write at (a ++ b)) c0 c1 h0 h1
   fails-earlier p = as-one c1 h1 (fails-before (one_write at a) (one_write (at + length a) b) c0 c1 c2 h0 h1 h2 p)
 
 -- a result behind writes that were all made
-pub then-ends : {T : Type 0} (r : Result T Failed) (vs ws : List Write) (c0 c1 c2 : BlkCut) (h0 h1 h2 : Option (List ℕ)) → Makes vs c0 c1 h0 h1 → Ends r ws c1 c2 h1 h2 → Ends r (vs ++ ws) c0 c2 h0 h2
+pub then-ends : {T : Type 0} (r : Result T Failed) (vs ws : List Write) (c0 c1 c2 : BlkCut)
+    (h0 h1 h2 : Option (List ℕ)) → Makes vs c0 c1 h0 h1 → Ends r ws c1 c2 h1 h2 → Ends r (vs ++ ws) c0 c2 h0 h2
 then-ends (Ok done) vs ws c0 c1 c2 h0 h1 h2 p q = then-makes vs ws c0 c1 c2 h0 h1 h2 p q
 then-ends (Err failed) vs ws c0 c1 c2 h0 h1 h2 p q = then-fails vs ws c0 c1 c2 h0 h1 h2 p q
 
-pub ends-same : {T : Type 0} (r : Result T Failed) (vs ws : List Write) (c0 c1 : BlkCut) (h0 h1 : Option (List ℕ)) → vs ≡ ws → Ends r vs c0 c1 h0 h1 → Ends r ws c0 c1 h0 h1
+pub ends-same : {T : Type 0} (r : Result T Failed) (vs ws : List Write) (c0 c1 : BlkCut) (h0 h1 : Option (List ℕ))
+    → vs ≡ ws → Ends r vs c0 c1 h0 h1 → Ends r ws c0 c1 h0 h1
 ends-same r vs ws c0 c1 h0 h1 e p = subst (λ (us : List Write). Ends r us c0 c1 h0 h1) e p
 
 pub room-within : (m n : ℕ) (store : Option (List ℕ)) → m ≤ n → HasRoom n store → HasRoom m store
@@ -188,12 +231,15 @@ abbrev zeros : ℕ → List ℕ
 zeros n = replicate n 0
 
 -- no zero yet, more zeros, and a fault within them
-pub zeros-begin : (at n : ℕ) (c : BlkCut) (store : Option (List ℕ)) → n ≡ 0 → Makes (one_write at (zeros n)) c c store store
+pub zeros-begin : (at n : ℕ) (c : BlkCut) (store : Option (List ℕ)) → n ≡ 0
+    → Makes (one_write at (zeros n)) c c store store
 zeros-begin at n c store e =
     let none : length (zeros n) ≡ 0 = omega (arith, length-replicate {A = ℕ} n 0) in
-    makes-none store c c at 0 (zeros n) (sym (through-none c) ∙ ap (through c) (sym none)) refl (sym (spent-none c) ∙ ap (λ k. spent k c) (sym none))
+    makes-none store c c at 0 (zeros n) (sym (through-none c) ∙ ap (through c) (sym none)) refl
+    (sym (spent-none c) ∙ ap (λ k. spent k c) (sym none))
 
-module _ (from at n end : ℕ) (c0 c1 c2 : BlkCut) (h0 h1 h2 : Option (List ℕ)) (room : HasRoom end h0) (begun : from ≤ at) (inside : at + n ≤ end) (p : Makes (one_write from (zeros (at - from))) c0 c1 h0 h1) where
+module _ (from at n end : ℕ) (c0 c1 c2 : BlkCut) (h0 h1 h2 : Option (List ℕ)) (room : HasRoom end h0)
+    (begun : from ≤ at) (inside : at + n ≤ end) (p : Makes (one_write from (zeros (at - from))) c0 c1 h0 h1) where
   place : from + length (zeros (at - from)) ≡ at
   place = omega (arith, length-replicate {A = ℕ} (at - from) 0)
 
@@ -203,40 +249,57 @@ module _ (from at n end : ℕ) (c0 c1 c2 : BlkCut) (h0 h1 h2 : Option (List ℕ)
   all : (m : ℕ) → m ≡ at + n - from → zeros (at - from) ++ zeros n ≡ zeros m
   all m e = replicate-append-replicate (at - from) n 0 ∙ ap zeros (omega arith)
 
-  pub zeros-more : (m : ℕ) → m ≡ at + n - from → Makes (one_write at (zeros n)) c1 c2 h1 h2 → Makes (one_write from (zeros m)) c0 c2 h0 h2
+  pub zeros-more : (m : ℕ) → m ≡ at + n - from → Makes (one_write at (zeros n)) c1 c2 h1 h2
+      → Makes (one_write from (zeros m)) c0 c2 h0 h2
   zeros-more m e q =
-      let next : Makes (one_write (from + length (zeros (at - from))) (zeros n)) c1 c2 h1 h2 = subst (λ k. Makes (one_write k (zeros n)) c1 c2 h1 h2) (sym place) q in
-      subst (λ (bs : List ℕ). Makes (one_write from bs) c0 c2 h0 h2) (all m e) (makes-longer from (zeros (at - from)) (zeros n) c0 c1 c2 h0 h1 h2 room-from p next)
+      let next : Makes (one_write (from + length (zeros (at - from))) (zeros n)) c1 c2 h1 h2 =
+      subst (λ k. Makes (one_write k (zeros n)) c1 c2 h1 h2) (sym place) q in
+      subst (λ (bs : List ℕ). Makes (one_write from bs) c0 c2 h0 h2) (all m e)
+      (makes-longer from (zeros (at - from)) (zeros n) c0 c1 c2 h0 h1 h2 room-from p next)
 
-  pub zeros-fail : FailsWithin (one_write at (zeros n)) c1 c2 h1 h2 → FailsWithin (one_write from (zeros (end - from))) c0 c2 h0 h2
+  pub zeros-fail : FailsWithin (one_write at (zeros n)) c1 c2 h1 h2
+      → FailsWithin (one_write from (zeros (end - from))) c0 c2 h0 h2
   zeros-fail q =
-      let next : FailsWithin (one_write (from + length (zeros (at - from))) (zeros n)) c1 c2 h1 h2 = subst (λ k. FailsWithin (one_write k (zeros n)) c1 c2 h1 h2) (sym place) q in
+      let next : FailsWithin (one_write (from + length (zeros (at - from))) (zeros n)) c1 c2 h1 h2 =
+      subst (λ k. FailsWithin (one_write k (zeros n)) c1 c2 h1 h2) (sym place) q in
       let within = fails-longer from (zeros (at - from)) (zeros n) c0 c1 c2 h0 h1 h2 room-from p next in
       subst (λ (bs : List ℕ). FailsWithin (one_write from bs) c0 c2 h0 h2)
-      (ap (λ (bs : List ℕ). bs ++ zeros (end - (at + n))) (all (at + n - from) refl) ∙ replicate-append-replicate (at + n - from) (end - (at + n)) 0 ∙ ap zeros (omega arith))
+      (ap (λ (bs : List ℕ). bs ++ zeros (end - (at + n))) (all (at + n - from) refl)
+      ∙ replicate-append-replicate (at + n - from) (end - (at + n)) 0 ∙ ap zeros (omega arith))
       (fails-earlier from (zeros (at - from) ++ zeros n) (zeros (end - (at + n))) c0 c2 c2 h0 h2 h2 room-from within)
 
-pub makes-same : (vs ws : List Write) (c0 c1 : BlkCut) (h0 h1 : Option (List ℕ)) → vs ≡ ws → Makes vs c0 c1 h0 h1 → Makes ws c0 c1 h0 h1
+pub makes-same : (vs ws : List Write) (c0 c1 : BlkCut) (h0 h1 : Option (List ℕ)) → vs ≡ ws → Makes vs c0 c1 h0 h1
+    → Makes ws c0 c1 h0 h1
 makes-same vs ws c0 c1 h0 h1 e p = subst (λ (us : List Write). Makes us c0 c1 h0 h1) e p
 
-pub fails-same : (vs ws : List Write) (c0 c1 : BlkCut) (h0 h1 : Option (List ℕ)) → vs ≡ ws → FailsWithin vs c0 c1 h0 h1 → FailsWithin ws c0 c1 h0 h1
+pub fails-same : (vs ws : List Write) (c0 c1 : BlkCut) (h0 h1 : Option (List ℕ)) → vs ≡ ws
+    → FailsWithin vs c0 c1 h0 h1 → FailsWithin ws c0 c1 h0 h1
 fails-same vs ws c0 c1 h0 h1 e p = subst (λ (us : List Write). FailsWithin us c0 c1 h0 h1) e p
 
 -- a zone in four pieces: header, front, body and zeros
-pub ends-longer : {T : Type 0} (r : Result T Failed) (at from : ℕ) (a b : List ℕ) (c0 c1 c2 : BlkCut) (h0 h1 h2 : Option (List ℕ)) → HasRoom at h0 → from ≡ at + length a
-    → Makes (one_write at a) c0 c1 h0 h1 → Ends r (one_write from b) c1 c2 h1 h2 → Ends r (one_write at (a ++ b)) c0 c2 h0 h2
+pub ends-longer : {T : Type 0} (r : Result T Failed) (at from : ℕ) (a b : List ℕ) (c0 c1 c2 : BlkCut)
+    (h0 h1 h2 : Option (List ℕ)) → HasRoom at h0 → from ≡ at + length a
+    → Makes (one_write at a) c0 c1 h0 h1 → Ends r (one_write from b) c1 c2 h1 h2
+    → Ends r (one_write at (a ++ b)) c0 c2 h0 h2
 ends-longer (Ok done) at from a b c0 c1 c2 h0 h1 h2 room e p q =
     makes-longer at a b c0 c1 c2 h0 h1 h2 room p (subst (λ k. Makes (one_write k b) c1 c2 h1 h2) e q)
 ends-longer (Err failed) at from a b c0 c1 c2 h0 h1 h2 room e p q =
     fails-longer at a b c0 c1 c2 h0 h1 h2 room p (subst (λ k. FailsWithin (one_write k b) c1 c2 h1 h2) e q)
 
-pub fails-of-longer : (at : ℕ) (a b : List ℕ) (c0 c1 : BlkCut) (h0 h1 : Option (List ℕ)) → HasRoom at h0 → FailsWithin (one_write at a) c0 c1 h0 h1 → FailsWithin (one_write at (a ++ b)) c0 c1 h0 h1
+pub fails-of-longer : (at : ℕ) (a b : List ℕ) (c0 c1 : BlkCut) (h0 h1 : Option (List ℕ)) → HasRoom at h0
+    → FailsWithin (one_write at a) c0 c1 h0 h1 → FailsWithin (one_write at (a ++ b)) c0 c1 h0 h1
 fails-of-longer at a b c0 c1 h0 h1 room p = fails-earlier at a b c0 c1 c1 h0 h1 h1 room p
 
-pub failed-longer : (at from : ℕ) (a b : List ℕ) (c0 c1 c2 : BlkCut) (h0 h1 h2 : Option (List ℕ)) → HasRoom at h0 → from ≡ at + length a
-    → Makes (one_write at a) c0 c1 h0 h1 → FailsWithin (one_write from b) c1 c2 h1 h2 → FailsWithin (one_write at (a ++ b)) c0 c2 h0 h2
-failed-longer at from a b c0 c1 c2 h0 h1 h2 room e p q = fails-longer at a b c0 c1 c2 h0 h1 h2 room p (subst (λ k. FailsWithin (one_write k b) c1 c2 h1 h2) e q)
+pub failed-longer : (at from : ℕ) (a b : List ℕ) (c0 c1 c2 : BlkCut) (h0 h1 h2 : Option (List ℕ)) → HasRoom at h0
+    → from ≡ at + length a
+    → Makes (one_write at a) c0 c1 h0 h1 → FailsWithin (one_write from b) c1 c2 h1 h2
+    → FailsWithin (one_write at (a ++ b)) c0 c2 h0 h2
+failed-longer at from a b c0 c1 c2 h0 h1 h2 room e p q =
+    fails-longer at a b c0 c1 c2 h0 h1 h2 room p (subst (λ k. FailsWithin (one_write k b) c1 c2 h1 h2) e q)
 
-pub made-longer : (at from : ℕ) (a b : List ℕ) (c0 c1 c2 : BlkCut) (h0 h1 h2 : Option (List ℕ)) → HasRoom at h0 → from ≡ at + length a
-    → Makes (one_write at a) c0 c1 h0 h1 → Makes (one_write from b) c1 c2 h1 h2 → Makes (one_write at (a ++ b)) c0 c2 h0 h2
-made-longer at from a b c0 c1 c2 h0 h1 h2 room e p q = makes-longer at a b c0 c1 c2 h0 h1 h2 room p (subst (λ k. Makes (one_write k b) c1 c2 h1 h2) e q)
+pub made-longer : (at from : ℕ) (a b : List ℕ) (c0 c1 c2 : BlkCut) (h0 h1 h2 : Option (List ℕ)) → HasRoom at h0
+    → from ≡ at + length a
+    → Makes (one_write at a) c0 c1 h0 h1 → Makes (one_write from b) c1 c2 h1 h2
+    → Makes (one_write at (a ++ b)) c0 c2 h0 h2
+made-longer at from a b c0 c1 c2 h0 h1 h2 room e p q =
+    makes-longer at a b c0 c1 c2 h0 h1 h2 room p (subst (λ k. Makes (one_write k b) c1 c2 h1 h2) e q)

@@ -14,7 +14,8 @@ use Rattle.zone_blk.specs.declared.appending.Turn.{Turn}
 use Rattle.zone_spec.specs.Told.{last_items}
 use Rattle.zone_blk.proofs.Sequences.{makes-no-write}
 
-pub makes-unless : (b : Bool) (ws : List Write) (c : BlkCut) (store : Option (List ℕ)) → b ≡ false → Makes (if b then ws else []) c c store store
+pub makes-unless : (b : Bool) (ws : List Write) (c : BlkCut) (store : Option (List ℕ)) → b ≡ false
+    → Makes (if b then ws else []) c c store store
 makes-unless true ws c store e = cc
 makes-unless false ws c store e = makes-no-write store c
 
@@ -24,29 +25,37 @@ not-some n e = le-ltb 0 n (omega (arith, eqb-true n 0 e))
 more-left : (m n : ℕ) → nat_lt 0 (n - m) ≡ nat_lt m n
 more-left m n = grind (arith, nat_tests)
 
-pub turn-parts : (z : BlkZone) (words : BlkWords) (bytes : List ℕ) (n first : ℕ) (behind next last : BlkWords) (short : Bool) → n ≡ length bytes → first ≡ first_run z words n → behind ≡ first_words z words n
+pub turn-parts : (z : BlkZone) (words : BlkWords) (bytes : List ℕ) (n first : ℕ) (behind next last : BlkWords)
+    (short : Bool) → n ≡ length bytes → first ≡ first_run z words n → behind ≡ first_words z words n
     → next ≡ run_words z words n → short ≡ is_short z words n → last ≡ last_words z words n
-    → run_writes z words.start (take first bytes) behind ++ (if nat_lt 0 (length (drop first bytes)) then run_writes z 0 (drop first bytes) next else []) ++ (if short then header_write z last ∷ [] else [])
+    → run_writes z words.start (take first bytes) behind
+    ++ (if nat_lt 0 (length (drop first bytes)) then run_writes z 0 (drop first bytes) next else [])
+    ++ (if short then header_write z last ∷ [] else [])
     ≡ kept_writes z words bytes
 unfolding kept_writes
 turn-parts z words bytes n first behind next last short e f b x s l =
     rw (length-drop first bytes) (rw (more-left first (length bytes)) (rw (f, b, x, s, l, e) refl))
 
-pub empty-append : (z : BlkZone) (words : BlkWords) (payload : List ℕ) → (length payload == 0) ≡ true → append_writes z words payload ≡ []
+pub empty-append : (z : BlkZone) (words : BlkWords) (payload : List ℕ) → (length payload == 0) ≡ true
+    → append_writes z words payload ≡ []
 unfolding append_writes
 empty-append z words payload e = rw e refl
 
-pub empty-words-after : (z : BlkZone) (words : BlkWords) (payload : List ℕ) → (length payload == 0) ≡ true → words ≡ words_after z words payload
+pub empty-words-after : (z : BlkZone) (words : BlkWords) (payload : List ℕ) → (length payload == 0) ≡ true
+    → words ≡ words_after z words payload
 unfolding words_after
 empty-words-after z words payload e = rw e refl
 
-pub some-append : (z : BlkZone) (words : BlkWords) (payload : List ℕ) → (length payload == 0) ≡ false → kept_writes z words (last_items (capacity z) payload) ≡ append_writes z words payload
+pub some-append : (z : BlkZone) (words : BlkWords) (payload : List ℕ) → (length payload == 0) ≡ false
+    → kept_writes z words (last_items (capacity z) payload) ≡ append_writes z words payload
 unfolding append_writes
 some-append z words payload e = rw e refl
 
-pub some-words-after : (z : BlkZone) (words : BlkWords) (payload : List ℕ) → (length payload == 0) ≡ false → last_words z words (length (last_items (capacity z) payload)) ≡ words_after z words payload
+pub some-words-after : (z : BlkZone) (words : BlkWords) (payload : List ℕ) → (length payload == 0) ≡ false
+    → last_words z words (length (last_items (capacity z) payload)) ≡ words_after z words payload
 unfolding words_after
-some-words-after z words payload e = rw e (ap (last_words z words) (omega (arith, length-drop (length payload - capacity z) payload)))
+some-words-after z words payload e = rw e (ap (last_words z words)
+    (omega (arith, length-drop (length payload - capacity z) payload)))
 
 -- the parts by the numbers of the turn
 abbrev pub run-part : BlkZone → BlkWords → List ℕ → Turn → List Write
@@ -58,14 +67,18 @@ rest-part z back t = if nat_lt 0 (length back) then run_writes z 0 back t.run_wo
 abbrev pub further-part : BlkZone → Turn → List Write
 further-part z t = if t.is_short then header_write z t.last ∷ [] else []
 
-pub parts : (z : BlkZone) (words : BlkWords) (bytes front back : List ℕ) (t : Turn) → front ≡ take t.first bytes → back ≡ drop t.first bytes → t.first ≡ first_run z words (length bytes) → t.first_words ≡ first_words z words (length bytes)
-    → t.run_words ≡ run_words z words (length bytes) → t.is_short ≡ is_short z words (length bytes) → t.last ≡ last_words z words (length bytes)
+pub parts : (z : BlkZone) (words : BlkWords) (bytes front back : List ℕ) (t : Turn) → front ≡ take t.first bytes
+    → back ≡ drop t.first bytes → t.first ≡ first_run z words (length bytes)
+    → t.first_words ≡ first_words z words (length bytes)
+    → t.run_words ≡ run_words z words (length bytes) → t.is_short ≡ is_short z words (length bytes)
+    → t.last ≡ last_words z words (length bytes)
     → run-part z words front t ++ rest-part z back t ++ further-part z t ≡ kept_writes z words bytes
 parts z words bytes front back t i j f b x s l =
     ap (λ (bs : List ℕ). run-part z words bs t ++ rest-part z back t ++ further-part z t) i
     ∙ ap (λ (bs : List ℕ). run-part z words (take t.first bytes) t ++ rest-part z bs t ++ further-part z t) j
     ∙ turn-parts z words bytes (length bytes) t.first t.first_words t.run_words t.last t.is_short refl f b x s l
 
-pub words-ok : (r : Result BlkWords Failed) (a b : BlkWords) → a ≡ b → IfOk r (λ after. after ≡ a) → IfOk r (λ after. after ≡ b)
+pub words-ok : (r : Result BlkWords Failed) (a b : BlkWords) → a ≡ b → IfOk r (λ after. after ≡ a)
+    → IfOk r (λ after. after ≡ b)
 words-ok (Ok x) a b e p = p ∙ e
 words-ok (Err x) a b e p = tt

@@ -13,10 +13,12 @@ pub record HasFront (ws : List Write) (old new : Option (List ℕ)) : Type 0 whe
   pub within : kept ≤ bytes_in ws
   pub store : new ≡ store_after (first_bytes kept ws) old
 
--- a loading gives what the store's bytes are read as, where it tells them, and erases the rings; without memory the store
+-- a loading gives what the store's bytes are read as, where it tells them, and erases the rings; without memory the
+-- store
 -- is as before
 abbrev pub Loads : Result BlkState BlkFault → BlkLayout → Option (List ℕ) → Option (List ℕ) → Type 0
-Loads (Ok b) l before now = (b.layout ≡ l) × IfSome before (λ bytes. b ≡ loaded l bytes) × (now ≡ store_after (load_writes l) before)
+Loads (Ok b) l before now = (b.layout ≡ l) × IfSome before (λ bytes. b ≡ loaded l bytes)
+    × (now ≡ store_after (load_writes l) before)
 Loads (Err StoreFault) l before now = HasFront (load_writes l) before now
 Loads (Err Memory) l before now = now ≡ before
 Loads (Err other) l before now = ⊥

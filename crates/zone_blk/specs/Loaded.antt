@@ -9,7 +9,8 @@ use Rattle.blk_spec.specs.Reading.{BlkDump}
 use Rattle.zone_blk.specs.Fits.{IsWithin}
 use Rattle.zone_blk.specs.Loading.{IsIn}
 
--- its layout is one, its rings' words lie within their zones, of which one without a byte has no saved log, and its dumps
+-- its layout is one, its rings' words lie within their zones, of which one without a byte has no saved log, and its
+-- dumps
 -- and its cursor are among the dump zones
 pub record IsLoaded (l : BlkLayout) (console_ring pmsg_ring : RingState) (listed : List BlkDump) (at : ℕ) : Type 0 where
   pub layout : IsLayout l

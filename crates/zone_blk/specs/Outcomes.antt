@@ -6,7 +6,8 @@ use Rattle.blk_spec.specs.Writes.{Write}
 use Rattle.blk_spec.specs.Answers.{Makes, FailsWithin}
 
 -- all writes were made, or the store failed within them
-abbrev pub Ends : {T : Type 0} → Result T Failed → List Write → BlkCut → BlkCut → Option (List ℕ) → Option (List ℕ) → Type 0
+abbrev pub Ends : {T : Type 0} → Result T Failed → List Write → BlkCut → BlkCut → Option (List ℕ) → Option (List ℕ)
+    → Type 0
 Ends (Ok done) ws old_cut new_cut old new = Makes ws old_cut new_cut old new
 Ends (Err failed) ws old_cut new_cut old new = FailsWithin ws old_cut new_cut old new
 

@@ -87,7 +87,8 @@ fn write_rest<M: Store>(
     requires zone { IsZone zone }
     requires inside { 12 + length bytes.now ≤ zone.size }
     requires room { HasRoom (zone.at + zone.size) (M.holds store.old) }
-    ensures ends { Ends result (if nat_lt 0 (length bytes.now) then run_writes zone 0 bytes.now words else []) cut.old cut.new (M.holds store.old) (M.holds store.new) }
+    ensures ends { Ends result (if nat_lt 0 (length bytes.now) then run_writes zone 0 bytes.now words else [])
+        cut.old cut.new (M.holds store.old) (M.holds store.new) }
     ensures room { HasRoom (zone.at + zone.size) (M.holds store.new) }
     ensures cause { HasCause (M.faults store.old) (M.faults store.new) result }
 {
@@ -108,7 +109,8 @@ fn write_further<M: Store>(
     requires zone { IsZone zone }
     requires sized { 12 ≤ zone.size }
     requires room { HasRoom (zone.at + zone.size) (M.holds store.old) }
-    ensures ends { Ends result (if is_short then header_write zone words ∷ [] else []) cut.old cut.new (M.holds store.old) (M.holds store.new) }
+    ensures ends { Ends result (if is_short then header_write zone words ∷ [] else []) cut.old cut.new
+        (M.holds store.old) (M.holds store.new) }
     ensures room { HasRoom (zone.at + zone.size) (M.holds store.new) }
     ensures cause { HasCause (M.faults store.old) (M.faults store.new) result }
 {
@@ -132,7 +134,8 @@ fn write_turn<M: Store>(
     requires some { 0 < length bytes.now }
     requires fits { length bytes.now ≤ capacity zone }
     requires room { HasRoom (zone.at + zone.size) (M.holds store.old) }
-    ensures ends { Ends result (kept_writes zone words bytes.now) cut.old cut.new (M.holds store.old) (M.holds store.new) }
+    ensures ends { Ends result (kept_writes zone words bytes.now) cut.old cut.new (M.holds store.old)
+        (M.holds store.new) }
     ensures words { IfOk result (λ after. after ≡ last_words zone words (length bytes.now)) }
     ensures start { IfOk result (λ after. after.start < capacity zone) }
     ensures size { IfOk result (λ after. after.size ≤ capacity zone) }
@@ -168,7 +171,8 @@ pub fn append_ring<M: Store>(
     requires sized { 0 < zone.size }
     requires within { IsWithin zone words }
     requires room { HasRoom (zone.at + zone.size) (M.holds store.old) }
-    ensures ends { Ends result (append_writes zone words payload.now) cut.old cut.new (M.holds store.old) (M.holds store.new) }
+    ensures ends { Ends result (append_writes zone words payload.now) cut.old cut.new (M.holds store.old)
+        (M.holds store.new) }
     ensures words { IfOk result (λ after. after ≡ words_after zone words payload.now) }
     ensures within { IfOk result (λ after. IsWithin zone after) }
     ensures room { HasRoom (zone.at + zone.size) (M.holds store.new) }

@@ -76,7 +76,8 @@ impl Model for Blk {
       cut = b.cut;
     } };
 
-    ghost invariant = { λ b. IsLoaded b.layout (record { words = b.console.words; saved = b.console.saved }) (record { words = b.pmsg.words; saved = b.pmsg.saved })
+    ghost invariant = { λ b. IsLoaded b.layout (record { words = b.console.words; saved = b.console.saved })
+        (record { words = b.pmsg.words; saved = b.pmsg.saved })
         b.dumps.items b.cursor };
 }
 
@@ -119,7 +120,8 @@ fn append_to<M: Store>(
     requires zone { IsZone zone }
     requires within { IsWithin zone ring.old.words }
     requires room { HasRoom (zone.at + zone.size) (M.holds store.old) }
-    ensures answer { RingAnswers result zone payload.now ring.old ring.new cut.old cut.new (M.holds store.old) (M.holds store.new) }
+    ensures answer { RingAnswers result zone payload.now ring.old ring.new cut.old cut.new (M.holds store.old)
+        (M.holds store.new) }
     ensures within { IsWithin zone ring.new.words }
     ensures room { (n : ℕ) → HasRoom n (M.holds store.old) → HasRoom n (M.holds store.new) }
     ensures later { M.faults store.old ≤ M.faults store.new }
@@ -149,7 +151,8 @@ fn saved_content(alloc: Global, saved: &Option<Bytes>) -> Result<Bytes, BlkFault
 
 // The content of a dump of this name.
 fn named_content(alloc: Global, dumps: &[Dump], name: BlkName) -> Result<Bytes, BlkFault>
-    ensures { IsContent result (option_map content_of_dump (find (λ (d : BlkDump). is_same name (name_of_dump d)) dumps.now)) }
+    ensures { IsContent result (option_map content_of_dump
+        (find (λ (d : BlkDump). is_same name (name_of_dump d)) dumps.now)) }
 {
     match find_dump(dumps, name) {
         Some(dump) => Ok(dump_content(alloc, dump)?),
@@ -249,8 +252,10 @@ impl Blk {
         }
     }
 
-    /// Of all bytes that are written from now on only the first `bytes` reach the store; the rest is dropped and answered
-    /// as written, and so is every byte behind a dropped one. The bytes of a write that failed count as written. A later
+    /// Of all bytes that are written from now on only the first `bytes` reach the store; the rest is dropped and
+    /// answered
+    /// as written, and so is every byte behind a dropped one. The bytes of a write that failed count as written. A
+    /// later
     /// limit replaces an earlier one as long as no byte was dropped.
     pub fn cut_after(&mut self, bytes: u64)
         ensures { self.new ≡ cut_state self.old bytes }
@@ -266,7 +271,8 @@ impl Blk {
         payload: &[u8],
     ) -> Result<(), BlkFault>
         requires { HasRoom self.old.layout.total (M.holds store.old) }
-        ensures answer { Answers result (append_refusal self.old ring) (append_of self.old ring payload.now) (appended self.old ring payload.now)
+        ensures answer { Answers result (append_refusal self.old ring) (append_of self.old ring payload.now)
+            (appended self.old ring payload.now)
             self.old self.new (M.holds store.old) (M.holds store.new) }
         ensures layout { self.new.layout ≡ self.old.layout }
         ensures room { (n : ℕ) → HasRoom n (M.holds store.old) → HasRoom n (M.holds store.new) }
@@ -298,7 +304,8 @@ impl Blk {
         requires secs { time.secs < 2 ^ 63 }
         requires nanos { time.nanos < 1000000000 }
         requires room { HasRoom self.old.layout.total (M.holds store.old) }
-        ensures answer { Answers result (dump_refusal self.old) (dump_of self.old time packed reason body.now) (dumped self.old reason)
+        ensures answer { Answers result (dump_refusal self.old) (dump_of self.old time packed reason body.now)
+            (dumped self.old reason)
             self.old self.new (M.holds store.old) (M.holds store.new) }
         ensures layout { self.new.layout ≡ self.old.layout }
         ensures room { (n : ℕ) → HasRoom n (M.holds store.old) → HasRoom n (M.holds store.new) }

@@ -30,7 +30,8 @@ pub struct DumpHeader {
 
 // The magic and the time.
 fn first_fields(time: BlkTime) -> ArrayVec<u8, 24>
-    ensures { result.items ≡ to_le_bytes w32 0x4dfc3ae5 ++ replicate 4 0 ++ to_le_bytes w64 time.secs ++ to_le_bytes w64 time.nanos }
+    ensures { result.items ≡ to_le_bytes w32 0x4dfc3ae5 ++ replicate 4 0 ++ to_le_bytes w64 time.secs
+        ++ to_le_bytes w64 time.nanos }
 {
     let mut bytes: ArrayVec<u8, 24> = ArrayVec::new();
     let _room = bytes.try_extend_from_slice(&MAGIC.to_le_bytes());
@@ -42,7 +43,8 @@ fn first_fields(time: BlkTime) -> ArrayVec<u8, 24>
 
 // Whether the dump is compressed, its counter, and the number of its reason.
 fn last_fields(flag: u8, counter: u32, reason: u32) -> ArrayVec<u8, 16>
-    ensures { result.items ≡ flag ∷ replicate 3 0 ++ to_le_bytes w32 counter ++ to_le_bytes w32 reason ++ replicate 4 0 }
+    ensures { result.items ≡ flag ∷ replicate 3 0 ++ to_le_bytes w32 counter ++ to_le_bytes w32 reason
+        ++ replicate 4 0 }
 {
     let mut bytes: ArrayVec<u8, 16> = ArrayVec::new();
     let _room = bytes.try_extend_from_slice(&[flag, 0, 0, 0]);
@@ -80,7 +82,8 @@ pub fn write_dump<M: Store>(
     requires zone { IsZone zone }
     requires sized { 4096 ≤ zone.size }
     requires room { HasRoom (zone.at + zone.size) (M.holds store.old) }
-    ensures ends { Ends result (dump_writes zone dump.time dump.packed dump.counter dump.reason body.now) cut.old cut.new (M.holds store.old) (M.holds store.new) }
+    ensures ends { Ends result (dump_writes zone dump.time dump.packed dump.counter dump.reason body.now)
+        cut.old cut.new (M.holds store.old) (M.holds store.new) }
     ensures room { HasRoom (zone.at + zone.size) (M.holds store.new) }
     ensures cause { HasCause (M.faults store.old) (M.faults store.new) result }
 {

@@ -84,7 +84,8 @@ fn reason_text(reason: u32) -> &'static str
 }
 
 fn heading(alloc: Global, dump: &Dump) -> Result<Vec<u8>, AllocError>
-    ensures { IfOk result (λ v. v.items ≡ reason_word dump.now.reason ++ codes ": Total " ++ decimal dump.now.counter ++ codes " times" ++ 10 ∷ []) }
+    ensures { IfOk result (λ v. v.items ≡ reason_word dump.now.reason ++ codes ": Total " ++ decimal dump.now.counter
+        ++ codes " times" ++ 10 ∷ []) }
 {
     let mut digits = Buffer::new();
     let mut text = Vec::from_slice(alloc, reason_text(dump.reason).as_bytes())?;
@@ -199,7 +200,8 @@ fn dump_named(behind: &str) -> Option<BlkName>
     }
 }
 
-/// The name with this text, or `None` exactly where no name of a record has it. A dump's number is below 2^32 and has no
+/// The name with this text, or `None` exactly where no name of a record has it. A dump's number is below 2^32 and has
+/// no
 /// leading zeros.
 pub fn blk_find(text: &str) -> Option<BlkName>
     ensures { IsNameOf text.now result }

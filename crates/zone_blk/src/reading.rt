@@ -40,7 +40,14 @@ impl Model for Dump {
 
     ghost Value = { BlkDump };
 
-    ghost view = { λ d. record { index = d.index; time = d.time; packed = d.packed; counter = d.counter; reason = d.reason; body = d.body } };
+    ghost view = { λ d. record {
+      index = d.index;
+      time = d.time;
+      packed = d.packed;
+      counter = d.counter;
+      reason = d.reason;
+      body = d.body;
+    } };
 }
 
 fn word_at(bytes: &[u8], at: usize) -> u32
@@ -179,7 +186,8 @@ pub fn read_ring<M: Store>(
     requires zone { IsZone zone }
     requires sig { 0 < zone.sig }
     requires room { HasRoom (zone.at + zone.size) (M.holds store.old) }
-    ensures saved { IfOk result (λ saved. IfSome (M.holds store.old) (λ bs. saved ≡ saved_of zone (zone_bytes bs zone))) }
+    ensures saved { IfOk result (λ saved. IfSome (M.holds store.old)
+        (λ bs. saved ≡ saved_of zone (zone_bytes bs zone))) }
     ensures none { IfOk result (λ saved. zone.size ≡ 0 → saved ≡ None) }
     ensures fault { IfErr result (λ e. IsReadFault e (M.faults store.old) (M.faults store.new)) }
     ensures same { M.holds store.new ≡ M.holds store.old }
@@ -204,7 +212,8 @@ fn read_dump<M: Store>(
     requires zone { IsZone zone }
     requires sized { 4096 ≤ zone.size }
     requires room { HasRoom (zone.at + zone.size) (M.holds store.old) }
-    ensures dump { IfOk result (λ dump. IfSome (M.holds store.old) (λ bs. dump ≡ dump_of index zone (zone_bytes bs zone))) }
+    ensures dump { IfOk result (λ dump. IfSome (M.holds store.old)
+        (λ bs. dump ≡ dump_of index zone (zone_bytes bs zone))) }
     ensures index { IfOk result (λ dump. IfSome dump (λ d. d.index ≡ index)) }
     ensures fault { IfErr result (λ e. IsReadFault e (M.faults store.old) (M.faults store.new)) }
     ensures same { M.holds store.new ≡ M.holds store.old }

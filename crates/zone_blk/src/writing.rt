@@ -109,7 +109,8 @@ pub fn write_run<M: Store>(
     requires zone { IsZone zone }
     requires inside { 12 + place + length bytes.now ≤ zone.size }
     requires room { HasRoom (zone.at + zone.size) (M.holds store.old) }
-    ensures ends { Ends result (run_writes zone place bytes.now words) cut.old cut.new (M.holds store.old) (M.holds store.new) }
+    ensures ends { Ends result (run_writes zone place bytes.now words) cut.old cut.new (M.holds store.old)
+        (M.holds store.new) }
     ensures room { HasRoom (zone.at + zone.size) (M.holds store.new) }
     ensures cause { HasCause (M.faults store.old) (M.faults store.new) result }
 {
@@ -129,7 +130,8 @@ fn write_zeros<M: Store>(
     requires zone { IsZone zone }
     requires inside { from ≤ zone.at + zone.size }
     requires room { HasRoom (zone.at + zone.size) (M.holds store.old) }
-    ensures ends { Ends result (one_write from (replicate ((zone.at + zone.size) - from) 0)) cut.old cut.new (M.holds store.old) (M.holds store.new) }
+    ensures ends { Ends result (one_write from (replicate ((zone.at + zone.size) - from) 0)) cut.old cut.new
+        (M.holds store.old) (M.holds store.new) }
     ensures room { HasRoom (zone.at + zone.size) (M.holds store.new) }
     ensures cause { HasCause (M.faults store.old) (M.faults store.new) result }
 {
@@ -159,7 +161,8 @@ pub fn write_zone<M: Store>(
     requires inside { length header.now + length front.now + length body.now ≤ zone.size }
     requires room { HasRoom (zone.at + zone.size) (M.holds store.old) }
     ensures ends { Ends result (one_write zone.at (header.now ++ front.now ++ body.now
-        ++ replicate (zone.size - (length header.now + length front.now + length body.now)) 0)) cut.old cut.new (M.holds store.old) (M.holds store.new) }
+        ++ replicate (zone.size - (length header.now + length front.now + length body.now)) 0)) cut.old cut.new
+        (M.holds store.old) (M.holds store.new) }
     ensures room { HasRoom (zone.at + zone.size) (M.holds store.new) }
     ensures cause { HasCause (M.faults store.old) (M.faults store.new) result }
 {

@@ -35,8 +35,10 @@ pub record Starts (f : Flying) : Type 0 where
   pub count : count_left f ≡ total_of f
   pub left : (image : List ℕ) → stores_left f image ≡ stores_in_turn f.zone (call_stages f.zone f.words f.call) image
 
-starts_by : (f : Flying) (p : Phase) (st : Stage) → IsSound f → f.place.phase ≡ p → f.place.number ≡ 0 → 0 < phase_len f p → call_stages f.zone f.words f.call ≡ st ∷ behind f p
-    → stage_count f.zone st ≡ phase_len f p → ((image : List ℕ) → stores_of f p ≡ stage_stores f.zone st image) → Starts f
+starts_by : (f : Flying) (p : Phase) (st : Stage) → IsSound f → f.place.phase ≡ p → f.place.number ≡ 0
+    → 0 < phase_len f p → call_stages f.zone f.words f.call ≡ st ∷ behind f p
+    → stage_count f.zone st ≡ phase_len f p → ((image : List ℕ) → stores_of f p ≡ stage_stores f.zone st image)
+    → Starts f
 starts_by f p st sound e n some stages count stores = record {
   sound = sound;
   ready = inr (subst (λ q. f.place.number < phase_len f q) (sym e) (omega arith));
@@ -52,7 +54,8 @@ starts_by f p st sound e n some stages count stores = record {
       ∙ ap (λ gs. stores_in_turn f.zone gs image) (sym stages);
 }
 
-starts_ended : (f : Flying) → IsSound f → f.place.phase ≡ Finished → f.place.number ≡ 0 → call_stages f.zone f.words f.call ≡ [] → Starts f
+starts_ended : (f : Flying) → IsSound f → f.place.phase ≡ Finished → f.place.number ≡ 0
+    → call_stages f.zone f.words f.call ≡ [] → Starts f
 unfolding stores_in_turn
 starts_ended f sound e n stages = record {
   sound = sound;
@@ -65,10 +68,18 @@ abbrev pub started : Zone → Words → Call → Flying
 started z w call = record { zone = z; words = w; call = call; made = 0; place = first_place z w call; parity = [] }
 
 abbrev appending : Zone → Words → List ℕ → Phase → Flying
-appending z w bytes p = record { zone = z; words = w; call = Append bytes; made = 0; place = record { leg = Payload; start = w.start; size = w.size; phase = p; block = 0; number = 0 }; parity = [] }
+appending z w bytes p = record {
+  zone = z;
+  words = w;
+  call = Append bytes;
+  made = 0;
+  place = record { leg = Payload; start = w.start; size = w.size; phase = p; block = 0; number = 0 };
+  parity = [];
+}
 
 module _ (z : Zone) (w : Words) (valid : IsValidZone z) (ring : IsRing w z.cap) where
-  sound_append : (bytes : List ℕ) (p : Phase) → w.start < z.cap → IsWithin (appending z w bytes p) p → IsSound (appending z w bytes p)
+  sound_append : (bytes : List ℕ) (p : Phase) → w.start < z.cap → IsWithin (appending z w bytes p) p
+      → IsSound (appending z w bytes p)
   unfolding line_of
   sound_append bytes p below within = record {
     valid = valid;
@@ -92,15 +103,20 @@ module _ (z : Zone) (w : Words) (valid : IsValidZone z) (ring : IsRing w z.cap) 
             (let some : 0 < length xs = omega (arith, e.1) in
             elim (eqb_tells w.size z.cap) [
               | inl full ↦ rw full.0
-                  (starts_by (appending z w bytes Start) Start (StartWord ((w.start + length xs) % z.cap)) (sound_append bytes Start below some) refl refl (omega arith)
-                  (stages_append z w bytes ∙ sym (append-nil (append_stages z w.start w.size xs)) ∙ append_begins_full z w.start w.size xs [] full.0 some) refl (λ image. refl))
+                  (starts_by (appending z w bytes Start) Start (StartWord ((w.start + length xs) % z.cap))
+                  (sound_append bytes Start below some) refl refl (omega arith)
+                  (stages_append z w bytes ∙ sym (append-nil (append_stages z w.start w.size xs))
+                  ∙ append_begins_full z w.start w.size xs [] full.0 some) refl (λ image. refl))
               | inr less ↦ rw less.0
-                  (starts_by (appending z w bytes Size) Size (SizeWord (min z.cap (w.size + length xs))) (sound_append bytes Size below some) refl refl (omega arith)
-                  (stages_append z w bytes ∙ sym (append-nil (append_stages z w.start w.size xs)) ∙ append_begins_ne z w.start w.size xs [] less.0 some) refl (λ image. refl))
+                  (starts_by (appending z w bytes Size) Size (SizeWord (min z.cap (w.size + length xs)))
+                  (sound_append bytes Size below some) refl refl (omega arith)
+                  (stages_append z w bytes ∙ sym (append-nil (append_stages z w.start w.size xs))
+                  ∙ append_begins_ne z w.start w.size xs [] less.0 some) refl (λ image. refl))
             ])
       ]
 
-  sound_erasure : (call : Call) → length (line_of call) ≤ 36 → IsSound (record { zone = z; words = w; call = call; made = 0; place = erasure; parity = [] })
+  sound_erasure : (call : Call) → length (line_of call) ≤ 36
+      → IsSound (record { zone = z; words = w; call = call; made = 0; place = erasure; parity = [] })
   sound_erasure call line = record {
     valid = valid;
     below = omega (arith, valid.room);
@@ -115,11 +131,14 @@ module _ (z : Zone) (w : Words) (valid : IsValidZone z) (ring : IsRing w z.cap) 
   unfolding stage_stores line_of front_of
   starts (Append bytes) open_for line = starts_append bytes open_for.0
   starts Erase open_for line =
-      starts_by (started z w Erase) ZeroStart (StartWord 0) (sound_erasure Erase line) refl refl (omega arith) refl refl (λ image. refl)
+      starts_by (started z w Erase) ZeroStart (StartWord 0) (sound_erasure Erase line) refl refl (omega arith)
+      refl refl (λ image. refl)
   starts (Dump head body) open_for line =
-      starts_by (started z w (Dump head body)) ZeroStart (StartWord 0) (sound_erasure (Dump head body) line) refl refl (omega arith) (stages_dump z w head body) refl (λ image. refl)
+      starts_by (started z w (Dump head body)) ZeroStart (StartWord 0) (sound_erasure (Dump head body) line) refl refl
+      (omega arith) (stages_dump z w head body) refl (λ image. refl)
 
-pub kept_starts : (f : Flying) → Starts f → f.made ≡ 0 → IsRing f.words f.zone.cap → IsOpenFor f.call f.words f.zone.cap → total_of f < 2 ^ 32 → IsKept f
+pub kept_starts : (f : Flying) → Starts f → f.made ≡ 0 → IsRing f.words f.zone.cap
+    → IsOpenFor f.call f.words f.zone.cap → total_of f < 2 ^ 32 → IsKept f
 kept_starts f starts none ring open_for small = record {
   sound = starts.sound;
   ring = ring;
@@ -129,11 +148,13 @@ kept_starts f starts none ring open_for small = record {
   small = small;
 }
 
-pub stands_starts : (f : Flying) (image : List ℕ) → Starts f → f.made ≡ 0 → f.words ≡ standing_words image → StandsFor f image image
+pub stands_starts : (f : Flying) (image : List ℕ) → Starts f → f.made ≡ 0 → f.words ≡ standing_words image
+    → StandsFor f image image
 unfolding call_stores
 stands_starts f image starts none words = record {
   words = sym words;
   underway =
       subst (λ n. IsUnderway f.zone f.call image image n (stores_left f image)) (sym none)
-      (underway_begins f.zone f.call image (stores_left f image) (starts.left image ∙ ap (λ w. stores_in_turn f.zone (call_stages f.zone w f.call) image) words));
+      (underway_begins f.zone f.call image (stores_left f image)
+      (starts.left image ∙ ap (λ w. stores_in_turn f.zone (call_stages f.zone w f.call) image) words));
 }

@@ -27,9 +27,11 @@ length-stores_of f ZeroStart w = refl
 length-stores_of f ZeroSize w = refl
 length-stores_of f Size w = refl
 length-stores_of f Start w = refl
-length-stores_of f First w = length-byte_stores (12 + f.place.start) (first_run f) ∙ length-take (f.zone.cap - f.place.start) (payload f)
+length-stores_of f First w = length-byte_stores (12 + f.place.start) (first_run f)
+    ∙ length-take (f.zone.cap - f.place.start) (payload f)
 length-stores_of f FirstParity w = length-byte_stores (part_parity_at f.zone (Block f.place.block)) f.parity ∙ w.0
-length-stores_of f Second w = length-byte_stores 12 (second_run f) ∙ omega (arith, length-drop (f.zone.cap - f.place.start) (payload f))
+length-stores_of f Second w = length-byte_stores 12 (second_run f)
+    ∙ omega (arith, length-drop (f.zone.cap - f.place.start) (payload f))
 length-stores_of f SecondParity w = length-byte_stores (part_parity_at f.zone (Block f.place.block)) f.parity ∙ w.0
 length-stores_of f HeaderPhase w = length-byte_stores (part_parity_at f.zone Header) f.parity ∙ w
 length-stores_of f Finished w = refl
@@ -37,21 +39,27 @@ length-stores_of f Finished w = refl
 pub all_stored : (f : Flying) → IsSound f → IsDone f → AllStored f
 all_stored f sound done = done ∙ sym (length-stores_of f f.place.phase sound.within)
 
-pub in_turn_next : (z : Zone) (st : Stage) (gs : List Stage) (image : List ℕ) → stores_in_turn z (st ∷ gs) image ≡ stage_stores z st image ++ stores_in_turn z gs (after_stores image (stage_stores z st image))
+pub in_turn_next : (z : Zone) (st : Stage) (gs : List Stage) (image : List ℕ)
+    → stores_in_turn z (st ∷ gs) image ≡ stage_stores z st image ++ stores_in_turn z gs
+    (after_stores image (stage_stores z st image))
 unfolding stores_in_turn
 in_turn_next z st gs image = refl
 
-pub left_done : (f : Flying) (p : Phase) (image : List ℕ) → f.place.phase ≡ p → AllStored f → stores_left f image ≡ stores_in_turn f.zone (behind f p) image
+pub left_done : (f : Flying) (p : Phase) (image : List ℕ) → f.place.phase ≡ p → AllStored f
+    → stores_left f image ≡ stores_in_turn f.zone (behind f p) image
 unfolding stores_left after_stores
 left_done f p image e done =
-    let none : drop f.place.number (stores_of f f.place.phase) ≡ [] = drop_all f.place.number (stores_of f f.place.phase) (omega (arith, done)) in
+    let none : drop f.place.number (stores_of f f.place.phase) ≡ [] =
+    drop_all f.place.number (stores_of f f.place.phase) (omega (arith, done)) in
     ap (λ ss. ss ++ stores_in_turn f.zone (behind f f.place.phase) (after_stores image ss)) none
     ∙ ap (λ q. stores_in_turn f.zone (behind f q) image) e
 
-pub left_begun : (g : Flying) (q : Phase) (image : List ℕ) → g.place.phase ≡ q → g.place.number ≡ 0 → stores_left g image ≡ stores_of g q ++ stores_in_turn g.zone (behind g q) (after_stores image (stores_of g q))
+pub left_begun : (g : Flying) (q : Phase) (image : List ℕ) → g.place.phase ≡ q → g.place.number ≡ 0
+    → stores_left g image ≡ stores_of g q ++ stores_in_turn g.zone (behind g q) (after_stores image (stores_of g q))
 unfolding stores_left
 left_begun g q image e n =
-    ap (λ k. drop k (stores_of g g.place.phase) ++ stores_in_turn g.zone (behind g g.place.phase) (after_stores image (drop k (stores_of g g.place.phase)))) n
+    ap (λ k. drop k (stores_of g g.place.phase) ++ stores_in_turn g.zone (behind g g.place.phase)
+    (after_stores image (drop k (stores_of g g.place.phase)))) n
     ∙ ap (λ p. stores_of g p ++ stores_in_turn g.zone (behind g p) (after_stores image (stores_of g p))) e
 
 -- how many stores the stages have
@@ -64,7 +72,8 @@ count_done f p e done =
     (let n : count_left f ≡ counted f.zone (behind f f.place.phase) = omega (arith, none) in n)
     ∙ ap (λ q. counted f.zone (behind f q)) e
 
-pub count_begun : (g : Flying) (q : Phase) → g.place.phase ≡ q → g.place.number ≡ 0 → count_left g ≡ phase_len g q + counted g.zone (behind g q)
+pub count_begun : (g : Flying) (q : Phase) → g.place.phase ≡ q → g.place.number ≡ 0
+    → count_left g ≡ phase_len g q + counted g.zone (behind g q)
 count_begun g q e n =
     (let m : count_left g ≡ phase_len g g.place.phase + counted g.zone (behind g g.place.phase) = omega (arith, n) in m)
     ∙ ap (λ p. phase_len g p + counted g.zone (behind g p)) e
@@ -81,7 +90,8 @@ most f SecondParity = omega arith
 most f HeaderPhase = omega arith
 most f Finished = omega arith
 
-least : (f : Flying) (p : Phase) (st : Stage) (gs : List Stage) → behind f p ≡ st ∷ gs → length (behind f p) + 1 ≤ phases_left f p
+least : (f : Flying) (p : Phase) (st : Stage) (gs : List Stage) → behind f p ≡ st ∷ gs
+    → length (behind f p) + 1 ≤ phases_left f p
 least f ZeroStart st gs e = omega arith
 least f ZeroSize st gs e = omega arith
 least f Size st gs e = omega arith
@@ -94,13 +104,17 @@ least f HeaderPhase st gs e = omega arith
 least f Finished st gs e = let n : ◌≡◌ {A = ℕ} 0 1 = cc in absurd (omega (arith, n))
 
 -- a phase whose stores are those of the next stage
-pub enters_by : (f g : Flying) (image : List ℕ) (p q : Phase) (st : Stage) → f.place.phase ≡ p → AllStored f → IsDone f → g.place.phase ≡ q → g.place.number ≡ 0 → g.zone ≡ f.zone → g.words ≡ f.words → g.call ≡ f.call → g.made ≡ f.made
-    → stores_of g q ≡ stage_stores f.zone st image → stage_count f.zone st ≡ phase_len g q → behind f p ≡ st ∷ behind g q → Enters f g image
+pub enters_by : (f g : Flying) (image : List ℕ) (p q : Phase) (st : Stage) → f.place.phase ≡ p → AllStored f
+    → IsDone f → g.place.phase ≡ q → g.place.number ≡ 0 → g.zone ≡ f.zone → g.words ≡ f.words → g.call ≡ f.call
+    → g.made ≡ f.made
+    → stores_of g q ≡ stage_stores f.zone st image → stage_count f.zone st ≡ phase_len g q
+    → behind f p ≡ st ∷ behind g q → Enters f g image
 enters_by f g image p q st e all done eg ng zone words call made stores count next = record {
   left =
       left_begun g q image eg ng
       ∙ ap (λ ss. ss ++ stores_in_turn g.zone (behind g q) (after_stores image ss)) stores
-      ∙ ap (λ z. stage_stores f.zone st image ++ stores_in_turn z (behind g q) (after_stores image (stage_stores f.zone st image))) zone
+      ∙ ap (λ z. stage_stores f.zone st image ++ stores_in_turn z (behind g q)
+      (after_stores image (stage_stores f.zone st image))) zone
       ∙ sym (in_turn_next f.zone st (behind g q) image)
       ∙ ap (λ gs. stores_in_turn f.zone gs image) (sym next)
       ∙ sym (left_done f p image e all);

@@ -18,8 +18,13 @@ front_byte n xs h k = elim (cases_lt k n) [
   | inr g ↦ rw (get_or_past (take n xs) k 0 (omega (arith, length-take n xs))) (omega arith)
 ]
 
-pub parity_length : (z : Zone) (image : List ℕ) (p : Part) → AreBytes image → length (parity_of z.parity (part_bytes z image p)) ≡ z.parity
+pub parity_length : (z : Zone) (image : List ℕ) (p : Part) → AreBytes image
+    → length (parity_of z.parity (part_bytes z image p)) ≡ z.parity
 unfolding part_bytes
 parity_length z image p bytes =
     let m : List ℕ = take ((part_at z p + part_len z p) - part_at z p) (drop (part_at z p) image) in
-    (parity_made z.parity m (refl, all_bytes m (front_byte _ (drop (part_at z p) image) (λ k. rw (get_or-drop (part_at z p) image k 0) (bytes (part_at z p + k)))))).0.0
+    (parity_made z.parity m (
+      refl,
+      all_bytes m (front_byte _ (drop (part_at z p) image)
+          (λ k. rw (get_or-drop (part_at z p) image k 0) (bytes (part_at z p + k)))),
+    )).0.0

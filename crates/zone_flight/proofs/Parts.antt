@@ -18,7 +18,8 @@ use Rattle.zone_flight.specs.Phases.{IsDone, IsSound, first_run, second_run}
 use Rattle.zone_flight.specs.Machine.{behind, Enters}
 use Rattle.zone_flight.proofs.Left.{AllStored, enters_by}
 
-regroup : (a r1 r2 more : List Stage) (s h : Stage) → a ++ s ∷ [] ++ r1 ++ r2 ++ h ∷ [] ++ more ≡ a ++ (s ∷ (r1 ++ (r2 ++ h ∷ more)))
+regroup : (a r1 r2 more : List Stage) (s h : Stage) → a ++ s ∷ [] ++ r1 ++ r2 ++ h ∷ [] ++ more
+    ≡ a ++ (s ∷ (r1 ++ (r2 ++ h ∷ more)))
 regroup a r1 r2 more s h =
     append_assoc (a ++ s ∷ [] ++ r1 ++ r2) (h ∷ []) more
     ∙ append_assoc (a ++ s ∷ [] ++ r1) r2 (h ∷ more)
@@ -27,25 +28,34 @@ regroup a r1 r2 more s h =
 
 -- the stages behind the size word
 abbrev pub sized : Zone → ℕ → List ℕ → List Stage → List Stage
-sized z start xs more = StartWord ((start + length xs) % z.cap) ∷ (run_stages z start (take (z.cap - start) xs) ++ (run_stages z 0 (drop (z.cap - start) xs) ++ ParityOf Header ∷ more))
+sized z start xs more = StartWord ((start + length xs) % z.cap)
+    ∷ (run_stages z start (take (z.cap - start) xs) ++ (run_stages z 0 (drop (z.cap - start) xs) ++ ParityOf Header
+    ∷ more))
 
-append_by : (z : Zone) (start size : ℕ) (xs more : List Stage) (bytes : List ℕ) (full : Bool) → (size == z.cap) ≡ full → 0 < length bytes
-    → append_stages z start size bytes ++ more ≡ cond full [] (SizeWord (min z.cap (size + length bytes)) ∷ []) ++ sized z start bytes more
+append_by : (z : Zone) (start size : ℕ) (xs more : List Stage) (bytes : List ℕ) (full : Bool) → (size == z.cap) ≡ full
+    → 0 < length bytes
+    → append_stages z start size bytes ++ more ≡ cond full [] (SizeWord (min z.cap (size + length bytes)) ∷ [])
+    ++ sized z start bytes more
 append_by z start size xs more [] full e h = absurd (omega arith)
 append_by z start size xs more (b ∷ bs) full e h =
     let bytes : List ℕ = b ∷ bs in
-    regroup (cond (size == z.cap) [] (SizeWord (min z.cap (size + length bytes)) ∷ [])) (run_stages z start (take (z.cap - start) bytes)) (run_stages z 0 (drop (z.cap - start) bytes)) more (StartWord ((start + length bytes) % z.cap)) (ParityOf Header)
+    regroup (cond (size == z.cap) [] (SizeWord (min z.cap (size + length bytes)) ∷ []))
+    (run_stages z start (take (z.cap - start) bytes)) (run_stages z 0 (drop (z.cap - start) bytes)) more
+    (StartWord ((start + length bytes) % z.cap)) (ParityOf Header)
     ∙ ap (λ f. cond f [] (SizeWord (min z.cap (size + length bytes)) ∷ []) ++ sized z start bytes more) e
 
 pub append_begins : (z : Zone) (start size : ℕ) (bytes : List ℕ) (more : List Stage) → size < z.cap → 0 < length bytes
     → append_stages z start size bytes ++ more ≡ SizeWord (min z.cap (size + length bytes)) ∷ sized z start bytes more
-append_begins z start size bytes more h some = append_by z start size [] more bytes false (ne_eqb size z.cap (λ e. omega (arith, e))) some
+append_begins z start size bytes more h some = append_by z start size [] more bytes false
+    (ne_eqb size z.cap (λ e. omega (arith, e))) some
 
-pub append_begins_ne : (z : Zone) (start size : ℕ) (bytes : List ℕ) (more : List Stage) → (size == z.cap) ≡ false → 0 < length bytes
+pub append_begins_ne : (z : Zone) (start size : ℕ) (bytes : List ℕ) (more : List Stage) → (size == z.cap) ≡ false
+    → 0 < length bytes
     → append_stages z start size bytes ++ more ≡ SizeWord (min z.cap (size + length bytes)) ∷ sized z start bytes more
 append_begins_ne z start size bytes more h some = append_by z start size [] more bytes false h some
 
-pub append_begins_full : (z : Zone) (start size : ℕ) (bytes : List ℕ) (more : List Stage) → (size == z.cap) ≡ true → 0 < length bytes
+pub append_begins_full : (z : Zone) (start size : ℕ) (bytes : List ℕ) (more : List Stage) → (size == z.cap) ≡ true
+    → 0 < length bytes
     → append_stages z start size bytes ++ more ≡ sized z start bytes more
 append_begins_full z start size bytes more h some = append_by z start size [] more bytes true h some
 
@@ -55,23 +65,30 @@ begun leg at = record { leg = leg; start = at; size = at; phase = Size; block = 
 
 module _ (f : Flying) (image : List ℕ) (all : AllStored f) (done : IsDone f) (is : f.place.phase ≡ HeaderPhase) where
   -- the body behind the line, or behind an erasure where the line is empty
-  pub enter_body : later f ≡ body_stages f.zone f.call → length (line_of f.call) < f.zone.cap → 0 < length (front_of f.zone.cap f.call) → Enters f (at_place f (begun Body (length (line_of f.call)))) image
+  pub enter_body : later f ≡ body_stages f.zone f.call → length (line_of f.call) < f.zone.cap
+      → 0 < length (front_of f.zone.cap f.call) → Enters f (at_place f (begun Body (length (line_of f.call)))) image
   unfolding stage_stores
   enter_body behind_is h some =
       let at : ℕ = length (line_of f.call) in
       let g : Flying = at_place f (begun Body at) in
-      enters_by f g image HeaderPhase Size (SizeWord (min f.zone.cap (at + length (front_of f.zone.cap f.call)))) is all done refl refl refl refl refl refl refl refl
-      (behind_is ∙ sym (append-nil (append_stages f.zone at at (front_of f.zone.cap f.call))) ∙ append_begins f.zone at at (front_of f.zone.cap f.call) [] h some)
+      enters_by f g image HeaderPhase Size (SizeWord (min f.zone.cap (at + length (front_of f.zone.cap f.call))))
+      is all done refl refl refl refl refl refl refl refl
+      (behind_is ∙ sym (append-nil (append_stages f.zone at at (front_of f.zone.cap f.call)))
+      ∙ append_begins f.zone at at (front_of f.zone.cap f.call) [] h some)
 
-  pub enter_line : f.place.leg ≡ Erasure → 0 < f.zone.cap → 0 < length (line_of f.call) → Enters f (at_place f (begun Line 0)) image
+  pub enter_line : f.place.leg ≡ Erasure → 0 < f.zone.cap → 0 < length (line_of f.call)
+      → Enters f (at_place f (begun Line 0)) image
   unfolding stage_stores
   enter_line leg h some =
       let g : Flying = at_place f (begun Line 0) in
-      enters_by f g image HeaderPhase Size (SizeWord (min f.zone.cap (0 + length (line_of f.call)))) is all done refl refl refl refl refl refl refl refl
-      (ap (λ l. later (record f { place = record f.place { leg = l } })) leg ∙ append_begins f.zone 0 0 (line_of f.call) (body_stages f.zone f.call) h some)
+      enters_by f g image HeaderPhase Size (SizeWord (min f.zone.cap (0 + length (line_of f.call))))
+      is all done refl refl refl refl refl refl refl refl
+      (ap (λ l. later (record f { place = record f.place { leg = l } })) leg
+      ∙ append_begins f.zone 0 0 (line_of f.call) (body_stages f.zone f.call) h some)
 
 pub no_body : (z : Zone) (call : Call) → length (front_of z.cap call) ≡ 0 → body_stages z call ≡ []
-no_body z call none = ap (append_stages z (length (line_of call)) (length (line_of call))) (nil_from_length (front_of z.cap call) none)
+no_body z call none = ap (append_stages z (length (line_of call)) (length (line_of call)))
+    (nil_from_length (front_of z.cap call) none)
 
 pub front_short : (cap : ℕ) (call : Call) → length (front_of cap call) ≤ cap
 unfolding front_of
@@ -79,7 +96,8 @@ front_short cap (Append bytes) = omega arith
 front_short cap Erase = omega arith
 front_short cap (Dump line body) = omega (arith, length-take (cap - length line) body)
 
-pub sound_body : (f : Flying) → IsSound f → 0 < length (front_of f.zone.cap f.call) → IsSound (at_place f (begun Body (length (line_of f.call))))
+pub sound_body : (f : Flying) → IsSound f → 0 < length (front_of f.zone.cap f.call)
+    → IsSound (at_place f (begun Body (length (line_of f.call))))
 sound_body f sound some = record {
   valid = sound.valid;
   below = omega (arith, sound.line, sound.valid.room);

@@ -16,17 +16,20 @@ use Rattle.zone_flight.specs.Machine.{stores_of, behind, stores_left, count_left
 use Rattle.zone_flight.specs.Calls.{IsOpenFor}
 use Rattle.zone_flight.specs.Counts.{total_of}
 
-after_stores-append : (image : List ℕ) (xs ys : List Store) → after_stores image (xs ++ ys) ≡ after_stores (after_stores image xs) ys
+after_stores-append : (image : List ℕ) (xs ys : List Store)
+    → after_stores image (xs ++ ys) ≡ after_stores (after_stores image xs) ys
 unfolding after_stores
 after_stores-append image [] ys = refl
 after_stores-append image (x ∷ xs) ys = after_stores-append (put image x.place x.bytes) xs ys
 
-pub underway_begins : (z : Zone) (call : Call) (image : List ℕ) (left : List Store) → left ≡ call_stores z call image → IsUnderway z call image image 0 left
+pub underway_begins : (z : Zone) (call : Call) (image : List ℕ) (left : List Store) → left ≡ call_stores z call image
+    → IsUnderway z call image image 0 left
 unfolding after_stores
 underway_begins z call image left e = record { done = []; whole = sym e; image = refl; count = refl }
 
 -- one store more
-underway_step : {z : Zone} {call : Call} {before now : List ℕ} {made : ℕ} {s : Store} {left : List Store} → IsUnderway z call before now made (s ∷ left) → IsUnderway z call before (put now s.place s.bytes) (made + 1) left
+underway_step : {z : Zone} {call : Call} {before now : List ℕ} {made : ℕ} {s : Store} {left : List Store}
+    → IsUnderway z call before now made (s ∷ left) → IsUnderway z call before (put now s.place s.bytes) (made + 1) left
 unfolding after_stores
 underway_step {z} {call} {before} {now} {made} {s} {left} u = record {
   done = u.done ++ s ∷ [];
@@ -78,7 +81,8 @@ moved_len f Finished = refl
 drop-get : (xs : List Store) (k : ℕ) (s : Store) → slice_get xs k ≡ Some s → drop k xs ≡ s ∷ drop (k + 1) xs
 drop-get [] k s e = let n : ◌≡◌ {A = ℕ} 0 1 = cc in absurd (omega (arith, n))
 drop-get (x ∷ xs) zero s e = let same : x ≡ s = cc in ap (λ y. y ∷ xs) same
-drop-get (x ∷ xs) (suc k) s e = drop-get xs k s e ∙ ap (λ n. s ∷ drop n (x ∷ xs)) (let m : suc (k + 1) ≡ suc k + 1 = omega arith in m)
+drop-get (x ∷ xs) (suc k) s e = drop-get xs k s e ∙ ap (λ n. s ∷ drop n (x ∷ xs))
+    (let m : suc (k + 1) ≡ suc k + 1 = omega arith in m)
 
 left_next : (f : Flying) (s : Store) (image : List ℕ) → slice_get (stores_of f f.place.phase) f.place.number ≡ Some s
     → stores_left f image ≡ s ∷ stores_left (later_by_one f) (put image s.place s.bytes)
@@ -87,11 +91,14 @@ left_next f s image e =
     let k : ℕ = f.place.number in
     let p : Phase = f.place.phase in
     ap (λ ss. ss ++ stores_in_turn f.zone (behind f p) (after_stores image ss)) (drop-get (stores_of f p) k s e)
-    ∙ ap (λ gs. s ∷ (drop (k + 1) (stores_of f p) ++ stores_in_turn f.zone gs (after_stores (put image s.place s.bytes) (drop (k + 1) (stores_of f p))))) (sym (moved_behind f p))
-    ∙ ap (λ ss. s ∷ (drop (k + 1) ss ++ stores_in_turn f.zone (behind (later_by_one f) p) (after_stores (put image s.place s.bytes) (drop (k + 1) ss)))) (sym (moved_stores f p))
+    ∙ ap (λ gs. s ∷ (drop (k + 1) (stores_of f p) ++ stores_in_turn f.zone gs
+    (after_stores (put image s.place s.bytes) (drop (k + 1) (stores_of f p))))) (sym (moved_behind f p))
+    ∙ ap (λ ss. s ∷ (drop (k + 1) ss ++ stores_in_turn f.zone (behind (later_by_one f) p)
+    (after_stores (put image s.place s.bytes) (drop (k + 1) ss)))) (sym (moved_stores f p))
 
 -- one store fewer is left
-pub count_next : (f : Flying) → f.place.number < phase_len f f.place.phase → count_left (later_by_one f) + 1 ≡ count_left f
+pub count_next : (f : Flying) → f.place.number < phase_len f f.place.phase
+    → count_left (later_by_one f) + 1 ≡ count_left f
 count_next f h =
     let p : Phase = f.place.phase in
     let n : phase_len (later_by_one f) p ≡ phase_len f p = moved_len f p in
@@ -99,15 +106,19 @@ count_next f h =
     rw b (omega (arith, n))
 
 -- after the store, whatever phase was then entered
-pub stands_next : (f h : Flying) (s : Store) (old new before : List ℕ) → slice_get (stores_of f f.place.phase) f.place.number ≡ Some s → new ≡ put old s.place s.bytes → IsSettled (later_by_one f) h new
+pub stands_next : (f h : Flying) (s : Store) (old new before : List ℕ)
+    → slice_get (stores_of f f.place.phase) f.place.number ≡ Some s → new ≡ put old s.place s.bytes
+    → IsSettled (later_by_one f) h new
     → StandsFor f old before → StandsFor h new before
 stands_next f h s old new before get put_is settled stands =
     let g : Flying = later_by_one f in
-    let u : IsUnderway f.zone f.call before (put old s.place s.bytes) (f.made + 1) (stores_left g (put old s.place s.bytes)) =
+    let u : IsUnderway f.zone f.call before (put old s.place s.bytes) (f.made + 1)
+    (stores_left g (put old s.place s.bytes)) =
     underway_step (subst (IsUnderway f.zone f.call before old f.made) (left_next f s old get) stands.underway) in
     let v : IsUnderway f.zone f.call before new (f.made + 1) (stores_left g new) =
     subst (λ x. IsUnderway f.zone f.call before x (f.made + 1) (stores_left g x)) (sym put_is) u in
-    let w : IsUnderway f.zone f.call before new (f.made + 1) (stores_left h new) = subst (IsUnderway f.zone f.call before new (f.made + 1)) (sym settled.left) v in
+    let w : IsUnderway f.zone f.call before new (f.made + 1) (stores_left h new) =
+    subst (IsUnderway f.zone f.call before new (f.made + 1)) (sym settled.left) v in
     record {
       words = stands.words ∙ sym settled.same.words;
       underway =
@@ -148,7 +159,8 @@ total_same {f} {g} same =
 none_left : (f : Flying) → IsFinished f → count_left f ≡ 0
 none_left f e =
     let l : phase_len f f.place.phase ≡ 0 = ap (phase_len f) e in
-    let b : sum_by (stage_count f.zone) (behind f f.place.phase) ≡ 0 = ap (λ p. sum_by (stage_count f.zone) (behind f p)) e in
+    let b : sum_by (stage_count f.zone) (behind f f.place.phase) ≡ 0 =
+    ap (λ p. sum_by (stage_count f.zone) (behind f p)) e in
     omega (arith, l, b)
 
 -- the flight is at its end where all stores are made
@@ -167,13 +179,21 @@ is_ready f kept h = elim kept.ready [
   | inr l ↦ l
 ]
 
-pub kept_next : (f g : Flying) (image : List ℕ) → IsKept f → f.place.number < phase_len f f.place.phase → IsSound g → IsSettled (later_by_one f) g image → IsKept g
+pub kept_next : (f g : Flying) (image : List ℕ) → IsKept f → f.place.number < phase_len f f.place.phase → IsSound g
+    → IsSettled (later_by_one f) g image → IsKept g
 kept_next f g image kept h sound settled =
-    let same : IsSameCall f g = record { zone = settled.same.zone; words = settled.same.words; call = settled.same.call } in
+    let same : IsSameCall f g = record {
+      zone = settled.same.zone;
+      words = settled.same.words;
+      call = settled.same.call;
+    } in
     record {
       sound = sound;
-      ring = subst (λ w. IsRing w g.zone.cap) (sym same.words) (subst (λ z. IsRing f.words z.cap) (sym same.zone) kept.ring);
-      is_open = subst (λ c. IsOpenFor c g.words g.zone.cap) (sym same.call) (subst (λ w. IsOpenFor f.call w g.zone.cap) (sym same.words) (subst (λ z. IsOpenFor f.call f.words z.cap) (sym same.zone) kept.is_open));
+      ring = subst (λ w. IsRing w g.zone.cap) (sym same.words)
+          (subst (λ z. IsRing f.words z.cap) (sym same.zone) kept.ring);
+      is_open = subst (λ c. IsOpenFor c g.words g.zone.cap) (sym same.call)
+          (subst (λ w. IsOpenFor f.call w g.zone.cap) (sym same.words)
+          (subst (λ z. IsOpenFor f.call f.words z.cap) (sym same.zone) kept.is_open));
       ready = settled.ready;
       counted = omega (arith, settled.made, settled.count, count_next f h, kept.counted, total_same same);
       small = omega (arith, kept.small, total_same same);

@@ -17,6 +17,13 @@ abbrev pub append_phase : ℕ → ℕ → ℕ → Phase
 append_phase n size cap = if n == 0 then Finished else (if size == cap then Start else Size)
 
 abbrev pub first_place : Zone → Words → Call → Place
-first_place z w (Append payload) = record { leg = Payload; start = w.start; size = w.size; phase = append_phase (length (last_of z.cap (Append payload))) w.size z.cap; block = 0; number = 0 }
+first_place z w (Append payload) = record {
+  leg = Payload;
+  start = w.start;
+  size = w.size;
+  phase = append_phase (length (last_of z.cap (Append payload))) w.size z.cap;
+  block = 0;
+  number = 0;
+}
 first_place z w Erase = erasure
 first_place z w (Dump line body) = erasure

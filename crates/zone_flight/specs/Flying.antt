@@ -8,7 +8,8 @@ use Rattle.zone_flight.specs.declared.progress.Place.{Place}
 use Rattle.zone_flight.specs.declared.progress.Progress.{Progress}
 use Rattle.zone_flight.specs.Calls.{told_call, leg_bytes, later_stages}
 
--- a call on a zone whose words were these, the number of stores made, where it is, and the parity of the part that is being stored
+-- a call on a zone whose words were these, the number of stores made, where it is, and the parity of the part that is
+-- being stored
 pub record Flying : Type 0 where
   pub zone : Zone
   pub words : Words
@@ -18,7 +19,14 @@ pub record Flying : Type 0 where
   pub parity : List ℕ
 
 abbrev pub seen : Progress → Flying
-seen p = record { zone = p.zone; words = p.words; call = told_call p.call; made = p.made; place = p.place; parity = p.parity.items }
+seen p = record {
+  zone = p.zone;
+  words = p.words;
+  call = told_call p.call;
+  made = p.made;
+  place = p.place;
+  parity = p.parity.items;
+}
 
 -- the same call on the same zone
 pub record IsSameCall (f g : Flying) : Type 0 where

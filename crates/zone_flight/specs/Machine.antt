@@ -38,10 +38,13 @@ closing f = ParityOf Header ∷ later f
 abbrev pub behind : Flying → Phase → List Stage
 behind f ZeroStart = SizeWord 0 ∷ closing f
 behind f ZeroSize = closing f
-behind f Size = StartWord ((f.place.start + length (payload f)) % f.zone.cap) ∷ (run_stages f.zone f.place.start (first_run f) ++ (run_stages f.zone 0 (second_run f) ++ closing f))
+behind f Size = StartWord ((f.place.start + length (payload f)) % f.zone.cap)
+    ∷ (run_stages f.zone f.place.start (first_run f) ++ (run_stages f.zone 0 (second_run f) ++ closing f))
 behind f Start = run_stages f.zone f.place.start (first_run f) ++ (run_stages f.zone 0 (second_run f) ++ closing f)
-behind f First = parities_between (f.place.start / f.zone.block) (first_end f) ++ (run_stages f.zone 0 (second_run f) ++ closing f)
-behind f FirstParity = parities_between (f.place.block + 1) (first_end f) ++ (run_stages f.zone 0 (second_run f) ++ closing f)
+behind f First = parities_between (f.place.start / f.zone.block) (first_end f)
+    ++ (run_stages f.zone 0 (second_run f) ++ closing f)
+behind f FirstParity = parities_between (f.place.block + 1) (first_end f)
+    ++ (run_stages f.zone 0 (second_run f) ++ closing f)
 behind f Second = parities_between 0 (second_end f) ++ closing f
 behind f SecondParity = parities_between (f.place.block + 1) (second_end f) ++ closing f
 behind f HeaderPhase = later f
@@ -51,7 +54,8 @@ behind f Finished = []
 unfoldable pub stores_left : Flying → List ℕ → List Store
 stores_left f image =
     drop f.place.number (stores_of f f.place.phase)
-    ++ stores_in_turn f.zone (behind f f.place.phase) (after_stores image (drop f.place.number (stores_of f f.place.phase)))
+    ++ stores_in_turn f.zone (behind f f.place.phase) (after_stores image
+    (drop f.place.number (stores_of f f.place.phase)))
 
 -- their number
 abbrev pub count_left : Flying → ℕ
@@ -66,7 +70,8 @@ pub record IsKept (f : Flying) : Type 0 where
   pub counted : f.made + count_left f ≡ total_of f
   pub small : total_of f < 2 ^ 32
 
--- the flight and a zone's image stand for the image before: pair 0 is its words, and the image is that after the stores made of the call, and what the flight stores next is what the call stores next
+-- the flight and a zone's image stand for the image before: pair 0 is its words, and the image is that after the
+-- stores made of the call, and what the flight stores next is what the call stores next
 pub record StandsFor (f : Flying) (now before : List ℕ) : Type 0 where
   pub words : standing_words before ≡ f.words
   pub underway : IsUnderway f.zone f.call before now f.made (stores_left f now)
@@ -95,4 +100,5 @@ pub record IsSettled (f g : Flying) (image : List ℕ) : Type 0 where
 
 -- span i has the next store of the flight's phase, and no other span has changed
 abbrev pub Stores : Flying → CutRegion → ℕ → CutRegion → Type 0
-Stores f old i new = (s : Store) × (slice_get (stores_of f f.place.phase) f.place.number ≡ Some s) × (new ≡ with_span old i (put (span old i) s.place s.bytes))
+Stores f old i new = (s : Store) × (slice_get (stores_of f f.place.phase) f.place.number ≡ Some s)
+    × (new ≡ with_span old i (put (span old i) s.place s.bytes))

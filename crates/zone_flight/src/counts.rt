@@ -64,7 +64,8 @@ fn append_stores(zone: &Zone, start: u32, size: u32, len: u32) -> u64
     requires valid { IsValidZone zone.now }
     requires below { start < zone.now.cap }
     requires fits { len ≤ zone.now.cap }
-    ensures value { (bytes : List ℕ) → length bytes ≡ len → sum_by (stage_count zone.now) (append_stages zone.now start size bytes) ≡ result }
+    ensures value { (bytes : List ℕ) → length bytes ≡ len
+        → sum_by (stage_count zone.now) (append_stages zone.now start size bytes) ≡ result }
     ensures small { result < 2 ^ 28 }
 {
     if len == 0 {
@@ -145,7 +146,8 @@ fn add_pairs(pairs: &mut ArrayVec<Pair, 8>, zone: &Zone, words: &Words, call: &C
     requires valid { IsValidZone zone.now }
     requires ring { IsRing words.now zone.now.cap }
     requires is_open { IsOpenFor (told_call call.now) words.now zone.now.cap }
-    ensures pairs { pairs.new.items ++ result ∷ [] ≡ pairs_from (pair_of words.now) (call_stages zone.now words.now (told_call call.now)) }
+    ensures pairs { pairs.new.items ++ result ∷ [] ≡ pairs_from (pair_of words.now)
+        (call_stages zone.now words.now (told_call call.now)) }
     ensures room { length pairs.new.items ≤ 6 }
 {
     let before = Pair {
@@ -212,7 +214,9 @@ fn block_behind(zone: &Zone, place: u32) -> u32
 pub fn call_runs(zone: &Zone, words: &Words, call: &Call) -> ArrayVec<(u32, u32), 2>
     requires valid { IsValidZone zone.now }
     requires is_open { IsOpenFor (told_call call.now) words.now zone.now.cap }
-    ensures { result.items ≡ runs_of (filter (λ b. list_any (λ c. c == b) (touched_by zone.now (call_stages zone.now words.now (told_call call.now)))) (range_with_len 0 zone.now.blocks)) }
+    ensures { result.items ≡ runs_of (filter (λ b. list_any (λ c. c == b)
+        (touched_by zone.now (call_stages zone.now words.now (told_call call.now))))
+        (range_with_len 0 zone.now.blocks)) }
 {
     match call {
         Call::Append(_) => {

@@ -62,7 +62,8 @@ impl Flight {
         requires len { length (span spans.old i) ≡ self.old.zone.size }
         ensures same { IsSameCall self.old self.new }
         ensures made { self.new.made ≡ self.old.made + 1 }
-        ensures stands { (before : List ℕ) → StandsFor self.old (span spans.old i) before → StandsFor self.new (span spans.new i) before }
+        ensures stands { (before : List ℕ) → StandsFor self.old (span spans.old i) before
+            → StandsFor self.new (span spans.new i) before }
         ensures others { spans.new ≡ with_span spans.old i (span spans.new i) }
         ensures len { length (span spans.new i) ≡ length (span spans.old i) }
         ensures done { (result ≡ Step.Done) ↔ (self.new.made ≡ total_of self.new) }
@@ -85,8 +86,10 @@ impl Flight {
     pub fn made(&self) -> u64
         ensures value { result ≡ self.now.made }
         ensures most { result ≤ total_of self.now }
-        ensures image { (now before : List ℕ) → StandsFor self.now now before → now ≡ image_after self.now.zone self.now.call before result }
-        ensures last { (now before : List ℕ) → StandsFor self.now now before → result ≡ total_of self.now → result ≡ length (call_stores self.now.zone self.now.call before) }
+        ensures image { (now before : List ℕ) → StandsFor self.now now before
+            → now ≡ image_after self.now.zone self.now.call before result }
+        ensures last { (now before : List ℕ) → StandsFor self.now now before → result ≡ total_of self.now
+            → result ≡ length (call_stores self.now.zone self.now.call before) }
     {
         self.progress.made
     }

@@ -177,8 +177,10 @@ impl Progress {
     fn enter_header(&mut self, span: &Span)
         requires sound { IsSound (seen self.old) }
         requires len { length span.now ≡ self.old.zone.size }
-        ensures same { seen self.new ≡ record (at_place (seen self.old) (record self.old.place { phase = Phase.Header; number = 0 })) { parity = self.new.parity.items } }
-        ensures value { self.new.parity.items ≡ parity_of self.old.zone.parity (part_bytes self.old.zone span.now Header) }
+        ensures same { seen self.new ≡ record (at_place (seen self.old)
+            (record self.old.place { phase = Phase.Header; number = 0 })) { parity = self.new.parity.items } }
+        ensures value { self.new.parity.items ≡ parity_of self.old.zone.parity
+            (part_bytes self.old.zone span.now Header) }
         ensures len { length self.new.parity.items ≡ self.old.zone.parity }
     {
         let _bytes = span.len();
@@ -191,8 +193,10 @@ impl Progress {
         requires sound { IsSound (seen self.old) }
         requires len { length span.now ≡ self.old.zone.size }
         requires block { self.old.zone.block * block < self.old.zone.cap }
-        ensures same { seen self.new ≡ record (at_place (seen self.old) (record self.old.place { phase = phase; block = block; number = 0 })) { parity = self.new.parity.items } }
-        ensures value { self.new.parity.items ≡ parity_of self.old.zone.parity (part_bytes self.old.zone span.now (Block block)) }
+        ensures same { seen self.new ≡ record (at_place (seen self.old)
+            (record self.old.place { phase = phase; block = block; number = 0 })) { parity = self.new.parity.items } }
+        ensures value { self.new.parity.items ≡ parity_of self.old.zone.parity
+            (part_bytes self.old.zone span.now (Block block)) }
         ensures len { length self.new.parity.items ≡ self.old.zone.parity }
     {
         let _bytes = span.len();
@@ -204,7 +208,8 @@ impl Progress {
 
     /// Begins a later part, at the ring of this start and size.
     fn enter_leg(&mut self, leg: Leg, at: u32)
-        ensures place { seen self.new ≡ at_place (seen self.old) (record { leg = leg; start = at; size = at; phase = Phase.Size; block = 0; number = 0 }) }
+        ensures place { seen self.new ≡ at_place (seen self.old)
+            (record { leg = leg; start = at; size = at; phase = Phase.Size; block = 0; number = 0 }) }
     {
         self.place = Place {
             leg,
@@ -351,7 +356,8 @@ impl Progress {
         requires at { at < length (span spans.old i) }
         requires from { from < length (payload (seen self.now)) }
         requires room { 36 ≤ self.now.zone.cap }
-        ensures { spans.new ≡ with_span spans.old i (put (span spans.old i) at (slice_index (payload (seen self.now)) from ∷ [])) }
+        ensures { spans.new ≡ with_span spans.old i (put (span spans.old i) at
+            (slice_index (payload (seen self.now)) from ∷ [])) }
     {
         let byte = self.payload()[from as usize];
         spans.store(i, at, byte);
@@ -363,7 +369,8 @@ impl Progress {
         requires number { self.now.place.number < length self.now.parity.items }
         requires at { at + self.now.place.number < length (span spans.old i) }
         requires small { length (span spans.old i) < 2 ^ 25 }
-        ensures { spans.new ≡ with_span spans.old i (put (span spans.old i) (at + self.now.place.number) (slice_index self.now.parity.items self.now.place.number ∷ [])) }
+        ensures { spans.new ≡ with_span spans.old i (put (span spans.old i) (at + self.now.place.number)
+            (slice_index self.now.parity.items self.now.place.number ∷ [])) }
     {
         let byte = byte_of(self.parity.as_slice(), self.place.number);
         spans.store(i, at + self.place.number, byte);
@@ -390,7 +397,8 @@ impl Progress {
         ensures kept { IsKept (seen self.new) }
         ensures same { IsSameCall (seen self.old) (seen self.new) }
         ensures made { self.new.made ≡ self.old.made + 1 }
-        ensures stands { (before : List ℕ) → StandsFor (seen self.old) (span spans.old i) before → StandsFor (seen self.new) (span spans.new i) before }
+        ensures stands { (before : List ℕ) → StandsFor (seen self.old) (span spans.old i) before
+            → StandsFor (seen self.new) (span spans.new i) before }
         ensures others { spans.new ≡ with_span spans.old i (span spans.new i) }
         ensures len { length (span spans.new i) ≡ length (span spans.old i) }
         ensures done { IsTrue result ↔ (self.new.made ≡ total_of (seen self.new)) }

@@ -14,11 +14,13 @@ use Rattle.zone_spec.specs.declared.params.LayoutFault.{LayoutFault}
 use Rattle.zone_spec.specs.Layout.{rounded, even, dump_memory, dump_count, one_row, rows, parity_bytes, ecc_of, zone_at, zones_from, parameter_faults, first_fault}
 use Rattle.zone_params.proofs.Rounding.{rounded_le}
 
-clear : (b : Bool) (f : LayoutFault) (r : Option LayoutFault) → (if b then Some f else r) ≡ None → (b ≡ false) × (r ≡ None)
+clear : (b : Bool) (f : LayoutFault) (r : Option LayoutFault) → (if b then Some f else r) ≡ None
+    → (b ≡ false) × (r ≡ None)
 clear true f r h = cc
 clear false f r h = (refl, h)
 
-pub each_clear : (faults : List (Bool × LayoutFault)) → first_fault faults ≡ None → AllByRecursion (λ (row : Bool × LayoutFault). row.0 ≡ false) faults
+pub each_clear : (faults : List (Bool × LayoutFault)) → first_fault faults ≡ None
+    → AllByRecursion (λ (row : Bool × LayoutFault). row.0 ≡ false) faults
 each_clear [] h = tt
 each_clear (row ∷ rows) h = let both = clear row.0 row.1 (first_fault rows) h in (both.0, each_clear rows both.1)
 
@@ -45,7 +47,8 @@ pub record IsFaultless (p : Params) : Type 0 where
 block_cases : (k : ℕ) → not (list_any (λ b. k == b) (32 ∷ 64 ∷ 128 ∷ [])) ≡ false → (k ≡ 32) ⊎ (k ≡ 64) ⊎ (k ≡ 128)
 block_cases k h = by (k == 32) (k == 64) (k == 128) refl refl refl h
   where
-    by : (a b c : Bool) → (k == 32) ≡ a → (k == 64) ≡ b → (k == 128) ≡ c → not (a || (b || (c || false))) ≡ false → (k ≡ 32) ⊎ (k ≡ 64) ⊎ (k ≡ 128)
+    by : (a b c : Bool) → (k == 32) ≡ a → (k == 64) ≡ b → (k == 128) ≡ c → not (a || (b || (c || false))) ≡ false
+        → (k ≡ 32) ⊎ (k ≡ 64) ⊎ (k ≡ 128)
     by true b c u v w h = inl (eqb-true k 32 u)
     by false true c u v w h = inr (inl (eqb-true k 64 v))
     by false false true u v w h = inr (inr (eqb-true k 128 w))
@@ -54,9 +57,11 @@ block_cases k h = by (k == 32) (k == 64) (k == 128) refl refl refl h
 pub faultless : (p : Params) → first_fault (parameter_faults p) ≡ None → IsFaultless p
 faultless p h =
     let each = each_clear (parameter_faults p) h in
-    let eccs = none_pass (nat_lt 127) (p.ecc ∷ p.ecc_dump ∷ p.ecc_console ∷ p.ecc_ftrace ∷ p.ecc_pmsg ∷ []) each.1.1.1.0 in
+    let eccs = none_pass (nat_lt 127) (p.ecc ∷ p.ecc_dump ∷ p.ecc_console ∷ p.ecc_ftrace ∷ p.ecc_pmsg ∷ [])
+    each.1.1.1.0 in
     let cpus = or_clear (p.cpus == 0) (nat_lt 64 p.cpus) each.1.1.1.1.1.0 in
-    let room = or_clear (nat_lt (rounded p.mem) (rounded p.console + rounded p.ftrace + rounded p.pmsg)) (nat_lt 0 (dump_memory p) && nat_lt (dump_memory p) (rounded p.dump)) each.1.1.1.1.1.1.0 in
+    let room = or_clear (nat_lt (rounded p.mem) (rounded p.console + rounded p.ftrace + rounded p.pmsg))
+    (nat_lt 0 (dump_memory p) && nat_lt (dump_memory p) (rounded p.dump)) each.1.1.1.1.1.1.0 in
     record {
       memory = ltb-false _ _ each.1.1.0;
       ecc = ltb-false _ _ eccs.0;
@@ -116,25 +121,33 @@ one_within kind size = record { all = by (size == 0); each = omega arith; count 
     count_by_size true = omega arith
     count_by_size false = omega arith
 
-dump_within : (p : Params) → Within (record { kind = Dump; count = dump_count p; size = even (dump_memory p / dump_count p) }) (dump_memory p)
+dump_within : (p : Params) → Within (record {
+  kind = Dump;
+  count = dump_count p;
+  size = even (dump_memory p / dump_count p);
+}) (dump_memory p)
 dump_within p = record {
   all = shared (dump_memory p) (dump_count p);
   each = omega (arith, even_le (dump_memory p / dump_count p), div-le_self (dump_memory p) (dump_count p));
   count = by (rounded p.dump == 0) (div-le_self (dump_memory p) (rounded p.dump));
 }
   where
-    by : (b : Bool) → dump_memory p / rounded p.dump ≤ dump_memory p → (if b then 0 else dump_memory p / rounded p.dump) ≤ dump_memory p + 64
+    by : (b : Bool) → dump_memory p / rounded p.dump ≤ dump_memory p
+        → (if b then 0 else dump_memory p / rounded p.dump) ≤ dump_memory p + 64
     by true h = omega arith
     by false h = omega arith
 
-ftrace_within : (p : Params) → p.cpus ≤ 64 → Within (record { kind = Ftrace; count = if rounded p.ftrace == 0 then 0 else p.cpus; size = even (rounded p.ftrace / p.cpus) }) (rounded p.ftrace)
+ftrace_within : (p : Params) → p.cpus ≤ 64 → Within (record
+    { kind = Ftrace; count = if rounded p.ftrace == 0 then 0 else p.cpus; size = even (rounded p.ftrace / p.cpus) })
+    (rounded p.ftrace)
 ftrace_within p cpus = record {
   all = by (rounded p.ftrace == 0) (shared (rounded p.ftrace) p.cpus);
   each = omega (arith, even_le (rounded p.ftrace / p.cpus), div-le_self (rounded p.ftrace) p.cpus);
   count = most (rounded p.ftrace == 0);
 }
   where
-    by : (b : Bool) → p.cpus * even (rounded p.ftrace / p.cpus) ≤ rounded p.ftrace → (if b then 0 else p.cpus) * even (rounded p.ftrace / p.cpus) ≤ rounded p.ftrace
+    by : (b : Bool) → p.cpus * even (rounded p.ftrace / p.cpus) ≤ rounded p.ftrace
+        → (if b then 0 else p.cpus) * even (rounded p.ftrace / p.cpus) ≤ rounded p.ftrace
     by true h = omega arith
     by false h = h
 
@@ -167,9 +180,11 @@ rows_within p f =
     )
 
 pub rows_total : (p : Params) → IsFaultless p → all_taken (rows p) ≤ rounded p.mem
-rows_total p f = totals (dump_within p).all (one_within Console (rounded p.console)).all (ftrace_within p f.cpus_most).all (one_within Pmsg (rounded p.pmsg)).all f.room
+rows_total p f = totals (dump_within p).all (one_within Console (rounded p.console)).all
+    (ftrace_within p f.cpus_most).all (one_within Pmsg (rounded p.pmsg)).all f.room
   where
-    totals : {a b c d : ℕ} → a ≤ dump_memory p → b ≤ rounded p.console → c ≤ rounded p.ftrace → d ≤ rounded p.pmsg → rounded p.console + rounded p.ftrace + rounded p.pmsg ≤ rounded p.mem
+    totals : {a b c d : ℕ} → a ≤ dump_memory p → b ≤ rounded p.console → c ≤ rounded p.ftrace → d ≤ rounded p.pmsg
+        → rounded p.console + rounded p.ftrace + rounded p.pmsg ≤ rounded p.mem
         → a + (b + (c + (d + 0))) ≤ rounded p.mem
     totals u v w x room = omega arith
 
@@ -178,23 +193,29 @@ mem_small p f = omega (arith, rounded_le p.mem, f.memory)
 
 -- ---- tests over the zones
 
-any_row : (test : Zone → Bool) (b : Bool) (make : ℕ → Zone) (from n : ℕ) → ((i : ℕ) → test (make i) ≡ b) → list_any test (map make (range_with_len from n)) ≡ (nat_lt 0 n && b)
+any_row : (test : Zone → Bool) (b : Bool) (make : ℕ → Zone) (from n : ℕ) → ((i : ℕ) → test (make i) ≡ b)
+    → list_any test (map make (range_with_len from n)) ≡ (nat_lt 0 n && b)
 any_row test b make from zero h = refl
 any_row test b make from (suc n) h = rw (h from) (some b (any_row test b make (from + 1) n h))
   where
-    some : (b : Bool) → list_any test (map make (range_with_len (from + 1) n)) ≡ (nat_lt 0 n && b) → (b || list_any test (map make (range_with_len (from + 1) n))) ≡ (nat_lt 0 (suc n) && b)
+    some : (b : Bool) → list_any test (map make (range_with_len (from + 1) n)) ≡ (nat_lt 0 n && b)
+        → (b || list_any test (map make (range_with_len (from + 1) n))) ≡ (nat_lt 0 (suc n) && b)
     some true e = sym (ap (λ t. t && true) (lt-ltb 0 (suc n) (omega arith)))
     some false e = e ∙ and_right (nat_lt 0 n) false refl ∙ sym (and_right (nat_lt 0 (suc n)) false refl)
 
 -- a test of the zones that place and number don't change is one of the first zone of each row
-pub any_in_rows : (test : Zone → Bool) (p : Params) (at : ℕ) (rows : List Row) → ((row : Row) (i place : ℕ) → test (zone_at p row.kind row.size i place) ≡ test (zone_at p row.kind row.size 0 0))
-    → list_any test (zones_from p at rows) ≡ list_any (λ (row : Row). nat_lt 0 row.count && test (zone_at p row.kind row.size 0 0)) rows
+pub any_in_rows : (test : Zone → Bool) (p : Params) (at : ℕ) (rows : List Row)
+    → ((row : Row) (i place : ℕ) → test (zone_at p row.kind row.size i place) ≡ test (zone_at p row.kind row.size 0 0))
+    → list_any test (zones_from p at rows) ≡ list_any (λ (row : Row). nat_lt 0 row.count && test
+    (zone_at p row.kind row.size 0 0)) rows
 unfolding zones_from
 any_in_rows test p at [] h = refl
 any_in_rows test p at (row ∷ rows) h =
-    list_any-append test (map (λ i. zone_at p row.kind row.size i (at + i * row.size)) (range_with_len 0 row.count)) (zones_from p (at + row.count * row.size) rows)
+    list_any-append test (map (λ i. zone_at p row.kind row.size i (at + i * row.size)) (range_with_len 0 row.count))
+    (zones_from p (at + row.count * row.size) rows)
     ∙ cc (
-      any_row test (test (zone_at p row.kind row.size 0 0)) (λ i. zone_at p row.kind row.size i (at + i * row.size)) 0 row.count (λ i. h row i (at + i * row.size)),
+      any_row test (test (zone_at p row.kind row.size 0 0)) (λ i. zone_at p row.kind row.size i (at + i * row.size))
+          0 row.count (λ i. h row i (at + i * row.size)),
       any_in_rows test p (at + row.count * row.size) rows h,
     )
 
@@ -209,21 +230,33 @@ tight_test room parity = by (nat_le room parity) refl
 -- the rows' sizes, by index
 pub sizes_small : (p : Params) → IsFaultless p → All (λ (row : Row). row.size ≤ 2 ^ 24) (rows p)
 sizes_small p f = All-from_recursion (λ (row : Row). row.size ≤ 2 ^ 24) (rows p)
-    (let w = rows_within p f in let small = mem_small p f in
-    (omega (arith, w.0.each), (omega (arith, w.1.0.each), (omega (arith, w.1.1.0.each), (omega (arith, w.1.1.1.0.each), tt)))))
+    (let w = rows_within p f in let small = mem_small p f in (
+      omega (arith, w.0.each),
+      (
+        omega (arith, w.1.0.each),
+        (omega (arith, w.1.1.0.each), (omega (arith, w.1.1.1.0.each), tt)),
+      ),
+    ))
 
 -- the faults of the zones, by their rows
-pub small_rows : (p : Params) → list_any (λ (row : Row). nat_lt 0 row.count && nat_lt row.size 256) (rows p) ≡ list_any (λ (z : Zone). nat_lt z.size 256) (zones_from p 0 (rows p))
+pub small_rows : (p : Params) → list_any (λ (row : Row). nat_lt 0 row.count && nat_lt row.size 256) (rows p)
+    ≡ list_any (λ (z : Zone). nat_lt z.size 256) (zones_from p 0 (rows p))
 small_rows p = sym (any_in_rows (λ (z : Zone). nat_lt z.size 256) p 0 (rows p) (λ row i place. refl))
 
 any_same : {X : Type 0} (f g : X → Bool) (xs : List X) → ((x : X) → f x ≡ g x) → list_any f xs ≡ list_any g xs
 any_same f g [] h = refl
 any_same f g (x ∷ xs) h = cc (h x, any_same f g xs h)
 
-pub tight_rows : (p : Params) → list_any (λ (row : Row). nat_lt 0 row.count && nat_lt (zone_at p row.kind row.size 0 0).cap 64) (rows p)
-    ≡ list_any (λ (z : Zone). nat_le (z.size - 12) ((z.blocks + 1) * z.parity) || nat_lt z.cap 64) (zones_from p 0 (rows p))
+pub tight_rows : (p : Params) → list_any (λ (row : Row). nat_lt 0 row.count && nat_lt
+    (zone_at p row.kind row.size 0 0).cap 64) (rows p)
+    ≡ list_any (λ (z : Zone). nat_le (z.size - 12) ((z.blocks + 1) * z.parity) || nat_lt z.cap 64)
+    (zones_from p 0 (rows p))
 tight_rows p =
     any_same (λ (row : Row). nat_lt 0 row.count && nat_lt (zone_at p row.kind row.size 0 0).cap 64)
-    (λ (row : Row). nat_lt 0 row.count && (nat_le ((zone_at p row.kind row.size 0 0).size - 12) (((zone_at p row.kind row.size 0 0).blocks + 1) * (zone_at p row.kind row.size 0 0).parity) || nat_lt (zone_at p row.kind row.size 0 0).cap 64)) (rows p)
-    (λ row. ap (λ t. nat_lt 0 row.count && t) (sym (tight_test (row.size - 12) (((zone_at p row.kind row.size 0 0).blocks + 1) * (zone_at p row.kind row.size 0 0).parity))))
-    ∙ sym (any_in_rows (λ (z : Zone). nat_le (z.size - 12) ((z.blocks + 1) * z.parity) || nat_lt z.cap 64) p 0 (rows p) (λ row i place. refl))
+    (λ (row : Row). nat_lt 0 row.count && (nat_le ((zone_at p row.kind row.size 0 0).size - 12)
+    (((zone_at p row.kind row.size 0 0).blocks + 1) * (zone_at p row.kind row.size 0 0).parity)
+    || nat_lt (zone_at p row.kind row.size 0 0).cap 64)) (rows p)
+    (λ row. ap (λ t. nat_lt 0 row.count && t) (sym (tight_test (row.size - 12)
+    (((zone_at p row.kind row.size 0 0).blocks + 1) * (zone_at p row.kind row.size 0 0).parity))))
+    ∙ sym (any_in_rows (λ (z : Zone). nat_le (z.size - 12) ((z.blocks + 1) * z.parity) || nat_lt z.cap 64) p 0
+    (rows p) (λ row i place. refl))

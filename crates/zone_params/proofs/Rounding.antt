@@ -10,15 +10,24 @@ power_is : (k e n : ℕ) → e ≤ k → 2 ^ e ≤ n → n < 2 * 2 ^ e → power
 unfolding power_within
 power_is zero e n small low high =
     let none : e ≡ 0 = omega arith in
-    let one : n ≡ 1 = (let low' : 2 ^ 0 ≤ n = rw none at low in let high' : n < 2 * 2 ^ 0 = rw none at high in omega arith) in
+    let one : n ≡ 1 = (let low' : 2 ^ 0 ≤ n = rw none at low in let high' : n < 2 * 2 ^ 0 = rw none at high in
+    omega arith) in
     rw (none, one) refl
 power_is (suc k) e n small low high = go (λ h. power_is k e n h low high) (nat_le (suc k) e) refl
   where
-    go : (e ≤ k → power_within k n ≡ 2 ^ e) → (b : Bool) → nat_le (suc k) e ≡ b → (if nat_le (2 ^ suc k) n then 2 ^ suc k else power_within k n) ≡ 2 ^ e
+    go : (e ≤ k → power_within k n ≡ 2 ^ e) → (b : Bool) → nat_le (suc k) e ≡ b
+        → (if nat_le (2 ^ suc k) n then 2 ^ suc k else power_within k n) ≡ 2 ^ e
     go deeper true t =
         let same : e ≡ suc k = omega (arith, leb-true (suc k) e t) in
         rw same (if_true (nat_le (2 ^ suc k) n) _ _ (le-leb _ _ (rw same at low)))
-    go deeper false t = if_false (nat_le (2 ^ suc k) n) _ _ (lt-leb _ _ (omega (arith, high, pow-le-pow_right {n = 2} (omega arith) {i = suc e} {j = suc k} (omega (arith, leb-false (suc k) e t)), pow-suc 2 e))) ∙ deeper (omega (arith, leb-false (suc k) e t))
+    go deeper false t = if_false (nat_le (2 ^ suc k) n) _ _
+        (lt-leb _ _ (omega (
+          arith,
+          high,
+          pow-le-pow_right {n = 2} (omega arith) {i = suc e} {j = suc k}
+              (omega (arith, leb-false (suc k) e t)),
+          pow-suc 2 e,
+        ))) ∙ deeper (omega (arith, leb-false (suc k) e t))
 
 pub rounded_zero : rounded 0 ≡ 0
 unfolding rounded power_within
@@ -37,7 +46,8 @@ within_le zero n = zero_le (n == 0) refl
     zero_le false h = omega (arith, eqb-false n 0 h)
 within_le (suc k) n = step (within_le k n) (nat_le (2 ^ suc k) n) refl
   where
-    step : power_within k n ≤ n → (b : Bool) → nat_le (2 ^ suc k) n ≡ b → (if b then 2 ^ suc k else power_within k n) ≤ n
+    step : power_within k n ≤ n → (b : Bool) → nat_le (2 ^ suc k) n ≡ b
+        → (if b then 2 ^ suc k else power_within k n) ≤ n
     step rest true h = leb-true (2 ^ suc k) n h
     step rest false h = rest
 

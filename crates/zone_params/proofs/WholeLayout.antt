@@ -27,14 +27,16 @@ pub record NoFault (p : Params) (zones : List Zone) : Type 0 where
   pub of_zones : first_fault (zone_faults (zones_from p 0 (rows p))) ≡ None
   pub same : zones_from p 0 (rows p) ≡ zones
 
-by_answer : (a b : Option LayoutFault) (zones all : List Zone) → ok_unless (option_or a b) all ≡ Ok zones → (a ≡ None) × (b ≡ None) × (all ≡ zones)
+by_answer : (a b : Option LayoutFault) (zones all : List Zone) → ok_unless (option_or a b) all ≡ Ok zones
+    → (a ≡ None) × (b ≡ None) × (all ≡ zones)
 by_answer None None zones all h = (refl, refl, cc)
 by_answer None (Some f) zones all h = cc
 by_answer (Some f) b zones all h = cc
 
 pub no_fault : (p : Params) (zones : List Zone) → layout_of p ≡ Ok zones → NoFault p zones
 no_fault p zones h =
-    let parts = by_answer (first_fault (parameter_faults p)) (first_fault (zone_faults (zones_from p 0 (rows p)))) zones (zones_from p 0 (rows p)) (sym (by_faults p) ∙ h) in
+    let parts = by_answer (first_fault (parameter_faults p)) (first_fault (zone_faults (zones_from p 0 (rows p))))
+    zones (zones_from p 0 (rows p)) (sym (by_faults p) ∙ h) in
     record { of_parameters = parts.0; of_zones = parts.1; same = parts.2 }
 
 pub layout_mem_small : (p : Params) (zones : List Zone) → layout_of p ≡ Ok zones → rounded p.mem ≤ 2 ^ 24
@@ -43,7 +45,8 @@ layout_mem_small p zones h = mem_small p (faultless p (no_fault p zones h).of_pa
 pub layout_parity_small : (p : Params) (zones : List Zone) → layout_of p ≡ Ok zones → parity_bytes p.ecc ≤ 127
 layout_parity_small p zones h = parity_at_most p.ecc (faultless p (no_fault p zones h).of_parameters).ecc
 
-pub layout_kind_small : (p : Params) (zones : List Zone) (kind : Kind) → layout_of p ≡ Ok zones → parity_bytes (ecc_of p kind) ≤ 127
+pub layout_kind_small : (p : Params) (zones : List Zone) (kind : Kind) → layout_of p ≡ Ok zones
+    → parity_bytes (ecc_of p kind) ≤ 127
 layout_kind_small p zones kind h = parity_within p kind (faultless p (no_fault p zones h).of_parameters)
 
 pub layout_block_small : (p : Params) (zones : List Zone) → layout_of p ≡ Ok zones → p.block ≤ 128
@@ -58,37 +61,57 @@ unfolding zones_from
 length_zones p at [] = refl
 length_zones p at (row ∷ rows) =
     length-append (of_row p row at) (zones_from p (at + taken row) rows)
-    ∙ cc (length-map-range_with_len (λ j. zone_at p row.kind row.size j (at + j * row.size)) 0 row.count, length_zones p (at + taken row) rows)
+    ∙ cc (
+      length-map-range_with_len (λ j. zone_at p row.kind row.size j (at + j * row.size)) 0 row.count,
+      length_zones p (at + taken row) rows,
+    )
 
 -- there are few enough zones
 pub layout_short : (p : Params) (zones : List Zone) → layout_of p ≡ Ok zones → length zones < 2 ^ 32
 layout_short p zones h =
     let n = no_fault p zones h in let f = faultless p n.of_parameters in let w = rows_within p f in
-    omega (arith, ap (length {A = Zone}) n.same, length_zones p 0 (rows p), mem_small p f, w.0.count, w.1.0.count, w.1.1.0.count, w.1.1.1.0.count)
+    omega (
+      arith,
+      ap (length {A = Zone}) n.same,
+      length_zones p 0 (rows p),
+      mem_small p f,
+      w.0.count,
+      w.1.0.count,
+      w.1.1.0.count,
+      w.1.1.1.0.count,
+    )
 
 -- ---- a place in a list
 
-pub place_passed : {X : Type 0} (test : X → Bool) (xs : List X) (i : ℕ) (d : X) → i < length xs → test (get_or xs i d) ≡ false → position_or_len test xs ≡ i + position_or_len test (drop i xs)
+pub place_passed : {X : Type 0} (test : X → Bool) (xs : List X) (i : ℕ) (d : X) → i < length xs
+    → test (get_or xs i d) ≡ false → position_or_len test xs ≡ i + position_or_len test (drop i xs)
     → position_or_len test xs ≡ i + 1 + position_or_len test (drop (i + 1) xs)
 place_passed test xs i d h t e =
     let next : position_or_len test (drop i xs) ≡ 1 + position_or_len test (drop (i + 1) xs) =
-    ap (position_or_len test) (drop_next xs i d h) ∙ ap (λ (b : Bool). if not b then 1 + position_or_len test (drop (i + 1) xs) else 0) t in
+    ap (position_or_len test) (drop_next xs i d h) ∙ ap (λ (b : Bool). if not b then 1 + position_or_len test
+    (drop (i + 1) xs) else 0) t in
     omega (arith, e, next)
 
-pub place_found : {X : Type 0} (test : X → Bool) (xs : List X) (i : ℕ) (d : X) → i < length xs → test (get_or xs i d) ≡ true → position_or_len test xs ≡ i + position_or_len test (drop i xs)
+pub place_found : {X : Type 0} (test : X → Bool) (xs : List X) (i : ℕ) (d : X) → i < length xs
+    → test (get_or xs i d) ≡ true → position_or_len test xs ≡ i + position_or_len test (drop i xs)
     → Some i ≡ position test xs
 place_found test xs i d h t e =
     let here : position_or_len test (drop i xs) ≡ 0 =
-    ap (position_or_len test) (drop_next xs i d h) ∙ ap (λ (b : Bool). if not b then 1 + position_or_len test (drop (i + 1) xs) else 0) t in
+    ap (position_or_len test) (drop_next xs i d h) ∙ ap (λ (b : Bool). if not b then 1 + position_or_len test
+    (drop (i + 1) xs) else 0) t in
     let at : position_or_len test xs ≡ i = omega (arith, e, here) in
-    sym (if_true (nat_lt (position_or_len test xs) (length xs)) (Some (position_or_len test xs)) None (lt-ltb _ _ (omega (arith, at))) ∙ ap Some at)
+    sym (if_true (nat_lt (position_or_len test xs) (length xs)) (Some (position_or_len test xs)) None
+    (lt-ltb _ _ (omega (arith, at))) ∙ ap Some at)
 
-pub place_none : {X : Type 0} (test : X → Bool) (xs : List X) (i : ℕ) → length xs ≤ i → position_or_len test xs ≡ i + position_or_len test (drop i xs) → None ≡ position test xs
-place_none test xs i h e = sym (if_false (nat_lt (position_or_len test xs) (length xs)) (Some (position_or_len test xs)) None (le-ltb _ _ (omega (arith, e))))
+pub place_none : {X : Type 0} (test : X → Bool) (xs : List X) (i : ℕ) → length xs ≤ i
+    → position_or_len test xs ≡ i + position_or_len test (drop i xs) → None ≡ position test xs
+place_none test xs i h e = sym (if_false (nat_lt (position_or_len test xs) (length xs))
+    (Some (position_or_len test xs)) None (le-ltb _ _ (omega (arith, e))))
 
 -- ---- valid zones in order
 
-none_any : {X : Type 0} (test : X → Bool) (xs : List X) → list_any test xs ≡ false → AllByRecursion (λ x. test x ≡ false) xs
+none_any : {X : Type 0} (test : X → Bool) (xs : List X) → list_any test xs ≡ false
+    → AllByRecursion (λ x. test x ≡ false) xs
 none_any test [] h = tt
 none_any test (x ∷ xs) h = let both = or_clear (test x) (list_any test xs) h in (both.0, none_any test xs both.1)
 
@@ -103,12 +126,18 @@ sig_small p Console h = omega arith
 sig_small p Ftrace h = xor_of_32 1128743492 p.ftrace_sig (omega arith) h
 sig_small p Pmsg h = omega arith
 
-valid_zone : (p : Params) (kind : Kind) (size index at : ℕ) → IsFaultless p → p.ftrace_sig < 2 ^ 32 → size ≤ 2 ^ 24 → nat_lt size 256 ≡ false
-    → (nat_le ((zone_at p kind size index at).size - 12) (((zone_at p kind size index at).blocks + 1) * (zone_at p kind size index at).parity) || nat_lt (zone_at p kind size index at).cap 64) ≡ false
+valid_zone : (p : Params) (kind : Kind) (size index at : ℕ) → IsFaultless p → p.ftrace_sig < 2 ^ 32 → size ≤ 2 ^ 24
+    → nat_lt size 256 ≡ false
+    → (nat_le ((zone_at p kind size index at).size - 12)
+    (((zone_at p kind size index at).blocks + 1) * (zone_at p kind size index at).parity)
+    || nat_lt (zone_at p kind size index at).cap 64) ≡ false
     → IsValidZone (zone_at p kind size index at)
 valid_zone p kind size index at f tag small large roomy =
-    let parts = or_clear (nat_le ((zone_at p kind size index at).size - 12) (((zone_at p kind size index at).blocks + 1) * (zone_at p kind size index at).parity)) (nat_lt (zone_at p kind size index at).cap 64) roomy in
-    let room : ((zone_at p kind size index at).blocks + 1) * (zone_at p kind size index at).parity < (zone_at p kind size index at).size - 12 = leb-false _ _ parts.0 in
+    let parts = or_clear (nat_le ((zone_at p kind size index at).size - 12)
+    (((zone_at p kind size index at).blocks + 1) * (zone_at p kind size index at).parity))
+    (nat_lt (zone_at p kind size index at).cap 64) roomy in
+    let room : ((zone_at p kind size index at).blocks + 1) * (zone_at p kind size index at).parity
+    < (zone_at p kind size index at).size - 12 = leb-false _ _ parts.0 in
     record {
       block = f.block;
       at_least = ltb-false size 256 large;
@@ -116,7 +145,8 @@ valid_zone p kind size index at f tag small large roomy =
       parity = parity_within p kind f;
       room = ltb-false _ _ parts.1;
       blocks = refl;
-      cap = whole size (((zone_at p kind size index at).blocks + 1) * (zone_at p kind size index at).parity) (ltb-false size 256 large) room;
+      cap = whole size (((zone_at p kind size index at).blocks + 1) * (zone_at p kind size index at).parity)
+          (ltb-false size 256 large) room;
       word = sig_small p kind tag;
     }
   where
@@ -128,16 +158,19 @@ abbrev pub InOrder : (Zone → Type 0) → ℕ → List Zone → Type 0
 InOrder Good at [] = Unit {0}
 InOrder Good at (z ∷ zones) = Good z × (z.at ≡ at) × InOrder Good (at + z.size) zones
 
-in_order_append : (Good : Zone → Type 0) (at : ℕ) (xs ys : List Zone) → InOrder Good at xs → InOrder Good (at + zones_end xs) ys → InOrder Good at (xs ++ ys)
+in_order_append : (Good : Zone → Type 0) (at : ℕ) (xs ys : List Zone) → InOrder Good at xs
+    → InOrder Good (at + zones_end xs) ys → InOrder Good at (xs ++ ys)
 in_order_append Good at [] ys h k = rw zero_end at k
   where
     zero_end : at + zones_end [] ≡ at
     zero_end = omega arith
 in_order_append Good at (x ∷ xs) ys h k =
-    let same : at + zones_end (x ∷ xs) ≡ at + x.size + zones_end xs = omega (arith, sum_by-cons (λ (z : Zone). z.size) x xs) in
+    let same : at + zones_end (x ∷ xs) ≡ at + x.size + zones_end xs =
+    omega (arith, sum_by-cons (λ (z : Zone). z.size) x xs) in
     (h.0, h.1, in_order_append Good (at + x.size) xs ys h.2 (rw same at k))
 
-pub by_place : (Good : Zone → Type 0) (at : ℕ) (zones : List Zone) → InOrder Good at zones → (i : ℕ) (z : Zone) → slice_get zones i ≡ Some z → Good z × (z.at ≡ at + zones_end (take i zones))
+pub by_place : (Good : Zone → Type 0) (at : ℕ) (zones : List Zone) → InOrder Good at zones → (i : ℕ) (z : Zone)
+    → slice_get zones i ≡ Some z → Good z × (z.at ≡ at + zones_end (take i zones))
 by_place Good at [] h i z e = absurd (omega (arith, slice_get_within [] i z e))
 by_place Good at (x ∷ zones) h zero z e =
     let same : x ≡ z = cc in
@@ -149,9 +182,13 @@ by_place Good at (x ∷ zones) h (suc i) z e =
 next_place : (at from size : ℕ) → at + from * size + size ≡ at + (from + 1) * size
 next_place at from size = grind arith
 
-row_in_order : (p : Params) (row : Row) (from n at : ℕ) → IsFaultless p → p.ftrace_sig < 2 ^ 32 → row.size ≤ 2 ^ 24 → nat_lt row.size 256 ≡ false
-    → (nat_le ((zone_at p row.kind row.size 0 0).size - 12) (((zone_at p row.kind row.size 0 0).blocks + 1) * (zone_at p row.kind row.size 0 0).parity) || nat_lt (zone_at p row.kind row.size 0 0).cap 64) ≡ false
-    → InOrder IsValidZone (at + from * row.size) (map (λ j. zone_at p row.kind row.size j (at + j * row.size)) (range_with_len from n))
+row_in_order : (p : Params) (row : Row) (from n at : ℕ) → IsFaultless p → p.ftrace_sig < 2 ^ 32 → row.size ≤ 2 ^ 24
+    → nat_lt row.size 256 ≡ false
+    → (nat_le ((zone_at p row.kind row.size 0 0).size - 12)
+    (((zone_at p row.kind row.size 0 0).blocks + 1) * (zone_at p row.kind row.size 0 0).parity)
+    || nat_lt (zone_at p row.kind row.size 0 0).cap 64) ≡ false
+    → InOrder IsValidZone (at + from * row.size) (map (λ j. zone_at p row.kind row.size j (at + j * row.size))
+    (range_with_len from n))
 row_in_order p row from zero at f tag small large roomy = tt
 row_in_order p row from (suc n) at f tag small large roomy = (
   valid_zone p row.kind row.size from (at + from * row.size) f tag small large roomy,
@@ -159,19 +196,24 @@ row_in_order p row from (suc n) at f tag small large roomy = (
   rw (next_place at from row.size) (row_in_order p row (from + 1) n at f tag small large roomy),
 )
 
-row_end : (p : Params) (row : Row) (from n at : ℕ) → zones_end (map (λ j. zone_at p row.kind row.size j (at + j * row.size)) (range_with_len from n)) ≡ n * row.size
+row_end : (p : Params) (row : Row) (from n at : ℕ) → zones_end
+    (map (λ j. zone_at p row.kind row.size j (at + j * row.size)) (range_with_len from n)) ≡ n * row.size
 row_end p row from zero at = omega arith
 row_end p row from (suc n) at =
-    sum_by-cons (λ (z : Zone). z.size) (zone_at p row.kind row.size from (at + from * row.size)) (map (λ j. zone_at p row.kind row.size j (at + j * row.size)) (range_with_len (from + 1) n))
+    sum_by-cons (λ (z : Zone). z.size) (zone_at p row.kind row.size from (at + from * row.size))
+    (map (λ j. zone_at p row.kind row.size j (at + j * row.size)) (range_with_len (from + 1) n))
     ∙ ap (λ m. row.size + m) (row_end p row (from + 1) n at) ∙ more n row.size
   where
     more : (n size : ℕ) → size + n * size ≡ suc n * size
     more n size = grind arith
 
 abbrev tight : Params → Row → Bool
-tight p row = nat_le ((zone_at p row.kind row.size 0 0).size - 12) (((zone_at p row.kind row.size 0 0).blocks + 1) * (zone_at p row.kind row.size 0 0).parity) || nat_lt (zone_at p row.kind row.size 0 0).cap 64
+tight p row = nat_le ((zone_at p row.kind row.size 0 0).size - 12)
+    (((zone_at p row.kind row.size 0 0).blocks + 1) * (zone_at p row.kind row.size 0 0).parity)
+    || nat_lt (zone_at p row.kind row.size 0 0).cap 64
 
-whole_row : (p : Params) (row : Row) (at : ℕ) → IsFaultless p → p.ftrace_sig < 2 ^ 32 → row.size ≤ 2 ^ 24 → (nat_lt 0 row.count && nat_lt row.size 256) ≡ false → (nat_lt 0 row.count && tight p row) ≡ false
+whole_row : (p : Params) (row : Row) (at : ℕ) → IsFaultless p → p.ftrace_sig < 2 ^ 32 → row.size ≤ 2 ^ 24
+    → (nat_lt 0 row.count && nat_lt row.size 256) ≡ false → (nat_lt 0 row.count && tight p row) ≡ false
     → InOrder IsValidZone at (of_row p row at)
 whole_row p row at f tag small large roomy = by (nat_lt 0 row.count) refl
   where
@@ -179,37 +221,51 @@ whole_row p row at f tag small large roomy = by (nat_lt 0 row.count) refl
     start = omega arith
 
     by : (b : Bool) → nat_lt 0 row.count ≡ b → InOrder IsValidZone at (of_row p row at)
-    by true some = rw start at (row_in_order p row 0 row.count at f tag small (sym (ap (λ b. b && nat_lt row.size 256) some) ∙ large) (sym (ap (λ b. b && tight p row) some) ∙ roomy))
+    by true some = rw start at (row_in_order p row 0 row.count at f tag small
+        (sym (ap (λ b. b && nat_lt row.size 256) some) ∙ large) (sym (ap (λ b. b && tight p row) some) ∙ roomy))
     by false none =
         let empty : row.count ≡ 0 = omega (arith, ltb-false 0 row.count none) in
         rw empty tt
 
-rows_in_order : (p : Params) (at : ℕ) (rows : List Row) → IsFaultless p → p.ftrace_sig < 2 ^ 32 → AllByRecursion (λ (row : Row). row.size ≤ 2 ^ 24) rows
-    → AllByRecursion (λ (row : Row). (nat_lt 0 row.count && nat_lt row.size 256) ≡ false) rows → AllByRecursion (λ (row : Row). (nat_lt 0 row.count && tight p row) ≡ false) rows
+rows_in_order : (p : Params) (at : ℕ) (rows : List Row) → IsFaultless p → p.ftrace_sig < 2 ^ 32
+    → AllByRecursion (λ (row : Row). row.size ≤ 2 ^ 24) rows
+    → AllByRecursion (λ (row : Row). (nat_lt 0 row.count && nat_lt row.size 256) ≡ false) rows
+    → AllByRecursion (λ (row : Row). (nat_lt 0 row.count && tight p row) ≡ false) rows
     → InOrder IsValidZone at (zones_from p at rows)
 unfolding zones_from
 rows_in_order p at [] f tag small large roomy = tt
 rows_in_order p at (row ∷ rows) f tag small large roomy =
-    in_order_append IsValidZone at (of_row p row at) (zones_from p (at + taken row) rows) (whole_row p row at f tag small.0 large.0 roomy.0)
+    in_order_append IsValidZone at (of_row p row at) (zones_from p (at + taken row) rows)
+    (whole_row p row at f tag small.0 large.0 roomy.0)
     (rw (row_end p row 0 row.count at) (rows_in_order p (at + taken row) rows f tag small.1 large.1 roomy.1))
 
 rows_end_at : (p : Params) (at : ℕ) (rows : List Row) → zones_end (zones_from p at rows) ≡ all_taken rows
 unfolding zones_from
 rows_end_at p at [] = refl
 rows_end_at p at (row ∷ rows) =
-    sum_by-append (λ (z : Zone). z.size) (of_row p row at) (zones_from p (at + taken row) rows) ∙ cc (row_end p row 0 row.count at, rows_end_at p (at + taken row) rows)
+    sum_by-append (λ (z : Zone). z.size) (of_row p row at) (zones_from p (at + taken row) rows)
+    ∙ cc (row_end p row 0 row.count at, rows_end_at p (at + taken row) rows)
 
 -- the zones of a layout are valid, follow one another from 0 on, and end within the memory
-pub whole_layout : (p : Params) (zones : List Zone) → p.ftrace_sig < 2 ^ 32 → layout_of p ≡ Ok zones → IsLayout zones (rounded p.mem)
+pub whole_layout : (p : Params) (zones : List Zone) → p.ftrace_sig < 2 ^ 32 → layout_of p ≡ Ok zones
+    → IsLayout zones (rounded p.mem)
 whole_layout p zones tag h =
     let n = no_fault p zones h in
     let f = faultless p n.of_parameters in
     let faults = each_clear (zone_faults (zones_from p 0 (rows p))) n.of_zones in
     let w = rows_within p f in let small = mem_small p f in
-    let sizes : AllByRecursion (λ (row : Row). row.size ≤ 2 ^ 24) (rows p) = (omega (arith, w.0.each), (omega (arith, w.1.0.each), (omega (arith, w.1.1.0.each), (omega (arith, w.1.1.1.0.each), tt)))) in
-    let large = none_any (λ (row : Row). nat_lt 0 row.count && nat_lt row.size 256) (rows p) (small_rows p ∙ faults.0) in
+    let sizes : AllByRecursion (λ (row : Row). row.size ≤ 2 ^ 24) (rows p) = (
+      omega (arith, w.0.each),
+      (
+        omega (arith, w.1.0.each),
+        (omega (arith, w.1.1.0.each), (omega (arith, w.1.1.1.0.each), tt)),
+      ),
+    ) in
+    let large = none_any (λ (row : Row). nat_lt 0 row.count && nat_lt row.size 256) (rows p)
+    (small_rows p ∙ faults.0) in
     let roomy = none_any (λ (row : Row). nat_lt 0 row.count && tight p row) (rows p)
-    (sym (any_in_rows (λ (z : Zone). nat_le (z.size - 12) ((z.blocks + 1) * z.parity) || nat_lt z.cap 64) p 0 (rows p) (λ row i place. refl)) ∙ faults.1.0) in
+    (sym (any_in_rows (λ (z : Zone). nat_le (z.size - 12) ((z.blocks + 1) * z.parity) || nat_lt z.cap 64) p 0 (rows p)
+    (λ row i place. refl)) ∙ faults.1.0) in
     let all = rows_in_order p 0 (rows p) f tag sizes large roomy in
     let placed = by_place IsValidZone 0 (zones_from p 0 (rows p)) all in
     rw (← n.same) (record {

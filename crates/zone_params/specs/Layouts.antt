@@ -14,4 +14,5 @@ IsCause laid (Fault fault) = laid ≡ Err fault
 IsCause laid Memory = IsOk laid
 
 abbrev pub LayoutsAreWhole : Type 0
-LayoutsAreWhole = (p : Params) (zones : List Zone) → p.ftrace_sig < 2 ^ 32 → layout_of p ≡ Ok zones → IsLayout zones (rounded p.mem)
+LayoutsAreWhole = (p : Params) (zones : List Zone) → p.ftrace_sig < 2 ^ 32 → layout_of p ≡ Ok zones
+    → IsLayout zones (rounded p.mem)

@@ -10,8 +10,10 @@ use Rattle.zone_params.specs.declared.faults.ParamFault.TheVariants.{UnknownKey,
 use Rattle.zone_params.specs.Numbers.{number_of, begins}
 
 abbrev pub keys : List (List ℕ)
-keys = codes "mem_size" ∷ codes "record_size" ∷ codes "console_size" ∷ codes "ftrace_size" ∷ codes "pmsg_size" ∷ codes "ecc" ∷ codes "cpus"
-    ∷ codes "ftrace_sig" ∷ codes "block_size" ∷ codes "ecc_dump" ∷ codes "ecc_console" ∷ codes "ecc_ftrace" ∷ codes "ecc_pmsg" ∷ []
+keys = codes "mem_size" ∷ codes "record_size" ∷ codes "console_size" ∷ codes "ftrace_size" ∷ codes "pmsg_size"
+    ∷ codes "ecc" ∷ codes "cpus"
+    ∷ codes "ftrace_sig" ∷ codes "block_size" ∷ codes "ecc_dump" ∷ codes "ecc_console" ∷ codes "ecc_ftrace"
+    ∷ codes "ecc_pmsg" ∷ []
 
 -- what stands before the first `=`, without the prefix that a kernel's command line has
 abbrev pub key_of : List ℕ → List ℕ
@@ -44,7 +46,8 @@ either None other = other
 -- the first faulty word among these, of which so many stand before
 unfoldable pub first_fault : List (List ℕ) → List (List ℕ) → Option ParamFault
 first_fault earlier [] = None
-first_fault earlier (word ∷ words) = either (word_fault earlier (length earlier) word) (first_fault (earlier ++ word ∷ []) words)
+first_fault earlier (word ∷ words) = either (word_fault earlier (length earlier) word)
+    (first_fault (earlier ++ word ∷ []) words)
 
 -- the text of the value that the words give a key, and the number
 unfoldable pub value_text : List (List ℕ) → List ℕ → Option (List ℕ)

@@ -16,7 +16,8 @@ fn add_row(zones: &mut Vec<Zone>, p: &Params, row: Row, at: u64) -> Result<(), A
     requires within { at + row.count * row.size ≤ 2 ^ 24 }
     requires size { row.size ≤ 2 ^ 24 }
     requires count { row.count < 2 ^ 32 }
-    ensures { OnOk result (zones.new.items ≡ zones.old.items ++ map (λ i. zone_of p.now row.kind row.size i (at + i * row.size)) (range_with_len 0 row.count)) }
+    ensures { OnOk result (zones.new.items ≡ zones.old.items ++ map
+        (λ i. zone_of p.now row.kind row.size i (at + i * row.size)) (range_with_len 0 row.count)) }
 {
     for index in 0..row.count {
         let zone = rows::zone_at(p, row.kind, row.size, index, at + index * row.size);
@@ -43,7 +44,8 @@ fn list_zones(alloc: Global, p: &Params, rows: &[Row]) -> Result<Vec<Zone>, Allo
 /// Sizes are rounded down to powers of two; rounding `mem`, laying the zones in this order and rounding the sizes of
 /// dump and ftrace zones down to even are the project's own choices.
 pub fn layout(alloc: Global, p: &Params) -> Result<Layout, LayoutError>
-    ensures { MatchResult result (λ l. (params_of l ≡ p.now) × (layout_of p.now ≡ Ok (zones_of l))) (IsCause (layout_of p.now)) }
+    ensures { MatchResult result (λ l. (params_of l ≡ p.now) × (layout_of p.now ≡ Ok (zones_of l)))
+        (IsCause (layout_of p.now)) }
 {
     if let Some(fault) = rows::parameter_fault(p) {
         return Err(LayoutError::Fault(fault));

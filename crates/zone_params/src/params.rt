@@ -26,7 +26,8 @@ const KEYS: [&str; 13] = [
 
 // What stands behind this front.
 fn behind<'a>(text: &'a str, front: &str) -> Option<&'a str>
-    ensures { option_copied result ≡ (if begins front.now text.now then Some (drop (length front.now) text.now) else None) }
+    ensures { option_copied result ≡ (if begins front.now text.now then Some (drop (length front.now) text.now)
+        else None) }
 {
     text.strip_prefix(front)
 }
@@ -58,7 +59,8 @@ pub fn number(text: &str) -> Option<u32>
 
 // A word's key, without the prefix, and the text of its value.
 fn split(word: &str) -> Option<(&str, &str)>
-    ensures { MatchOption result (list_any (λ c. c == 61) word.now ≡ false) (λ parts. IsSplit word.now parts.0.now parts.1.now) }
+    ensures { MatchOption result (list_any (λ c. c == 61) word.now ≡ false)
+        (λ parts. IsSplit word.now parts.0.now parts.1.now) }
 {
     match word.split_once('=') {
         Some((name, value)) => Some((behind(name, "ramoops.").unwrap_or(name), value)),

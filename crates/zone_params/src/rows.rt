@@ -60,7 +60,8 @@ fn first(faults: &[(bool, LayoutFault)]) -> Option<LayoutFault>
 }
 
 fn is_empty(p: &Params) -> bool
-    ensures { result ≡ list_all (λ size. rounded_of size == 0) (p.now.dump ∷ p.now.console ∷ p.now.ftrace ∷ p.now.pmsg ∷ []) }
+    ensures { result ≡ list_all (λ size. rounded_of size == 0)
+        (p.now.dump ∷ p.now.console ∷ p.now.ftrace ∷ p.now.pmsg ∷ []) }
 {
     rounded(p.dump) == 0
         && rounded(p.console) == 0
@@ -69,7 +70,8 @@ fn is_empty(p: &Params) -> bool
 }
 
 fn is_ecc_large(p: &Params) -> bool
-    ensures { result ≡ list_any (nat_lt 127) (p.now.ecc ∷ p.now.ecc_dump ∷ p.now.ecc_console ∷ p.now.ecc_ftrace ∷ p.now.ecc_pmsg ∷ []) }
+    ensures { result ≡ list_any (nat_lt 127) (p.now.ecc ∷ p.now.ecc_dump ∷ p.now.ecc_console ∷ p.now.ecc_ftrace
+        ∷ p.now.ecc_pmsg ∷ []) }
 {
     p.ecc > 127 || p.ecc_dump > 127 || p.ecc_console > 127 || p.ecc_ftrace > 127 || p.ecc_pmsg > 127
 }
@@ -81,7 +83,8 @@ fn is_block(size: u64) -> bool
 }
 
 fn lacks_room(p: &Params) -> bool
-    ensures { result ≡ (nat_lt (rounded_of p.now.mem) (rounded_of p.now.console + rounded_of p.now.ftrace + rounded_of p.now.pmsg)
+    ensures { result ≡ (nat_lt (rounded_of p.now.mem) (rounded_of p.now.console + rounded_of p.now.ftrace
+        + rounded_of p.now.pmsg)
         || (nat_lt 0 (dump_memory p.now) && nat_lt (dump_memory p.now) (rounded_of p.now.dump))) }
 {
     let mem = rounded(p.mem);
@@ -207,7 +210,8 @@ fn has_small(rows: &[Row]) -> bool
 fn has_tight(p: &Params, rows: &[Row]) -> bool
     requires faultless { first_fault (parameter_faults p.now) ≡ None }
     requires sizes { All (λ row. row.size ≤ 2 ^ 24) rows.now }
-    ensures { result ≡ list_any (λ row. nat_lt 0 row.count && nat_lt (zone_of p.now row.kind row.size 0 0).cap 64) rows.now }
+    ensures { result ≡ list_any (λ row. nat_lt 0 row.count && nat_lt (zone_of p.now row.kind row.size 0 0).cap 64)
+        rows.now }
 {
     for row in rows {
         if row.count > 0 && zone_at(p, row.kind, row.size, 0, 0).cap < LEAST_CAPACITY {

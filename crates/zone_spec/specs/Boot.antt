@@ -31,7 +31,8 @@ abbrev pub is_kept : Zone → ZoneReading → Kind → Bool
 is_kept z reading Dump = has_line reading.log
 is_kept z reading Console = false
 is_kept z reading Pmsg = false
-is_kept z reading Ftrace = (reading.words.start == reading.words.size || reading.words.size == z.cap) && not (reading.words.start == z.cap)
+is_kept z reading Ftrace = (reading.words.start == reading.words.size || reading.words.size == z.cap) && not
+    (reading.words.start == z.cap)
 
 -- whether a boot leaves a zone in this state without erasing it
 abbrev pub keeps_in : Zone → ZoneReading → State → Bool
@@ -68,7 +69,8 @@ boot_erasure z image =
 
 -- all stores of a boot in a zone
 unfoldable pub boot_stores : Zone → List ℕ → List Store
-boot_stores z image = boot_fixes z image ++ stores_in_turn z (boot_erasure z image) (after_stores image (boot_fixes z image))
+boot_stores z image = boot_fixes z image ++ stores_in_turn z (boot_erasure z image)
+    (after_stores image (boot_fixes z image))
 
 -- what a boot takes the zone to have been told
 abbrev pub told_by_boot : Zone → List ℕ → List ℕ

@@ -35,7 +35,8 @@ abbrev pub call_parts : Zone → Words → Call → List (List Stage)
 call_parts z w (Append payload) = append_stages z w.start w.size (last_items z.cap payload) ∷ []
 call_parts z w Erase = erase_stages ∷ []
 call_parts z w (Dump line body) =
-    erase_stages ∷ append_stages z 0 0 line ∷ append_stages z (length line) (length line) (take (z.cap - length line) body) ∷ []
+    erase_stages ∷ append_stages z 0 0 line ∷ append_stages z (length line) (length line)
+    (take (z.cap - length line) body) ∷ []
 
 -- the stages of the parts, end to end
 abbrev pub call_stages : Zone → Words → Call → List Stage

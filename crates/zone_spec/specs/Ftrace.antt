@@ -22,7 +22,8 @@ entry_time e = from_le_bytes w64 (slice_range e 16 24) / 256
 -- entries: a later head comes first where its time is at most the earlier one's
 abbrev pub put_before : List ℕ → (List (List ℕ) → List (List ℕ)) → List (List ℕ) → List (List ℕ)
 put_before a rest [] = a ∷ rest []
-put_before a rest (b ∷ bs) = if nat_le (entry_time b) (entry_time a) then b ∷ put_before a rest bs else a ∷ rest (b ∷ bs)
+put_before a rest (b ∷ bs) = if nat_le (entry_time b) (entry_time a) then b ∷ put_before a rest bs else a ∷ rest
+    (b ∷ bs)
 
 -- an earlier zone's entries merged with a later one's
 abbrev pub merge : List (List ℕ) → List (List ℕ) → List (List ℕ)

@@ -38,7 +38,11 @@ abbrev pub rows : Params → List Row
 rows p =
     record { kind = Dump; count = dump_count p; size = even (dump_memory p / dump_count p) }
     ∷ one_row Console (rounded p.console)
-    ∷ record { kind = Ftrace; count = if rounded p.ftrace == 0 then 0 else p.cpus; size = even (rounded p.ftrace / p.cpus) }
+    ∷ record {
+      kind = Ftrace;
+      count = if rounded p.ftrace == 0 then 0 else p.cpus;
+      size = even (rounded p.ftrace / p.cpus);
+    }
     ∷ one_row Pmsg (rounded p.pmsg) ∷ []
 
 -- the parity bytes that an ecc value asks for

@@ -19,7 +19,8 @@ is_in FtraceName z = is_of Ftrace z.name.kind
 abbrev pub notice_text : ℕ → ℕ → List ℕ
 notice_text corrected bad =
     10 ∷ (if corrected + bad == 0 then codes "ECC: No errors detected"
-    else codes "ECC: " ++ decimal corrected ++ codes " Corrected bytes, " ++ decimal bad ++ codes " unrecoverable blocks") ++ 10 ∷ []
+    else codes "ECC: " ++ decimal corrected ++ codes " Corrected bytes, " ++ decimal bad
+    ++ codes " unrecoverable blocks") ++ 10 ∷ []
 
 -- a record's notice: what header and blocks of its zones that were found count; none where its zones
 -- have no parity

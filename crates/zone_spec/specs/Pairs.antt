@@ -26,4 +26,5 @@ seen_at (Some j) = SeenPair j
 -- the least number of a pair that the words are, where they have the zone's signature
 abbrev pub header_seen : Zone → Words → List Pair → HeaderSeen
 header_seen z w pairs =
-    if w.sig == z.sig then seen_at (position (λ (p : Pair). (w.start == p.start) && (w.size == p.size)) pairs) else Foreign
+    if w.sig == z.sig then seen_at (position (λ (p : Pair). (w.start == p.start) && (w.size == p.size)) pairs)
+    else Foreign

@@ -50,7 +50,8 @@ reading_in z image w Found = record {
   state = Found;
   words = w;
   log = log_read z image w;
-  corrected = (part_reading z image Header).corrected + sum_by (λ b. (part_reading z image (Block b)).corrected) (blocks_below z w.size);
+  corrected = (part_reading z image Header).corrected + sum_by (λ b. (part_reading z image (Block b)).corrected)
+      (blocks_below z w.size);
   bad = (part_reading z image Header).bad + sum_by (λ b. (part_reading z image (Block b)).bad) (blocks_below z w.size);
 }
 -- in the other states there is no log, and the counts are the header's

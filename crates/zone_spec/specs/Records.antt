@@ -45,17 +45,23 @@ found (Some reading) = found_in reading reading.state
 -- the logs of the zones of a kind that were found and not forgotten
 abbrev pub logs_of : Kind → List Saved → List (List ℕ)
 logs_of kind zones =
-    flat_map (λ (zone : Saved). if is_of kind zone.0.name.kind then map (λ (r : ZoneReading). r.log) (found zone.1) else []) zones
+    flat_map (λ (zone : Saved). if is_of kind zone.0.name.kind then map (λ (r : ZoneReading). r.log) (found zone.1)
+    else []) zones
 
 -- a dump's record leaves its time line away; a dump without one is not listed
 abbrev pub dump_of : ℕ → List ℕ → Option TimeLine → List Listed
 dump_of index log None = []
-dump_of index log (Some line) = record { name = DumpName index line.packed; content = drop line.len log; time = Some line.time } ∷ []
+dump_of index log (Some line) = record {
+  name = DumpName index line.packed;
+  content = drop line.len log;
+  time = Some line.time;
+} ∷ []
 
 -- the records of the dump zones
 abbrev pub dumps_of : List Saved → List Listed
 dumps_of zones =
-    flat_map (λ (zone : Saved). if is_of Dump zone.0.name.kind then flat_map (λ (r : ZoneReading). dump_of zone.0.name.index r.log (read_line r.log)) (found zone.1) else []) zones
+    flat_map (λ (zone : Saved). if is_of Dump zone.0.name.kind then flat_map
+    (λ (r : ZoneReading). dump_of zone.0.name.index r.log (read_line r.log)) (found zone.1) else []) zones
 
 -- the record of a console or pmsg zone is its log
 abbrev pub plain : Name → List (List ℕ) → List Listed
@@ -68,7 +74,8 @@ ftrace_of (log ∷ logs) = record { name = FtraceName; content = merged (log ∷
 
 -- the listed records in order: dumps by rising number, console, pmsg, ftrace
 abbrev pub listed_of : List Saved → List Listed
-listed_of zones = dumps_of zones ++ plain ConsoleName (logs_of Console zones) ++ plain PmsgName (logs_of Pmsg zones) ++ ftrace_of (logs_of Ftrace zones)
+listed_of zones = dumps_of zones ++ plain ConsoleName (logs_of Console zones) ++ plain PmsgName (logs_of Pmsg zones)
+    ++ ftrace_of (logs_of Ftrace zones)
 
 -- the first of a list
 abbrev pub first_listed : List Listed → Option Listed

@@ -11,7 +11,8 @@ use Rattle.zone_spec.specs.Reading.{log_places, IsRing}
 -- a part with no nearest codeword, or whose nearest codeword has just the bytes that stand
 abbrev pub ReadsAsStands : Zone → List ℕ → Part → Type 0
 ReadsAsStands z image part =
-    (c : List ℕ) → nearest z.parity (part_word z image part) ≡ Some c → take (length (part_bytes z image part)) c ≡ part_bytes z image part
+    (c : List ℕ) → nearest z.parity (part_word z image part) ≡ Some c
+    → take (length (part_bytes z image part)) c ≡ part_bytes z image part
 
 -- a ring that can be appended to: start is below cap, and equal to size until the ring is full
 abbrev pub IsOpen : Words → ℕ → Type 0
@@ -28,7 +29,8 @@ pub record IsRingForm (z : Zone) (image told : List ℕ) : Type 0 where
   pub ring : IsRing (standing_words image) z.cap
   pub signed : (standing_words image).sig ≡ z.sig
   pub told_length : (standing_words image).size ≡ length told
-  pub bytes : map (λ place. slice_index image (12 + place)) (log_places (standing_words image).start (standing_words image).size) ≡ told
+  pub bytes : map (λ place. slice_index image (12 + place))
+      (log_places (standing_words image).start (standing_words image).size) ≡ told
   pub is_open : IsOpenUnlessDump z.name.kind (standing_words image) z.cap
   pub header : ReadsAsStands z image Header
   pub blocks : (b : ℕ) → z.block * b < (standing_words image).size → ReadsAsStands z image (Block b)

@@ -20,7 +20,8 @@ stage_stores z (SigWord n) image = word_store 0 n
 stage_stores z (StartWord n) image = word_store 4 n
 stage_stores z (SizeWord n) image = word_store 8 n
 stage_stores z (Run place bytes) image = byte_stores (12 + place) bytes
-stage_stores z (ParityOf part) image = byte_stores (part_parity_at z part) (parity_of z.parity (part_bytes z image part))
+stage_stores z (ParityOf part) image = byte_stores (part_parity_at z part)
+    (parity_of z.parity (part_bytes z image part))
 
 -- the stores of the stages, each on the image that those before it leave
 unfoldable pub stores_in_turn : Zone → List Stage → List ℕ → List Store

@@ -11,7 +11,8 @@ six_digits n = if nat_lt n 1000000 then drop 1 (decimal (1000000 + n)) else deci
 -- the line that a dump writes (ramoops_write_kmsg_hdr)
 abbrev pub line_text : Time → Bool → List ℕ
 line_text time packed =
-    codes "====" ++ decimal time.secs ++ codes "." ++ six_digits time.micros ++ (if packed then codes "-C" else codes "-D") ++ 10 ∷ []
+    codes "====" ++ decimal time.secs ++ codes "." ++ six_digits time.micros
+    ++ (if packed then codes "-C" else codes "-D") ++ 10 ∷ []
 
 -- the digits at the front
 abbrev pub digits_of : List ℕ → List ℕ
@@ -47,7 +48,8 @@ unfoldable pub read_line : List ℕ → Option TimeLine
 read_line log =
     let secs = digits_of (drop 4 log) in
     let micros = digits_of (drop (5 + length secs) log) in
-    if begins_with (codes "====") log && nat_le 1 (length secs) && nat_le (length secs) 19 && nat_lt (number_of secs) (2 ^ 63)
+    if begins_with (codes "====") log && nat_le 1 (length secs) && nat_le (length secs) 19 && nat_lt (number_of secs)
+    (2 ^ 63)
     && begins_with (codes ".") (drop (4 + length secs) log) && nat_le 1 (length micros) && nat_le (length micros) 9
     then line_ending secs micros (drop (5 + length secs + length micros) log) else None
 

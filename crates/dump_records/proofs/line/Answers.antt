@@ -12,7 +12,26 @@ range_from-requires c = λ _. (
 
 pub push_str-requires-5 : goal.push_str-requires-5
 push_str-requires-5 c =
-    let flag : length c.if-packed.push_str.now ≡ 3 = elim c.if-packed.branch [ then-packed w ↦ rw w.push_str-is refl | else-packed w ↦ rw w.push_str-is refl ] in
-    let secs : length c.format.result.now ≤ 19 = rw c.format.ensures.text (secs-short c.args.time.secs c.requires.secs) in
-    let micros : length c.format-2.result.now ≤ 7 = rw c.format-2.ensures.text (micros-short c.args.time.micros c.requires.micros) in
-    (omega arith, omega (arith, flag, secs, micros, ap length c.clear.ensures, c.push_str.ensures.len, c.push_str-2.ensures.len, c.push_str-3.ensures.len, c.push_str-4.ensures.len, c.range_from.ensures.len))
+    let flag : length c.if-packed.push_str.now ≡ 3 = elim c.if-packed.branch [
+      | then-packed w ↦
+          rw w.push_str-is refl
+      | else-packed w ↦ rw w.push_str-is refl
+    ] in
+    let secs : length c.format.result.now ≤ 19 = rw c.format.ensures.text
+    (secs-short c.args.time.secs c.requires.secs) in
+    let micros : length c.format-2.result.now ≤ 7 = rw c.format-2.ensures.text
+    (micros-short c.args.time.micros c.requires.micros) in (
+      omega arith,
+      omega (
+        arith,
+        flag,
+        secs,
+        micros,
+        ap length c.clear.ensures,
+        c.push_str.ensures.len,
+        c.push_str-2.ensures.len,
+        c.push_str-3.ensures.len,
+        c.push_str-4.ensures.len,
+        c.range_from.ensures.len,
+      ),
+    )

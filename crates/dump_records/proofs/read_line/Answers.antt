@@ -9,50 +9,83 @@ pub returns-then-not-starts_with : goal.returns-then-not-starts_with
 returns-then-not-starts_with c = none-mark c.args.log.now (sym c.starts_with.ensures ∙ c.if-not-starts_with.true)
 
 pub returns-in_err-secs : goal.returns-in_err-secs
-returns-in_err-secs c = let e : number_at 19 (drop 4 c.args.log.now) ≡ None = number_cut 19 4 c.args.log.now c.leading_number.result c.leading_number.ensures.number ∙ c.in_err-secs.was in
+returns-in_err-secs c = let e : number_at 19 (drop 4 c.args.log.now) ≡ None =
+    number_cut 19 4 c.args.log.now c.leading_number.result c.leading_number.ensures.number ∙ c.in_err-secs.was in
     c.from_residual.ensures ∙ answer-no_secs c.args.log.now e
 
 pub returns-then-secs : goal.returns-then-secs
 returns-then-secs c =
-    answer-large c.args.log.now c.in_ok-secs.secs (number_cut 19 4 c.args.log.now c.leading_number.result c.leading_number.ensures.number ∙ c.in_ok-secs.was) (omega (arith, c.if-secs.true))
+    answer-large c.args.log.now c.in_ok-secs.secs (number_cut 19 4 c.args.log.now c.leading_number.result
+    c.leading_number.ensures.number ∙ c.in_ok-secs.was) (omega (arith, c.if-secs.true))
 
 pub returns-then-not-starts_with-2 : goal.returns-then-not-starts_with-2
 returns-then-not-starts_with-2 c =
-    answer-no_point c.args.log.now c.in_ok-secs.secs (number_cut 19 4 c.args.log.now c.leading_number.result c.leading_number.ensures.number ∙ c.in_ok-secs.was) (front_cut (codes ".") (4 + c.in_ok-secs.secs.len) c.args.log.now c.starts_with-2.result c.starts_with-2.ensures ∙ c.if-not-starts_with-2.true)
+    answer-no_point c.args.log.now c.in_ok-secs.secs (number_cut 19 4 c.args.log.now c.leading_number.result
+    c.leading_number.ensures.number ∙ c.in_ok-secs.was)
+    (front_cut (codes ".") (4 + c.in_ok-secs.secs.len)
+    c.args.log.now c.starts_with-2.result c.starts_with-2.ensures ∙ c.if-not-starts_with-2.true)
 
 pub returns-in_err-micros : goal.returns-in_err-micros
 returns-in_err-micros c =
     let read : IsSecs c.args.log.now c.in_ok-secs.secs = record {
       mark = sym c.starts_with.ensures ∙ c.if-not-starts_with.false;
-      number = number_cut 19 4 c.args.log.now c.leading_number.result c.leading_number.ensures.number ∙ c.in_ok-secs.was;
+      number = number_cut 19 4 c.args.log.now c.leading_number.result c.leading_number.ensures.number
+          ∙ c.in_ok-secs.was;
       small = omega (arith, c.if-secs.false);
-      point = front_cut (codes ".") (4 + c.in_ok-secs.secs.len) c.args.log.now c.starts_with-2.result c.starts_with-2.ensures ∙ c.if-not-starts_with-2.false;
+      point = front_cut (codes ".") (4 + c.in_ok-secs.secs.len)
+          c.args.log.now c.starts_with-2.result c.starts_with-2.ensures ∙ c.if-not-starts_with-2.false;
     } in
-    c.from_residual-in_err-micros.ensures ∙ answer-no_micros c.args.log.now c.in_ok-secs.secs read (number_cut 9 (5 + c.in_ok-secs.secs.len) c.args.log.now c.leading_number-2.result c.leading_number-2.ensures.number ∙ c.in_err-micros.was)
+    c.from_residual-in_err-micros.ensures ∙ answer-no_micros c.args.log.now c.in_ok-secs.secs read
+    (number_cut 9 (5 + c.in_ok-secs.secs.len) c.args.log.now c.leading_number-2.result
+    c.leading_number-2.ensures.number ∙ c.in_err-micros.was)
 
 pub returns-in_err-ending : goal.returns-in_err-ending
 returns-in_err-ending c =
     let read : IsSecs c.args.log.now c.in_ok-secs.secs = record {
       mark = sym c.starts_with.ensures ∙ c.if-not-starts_with.false;
-      number = number_cut 19 4 c.args.log.now c.leading_number.result c.leading_number.ensures.number ∙ c.in_ok-secs.was;
+      number = number_cut 19 4 c.args.log.now c.leading_number.result c.leading_number.ensures.number
+          ∙ c.in_ok-secs.was;
       small = omega (arith, c.if-secs.false);
-      point = front_cut (codes ".") (4 + c.in_ok-secs.secs.len) c.args.log.now c.starts_with-2.result c.starts_with-2.ensures ∙ c.if-not-starts_with-2.false;
+      point = front_cut (codes ".") (4 + c.in_ok-secs.secs.len)
+          c.args.log.now c.starts_with-2.result c.starts_with-2.ensures ∙ c.if-not-starts_with-2.false;
     } in
-    let both : IsMicros c.args.log.now c.in_ok-secs.secs c.in_ok-micros.micros = record { read = read; number = number_cut 9 (5 + c.in_ok-secs.secs.len) c.args.log.now c.leading_number-2.result c.leading_number-2.ensures.number ∙ c.in_ok-micros.was } in
-    c.from_residual-in_err-ending.ensures ∙ answer-no_ending c.args.log.now c.in_ok-secs.secs c.in_ok-micros.micros both (ending_cut (5 + c.in_ok-secs.secs.len + c.in_ok-micros.micros.len) c.args.log.now c.line_end.result c.line_end.ensures ∙ c.in_err-ending.was)
+    let both : IsMicros c.args.log.now c.in_ok-secs.secs c.in_ok-micros.micros =
+    record {
+      read = read;
+      number = number_cut 9 (5 + c.in_ok-secs.secs.len)
+          c.args.log.now c.leading_number-2.result c.leading_number-2.ensures.number ∙ c.in_ok-micros.was;
+    } in
+    c.from_residual-in_err-ending.ensures ∙ answer-no_ending c.args.log.now c.in_ok-secs.secs c.in_ok-micros.micros
+    both (ending_cut (5 + c.in_ok-secs.secs.len + c.in_ok-micros.micros.len)
+    c.args.log.now c.line_end.result c.line_end.ensures ∙ c.in_err-ending.was)
 
 pub overflow_cast-result : goal.overflow_cast-result
 overflow_cast-result c =
-    let found : number_at 9 (drop (5 + c.in_ok-secs.secs.len) c.args.log.now) ≡ Some c.in_ok-micros.micros = number_cut 9 (5 + c.in_ok-secs.secs.len) c.args.log.now c.leading_number-2.result c.leading_number-2.ensures.number ∙ c.in_ok-micros.was in
-    omega (arith, micros_small 9 (digits_of (drop (5 + c.in_ok-secs.secs.len) c.args.log.now)) c.in_ok-micros.micros found c.in_ok-micros.ensures.small)
+    let found : number_at 9 (drop (5 + c.in_ok-secs.secs.len) c.args.log.now) ≡ Some c.in_ok-micros.micros =
+    number_cut 9 (5 + c.in_ok-secs.secs.len) c.args.log.now c.leading_number-2.result
+    c.leading_number-2.ensures.number ∙ c.in_ok-micros.was in
+    omega (
+      arith,
+      micros_small 9 (digits_of (drop (5 + c.in_ok-secs.secs.len) c.args.log.now))
+          c.in_ok-micros.micros found c.in_ok-micros.ensures.small,
+    )
 
 pub returns : goal.returns
 returns c =
     let read : IsSecs c.args.log.now c.in_ok-secs.secs = record {
       mark = sym c.starts_with.ensures ∙ c.if-not-starts_with.false;
-      number = number_cut 19 4 c.args.log.now c.leading_number.result c.leading_number.ensures.number ∙ c.in_ok-secs.was;
+      number = number_cut 19 4 c.args.log.now c.leading_number.result c.leading_number.ensures.number
+          ∙ c.in_ok-secs.was;
       small = omega (arith, c.if-secs.false);
-      point = front_cut (codes ".") (4 + c.in_ok-secs.secs.len) c.args.log.now c.starts_with-2.result c.starts_with-2.ensures ∙ c.if-not-starts_with-2.false;
+      point = front_cut (codes ".") (4 + c.in_ok-secs.secs.len)
+          c.args.log.now c.starts_with-2.result c.starts_with-2.ensures ∙ c.if-not-starts_with-2.false;
     } in
-    let both : IsMicros c.args.log.now c.in_ok-secs.secs c.in_ok-micros.micros = record { read = read; number = number_cut 9 (5 + c.in_ok-secs.secs.len) c.args.log.now c.leading_number-2.result c.leading_number-2.ensures.number ∙ c.in_ok-micros.was } in
-    answer-some c.args.log.now c.in_ok-secs.secs c.in_ok-micros.micros c.in_ok-ending.ending both (ending_cut (5 + c.in_ok-secs.secs.len + c.in_ok-micros.micros.len) c.args.log.now c.line_end.result c.line_end.ensures ∙ c.in_ok-ending.was)
+    let both : IsMicros c.args.log.now c.in_ok-secs.secs c.in_ok-micros.micros =
+    record {
+      read = read;
+      number = number_cut 9 (5 + c.in_ok-secs.secs.len)
+          c.args.log.now c.leading_number-2.result c.leading_number-2.ensures.number ∙ c.in_ok-micros.was;
+    } in
+    answer-some c.args.log.now c.in_ok-secs.secs c.in_ok-micros.micros c.in_ok-ending.ending both
+    (ending_cut (5 + c.in_ok-secs.secs.len + c.in_ok-micros.micros.len)
+    c.args.log.now c.line_end.result c.line_end.ensures ∙ c.in_ok-ending.was)

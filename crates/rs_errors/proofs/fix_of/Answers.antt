@@ -13,6 +13,8 @@ pub returns : goal.returns
 returns c = record {
   place = omega arith;
   mask_byte = c.mul.type_inv;
-  mask = quotient c.mul-over.result c.ratio-under.result c.inv.result (gap_ratio c.args.powers.now c.args.power) c.mul.result c.mul-over.type_inv c.ratio-under.ensures.value c.inv.ensures c.mul.ensures
-      ∙ c.mul-over.ensures ∙ ap (gf_mul c.args.scale) (c.value.ensures ∙ ap (value_of c.args.evaluator.now) c.alpha_pow.ensures);
+  mask = quotient c.mul-over.result c.ratio-under.result c.inv.result (gap_ratio c.args.powers.now c.args.power)
+      c.mul.result c.mul-over.type_inv c.ratio-under.ensures.value c.inv.ensures c.mul.ensures
+      ∙ c.mul-over.ensures ∙ ap (gf_mul c.args.scale) (c.value.ensures
+      ∙ ap (value_of c.args.evaluator.now) c.alpha_pow.ensures);
 }

@@ -16,17 +16,26 @@ loop-place-preserved c =
     let es : c.args.places - c.loop-place.place ≡ suc m = omega arith in
     elim c.if-len-degree.branch [
       | then-len-degree+then-value-eq0 w ↦ record {
-        len = omega (arith, ap (λ u. length u.items) w.powers-is, w.push.ensures.len, c.len.ensures.value, w.if-len-degree.true);
+        len = omega (
+          arith,
+          ap (λ u. length u.items) w.powers-is,
+          w.push.ensures.len,
+          c.len.ensures.value,
+          w.if-len-degree.true,
+        );
         all = root_taken v q q' d m c.args.places (c.args.places - c.loop-place.place) es
             (ap (λ u. u.items) w.powers-is ∙ w.push.ensures.items ∙ ap (λ (x : ℕ). q ++ x ∷ []) em)
-            (ap (λ (x : ℕ). value_of v (gf_pow 2 (255 - x))) (sym em) ∙ ap (value_of v) (sym w.alpha_pow.ensures) ∙ sym w.value.ensures ∙ w.if-value-eq0.true)
+            (ap (λ (x : ℕ). value_of v (gf_pow 2 (255 - x))) (sym em) ∙ ap (value_of v) (sym w.alpha_pow.ensures)
+            ∙ sym w.value.ensures ∙ w.if-value-eq0.true)
             c.loop-place.invariant.all;
       }
       | else-len-degree w ↦ elim w.else-len-degree.branch [
         | else-len-degree-via-then-len-degree+else-value-eq0 w' ↦ record {
           len = omega (arith, ap (λ u. length u.items) w.powers-is, c.loop-place.invariant.len);
-          all = root_none v q q' d m c.args.places (c.args.places - c.loop-place.place) es (ap (λ u. u.items) w.powers-is)
-              (λ e. w'.if-value-eq0.false (w'.value.ensures ∙ ap (value_of v) w'.alpha_pow.ensures ∙ ap (λ (x : ℕ). value_of v (gf_pow 2 (255 - x))) em ∙ e))
+          all = root_none v q q' d m c.args.places (c.args.places - c.loop-place.place) es
+              (ap (λ u. u.items) w.powers-is)
+              (λ e. w'.if-value-eq0.false (w'.value.ensures ∙ ap (value_of v) w'.alpha_pow.ensures
+              ∙ ap (λ (x : ℕ). value_of v (gf_pow 2 (255 - x))) em ∙ e))
               c.loop-place.invariant.all;
         }
         | else-len-degree-via-else-len-degree w' ↦ record {

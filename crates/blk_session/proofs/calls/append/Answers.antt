@@ -8,13 +8,22 @@ use Rattle.blk_session.proofs.calls.append.Goals as goal
 
 pub returns-in-Ok-clause-done : goal.returns-in-Ok-clause-done
 returns-in-Ok-clause-done g c =
-    call_done c.args.blk.now (Append c.args.ring c.args.payload.now) (append_refusal c.args.blk.now c.args.ring) (append_of c.args.blk.now c.args.ring c.args.payload.now) (appended c.args.blk.now c.args.ring c.args.payload.now) (append_call c.args.blk.now c.args.ring c.args.payload.now)
+    call_done c.args.blk.now (Append c.args.ring c.args.payload.now) (append_refusal c.args.blk.now c.args.ring)
+    (append_of c.args.blk.now c.args.ring c.args.payload.now)
+    (appended c.args.blk.now c.args.ring c.args.payload.now)
+    (append_call c.args.blk.now c.args.ring c.args.payload.now)
     c.append.new.self (g.S.Store.holds c.args.store.now) (g.S.Store.holds c.append.new.store) c.in-Ok.ensures.answer
 
 pub returns-in-Err-clause-done : goal.returns-in-Err-clause-done
 returns-in-Err-clause-done g c =
-    subst (λ (e : LineError). OperationFails e c.args.blk.now.layout (Some c.args.blk.now) (Append c.args.ring c.args.payload.now) (g.S.Store.holds c.args.store.now) (g.S.Store.holds c.append.new.store) (g.S.Store.faults c.args.store.now) (g.S.Store.faults c.append.new.store))
+    subst (λ (e : LineError). OperationFails e c.args.blk.now.layout (Some c.args.blk.now)
+    (Append c.args.ring c.args.payload.now) (g.S.Store.holds c.args.store.now)
+    (g.S.Store.holds c.append.new.store) (g.S.Store.faults c.args.store.now) (g.S.Store.faults c.append.new.store))
     (sym c.line_error.ensures)
-    (call_fails c.args.blk.now (Append c.args.ring c.args.payload.now) (append_refusal c.args.blk.now c.args.ring) (append_of c.args.blk.now c.args.ring c.args.payload.now) (appended c.args.blk.now c.args.ring c.args.payload.now) (append_call c.args.blk.now c.args.ring c.args.payload.now)
-    c.in-Err.fault c.append.new.self (g.S.Store.holds c.args.store.now) (g.S.Store.holds c.append.new.store) (g.S.Store.faults c.args.store.now) (g.S.Store.faults c.append.new.store)
+    (call_fails c.args.blk.now (Append c.args.ring c.args.payload.now) (append_refusal c.args.blk.now c.args.ring)
+    (append_of c.args.blk.now c.args.ring c.args.payload.now)
+    (appended c.args.blk.now c.args.ring c.args.payload.now)
+    (append_call c.args.blk.now c.args.ring c.args.payload.now)
+    c.in-Err.fault c.append.new.self (g.S.Store.holds c.args.store.now) (g.S.Store.holds c.append.new.store)
+    (g.S.Store.faults c.args.store.now) (g.S.Store.faults c.append.new.store)
     c.in-Err.ensures.answer (λ e. c.in-Err.ensures.cause (ap Err e)))

@@ -8,13 +8,22 @@ use Rattle.blk_session.proofs.calls.dump.Goals as goal
 
 pub returns-in-Ok-clause-done : goal.returns-in-Ok-clause-done
 returns-in-Ok-clause-done g c =
-    call_done c.args.blk.now (DumpNow c.args.time c.args.packed c.args.reason c.args.body.now) (dump_refusal c.args.blk.now) (dump_of c.args.blk.now c.args.time c.args.packed c.args.reason c.args.body.now) (dumped c.args.blk.now c.args.reason) (dump_call c.args.blk.now c.args.time c.args.packed c.args.reason c.args.body.now)
+    call_done c.args.blk.now (DumpNow c.args.time c.args.packed c.args.reason c.args.body.now)
+    (dump_refusal c.args.blk.now) (dump_of c.args.blk.now c.args.time c.args.packed c.args.reason c.args.body.now)
+    (dumped c.args.blk.now c.args.reason) (dump_call c.args.blk.now c.args.time c.args.packed c.args.reason
+    c.args.body.now)
     c.dump.new.self (g.S.Store.holds c.args.store.now) (g.S.Store.holds c.dump.new.store) c.in-Ok.ensures.answer
 
 pub returns-in-Err-clause-done : goal.returns-in-Err-clause-done
 returns-in-Err-clause-done g c =
-    subst (λ (e : LineError). OperationFails e c.args.blk.now.layout (Some c.args.blk.now) (DumpNow c.args.time c.args.packed c.args.reason c.args.body.now) (g.S.Store.holds c.args.store.now) (g.S.Store.holds c.dump.new.store) (g.S.Store.faults c.args.store.now) (g.S.Store.faults c.dump.new.store))
+    subst (λ (e : LineError). OperationFails e c.args.blk.now.layout (Some c.args.blk.now)
+    (DumpNow c.args.time c.args.packed c.args.reason c.args.body.now) (g.S.Store.holds c.args.store.now)
+    (g.S.Store.holds c.dump.new.store) (g.S.Store.faults c.args.store.now) (g.S.Store.faults c.dump.new.store))
     (sym c.line_error.ensures)
-    (call_fails c.args.blk.now (DumpNow c.args.time c.args.packed c.args.reason c.args.body.now) (dump_refusal c.args.blk.now) (dump_of c.args.blk.now c.args.time c.args.packed c.args.reason c.args.body.now) (dumped c.args.blk.now c.args.reason) (dump_call c.args.blk.now c.args.time c.args.packed c.args.reason c.args.body.now)
-    c.in-Err.fault c.dump.new.self (g.S.Store.holds c.args.store.now) (g.S.Store.holds c.dump.new.store) (g.S.Store.faults c.args.store.now) (g.S.Store.faults c.dump.new.store)
+    (call_fails c.args.blk.now (DumpNow c.args.time c.args.packed c.args.reason c.args.body.now)
+    (dump_refusal c.args.blk.now) (dump_of c.args.blk.now c.args.time c.args.packed c.args.reason c.args.body.now)
+    (dumped c.args.blk.now c.args.reason) (dump_call c.args.blk.now c.args.time c.args.packed c.args.reason
+    c.args.body.now)
+    c.in-Err.fault c.dump.new.self (g.S.Store.holds c.args.store.now) (g.S.Store.holds c.dump.new.store)
+    (g.S.Store.faults c.args.store.now) (g.S.Store.faults c.dump.new.store)
     c.in-Err.ensures.answer (λ e. c.in-Err.ensures.cause (ap Err e)))

@@ -8,13 +8,20 @@ use Rattle.blk_session.proofs.calls.erase_named.Goals as goal
 
 pub returns-in-Ok-clause-done : goal.returns-in-Ok-clause-done
 returns-in-Ok-clause-done g c =
-    call_done c.args.blk.now (EraseRecord (Some c.args.name)) (erase_refusal c.args.blk.now c.args.name) (erase_of c.args.blk.now c.args.name) (erased c.args.blk.now c.args.name) (erase_call c.args.blk.now c.args.name)
+    call_done c.args.blk.now (EraseRecord (Some c.args.name)) (erase_refusal c.args.blk.now c.args.name)
+    (erase_of c.args.blk.now c.args.name) (erased c.args.blk.now c.args.name)
+    (erase_call c.args.blk.now c.args.name)
     c.erase.new.self (g.S.Store.holds c.args.store.now) (g.S.Store.holds c.erase.new.store) c.in-Ok.ensures.answer
 
 pub returns-in-Err-clause-done : goal.returns-in-Err-clause-done
 returns-in-Err-clause-done g c =
-    subst (λ (e : LineError). OperationFails e c.args.blk.now.layout (Some c.args.blk.now) (EraseRecord (Some c.args.name)) (g.S.Store.holds c.args.store.now) (g.S.Store.holds c.erase.new.store) (g.S.Store.faults c.args.store.now) (g.S.Store.faults c.erase.new.store))
+    subst (λ (e : LineError). OperationFails e c.args.blk.now.layout (Some c.args.blk.now)
+    (EraseRecord (Some c.args.name)) (g.S.Store.holds c.args.store.now) (g.S.Store.holds c.erase.new.store)
+    (g.S.Store.faults c.args.store.now) (g.S.Store.faults c.erase.new.store))
     (sym c.line_error.ensures)
-    (call_fails c.args.blk.now (EraseRecord (Some c.args.name)) (erase_refusal c.args.blk.now c.args.name) (erase_of c.args.blk.now c.args.name) (erased c.args.blk.now c.args.name) (erase_call c.args.blk.now c.args.name)
-    c.in-Err.fault c.erase.new.self (g.S.Store.holds c.args.store.now) (g.S.Store.holds c.erase.new.store) (g.S.Store.faults c.args.store.now) (g.S.Store.faults c.erase.new.store)
+    (call_fails c.args.blk.now (EraseRecord (Some c.args.name)) (erase_refusal c.args.blk.now c.args.name)
+    (erase_of c.args.blk.now c.args.name) (erased c.args.blk.now c.args.name)
+    (erase_call c.args.blk.now c.args.name)
+    c.in-Err.fault c.erase.new.self (g.S.Store.holds c.args.store.now) (g.S.Store.holds c.erase.new.store)
+    (g.S.Store.faults c.args.store.now) (g.S.Store.faults c.erase.new.store)
     c.in-Err.ensures.answer (λ e. c.in-Err.ensures.cause (ap Err e)))

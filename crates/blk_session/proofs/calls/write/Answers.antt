@@ -7,10 +7,14 @@ use Rattle.blk_session.proofs.calls.write.Goals as goal
 
 pub returns-in-Some-clause-done : goal.returns-in-Some-clause-done
 returns-in-Some-clause-done g c =
-    line_ends c.args.blk.now.layout (Some c.args.blk.now) (Write c.args.zone c.args.bytes.now) (Append c.in-Some.ring c.as_slice.result.now)
-    (write_is (Some c.args.blk.now) c.args.zone c.in-Some.ring c.args.bytes.now c.as_slice.result.now (sym c.in-Some.is ∙ c.ring_for.ensures) c.as_slice.ensures)
-    c.append.result (Some c.append.new.blk) (g.S.Store.holds c.args.store.now) (g.S.Store.holds c.append.new.store) (g.S.Store.faults c.args.store.now) (g.S.Store.faults c.append.new.store) c.append.ensures.done
+    line_ends c.args.blk.now.layout (Some c.args.blk.now) (Write c.args.zone c.args.bytes.now)
+    (Append c.in-Some.ring c.as_slice.result.now)
+    (write_is (Some c.args.blk.now) c.args.zone c.in-Some.ring c.args.bytes.now c.as_slice.result.now
+    (sym c.in-Some.is ∙ c.ring_for.ensures) c.as_slice.ensures)
+    c.append.result (Some c.append.new.blk) (g.S.Store.holds c.args.store.now) (g.S.Store.holds c.append.new.store)
+    (g.S.Store.faults c.args.store.now) (g.S.Store.faults c.append.new.store) c.append.ensures.done
 
 pub returns-in-None-clause-done : goal.returns-in-None-clause-done
 returns-in-None-clause-done g c =
-    write_refused c.args.blk.now c.args.zone c.args.bytes.now (g.S.Store.holds c.args.store.now) (g.S.Store.faults c.args.store.now) (sym c.in-None.is ∙ c.ring_for.ensures)
+    write_refused c.args.blk.now c.args.zone c.args.bytes.now (g.S.Store.holds c.args.store.now)
+    (g.S.Store.faults c.args.store.now) (sym c.in-None.is ∙ c.ring_for.ensures)

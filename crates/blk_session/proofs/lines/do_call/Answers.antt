@@ -7,12 +7,16 @@ use Rattle.blk_session.proofs.OtherLines.{kdump_fields}
 use Rattle.blk_session.proofs.lines.do_call.Goals as goal
 
 pub kdump-requires-clause-secs : goal.kdump-requires-clause-secs
-kdump-requires-clause-secs g c = (kdump_fields c.in-KDump.secs c.in-KDump.nanos c.in-KDump.packed c.in-KDump.reason c.in-KDump.body (subst HasFields c.in-KDump.is c.requires.fields)).0
+kdump-requires-clause-secs g c = (kdump_fields c.in-KDump.secs c.in-KDump.nanos c.in-KDump.packed c.in-KDump.reason
+    c.in-KDump.body (subst HasFields c.in-KDump.is c.requires.fields)).0
 
 pub kdump-requires-clause-nanos : goal.kdump-requires-clause-nanos
-kdump-requires-clause-nanos g c = (kdump_fields c.in-KDump.secs c.in-KDump.nanos c.in-KDump.packed c.in-KDump.reason c.in-KDump.body (subst HasFields c.in-KDump.is c.requires.fields)).1
+kdump-requires-clause-nanos g c = (kdump_fields c.in-KDump.secs c.in-KDump.nanos c.in-KDump.packed c.in-KDump.reason
+    c.in-KDump.body (subst HasFields c.in-KDump.is c.requires.fields)).1
 
 pub returns-in-CutAfter-clause-done : goal.returns-in-CutAfter-clause-done
 returns-in-CutAfter-clause-done g c =
-    subst (λ (line : Line). LineDone c.args.blk.now.layout (Some c.args.blk.now) line (Some c.cut_after.new.self) [] (g.S.Store.holds c.args.store.now) (g.S.Store.holds c.args.store.now)) (sym c.in-CutAfter.is)
-    (cut_done c.args.blk.now c.cut_after.new.self c.in-CutAfter.limit (g.S.Store.holds c.args.store.now) (rw c.from.ensures at c.cut_after.ensures))
+    subst (λ (line : Line). LineDone c.args.blk.now.layout (Some c.args.blk.now) line (Some c.cut_after.new.self) []
+    (g.S.Store.holds c.args.store.now) (g.S.Store.holds c.args.store.now)) (sym c.in-CutAfter.is)
+    (cut_done c.args.blk.now c.cut_after.new.self c.in-CutAfter.limit (g.S.Store.holds c.args.store.now)
+    (rw c.from.ensures at c.cut_after.ensures))

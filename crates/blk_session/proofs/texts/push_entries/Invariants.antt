@@ -4,4 +4,5 @@ use Rattle.blk_session.proofs.texts.push_entries.Given as goal
 
 -- the text so far, and then the lines of the records that are left
 abbrev pub invariant-loop-name : goal.invariant-loop-name
-invariant-loop-name l = l.text.items ++ flat_map (entry_text l.blk) (drop l.name-index l.names) ≡ l.initial.text.items ++ flat_map (entry_text l.blk) l.names
+invariant-loop-name l = l.text.items ++ flat_map (entry_text l.blk) (drop l.name-index l.names)
+    ≡ l.initial.text.items ++ flat_map (entry_text l.blk) l.names

@@ -7,4 +7,5 @@ use Rattle.block_ecc.proofs.Coder.block_parity.Goals as goal
 pub returns : goal.returns
 returns c =
     let p = c.block_place-place.ensures in
-    c.parity.ensures ∙ ap (λ (bs : List ℕ). parity_of c.args.zone.now.parity bs) (own_is _ _ (Block c.args.b) _ _ _ p.at p.len c.bytes_at.ensures)
+    c.parity.ensures ∙ ap (λ (bs : List ℕ). parity_of c.args.zone.now.parity bs)
+    (own_is _ _ (Block c.args.b) _ _ _ p.at p.len c.bytes_at.ensures)

@@ -13,4 +13,5 @@ pub returns-in-None-clause-data : goal.returns-in-None-clause-data
 returns-in-None-clause-data c = data-none _ c.args.out.now.items c.args.par.now (none c)
 
 pub returns-in-None-clause-fixes : goal.returns-in-None-clause-fixes
-returns-in-None-clause-fixes c = fixes_clean _ _ _ (nearest-none _ (c.args.out.now.items ++ c.args.par.now) (none c)) c.clear.ensures
+returns-in-None-clause-fixes c = fixes_clean _ _ _ (nearest-none _ (c.args.out.now.items ++ c.args.par.now) (none c))
+    c.clear.ensures

@@ -3,11 +3,13 @@ use Rattle.zone_spec.specs.Parts.{Block}
 use Rattle.block_ecc.proofs.Readings.{IsPart, is_part, answer_is, fixes_are, data_is, counts_are}
 use Rattle.block_ecc.proofs.Coder.read_block.Goals as goal
 
-part : (c : goal.After-correct) → IsPart c.args.zone.now c.args.span.now (Block c.args.b) c.copy.new.out.items c.bytes_at-2.result.now
+part : (c : goal.After-correct) → IsPart c.args.zone.now c.args.span.now (Block c.args.b)
+    c.copy.new.out.items c.bytes_at-2.result.now
 part c =
     let p = c.block_place-place.ensures in
     let size = c.requires.size in
-    is_part _ _ (Block c.args.b) _ _ _ _ _ p.at p.len p.parity_at (c.copy.ensures ∙ c.bytes_at.ensures) c.bytes_at-2.ensures (omega (arith, p.parity_within, size))
+    is_part _ _ (Block c.args.b) _ _ _ _ _ p.at p.len p.parity_at (c.copy.ensures ∙ c.bytes_at.ensures)
+    c.bytes_at-2.ensures (omega (arith, p.parity_within, size))
 
 pub returns-clause-data : goal.returns-clause-data
 returns-clause-data c = data_is _ _ _ _ _ _ (part c) c.correct.ensures.data

@@ -7,5 +7,7 @@ use Rattle.box_script.proofs.printing.print.Goals as goal
 
 pub returns-clause-read : goal.returns-clause-read
 returns-clause-read c =
-    ap script_of (c.from_vec.ensures ∙ c.loop-line.invariant ∙ ap script_text (take_all c.loop-line.line-index c.as_slice-line-items.result.now c.loop-line-test.false ∙ c.as_slice-line-items.ensures))
+    ap script_of (c.from_vec.ensures ∙ c.loop-line.invariant
+    ∙ ap script_text (take_all c.loop-line.line-index c.as_slice-line-items.result.now c.loop-line-test.false
+    ∙ c.as_slice-line-items.ensures))
     ∙ script_back c.args.lines.now c.requires

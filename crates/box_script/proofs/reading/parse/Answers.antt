@@ -8,26 +8,32 @@ loop-text-init c = rw c.new-lines.ensures.items (at_start c.args.script.now)
 
 pub returns-in-Err-clause-read : goal.returns-in-Err-clause-read
 returns-in-Err-clause-read c =
-    fault_of_line c.args.script.now c.loop-text.rest.now c.in-Some.text.now c.in-Some.after.now c.loop-text.lines.items (c.len.result + 1) c.in-Err.fault
-    c.loop-text.invariant c.in-Some.ensures.parts (ap (λ n. n + 1) (c.len.ensures ∙ c.loop-text.lines.ok.0)) c.in-Err.ensures
+    fault_of_line c.args.script.now c.loop-text.rest.now c.in-Some.text.now c.in-Some.after.now
+    c.loop-text.lines.items (c.len.result + 1) c.in-Err.fault
+    c.loop-text.invariant c.in-Some.ensures.parts (ap (λ n. n + 1) (c.len.ensures ∙ c.loop-text.lines.ok.0))
+    c.in-Err.ensures
 
 pub loop-text-preserved : goal.loop-text-preserved
 loop-text-preserved c =
-    rw c.in_ok-push.ensures.items (one_more c.args.script.now c.loop-text.rest.now c.in-Some.text.now c.in-Some.after.now c.loop-text.lines.items c.in-Ok.line
+    rw c.in_ok-push.ensures.items (one_more c.args.script.now c.loop-text.rest.now c.in-Some.text.now
+    c.in-Some.after.now c.loop-text.lines.items c.in-Ok.line
     c.loop-text.invariant c.in-Some.ensures.parts c.in-Some.ensures.shorter c.in-Ok.ensures)
 
 pub returns-then-not-is_empty-clause-read : goal.returns-then-not-is_empty-clause-read
 returns-then-not-is_empty-clause-read c =
-    open_end c.args.script.now c.loop-text.rest.now c.loop-text.lines.items c.loop-text.invariant c.in_default.ensures.none (sym c.is_empty.ensures ∙ c.if-not-is_empty.true)
+    open_end c.args.script.now c.loop-text.rest.now c.loop-text.lines.items c.loop-text.invariant
+    c.in_default.ensures.none (sym c.is_empty.ensures ∙ c.if-not-is_empty.true)
     ∙ ap (λ n. Err (n + 1)) (sym c.loop-text.lines.ok.0 ∙ sym c.len-then-not-is_empty.ensures)
 
 pub returns-clause-read : goal.returns-clause-read
 returns-clause-read c =
-    at_end c.args.script.now c.loop-text.rest.now c.loop-text.lines.items c.loop-text.invariant c.in_default.ensures.none (sym c.is_empty.ensures ∙ c.if-not-is_empty.false)
+    at_end c.args.script.now c.loop-text.rest.now c.loop-text.lines.items c.loop-text.invariant
+    c.in_default.ensures.none (sym c.is_empty.ensures ∙ c.if-not-is_empty.false)
     ∙ ap Ok (sym c.from_vec.ensures)
 
 pub returns-clause-fields : goal.returns-clause-fields
 returns-clause-fields c =
     read_fields c.args.script.now c.from_vec.result
-    (at_end c.args.script.now c.loop-text.rest.now c.loop-text.lines.items c.loop-text.invariant c.in_default.ensures.none (sym c.is_empty.ensures ∙ c.if-not-is_empty.false)
+    (at_end c.args.script.now c.loop-text.rest.now c.loop-text.lines.items c.loop-text.invariant
+    c.in_default.ensures.none (sym c.is_empty.ensures ∙ c.if-not-is_empty.false)
     ∙ ap Ok (sym c.from_vec.ensures))

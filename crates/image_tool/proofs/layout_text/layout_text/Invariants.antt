@@ -6,4 +6,5 @@ use Rattle.image_tool.proofs.layout_text.layout_text.Given as goal
 -- the text so far, and then the lines of the zones that are left
 abbrev pub invariant-loop-zone : goal.invariant-loop-zone
 invariant-loop-zone l =
-    l.text.items ++ flat_map (λ z. layout_line l.uniform z) (drop l.zone-index (zones_of l.layout)) ≡ layout_text (params_of l.layout) (zones_of l.layout)
+    l.text.items ++ flat_map (λ z. layout_line l.uniform z) (drop l.zone-index (zones_of l.layout))
+    ≡ layout_text (params_of l.layout) (zones_of l.layout)

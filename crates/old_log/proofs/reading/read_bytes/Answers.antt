@@ -17,9 +17,12 @@ loop-b-init c = record {
 pub slice_bounds-extend_from_slice-end : goal.slice_bounds-extend_from_slice-end
 slice_bounds-extend_from_slice-end c =
     let some = block_some c.args.zone.now c.requires.valid in
-    let below = below-ceil c.args.size c.args.zone.now.block c.loop-b.b some (subst (λ (n : ℕ). c.loop-b.b < n) c.div_ceil-b-end.ensures c.loop-b-test.true) in
-    let next = bytes_read-next c.args.zone.now c.args.span.now c.loop-b.b c.args.size c.requires.valid c.requires.len c.len-len.ensures.bytes c.requires.within below in
-    let same : length c.as_slice.result.now ≡ length (part_reading c.args.zone.now c.args.span.now (Block c.loop-b.b)).bytes = ap length (c.as_slice.ensures.value ∙ c.read_block-outcome.ensures.data) in
+    let below = below-ceil c.args.size c.args.zone.now.block c.loop-b.b some
+    (subst (λ (n : ℕ). c.loop-b.b < n) c.div_ceil-b-end.ensures c.loop-b-test.true) in
+    let next = bytes_read-next c.args.zone.now c.args.span.now c.loop-b.b c.args.size c.requires.valid c.requires.len
+    c.len-len.ensures.bytes c.requires.within below in
+    let same : length c.as_slice.result.now ≡ length (part_reading c.args.zone.now c.args.span.now
+    (Block c.loop-b.b)).bytes = ap length (c.as_slice.ensures.value ∙ c.read_block-outcome.ensures.data) in
     sym (length-take-le c.min-len.result c.as_slice.result.now (omega (arith, same, next.0, c.min-len.ensures)))
 
 pub loop-b-preserved : goal.loop-b-preserved
@@ -27,15 +30,23 @@ loop-b-preserved c =
     let z = c.args.zone.now in
     let x = c.args.span.now in
     let some = block_some z c.requires.valid in
-    let below = below-ceil c.args.size z.block c.loop-b.b some (subst (λ (n : ℕ). c.loop-b.b < n) c.div_ceil-b-end.ensures c.loop-b-test.true) in
-    let next = bytes_read-next z x c.loop-b.b c.args.size c.requires.valid c.requires.len c.len-len.ensures.bytes c.requires.within below in
+    let below = below-ceil c.args.size z.block c.loop-b.b some
+    (subst (λ (n : ℕ). c.loop-b.b < n) c.div_ceil-b-end.ensures c.loop-b-test.true) in
+    let next = bytes_read-next z x c.loop-b.b c.args.size c.requires.valid c.requires.len c.len-len.ensures.bytes
+    c.requires.within below in
     record {
       bytes =
           c.in_ok-extend_from_slice.ensures.items
-          ∙ ap₂ (λ (xs ys : List ℕ). xs ++ ys) c.loop-b.invariant.bytes (ap₂ (λ (n : ℕ) (ys : List ℕ). take n ys) c.min-len.ensures (c.as_slice.ensures.value ∙ c.read_block-outcome.ensures.data))
+          ∙ ap₂ (λ (xs ys : List ℕ). xs ++ ys) c.loop-b.invariant.bytes
+          (ap₂ (λ (n : ℕ) (ys : List ℕ). take n ys) c.min-len.ensures
+          (c.as_slice.ensures.value ∙ c.read_block-outcome.ensures.data))
           ∙ sym next.1;
-      corrected = ap₂ (λ (a b : ℕ). a + b) c.loop-b.invariant.corrected (c.counts_of-more.ensures.corrected ∙ counted-corrected _ _ c.read_block-outcome.ensures.counts) ∙ sym (sum_by-next (λ (k : ℕ). (part_reading z x (Block k)).corrected) c.loop-b.b);
-      bad = ap₂ (λ (a b : ℕ). a + b) c.loop-b.invariant.bad (c.counts_of-more.ensures.bad ∙ counted-bad _ _ c.read_block-outcome.ensures.counts) ∙ sym (sum_by-next (λ (k : ℕ). (part_reading z x (Block k)).bad) c.loop-b.b);
+      corrected = ap₂ (λ (a b : ℕ). a + b) c.loop-b.invariant.corrected
+          (c.counts_of-more.ensures.corrected ∙ counted-corrected _ _ c.read_block-outcome.ensures.counts)
+          ∙ sym (sum_by-next (λ (k : ℕ). (part_reading z x (Block k)).corrected) c.loop-b.b);
+      bad = ap₂ (λ (a b : ℕ). a + b) c.loop-b.invariant.bad
+          (c.counts_of-more.ensures.bad ∙ counted-bad _ _ c.read_block-outcome.ensures.counts)
+          ∙ sym (sum_by-next (λ (k : ℕ). (part_reading z x (Block k)).bad) c.loop-b.b);
       few = (let a = c.loop-b.invariant.few in let b = c.counts_of-more.ensures.few in omega (arith, a, b));
       some = (let a = c.loop-b.invariant.some in let b = c.counts_of-more.ensures.one in omega (arith, a, b));
     }

@@ -9,7 +9,8 @@ use Rattle.old_log.proofs.reading.read_bytes.Given as goal
 abbrev pub invariant-loop-b : goal.invariant-loop-b
 invariant-loop-b l = record {
   bytes : l.bytes.items ≡ bytes_read l.zone l.span (min (l.zone.block * l.b) l.size);
-  corrected : l.counts.corrected ≡ sum_by (λ (k : ℕ). (part_reading l.zone l.span (Block k)).corrected) (range_with_len 0 l.b);
+  corrected : l.counts.corrected ≡ sum_by (λ (k : ℕ). (part_reading l.zone l.span (Block k)).corrected)
+      (range_with_len 0 l.b);
   bad : l.counts.bad ≡ sum_by (λ (k : ℕ). (part_reading l.zone l.span (Block k)).bad) (range_with_len 0 l.b);
   few : l.counts.corrected ≤ 255 * l.b;
   some : l.counts.bad ≤ l.b;

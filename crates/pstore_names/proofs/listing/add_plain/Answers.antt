@@ -25,7 +25,8 @@ added-none name None e = refl
 
 pub loop-i-preserved : goal.loop-i-preserved
 loop-i-preserved c =
-    let pushed : c.if-is_some.names.items ≡ c.loop-i.names.items ++ added c.args.name c.log_at.result = elim c.if-is_some.branch [
+    let pushed : c.if-is_some.names.items ≡ c.loop-i.names.items ++ added c.args.name c.log_at.result =
+    elim c.if-is_some.branch [
       | then-is_some+in_ok-push w ↦
           let one = added-some c.args.name c.log_at.result (sym c.is_some.ensures ∙ w.if-is_some.true) in
           let put : c.if-is_some.names.items ≡ c.loop-i.names.items ++ c.args.name ∷ [] = grind (arith, common_steps) in
@@ -35,10 +36,16 @@ loop-i-preserved c =
           let same : c.if-is_some.names.items ≡ c.loop-i.names.items = grind (arith, common_steps) in
           same ∙ sym (append-nil c.loop-i.names.items) ∙ ap (λ (ns : List Name). c.loop-i.names.items ++ ns) (sym none)
     ] in
-    let within : c.loop-i.i < length (saved c.args.logs.now) = omega (arith, c.len-i-end.ensures.saved, c.loop-i-test.true) in
-    collected-more (plain_names c.args.kind c.args.name) (plain_names-append c.args.kind c.args.name) (saved c.args.logs.now) c.loop-i.i c.args.names.now.items c.loop-i.names.items c.if-is_some.names.items (added c.args.name c.log_at.result)
-    within (λ s at. ap (λ (logs : List (List ℕ)). map (λ (r : Listed). r.name) (plain c.args.name logs)) (c.log_at.ensures s at)) c.loop-i.invariant pushed
+    let within : c.loop-i.i < length (saved c.args.logs.now) =
+    omega (arith, c.len-i-end.ensures.saved, c.loop-i-test.true) in
+    collected-more (plain_names c.args.kind c.args.name) (plain_names-append c.args.kind c.args.name)
+    (saved c.args.logs.now) c.loop-i.i c.args.names.now.items c.loop-i.names.items c.if-is_some.names.items
+    (added c.args.name c.log_at.result)
+    within (λ s at. ap (λ (logs : List (List ℕ)). map (λ (r : Listed). r.name) (plain c.args.name logs))
+    (c.log_at.ensures s at)) c.loop-i.invariant pushed
 
 pub returns : goal.returns
 returns c =
-    collected-all (plain_names c.args.kind c.args.name) (plain_names-append c.args.kind c.args.name) (saved c.args.logs.now) c.loop-i.i c.args.names.now.items c.loop-i.names.items (omega (arith, c.len-i-end.ensures.saved, c.loop-i-test.false)) c.loop-i.invariant
+    collected-all (plain_names c.args.kind c.args.name) (plain_names-append c.args.kind c.args.name)
+    (saved c.args.logs.now) c.loop-i.i c.args.names.now.items c.loop-i.names.items
+    (omega (arith, c.len-i-end.ensures.saved, c.loop-i-test.false)) c.loop-i.invariant

@@ -8,4 +8,5 @@ use Rattle.old_log.specs.Saving.{saved}
 use Rattle.pstore_names.proofs.merging.merged_entries.Given as goal
 
 abbrev pub invariant-loop-i : goal.invariant-loop-i
-invariant-loop-i l = map entry_bytes l.all ≡ fold (λ all log. merge all (entries log)) [] (logs_of Ftrace (take l.i (saved l.logs)))
+invariant-loop-i l = map entry_bytes l.all ≡ fold (λ all log. merge all (entries log)) []
+    (logs_of Ftrace (take l.i (saved l.logs)))

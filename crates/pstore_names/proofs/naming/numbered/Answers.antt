@@ -4,10 +4,12 @@ use Rattle.pstore_names.proofs.naming.numbered.Goals as goal
 
 pub returns-in-Ok : goal.returns-in-Ok
 returns-in-Ok c = λ index small written.
-    let ok : c.parse.result ≡ Ok index = parse-decimal 32 index c.args.digits.now c.parse.result small (omega (arith, small)) written c.parse.ensures.value.0 in
+    let ok : c.parse.result ≡ Ok index = parse-decimal 32 index c.args.digits.now c.parse.result small
+    (omega (arith, small)) written c.parse.ensures.value.0 in
     cc
 
 pub returns-in-Err : goal.returns-in-Err
 returns-in-Err c = λ index small written.
-    let ok : c.parse.result ≡ Ok index = parse-decimal 32 index c.args.digits.now c.parse.result small (omega (arith, small)) written c.parse.ensures.value.0 in
+    let ok : c.parse.result ≡ Ok index = parse-decimal 32 index c.args.digits.now c.parse.result small
+    (omega (arith, small)) written c.parse.ensures.value.0 in
     cc

@@ -9,5 +9,7 @@ overflow_add-result c = omega (arith, c.in_ok-len.ensures.small, c.as_str.ensure
 
 pub returns : goal.returns
 returns c =
-    let noted : length c.as_str.result.now ≡ length (notice (saved c.args.logs.now) c.args.name) = ap length (c.as_str.ensures.value ∙ c.write_notice.ensures) in
-    ap (λ (n : ℕ). Some (c.in_ok-len.len + n)) noted ∙ with-notice-length (saved c.args.logs.now) c.args.name c.in_ok-len.len c.in_ok-len.ensures.len
+    let noted : length c.as_str.result.now ≡ length (notice (saved c.args.logs.now) c.args.name) =
+    ap length (c.as_str.ensures.value ∙ c.write_notice.ensures) in
+    ap (λ (n : ℕ). Some (c.in_ok-len.len + n)) noted ∙ with-notice-length (saved c.args.logs.now)
+    c.args.name c.in_ok-len.len c.in_ok-len.ensures.len

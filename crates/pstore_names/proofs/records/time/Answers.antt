@@ -5,4 +5,5 @@ use Rattle.pstore_names.proofs.Given.{time-none}
 use Rattle.pstore_names.proofs.records.time.Goals as goal
 
 pub returns-in_err-find_record : goal.returns-in_err-find_record
-returns-in_err-find_record c = rw c.from_residual.ensures (time-none (saved c.args.logs.now) c.args.name (sym c.find_record.ensures ∙ ap parts_in c.in_err-find_record.was))
+returns-in_err-find_record c = rw c.from_residual.ensures
+    (time-none (saved c.args.logs.now) c.args.name (sym c.find_record.ensures ∙ ap parts_in c.in_err-find_record.was))

@@ -10,15 +10,20 @@ use Rattle.pstore_names.proofs.table.add_plain.Goals.{in-Some+in_ok-push, in_def
 pub loop-i-preserved : goal.loop-i-preserved
 loop-i-preserved c =
     let zones = saved c.args.logs.now in
-    let pushed : c.match-plain_entry.entries.items ≡ c.loop-i.entries.items ++ option_to_list c.plain_entry.result = elim c.match-plain_entry.branch [
+    let pushed : c.match-plain_entry.entries.items ≡ c.loop-i.entries.items ++ option_to_list c.plain_entry.result =
+    elim c.match-plain_entry.branch [
       | in-Some+in_ok-push w ↦ grind (arith, common_steps)
       | in_default w ↦ grind (arith, common_steps)
     ] in
     let within : c.loop-i.i < length zones = omega (arith, c.len-i-end.ensures.saved, c.loop-i-test.true) in
-    collected-more (plain_entries zones c.args.kind c.args.name) (plain_entries-append zones c.args.kind c.args.name) zones c.loop-i.i c.args.entries.now.items c.loop-i.entries.items c.match-plain_entry.entries.items (option_to_list c.plain_entry.result)
+    collected-more (plain_entries zones c.args.kind c.args.name) (plain_entries-append zones c.args.kind c.args.name)
+    zones c.loop-i.i c.args.entries.now.items c.loop-i.entries.items c.match-plain_entry.entries.items
+    (option_to_list c.plain_entry.result)
     within c.plain_entry.ensures c.loop-i.invariant pushed
 
 pub returns : goal.returns
 returns c =
     let zones = saved c.args.logs.now in
-    collected-all (plain_entries zones c.args.kind c.args.name) (plain_entries-append zones c.args.kind c.args.name) zones c.loop-i.i c.args.entries.now.items c.loop-i.entries.items (omega (arith, c.len-i-end.ensures.saved, c.loop-i-test.false)) c.loop-i.invariant
+    collected-all (plain_entries zones c.args.kind c.args.name) (plain_entries-append zones c.args.kind c.args.name)
+    zones c.loop-i.i c.args.entries.now.items c.loop-i.entries.items
+    (omega (arith, c.len-i-end.ensures.saved, c.loop-i-test.false)) c.loop-i.invariant

@@ -4,4 +4,5 @@ use Rattle.pstore_names.proofs.Tabled.{plain_entries}
 use Rattle.pstore_names.proofs.table.add_plain.Given as goal
 
 abbrev pub invariant-loop-i : goal.invariant-loop-i
-invariant-loop-i l = l.entries.items ≡ l.initial.entries.items ++ plain_entries (saved l.logs) l.kind l.name (take l.i (saved l.logs))
+invariant-loop-i l = l.entries.items ≡ l.initial.entries.items ++ plain_entries (saved l.logs) l.kind l.name
+    (take l.i (saved l.logs))

@@ -11,44 +11,76 @@ use Rattle.ram_core.proofs.booting.settle_part.Goals as goal
 
 -- what a slice gives outside its length
 abbrev no_zone : Zone
-no_zone = record { name = record { kind = Dump; index = 0 }; at = 0; size = 0; cap = 0; blocks = 0; parity = 0; sig = 0; block = 0 }
+no_zone = record {
+  name = record { kind = Dump; index = 0 };
+  at = 0;
+  size = 0;
+  cap = 0;
+  blocks = 0;
+  parity = 0;
+  sig = 0;
+  block = 0;
+}
 
 -- the zone at a place of the loop
-zone_is : (zs layout : List Zone) (i end readings : ℕ) → zs ≡ layout → i < end → end ≡ readings → readings ≡ length layout → slice_get layout i ≡ Some (get_or zs i no_zone)
-zone_is zs layout i end readings e below a b = ap (λ (l : List Zone). slice_get l i) (sym e) ∙ slice_get-get_or zs i no_zone (let n = ap length e in omega (arith, n, below, a, b))
+zone_is : (zs layout : List Zone) (i end readings : ℕ) → zs ≡ layout → i < end → end ≡ readings
+    → readings ≡ length layout → slice_get layout i ≡ Some (get_or zs i no_zone)
+zone_is zs layout i end readings e below a b = ap (λ (l : List Zone). slice_get l i) (sym e)
+    ∙ slice_get-get_or zs i no_zone (let n = ap length e in omega (arith, n, below, a, b))
 
 pub loop-i-init : goal.loop-i-init
 loop-i-init c = record {
-  parts = subst (λ (ps : List Passed). PartsTo (zones_of c.args.layout.now) c.args.spans.now c.args.spans.now c.args.limit 0 (record { left = c.args.limit; is_whole = true }) ps) (sym c.requires.none) (parts_none (zones_of c.args.layout.now) c.args.spans.now c.args.limit);
+  parts = subst (λ (ps : List Passed). PartsTo (zones_of c.args.layout.now)
+      c.args.spans.now c.args.spans.now c.args.limit 0 (record { left = c.args.limit; is_whole = true }) ps)
+      (sym c.requires.none) (parts_none (zones_of c.args.layout.now) c.args.spans.now c.args.limit);
   room = c.requires.room;
 }
 
 pub pass-next-requires-clause-valid : goal.pass-next-requires-clause-valid
 pass-next-requires-clause-valid c =
-    let z = zone_is c.zones-zones.result.now (zones_of c.args.layout.now) c.loop-i.i c.len-i-end.result _ c.zones-zones.ensures.value c.loop-i-test.true c.len-i-end.ensures.readings c.requires.logs.len in
-    (c.zones-zones.ensures.laid_out.valid c.loop-i.i _ (ap (λ (l : List Zone). slice_get l c.loop-i.i) c.zones-zones.ensures.value ∙ z)).0
+    let z = zone_is c.zones-zones.result.now (zones_of c.args.layout.now)
+    c.loop-i.i c.len-i-end.result _ c.zones-zones.ensures.value c.loop-i-test.true c.len-i-end.ensures.readings
+    c.requires.logs.len in
+    (c.zones-zones.ensures.laid_out.valid c.loop-i.i _ (ap (λ (l : List Zone). slice_get l c.loop-i.i)
+    c.zones-zones.ensures.value ∙ z)).0
 
 pub pass-next-requires-clause-size : goal.pass-next-requires-clause-size
 pass-next-requires-clause-size c =
-    let z = zone_is c.zones-zones.result.now (zones_of c.args.layout.now) c.loop-i.i c.len-i-end.result _ c.zones-zones.ensures.value c.loop-i-test.true c.len-i-end.ensures.readings c.requires.logs.len in
-    (next_zone (zones_of c.args.layout.now) c.args.spans.now c.loop-i.spans c.args.logs.now.readings c.loop-i.i _ c.requires.spans c.requires.logs.readings (c.loop-i.invariant.parts.others c.loop-i.i (omega arith)) z).size
+    let z = zone_is c.zones-zones.result.now (zones_of c.args.layout.now)
+    c.loop-i.i c.len-i-end.result _ c.zones-zones.ensures.value c.loop-i-test.true c.len-i-end.ensures.readings
+    c.requires.logs.len in
+    (next_zone (zones_of c.args.layout.now) c.args.spans.now c.loop-i.spans c.args.logs.now.readings c.loop-i.i _
+    c.requires.spans c.requires.logs.readings (c.loop-i.invariant.parts.others c.loop-i.i (omega arith)) z).size
 
 pub pass-next-requires-clause-reading : goal.pass-next-requires-clause-reading
 pass-next-requires-clause-reading c =
-    let z = zone_is c.zones-zones.result.now (zones_of c.args.layout.now) c.loop-i.i c.len-i-end.result _ c.zones-zones.ensures.value c.loop-i-test.true c.len-i-end.ensures.readings c.requires.logs.len in
-    (next_zone (zones_of c.args.layout.now) c.args.spans.now c.loop-i.spans c.args.logs.now.readings c.loop-i.i _ c.requires.spans c.requires.logs.readings (c.loop-i.invariant.parts.others c.loop-i.i (omega arith)) z).reading
+    let z = zone_is c.zones-zones.result.now (zones_of c.args.layout.now)
+    c.loop-i.i c.len-i-end.result _ c.zones-zones.ensures.value c.loop-i-test.true c.len-i-end.ensures.readings
+    c.requires.logs.len in
+    (next_zone (zones_of c.args.layout.now) c.args.spans.now c.loop-i.spans c.args.logs.now.readings c.loop-i.i _
+    c.requires.spans c.requires.logs.readings (c.loop-i.invariant.parts.others c.loop-i.i (omega arith)) z).reading
 
 pub loop-i-preserved : goal.loop-i-preserved
 loop-i-preserved c =
-    let z = zone_is c.zones-zones.result.now (zones_of c.args.layout.now) c.loop-i.i c.len-i-end.result _ c.zones-zones.ensures.value c.loop-i-test.true c.len-i-end.ensures.readings c.requires.logs.len in
+    let z = zone_is c.zones-zones.result.now (zones_of c.args.layout.now)
+    c.loop-i.i c.len-i-end.result _ c.zones-zones.ensures.value c.loop-i-test.true c.len-i-end.ensures.readings
+    c.requires.logs.len in
     record {
-      parts = parts_next (zones_of c.args.layout.now) c.args.spans.now c.loop-i.spans c.pass-next.new.spans c.args.limit c.loop-i.i c.loop-i.progress c.loop-i.passed.items c.push_reserved.new.self.items _ c.pass-next.result
-          c.loop-i.invariant.parts c.requires.spans.count z c.pass-next.ensures.stores c.pass-next.ensures.left c.pass-next.ensures.words c.pass-next.ensures.made c.pass-next.ensures.all c.pass-next.ensures.erase_at
+      parts = parts_next (zones_of c.args.layout.now) c.args.spans.now c.loop-i.spans c.pass-next.new.spans
+          c.args.limit c.loop-i.i c.loop-i.progress c.loop-i.passed.items c.push_reserved.new.self.items _
+          c.pass-next.result
+          c.loop-i.invariant.parts c.requires.spans.count z c.pass-next.ensures.stores c.pass-next.ensures.left
+          c.pass-next.ensures.words c.pass-next.ensures.made c.pass-next.ensures.all c.pass-next.ensures.erase_at
           c.push_reserved.ensures.items;
-      room = subst (λ (n : ℕ). length (zones_of c.args.layout.now) ≤ n) (sym c.push_reserved.ensures.capacity) c.loop-i.invariant.room;
+      room = subst (λ (n : ℕ). length (zones_of c.args.layout.now) ≤ n) (sym c.push_reserved.ensures.capacity)
+          c.loop-i.invariant.room;
     }
 
 pub returns : goal.returns
 returns c =
-    let end : c.loop-i.i ≡ length (zones_of c.args.layout.now) = (let a = c.loop-i.auto.i-end in let b = c.loop-i-test.false in let d = c.len-i-end.ensures.readings in let e = c.requires.logs.len in omega (arith, a, b, d, e)) in
-    subst (λ (n : ℕ). PartsTo (zones_of c.args.layout.now) c.args.spans.now c.loop-i.spans c.args.limit n c.loop-i.progress c.loop-i.passed.items) end c.loop-i.invariant.parts
+    let end : c.loop-i.i ≡ length (zones_of c.args.layout.now) =
+    (let a = c.loop-i.auto.i-end in let b = c.loop-i-test.false in let d = c.len-i-end.ensures.readings in
+    let e = c.requires.logs.len in omega (arith, a, b, d, e)) in
+    subst (λ (n : ℕ). PartsTo (zones_of c.args.layout.now)
+    c.args.spans.now c.loop-i.spans c.args.limit n c.loop-i.progress c.loop-i.passed.items)
+    end c.loop-i.invariant.parts

@@ -16,7 +16,8 @@ returns-then-left-gt0-clause-begun c live stands =
       stands = c.begin-flight.ensures.stands;
     } in
     let n = c.left.ensures in let t = c.if-left-gt0.true in
-    begun_some c.args.zone c.args.span.now (told_call c.args.call) c.begin-flight.result c.args.held.now _ live begins (omega (arith, n, t)) refl stands
+    begun_some c.args.zone c.args.span.now (told_call c.args.call) c.begin-flight.result c.args.held.now _ live begins
+    (omega (arith, n, t)) refl stands
 
 pub returns-else-left-gt0-clause-begun : goal.returns-else-left-gt0-clause-begun
 returns-else-left-gt0-clause-begun c live stands =
@@ -31,4 +32,5 @@ returns-else-left-gt0-clause-begun c live stands =
       stands = c.begin-flight.ensures.stands;
     } in
     let n = c.left.ensures in let t = c.if-left-gt0.false in let m = c.begin-flight.ensures.made in
-    begun_none c.args.zone c.args.span.now (told_call c.args.call) c.begin-flight.result c.args.held.now _ live begins (omega (arith, n, t, m)) refl stands
+    begun_none c.args.zone c.args.span.now (told_call c.args.call) c.begin-flight.result c.args.held.now _ live begins
+    (omega (arith, n, t, m)) refl stands

@@ -17,6 +17,8 @@ returns c = λ w h.
     let high : c.row-high.result.now ≡ take (length o) (drop (128 * (f / 16)) c.self.inside.high) =
     c.row-high.ensures ∙ ap (λ (r : ℕ). take r (drop (128 * (f / 16)) c.self.inside.high)) er in
     subst (λ (r : ℕ). IsCodeword r ((w ++ c.args.symbol ∷ []) ++ n)) c.requires
-    (rest_step g c.self.inside.low c.self.inside.high w o n c.args.symbol f c.self.invariant.0 c.self.invariant.1 c.self.invariant.2 c.ranges.symbol.fits c.add-factor.type_inv lo (omega arith) c.add-factor.ensures
-    (λ k l. c.shift_step.ensures k l ∙ ap₂ (λ (u v : List ℕ). gf_add (get_or o (k + 1) 0) (gf_add (get_or u k 0) (get_or v k 0))) low high)
+    (rest_step g c.self.inside.low c.self.inside.high w o n c.args.symbol f c.self.invariant.0 c.self.invariant.1
+    c.self.invariant.2 c.ranges.symbol.fits c.add-factor.type_inv lo (omega arith) c.add-factor.ensures
+    (λ k l. c.shift_step.ensures k l ∙ ap₂ (λ (u v : List ℕ). gf_add (get_or o (k + 1) 0)
+    (gf_add (get_or u k 0) (get_or v k 0))) low high)
     (subst (λ (r : ℕ). IsCodeword r (w ++ o)) (sym c.requires) h))

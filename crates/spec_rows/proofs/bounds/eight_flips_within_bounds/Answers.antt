@@ -13,4 +13,5 @@ unfolding computing
 within = inl (abc_block, given_nearest 16 (part_word console_of_sixteen three (Block 0)) abc_block refl, omega arith)
 
 pub returns : goal.returns
-returns c = subst (λ stop. IsWithinBounds console_of_sixteen stop (flipped_from 12 (replicate 8 1) stop) (Block 0)) (sym three-is) within
+returns c = subst (λ stop. IsWithinBounds console_of_sixteen stop (flipped_from 12 (replicate 8 1) stop) (Block 0))
+    (sym three-is) within

@@ -32,11 +32,13 @@ out : IsWithinBounds console_of_sixteen two_hundred nine_flipped (Block 0) → �
 out (inl near) =
     let same : near.0 ≡ stood = ap (λ o. unwrap_or o []) (sym near.1 ∙ stood-is) in
     let within : distance (part_word console_of_sixteen nine_flipped (Block 0)) near.0 ≤ 8 = near.2 in
-    let far : distance (part_word console_of_sixteen nine_flipped (Block 0)) near.0 ≡ 9 = ap (distance (part_word console_of_sixteen nine_flipped (Block 0))) same ∙ nine in
+    let far : distance (part_word console_of_sixteen nine_flipped (Block 0)) near.0 ≡ 9 =
+    ap (distance (part_word console_of_sixteen nine_flipped (Block 0))) same ∙ nine in
     omega (arith, within, far)
 out (inr same) =
     let e : ◌≡◌ {A = ℕ} 0x60 0x61 = sym first_now ∙ ap (λ w. slice_index w 0) same ∙ first_then in
     omega (arith, e)
 
 pub returns : goal.returns
-returns c = subst (λ stop. IsWithinBounds console_of_sixteen stop (flipped_from 12 nine_masks stop) (Block 0) → ⊥) (sym two_hundred-is) out
+returns c = subst (λ stop. IsWithinBounds console_of_sixteen stop (flipped_from 12 nine_masks stop) (Block 0) → ⊥)
+    (sym two_hundred-is) out

@@ -5,4 +5,8 @@ use Rattle.spec_rows.proofs.codes.nearest_of_odd.Goals as goal
 
 pub returns : goal.returns
 unfolding computing
-returns c = (given_nearest 1 (7 ∷ 7 ∷ []) (7 ∷ 7 ∷ []) refl, given_none 1 (7 ∷ 6 ∷ []) refl, given_nearest 3 (1 ∷ 7 ∷ 14 ∷ 9 ∷ []) (1 ∷ 7 ∷ 14 ∷ 8 ∷ []) refl)
+returns c = (
+  given_nearest 1 (7 ∷ 7 ∷ []) (7 ∷ 7 ∷ []) refl,
+  given_none 1 (7 ∷ 6 ∷ []) refl,
+  given_nearest 3 (1 ∷ 7 ∷ 14 ∷ 9 ∷ []) (1 ∷ 7 ∷ 14 ∷ 8 ∷ []) refl,
+)

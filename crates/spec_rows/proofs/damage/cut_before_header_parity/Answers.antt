@@ -15,7 +15,11 @@ use Rattle.spec_rows.proofs.damage.cut_before_header_parity.Goals as goal
 
 -- what is shown of the reading, before being the image before the call
 shown_of : List ℕ → ZoneReading → Shown
-shown_of before r = shown_by r (record { name = console; verdict = verdict_of (Some abc) r.log; cut = report_cut console_of_sixteen r (cut_zone console_of_sixteen before abc (Append def) 21).cut })
+shown_of before r = shown_by r (record {
+  name = console;
+  verdict = verdict_of (Some abc) r.log;
+  cut = report_cut console_of_sixteen r (cut_zone console_of_sixteen before abc (Append def) 21).cut;
+})
 
 pub returns : goal.returns
 unfolding computing shown_of

@@ -15,7 +15,11 @@ use Rattle.spec_rows.proofs.damage.cut_between_words.Goals as goal
 
 -- what is shown of the reading, before being the image before the call
 shown_of : List ℕ → ZoneReading → Shown
-shown_of before r = shown_by r (record { name = console; verdict = verdict_of (Some abc) r.log; cut = report_cut console_of_two r (cut_zone console_of_two before abc (Append def) 2).cut })
+shown_of before r = shown_by r (record {
+  name = console;
+  verdict = verdict_of (Some abc) r.log;
+  cut = report_cut console_of_two r (cut_zone console_of_two before abc (Append def) 2).cut;
+})
 
 pub returns : goal.returns
 unfolding computing shown_of

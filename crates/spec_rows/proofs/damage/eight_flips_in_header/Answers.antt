@@ -11,5 +11,8 @@ use Rattle.spec_rows.proofs.damage.eight_flips_in_header.Goals as goal
 
 pub returns : goal.returns
 returns c =
-    let reads = ap (λ image. zone_reading console_of_sixteen (flipped_from 0 (replicate 8 255) image)) three-is ∙ header_flipped-reads in
-    (ap (λ r. shown_by r (record { name = console; verdict = verdict_of (Some (abc)) r.log; cut = None })) reads, ap (λ r. r.log) reads)
+    let reads = ap (λ image. zone_reading console_of_sixteen (flipped_from 0 (replicate 8 255) image)) three-is
+    ∙ header_flipped-reads in (
+      ap (λ r. shown_by r (record { name = console; verdict = verdict_of (Some (abc)) r.log; cut = None })) reads,
+      ap (λ r. r.log) reads,
+    )

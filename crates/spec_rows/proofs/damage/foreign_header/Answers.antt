@@ -12,7 +12,12 @@ use Rattle.spec_rows.proofs.TwoParityBytes.{foreign-is, foreign-reads}
 use Rattle.spec_rows.proofs.damage.foreign_header.Goals as goal
 
 shown_of : ZoneReading → Shown
-shown_of r = shown_by r (record { name = console; verdict = verdict_of (Some (replicate 4018 0x61)) r.log; cut = report_cut console_of_two r (cut_zone console_of_two full_ring (replicate 4018 0x61) (Append (replicate 1541 0x62)) 1).cut })
+shown_of r = shown_by r (record {
+  name = console;
+  verdict = verdict_of (Some (replicate 4018 0x61)) r.log;
+  cut = report_cut console_of_two r (cut_zone console_of_two full_ring (replicate 4018 0x61)
+      (Append (replicate 1541 0x62)) 1).cut;
+})
 
 pub returns : goal.returns
 unfolding computing shown_of

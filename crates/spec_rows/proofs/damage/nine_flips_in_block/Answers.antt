@@ -10,5 +10,12 @@ use Rattle.spec_rows.proofs.damage.nine_flips_in_block.Goals as goal
 
 pub returns : goal.returns
 returns c =
-    let reads = ap (λ image. zone_reading console_of_sixteen (flipped_from 12 nine_masks image)) two_hundred-is ∙ nine_flipped-reads in
-    (ap (λ r. shown_by r (record { name = console; verdict = verdict_of (Some (replicate 200 0x61)) r.log; cut = None })) reads, ap (λ r. r.log) reads)
+    let reads = ap (λ image. zone_reading console_of_sixteen (flipped_from 12 nine_masks image)) two_hundred-is
+    ∙ nine_flipped-reads in (
+      ap (λ r. shown_by r (record {
+        name = console;
+        verdict = verdict_of (Some (replicate 200 0x61)) r.log;
+        cut = None;
+      })) reads,
+      ap (λ r. r.log) reads,
+    )

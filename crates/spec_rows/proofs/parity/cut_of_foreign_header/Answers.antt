@@ -14,9 +14,16 @@ use Rattle.spec_rows.proofs.parity.cut_of_foreign_header.Goals as goal
 
 -- a boot's cut by its corrections and its erasure
 cut_by : List Store → List Stage → Cut
-cut_by fixes stages = record { kind = Erase; by_boot = true; parts = stages ∷ []; header = part_word console_of_two (after_stores foreign fixes) Header; made = 2 - length fixes }
+cut_by fixes stages = record {
+  kind = Erase;
+  by_boot = true;
+  parts = stages ∷ [];
+  header = part_word console_of_two (after_stores foreign fixes) Header;
+  made = 2 - length fixes;
+}
 
-cut-is : boot_cut console_of_two foreign_header 2 ≡ cut_by (record { place = 3; bytes = 0x40 ∷ [] } ∷ []) (SigWord 0x43474244 ∷ erase_stages)
+cut-is : boot_cut console_of_two foreign_header 2 ≡ cut_by (record { place = 3; bytes = 0x40 ∷ [] } ∷ [])
+    (SigWord 0x43474244 ∷ erase_stages)
 unfolding cut_by
 cut-is = ap (λ image. boot_cut console_of_two image 2) foreign-is ∙ ap₂ cut_by foreign_fixes-are foreign_erasure-is
 

@@ -4,4 +4,10 @@ use Rattle.spec_rows.proofs.parity.parts_of_zones.Goals as goal
 
 pub returns : goal.returns
 unfolding computing_all
-returns c = ((refl, refl), (refl, refl), (refl, refl, refl, refl), (refl, refl), (refl, refl, refl, refl, refl, refl, refl))
+returns c = (
+  (refl, refl),
+  (refl, refl),
+  (refl, refl, refl, refl),
+  (refl, refl),
+  (refl, refl, refl, refl, refl, refl, refl),
+)

@@ -21,18 +21,32 @@ use Rattle.spec_rows.proofs.parity.stopped_erasure_with_parity.Goals as goal
 
 -- a boot's cut by its corrections and its erasure
 cut_by : List ℕ → List Store → List Stage → Cut
-cut_by bytes fixes stages = record { kind = Erase; by_boot = true; parts = stages ∷ []; header = part_word console_of_sixteen (after_stores bytes fixes) Header; made = 1 - length fixes }
+cut_by bytes fixes stages = record {
+  kind = Erase;
+  by_boot = true;
+  parts = stages ∷ [];
+  header = part_word console_of_sixteen (after_stores bytes fixes) Header;
+  made = 1 - length fixes;
+}
 
 cut-is : boot_cut console_of_sixteen three 1 ≡ cut_by three [] erase_stages
 unfolding cut_by
 cut-is = ap₂ (cut_by three) three-fixes three-erasure
 
 shown_of : Cut → ZoneReading → Shown
-shown_of cut r = shown_by r (record { name = console; verdict = verdict_of (Some abc) r.log; cut = report_cut console_of_sixteen r (Some cut) })
+shown_of cut r = shown_by r (record {
+  name = console;
+  verdict = verdict_of (Some abc) r.log;
+  cut = report_cut console_of_sixteen r (Some cut);
+})
 
 pub returns : goal.returns
 unfolding computing shown_of cut_by
 returns c =
-    let image = ap (λ before. after_stores before (take 1 (boot_stores console_of_sixteen before))) three-is ∙ erasing-is in
-    let reads = ap (zone_reading console_of_sixteen) image ∙ erasing-reads in
-    (ap₂ shown_of (ap (λ before. boot_cut console_of_sixteen before 1) three-is ∙ cut-is) reads ∙ refl, ap (λ r. r.log) reads)
+    let image = ap (λ before. after_stores before (take 1 (boot_stores console_of_sixteen before))) three-is
+    ∙ erasing-is in
+    let reads = ap (zone_reading console_of_sixteen) image ∙ erasing-reads in (
+      ap₂ shown_of (ap (λ before. boot_cut console_of_sixteen before 1) three-is ∙ cut-is) reads
+          ∙ refl,
+      ap (λ r. r.log) reads,
+    )

@@ -15,13 +15,18 @@ loop-ask-preserved c =
     let can : All CanBeAsked (c.in-Some.ask ∷ rest) = rw all at c.loop-ask.invariant.can in
     let rings : AllByRecursion IsForRing (map told_ask (c.in-Some.ask ∷ rest)) = rw all at c.loop-ask.invariant.rings in
     let few : length (c.in-Some.ask ∷ rest) ≤ 24 = rw all at c.loop-ask.invariant.few in
-    let grows : Grows c.args.counts.now c.loop-ask.counts (24 - length (c.in-Some.ask ∷ rest)) = rw all at c.loop-ask.invariant.grows in
+    let grows : Grows c.args.counts.now c.loop-ask.counts (24 - length (c.in-Some.ask ∷ rest)) =
+    rw all at c.loop-ask.invariant.grows in
     record {
       next = tt;
       finite = tt;
       can = λ k d lt. can (suc k) d (omega (arith, lt));
       rings = rings.1;
       few = omega (arith, few);
-      made = makes_more c.args.live.now c.loop-ask.live c.make_call.new.live c.args.counts.now c.loop-ask.counts c.make_call.new.counts c.args.asks.items _ rest c.in-Some.ask all c.make_call.ensures.made c.loop-ask.invariant.made;
-      grows = grown_both c.args.counts.now c.loop-ask.counts c.make_call.new.counts (24 - length (c.in-Some.ask ∷ rest)) 1 (24 - length rest) grows c.make_call.ensures.grows (omega (arith, few));
+      made = makes_more c.args.live.now c.loop-ask.live c.make_call.new.live c.args.counts.now c.loop-ask.counts
+          c.make_call.new.counts c.args.asks.items _ rest c.in-Some.ask all c.make_call.ensures.made
+          c.loop-ask.invariant.made;
+      grows = grown_both c.args.counts.now c.loop-ask.counts c.make_call.new.counts
+          (24 - length (c.in-Some.ask ∷ rest)) 1 (24 - length rest) grows c.make_call.ensures.grows
+          (omega (arith, few));
     }

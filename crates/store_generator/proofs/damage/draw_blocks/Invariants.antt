@@ -7,4 +7,6 @@ use Rattle.store_generator.proofs.damage.draw_blocks.Given as goal
 
 -- the flips so far, and then those of the blocks that are left
 abbrev pub invariant-parts : goal.invariant-parts
-invariant-parts l = (l.b ≤ l.blocks) × IsAdded l.initial.flips.items l.flips.items (draw_each (drawn_flips l.most l.zone) (blocks_left l.b l.blocks) l.draws) (draw_each (drawn_flips l.most l.zone) (blocks_of l.zone) l.initial.draws)
+invariant-parts l = (l.b ≤ l.blocks) × IsAdded l.initial.flips.items l.flips.items
+    (draw_each (drawn_flips l.most l.zone) (blocks_left l.b l.blocks) l.draws)
+    (draw_each (drawn_flips l.most l.zone) (blocks_of l.zone) l.initial.draws)

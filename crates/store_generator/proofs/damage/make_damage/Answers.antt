@@ -6,7 +6,9 @@ pub flips-init : goal.flips-init
 flips-init c = flips_start c.args.off.now c.args.flips.now
 
 pub flips-preserved : goal.flips-preserved
-flips-preserved c = flips_more c.args.off.now c.flips.off c.make_flip.new.off c.args.flips.now c.flips.flip-index _ _ c.flips-test.true refl c.make_flip.ensures c.flips.invariant
+flips-preserved c = flips_more c.args.off.now c.flips.off c.make_flip.new.off c.args.flips.now c.flips.flip-index _ _
+    c.flips-test.true refl c.make_flip.ensures c.flips.invariant
 
 pub returns : goal.returns
-returns c = flips_end c.args.off.now c.flips.off c.args.flips.now c.flips.flip-index (omega (arith, c.flips-test.false, c.flips.auto.flip-index-end)) c.flips.invariant
+returns c = flips_end c.args.off.now c.flips.off c.args.flips.now c.flips.flip-index
+    (omega (arith, c.flips-test.false, c.flips.auto.flip-index-end)) c.flips.invariant

@@ -5,4 +5,5 @@ use Rattle.store_generator.proofs.rounds.boot_up.Goals as goal
 
 pub returns-in-Ok : goal.returns-in-Ok
 returns-in-Ok c layout mem s lies stands size =
-    is_up layout mem s c.args.off c.in-Ok.live _ (map told_report c.in-Ok.report) (rw c.image.ensures at c.check.ensures) lies stands size (c.in-Ok.ensures.booted layout mem s stands)
+    is_up layout mem s c.args.off c.in-Ok.live _ (map told_report c.in-Ok.report)
+    (rw c.image.ensures at c.check.ensures) lies stands size (c.in-Ok.ensures.booted layout mem s stands)

@@ -5,4 +5,5 @@ use Rattle.store_session.specs.declared.machine.Machine.TheVariants.{Live as Liv
 use Rattle.store_session.proofs.lines.do_live.Goals as goal
 
 pub returns-in-Err : goal.returns-in-Err
-returns-in-Err c = subst (λ (line : Line). LineFails (LiveMachine c.args.live c.args.logs) line c.in-Err.e) (sym c.in-Extract.is) (c.in-Err.ensures c.args.live)
+returns-in-Err c = subst (λ (line : Line). LineFails (LiveMachine c.args.live c.args.logs) line c.in-Err.e)
+    (sym c.in-Extract.is) (c.in-Err.ensures c.args.live)

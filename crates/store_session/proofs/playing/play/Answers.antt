@@ -12,13 +12,19 @@ returns-in-Err-clause-later g c = omega (arith, c.loop-i.invariant.0, c.play_lin
 
 pub returns-in-Err-clause-played : goal.returns-in-Err-clause-played
 returns-in-Err-clause-played g c layout mem image fresh =
-    plays_stop states_sound (Off c.args.off) c.args.lines.now c.requires.fields c.loop-i.i c.index-lines-i.result c.loop-i-test.true c.index-lines-i.is c.loop-i.machine (g.O.Sink.given c.args.out.now) (g.O.Sink.given c.loop-i.out) c.loop-i.invariant.1
-    c.in-Err.stop (g.O.Sink.given c.play_line.new.out) (g.O.Sink.faults c.loop-i.out) (g.O.Sink.faults c.args.out.now) (g.O.Sink.faults c.play_line.new.out) c.loop-i.invariant.0 c.in-Err.ensures.played c.args.off refl layout mem image fresh
+    plays_stop states_sound (Off c.args.off) c.args.lines.now c.requires.fields c.loop-i.i c.index-lines-i.result
+    c.loop-i-test.true c.index-lines-i.is c.loop-i.machine (g.O.Sink.given c.args.out.now)
+    (g.O.Sink.given c.loop-i.out) c.loop-i.invariant.1
+    c.in-Err.stop (g.O.Sink.given c.play_line.new.out) (g.O.Sink.faults c.loop-i.out) (g.O.Sink.faults c.args.out.now)
+    (g.O.Sink.faults c.play_line.new.out) c.loop-i.invariant.0 c.in-Err.ensures.played c.args.off refl layout mem
+    image fresh
 
 pub loop-i-preserved : goal.loop-i-preserved
 loop-i-preserved g c = (
   omega (arith, c.loop-i.invariant.0, c.play_line.ensures.later),
-  plays_next states_sound (Off c.args.off) c.args.lines.now c.requires.fields c.loop-i.i c.index-lines-i.result c.loop-i-test.true c.index-lines-i.is c.loop-i.machine (g.O.Sink.given c.args.out.now) (g.O.Sink.given c.loop-i.out) c.loop-i.invariant.1
+  plays_next states_sound (Off c.args.off) c.args.lines.now c.requires.fields c.loop-i.i c.index-lines-i.result
+      c.loop-i-test.true c.index-lines-i.is c.loop-i.machine (g.O.Sink.given c.args.out.now)
+      (g.O.Sink.given c.loop-i.out) c.loop-i.invariant.1
       c.in-Ok.next (g.O.Sink.given c.play_line.new.out) c.in-Ok.ensures.played,
 )
 
@@ -26,4 +32,6 @@ pub returns-clause-later : goal.returns-clause-later
 returns-clause-later g c = c.loop-i.invariant.0
 
 pub returns-clause-played : goal.returns-clause-played
-returns-clause-played g c = plays_all c.args.off c.args.lines.now c.loop-i.i c.loop-i.machine (g.O.Sink.given c.args.out.now) (g.O.Sink.given c.loop-i.out) (omega (arith, c.loop-i-test.false)) c.loop-i.invariant.1
+returns-clause-played g c = plays_all c.args.off c.args.lines.now c.loop-i.i c.loop-i.machine
+    (g.O.Sink.given c.args.out.now) (g.O.Sink.given c.loop-i.out) (omega (arith, c.loop-i-test.false))
+    c.loop-i.invariant.1

@@ -10,18 +10,25 @@ use Rattle.zone_blk.proofs.appending.append_ring.Goals as goal
 
 pub returns-then-is_empty-clause-ends : goal.returns-then-is_empty-clause-ends
 returns-then-is_empty-clause-ends g c =
-    subst (λ (ws : List Write). Makes ws c.args.cut.now c.args.cut.now (g.M.Store.holds c.args.store.now) (g.M.Store.holds c.args.store.now))
-    (sym (empty-append c.args.zone c.args.words c.args.payload.now (sym c.is_empty.ensures ∙ c.if-is_empty.true))) (makes-no-write _ _)
+    subst (λ (ws : List Write). Makes ws c.args.cut.now c.args.cut.now (g.M.Store.holds c.args.store.now)
+    (g.M.Store.holds c.args.store.now))
+    (sym (empty-append c.args.zone c.args.words c.args.payload.now (sym c.is_empty.ensures ∙ c.if-is_empty.true)))
+    (makes-no-write _ _)
 
 pub returns-then-is_empty-clause-words : goal.returns-then-is_empty-clause-words
-returns-then-is_empty-clause-words g c = empty-words-after c.args.zone c.args.words c.args.payload.now (sym c.is_empty.ensures ∙ c.if-is_empty.true)
+returns-then-is_empty-clause-words g c = empty-words-after c.args.zone c.args.words c.args.payload.now
+    (sym c.is_empty.ensures ∙ c.if-is_empty.true)
 
 pub returns-clause-ends : goal.returns-clause-ends
 returns-clause-ends g c =
     let kept : c.split_at.result.1.now ≡ last_items (capacity c.args.zone) c.args.payload.now = cc in
-    ends-same c.write_turn.result _ _ _ _ _ _ (ap (kept_writes c.args.zone c.args.words) kept ∙ some-append c.args.zone c.args.words c.args.payload.now (sym c.is_empty.ensures ∙ c.if-is_empty.false)) c.write_turn.ensures.ends
+    ends-same c.write_turn.result _ _ _ _ _ _ (ap (kept_writes c.args.zone c.args.words) kept
+    ∙ some-append c.args.zone c.args.words c.args.payload.now (sym c.is_empty.ensures ∙ c.if-is_empty.false))
+    c.write_turn.ensures.ends
 
 pub returns-clause-words : goal.returns-clause-words
 returns-clause-words g c =
     let kept : c.split_at.result.1.now ≡ last_items (capacity c.args.zone) c.args.payload.now = cc in
-    words-ok c.write_turn.result _ _ (ap (λ (bs : List ℕ). last_words c.args.zone c.args.words (length bs)) kept ∙ some-words-after c.args.zone c.args.words c.args.payload.now (sym c.is_empty.ensures ∙ c.if-is_empty.false)) c.write_turn.ensures.words
+    words-ok c.write_turn.result _ _ (ap (λ (bs : List ℕ). last_words c.args.zone c.args.words (length bs)) kept
+    ∙ some-words-after c.args.zone c.args.words c.args.payload.now (sym c.is_empty.ensures ∙ c.if-is_empty.false))
+    c.write_turn.ensures.words

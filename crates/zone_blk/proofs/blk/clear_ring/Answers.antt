@@ -10,8 +10,11 @@ use Rattle.zone_blk.proofs.blk.clear_ring.Goals as goal
 
 pub returns-then-zone-eq0-clause-ends : goal.returns-then-zone-eq0-clause-ends
 returns-then-zone-eq0-clause-ends g c =
-    let nothing : clearing c.args.zone ≡ [] = if-true _ [] (header_write c.args.zone empty_words ∷ []) (eq-eqb _ _ c.if-zone-eq0.true) in
-    subst (λ (ws : List Write). Makes ws c.args.cut.now c.args.cut.now (g.M.Store.holds c.args.store.now) (g.M.Store.holds c.args.store.now)) (sym nothing) (makes-no-write (g.M.Store.holds c.args.store.now) c.args.cut.now)
+    let nothing : clearing c.args.zone ≡ [] = if-true _ [] (header_write c.args.zone empty_words ∷ [])
+    (eq-eqb _ _ c.if-zone-eq0.true) in
+    subst (λ (ws : List Write). Makes ws c.args.cut.now c.args.cut.now (g.M.Store.holds c.args.store.now)
+    (g.M.Store.holds c.args.store.now)) (sym nothing) (makes-no-write (g.M.Store.holds c.args.store.now)
+    c.args.cut.now)
 
 pub returns-clause-more : goal.returns-clause-more
 returns-clause-more g c = λ n room. room-ends n c.write_header.result _ _ _ _ _ c.write_header.ensures.ends room

@@ -6,4 +6,5 @@ use Rattle.zone_blk.proofs.names.find_dump.Given as goal
 
 -- none of the dumps passed over is the one
 abbrev pub invariant-loop-dump : goal.invariant-loop-dump
-invariant-loop-dump l = find (λ (d : BlkDump). is_name l.name (dump_name d)) (drop l.dump-index l.dumps) ≡ find (λ (d : BlkDump). is_name l.name (dump_name d)) l.dumps
+invariant-loop-dump l = find (λ (d : BlkDump). is_name l.name (dump_name d)) (drop l.dump-index l.dumps)
+    ≡ find (λ (d : BlkDump). is_name l.name (dump_name d)) l.dumps

@@ -5,4 +5,5 @@ use Rattle.zone_blk.proofs.names.find_time.Given as goal
 
 -- none of the dumps passed over is the one
 abbrev pub invariant-loop-dump : goal.invariant-loop-dump
-invariant-loop-dump l = find (λ (d : BlkDump). d.index == l.index) (drop l.dump-index l.dumps) ≡ find (λ (d : BlkDump). d.index == l.index) l.dumps
+invariant-loop-dump l = find (λ (d : BlkDump). d.index == l.index) (drop l.dump-index l.dumps)
+    ≡ find (λ (d : BlkDump). d.index == l.index) l.dumps

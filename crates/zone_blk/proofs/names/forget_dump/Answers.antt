@@ -5,4 +5,6 @@ use Rattle.blk_spec.specs.Names.{is_name, dump_name}
 use Rattle.zone_blk.proofs.names.forget_dump.Goals as goal
 
 pub returns : goal.returns
-returns c = filter_same _ (λ (d : BlkDump). not (is_name c.args.name (dump_name d))) _ (λ d kept g ran. (search rules, search rules)) c.args.dumps.now.items c.retain.new.self.items c.retain.ensures.filtered
+returns c = filter_same _ (λ (d : BlkDump). not (is_name c.args.name (dump_name d))) _
+    (λ d kept g ran. (search rules, search rules)) c.args.dumps.now.items c.retain.new.self.items
+    c.retain.ensures.filtered

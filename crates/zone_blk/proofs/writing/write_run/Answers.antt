@@ -6,9 +6,12 @@ use Rattle.zone_blk.proofs.writing.write_run.Goals as goal
 
 pub returns-in-Ok-clause-ends : goal.returns-in-Ok-clause-ends
 returns-in-Ok-clause-ends g c =
-    then-ends c.write_header.result (one_write (c.args.zone.at + 12 + c.args.place) c.args.bytes.now) (header_write c.args.zone c.args.words ∷ []) _ _ _ _ _ _ c.in-Ok.ensures.ends c.write_header.ensures.ends
+    then-ends c.write_header.result (one_write (c.args.zone.at + 12 + c.args.place) c.args.bytes.now)
+    (header_write c.args.zone c.args.words ∷ []) _ _ _ _ _ _ c.in-Ok.ensures.ends c.write_header.ensures.ends
 
 pub returns-in-Err-clause-ends : goal.returns-in-Err-clause-ends
 returns-in-Err-clause-ends g c =
-    fails-before (one_write (c.args.zone.at + 12 + c.args.place) c.args.bytes.now) (header_write c.args.zone c.args.words ∷ []) c.args.cut.now c.write.new.cut c.write.new.cut
-    (g.M.Store.holds c.args.store.now) (g.M.Store.holds c.write.new.store) (g.M.Store.holds c.write.new.store) c.in-Err.ensures.ends
+    fails-before (one_write (c.args.zone.at + 12 + c.args.place) c.args.bytes.now)
+    (header_write c.args.zone c.args.words ∷ []) c.args.cut.now c.write.new.cut c.write.new.cut
+    (g.M.Store.holds c.args.store.now) (g.M.Store.holds c.write.new.store) (g.M.Store.holds c.write.new.store)
+    c.in-Err.ensures.ends

@@ -7,14 +7,18 @@ use Rattle.zone_blk.proofs.writing.write_zone.Goals as goal
 pub returns-in-Err-clause-ends : goal.returns-in-Err-clause-ends
 returns-in-Err-clause-ends g c =
     let at = c.args.zone.at in let h = c.args.header.now in let f = c.args.front.now in let b = c.args.body.now in
-    let room : HasRoom at (g.M.Store.holds c.args.store.now) = room-within at (at + c.args.zone.size) (g.M.Store.holds c.args.store.now) (omega arith) c.requires.room in
-    fails-of-longer at (h ++ f ++ b) _ _ _ _ _ room (fails-of-longer at (h ++ f) b _ _ _ _ room (fails-of-longer at h f _ _ _ _ room c.in-Err.ensures.ends))
+    let room : HasRoom at (g.M.Store.holds c.args.store.now) =
+    room-within at (at + c.args.zone.size) (g.M.Store.holds c.args.store.now) (omega arith) c.requires.room in
+    fails-of-longer at (h ++ f ++ b) _ _ _ _ _ room (fails-of-longer at (h ++ f) b _ _ _ _ room
+    (fails-of-longer at h f _ _ _ _ room c.in-Err.ensures.ends))
 
 pub returns-in-Err-write-clause-ends : goal.returns-in-Err-write-clause-ends
 returns-in-Err-write-clause-ends g c =
     let at = c.args.zone.at in let h = c.args.header.now in let f = c.args.front.now in let b = c.args.body.now in
-    let room : HasRoom at (g.M.Store.holds c.args.store.now) = room-within at (at + c.args.zone.size) (g.M.Store.holds c.args.store.now) (omega arith) c.requires.room in
-    fails-of-longer at (h ++ f ++ b) _ _ _ _ _ room (fails-of-longer at (h ++ f) b _ _ _ _ room (failed-longer at (at + length h) h f _ _ _ _ _ _ room refl c.in-Ok.ensures.ends c.in-Err-write.ensures.ends))
+    let room : HasRoom at (g.M.Store.holds c.args.store.now) =
+    room-within at (at + c.args.zone.size) (g.M.Store.holds c.args.store.now) (omega arith) c.requires.room in
+    fails-of-longer at (h ++ f ++ b) _ _ _ _ _ room (fails-of-longer at (h ++ f) b _ _ _ _ room
+    (failed-longer at (at + length h) h f _ _ _ _ _ _ room refl c.in-Ok.ensures.ends c.in-Err-write.ensures.ends))
 
 pub returns-in-Ok-write-2-clause-ends : goal.returns-in-Ok-write-2-clause-ends
 returns-in-Ok-write-2-clause-ends g c =
@@ -22,12 +26,21 @@ returns-in-Ok-write-2-clause-ends g c =
     let h0 = g.M.Store.holds c.args.store.now in
     let room : HasRoom at h0 = room-within at (at + c.args.zone.size) h0 (omega arith) c.requires.room in
     let two : Makes (one_write at (h ++ f)) c.args.cut.now c.write-2.new.cut h0 (g.M.Store.holds c.write-2.new.store) =
-    made-longer at (at + length h) h f c.args.cut.now c.write.new.cut c.write-2.new.cut h0 (g.M.Store.holds c.write.new.store) (g.M.Store.holds c.write-2.new.store) room refl c.in-Ok.ensures.ends c.in-Ok-write.ensures.ends in
-    let three : Makes (one_write at (h ++ f ++ b)) c.args.cut.now c.write-3.new.cut h0 (g.M.Store.holds c.write-3.new.store) =
-    made-longer at (at + length h + length f) (h ++ f) b c.args.cut.now c.write-2.new.cut c.write-3.new.cut h0 (g.M.Store.holds c.write-2.new.store) (g.M.Store.holds c.write-3.new.store) room (omega (arith, length-append h f)) two c.in-Ok-write-2.ensures.ends in
-    let rest : replicate ((at + c.args.zone.size) - (at + length h + length f + length b)) 0 ≡ replicate {A = ℕ} (c.args.zone.size - (length h + length f + length b)) 0 = ap (λ n. replicate {A = ℕ} n 0) (omega arith) in
+    made-longer at (at + length h) h f c.args.cut.now c.write.new.cut c.write-2.new.cut h0
+    (g.M.Store.holds c.write.new.store) (g.M.Store.holds c.write-2.new.store)
+    room refl c.in-Ok.ensures.ends c.in-Ok-write.ensures.ends in
+    let three : Makes (one_write at (h ++ f ++ b)) c.args.cut.now c.write-3.new.cut h0
+    (g.M.Store.holds c.write-3.new.store) =
+    made-longer at (at + length h + length f) (h ++ f) b c.args.cut.now c.write-2.new.cut c.write-3.new.cut h0
+    (g.M.Store.holds c.write-2.new.store) (g.M.Store.holds c.write-3.new.store) room
+    (omega (arith, length-append h f)) two c.in-Ok-write-2.ensures.ends in
+    let rest : replicate ((at + c.args.zone.size) - (at + length h + length f + length b)) 0
+    ≡ replicate {A = ℕ} (c.args.zone.size - (length h + length f + length b)) 0 =
+    ap (λ n. replicate {A = ℕ} n 0) (omega arith) in
     ends-same c.write_zeros.result _ _ _ _ _ _ (ap (λ (bs : List ℕ). one_write at (h ++ f ++ b ++ bs)) rest)
-    (ends-longer c.write_zeros.result at (at + length h + length f + length b) (h ++ f ++ b) _ c.args.cut.now c.write-3.new.cut c.write_zeros.new.cut h0 (g.M.Store.holds c.write-3.new.store) (g.M.Store.holds c.write_zeros.new.store)
+    (ends-longer c.write_zeros.result at (at + length h + length f + length b) (h ++ f ++ b)
+    _ c.args.cut.now c.write-3.new.cut c.write_zeros.new.cut h0 (g.M.Store.holds c.write-3.new.store)
+    (g.M.Store.holds c.write_zeros.new.store)
     room (omega (arith, length-append h f, length-append (h ++ f) b)) three c.write_zeros.ensures.ends)
 
 pub returns-in-Err-write-2-clause-ends : goal.returns-in-Err-write-2-clause-ends
@@ -36,6 +49,10 @@ returns-in-Err-write-2-clause-ends g c =
     let h0 = g.M.Store.holds c.args.store.now in
     let room : HasRoom at h0 = room-within at (at + c.args.zone.size) h0 (omega arith) c.requires.room in
     let two : Makes (one_write at (h ++ f)) c.args.cut.now c.write-2.new.cut h0 (g.M.Store.holds c.write-2.new.store) =
-    made-longer at (at + length h) h f c.args.cut.now c.write.new.cut c.write-2.new.cut h0 (g.M.Store.holds c.write.new.store) (g.M.Store.holds c.write-2.new.store) room refl c.in-Ok.ensures.ends c.in-Ok-write.ensures.ends in
+    made-longer at (at + length h) h f c.args.cut.now c.write.new.cut c.write-2.new.cut h0
+    (g.M.Store.holds c.write.new.store) (g.M.Store.holds c.write-2.new.store)
+    room refl c.in-Ok.ensures.ends c.in-Ok-write.ensures.ends in
     fails-of-longer at (h ++ f ++ b) _ _ _ _ _ room
-    (failed-longer at (at + length h + length f) (h ++ f) b c.args.cut.now c.write-2.new.cut c.write-3.new.cut h0 (g.M.Store.holds c.write-2.new.store) (g.M.Store.holds c.write-3.new.store) room (omega (arith, length-append h f)) two c.in-Err-write-2.ensures.ends)
+    (failed-longer at (at + length h + length f) (h ++ f) b c.args.cut.now c.write-2.new.cut c.write-3.new.cut h0
+    (g.M.Store.holds c.write-2.new.store) (g.M.Store.holds c.write-3.new.store) room
+    (omega (arith, length-append h f)) two c.in-Err-write-2.ensures.ends)

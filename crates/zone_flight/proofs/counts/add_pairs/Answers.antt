@@ -17,9 +17,11 @@ returns-in-Append-clause-pairs c =
     let is : told_call c.args.call.now ≡ Append c.in-Append.field-0 = ap told_call c.in-Append.is in
     let bytes : List ℕ = last_of z.cap (Append c.in-Append.field-0) in
     ap (λ ps. c.append_pairs.new.pairs.items ++ ps) (sym (pairs_end c.append_pairs.result))
-    ∙ c.append_pairs.ensures.pairs z refl bytes (ap (λ k. length (last_of z.cap k)) (sym is) ∙ sym c.last_len.ensures.value) []
+    ∙ c.append_pairs.ensures.pairs z refl bytes (ap (λ k. length (last_of z.cap k)) (sym is)
+    ∙ sym c.last_len.ensures.value) []
     ∙ ap (λ ps. ps ++ pairs_from (pair_of w) (append_stages z w.start w.size bytes ++ [])) c.requires.empty
-    ∙ ap (pairs_from (pair_of w)) (append-nil (append_stages z w.start w.size bytes) ∙ sym (stages_append z w c.in-Append.field-0))
+    ∙ ap (pairs_from (pair_of w)) (append-nil (append_stages z w.start w.size bytes)
+    ∙ sym (stages_append z w c.in-Append.field-0))
     ∙ ap (λ k. pairs_from (pair_of w) (call_stages z w k)) (sym is)
 
 pub returns-in-Erase-clause-pairs : goal.returns-in-Erase-clause-pairs
@@ -28,7 +30,8 @@ returns-in-Erase-clause-pairs c =
     let w = c.args.words.now in
     let is : told_call c.args.call.now ≡ Erase = ap told_call c.in-Erase.is in
     let zero : Pair = record { start = 0; size = 0 } in
-    ap (λ ps. ps ++ c.erase_pairs.result ∷ []) (c.erase_pairs.ensures.pairs ∙ ap (λ ps. ps ++ pair_of w ∷ (record { start = 0; size = w.size } ∷ [])) c.requires.empty)
+    ap (λ ps. ps ++ c.erase_pairs.result ∷ []) (c.erase_pairs.ensures.pairs
+    ∙ ap (λ ps. ps ++ pair_of w ∷ (record { start = 0; size = w.size } ∷ [])) c.requires.empty)
     ∙ ap (λ p. pair_of w ∷ (record { start = 0; size = w.size } ∷ (p ∷ []))) c.erase_pairs.ensures.last
     ∙ ap (λ ps. pair_of w ∷ (record { start = 0; size = w.size } ∷ ps)) (sym (pairs_end zero))
     ∙ sym (pairs_erased (pair_of w) [])
@@ -43,9 +46,12 @@ returns-in-Dump-clause-pairs c =
     let body : List ℕ = c.in-Dump.field-1 in
     let is : told_call c.args.call.now ≡ Dump line body = ap told_call c.in-Dump.is in
     let h : c.line_len-line.result ≡ length line = c.line_len-line.ensures.value ∙ ap (λ k. length (line_of k)) is in
-    let n : c.front_len-front.result ≡ length (front_of z.cap (Dump line body)) = c.front_len-front.ensures.value ∙ ap (λ k. length (front_of z.cap k)) is in
-    pairs_dump z w line body c.erase_pairs-erased.result c.append_pairs-lined.result c.append_pairs-in-Dump.result c.erase_pairs-erased.new.pairs.items c.append_pairs-lined.new.pairs.items c.append_pairs-in-Dump.new.pairs.items
-    (c.erase_pairs-erased.ensures.pairs ∙ ap (λ ps. ps ++ pair_of w ∷ (record { start = 0; size = w.size } ∷ [])) c.requires.empty)
+    let n : c.front_len-front.result ≡ length (front_of z.cap (Dump line body)) =
+    c.front_len-front.ensures.value ∙ ap (λ k. length (front_of z.cap k)) is in
+    pairs_dump z w line body c.erase_pairs-erased.result c.append_pairs-lined.result c.append_pairs-in-Dump.result
+    c.erase_pairs-erased.new.pairs.items c.append_pairs-lined.new.pairs.items c.append_pairs-in-Dump.new.pairs.items
+    (c.erase_pairs-erased.ensures.pairs ∙ ap (λ ps. ps ++ pair_of w ∷ (record { start = 0; size = w.size } ∷ []))
+    c.requires.empty)
     c.erase_pairs-erased.ensures.last
     (omega (arith, h, c.line_len-line.ensures.short, c.requires.valid.room))
     (c.append_pairs-lined.ensures.last ∙ ap (λ k. pair_after c.erase_pairs-erased.result z.cap k) h)

@@ -15,8 +15,10 @@ returns-then-len-eq0 c =
     let z = c.args.zone.now in
     let w = c.args.words.now in
     let is : told_call c.args.call.now ≡ Append c.in-Append.field-0 = ap told_call c.in-Append.is in
-    let none : length (last_of z.cap (Append c.in-Append.field-0)) ≡ 0 = ap (λ k. length (last_of z.cap k)) (sym is) ∙ sym c.last_len-len.ensures.value ∙ (let e : c.last_len-len.result ≡ 0 = grind (arith, common_steps) in e) in
-    c.new.ensures ∙ sym (ap (λ k. runs_of (filter (has (touched_by z (call_stages z w k))) (range_with_len 0 z.blocks))) is ∙ runs_none z w c.in-Append.field-0 none)
+    let none : length (last_of z.cap (Append c.in-Append.field-0)) ≡ 0 = ap (λ k. length (last_of z.cap k)) (sym is)
+    ∙ sym c.last_len-len.ensures.value ∙ (let e : c.last_len-len.result ≡ 0 = grind (arith, common_steps) in e) in
+    c.new.ensures ∙ sym (ap (λ k. runs_of (filter (has (touched_by z (call_stages z w k)))
+    (range_with_len 0 z.blocks))) is ∙ runs_none z w c.in-Append.field-0 none)
 
 pub block_behind-requires-in-Dump-clause-fits : goal.block_behind-requires-in-Dump-clause-fits
 unfolding line_of
@@ -24,8 +26,15 @@ block_behind-requires-in-Dump-clause-fits c =
     let z = c.args.zone.now in
     let is : told_call c.args.call.now ≡ Dump c.in-Dump.field-0 c.in-Dump.field-1 = ap told_call c.in-Dump.is in
     let h : c.line_len.result ≡ length c.in-Dump.field-0 = c.line_len.ensures.value ∙ ap (λ k. length (line_of k)) is in
-    let n : c.front_len.result ≡ length (front_of z.cap (Dump c.in-Dump.field-0 c.in-Dump.field-1)) = c.front_len.ensures.value ∙ ap (λ k. length (front_of z.cap k)) is in
-    omega (arith, h, n, dump_fits z.cap c.in-Dump.field-0 c.in-Dump.field-1 (omega (arith, h, c.line_len.ensures.short, c.requires.valid.room)))
+    let n : c.front_len.result ≡ length (front_of z.cap (Dump c.in-Dump.field-0 c.in-Dump.field-1)) =
+    c.front_len.ensures.value ∙ ap (λ k. length (front_of z.cap k)) is in
+    omega (
+      arith,
+      h,
+      n,
+      dump_fits z.cap c.in-Dump.field-0 c.in-Dump.field-1
+          (omega (arith, h, c.line_len.ensures.short, c.requires.valid.room)),
+    )
 
 pub returns-else-len-eq0 : goal.returns-else-len-eq0
 returns-else-len-eq0 c =
@@ -33,22 +42,27 @@ returns-else-len-eq0 c =
     let w = c.args.words.now in
     let bytes : List ℕ = c.in-Append.field-0 in
     let is : told_call c.args.call.now ≡ Append bytes = ap told_call c.in-Append.is in
-    let len : c.last_len-len.result ≡ length (last_of z.cap (Append bytes)) = c.last_len-len.ensures.value ∙ ap (λ k. length (last_of z.cap k)) is in
+    let len : c.last_len-len.result ≡ length (last_of z.cap (Append bytes)) =
+    c.last_len-len.ensures.value ∙ ap (λ k. length (last_of z.cap k)) is in
     let some : 0 < c.last_len-len.result = grind (arith, common_steps) in
     let open_for : IsOpenFor (Append bytes) w z.cap = subst (λ k. IsOpenFor k w z.cap) is c.requires.is_open in
     c.runs_between.ensures
     ∙ ap (λ e. runs_between (w.start / z.block) e c.block_behind-in-Append.result) c.block_behind.ensures
-    ∙ ap (λ m. runs_between (w.start / z.block) (behind_run z w.start c.min-first.result) m) c.block_behind-in-Append.ensures
-    ∙ ap (λ n. runs_between (w.start / z.block) (behind_run z w.start c.min-first.result) ((((n - c.min-first.result) + z.block) - 1) / z.block)) len
+    ∙ ap (λ m. runs_between (w.start / z.block) (behind_run z w.start c.min-first.result) m)
+    c.block_behind-in-Append.ensures
+    ∙ ap (λ n. runs_between (w.start / z.block) (behind_run z w.start c.min-first.result)
+    ((((n - c.min-first.result) + z.block) - 1) / z.block)) len
     ∙ sym (ap (λ k. runs_of (filter (has (touched_by z (call_stages z w k))) (range_with_len 0 z.blocks))) is
-    ∙ runs_append z w c.requires.valid bytes c.min-first.result open_for.0 (omega (arith, len, some)) (omega (arith, c.min-first.ensures, len)))
+    ∙ runs_append z w c.requires.valid bytes c.min-first.result open_for.0 (omega (arith, len, some))
+    (omega (arith, c.min-first.ensures, len)))
 
 pub returns-in-Erase : goal.returns-in-Erase
 returns-in-Erase c =
     let z = c.args.zone.now in
     let w = c.args.words.now in
     let is : told_call c.args.call.now ≡ Erase = ap told_call c.in-Erase.is in
-    c.new-in-Erase.ensures ∙ sym (ap (λ k. runs_of (filter (has (touched_by z (call_stages z w k))) (range_with_len 0 z.blocks))) is ∙ runs_erase z w)
+    c.new-in-Erase.ensures ∙ sym (ap (λ k. runs_of (filter (has (touched_by z (call_stages z w k)))
+    (range_with_len 0 z.blocks))) is ∙ runs_erase z w)
 
 pub returns-in-Dump : goal.returns-in-Dump
 unfolding line_of
@@ -57,7 +71,8 @@ returns-in-Dump c =
     let w = c.args.words.now in
     let is : told_call c.args.call.now ≡ Dump c.in-Dump.field-0 c.in-Dump.field-1 = ap told_call c.in-Dump.is in
     let h : c.line_len.result ≡ length c.in-Dump.field-0 = c.line_len.ensures.value ∙ ap (λ k. length (line_of k)) is in
-    let n : c.front_len.result ≡ length (front_of z.cap (Dump c.in-Dump.field-0 c.in-Dump.field-1)) = c.front_len.ensures.value ∙ ap (λ k. length (front_of z.cap k)) is in
+    let n : c.front_len.result ≡ length (front_of z.cap (Dump c.in-Dump.field-0 c.in-Dump.field-1)) =
+    c.front_len.ensures.value ∙ ap (λ k. length (front_of z.cap k)) is in
     c.runs_between-in-Dump.ensures
     ∙ ap (λ e. runs_between 0 e 0) c.block_behind-in-Dump.ensures
     ∙ ap (λ k. runs_between 0 (((k + c.front_len.result) + z.block - 1) / z.block) 0) h

@@ -5,4 +5,5 @@ use Rattle.zone_params.proofs.laying.add_row.Given as goal
 
 -- the zones so far
 abbrev pub invariant-loop-index : goal.invariant-loop-index
-invariant-loop-index l = l.zones.items ≡ l.initial.zones.items ++ map (λ i. zone_at l.p l.row.kind l.row.size i (l.at + i * l.row.size)) (range_with_len 0 l.index)
+invariant-loop-index l = l.zones.items ≡ l.initial.zones.items ++ map
+    (λ i. zone_at l.p l.row.kind l.row.size i (l.at + i * l.row.size)) (range_with_len 0 l.index)

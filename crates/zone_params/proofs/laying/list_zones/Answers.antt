@@ -12,27 +12,38 @@ use Rattle.zone_params.proofs.laying.list_zones.Goals as goal
 pub loop-row-init : goal.loop-row-init
 loop-row-init c = record {
   zones = ap (λ (xs : List Zone). xs ++ zones_from c.args.p.now 0 c.args.rows.now) c.new-zones.ensures.items;
-  within = rw c.requires.rows (let f = faultless c.args.p.now c.requires.faultless in omega (arith, rows_total c.args.p.now f, mem_small c.args.p.now f));
+  within = rw c.requires.rows (let f = faultless c.args.p.now c.requires.faultless in
+      omega (arith, rows_total c.args.p.now f, mem_small c.args.p.now f));
 }
 
 pub add_row-requires-clause-size : goal.add_row-requires-clause-size
 add_row-requires-clause-size c =
-    let each : All (λ (row : Row). row.size ≤ 2 ^ 24) c.args.rows.now = rw c.requires.rows (sizes_small c.args.p.now (faultless c.args.p.now c.requires.faultless)) in
+    let each : All (λ (row : Row). row.size ≤ 2 ^ 24) c.args.rows.now =
+    rw c.requires.rows (sizes_small c.args.p.now (faultless c.args.p.now c.requires.faultless)) in
     each c.loop-row.row-index _ c.loop-row-test.true
 
 pub add_row-requires-clause-count : goal.add_row-requires-clause-count
 add_row-requires-clause-count c =
-    let each : All (λ (row : Row). row.count < 2 ^ 32) c.args.rows.now = rw c.requires.rows (counts_small c.args.p.now (faultless c.args.p.now c.requires.faultless)) in
+    let each : All (λ (row : Row). row.count < 2 ^ 32) c.args.rows.now =
+    rw c.requires.rows (counts_small c.args.p.now (faultless c.args.p.now c.requires.faultless)) in
     each c.loop-row.row-index _ c.loop-row-test.true
 
 pub loop-row-preserved : goal.loop-row-preserved
 loop-row-preserved c = record {
-  zones = rows_next c.args.p.now c.loop-row.at c.args.rows.now c.loop-row.row-index (record { kind = Dump; count = 0; size = 0 }) c.loop-row.zones.items c.add_row.new.zones.items
-      (zones_from c.args.p.now 0 c.args.rows.now) c.loop-row-test.true c.in_ok-add_row.ensures c.loop-row.invariant.zones;
-  within = omega (arith, taken_step c.args.rows.now c.loop-row.row-index (record { kind = Dump; count = 0; size = 0 }) c.loop-row-test.true, c.loop-row.invariant.within);
+  zones = rows_next c.args.p.now c.loop-row.at c.args.rows.now c.loop-row.row-index
+      (record { kind = Dump; count = 0; size = 0 }) c.loop-row.zones.items c.add_row.new.zones.items
+      (zones_from c.args.p.now 0 c.args.rows.now) c.loop-row-test.true c.in_ok-add_row.ensures
+      c.loop-row.invariant.zones;
+  within = omega (
+    arith,
+    taken_step c.args.rows.now c.loop-row.row-index (record { kind = Dump; count = 0; size = 0 })
+        c.loop-row-test.true,
+    c.loop-row.invariant.within,
+  );
 }
 
 pub returns : goal.returns
 returns c =
-    sym (append-nil c.loop-row.zones.items) ∙ sym (ap (λ (xs : List Zone). c.loop-row.zones.items ++ xs) (rows_end c.args.p.now c.loop-row.at c.args.rows.now c.loop-row.row-index c.loop-row-test.false))
+    sym (append-nil c.loop-row.zones.items) ∙ sym (ap (λ (xs : List Zone). c.loop-row.zones.items ++ xs)
+    (rows_end c.args.p.now c.loop-row.at c.args.rows.now c.loop-row.row-index c.loop-row-test.false))
     ∙ c.loop-row.invariant.zones ∙ ap (λ (rs : List Row). zones_from c.args.p.now 0 rs) c.requires.rows

@@ -5,4 +5,6 @@ use Rattle.zone_params.proofs.params.digits.Goals as goal
 
 pub returns : goal.returns
 returns c = c.ok.ensures.value ∙ parsed_digits c.args.base c.args.text.now c.from_str_radix.result
-    (not_decided _ c.starts_with.result c.if-starts_with.false (starts_char 43 c.args.text.now c.starts_with.result c.starts_with.ensures.cases (omega arith) (omega arith))) c.from_str_radix.ensures.value
+    (not_decided _ c.starts_with.result c.if-starts_with.false
+    (starts_char 43 c.args.text.now c.starts_with.result c.starts_with.ensures.cases (omega arith) (omega arith)))
+    c.from_str_radix.ensures.value

@@ -8,4 +8,5 @@ use Rattle.zone_params.proofs.rows.has_tight.Given as goal
 abbrev pub invariant-loop-row : goal.invariant-loop-row
 invariant-loop-row l =
     list_any (λ (row : Row). nat_lt 0 row.count && nat_lt (zone_at l.p row.kind row.size 0 0).cap 64) l.rows
-    ≡ list_any (λ (row : Row). nat_lt 0 row.count && nat_lt (zone_at l.p row.kind row.size 0 0).cap 64) (drop l.row-index l.rows)
+    ≡ list_any (λ (row : Row). nat_lt 0 row.count && nat_lt (zone_at l.p row.kind row.size 0 0).cap 64)
+    (drop l.row-index l.rows)

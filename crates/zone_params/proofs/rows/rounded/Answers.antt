@@ -9,4 +9,5 @@ returns-then-size-eq0 c = sym (ap rounded c.if-size-eq0.true ∙ rounded_zero)
 
 pub returns-else-size-eq0 : goal.returns-else-size-eq0
 returns-else-size-eq0 c = one_shl c.ilog2.result 64 c.ilog2.ensures.bound
-    ∙ sym (rounded_power c.ilog2.result c.args.size c.ilog2.ensures.bound c.ilog2.ensures.power_le c.ilog2.ensures.next_power_gt)
+    ∙ sym (rounded_power c.ilog2.result c.args.size c.ilog2.ensures.bound c.ilog2.ensures.power_le
+    c.ilog2.ensures.next_power_gt)

@@ -8,11 +8,17 @@ use Rattle.zone_params.proofs.Faultless.{faultless, sizes_small, small_rows, tig
 use Rattle.zone_params.proofs.rows.zone_fault.Goals as goal
 
 pub has_tight-requires-clause-sizes : goal.has_tight-requires-clause-sizes
-has_tight-requires-clause-sizes c = rw c.requires.rows (sizes_small c.args.p.now (faultless c.args.p.now c.requires.faultless))
+has_tight-requires-clause-sizes c = rw c.requires.rows
+    (sizes_small c.args.p.now (faultless c.args.p.now c.requires.faultless))
 
 pub returns : goal.returns
 returns c =
-    let small = c.has_small.ensures ∙ ap (λ (rs : List Row). list_any (λ (row : Row). nat_lt 0 row.count && nat_lt row.size 256) rs) c.requires.rows ∙ small_rows c.args.p.now in
-    let tight = c.has_tight.ensures ∙ ap (λ (rs : List Row). list_any (λ (row : Row). nat_lt 0 row.count && nat_lt (zone_at c.args.p.now row.kind row.size 0 0).cap 64) rs) c.requires.rows ∙ tight_rows c.args.p.now in
-    c.first.ensures ∙ ap (λ (b : Bool). if b then Some ZoneTooSmall else (if c.has_tight.result then Some EccInvalid else None)) small
-    ∙ ap (λ (b : Bool). if list_any (λ (z : Zone). nat_lt z.size 256) (zones_from c.args.p.now 0 (rows c.args.p.now)) then Some ZoneTooSmall else (if b then Some EccInvalid else None)) tight
+    let small = c.has_small.ensures ∙ ap (λ (rs : List Row). list_any
+    (λ (row : Row). nat_lt 0 row.count && nat_lt row.size 256) rs) c.requires.rows ∙ small_rows c.args.p.now in
+    let tight = c.has_tight.ensures ∙ ap (λ (rs : List Row). list_any
+    (λ (row : Row). nat_lt 0 row.count && nat_lt (zone_at c.args.p.now row.kind row.size 0 0).cap 64) rs)
+    c.requires.rows ∙ tight_rows c.args.p.now in
+    c.first.ensures ∙ ap (λ (b : Bool). if b then Some ZoneTooSmall else
+    (if c.has_tight.result then Some EccInvalid else None)) small
+    ∙ ap (λ (b : Bool). if list_any (λ (z : Zone). nat_lt z.size 256) (zones_from c.args.p.now 0 (rows c.args.p.now))
+    then Some ZoneTooSmall else (if b then Some EccInvalid else None)) tight

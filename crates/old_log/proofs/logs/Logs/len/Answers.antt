@@ -5,5 +5,6 @@ use Rattle.old_log.proofs.logs.Logs.len.Goals as goal
 
 pub returns-clause-saved : goal.returns-clause-saved
 returns-clause-saved c =
-    c.len.ensures ∙ c.self.inside.readings.ok.0 ∙ sym (zip-length c.self.inside.zones.items c.self.inside.readings.items c.self.invariant.below)
+    c.len.ensures ∙ c.self.inside.readings.ok.0 ∙ sym (zip-length c.self.inside.zones.items
+    c.self.inside.readings.items c.self.invariant.below)
     ∙ ap (λ (l : SavedLogs). length (saved l)) c.self.view_is

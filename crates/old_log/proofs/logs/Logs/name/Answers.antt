@@ -10,5 +10,7 @@ pub returns : goal.returns
 returns c =
     let long = ap (λ (l : SavedLogs). length l.readings) c.self.view_is in
     let here : SavedLogs = record { zones = c.self.inside.zones.items; readings = c.self.inside.readings.items } in
-    let beside = zone-beside here c.args.i c.index.result.now c.index.ensures (let r = c.requires in omega (arith, long, r)) c.self.invariant.below in
-    subst (λ (l : SavedLogs). option_map (λ (s : Saved). s.0.name) (slice_get (saved l) c.args.i) ≡ Some c.index.result.now.name) c.self.view_is (ap (option_map (λ (s : Saved). s.0.name)) beside)
+    let beside = zone-beside here c.args.i c.index.result.now c.index.ensures
+    (let r = c.requires in omega (arith, long, r)) c.self.invariant.below in
+    subst (λ (l : SavedLogs). option_map (λ (s : Saved). s.0.name) (slice_get (saved l) c.args.i)
+    ≡ Some c.index.result.now.name) c.self.view_is (ap (option_map (λ (s : Saved). s.0.name)) beside)

@@ -11,6 +11,8 @@ pub returns : goal.returns
 returns c =
     let long = ap (λ (l : SavedLogs). length l.readings) c.self.view_is in
     let here : SavedLogs = record { zones = c.self.inside.zones.items; readings = c.self.inside.readings.items } in
-    let beside = reading-beside here c.args.i c.index.result.now c.index.ensures (let r = c.requires in omega (arith, long, r)) c.self.invariant.below in
-    subst (λ (l : SavedLogs). option_map (λ (s : Saved). s.1) (slice_get (saved l) c.args.i) ≡ Some c.index.result.now) c.self.view_is beside
+    let beside = reading-beside here c.args.i c.index.result.now c.index.ensures
+    (let r = c.requires in omega (arith, long, r)) c.self.invariant.below in
+    subst (λ (l : SavedLogs). option_map (λ (s : Saved). s.1) (slice_get (saved l) c.args.i)
+    ≡ Some c.index.result.now) c.self.view_is beside
     ∙ ap (λ (r : Option ZoneReading). Some r) (sym c.as_ref.ensures.value)

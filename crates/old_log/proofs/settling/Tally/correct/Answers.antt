@@ -6,7 +6,8 @@ use Rattle.old_log.proofs.settling.Tally.correct.Goals as goal
 
 pub loop-j-init : goal.loop-j-init
 loop-j-init c =
-    makes-same (fix-none c.args.at (slice_range (span c.args.spans.now c.args.i) c.args.at (c.args.at + length c.args.bytes.now)) c.args.bytes.now) (makes-none c.args.i c.args.self.now c.args.spans.now)
+    makes-same (fix-none c.args.at (slice_range (span c.args.spans.now c.args.i) c.args.at
+    (c.args.at + length c.args.bytes.now)) c.args.bytes.now) (makes-none c.args.i c.args.self.now c.args.spans.now)
 
 pub correct_byte-requires-clause-place : goal.correct_byte-requires-clause-place
 correct_byte-requires-clause-place c =
@@ -18,7 +19,8 @@ correct_byte-requires-clause-place c =
 pub correct_byte-requires-clause-room : goal.correct_byte-requires-clause-room
 correct_byte-requires-clause-room c =
     let n = c.loop-j.invariant.count in
-    let l = fix-length c.args.at (take c.loop-j.j (slice_range (span c.args.spans.now c.args.i) c.args.at (c.args.at + length c.args.bytes.now))) (take c.loop-j.j c.args.bytes.now) in
+    let l = fix-length c.args.at (take c.loop-j.j (slice_range (span c.args.spans.now c.args.i) c.args.at
+    (c.args.at + length c.args.bytes.now))) (take c.loop-j.j c.args.bytes.now) in
     let t = c.loop-j-test.true in
     let r = c.requires.room in
     let s = c.requires.small in
@@ -33,6 +35,10 @@ loop-j-preserved c =
     let j : ℕ = c.loop-j.j in
     let t : j < n = c.loop-j-test.true in
     let long : length standing ≡ n = slice_length x c.args.at n c.requires.place in
-    let now = makes-keep (c.args.at + j) c.requires.span c.loop-j.invariant (fix-below (c.args.at + j) c.args.at (take j standing) (take j c.args.bytes.now) (omega (arith, length-take j standing))) in
-    let stands = byte-same _ x (c.args.at + j) now ∙ sym (slice_byte x c.args.at (c.args.at + n) j (omega (arith, t))) in
-    makes-same (fix-next c.args.at standing c.args.bytes.now j _ _ long t stands refl) (makes-append c.requires.span c.loop-j.invariant c.correct_byte.ensures)
+    let now = makes-keep (c.args.at + j) c.requires.span c.loop-j.invariant
+    (fix-below (c.args.at + j) c.args.at (take j standing) (take j c.args.bytes.now)
+    (omega (arith, length-take j standing))) in
+    let stands = byte-same _ x (c.args.at + j) now ∙ sym
+    (slice_byte x c.args.at (c.args.at + n) j (omega (arith, t))) in
+    makes-same (fix-next c.args.at standing c.args.bytes.now j _ _ long t stands refl)
+    (makes-append c.requires.span c.loop-j.invariant c.correct_byte.ensures)

@@ -7,4 +7,5 @@ use Rattle.old_log.proofs.settling.Tally.correct.Given as goal
 -- the corrections of the first j bytes
 abbrev pub invariant-loop-j : goal.invariant-loop-j
 invariant-loop-j l =
-    Makes (fix_stores l.at (take l.j (slice_range (span l.initial.spans l.i) l.at (l.at + length l.bytes))) (take l.j l.bytes)) l.i l.initial.self l.initial.spans l.self l.spans
+    Makes (fix_stores l.at (take l.j (slice_range (span l.initial.spans l.i) l.at (l.at + length l.bytes)))
+    (take l.j l.bytes)) l.i l.initial.self l.initial.spans l.self l.spans

@@ -9,6 +9,7 @@ use Rattle.old_log.proofs.settling.Tally.correct_blocks.Given as goal
 -- the corrections of the first b blocks
 abbrev pub invariant-loop-b : goal.invariant-loop-b
 invariant-loop-b l = record {
-  done : Makes (flat_map (λ (k : ℕ). part_fixes l.zone (span l.initial.spans l.i) (Block k)) (range_with_len 0 l.b)) l.i l.initial.self l.initial.spans l.self l.spans;
+  done : Makes (flat_map (λ (k : ℕ). part_fixes l.zone (span l.initial.spans l.i) (Block k)) (range_with_len 0 l.b))
+      l.i l.initial.self l.initial.spans l.self l.spans;
   few : l.self.count ≤ l.initial.self.count + 128 * l.b;
 }

@@ -15,10 +15,12 @@ returns-then-reading-eq0 c =
     let z = c.args.zone.now in
     let x : List ℕ = span c.args.spans.now c.args.i in
     let read = c.reading.view_is ∙ c.requires.reading in
-    let was : AreBytes x = subst AreBytes (span-is c.args.spans.now c.args.i c.all.result.now c.index-all-i.result c.all.ensures c.index-all-i.is c.requires.span) c.len-len.ensures.bytes in
+    let was : AreBytes x = subst AreBytes (span-is c.args.spans.now c.args.i c.all.result.now c.index-all-i.result
+    c.all.ensures c.index-all-i.is c.requires.span) c.len-len.ensures.bytes in
     let b = c.requires.begun in
     record {
-      stores = makes-same (boot_fixes-none z x was (sym (ap (λ (r : ZoneReading). r.corrected) read) ∙ c.if-reading-eq0.true)) (makes-none c.args.i c.args.self.now c.args.spans.now);
+      stores = makes-same (boot_fixes-none z x was (sym (ap (λ (r : ZoneReading). r.corrected) read)
+          ∙ c.if-reading-eq0.true)) (makes-none c.args.i c.args.self.now c.args.spans.now);
       few = omega (arith, b);
     }
 
@@ -30,7 +32,8 @@ correct_blocks-requires-clause-within c =
     let z = c.args.zone.now in
     let x : List ℕ = span c.args.spans.now c.args.i in
     let read = c.reading.view_is ∙ c.requires.reading in
-    let ring = ring-found z (words_read z x) (sym (state-of z x) ∙ sym (ap (λ (r : ZoneReading). r.state) read) ∙ c.in-Found.is) in
+    let ring = ring-found z (words_read z x) (sym (state-of z x) ∙ sym (ap (λ (r : ZoneReading). r.state) read)
+    ∙ c.in-Found.is) in
     let size = ap (λ (w : Words). w.size) (ap (λ (r : ZoneReading). r.words) read ∙ words-of z x) in
     let most = ring.1 in
     omega (arith, size, most)
@@ -52,18 +55,26 @@ returns-in-Found-clause-stores c =
     let x : List ℕ = span c.args.spans.now c.args.i in
     let out : List ℕ = c.as_slice.result.now in
     let read = c.reading.view_is ∙ c.requires.reading in
-    let was : AreBytes x = subst AreBytes (span-is c.args.spans.now c.args.i c.all.result.now c.index-all-i.result c.all.ensures c.index-all-i.is c.requires.span) c.len-len.ensures.bytes in
-    let header = header-fixes z x c.reading.inside.words out c.requires.valid c.requires.len was (ap (λ (r : ZoneReading). r.words) read) (c.as_slice.ensures.value ∙ c.bytes_of.ensures) in
-    let keep = makes-keep 12 c.requires.span c.correct.ensures (fix-below 12 0 (slice_range x 0 (0 + length out)) out (let h = header.1 in omega (arith, h, length-take ((0 + length out) - 0) (drop 0 x)))) in
-    makes-same (boot_fixes-found z x c.reading.inside.state c.reading.inside.words.size (ap (λ (r : ZoneReading). r.state) read) c.in-Found.is (ap (λ (r : ZoneReading). r.words.size) read))
-    (makes-append c.requires.span (makes-same header.0 c.correct.ensures) (makes-same (blocks-same z (span c.correct.new.spans c.args.i) x (blocks_below z c.reading.inside.words.size) keep) c.correct_blocks.ensures.stores))
+    let was : AreBytes x = subst AreBytes (span-is c.args.spans.now c.args.i c.all.result.now c.index-all-i.result
+    c.all.ensures c.index-all-i.is c.requires.span) c.len-len.ensures.bytes in
+    let header = header-fixes z x c.reading.inside.words out c.requires.valid c.requires.len was
+    (ap (λ (r : ZoneReading). r.words) read) (c.as_slice.ensures.value ∙ c.bytes_of.ensures) in
+    let keep = makes-keep 12 c.requires.span c.correct.ensures
+    (fix-below 12 0 (slice_range x 0 (0 + length out)) out
+    (let h = header.1 in omega (arith, h, length-take ((0 + length out) - 0) (drop 0 x)))) in
+    makes-same (boot_fixes-found z x c.reading.inside.state c.reading.inside.words.size
+    (ap (λ (r : ZoneReading). r.state) read) c.in-Found.is (ap (λ (r : ZoneReading). r.words.size) read))
+    (makes-append c.requires.span (makes-same header.0 c.correct.ensures)
+    (makes-same (blocks-same z (span c.correct.new.spans c.args.i) x (blocks_below z c.reading.inside.words.size)
+    keep) c.correct_blocks.ensures.stores))
 
 pub returns-in-Found-clause-few : goal.returns-in-Found-clause-few
 returns-in-Found-clause-few c =
     let z = c.args.zone.now in
     let x : List ℕ = span c.args.spans.now c.args.i in
     let read = c.reading.view_is ∙ c.requires.reading in
-    let ring = ring-found z (words_read z x) (sym (state-of z x) ∙ sym (ap (λ (r : ZoneReading). r.state) read) ∙ c.in-Found.is) in
+    let ring = ring-found z (words_read z x) (sym (state-of z x) ∙ sym (ap (λ (r : ZoneReading). r.state) read)
+    ∙ c.in-Found.is) in
     let size = ap (λ (w : Words). w.size) (ap (λ (r : ZoneReading). r.words) read ∙ words-of z x) in
     let most = ring.1 in
     let out : List ℕ = c.as_slice.result.now in
@@ -82,13 +93,16 @@ returns-in_default c =
     let x : List ℕ = span c.args.spans.now c.args.i in
     let out : List ℕ = c.as_slice.result.now in
     let read = c.reading.view_is ∙ c.requires.reading in
-    let was : AreBytes x = subst AreBytes (span-is c.args.spans.now c.args.i c.all.result.now c.index-all-i.result c.all.ensures c.index-all-i.is c.requires.span) c.len-len.ensures.bytes in
-    let header = header-fixes z x c.reading.inside.words out c.requires.valid c.requires.len was (ap (λ (r : ZoneReading). r.words) read) (c.as_slice.ensures.value ∙ c.bytes_of.ensures) in
+    let was : AreBytes x = subst AreBytes (span-is c.args.spans.now c.args.i c.all.result.now c.index-all-i.result
+    c.all.ensures c.index-all-i.is c.requires.span) c.len-len.ensures.bytes in
+    let header = header-fixes z x c.reading.inside.words out c.requires.valid c.requires.len was
+    (ap (λ (r : ZoneReading). r.words) read) (c.as_slice.ensures.value ∙ c.bytes_of.ensures) in
     let fits = c.as_slice.ensures.fits in
     let n = c.correct.ensures.count in
     let l = fix-length 0 (slice_range x 0 (0 + length out)) out in
     let b = c.requires.begun in
     record {
-      stores = makes-same (boot_fixes-other z x c.reading.inside.state (ap (λ (r : ZoneReading). r.state) read) c.in_default.not-Found) (makes-same header.0 c.correct.ensures);
+      stores = makes-same (boot_fixes-other z x c.reading.inside.state (ap (λ (r : ZoneReading). r.state) read)
+          c.in_default.not-Found) (makes-same header.0 c.correct.ensures);
       few = omega (arith, n, l, b, fits);
     }

@@ -6,8 +6,12 @@ use Rattle.old_log.proofs.settling.Tally.store.Goals as goal
 
 pub returns-then-is_made : goal.returns-then-is_made
 unfolding byte_stores put
-returns-then-is_made c = let h = c.if-is_made.true in let e = c.store.ensures in makes-one c.args.i c.args.self.now _ c.args.spans.now _ (record { place = c.args.at; bytes = c.args.b ∷ [] }) (grind (arith, nat_tests, h)) refl e
+returns-then-is_made c = let h = c.if-is_made.true in let e = c.store.ensures in
+    makes-one c.args.i c.args.self.now _ c.args.spans.now _ (record { place = c.args.at; bytes = c.args.b ∷ [] })
+    (grind (arith, nat_tests, h)) refl e
 
 pub returns-else-is_made : goal.returns-else-is_made
 unfolding byte_stores
-returns-else-is_made c = let h = c.if-is_made.false in makes-past c.args.i c.args.self.now _ c.args.spans.now _ (record { place = c.args.at; bytes = c.args.b ∷ [] }) (grind (arith, nat_tests, h)) refl refl
+returns-else-is_made c = let h = c.if-is_made.false in
+    makes-past c.args.i c.args.self.now _ c.args.spans.now _ (record { place = c.args.at; bytes = c.args.b ∷ [] })
+    (grind (arith, nat_tests, h)) refl refl

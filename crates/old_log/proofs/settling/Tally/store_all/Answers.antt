@@ -24,4 +24,5 @@ store-requires-clause-room c =
 
 pub loop-j-preserved : goal.loop-j-preserved
 loop-j-preserved c =
-    makes-same (byte-next c.args.at c.args.bytes.now c.loop-j.j _ c.loop-j-test.true refl) (makes-append c.requires.span c.loop-j.invariant c.store.ensures)
+    makes-same (byte-next c.args.at c.args.bytes.now c.loop-j.j _ c.loop-j-test.true refl)
+    (makes-append c.requires.span c.loop-j.invariant c.store.ensures)

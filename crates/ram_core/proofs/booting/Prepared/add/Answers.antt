@@ -5,10 +5,12 @@ use Rattle.ram_core.proofs.booting.Prepared.add.Goals as goal
 
 pub report_of-requires : goal.report_of-requires
 report_of-requires c =
-    let fits = log_fits c.args.zone.now c.args.span.now in let small = cap_small c.args.zone.now c.requires.valid in let same = ap (λ (r : ZoneReading). length r.log) c.in_ok-reading.ensures in
+    let fits = log_fits c.args.zone.now c.args.span.now in let small = cap_small c.args.zone.now c.requires.valid in
+    let same = ap (λ (r : ZoneReading). length r.log) c.in_ok-reading.ensures in
     omega (arith, fits, small, same)
 
 pub hold-requires : goal.hold-requires
 hold-requires c =
-    let fits = log_fits c.args.zone.now c.args.span.now in let same = ap (λ (r : ZoneReading). length r.log) c.in_ok-reading.ensures in
+    let fits = log_fits c.args.zone.now c.args.span.now in let same =
+    ap (λ (r : ZoneReading). length r.log) c.in_ok-reading.ensures in
     omega (arith, fits, same)

@@ -5,4 +5,5 @@ use Rattle.ram_core.proofs.live.Live.begin.Goals as goal
 
 pub returns-then-is_busy-clause-refused : goal.returns-then-is_busy-clause-refused
 returns-then-is_busy-clause-refused c layout mem s stands =
-    begun_busy c.args.self.now c.in-Some.i (told_ask c.args.ask) (sym c.in-Some.ensures.place) c.in-Some.ensures.within.0 (sym c.is_busy.ensures ∙ c.if-is_busy.true) layout mem s stands
+    begun_busy c.args.self.now c.in-Some.i (told_ask c.args.ask) (sym c.in-Some.ensures.place)
+    c.in-Some.ensures.within.0 (sym c.is_busy.ensures ∙ c.if-is_busy.true) layout mem s stands

@@ -4,9 +4,11 @@ use Rattle.ram_core.specs.LiveSeen.{LiveSeen, StandsLive}
 use Rattle.ram_core.proofs.live.Live.stop.Goals as goal
 
 pub invariant_of-result : goal.invariant_of-result
-invariant_of-result c = stopped_sizes _ c.self.invariant.0 c.into_bytes.result c.stop_all.result.items (c.into_bytes.ensures ∙ c.join.ensures) c.stop_all.ensures
+invariant_of-result c = stopped_sizes _ c.self.invariant.0 c.into_bytes.result c.stop_all.result.items
+    (c.into_bytes.ensures ∙ c.join.ensures) c.stop_all.ensures
 
 pub returns : goal.returns
 returns c layout mem s stands =
-    stopped_stands _ c.self.invariant.0 c.into_bytes.result c.stop_all.result.items (c.into_bytes.ensures ∙ c.join.ensures) c.stop_all.ensures layout mem s
+    stopped_stands _ c.self.invariant.0 c.into_bytes.result c.stop_all.result.items
+    (c.into_bytes.ensures ∙ c.join.ensures) c.stop_all.ensures layout mem s
     (subst (λ (v : LiveSeen). StandsLive layout mem v s) (sym c.self.view_is) stands)

@@ -16,19 +16,33 @@ pub settle_all-requires-clause-spans : goal.settle_all-requires-clause-spans
 settle_all-requires-clause-spans c = open_fits c.args.self c.in_ok-open.open c.in_ok-open.ensures.«open»
 
 pub settle_all-requires-clause-logs : goal.settle_all-requires-clause-logs
-settle_all-requires-clause-logs c = logs_from c.args.self c.in_ok-open.open c.in_ok-open.ensures.«open» c.in-Ok.prepared c.in-Ok.ensures.prepared
+settle_all-requires-clause-logs c = logs_from c.args.self c.in_ok-open.open c.in_ok-open.ensures.«open»
+    c.in-Ok.prepared c.in-Ok.ensures.prepared
 
 pub close-requires-clause-size : goal.close-requires-clause-size
-close-requires-clause-size c = ap length (open_whole c.args.self c.in_ok-open.open c.in_ok-open.ensures.«open») ∙ c.in_ok-open.ensures.«open».size
+close-requires-clause-size c = ap length (open_whole c.args.self c.in_ok-open.open c.in_ok-open.ensures.«open»)
+    ∙ c.in_ok-open.ensures.«open».size
 
 pub returns-in-Err-clause-refused : goal.returns-in-Err-clause-refused
-returns-in-Err-clause-refused c = c.close.ensures ∙ open_closed c.args.self c.in_ok-open.open c.in_ok-open.ensures.«open»
+returns-in-Err-clause-refused c = c.close.ensures ∙ open_closed c.args.self c.in_ok-open.open
+    c.in_ok-open.ensures.«open»
 
 pub live-requires-clause-running : goal.live-requires-clause-running
-live-requires-clause-running c = boot_runs c.args.self c.in_ok-open.open c.in_ok-open.ensures.«open» c.in-Ok.prepared c.in-Ok.ensures.prepared c.settle_all.new.spans c.settle_all.ensures
+live-requires-clause-running c = boot_runs c.args.self c.in_ok-open.open c.in_ok-open.ensures.«open» c.in-Ok.prepared
+    c.in-Ok.ensures.prepared c.settle_all.new.spans c.settle_all.ensures
 
 pub returns-in-Ok-clause-booted : goal.returns-in-Ok-clause-booted
 returns-in-Ok-clause-booted c layout mem s stands =
-    subst (λ (v : LiveSeen). Booted layout mem s v (saved c.in-Ok.prepared.logs) (map told_report c.from_vec.result)) (sym c.live.ensures)
-    (subst (λ (rs : List ZoneReport). Booted layout mem s (record { layout = zones_of c.in_ok-open.open.layout; mem = rounded (params_of c.in_ok-open.open.layout).mem; spans = c.settle_all.new.spans; zones = c.in-Ok.prepared.held.items; cursor = 0 }) (saved c.in-Ok.prepared.logs) (map told_report rs)) (sym c.from_vec.ensures)
-    (boot_is c.args.self c.in_ok-open.open c.in_ok-open.ensures.«open» c.in-Ok.prepared c.in-Ok.ensures.prepared c.settle_all.new.spans c.settle_all.ensures layout mem s stands))
+    subst (λ (v : LiveSeen). Booted layout mem s v (saved c.in-Ok.prepared.logs) (map told_report c.from_vec.result))
+    (sym c.live.ensures)
+    (subst (λ (rs : List ZoneReport). Booted layout mem s
+    (record {
+      layout = zones_of c.in_ok-open.open.layout;
+      mem = rounded (params_of c.in_ok-open.open.layout).mem;
+      spans = c.settle_all.new.spans;
+      zones = c.in-Ok.prepared.held.items;
+      cursor = 0;
+    })
+    (saved c.in-Ok.prepared.logs) (map told_report rs)) (sym c.from_vec.ensures)
+    (boot_is c.args.self c.in_ok-open.open c.in_ok-open.ensures.«open» c.in-Ok.prepared c.in-Ok.ensures.prepared
+    c.settle_all.new.spans c.settle_all.ensures layout mem s stands))

@@ -9,7 +9,8 @@ returns-clause-flipped c layout mem s stands =
     record {
       same_layout = st.same_layout;
       same_mem = st.same_mem;
-      image = c.set.ensures ∙ ap (λ (b : List ℕ). slice_set c.self.inside.image c.args.at (bit_xor (slice_index b c.args.at) c.args.mask)) c.as_slice-bytes.ensures
+      image = c.set.ensures ∙ ap (λ (b : List ℕ). slice_set c.self.inside.image c.args.at
+          (bit_xor (slice_index b c.args.at) c.args.mask)) c.as_slice-bytes.ensures
           ∙ ap (λ (b : List ℕ). slice_set b c.args.at (bit_xor (slice_index b c.args.at) c.args.mask)) st.image;
       kept = st.kept;
       count = st.count;

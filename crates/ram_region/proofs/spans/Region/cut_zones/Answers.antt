@@ -21,11 +21,18 @@ loop-zone-preserved c =
     let row = c.based-slots.ensures.row in
     let lt : i < length zs = c.loop-zone-test.true in
     let left : length (slots_items rest) ≡ length (drop (zones_end (take i zs)) xs) = ap length inv.rest in
-    let le : (zone zs i).size ≤ slots_len rest = omega (arith, left, (slots_counts rest).0, fits-next xs zs i lt c.requires.room) in
+    let le : (zone zs i).size ≤ slots_len rest = omega (
+      arith,
+      left,
+      (slots_counts rest).0,
+      fits-next xs zs i lt c.requires.room,
+    ) in
     let bytes : slots_items c.based-slots.result.0 ≡ bytes_in xs (zone zs i) =
-    row.0 ∙ low.0 ∙ ap (λ (l : List ℕ). take (zone zs i).size l) inv.rest ∙ bytes_in-next xs zs i lt c.requires.side_by_side in
+    row.0 ∙ low.0 ∙ ap (λ (l : List ℕ). take (zone zs i).size l) inv.rest
+    ∙ bytes_in-next xs zs i lt c.requires.side_by_side in
     record {
-      laid = laid-more _ _ (zone zs i).size _ _ _ _ _ inv.laid c.push_reserved.ensures.items (row.2 ∙ low.2) (row.3 ∙ low.3) le high.2 high.3 high.1;
+      laid = laid-more _ _ (zone zs i).size _ _ _ _ _ inv.laid c.push_reserved.ensures.items (row.2 ∙ low.2)
+          (row.3 ∙ low.3) le high.2 high.3 high.1;
       spans = ap all_bytes c.push_reserved.ensures.items ∙ bytes-append c.loop-zone.list.items _
           ∙ ap (λ (l : List (List ℕ)). l ++ slots_items c.based-slots.result.0 ∷ []) inv.spans
           ∙ ap (λ (b : List ℕ). map (bytes_in xs) (take i zs) ++ b ∷ []) bytes

@@ -11,7 +11,8 @@ use Rattle.ram_region.proofs.spans.Region.cut_zones.Given as goal
 abbrev pub invariant-loop-zone : goal.invariant-loop-zone
 invariant-loop-zone l = record {
   laid : Laid (vec_ptr l.shell) (vec_len l.shell) l.list.items l.rest;
-  spans : all_bytes l.list.items ≡ map (λ (z : Zone). slice_range l.fn.self z.at (z.at + z.size)) (take l.zone-index l.zones);
+  spans : all_bytes l.list.items ≡ map (λ (z : Zone). slice_range l.fn.self z.at (z.at + z.size))
+      (take l.zone-index l.zones);
   rest : slots_items l.rest ≡ drop (zones_end (take l.zone-index l.zones)) l.fn.self;
   bytes : AreBytes (slots_items l.rest);
   count : vec_len l.list ≡ l.zone-index;

@@ -13,10 +13,12 @@ glue-rest-requires c =
     let laid = c.loop-piece.invariant.laid in
     let shell = c.self.inside.shell in
     let items : c.loop-piece.list.items ≡ c.pop.new.self.items ++ c.in-Some.piece ∷ [] = c.in-Some.ensures.items in
-    let chain : Chain (vec_ptr shell) (c.pop.new.self.items ++ c.in-Some.piece ∷ []) (slots_ptr c.loop-piece.rest) = subst (λ (ss : List Piece). Chain (vec_ptr shell) ss (slots_ptr c.loop-piece.rest)) items laid.chain in
+    let chain : Chain (vec_ptr shell) (c.pop.new.self.items ++ c.in-Some.piece ∷ []) (slots_ptr c.loop-piece.rest) =
+    subst (λ (ss : List Piece). Chain (vec_ptr shell) ss (slots_ptr c.loop-piece.rest)) items laid.chain in
     let one : slots_len c.in-Some.piece.slots ≡ slots_len c.in-Some.piece.slots * 1 = omega arith in
     let more = ap all_len items ∙ len-append c.pop.new.self.items c.in-Some.piece in (
-      chain-last _ _ c.pop.new.self.items c.in-Some.piece chain ∙ ap (λ (n : ℕ). slots_ptr c.in-Some.piece.slots +ₚ n) one,
+      chain-last _ _ c.pop.new.self.items c.in-Some.piece chain
+          ∙ ap (λ (n : ℕ). slots_ptr c.in-Some.piece.slots +ₚ n) one,
       c.in-Some.piece.row.full,
       laid.full,
       omega (arith, more, laid.long, shell.ok.1, shell.small),
@@ -28,17 +30,21 @@ loop-piece-preserved c =
     let laid = c.loop-piece.invariant.laid in
     let shell = c.self.inside.shell in
     let items : c.loop-piece.list.items ≡ c.pop.new.self.items ++ c.in-Some.piece ∷ [] = c.in-Some.ensures.items in
-    let chain : Chain (vec_ptr shell) (c.pop.new.self.items ++ c.in-Some.piece ∷ []) (slots_ptr c.loop-piece.rest) = subst (λ (ss : List Piece). Chain (vec_ptr shell) ss (slots_ptr c.loop-piece.rest)) items laid.chain in
+    let chain : Chain (vec_ptr shell) (c.pop.new.self.items ++ c.in-Some.piece ∷ []) (slots_ptr c.loop-piece.rest) =
+    subst (λ (ss : List Piece). Chain (vec_ptr shell) ss (slots_ptr c.loop-piece.rest)) items laid.chain in
     let more = ap all_len items ∙ len-append c.pop.new.self.items c.in-Some.piece in
     let glued = c.glue-rest.ensures in
     record {
       laid = record {
-        chain = subst (λ (p : Ptr). Chain (vec_ptr shell) c.pop.new.self.items p) (sym glued.2) (chain-front _ _ c.pop.new.self.items c.in-Some.piece chain);
+        chain = subst (λ (p : Ptr). Chain (vec_ptr shell) c.pop.new.self.items p) (sym glued.2)
+            (chain-front _ _ c.pop.new.self.items c.in-Some.piece chain);
         full = glued.1;
         long = omega (arith, more, laid.long, glued.3);
       };
       bytes = ap (λ (l : List ℕ). concat (all_bytes c.pop.new.self.items) ++ l) glued.0
-          ∙ sym (concat-more (all_bytes c.pop.new.self.items) (piece_bytes c.in-Some.piece) (slots_items c.loop-piece.rest))
-          ∙ ap (λ (l : List (List ℕ)). concat l ++ slots_items c.loop-piece.rest) (sym (bytes-append c.pop.new.self.items (c.in-Some.piece ∷ [])) ∙ ap all_bytes (sym items))
+          ∙ sym (concat-more (all_bytes c.pop.new.self.items) (piece_bytes c.in-Some.piece)
+          (slots_items c.loop-piece.rest))
+          ∙ ap (λ (l : List (List ℕ)). concat l ++ slots_items c.loop-piece.rest)
+          (sym (bytes-append c.pop.new.self.items (c.in-Some.piece ∷ [])) ∙ ap all_bytes (sym items))
           ∙ c.loop-piece.invariant.bytes;
     }

@@ -10,4 +10,6 @@ use Rattle.store_generator.proofs.turns.Targets.draw_turns.Given as goal
 -- the turns so far, and then those that are left
 abbrev pub invariant-turns : goal.invariant-turns
 invariant-turns l = (l.counter ≤ 24) × All CanBeAsked l.turns.items × ((layout : List Zone) → AreTargets layout l.self
-    → IsJoined (map told_ask l.turns.items) (draw_each (λ (i : ℕ). drawn_turn layout l.q) (range_with_len l.counter (24 - l.counter)) l.draws) (draw_each (λ (i : ℕ). drawn_turn layout l.q) (range_with_len 0 24) l.initial.draws))
+    → IsJoined (map told_ask l.turns.items) (draw_each (λ (i : ℕ). drawn_turn layout l.q)
+    (range_with_len l.counter (24 - l.counter)) l.draws)
+    (draw_each (λ (i : ℕ). drawn_turn layout l.q) (range_with_len 0 24) l.initial.draws))

@@ -13,8 +13,10 @@ unfolding content_of
 returns-in-Dump c =
     let b = c.args.self.now in
     subst (λ (o : Option (List ℕ)). IsContent c.named_content.result o)
-    (ap (λ (ds : List BlkDump). option_map dump_content (find (λ (d : BlkDump). is_name c.args.name (dump_name d)) ds)) (c.deref.ensures.value ∙ ap (λ (x : BlkState). x.dumps) c.self.view_is)
-    ∙ ap (λ (n : BlkName). option_map dump_content (find (λ (d : BlkDump). is_name n (dump_name d)) b.dumps)) c.in-Dump.is
+    (ap (λ (ds : List BlkDump). option_map dump_content (find (λ (d : BlkDump). is_name c.args.name (dump_name d))
+    ds)) (c.deref.ensures.value ∙ ap (λ (x : BlkState). x.dumps) c.self.view_is)
+    ∙ ap (λ (n : BlkName). option_map dump_content (find (λ (d : BlkDump). is_name n (dump_name d)) b.dumps))
+    c.in-Dump.is
     ∙ ap (λ (n : BlkName). content_of b n) (sym c.in-Dump.is))
     c.named_content.ensures
 
@@ -22,10 +24,12 @@ pub returns-in-Console : goal.returns-in-Console
 unfolding content_of
 returns-in-Console c =
     subst (λ (o : Option (List ℕ)). IsContent c.saved_content.result o)
-    (ap (λ (b : BlkState). b.console.saved) c.self.view_is ∙ ap (λ (n : BlkName). content_of c.args.self.now n) (sym c.in-Console.is)) c.saved_content.ensures
+    (ap (λ (b : BlkState). b.console.saved) c.self.view_is
+    ∙ ap (λ (n : BlkName). content_of c.args.self.now n) (sym c.in-Console.is)) c.saved_content.ensures
 
 pub returns-in-Pmsg : goal.returns-in-Pmsg
 unfolding content_of
 returns-in-Pmsg c =
     subst (λ (o : Option (List ℕ)). IsContent c.saved_content-in-Pmsg.result o)
-    (ap (λ (b : BlkState). b.pmsg.saved) c.self.view_is ∙ ap (λ (n : BlkName). content_of c.args.self.now n) (sym c.in-Pmsg.is)) c.saved_content-in-Pmsg.ensures
+    (ap (λ (b : BlkState). b.pmsg.saved) c.self.view_is ∙ ap (λ (n : BlkName). content_of c.args.self.now n)
+    (sym c.in-Pmsg.is)) c.saved_content-in-Pmsg.ensures

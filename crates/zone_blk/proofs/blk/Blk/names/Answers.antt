@@ -11,4 +11,6 @@ returns c =
     let dumps = c.in_ok-names.ensures ∙ ap (map dump_name) c.deref.ensures.value in
     rw (← c.self.view_is)
     (c.from_vec.ensures ∙ c.in_ok-add_name-2.ensures
-    ∙ ap (λ (names : List BlkName). names ++ name_if Pmsg c.self.inside.pmsg.saved) (c.in_ok-add_name.ensures ∙ ap (λ (names : List BlkName). names ++ name_if Console c.self.inside.console.saved) dumps))
+    ∙ ap (λ (names : List BlkName). names ++ name_if Pmsg c.self.inside.pmsg.saved)
+    (c.in_ok-add_name.ensures ∙ ap (λ (names : List BlkName). names
+    ++ name_if Console c.self.inside.console.saved) dumps))

@@ -9,4 +9,6 @@ pub returns : goal.returns
 unfolding time_of
 returns c =
     c.find_time.ensures
-    ∙ ap (λ (ds : List BlkDump). option_map (λ (d : BlkDump). d.time) (find (λ (d : BlkDump). d.index == c.args.index) ds)) (c.deref.ensures.value ∙ ap (λ (b : BlkState). b.dumps) c.self.view_is)
+    ∙ ap (λ (ds : List BlkDump). option_map (λ (d : BlkDump). d.time)
+    (find (λ (d : BlkDump). d.index == c.args.index) ds))
+    (c.deref.ensures.value ∙ ap (λ (b : BlkState). b.dumps) c.self.view_is)

@@ -11,8 +11,10 @@ use Rattle.zone_blk.proofs.blk.Blk.zone_named.Goals as goal
 pub dump_zone-requires-clause-index : goal.dump_zone-requires-clause-index
 dump_zone-requires-clause-index c =
     let b = c.args.self.now in
-    let listed : is_listed b (Dump c.in-Dump.index c.in-Dump.packed) ≡ true = ap (λ (n : BlkName). is_listed b n) (sym c.in-Dump.is) ∙ c.requires.listed in
-    let inside : All (IsIn b.layout) b.dumps = subst (λ (x : BlkState). All (IsIn x.layout) x.dumps) c.self.view_is c.self.invariant.dumps in
+    let listed : is_listed b (Dump c.in-Dump.index c.in-Dump.packed) ≡ true =
+    ap (λ (n : BlkName). is_listed b n) (sym c.in-Dump.is) ∙ c.requires.listed in
+    let inside : All (IsIn b.layout) b.dumps = subst (λ (x : BlkState). All (IsIn x.layout) x.dumps)
+    c.self.view_is c.self.invariant.dumps in
     let same : c.self.inside.layout.dumps ≡ b.layout.dumps = ap (λ (x : BlkState). x.layout.dumps) c.self.view_is in
     omega (arith, dump-inside b c.in-Dump.index c.in-Dump.packed inside listed)
 
@@ -20,10 +22,13 @@ pub returns-in-Console-clause-sized : goal.returns-in-Console-clause-sized
 returns-in-Console-clause-sized c =
     let b = c.args.self.now in
     let saved : is_some c.self.inside.console.saved ≡ true =
-    ap (λ (x : BlkState). is_some x.console.saved) c.self.view_is ∙ sym (listed-console b) ∙ ap (λ (n : BlkName). is_listed b n) (sym c.in-Console.is) ∙ c.requires.listed in
-    let size : c.ring_zone.result.size ≡ c.self.inside.layout.console = ap (λ (z : BlkZone). z.size) c.ring_zone.ensures.zone in
+    ap (λ (x : BlkState). is_some x.console.saved) c.self.view_is ∙ sym (listed-console b)
+    ∙ ap (λ (n : BlkName). is_listed b n) (sym c.in-Console.is) ∙ c.requires.listed in
+    let size : c.ring_zone.result.size ≡ c.self.inside.layout.console =
+    ap (λ (z : BlkZone). z.size) c.ring_zone.ensures.zone in
     elim c.ring_zone.ensures.valid.sized [
-      | inl none ↦ absurd (some-not-none c.self.inside.console.saved saved (c.self.invariant.no_console (sym size ∙ none)))
+      | inl none ↦ absurd (some-not-none c.self.inside.console.saved saved
+          (c.self.invariant.no_console (sym size ∙ none)))
       | inr some ↦ omega arith
     ]
 
@@ -31,8 +36,10 @@ pub returns-in-Pmsg-clause-sized : goal.returns-in-Pmsg-clause-sized
 returns-in-Pmsg-clause-sized c =
     let b = c.args.self.now in
     let saved : is_some c.self.inside.pmsg.saved ≡ true =
-    ap (λ (x : BlkState). is_some x.pmsg.saved) c.self.view_is ∙ sym (listed-pmsg b) ∙ ap (λ (n : BlkName). is_listed b n) (sym c.in-Pmsg.is) ∙ c.requires.listed in
-    let size : c.ring_zone-in-Pmsg.result.size ≡ c.self.inside.layout.pmsg = ap (λ (z : BlkZone). z.size) c.ring_zone-in-Pmsg.ensures.zone in
+    ap (λ (x : BlkState). is_some x.pmsg.saved) c.self.view_is ∙ sym (listed-pmsg b)
+    ∙ ap (λ (n : BlkName). is_listed b n) (sym c.in-Pmsg.is) ∙ c.requires.listed in
+    let size : c.ring_zone-in-Pmsg.result.size ≡ c.self.inside.layout.pmsg =
+    ap (λ (z : BlkZone). z.size) c.ring_zone-in-Pmsg.ensures.zone in
     elim c.ring_zone-in-Pmsg.ensures.valid.sized [
       | inl none ↦ absurd (some-not-none c.self.inside.pmsg.saved saved (c.self.invariant.no_pmsg (sym size ∙ none)))
       | inr some ↦ omega arith

@@ -8,7 +8,8 @@ use Rattle.zone_flight.proofs.flight.Flight.made.Goals as goal
 
 pub returns-clause-image : goal.returns-clause-image
 returns-clause-image c = λ now before stands.
-    stands_image c.args.self.now now before stands ∙ ap (λ (f : Flying). image_after c.args.self.now.zone c.args.self.now.call before f.made) (sym c.self.view_is)
+    stands_image c.args.self.now now before stands ∙ ap (λ (f : Flying). image_after c.args.self.now.zone
+    c.args.self.now.call before f.made) (sym c.self.view_is)
 
 pub returns-clause-last : goal.returns-clause-last
 returns-clause-last c = λ now before stands e.

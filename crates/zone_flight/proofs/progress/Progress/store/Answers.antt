@@ -12,66 +12,99 @@ pub store_parity-requires-clause-at : goal.store_parity-requires-clause-at
 store_parity-requires-clause-at c =
     let f : Flying = seen c.args.self.now in
     let w : IsWithin f FirstParity = subst (IsWithin f) c.in-FirstParity.is c.requires.sound.within in
-    let b : f.place.block < f.zone.blocks = block_in f.zone (f.place.start + first_len f) f.place.block c.requires.sound.valid (omega (arith, c.requires.sound.below)) w.1 in
-    omega (arith, c.requires.len, c.parity_at.ensures, parity_in f.zone f.place.block c.requires.sound.valid (omega (arith, b)), ready_in f FirstParity c.in-FirstParity.is c.requires.ready)
+    let b : f.place.block < f.zone.blocks = block_in f.zone (f.place.start + first_len f)
+    f.place.block c.requires.sound.valid (omega (arith, c.requires.sound.below)) w.1 in
+    omega (
+      arith,
+      c.requires.len,
+      c.parity_at.ensures,
+      parity_in f.zone f.place.block c.requires.sound.valid
+          (omega (arith, b)),
+      ready_in f FirstParity c.in-FirstParity.is c.requires.ready,
+    )
 
 pub store_parity-requires-in-SecondParity-clause-at : goal.store_parity-requires-in-SecondParity-clause-at
 store_parity-requires-in-SecondParity-clause-at c =
     let f : Flying = seen c.args.self.now in
     let w : IsWithin f SecondParity = subst (IsWithin f) c.in-SecondParity.is c.requires.sound.within in
-    let b : f.place.block < f.zone.blocks = block_in f.zone (second_len f) f.place.block c.requires.sound.valid (omega (arith, c.requires.sound.short)) w.1 in
-    omega (arith, c.requires.len, c.parity_at-in-SecondParity.ensures, parity_in f.zone f.place.block c.requires.sound.valid (omega (arith, b)), ready_in f SecondParity c.in-SecondParity.is c.requires.ready)
+    let b : f.place.block < f.zone.blocks = block_in f.zone (second_len f) f.place.block c.requires.sound.valid
+    (omega (arith, c.requires.sound.short)) w.1 in
+    omega (
+      arith,
+      c.requires.len,
+      c.parity_at-in-SecondParity.ensures,
+      parity_in f.zone f.place.block c.requires.sound.valid (omega (arith, b)),
+      ready_in f SecondParity c.in-SecondParity.is c.requires.ready,
+    )
 
 pub returns-in-ZeroStart : goal.returns-in-ZeroStart
 returns-in-ZeroStart c =
     let f : Flying = seen c.args.self.now in
-    stored_zero_start f c.args.spans.now c.args.i _ c.in-ZeroStart.is (ready_in f ZeroStart c.in-ZeroStart.is c.requires.ready) c.store_word.ensures
+    stored_zero_start f c.args.spans.now c.args.i _ c.in-ZeroStart.is
+    (ready_in f ZeroStart c.in-ZeroStart.is c.requires.ready) c.store_word.ensures
 
 pub returns-in-ZeroSize : goal.returns-in-ZeroSize
 returns-in-ZeroSize c =
     let f : Flying = seen c.args.self.now in
-    stored_zero_size f c.args.spans.now c.args.i _ c.in-ZeroSize.is (ready_in f ZeroSize c.in-ZeroSize.is c.requires.ready) c.store_word-in-ZeroSize.ensures
+    stored_zero_size f c.args.spans.now c.args.i _ c.in-ZeroSize.is
+    (ready_in f ZeroSize c.in-ZeroSize.is c.requires.ready) c.store_word-in-ZeroSize.ensures
 
 pub returns-in-Size : goal.returns-in-Size
 returns-in-Size c =
     let f : Flying = seen c.args.self.now in
     stored_size f c.args.spans.now c.args.i _ c.in-Size.is (ready_in f Size c.in-Size.is c.requires.ready)
-    (c.store_word-in-Size.ensures ∙ ap (λ k. with_span c.args.spans.now c.args.i (put (span c.args.spans.now c.args.i) 8 (to_le_bytes w32 k))) (c.min-size.ensures ∙ ap (λ k. min f.zone.cap (f.place.size + k)) c.payload_len.ensures))
+    (c.store_word-in-Size.ensures ∙ ap (λ k. with_span c.args.spans.now c.args.i
+    (put (span c.args.spans.now c.args.i) 8 (to_le_bytes w32 k)))
+    (c.min-size.ensures ∙ ap (λ k. min f.zone.cap (f.place.size + k)) c.payload_len.ensures))
 
 pub returns-in-Start : goal.returns-in-Start
 returns-in-Start c =
     let f : Flying = seen c.args.self.now in
     stored_start f c.args.spans.now c.args.i _ c.in-Start.is (ready_in f Start c.in-Start.is c.requires.ready)
-    (c.store_word-in-Start.ensures ∙ ap (λ k. with_span c.args.spans.now c.args.i (put (span c.args.spans.now c.args.i) 4 (to_le_bytes w32 ((f.place.start + k) % f.zone.cap)))) c.payload_len-in-Start.ensures)
+    (c.store_word-in-Start.ensures ∙ ap (λ k. with_span c.args.spans.now c.args.i
+    (put (span c.args.spans.now c.args.i) 4 (to_le_bytes w32 ((f.place.start + k) % f.zone.cap))))
+    c.payload_len-in-Start.ensures)
 
 pub returns-in-First : goal.returns-in-First
 returns-in-First c =
     let f : Flying = seen c.args.self.now in
-    stored_first f c.args.spans.now c.args.i _ c.in-First.is (ready_in f First c.in-First.is c.requires.ready) c.store_byte.ensures
+    stored_first f c.args.spans.now c.args.i _ c.in-First.is (ready_in f First c.in-First.is c.requires.ready)
+    c.store_byte.ensures
 
 pub returns-in-FirstParity : goal.returns-in-FirstParity
 returns-in-FirstParity c =
     let f : Flying = seen c.args.self.now in
     let w : IsWithin f FirstParity = subst (IsWithin f) c.in-FirstParity.is c.requires.sound.within in
-    stored_parity_first f c.args.spans.now c.args.i _ c.in-FirstParity.is (omega (arith, w.0, ready_in f FirstParity c.in-FirstParity.is c.requires.ready))
-    (c.store_parity.ensures ∙ ap (λ k. with_span c.args.spans.now c.args.i (put (span c.args.spans.now c.args.i) (k + f.place.number) (slice_index f.parity f.place.number ∷ []))) c.parity_at.ensures)
+    stored_parity_first f c.args.spans.now c.args.i _ c.in-FirstParity.is
+    (omega (arith, w.0, ready_in f FirstParity c.in-FirstParity.is c.requires.ready))
+    (c.store_parity.ensures ∙ ap (λ k. with_span c.args.spans.now c.args.i
+    (put (span c.args.spans.now c.args.i) (k + f.place.number) (slice_index f.parity f.place.number ∷ [])))
+    c.parity_at.ensures)
 
 pub returns-in-Second : goal.returns-in-Second
 returns-in-Second c =
     let f : Flying = seen c.args.self.now in
     stored_second f c.args.spans.now c.args.i _ c.in-Second.is (ready_in f Second c.in-Second.is c.requires.ready)
-    (c.store_byte-in-Second.ensures ∙ ap (λ k. with_span c.args.spans.now c.args.i (put (span c.args.spans.now c.args.i) (12 + f.place.number) (slice_index (payload f) (k + f.place.number) ∷ []))) c.first_len-first.ensures)
+    (c.store_byte-in-Second.ensures ∙ ap (λ k. with_span c.args.spans.now c.args.i
+    (put (span c.args.spans.now c.args.i) (12 + f.place.number)
+    (slice_index (payload f) (k + f.place.number) ∷ []))) c.first_len-first.ensures)
 
 pub returns-in-SecondParity : goal.returns-in-SecondParity
 returns-in-SecondParity c =
     let f : Flying = seen c.args.self.now in
     let w : IsWithin f SecondParity = subst (IsWithin f) c.in-SecondParity.is c.requires.sound.within in
-    stored_parity_second f c.args.spans.now c.args.i _ c.in-SecondParity.is (omega (arith, w.0, ready_in f SecondParity c.in-SecondParity.is c.requires.ready))
-    (c.store_parity-in-SecondParity.ensures ∙ ap (λ k. with_span c.args.spans.now c.args.i (put (span c.args.spans.now c.args.i) (k + f.place.number) (slice_index f.parity f.place.number ∷ []))) c.parity_at-in-SecondParity.ensures)
+    stored_parity_second f c.args.spans.now c.args.i _ c.in-SecondParity.is
+    (omega (arith, w.0, ready_in f SecondParity c.in-SecondParity.is c.requires.ready))
+    (c.store_parity-in-SecondParity.ensures ∙ ap (λ k. with_span c.args.spans.now c.args.i
+    (put (span c.args.spans.now c.args.i) (k + f.place.number) (slice_index f.parity f.place.number ∷ [])))
+    c.parity_at-in-SecondParity.ensures)
 
 pub returns-in-Header : goal.returns-in-Header
 returns-in-Header c =
     let f : Flying = seen c.args.self.now in
     let w : IsWithin f Header = subst (IsWithin f) c.in-Header.is c.requires.sound.within in
-    stored_header f c.args.spans.now c.args.i _ c.in-Header.is (omega (arith, w, ready_in f Header c.in-Header.is c.requires.ready))
-    (c.store_parity-in-Header.ensures ∙ ap (λ k. with_span c.args.spans.now c.args.i (put (span c.args.spans.now c.args.i) (k + f.place.number) (slice_index f.parity f.place.number ∷ []))) c.parity_at-in-Header.ensures)
+    stored_header f c.args.spans.now c.args.i _ c.in-Header.is
+    (omega (arith, w, ready_in f Header c.in-Header.is c.requires.ready))
+    (c.store_parity-in-Header.ensures ∙ ap (λ k. with_span c.args.spans.now c.args.i
+    (put (span c.args.spans.now c.args.i) (k + f.place.number) (slice_index f.parity f.place.number ∷ [])))
+    c.parity_at-in-Header.ensures)

@@ -3,7 +3,9 @@ use Rattle.zone_params.proofs.WholeLayout.{whole_layout}
 use Rattle.zone_params.proofs.types.Layout.zones.Goals as goal
 
 pub returns-clause-laid_out : goal.returns-clause-laid_out
-returns-clause-laid_out c = rw c.deref.ensures.value (whole_layout c.args.self.now.params c.args.self.now.zones.items c.args.self.now.tagged c.args.self.now.laid)
+returns-clause-laid_out c = rw c.deref.ensures.value (whole_layout c.args.self.now.params c.args.self.now.zones.items
+    c.args.self.now.tagged c.args.self.now.laid)
 
 pub returns-clause-names : goal.returns-clause-names
-returns-clause-names c = rw c.deref.ensures.value (names_differ c.args.self.now.params c.args.self.now.zones.items c.args.self.now.laid)
+returns-clause-names c = rw c.deref.ensures.value (names_differ c.args.self.now.params c.args.self.now.zones.items
+    c.args.self.now.laid)
