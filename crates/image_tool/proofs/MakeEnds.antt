@@ -17,11 +17,12 @@ make_wanted plan n is = rw is refl
 
 module _ (plan : Plan) (n : ℕ) (a b : Outside) (is : plan.command ≡ MakeImage n) (none : NoScript a b) where
   pub make_memory : Quiet a b → MakeEnds plan a b (Err Memory)
-  make_memory q = record { whole = quiet_memory (wanted plan [] []) a b q; script = none }
+  make_memory q = record { can = rw is refl; whole = quiet_memory (wanted plan [] []) a b q; script = none }
 
   module _ (text : Text) (e : text ≡ summary n plan.zones (generated plan.zones (mem_of plan) n)) where
     pub make_unput : b.holds ≡ a.holds → AppendsFront a.given b.given text → MakeEnds plan a b (Err SinkFault)
     make_unput same put = record {
+      can = rw is refl;
       whole = rw (make_wanted plan n is) (
         record {
           count = 1;
@@ -39,6 +40,7 @@ module _ (plan : Plan) (n : ℕ) (a b : Outside) (is : plan.command ≡ MakeImag
         (put : Appends a.given b.given text) where
       pub make_saved : Writes a.holds b.holds 0 image → MakeEnds plan a b (Ok tt)
       make_saved wrote = record {
+        can = rw is refl;
         whole = rw (make_wanted plan n is) (
           refl,
           rw (append-nil (summary n plan.zones (generated plan.zones (mem_of plan) n)), ← e) put,
@@ -49,6 +51,7 @@ module _ (plan : Plan) (n : ℕ) (a b : Outside) (is : plan.command ≡ MakeImag
 
       pub make_unsaved : WritesFront a.holds b.holds 0 image → MakeEnds plan a b (Err ImageFault)
       make_unsaved wrote = record {
+        can = rw is refl;
         whole = rw (make_wanted plan n is)
             (inr (
               refl,

@@ -24,8 +24,9 @@ use Rattle.tool_spec.specs.declared.Cause.{Cause}
 use Rattle.tool_spec.specs.declared.Cause.TheVariants.{IsOff, IsLive, NoZone, Busy, Idle, OutOfImage, NoRecord, NotHere}
 use Rattle.tool_spec.specs.declared.Stop.{Stop}
 use Rattle.tool_spec.specs.declared.Stop.TheVariants.{Memory as MemoryStop, ImageFault, SinkFault, Refused as RefusedStop}
-use Rattle.tool_frame.specs.Ended.{Ended, ReadEnds, ImageEnds}
-use Rattle.tool_frame.proofs.Image.{image_done}
+use Rattle.tool_frame.specs.Ended.{Ended, CanEnd, ReadEnds, ImageEnds}
+use Rattle.tool_frame.specs.Stages.{LoadStop}
+use Rattle.tool_frame.proofs.Image.{load_can, image_stopped, image_done}
 use Rattle.tool_frame.proofs.Script.{Quiet, quiet_memory, put_nothing}
 use Rattle.store_session.specs.Records.{IsContent}
 use Rattle.store_session.specs.Erasing.{ErasesNamed, IsBusy, EraseFails}
@@ -50,13 +51,27 @@ unlisted_ends w a b e q = rw e (refl, put_nothing a b q, q.holds)
 
 -- ---- listed
 
-reads : {plan : Plan} {a b : Outside} {e : End} → NoScript a b → b.holds ≡ a.holds
+reads : {plan : Plan} {a b : Outside} {e : End} → CanEnd plan e → NoScript a b → b.holds ≡ a.holds
     → IfHolds a (λ bytes. Ended (wanted plan bytes []) a b e) → ReadEnds plan a b e
-reads none same whole = record { whole = whole; script = none; image = same }
+reads can none same whole = record { can = can; whole = whole; script = none; image = same }
 
-leaves_script : {plan : Plan} {a b : Outside} {e : End} → NoScript a b
+leaves_script : {plan : Plan} {a b : Outside} {e : End} → CanEnd plan e → NoScript a b
     → IfHolds a (λ bytes. Ended (wanted plan bytes []) a b e) → ImageEnds plan a b e
-leaves_script none whole = record { whole = whole; script = none }
+leaves_script can none whole = record { can = can; whole = whole; script = none }
+
+-- ---- an image that was not read
+
+pub unread : (plan : Plan) (c : Command) (a b : Outside) (s : Stop) (f g : ℕ) → plan.command ≡ c
+    → reads_image c ≡ true → NoScript a b → Quiet a b → LoadStop s (mem_of plan) a.holds f g → ReadEnds plan a b (Err s)
+unread plan c a b s f g is image none q h = reads (load_can plan c s (mem_of plan) a.holds f g is image h) none q.holds
+    (image_stopped plan c a b s f g is image q h)
+
+pub unread_image : (plan : Plan) (c : Command) (a b : Outside) (s : Stop) (f g : ℕ) → plan.command ≡ c
+    → reads_image c ≡ true → NoScript a b → Quiet a b → LoadStop s (mem_of plan) a.holds f g
+    → ImageEnds plan a b (Err s)
+unread_image plan c a b s f g is image none q h =
+    leaves_script (load_can plan c s (mem_of plan) a.holds f g is image h) none
+    (image_stopped plan c a b s f g is image q h)
 
 module _ (plan : Plan) (a b : Outside) (live : LiveSeen) (logs : SavedLogs)
     (booted : BootedFrom plan.zones (mem_of plan) a.holds live logs) where
@@ -80,11 +95,11 @@ module _ (plan : Plan) (a b : Outside) (live : LiveSeen) (logs : SavedLogs)
     list_wanted = ap (λ (t : Text). shows (t ∷ [])) (sym (e ∙ ap listing booted.logs_are))
 
     pub list_put : NoScript a b → Appends a.given b.given text → ReadEnds plan a b (Ok tt)
-    list_put none put = reads none same (done ListRecords (Ok tt) is refl
+    list_put none put = reads (rw is refl) none same (done ListRecords (Ok tt) is refl
         (put_all_of (wanted_of plan.params plan.zones booted.image [] ListRecords) a b text list_wanted same put))
 
     pub list_front : NoScript a b → AppendsFront a.given b.given text → ReadEnds plan a b (Err SinkFault)
-    list_front none put = reads none same (done ListRecords (Err SinkFault) is refl
+    list_front none put = reads (rw is refl) none same (done ListRecords (Err SinkFault) is refl
         (put_front_of (wanted_of plan.params plan.zones booted.image [] ListRecords) a b text list_wanted same put))
 
 -- ---- extracted
@@ -107,12 +122,12 @@ module _ (plan : Plan) (a b : Outside) (live : LiveSeen) (logs : SavedLogs) (nam
         (named (saved_logs plan.zones (after_boot plan.zones booted.image)) name) bytes here
 
     pub extract_put : NoScript a b → Appends a.given b.given bytes → ReadEnds plan a b (Ok tt)
-    extract_put none put = reads none same (image_done plan (ExtractRecord name) a b booted.image (Ok tt)
+    extract_put none put = reads (rw is refl) none same (image_done plan (ExtractRecord name) a b booted.image (Ok tt)
         is refl booted.read (put_all_of (wanted_of plan.params plan.zones booted.image [] (ExtractRecord name))
         a b bytes extract_wanted same put))
 
     pub extract_front : NoScript a b → AppendsFront a.given b.given bytes → ReadEnds plan a b (Err SinkFault)
-    extract_front none put = reads none same (image_done plan (ExtractRecord name) a b booted.image (Err SinkFault)
+    extract_front none put = reads (rw is refl) none same (image_done plan (ExtractRecord name) a b booted.image (Err SinkFault)
         is refl booted.read (put_front_of (wanted_of plan.params plan.zones booted.image [] (ExtractRecord name))
         a b bytes extract_wanted same put))
 
@@ -128,9 +143,9 @@ module _ (plan : Plan) (a b : Outside) (live : LiveSeen) (logs : SavedLogs) (nam
 
   pub extract_stopped : (e : LineError) (s : Stop) → s ≡ stop_for e → IsContent (saved logs) name (Err e)
       → NoScript a b → Quiet a b → ReadEnds plan a b (Err s)
-  extract_stopped Memory s same h none q = rw same (reads none q.holds
+  extract_stopped Memory s same h none q = rw same (reads (rw is refl) none q.holds
       (memory_ends plan a b live logs booted (ExtractRecord name) is refl q))
-  extract_stopped (Refused cause) s same h none q = rw same (reads none q.holds (extract_unlisted cause h.0 h.1 q))
+  extract_stopped (Refused cause) s same h none q = rw same (reads (rw is refl) none q.holds (extract_unlisted cause h.0 h.1 q))
 
 -- ---- erased
 
@@ -160,11 +175,11 @@ module _ (plan : Plan) (a b : Outside) (live : LiveSeen) (logs : SavedLogs) (nam
         ap (wanted_erase plan.zones s) e.named ∙ ap (λ (bs : List ℕ). leaves bs) (sym (image ∙ left.image))
 
     pub erase_saved : NoScript a b → Writes a.holds b.holds 0 bytes → ImageEnds plan a b (Ok tt)
-    erase_saved none wrote = leaves_script none (image_done plan (EraseRecord name) a b booted.image (Ok tt)
+    erase_saved none wrote = leaves_script (rw is refl) none (image_done plan (EraseRecord name) a b booted.image (Ok tt)
         is refl booted.read (rw (erase_wanted, given) (wrote_all bytes a.given a.holds b.holds wrote)))
 
     pub erase_unsaved : NoScript a b → WritesFront a.holds b.holds 0 bytes → ImageEnds plan a b (Err ImageFault)
-    erase_unsaved none wrote = leaves_script none (image_done plan (EraseRecord name) a b booted.image
+    erase_unsaved none wrote = leaves_script (rw is refl) none (image_done plan (EraseRecord name) a b booted.image
         (Err ImageFault) is refl booted.read (rw (erase_wanted, given)
         (wrote_front bytes a.given a.holds b.holds wrote)))
 
@@ -196,6 +211,10 @@ module _ (plan : Plan) (a b : Outside) (live : LiveSeen) (logs : SavedLogs) (nam
   refused (Refused OutOfImage) h q = absurd h
   refused (Refused NotHere) h q = absurd h
 
+  erase_can : (e : LineError) → CanEnd plan (Err (stop_for e))
+  erase_can Memory = rw is refl
+  erase_can (Refused cause) = rw is refl
+
   pub erase_stopped : (e : LineError) (s : Stop) → s ≡ stop_for e → EraseFails live logs name e → NoScript a b
       → Quiet a b → ImageEnds plan a b (Err s)
-  erase_stopped e s same h none q = rw same (leaves_script none (refused e h q))
+  erase_stopped e s same h none q = rw same (leaves_script (erase_can e) none (refused e h q))

@@ -1,9 +1,9 @@
 -- How the work of each command ends
 use Rattle.std.proofs.Common.{◌≡◌, ℕ, [], ◌∷◌, Result, Ok, Err, replicate, subst, sym}
-use Rattle.tool_spec.specs.Ends.{End}
+use Rattle.tool_spec.specs.Ends.{End, status_of}
 use Rattle.tool_spec.specs.Texts.{layout_text}
 use Rattle.tool_spec.specs.Commands.{MakeImage, ShowLayout, BlankImage, Plan, mem_of, shows, leaves}
-use Rattle.tool_spec.specs.Answers.{Outside, NoScript, NoImage}
+use Rattle.tool_spec.specs.Answers.{Outside, NoScript, NoImage, statuses, IsAmong}
 use Rattle.tool_spec.specs.declared.Stop.{Stop}
 use Rattle.tool_spec.specs.declared.Stop.TheVariants.{Memory, Usage, Param, Layout, Short, ScriptFault, ImageFault, SinkFault, TooLong, BadLine, Refused}
 use Rattle.tool_frame.specs.Words.{IsNoFault, command_seen}
@@ -34,9 +34,11 @@ read_done r plan e a b h k = rw h k
 
 -- the layout was shown
 pub layout_shown : (plan : Plan) (e : End) (a b : Outside) → plan.command ≡ ShowLayout → NoScript a b → NoImage a b
+    → IsAmong (statuses ShowLayout) (status_of e)
     → EndedAt (shows (layout_text plan.params plan.zones ∷ [])) a.given b.given a.holds a.holds e
     → PlanEnds plan.command plan a b e
-layout_shown plan e a b is script image ended = rw is (record {
+layout_shown plan e a b is script image can ended = rw is (record {
+  can = rw is can;
   whole = rw image.holds ended;
   script = script;
   image = image;
@@ -44,10 +46,10 @@ layout_shown plan e a b is script image ended = rw is (record {
 
 -- a blank image was written
 pub blank_left : (plan : Plan) (mem : ℕ) (e : End) (a b : Outside) → mem ≡ mem_of plan → plan.command ≡ BlankImage
-    → NoScript a b → b.given ≡ a.given → EndedAt (leaves (replicate mem 0)) a.given a.given a.holds b.holds e
-    → PlanEnds plan.command plan a b e
-blank_left plan mem e a b same is script given ended =
-    rw is (record { whole = rw (given, ← same) ended; script = script })
+    → NoScript a b → b.given ≡ a.given → IsAmong (statuses BlankImage) (status_of e)
+    → EndedAt (leaves (replicate mem 0)) a.given a.given a.holds b.holds e → PlanEnds plan.command plan a b e
+blank_left plan mem e a b same is script given can ended =
+    rw is (record { can = rw is can; whole = rw (given, ← same) ended; script = script })
 
 -- an image was made
 pub image_made : (c : ReadCommand) (n : ℕ) (layout : ReadLayout) (e : End) (a b : Outside) → c ≡ Make n

@@ -1,13 +1,13 @@
 -- How the stages of a command that reads the image, and no script, end it
-use Rattle.std.proofs.Common.{◌≡◌, ℕ, ◌<◌, ◌≤◌, List, [], length, take, Some, Ok, Err, IfSome, refl, sym, ◌∙◌, arith, inl, true, false, nat_lt}
+use Rattle.std.proofs.Common.{◌≡◌, ℕ, ◌<◌, ◌≤◌, List, [], length, take, Option, Some, Ok, Err, IfSome, refl, sym, ◌∙◌, arith, inl, true, false, true≢false, nat_lt}
 use Rattle.std.proofs.lemmas.Bool.Decides.{nat_tests}
 use Rattle.tool_spec.specs.Ends.{End}
-use Rattle.tool_spec.specs.Commands.{Command, Plan, Wanted, wanted, wanted_of, reads_image, mem_of, stops}
-use Rattle.tool_spec.specs.Answers.{Outside, IfHolds}
+use Rattle.tool_spec.specs.Commands.{Command, RunScript, ListRecords, ExtractRecord, EraseRecord, ShowLayout, BlankImage, MakeImage, Plan, Wanted, wanted, wanted_of, reads_image, mem_of, stops}
+use Rattle.tool_spec.specs.Answers.{Outside, IfHolds, statuses, IsAmong}
 use Rattle.tool_spec.specs.declared.Stop.{Stop}
 use Rattle.tool_spec.specs.declared.Stop.TheVariants.{Memory, Usage, Param, Layout, Short, ScriptFault, ImageFault, SinkFault, TooLong, BadLine, Refused}
 use Rattle.tool_frame.specs.Stages.{LoadStop}
-use Rattle.tool_frame.specs.Ended.{Ended}
+use Rattle.tool_frame.specs.Ended.{Ended, CanEnd}
 use Rattle.tool_frame.proofs.Script.{Quiet, quiet_memory, put_nothing, ended_as}
 
 nat_lt-true : {a b : ℕ} → a < b → nat_lt a b ≡ true
@@ -52,6 +52,31 @@ image_stopped plan c a b SinkFault f g is reads q h = absurd h
 image_stopped plan c a b TooLong f g is reads q h = absurd h
 image_stopped plan c a b (BadLine x) f g is reads q h = absurd h
 image_stopped plan c a b (Refused x y) f g is reads q h = absurd h
+
+-- a command that reads the image can want memory, find it too short, and fail to read it
+can_read : (c : Command) → reads_image c ≡ true
+    → IsAmong (statuses c) 1 × IsAmong (statuses c) 4 × IsAmong (statuses c) 6
+can_read RunScript reads = (refl, refl, refl)
+can_read ListRecords reads = (refl, refl, refl)
+can_read (ExtractRecord name) reads = (refl, refl, refl)
+can_read (EraseRecord name) reads = (refl, refl, refl)
+can_read ShowLayout reads = absurd (true≢false (sym reads))
+can_read BlankImage reads = absurd (true≢false (sym reads))
+can_read (MakeImage n) reads = absurd (true≢false (sym reads))
+
+pub load_can : (plan : Plan) (c : Command) (s : Stop) (mem : ℕ) (holds : Option (List ℕ)) (f g : ℕ)
+    → plan.command ≡ c → reads_image c ≡ true → LoadStop s mem holds f g → CanEnd plan (Err s)
+load_can plan c Memory mem holds f g is reads h = rw is ((can_read c reads).0)
+load_can plan c (Short x y) mem holds f g is reads h = rw is ((can_read c reads).1)
+load_can plan c ImageFault mem holds f g is reads h = rw is ((can_read c reads).2)
+load_can plan c Usage mem holds f g is reads h = absurd h
+load_can plan c (Param x y) mem holds f g is reads h = absurd h
+load_can plan c (Layout x) mem holds f g is reads h = absurd h
+load_can plan c ScriptFault mem holds f g is reads h = absurd h
+load_can plan c SinkFault mem holds f g is reads h = absurd h
+load_can plan c TooLong mem holds f g is reads h = absurd h
+load_can plan c (BadLine x) mem holds f g is reads h = absurd h
+load_can plan c (Refused x y) mem holds f g is reads h = absurd h
 
 -- the image was read, and what is wanted of it was done
 pub image_done : (plan : Plan) (c : Command) (a b : Outside) (image : List ℕ) (e : End) → plan.command ≡ c

@@ -94,6 +94,7 @@ stop_short : (plan : Plan) (a b : Outside) (has needed : ℕ) → plan.command �
     → (needed ≡ mem_of plan) × (has < mem_of plan) × IfSome a.holds (λ bs. has ≡ length bs)
     → RunEnds plan a b (Err (Short has needed))
 stop_short plan a b has needed is q h = record {
+  can = rw is refl;
   whole = record {
     told = λ bytes script t l.
         let size : has ≡ length bytes = rw t at h.2 in
@@ -108,6 +109,7 @@ stop_short plan a b has needed is q h = record {
 pub load_stopped : (plan : Plan) (a b : Outside) (s : Stop) (f g : ℕ) → plan.command ≡ RunScript → Quiet a b
     → LoadStop s (mem_of plan) a.holds f g → RunEnds plan a b (Err s)
 load_stopped plan a b Memory f g is q h = record {
+  can = rw is refl;
   whole = record
       { told = λ bytes script t l. quiet_memory (wanted plan bytes script) a b q };
   image =
@@ -115,6 +117,7 @@ load_stopped plan a b Memory f g is q h = record {
   script = record { told = λ script l. tt };
 }
 load_stopped plan a b ImageFault f g is q h = record {
+  can = rw is refl;
   whole = record
       { told = λ bytes script t l. inl (q.given, q.holds) };
   image = record { told = λ bytes t. tt };
@@ -134,6 +137,7 @@ load_stopped plan a b (Refused x y) f g is q h = absurd h
 stop_long : (plan : Plan) (a b : Outside) (image : List ℕ) → Loaded plan a image → Quiet a b
     → IfSome a.left (λ bs. script_limit < length bs) → RunEnds plan a b (Err TooLong)
 stop_long plan a b image l q h = record {
+  can = rw l.is refl;
   whole = record {
     told = λ bytes script t s.
         let i = loaded_of plan a image bytes l t in
@@ -149,11 +153,13 @@ stop_long plan a b image l q h = record {
 pub script_stopped : (plan : Plan) (a b : Outside) (image : List ℕ) (s : Stop) (f g : ℕ) → Loaded plan a image
     → Quiet a b → ScriptStop s a.left f g → RunEnds plan a b (Err s)
 script_stopped plan a b image Memory f g l q h = record {
+  can = rw l.is refl;
   whole = record { told = λ bytes script t s. quiet_memory (wanted plan bytes script) a b q };
   image = record { told = λ bytes t. tt };
   script = record { told = λ script s. tt };
 }
 script_stopped plan a b image ScriptFault f g l q h = record {
+  can = rw l.is refl;
   whole = record { told = λ bytes script t s. (q.given, q.holds) };
   image = record { told = λ bytes t. (loaded_of plan a image bytes l t).0 };
   script =
@@ -172,6 +178,7 @@ script_stopped plan a b image (Refused x y) f g l q h = absurd h
 stop_bad : (plan : Plan) (a b : Outside) (image text : List ℕ) (n : ℕ) → Loaded plan a image → Read a text → Quiet a b
     → script_of text ≡ Err n → RunEnds plan a b (Err (BadLine n))
 stop_bad plan a b image text n l r q h = record {
+  can = rw l.is refl;
   whole = record {
     told = λ bytes script t s.
         let i = loaded_of plan a image bytes l t in
@@ -194,6 +201,7 @@ stop_bad plan a b image text n l r q h = record {
 pub parse_stopped : (plan : Plan) (a b : Outside) (image text : List ℕ) (s : Stop) → Loaded plan a image → Read a text
     → Quiet a b → ParseStop s (script_of text) → RunEnds plan a b (Err s)
 parse_stopped plan a b image text Memory l r q h = record {
+  can = rw l.is refl;
   whole = record { told = λ bytes script t s. quiet_memory (wanted plan bytes script) a b q };
   image = record { told = λ bytes t. tt };
   script = record { told = λ script s. tt };
@@ -225,6 +233,7 @@ stop_line : (plan : Plan) (a b : Outside) (image text : List ℕ) (lines : List 
     ≡ Err (Refused n c)) × Appends a.given b.given (whole (ran plan.zones image lines).texts)
     → RunEnds plan a b (Err (Refused n c))
 stop_line plan a b image text lines n c l r e kept h = record {
+  can = rw l.is refl;
   whole = record {
     told = λ bytes script t s. ended_as (wanted plan bytes script)
         (wanted_lines (ran plan.zones image lines)) a b (Err (Refused n c))
@@ -238,6 +247,7 @@ pub play_stopped : (plan : Plan) (a b : Outside) (image text : List ℕ) (lines 
     → Loaded plan a image → Read a text → script_of text ≡ Ok lines → b.holds ≡ a.holds
     → PlayStop s plan.zones image lines a.given b.given f g → RunEnds plan a b (Err s)
 play_stopped plan a b image text lines Memory f g l r e kept h = record {
+  can = rw l.is refl;
   whole = record {
     told = λ bytes script t s. ended_as (wanted plan bytes script)
         (wanted_lines (ran plan.zones image lines)) a b (Err Memory)
@@ -247,6 +257,7 @@ play_stopped plan a b image text lines Memory f g l r e kept h = record {
   script = record { told = λ script s. tt };
 }
 play_stopped plan a b image text lines SinkFault f g l r e kept h = record {
+  can = rw l.is refl;
   whole = record {
     told = λ bytes script t s. ended_as (wanted plan bytes script)
         (wanted_lines (ran plan.zones image lines)) a b (Err SinkFault)
@@ -277,6 +288,7 @@ pub play_saved : (plan : Plan) (a b : Outside) (image text last : List ℕ) (lin
     → Played plan.zones image lines session a.given b.given → last ≡ session_image session
     → Writes a.holds b.holds 0 last → RunEnds plan a b (Ok tt)
 play_saved plan a b image text last lines session l r e p same wrote = record {
+  can = rw l.is refl;
   whole = record {
     told = λ bytes script t s.
         let d = all_done plan.zones image lines session a.given b.given p in
@@ -292,6 +304,7 @@ pub play_unsaved : (plan : Plan) (a b : Outside) (image text last : List ℕ) (l
     → Played plan.zones image lines session a.given b.given → last ≡ session_image session
     → WritesFront a.holds b.holds 0 last → RunEnds plan a b (Err ImageFault)
 play_unsaved plan a b image text last lines session l r e p same wrote = record {
+  can = rw l.is refl;
   whole = record {
     told = λ bytes script t s.
         let d = all_done plan.zones image lines session a.given b.given p in

@@ -1,14 +1,14 @@
 -- What the tool answers for each command, from how its work ended and what the last line left
-use Rattle.std.proofs.Common.{◌≡◌, ◌≢◌, ◌⊎◌, true, false, ℕ, ◌<◌, ◌≤◌, List, [], length, Option, Some, None, Result, Ok, Err, sym, ap, ◌∙◌, arith, inl, inr, IsOk}
+use Rattle.std.proofs.Common.{◌≡◌, ◌≢◌, ◌⊎◌, true, false, ℕ, ◌<◌, ◌≤◌, List, [], length, Option, Some, None, Result, Ok, Err, refl, sym, ap, ◌∙◌, arith, inl, inr, IsOk}
 use Rattle.std.proofs.lemmas.Grind.{common_steps}
 use Rattle.std.specs.Io.KnownBytes.{Appends}
 use Rattle.box_script.specs.Lines.{script_of}
 use Rattle.tool_spec.specs.Ends.{End, status_of}
 use Rattle.tool_spec.specs.Commands.{Command, RunScript, ListRecords, ExtractRecord, EraseRecord, ShowLayout, BlankImage, MakeImage, Plan, Wanted, wanted, script_limit}
-use Rattle.tool_spec.specs.Answers.{Outside, NoScript, NoImage, IsFree, ScriptAnswers, RunAnswers, PlanAnswers, FaultAnswers, ToolAnswers}
+use Rattle.tool_spec.specs.Answers.{Outside, NoScript, NoImage, IsFree, ScriptAnswers, RunAnswers, PlanAnswers, FaultAnswers, ToolAnswers, statuses, IsAmong}
 use Rattle.tool_frame.specs.Ends.{LastPut, Finished}
 use Rattle.tool_frame.specs.Words.{PlanStop}
-use Rattle.tool_frame.specs.Ended.{PutTexts, Ended, ShortAt, ScriptAt, RunEnds, PlanEnds, Nothing, WorkEnds}
+use Rattle.tool_frame.specs.Ended.{PutTexts, Ended, ShortAt, ScriptAt, CanEnd, RunEnds, PlanEnds, Nothing, WorkEnds}
 use Rattle.tool_frame.proofs.Answered.{answers}
 use Rattle.tool_spec.specs.declared.Stop.{Stop}
 use Rattle.tool_spec.specs.declared.Stop.TheVariants.{Memory, Usage, Param, Layout, Short, ScriptFault, ImageFault, SinkFault, TooLong, BadLine, Refused}
@@ -208,6 +208,42 @@ plan_answers BlankImage plan a m b e status script image h f =
 plan_answers (MakeImage n) plan a m b e status script image h f =
     record { whole = answers e _ a m b status image.holds h.whole f; script = script_on a m b h.script script }
 
+-- ---- the statuses of a command
+
+-- each can want memory, and fail to put its text
+can_want : (c : Command) → IsAmong (statuses c) 1
+can_want RunScript = refl
+can_want ListRecords = refl
+can_want (ExtractRecord name) = refl
+can_want (EraseRecord name) = refl
+can_want ShowLayout = refl
+can_want BlankImage = refl
+can_want (MakeImage n) = refl
+
+can_fail : (c : Command) → IsAmong (statuses c) 7
+can_fail RunScript = refl
+can_fail ListRecords = refl
+can_fail (ExtractRecord name) = refl
+can_fail (EraseRecord name) = refl
+can_fail ShowLayout = refl
+can_fail BlankImage = refl
+can_fail (MakeImage n) = refl
+
+can_end : (c : Command) (plan : Plan) (a b : Outside) (e : End) → PlanEnds c plan a b e → CanEnd plan e
+can_end RunScript plan a b e h = h.can
+can_end ListRecords plan a b e h = h.can
+can_end (ExtractRecord name) plan a b e h = h.can
+can_end (EraseRecord name) plan a b e h = h.can
+can_end ShowLayout plan a b e h = h.can
+can_end BlankImage plan a b e h = h.can
+can_end (MakeImage n) plan a b e h = h.can
+
+-- the status of an end, or 7
+among : (all : List ℕ) (n status : ℕ) → IsAmong all n → IsAmong all 7 → (status ≡ n) ⊎ (status ≡ 7)
+    → IsAmong all status
+among all n status h k (inl is) = rw is h
+among all n status h k (inr is) = rw is k
+
 fault_put : (s : Stop) (a m b : Outside) (status : ℕ) → NoScript a b → NoImage a b → m.given ≡ a.given
     → LastPut s m.given b.given m.sink_faults b.sink_faults status → status_of (Err s) ≢ 7 → FaultAnswers s a b status
 fault_put s a m b status script image given f seven = elim f.shown [
@@ -266,7 +302,11 @@ fault_answers SinkFault a m b status script image given f =
 
 pub tool_answers : (r : Result Plan Stop) (a m b : Outside) (e : End) (status : ℕ) → NoScript m b → NoImage m b
     → WorkEnds r a m e → Finished e m.given b.given m.sink_faults b.sink_faults status → ToolAnswers r a b status
-tool_answers (Ok p) a m b e status script image h f = plan_answers p.command p a m b e status script image h f
+tool_answers (Ok p) a m b e status script image h f = (
+  plan_answers p.command p a m b e status script image h f,
+  among (statuses p.command) (status_of e) status (can_end p.command p a m e h) (can_fail p.command)
+  (status_is e m.given b.given m.sink_faults b.sink_faults status f),
+)
 tool_answers (Err s) a m b e status script image h f =
     fault_answers s a m b status (script_on a m b h.1.script script) (image_on a m b h.1.image image) h.1.given
     (rw h.0 at f)
@@ -282,34 +322,44 @@ out_of_memory w a b h = (rw h.given (no_texts w a.given), h.image.holds)
 -- want of memory before anything was touched
 pub memory_ends : (c : Command) (plan : Plan) (a b : Outside) → Nothing a b → PlanEnds c plan a b (Err Memory)
 memory_ends RunScript plan a b h = record {
+  can = can_want plan.command;
   whole = record { told = λ bytes script t l. out_of_memory (wanted plan bytes script) a b h };
   image = record { told = λ bytes t. tt };
   script = record { told = λ script l. tt };
 }
 memory_ends ListRecords plan a b h = record {
-  whole = record
-      { told = λ bytes t. out_of_memory (wanted plan bytes []) a b h };
+  can = can_want plan.command;
+  whole = record { told = λ bytes t. out_of_memory (wanted plan bytes []) a b h };
   script = h.script;
   image = h.image.holds;
 }
 memory_ends (ExtractRecord name) plan a b h = record {
-  whole = record
-      { told = λ bytes t. out_of_memory (wanted plan bytes []) a b h };
+  can = can_want plan.command;
+  whole = record { told = λ bytes t. out_of_memory (wanted plan bytes []) a b h };
   script = h.script;
   image = h.image.holds;
 }
 memory_ends (EraseRecord name) plan a b h = record {
-  whole = record
-      { told = λ bytes t. out_of_memory (wanted plan bytes []) a b h };
+  can = can_want plan.command;
+  whole = record { told = λ bytes t. out_of_memory (wanted plan bytes []) a b h };
   script = h.script;
 }
 memory_ends ShowLayout plan a b h = record {
+  can = can_want plan.command;
   whole = out_of_memory (wanted plan [] []) a b h;
   script = h.script;
   image = h.image;
 }
-memory_ends BlankImage plan a b h = record { whole = out_of_memory (wanted plan [] []) a b h; script = h.script }
-memory_ends (MakeImage n) plan a b h = record { whole = out_of_memory (wanted plan [] []) a b h; script = h.script }
+memory_ends BlankImage plan a b h = record {
+  can = can_want plan.command;
+  whole = out_of_memory (wanted plan [] []) a b h;
+  script = h.script;
+}
+memory_ends (MakeImage n) plan a b h = record {
+  can = can_want plan.command;
+  whole = out_of_memory (wanted plan [] []) a b h;
+  script = h.script;
+}
 
 clash : {A B : Type 0} {x : A} {y : B} → Ok x ≡ Err y → ⊥
 clash e = cc

@@ -4,9 +4,9 @@ use Rattle.std.specs.Io.KnownBytes.{Appends}
 use Rattle.box_io.specs.Outside.{Rose, AppendsFront}
 use Rattle.box_script.specs.Fields.{Text}
 use Rattle.box_script.specs.Lines.{script_of}
-use Rattle.tool_spec.specs.Ends.{End}
+use Rattle.tool_spec.specs.Ends.{End, status_of}
 use Rattle.tool_spec.specs.Commands.{Command, RunScript, ListRecords, ExtractRecord, EraseRecord, ShowLayout, BlankImage, MakeImage, Plan, Wanted, wanted, mem_of, script_limit}
-use Rattle.tool_spec.specs.Answers.{Outside, IfHolds, IfLeft, IfTold, NoScript, NoImage, front, whole, WritesAll, WritesSome}
+use Rattle.tool_spec.specs.Answers.{Outside, IfHolds, IfLeft, IfTold, NoScript, NoImage, front, whole, WritesAll, WritesSome, statuses, IsAmong}
 use Rattle.tool_spec.specs.declared.Stop.{Stop}
 use Rattle.tool_spec.specs.declared.Stop.TheVariants.{Memory, Short, ScriptFault, ImageFault, SinkFault, TooLong, BadLine}
 
@@ -70,26 +70,35 @@ ScriptAt script given given' (Err (BadLine n)) = (length script ≤ script_limit
     × (given' ≡ given)
 ScriptAt script given given' e = (length script ≤ script_limit) × IsOk (script_of script)
 
+-- an end whose status the command of a plan can answer
+abbrev pub CanEnd : Plan → End → Type 0
+CanEnd plan e = IsAmong (statuses plan.command) (status_of e)
+
 -- how each command's work ends, as far as the outside tells what it uses
 pub record RunEnds (plan : Plan) (a b : Outside) (e : End) : Type 0 where
+  pub can : CanEnd plan e
   pub whole : IfTold a (λ bytes script. Ended (wanted plan bytes script) a b e)
   pub image : IfHolds a (λ bytes. ShortAt (mem_of plan) (length bytes) e)
   pub script : IfLeft a (λ script. ScriptAt script a.given b.given e)
 
 pub record ImageEnds (plan : Plan) (a b : Outside) (e : End) : Type 0 where
+  pub can : CanEnd plan e
   pub whole : IfHolds a (λ bytes. Ended (wanted plan bytes []) a b e)
   pub script : NoScript a b
 
 pub record ReadEnds (plan : Plan) (a b : Outside) (e : End) : Type 0 where
+  pub can : CanEnd plan e
   pub whole : IfHolds a (λ bytes. Ended (wanted plan bytes []) a b e)
   pub script : NoScript a b
   pub image : b.holds ≡ a.holds
 
 pub record MakeEnds (plan : Plan) (a b : Outside) (e : End) : Type 0 where
+  pub can : CanEnd plan e
   pub whole : Ended (wanted plan [] []) a b e
   pub script : NoScript a b
 
 pub record ShowEnds (plan : Plan) (a b : Outside) (e : End) : Type 0 where
+  pub can : CanEnd plan e
   pub whole : Ended (wanted plan [] []) a b e
   pub script : NoScript a b
   pub image : NoImage a b

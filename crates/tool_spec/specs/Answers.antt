@@ -1,5 +1,6 @@
 -- What a run answers: its status, the text that it put, and what the image then holds
-use Rattle.std.specs.Prelude.{◌≡◌, ◌≢◌, ◌⊎◌, ⊤, ℕ, ◌≤◌, ◌<◌, List, [], ◌++◌, length, take, flat_map, Option, None, Some, Result, Ok, Err}
+use Rattle.std.specs.Prelude.{◌≡◌, ◌≢◌, ◌⊎◌, ⊤, ℕ, ◌≤◌, ◌<◌, ◌==◌, true, List, [], ◌∷◌, ◌++◌, length, take, flat_map, Option, None, Some, Result, Ok, Err}
+use Rattle.std.specs.List.{list_any}
 use Rattle.std.specs.Io.KnownBytes.{Appends}
 use Rattle.box_io.specs.Outside.{AppendsFront, Writes, WritesFront}
 use Rattle.box_script.specs.Fields.{Text}
@@ -190,7 +191,20 @@ PlanAnswers ShowLayout plan a b status = ShowAnswers plan a b status
 PlanAnswers BlankImage plan a b status = MakeAnswers plan a b status
 PlanAnswers (MakeImage n) plan a b status = MakeAnswers plan a b status
 
--- what the words answer: a command of its plan, or the first fault
+-- the statuses that a command can answer where its words have no fault
+abbrev pub statuses : Command → List ℕ
+statuses RunScript = 0 ∷ 1 ∷ 4 ∷ 5 ∷ 6 ∷ 7 ∷ 8 ∷ 9 ∷ 10 ∷ []
+statuses ListRecords = 0 ∷ 1 ∷ 4 ∷ 6 ∷ 7 ∷ []
+statuses (ExtractRecord name) = 0 ∷ 1 ∷ 4 ∷ 6 ∷ 7 ∷ 10 ∷ []
+statuses (EraseRecord name) = 0 ∷ 1 ∷ 4 ∷ 6 ∷ 7 ∷ 10 ∷ []
+statuses ShowLayout = 0 ∷ 1 ∷ 7 ∷ []
+statuses BlankImage = 0 ∷ 1 ∷ 6 ∷ 7 ∷ []
+statuses (MakeImage n) = 0 ∷ 1 ∷ 6 ∷ 7 ∷ []
+
+abbrev pub IsAmong : List ℕ → ℕ → Type 0
+IsAmong all status = list_any (λ n. n == status) all ≡ true
+
+-- what the words answer: a command of its plan, by one of its statuses, or the first fault
 abbrev pub ToolAnswers : Result Plan Stop → Outside → Outside → ℕ → Type 0
-ToolAnswers (Ok plan) a b status = PlanAnswers plan.command plan a b status
+ToolAnswers (Ok plan) a b status = PlanAnswers plan.command plan a b status × IsAmong (statuses plan.command) status
 ToolAnswers (Err s) a b status = FaultAnswers s a b status

@@ -19,7 +19,8 @@ pub returns-in-Layout-clause-ended : goal.returns-in-Layout-clause-ended
 returns-in-Layout-clause-ended g c =
     read_done _ (plan_seen c.in-Ok.plan) _ _ _ c.in-Ok.ensures.plan
     (layout_shown (plan_seen c.in-Ok.plan) _ _ _ (ap command_seen c.in-Layout.is)
-    (record { left = refl; source = refl }) (record { holds = refl; store = refl }) (c.show_layout.ensures.ended _))
+    (record { left = refl; source = refl }) (record { holds = refl; store = refl })
+    c.show_layout.ensures.can (c.show_layout.ensures.ended _))
 
 pub returns-in-Blank-clause-caused : goal.returns-in-Blank-clause-caused
 returns-in-Blank-clause-caused g c = c.blank.ensures.caused _ _ _ _
@@ -28,7 +29,7 @@ pub returns-in-Blank-clause-ended : goal.returns-in-Blank-clause-ended
 returns-in-Blank-clause-ended g c =
     read_done _ (plan_seen c.in-Ok.plan) _ _ _ c.in-Ok.ensures.plan
     (blank_left (plan_seen c.in-Ok.plan) c.mem.result _ _ _ c.mem.ensures (ap command_seen c.in-Blank.is)
-    (record { left = refl; source = refl }) refl (c.blank.ensures.ended _))
+    (record { left = refl; source = refl }) refl c.blank.ensures.can (c.blank.ensures.ended _))
 
 pub returns-in-Make-clause-caused : goal.returns-in-Make-clause-caused
 returns-in-Make-clause-caused g c = c.make.ensures.caused _ _
