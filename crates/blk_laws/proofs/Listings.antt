@@ -89,11 +89,11 @@ unfoldable pub AllBelow : ℕ → List BlkDump → Type 0
 AllBelow n [] = Unit
 AllBelow n (d ∷ dumps) = (d.index < n) × AllBelow n dumps
 
-or-false : (b : Bool) → (b || false) ≡ b
+pub or-false : (b : Bool) → (b || false) ≡ b
 or-false true = refl
 or-false false = refl
 
-no-dump-named : (name : BlkName) (dumps : List BlkDump) → ((d : BlkDump) → is_name name (dump_name d) ≡ false)
+pub no-dump-named : (name : BlkName) (dumps : List BlkDump) → ((d : BlkDump) → is_name name (dump_name d) ≡ false)
     → list_any (is_name name) (map dump_name dumps) ≡ false
 no-dump-named name [] h = refl
 no-dump-named name (d ∷ dumps) h = rw (h d) (no-dump-named name dumps h)
@@ -111,7 +111,7 @@ any-if name other (Some log) = or-and (is_name name other)
     or-and true = refl
     or-and false = refl
 
-listed-parts : (name : BlkName) (b : BlkState)
+pub listed-parts : (name : BlkName) (b : BlkState)
     → is_listed b name ≡ (list_any (is_name name) (map dump_name b.dumps)
     || (is_name name Console && is_some b.console.saved) || (is_name name Pmsg && is_some b.pmsg.saved))
 unfolding names_of
@@ -125,15 +125,15 @@ listed-parts name b =
     ∙ ap (λ x. list_any (is_name name) (map dump_name b.dumps) || (is_name name Console && is_some b.console.saved)
     || x) (any-if name Pmsg b.pmsg.saved)
 
-listed-console : (b : BlkState) → is_listed b Console ≡ is_some b.console.saved
+pub listed-console : (b : BlkState) → is_listed b Console ≡ is_some b.console.saved
 listed-console b = listed-parts Console b ∙ ap (λ x. x || is_some b.console.saved || false)
     (no-dump-named Console b.dumps (λ d. refl)) ∙ or-false (is_some b.console.saved)
 
-listed-pmsg : (b : BlkState) → is_listed b Pmsg ≡ is_some b.pmsg.saved
+pub listed-pmsg : (b : BlkState) → is_listed b Pmsg ≡ is_some b.pmsg.saved
 listed-pmsg b = listed-parts Pmsg b ∙ ap (λ x. x || false || is_some b.pmsg.saved)
     (no-dump-named Pmsg b.dumps (λ d. refl))
 
-some-not-none : {X : Type 0} (o : Option X) → is_some o ≡ true → o ≡ None → ⊥
+pub some-not-none : {X : Type 0} (o : Option X) → is_some o ≡ true → o ≡ None → ⊥
 some-not-none None h e = cc
 some-not-none (Some x) h e = cc
 

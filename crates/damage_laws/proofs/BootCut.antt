@@ -25,11 +25,11 @@ use Rattle.session_spec.specs.BootPart.{boot_cut}
 use Rattle.damage_laws.specs.CutErasures.{BootCutZoneReads, BootCutReads, after_boot_stores}
 use Rattle.damage_laws.specs.Idle.{BlocksWithinBounds}
 use Rattle.ring_laws.proofs.Images.{length-put, after_stores-append}
-use Rattle.ring_laws.proofs.PartsLaw.{SamePart, put-bytes}
+use Rattle.ring_laws.proofs.PartsLaw.{block_some, SamePart, put-bytes}
 use Rattle.ring_laws.proofs.EveryParity.{block_has, word-bytes}
 use Rattle.ring_laws.proofs.ReadingLaw.{state_of-ring}
 use Rattle.ring_laws.proofs.States.{Says, state_says, reading_is, reading_state, reading_words, log_same, range_same}
-use Rattle.ring_laws.proofs.BootLaw.{block_some, booted_bytes, booted_image, booted_mended, stands_as_read, read_stands}
+use Rattle.ring_laws.proofs.BootLaw.{booted_bytes, booted_image, booted_mended, stands_as_read, read_stands}
 use Rattle.ring_laws.proofs.BootRing.{boot_image}
 use Rattle.ring_laws.proofs.HeaderWords.{header_words}
 use Rattle.damage_laws.proofs.Within.{part_reads, same_word, log_by}

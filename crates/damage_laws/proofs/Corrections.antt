@@ -21,12 +21,12 @@ use Rattle.zone_spec.specs.Boot.{fix_stores, part_fixes, boot_fixes, boot_erasur
 use Rattle.damage_laws.specs.CutErasures.{CorrectionsKeepReading, after_boot_stores}
 use Rattle.code_laws.proofs.Nearest.{nearest-IsNear}
 use Rattle.ring_laws.proofs.Images.{after_stores-append}
-use Rattle.ring_laws.proofs.PartsLaw.{SamePart, SamePart-places}
+use Rattle.ring_laws.proofs.PartsLaw.{block_some, SamePart, SamePart-places}
 use Rattle.ring_laws.proofs.PartWords.{part_word-IsWord, length-part_bytes, length-part_word, reading_near, reading_none}
 use Rattle.ring_laws.proofs.StoreBytes.{all-append}
 use Rattle.ring_laws.proofs.States.{reading_is, reading_state, reading_words, state_in_reading, words_in_reading, below_count, count_below}
 use Rattle.ring_laws.proofs.Fixes.{Fixes, IsFix, IsMended, fix_stores-all, one_part, below_parity, word_left, word_right, length-bytes_most, put_one, part_byte}
-use Rattle.ring_laws.proofs.BootLaw.{block_some, IsRead, fixed_mended, fixed_image, length-word}
+use Rattle.ring_laws.proofs.BootLaw.{IsRead, fixed_mended, fixed_image, length-word}
 use Rattle.damage_laws.proofs.CutHeader.{take-left}
 
 -- ---- a list of stores at rising places, each changing its byte

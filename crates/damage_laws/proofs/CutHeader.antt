@@ -12,7 +12,7 @@ use Rattle.zone_spec.specs.declared.Words.{Words}
 use Rattle.zone_spec.specs.declared.Pair.{Pair}
 use Rattle.zone_spec.specs.Zones.{IsValidZone}
 use Rattle.code_spec.specs.Code.{IsWord, IsCodeword, nearest, parity_of, IsNear}
-use Rattle.zone_spec.specs.Parts.{Part, Header, Block, part_parity_at, part_bytes, part_word, words_in, standing_words, IsImage}
+use Rattle.zone_spec.specs.Parts.{AreBytes, Part, Header, Block, part_parity_at, part_bytes, part_word, words_in, standing_words, IsImage}
 use Rattle.zone_spec.specs.PartReadings.{words_read}
 use Rattle.zone_spec.specs.Told.{Call, Append, Erase, Dump, last_items}
 use Rattle.zone_spec.specs.Stores.{Store, put, after_stores, byte_stores}
@@ -31,7 +31,7 @@ use Rattle.code_laws.proofs.Nearest.{nearest-IsNear}
 use Rattle.code_laws.proofs.Laws.{parity_made}
 use Rattle.ring_laws.proofs.Images.{put-below, put-above, put-inside, after_stores-append, length-after_stores}
 use Rattle.ring_laws.proofs.AppendLaw.{word_of-stored, word_of-same}
-use Rattle.ring_laws.proofs.PartsLaw.{IsBytes, nearest-codeword, slice_range-bytes}
+use Rattle.ring_laws.proofs.PartsLaw.{nearest-codeword, slice_range-bytes}
 use Rattle.ring_laws.proofs.PartWords.{part_word-IsWord, bytes-append, bytes-all, reading_near, reading_none}
 use Rattle.ring_laws.proofs.EveryParity.{word-bytes}
 use Rattle.ring_laws.proofs.StoreBytes.{all-append, all-map, call_image}
@@ -310,7 +310,7 @@ each-small [] h = tt
 each-small (p ∷ ps) h = ((both-small p h.0).0, each-small ps h.1)
 
 -- four bytes make a number that fits them
-four-bytes : (xs : List ℕ) → IsBytes xs → from_le_bytes w32 xs < 2 ^ 32
+four-bytes : (xs : List ℕ) → AreBytes xs → from_le_bytes w32 xs < 2 ^ 32
 four-bytes xs h = let a = h 0 in let b = h 1 in let c = h 2 in let d = h 3 in omega (arith, a, b, c, d)
 
 -- ---- windows
@@ -512,13 +512,13 @@ is_header z x valid im stands =
       size = subst (λ v. v.size < 2 ^ 32) (sym words) bounds.2;
     }
   where
-    four : (xs : List ℕ) → IsBytes xs → from_le_bytes w32 xs < 2 ^ 32
+    four : (xs : List ℕ) → AreBytes xs → from_le_bytes w32 xs < 2 ^ 32
     four xs h = four-bytes xs h
 
-    standing-small : (x : List ℕ) → IsBytes x → ((standing_words x).sig < 2 ^ 32)
+    standing-small : (x : List ℕ) → AreBytes x → ((standing_words x).sig < 2 ^ 32)
         × ((standing_words x).start < 2 ^ 32) × ((standing_words x).size < 2 ^ 32)
     standing-small x h =
-        let front : IsBytes (slice_range x 0 12) = slice_range-bytes x 0 12 h in (
+        let front : AreBytes (slice_range x 0 12) = slice_range-bytes x 0 12 h in (
           four _ (slice_range-bytes (slice_range x 0 12) 0 4 front),
           four _ (slice_range-bytes (slice_range x 0 12) 4 8 front),
           four _ (slice_range-bytes (slice_range x 0 12) 8 12 front),

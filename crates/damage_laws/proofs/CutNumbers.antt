@@ -9,7 +9,7 @@ use Rattle.zone_spec.specs.declared.Zone.{Zone}
 use Rattle.zone_spec.specs.declared.State.{State}
 use Rattle.zone_spec.specs.declared.State.TheVariants.{Unsigned, Empty, Invalid, Found}
 use Rattle.zone_spec.specs.Zones.{IsValidZone}
-use Rattle.zone_spec.specs.Parts.{part_bytes, part_at, part_len, part_parity_at, standing_words}
+use Rattle.zone_spec.specs.Parts.{AreBytes, part_bytes, part_at, part_len, part_parity_at, standing_words}
 use Rattle.zone_spec.specs.Reading.{zone_reading}
 use Rattle.zone_spec.specs.Stores.{after_stores, byte_stores}
 use Rattle.zone_spec.specs.Stages.{Stage, SigWord, StartWord, SizeWord, Run, ParityOf, stage_stores, stores_in_turn, stage_count}
@@ -24,7 +24,7 @@ use Rattle.session_spec.specs.Sound.{IsInFlight}
 use Rattle.session_spec.specs.Headline.{RunsAreTouched}
 use Rattle.damage_laws.specs.CutCalls.{CutReportIsExact, RisesFrom}
 use Rattle.damage_laws.specs.CutErasures.{BootCutReportIsExact}
-use Rattle.ring_laws.proofs.PartsLaw.{IsBytes, slice_range-bytes, part_short}
+use Rattle.ring_laws.proofs.PartsLaw.{slice_range-bytes, part_short}
 use Rattle.ring_laws.proofs.PartWords.{has_parity}
 use Rattle.ring_laws.proofs.StoreBytes.{HasBytes, after-bytes, stage_stores-all, call-all}
 use Rattle.ring_laws.proofs.BootLaw.{booted_bytes, booted_image}
@@ -191,7 +191,7 @@ length-byte_stores place [] = refl
 length-byte_stores place (b ∷ bs) = ap suc (length-byte_stores (place + 1) bs)
 
 module _ (z : Zone) (valid : IsValidZone z) where
-  pub length-stage : (g : Stage) (image : List ℕ) → IsBytes image → length (stage_stores z g image) ≡ stage_count z g
+  pub length-stage : (g : Stage) (image : List ℕ) → AreBytes image → length (stage_stores z g image) ≡ stage_count z g
   unfolding stage_stores part_bytes
   length-stage (SigWord n) image h = refl
   length-stage (StartWord n) image h = refl
@@ -202,7 +202,7 @@ module _ (z : Zone) (valid : IsValidZone z) where
       ∙ (has_parity z.parity (part_bytes z image part) (slice_range-bytes image (part_at z part)
       (part_at z part + part_len z part) h) (part_short z valid (has_parity z.parity) image part)).0
 
-  pub length-stores : (gs : List Stage) (image : List ℕ) → IsBytes image → AllByRecursion HasBytes gs
+  pub length-stores : (gs : List Stage) (image : List ℕ) → AreBytes image → AllByRecursion HasBytes gs
       → length (stores_in_turn z gs image) ≡ sum_by (stage_count z) gs
   unfolding stores_in_turn
   length-stores [] image h k = refl

@@ -27,11 +27,10 @@ use Rattle.session_spec.specs.States.{Flight}
 use Rattle.session_spec.specs.Stop.{cut_of}
 use Rattle.session_spec.specs.Sound.{IsInFlight}
 use Rattle.session_spec.specs.Headline.{OldPlacesRead, NoOtherPlaces}
-use Rattle.ring_laws.proofs.PartsLaw.{SamePart, ReadsAsStands-same}
+use Rattle.ring_laws.proofs.PartsLaw.{block_some, SamePart, ReadsAsStands-same}
 use Rattle.ring_laws.proofs.RingLaw.{open_after}
 use Rattle.ring_laws.proofs.EveryParity.{block_has}
 use Rattle.ring_laws.proofs.ReadingLaw.{part_reading-stands}
-use Rattle.ring_laws.proofs.BootLaw.{block_some}
 use Rattle.ring_laws.proofs.HeaderWords.{header_words}
 use Rattle.damage_laws.proofs.Within.{part_reads, byte_read-stop, get-mapped, place_below}
 use Rattle.damage_laws.proofs.Untouched.{LeavesBlock, untouched_same}

@@ -13,8 +13,8 @@ use Rattle.zone_spec.specs.Stages.{Stage, SigWord, StartWord, SizeWord, Run, Par
 use Rattle.zone_spec.specs.Calls.{run_stages, append_stages, erase_stages, call_stages, CanBegin}
 use Rattle.zone_spec.specs.Touched.{touched_by}
 use Rattle.code_laws.proofs.Nearest.{the_word-passes}
+use Rattle.ring_laws.proofs.PartsLaw.{block_some}
 use Rattle.ring_laws.proofs.RunLaw.{met_low, met_high, met_order, unmet_high, cap_within}
-use Rattle.ring_laws.proofs.BootLaw.{block_some}
 use Rattle.ring_laws.proofs.StoreBytes.{all-append}
 use Rattle.damage_laws.proofs.Untouched.{LeavesBlock, HasParityLength}
 

@@ -11,7 +11,7 @@ use Rattle.zone_spec.specs.declared.State.TheVariants.{Unsigned, Empty, Invalid,
 use Rattle.zone_spec.specs.declared.Verdict.TheVariants.{AsTold}
 use Rattle.zone_spec.specs.Zones.{IsValidZone}
 use Rattle.code_spec.specs.Code.{IsWord, nearest, IsNear}
-use Rattle.zone_spec.specs.Parts.{Part, Header, Block, part_bytes, part_word, words_in, standing_words, IsImage}
+use Rattle.zone_spec.specs.Parts.{AreBytes, Part, Header, Block, part_bytes, part_word, words_in, standing_words, IsImage}
 use Rattle.zone_spec.specs.PartReadings.{part_reading, words_read}
 use Rattle.zone_spec.specs.Reading.{ZoneReading, byte_read, log_places, state_of, reading_in, zone_reading}
 use Rattle.zone_spec.specs.Ring.{IsRingForm}
@@ -20,16 +20,15 @@ use Rattle.zone_spec.specs.Verdicts.{verdict_of}
 use Rattle.damage_laws.specs.Idle.{PartReadsAsAtStop, IdleZoneReadsTold, BlocksWithinBounds}
 use Rattle.code_laws.proofs.Nearest.{nearest-IsNear}
 use Rattle.code_laws.proofs.Laws.{nearest_law}
-use Rattle.ring_laws.proofs.PartsLaw.{IsBytes}
+use Rattle.ring_laws.proofs.PartsLaw.{block_some}
 use Rattle.ring_laws.proofs.PartWords.{part_word-IsWord, length-part_bytes, length-part_word, part_word-short, part_bytes-word, reading_near, reading_none}
 use Rattle.ring_laws.proofs.RingBytes.{length-log_places}
 use Rattle.ring_laws.proofs.ReadingLaw.{part_reading-stands, state_of-ring}
 use Rattle.ring_laws.proofs.States.{log_same, reading_is}
 use Rattle.ring_laws.proofs.Fixes.{part_byte}
-use Rattle.ring_laws.proofs.BootLaw.{block_some}
 
 -- a word within half the parity of a codeword has it for its nearest
-pub near_is : (z : Zone) (now : List ℕ) (part : Part) (c : List ℕ) → IsValidZone z → IsBytes now
+pub near_is : (z : Zone) (now : List ℕ) (part : Part) (c : List ℕ) → IsValidZone z → AreBytes now
     → IsNear z.parity (part_word z now part) c → nearest z.parity (part_word z now part) ≡ Some c
 near_is z now part c valid h near =
     (nearest_law z.parity (part_word z now part) c (part_word-short z now part valid)

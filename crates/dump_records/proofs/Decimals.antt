@@ -103,9 +103,6 @@ six_digits-IsSix n small = rw (lt-ltb n 1000000 small)
     (seven n (decimal (1000000 + n)) small (decimal-IsNumber (1000000 + n) (omega arith))
     (length-decimal-le 7 (1000000 + n) (omega arith) (omega arith) (omega arith)))
 
-pub six_digits-is : (n : ℕ) → n < 1000000 → six_digits n ≡ drop 1 (decimal (1000000 + n))
-six_digits-is n small = rw (lt-ltb n 1000000 small) refl
-
 pub secs-short : (n : ℕ) → n < 2 ^ 63 → length (decimal n) ≤ 19
 secs-short n small = length-decimal-le 19 n (omega arith) (omega (arith, small)) (omega (arith, small))
 

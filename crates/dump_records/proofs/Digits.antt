@@ -89,12 +89,6 @@ none_of most ds e = rw e refl
 too_many : (most : ℕ) (ds : List ℕ) → most < length ds → None ≡ number_up_to most ds
 too_many most ds lt = rw (lt-leb (length ds) most lt, and-false (leb 1 (length ds))) refl
 
--- no digit, or too many
-pub number_at-empty : (most : ℕ) (text : List ℕ) (value len : ℕ) → IsRead text value len
-    → (len < length text → is_ascii_digit (get_or text len 0) ≡ false) → len ≡ 0 → None ≡ number_at most text
-number_at-empty most text value len read stops zero = none_of most (digits_of text)
-    (digits_len text ∙ sym (IsRead-end text value len read stops) ∙ zero)
-
 pub number_at-long : (most : ℕ) (text : List ℕ) (value len : ℕ) → IsRead text value len → len < length text
     → is_ascii_digit (get_or text len 0) ≡ true → len ≡ most → None ≡ number_at most text
 number_at-long most text value len read lt digit full =

@@ -1,7 +1,5 @@
 // Whole runs of scripts on the block store, over the objects in memory.
-use crate::run;
-use box_io::{Bytes, Calls, MemSink, MemSource, MemStore};
-use std::alloc::{AllocError, Global};
+use crate::tests::{Fails, NONE, outcome};
 use std::test::Fail;
 
 // A page of pmsg, one of console, and two of dumps.
@@ -13,58 +11,6 @@ const FIRST: &str =
 
 const FIRST_TEXT: &str = "records 2\ndmesg-pstore_blk-0 22 5.000006000\nconsole-pstore_blk-0 3\n\
     dmesg-pstore_blk-0 22\nPanic: Total 1 times\nx\n";
-
-/// The call that fails, counted from 1, of the script, the image and the output; 0 for none.
-#[derive(Clone, Copy)]
-struct Fails {
-    script: u32,
-    image: u32,
-    out: u32,
-}
-
-const NONE: Fails = Fails {
-    script: 0,
-    image: 0,
-    out: 0,
-};
-
-/// What a run answered, put and left.
-#[derive(Drop)]
-struct Ended {
-    status: u8,
-    text: Vec<u8>,
-    image: Vec<u8>,
-}
-
-fn words_of(alloc: Global, line: &str) -> Result<Vec<String>, AllocError> {
-    let mut words = Vec::new(alloc);
-    for word in line.split(' ') {
-        words.push(String::from_str(alloc, word)?)?;
-    }
-    Ok(words)
-}
-
-fn outcome(
-    alloc: Global,
-    line: &str,
-    script: &str,
-    image: &[u8],
-    fails: Fails,
-) -> Result<Ended, Fail> {
-    let words = words_of(alloc, line)?;
-    let text = Bytes::copy_of(alloc, script.as_bytes())?;
-    let mut script = MemSource::new(text, 7, Calls::new(alloc, &[fails.script])?);
-    let held = Bytes::copy_of(alloc, image)?;
-    let limit = u32::try_from(image.len())?;
-    let mut image = MemStore::new(held, limit, Calls::new(alloc, &[fails.image])?)?;
-    let mut out = MemSink::new(alloc, 100_000, Calls::new(alloc, &[fails.out])?)?;
-    let status = run(alloc, &words, &mut script, &mut image, &mut out);
-    Ok(Ended {
-        status,
-        text: Vec::from_slice(alloc, out.bytes())?,
-        image: Vec::from_slice(alloc, image.bytes())?,
-    })
-}
 
 fn has_at(image: &[u8], at: usize, bytes: &[u8]) -> bool {
     match image.get(at..) {
@@ -90,7 +36,7 @@ fn worked_sessions(rt: HostRuntime) -> Result<(), Fail> {
         ),
     ];
     for (script, text) in cases {
-        let ran = outcome(alloc, WORDS, script, &[0; 16384], NONE)?;
+        let ran = outcome(alloc, WORDS, script.as_bytes(), &[0; 16384], NONE)?;
         assert_eq!(rt; ran.status, 0, "{script}");
         assert_eq!(rt; ran.text.as_slice(), text.as_bytes(), "{script}");
     }
@@ -106,7 +52,7 @@ fn a_full_ring_is_cut(rt: HostRuntime) -> Result<(), Fail> {
         let script = format!(in alloc;
             "boot\nwrite console {full}\ncut {cut}\nwrite console 21\nboot\nlist\n"
         )?;
-        let ran = outcome(alloc, WORDS, &script, &[0; 16384], NONE)?;
+        let ran = outcome(alloc, WORDS, script.as_bytes(), &[0; 16384], NONE)?;
         assert_eq!(rt; ran.status, 0);
         let text = format!(in alloc; "records 1\nconsole-pstore_blk-0 {size}\n")?;
         assert_eq!(rt; ran.text.as_slice(), text.as_bytes());
@@ -119,7 +65,7 @@ fn a_full_ring_is_cut(rt: HostRuntime) -> Result<(), Fail> {
 fn zones_are_written_in_place(rt: HostRuntime) -> Result<(), Fail> {
     let alloc = rt.alloc();
     let script = "boot\nwrite console 616263\nkdump 5 6000 D Panic 78\n";
-    let ran = outcome(alloc, WORDS, script, &[0xee; 16400], NONE)?;
+    let ran = outcome(alloc, WORDS, script.as_bytes(), &[0xee; 16400], NONE)?;
     assert_eq!(rt; ran.status, 0);
     assert!(rt; ran.text.is_empty());
     assert!(rt;
@@ -192,7 +138,7 @@ fn each_refusal_is_told(rt: HostRuntime) -> Result<(), Fail> {
         (WORDS, "\nstop\n", 10, "line 2 refused: not here\n"),
     ];
     for (line, script, status, text) in cases {
-        let ran = outcome(alloc, line, script, &[0; 16384], NONE)?;
+        let ran = outcome(alloc, line, script.as_bytes(), &[0; 16384], NONE)?;
         assert_eq!(rt; ran.status, status, "{line}");
         assert_eq!(rt; ran.text.as_slice(), text.as_bytes(), "{line}");
         assert!(rt; ran.image.iter().all(|byte| *byte == 0), "{line}");
@@ -205,7 +151,7 @@ fn each_refusal_is_told(rt: HostRuntime) -> Result<(), Fail> {
 fn a_refused_line_leaves_the_finished_ones(rt: HostRuntime) -> Result<(), Fail> {
     let alloc = rt.alloc();
     let script = "boot\nwrite console 616263\nlist\nwrite ftrace-0 64\nwrite console 65\n";
-    let ran = outcome(alloc, WORDS, script, &[0; 16384], NONE)?;
+    let ran = outcome(alloc, WORDS, script.as_bytes(), &[0; 16384], NONE)?;
     assert_eq!(rt; ran.status, 10);
     assert_eq!(rt;
         ran.text.as_slice(),
@@ -223,10 +169,10 @@ fn each_call_of_the_image_can_fail(rt: HostRuntime) -> Result<(), Fail> {
     let mut failed = 0;
     for call in 1..40 {
         let fails = Fails {
-            image: call,
+            image: &[call],
             ..NONE
         };
-        let ran = outcome(alloc, WORDS, FIRST, &[0; 16384], fails)?;
+        let ran = outcome(alloc, WORDS, FIRST.as_bytes(), &[0; 16384], fails)?;
         if ran.status == 0 {
             assert_eq!(rt; ran.text.as_slice(), FIRST_TEXT.as_bytes());
             break;
@@ -243,14 +189,17 @@ fn each_call_of_the_image_can_fail(rt: HostRuntime) -> Result<(), Fail> {
 #[test]
 fn faults_of_the_script_and_the_output_are_told(rt: HostRuntime) -> Result<(), Fail> {
     let alloc = rt.alloc();
-    let fails = Fails { script: 3, ..NONE };
-    let ran = outcome(alloc, WORDS, FIRST, &[0; 16384], fails)?;
+    let fails = Fails {
+        script: &[3],
+        ..NONE
+    };
+    let ran = outcome(alloc, WORDS, FIRST.as_bytes(), &[0; 16384], fails)?;
     assert_eq!(rt; ran.status, 5);
     assert_eq!(rt; ran.text.as_slice(), b"script fault\n".as_slice());
     assert!(rt; ran.image.iter().all(|byte| *byte == 0));
     let script = "boot\nlist\nwrite console 616263\n";
-    let fails = Fails { out: 2, ..NONE };
-    let ran = outcome(alloc, WORDS, script, &[0; 16384], fails)?;
+    let fails = Fails { out: &[2], ..NONE };
+    let ran = outcome(alloc, WORDS, script.as_bytes(), &[0; 16384], fails)?;
     assert_eq!(rt; ran.status, 7);
     assert_eq!(rt; ran.text.as_slice(), b"recor".as_slice());
     assert!(rt; ran.image.starts_with(b"CBGC".as_slice()));

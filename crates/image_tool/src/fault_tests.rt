@@ -42,7 +42,7 @@ struct Case {
     begins: Begins,
     script: Script,
     per_call: u32,
-    fails: Fails,
+    fails: Fails<'static>,
     status: u8,
     text: Text,
     left: Left,

@@ -18,13 +18,13 @@ pub(crate) const FIRST_TEXT: &str =
 
 /// The calls that fail, of the script, the image and the output.
 #[derive(Clone, Copy)]
-pub(crate) struct Fails {
-    pub(crate) script: &'static [u32],
-    pub(crate) image: &'static [u32],
-    pub(crate) out: &'static [u32],
+pub(crate) struct Fails<'a> {
+    pub(crate) script: &'a [u32],
+    pub(crate) image: &'a [u32],
+    pub(crate) out: &'a [u32],
 }
 
-pub(crate) const NONE: Fails = Fails {
+pub(crate) const NONE: Fails<'static> = Fails {
     script: &[],
     image: &[],
     out: &[],

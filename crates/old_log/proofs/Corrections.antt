@@ -18,7 +18,9 @@ use Rattle.zone_spec.specs.PartReadings.{PartReading, part_reading, reading_by, 
 use Rattle.zone_spec.specs.Reading.{ZoneReading, zone_reading, reading_in, state_of, blocks_below}
 use Rattle.zone_spec.specs.Stores.{Store}
 use Rattle.zone_spec.specs.Boot.{fix_stores, part_fixes, boot_fixes, blocks_read}
-use Rattle.old_log.proofs.Images.{reading-bytes, block-length, header-length, slice_range-bytes}
+use Rattle.ring_laws.proofs.PartsLaw.{slice_range-bytes}
+use Rattle.ring_laws.proofs.BootLaw.{length-reading}
+use Rattle.old_log.proofs.Images.{block-length, header-length}
 use Rattle.old_log.proofs.Fronts.{range-front}
 use Rattle.old_log.proofs.Storing.{IsBelow, all-append, fix-below}
 
@@ -70,7 +72,7 @@ pub block-fixes : (z : Zone) (x : List ℕ) (b : ℕ) (out : List ℕ) → IsVal
 unfolding part_bytes
 block-fixes z x b out valid size bytes within e =
     let long : length out ≡ min (z.block * (b + 1)) z.cap - z.block * b =
-    ap length e ∙ (reading-bytes z x (Block b) bytes).0 ∙ block-length z x b valid size within in
+    ap length e ∙ (length-reading z x (Block b) bytes).0 ∙ block-length z x b valid size within in
     ap (λ (n : ℕ). fix_stores (12 + z.block * b) (slice_range x (12 + z.block * b) (12 + z.block * b + n)) out) long
     ∙ ap (λ (cs : List ℕ). fix_stores (12 + z.block * b) (part_bytes z x (Block b)) cs) e
 
@@ -79,7 +81,7 @@ pub block-most : (z : Zone) (x : List ℕ) (b : ℕ) (out : List ℕ) → IsVali
     → (12 + z.block * b + length out ≤ 12 + z.cap) × (length out ≤ 128)
 block-most z x b out valid size bytes within e =
     let long : length out ≡ min (z.block * (b + 1)) z.cap - z.block * b =
-    ap length e ∙ (reading-bytes z x (Block b) bytes).0 ∙ block-length z x b valid size within in
+    ap length e ∙ (length-reading z x (Block b) bytes).0 ∙ block-length z x b valid size within in
     let next : z.block * (b + 1) ≡ z.block * b + z.block = grind arith in
     let most : z.block ≤ 128 = (let k = valid.block in grind (arith, k)) in
     (omega arith, omega arith)
@@ -175,7 +177,7 @@ pub header-fixes : (z : Zone) (x : List ℕ) (w : Words) (out : List ℕ) → Is
     → (fix_stores 0 (slice_range x 0 (0 + length out)) out ≡ part_fixes z x Header) × (length out ≡ 12)
 unfolding part_bytes
 header-fixes z x w out valid size bytes words e =
-    let r = reading-bytes z x Header bytes in
+    let r = length-reading z x Header bytes in
     let twelve : length (part_reading z x Header).bytes ≡ 12 = r.0 ∙ header-length z x valid size in
     let is : out ≡ (part_reading z x Header).bytes =
     e ∙ ap (λ (v : Words). to_le_bytes w32 v.sig ++ to_le_bytes w32 v.start ++ to_le_bytes w32 v.size)

@@ -14,7 +14,9 @@ use Rattle.zone_spec.specs.Stages.{stage_stores, stores_in_turn}
 use Rattle.zone_spec.specs.Calls.{erase_stages}
 use Rattle.zone_spec.specs.Reading.{ZoneReading, zone_reading}
 use Rattle.zone_spec.specs.Boot.{fix_stores, part_fixes, boot_fixes, blocks_read, boot_erasure, boot_stores, signing, keeps}
-use Rattle.old_log.proofs.Images.{reading-bytes, bytes-all, bytes-each, slice_range-bytes}
+use Rattle.ring_laws.proofs.PartsLaw.{slice_range-bytes}
+use Rattle.ring_laws.proofs.PartWords.{bytes-all, bytes-each}
+use Rattle.ring_laws.proofs.BootLaw.{length-reading}
 use Rattle.old_log.proofs.Storing.{all-append, byte-length}
 
 -- ---- stores of bytes leave bytes
@@ -63,12 +65,12 @@ blocks-bytes : (z : Zone) (x : List ℕ) (ks : List ℕ) → AreBytes x
     → AllByRecursion HasBytes (flat_map (λ (k : ℕ). part_fixes z x (Block k)) ks)
 blocks-bytes z x [] h = tt
 blocks-bytes z x (k ∷ ks) h = all-append HasBytes (part_fixes z x (Block k))
-    (flat_map (λ (k : ℕ). part_fixes z x (Block k)) ks) (fix-bytes _ _ _ (reading-bytes z x (Block k) h).1)
+    (flat_map (λ (k : ℕ). part_fixes z x (Block k)) ks) (fix-bytes _ _ _ (length-reading z x (Block k) h).1)
     (blocks-bytes z x ks h)
 
 pub fixes-bytes : (z : Zone) (x : List ℕ) → AreBytes x → AllByRecursion HasBytes (boot_fixes z x)
 unfolding boot_fixes
-fixes-bytes z x h = all-append HasBytes (part_fixes z x Header) _ (fix-bytes _ _ _ (reading-bytes z x Header h).1)
+fixes-bytes z x h = all-append HasBytes (part_fixes z x Header) _ (fix-bytes _ _ _ (length-reading z x Header h).1)
     (blocks-bytes z x (blocks_read z (zone_reading z x) (zone_reading z x).state) h)
 
 -- ---- the signature

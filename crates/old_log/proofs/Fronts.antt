@@ -22,7 +22,8 @@ use Rattle.rs_errors.specs.declared.Decoded.{Decoded}
 use Rattle.rs_errors.specs.declared.Decoded.TheVariants.{Clean, Fixed, Bad}
 use Rattle.block_ecc.specs.Outcomes.{CountsAre}
 use Rattle.old_log.specs.Reads.{bytes_read, corrected_of, bad_of, corrected_below, bad_below}
-use Rattle.old_log.proofs.Images.{reading-bytes, block-length}
+use Rattle.ring_laws.proofs.BootLaw.{length-reading}
+use Rattle.old_log.proofs.Images.{block-length}
 
 -- ---- numbers in a row
 pub range-append : (a n k : ℕ) → range_with_len a (n + k) ≡ range_with_len a n ++ range_with_len (a + n) k
@@ -52,9 +53,6 @@ map-is f a (suc k) (x ∷ xs) l h =
     ∙ h (suc j) (omega arith)))
 
 -- ---- rounding up
-ceil : ℕ → ℕ → ℕ
-ceil x k = x / k + min 1 (x % k)
-
 pub ceil-is : (x k : ℕ) → 0 < k → x / k + min 1 (x % k) ≡ (x + k - 1) / k
 ceil-is x k some =
     let t = div_ceil_times x k some in
@@ -71,10 +69,6 @@ below-ceil x k b some h =
     let high : q * k < x + k = t.1 in
     let most : (b + 1) * k ≤ q * k = mul-le-mul_right k (let l : b + 1 ≤ q = omega arith in l) in
     omega (arith, mul_comm k b, add-mul b 1 k)
-
-pub ceil-past : (x k : ℕ) → 0 < k → x ≤ k * (x / k + min 1 (x % k))
-ceil-past x k some = let t = div_ceil_times x k some in let low : x ≤ (x / k + min 1 (x % k)) * k = t.0 in
-    omega (arith, mul_comm k (x / k + min 1 (x % k)))
 
 pub ceil-most : (x k : ℕ) → 0 < k → x / k + min 1 (x % k) ≤ x
 ceil-most x k some = by (cases_lt x (x / k + min 1 (x % k)))
@@ -110,7 +104,7 @@ pub bytes_read-next : (z : Zone) (x : List ℕ) (b n : ℕ) → IsValidZone z �
 bytes_read-next z x b n valid size bytes within some =
     let next : z.block * (b + 1) ≡ z.block * b + z.block = grind arith in
     let long : length (part_reading z x (Block b)).bytes ≡ min (z.block * (b + 1)) z.cap - z.block * b =
-    (reading-bytes z x (Block b) bytes).0 ∙ block-length z x b valid size (omega arith) in
+    (length-reading z x (Block b) bytes).0 ∙ block-length z x b valid size (omega arith) in
     let fits : min z.block (n - z.block * b) ≤ length (part_reading z x (Block b)).bytes = omega arith in (
       fits,
       ap (λ (m : ℕ). bytes_read z x m) (let e : min (z.block * (b + 1)) n

@@ -15,7 +15,7 @@ use Rattle.zone_spec.specs.PartReadings.{part_reading, reading_by, words_read}
 use Rattle.zone_spec.specs.Reading.{zone_reading, reading_in, state_of}
 use Rattle.zone_spec.specs.Stores.{Store}
 use Rattle.zone_spec.specs.Boot.{fix_stores, part_fixes, boot_fixes, blocks_read}
-use Rattle.old_log.proofs.Images.{reading_near, reading_none, word-IsWord}
+use Rattle.ring_laws.proofs.PartWords.{part_word-IsWord, reading_near, reading_none}
 
 fix-itself : (p : ℕ) (xs : List ℕ) → fix_stores p xs xs ≡ []
 unfolding fix_stores
@@ -41,7 +41,7 @@ part-uncorrected z x p h zero_is = by (nearest z.parity (part_word z x p)) refl
     by None e = reading_none z x p e
     by (Some c) e =
         let near : IsNear z.parity (part_word z x p) c = nearest-IsNear z.parity (part_word z x p) c
-        (word-IsWord z x p h) e in
+        (part_word-IsWord z x p h) e in
         let same : part_word z x p ≡ c = distance_zero (part_word z x p) c (sym near.word.0)
         (omega (arith, zero_is, near-corrected z x p c e)) in
         reading_near z x p c e ∙ ap (λ (w : List ℕ). take (length (part_bytes z x p)) w) (sym same) ∙ word-front z x p

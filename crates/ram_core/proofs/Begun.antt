@@ -115,10 +115,6 @@ module _ (layout : List Zone) (mem : ℕ) (v : LiveSeen) (s : LiveState) (stands
   begin_busy ask i z h l place ez eh el taken = asked_is ask i z l place ez el
       ∙ begins_not (call_of ask) (is_barred layout s ask) i z l (busy_is ask i z h l ez eh el ∙ taken)
 
-  pub begin_nowhere : (ask : Ask) → place_asked layout v.cursor ask ≡ None → begin layout s ask ≡ Err NoZone
-  begin_nowhere ask place = ap (begins layout s (call_of ask) (is_barred layout s ask))
-      (zone_asked ask ∙ ap (target_at layout s) place)
-
   -- the zone at a place of the layout, with all that stands there
   pub record Here (i : ℕ) : Type 0 where
     pub zone : Zone

@@ -20,8 +20,3 @@ put-parts xs at (b ∷ bs) le =
     ∙ ap (λ (l : List ℕ). (take at xs ++ b ∷ []) ++ bs ++ l)
     (drop-set-lt (at + 1 + length bs) xs at b (omega arith) ∙ ap (λ (n : ℕ). drop n xs) past)
     ∙ ap (λ (l : List ℕ). l ++ drop (at + suc (length bs)) xs) (append_assoc (take at xs) (b ∷ []) bs)
-
--- one byte put
-pub put-one : (xs : List ℕ) (at b : ℕ) → put xs at (b ∷ []) ≡ set xs at b
-unfolding put
-put-one xs at b = refl

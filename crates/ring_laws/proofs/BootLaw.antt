@@ -7,7 +7,7 @@ use Rattle.zone_spec.specs.declared.State.{State}
 use Rattle.zone_spec.specs.declared.State.TheVariants.{Unsigned, Empty, Invalid, Found}
 use Rattle.zone_spec.specs.Zones.{IsValidZone}
 use Rattle.code_spec.specs.Code.{nearest, IsNear}
-use Rattle.zone_spec.specs.Parts.{Part, Header, Block, part_at, part_len, part_bytes, part_word, IsImage, IsPartOf}
+use Rattle.zone_spec.specs.Parts.{AreBytes, Part, Header, Block, part_at, part_len, part_bytes, part_word, IsImage, IsPartOf}
 use Rattle.zone_spec.specs.PartReadings.{part_reading, words_read}
 use Rattle.zone_spec.specs.Reading.{zone_reading, ZoneReading}
 use Rattle.zone_spec.specs.Stores.{Store, after_stores}
@@ -15,15 +15,12 @@ use Rattle.zone_spec.specs.Ring.{ReadsAsStands}
 use Rattle.zone_spec.specs.Boot.{fix_stores, part_fixes, blocks_read, boot_fixes}
 use Rattle.code_laws.proofs.Nearest.{nearest-IsNear}
 use Rattle.ring_laws.proofs.Images.{length-after_stores}
-use Rattle.ring_laws.proofs.PartsLaw.{IsBytes, slice_range-bytes}
+use Rattle.ring_laws.proofs.PartsLaw.{block_some, slice_range-bytes}
 use Rattle.ring_laws.proofs.PartWords.{length-part_bytes, part_bytes-word, reading_near, reading_none, part_word-IsWord, bytes-each}
 use Rattle.ring_laws.proofs.EveryParity.{part-bytes}
 use Rattle.ring_laws.proofs.StoreBytes.{IsStore, all-append, all-take, after-bytes, one-byte}
 use Rattle.ring_laws.proofs.States.{Says, state_says, reading_words, reading_state, below_count, count_below}
 use Rattle.ring_laws.proofs.Fixes.{Fixes, IsFix, Fixed, HasStoreAt, IsMended, fix_stores-all, has_fix, has_left, has_right, some_fixed, fixed_there, one_part, fixed_toward, toward_mended, length-bytes_most, length-inside, part_byte}
-
-pub block_some : (z : Zone) → IsValidZone z → 0 < z.block
-block_some z valid = grind (arith, valid.block)
 
 -- ---- the corrections
 
@@ -75,15 +72,15 @@ length-word z x part = omega (
   length-take-most (length (part_bytes z x part)) (part_word z x part),
 )
 
-pub length-reading : (z : Zone) (image : List ℕ) (part : Part) → IsBytes image
+pub length-reading : (z : Zone) (image : List ℕ) (part : Part) → AreBytes image
     → (length (part_reading z image part).bytes ≡ length (part_bytes z image part))
-    × IsBytes (part_reading z image part).bytes
+    × AreBytes (part_reading z image part).bytes
 unfolding part_bytes
 length-reading z image part h = by (nearest z.parity (part_word z image part)) refl
   where
     by : (o : Option (List ℕ)) → nearest z.parity (part_word z image part) ≡ o
         → (length (part_reading z image part).bytes ≡ length (part_bytes z image part))
-        × IsBytes (part_reading z image part).bytes
+        × AreBytes (part_reading z image part).bytes
     by None e = rw (reading_none z image part e) (refl, slice_range-bytes image _ _ h)
     by (Some c) e =
         let near : IsNear z.parity (part_word z image part) c =
@@ -118,7 +115,7 @@ module _ (z : Zone) (valid : IsValidZone z) (image : List ℕ) (im : IsImage z i
   pub fixes-stores : (ss : List Store) → AllByRecursion (Fixes z image (IsPartOf z)) ss → AllByRecursion IsStore ss
   fixes-stores [] h = tt
   fixes-stores (s ∷ ss) h = (
-    subst IsBytes (sym h.0.3) (one-byte h.0.1 (rw h.0.4.byte ((length-reading z image h.0.0 im.1).1 _))),
+    subst AreBytes (sym h.0.3) (one-byte h.0.1 (rw h.0.4.byte ((length-reading z image h.0.0 im.1).1 _))),
     fixes-stores ss h.1,
   )
 

@@ -23,13 +23,13 @@ use Rattle.zone_spec.specs.Boot.{is_kept, keeps, boot_fixes, signing, boot_erasu
 use Rattle.ring_laws.proofs.Images.{length-put, put-inside, length-after_stores, after_stores-append}
 use Rattle.ring_laws.proofs.RingBytes.{length-log_places}
 use Rattle.ring_laws.proofs.AppendLaw.{all_stages, after_stores-stores_in_turn, word_of-stored}
-use Rattle.ring_laws.proofs.PartsLaw.{put-bytes}
+use Rattle.ring_laws.proofs.PartsLaw.{block_some, put-bytes}
 use Rattle.ring_laws.proofs.EveryParity.{word-bytes}
 use Rattle.ring_laws.proofs.CallLaw.{erase_law, ring_none}
 use Rattle.ring_laws.proofs.StoreBytes.{IsStore, HasBytes, all-append, all-take, after-bytes, stores_in_turn-all}
 use Rattle.ring_laws.proofs.ReadingLaw.{byte_read-stands}
 use Rattle.ring_laws.proofs.States.{Says, state_says, state_in_reading, reading_is, log_same}
-use Rattle.ring_laws.proofs.BootLaw.{block_some, IsRead, booted_bytes, booted_image, booted_mended, stands_as_read, read_stands, boot_fixes-all, fixes-stores}
+use Rattle.ring_laws.proofs.BootLaw.{IsRead, booted_bytes, booted_image, booted_mended, stands_as_read, read_stands, boot_fixes-all, fixes-stores}
 
 never : (b : Bool) → (b && false) ≡ true → ⊥
 never true e = true≢false (sym e)

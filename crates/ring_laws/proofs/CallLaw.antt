@@ -7,7 +7,7 @@ use Rattle.zone_spec.specs.declared.Words.{Words}
 use Rattle.zone_spec.specs.declared.Kind.{Kind}
 use Rattle.zone_spec.specs.declared.Kind.TheVariants.{Dump as DumpKind, Console, Ftrace, Pmsg}
 use Rattle.zone_spec.specs.Zones.{IsValidZone}
-use Rattle.zone_spec.specs.Parts.{Header, standing_words, IsImage}
+use Rattle.zone_spec.specs.Parts.{AreBytes, Header, standing_words, IsImage}
 use Rattle.zone_spec.specs.Told.{Call, Append, Erase, Dump, last_items, told_after}
 use Rattle.zone_spec.specs.Stores.{put, after_stores}
 use Rattle.zone_spec.specs.Stages.{ParityOf, stage_stores}
@@ -16,7 +16,7 @@ use Rattle.zone_spec.specs.Ring.{IsRingForm, ReadsAsStands, IsOpen, IsOpenUnless
 use Rattle.ring_laws.proofs.Images.{length-put, put-below, put-inside}
 use Rattle.ring_laws.proofs.AppendLaw.{appended, all_stages, stage_image, all_stages-append, word_of-stored, word_of-same, length-all_stages}
 use Rattle.ring_laws.proofs.RingLaw.{appended-start, image_after-all, last_items-short, last_items-append}
-use Rattle.ring_laws.proofs.PartsLaw.{IsBytes, put-bytes, parity-own, parity-bytes, stage_parity-data}
+use Rattle.ring_laws.proofs.PartsLaw.{put-bytes, parity-own, parity-bytes, stage_parity-data}
 use Rattle.ring_laws.proofs.EveryParity.{append_keeps, AppendLeaves, append_leaves, word-bytes, standing_words-same, part-bytes}
 use Rattle.ring_laws.proofs.PartWords.{has_parity}
 
@@ -66,12 +66,12 @@ ring_none z image room s a b head = record {
 }
 
 module _ (z : Zone) (valid : IsValidZone z) where
-  erase_words : (image : List ℕ) → length image ≡ z.size → IsBytes image
+  erase_words : (image : List ℕ) → length image ≡ z.size → AreBytes image
       → let y = all_stages z erase_stages image in ((standing_words y).start ≡ 0) × ((standing_words y).size ≡ 0)
-      × ((standing_words y).sig ≡ (standing_words image).sig) × ReadsAsStands z y Header × IsBytes y
+      × ((standing_words y).sig ≡ (standing_words image).sig) × ReadsAsStands z y Header × AreBytes y
   erase_words image len bytes =
       let e : List ℕ = erased image in
-      let e_bytes : IsBytes e = put-bytes (put image 4 (to_le_bytes w32 0)) 8 _
+      let e_bytes : AreBytes e = put-bytes (put image 4 (to_le_bytes w32 0)) 8 _
       (put-bytes image 4 _ bytes (word-bytes 0)) (word-bytes 0) in
       let e_len : length e ≡ z.size = length-erased image ∙ len in
       let y : List ℕ = stage_image z (ParityOf Header) e in
@@ -86,13 +86,13 @@ module _ (z : Zone) (valid : IsValidZone z) where
       )
 
   -- an erasure leaves a ring of nothing
-  pub erase_law : (image : List ℕ) → length image ≡ z.size → IsBytes image → (standing_words image).sig ≡ z.sig
+  pub erase_law : (image : List ℕ) → length image ≡ z.size → AreBytes image → (standing_words image).sig ≡ z.sig
       → IsRingForm z (all_stages z erase_stages image) []
   erase_law image len bytes sig =
       let w = erase_words image len bytes in
       ring_none z _ (omega (arith, valid.room)) (w.2 ∙ sig) w.0 w.1 w.3
 
-  append_any : (image told q : List ℕ) → length image ≡ z.size → IsBytes image → IsBytes q → length q ≤ z.cap
+  append_any : (image told q : List ℕ) → length image ≡ z.size → AreBytes image → AreBytes q → length q ≤ z.cap
       → IsRingForm z image told → IsOpen (standing_words image) z.cap
       → IsRingForm z (all_stages z (append_stages z (standing_words image).start (standing_words image).size q) image)
       (last_items z.cap (told ++ q))
@@ -104,7 +104,7 @@ module _ (z : Zone) (valid : IsValidZone z) where
       append_keeps z image told b bs valid (has_parity z.parity) len bytes new short ring opens.0 opens.1
 
   -- an append to a ring whose words are known
-  append_at : (image told q : List ℕ) (s n : ℕ) → length image ≡ z.size → IsBytes image → IsBytes q → length q ≤ z.cap
+  append_at : (image told q : List ℕ) (s n : ℕ) → length image ≡ z.size → AreBytes image → AreBytes q → length q ≤ z.cap
       → IsRingForm z image told
       → (standing_words image).start ≡ s → (standing_words image).size ≡ n → s < z.cap → (n < z.cap → s ≡ n)
       → IsRingForm z (all_stages z (append_stages z s n q) image) (last_items z.cap (told ++ q))
@@ -118,8 +118,8 @@ module _ (z : Zone) (valid : IsValidZone z) where
       )))
 
   -- an erasure, a line and a body's front
-  dump_law : (image : List ℕ) (b : ℕ) (bs front : List ℕ) → length image ≡ z.size → IsBytes image → IsBytes (b ∷ bs)
-      → IsBytes front → (standing_words image).sig ≡ z.sig
+  dump_law : (image : List ℕ) (b : ℕ) (bs front : List ℕ) → length image ≡ z.size → AreBytes image → AreBytes (b ∷ bs)
+      → AreBytes front → (standing_words image).sig ≡ z.sig
       → length (b ∷ bs) < z.cap → length (b ∷ bs) + length front ≤ z.cap
       → IsRingForm z (all_stages z (erase_stages ++ append_stages z 0 0 (b ∷ bs) ++ append_stages z (length (b ∷ bs))
       (length (b ∷ bs)) front) image) ((b ∷ bs) ++ front)

@@ -5,7 +5,7 @@ use Rattle.std.proofs.lemmas.List.{get_or_past}
 use Rattle.std.specs.Int.{to_le_bytes}
 use Rattle.zone_spec.specs.declared.Zone.{Zone}
 use Rattle.zone_spec.specs.Zones.{IsValidZone}
-use Rattle.zone_spec.specs.Parts.{Header, Block, standing_words, words_in}
+use Rattle.zone_spec.specs.Parts.{AreBytes, Header, Block, standing_words, words_in}
 use Rattle.zone_spec.specs.Told.{last_items}
 use Rattle.zone_spec.specs.Stages.{Stage, StartWord, SizeWord, ParityOf}
 use Rattle.zone_spec.specs.Stores.{put}
@@ -15,17 +15,17 @@ use Rattle.ring_laws.proofs.Images.{length-put, put-above}
 use Rattle.ring_laws.proofs.RingBytes.{RingBytes, AppendedBytes, RingBytes-append, log-RingBytes, RingBytes-log}
 use Rattle.ring_laws.proofs.AppendLaw.{length-all_stages, all_stages, all_stages-append, stage_image, size_put, appended, all_stages-size, start_last}
 use Rattle.ring_laws.proofs.RingLaw.{appended-AppendedBytes, appended-sig, appended-start, appended-size, open_after, open_at, length-size_put}
-use Rattle.ring_laws.proofs.PartsLaw.{IsBytes, HasParity, SamePart, SamePart-trans, SamePart-places, ReadsAsStands-same, SameData, SameData-trans, SameData-put, put-bytes, parity-own, parity-other, parity-bytes, stage_parity-data, slice_range-same}
+use Rattle.ring_laws.proofs.PartsLaw.{block_some, HasParity, SamePart, SamePart-trans, SamePart-places, ReadsAsStands-same, SameData, SameData-trans, SameData-put, put-bytes, parity-own, parity-other, parity-bytes, stage_parity-data, slice_range-same}
 use Rattle.ring_laws.proofs.RunLaw.{RunLeaves, run_leaves, cap_within}
 
-pub word-bytes : (n : ℕ) → IsBytes (to_le_bytes w32 n)
+pub word-bytes : (n : ℕ) → AreBytes (to_le_bytes w32 n)
 word-bytes n zero = omega arith
 word-bytes n (suc zero) = omega arith
 word-bytes n (suc (suc zero)) = omega arith
 word-bytes n (suc (suc (suc zero))) = omega arith
 word-bytes n (suc (suc (suc (suc i)))) = omega arith
 
-pub part-bytes : (n : ℕ) (xs : List ℕ) → IsBytes xs → IsBytes (take n xs) × IsBytes (drop n xs)
+pub part-bytes : (n : ℕ) (xs : List ℕ) → AreBytes xs → AreBytes (take n xs) × AreBytes (drop n xs)
 part-bytes n xs h = (
   (λ i. elim (cases_lt i n) [
     | inl l ↦ rw (get_or-take n xs i 0 l) (h i)
@@ -35,7 +35,7 @@ part-bytes n xs h = (
   (λ i. rw (get_or-drop n xs i 0) (h (n + i))),
 )
 
-size_put-bytes : (full : Bool) (size : ℕ) (x : List ℕ) → IsBytes x → IsBytes (size_put full size x)
+size_put-bytes : (full : Bool) (size : ℕ) (x : List ℕ) → AreBytes x → AreBytes (size_put full size x)
 size_put-bytes true size x h = h
 size_put-bytes false size x h = put-bytes x 8 (to_le_bytes w32 size) h (word-bytes size)
 
@@ -54,19 +54,16 @@ header_last : (z : Zone) (x : List ℕ) → all_stages z (ParityOf Header ∷ []
 unfolding all_stages
 header_last z x = refl
 
-block_some : (z : Zone) → IsValidZone z → 0 < z.block
-block_some z valid = grind (arith, valid.block)
-
 -- what an append leaves of the parts
 pub record AppendLeaves (z : Zone) (start size : ℕ) (q x y : List ℕ) : Type 0 where
   pub data_same : SameData z y (appended z start size q x)
-  pub bytes : IsBytes y
+  pub bytes : AreBytes y
   pub header : ReadsAsStands z y Header
   pub blocks : (b : ℕ) → b < z.blocks → ReadsAsStands z y (Block b) ⊎
       (SamePart z y x (Block b) × ((z.block * (b + 1) ≤ start) ⊎ (min z.cap (start + length q) ≤ z.block * b)))
 
 pub append_leaves : (z : Zone) → IsValidZone z → HasParity z.parity → (start size c : ℕ) (cs x : List ℕ)
-    → start < z.cap → length (c ∷ cs) ≤ z.cap → length x ≡ z.size → IsBytes x → IsBytes (c ∷ cs)
+    → start < z.cap → length (c ∷ cs) ≤ z.cap → length x ≡ z.size → AreBytes x → AreBytes (c ∷ cs)
     → AppendLeaves z start size (c ∷ cs) x (all_stages z (append_stages z start size (c ∷ cs)) x)
 append_leaves z valid parity start size c cs x below short len bytes new =
     let q : List ℕ = c ∷ cs in
@@ -80,7 +77,7 @@ append_leaves z valid parity start size c cs x below short len bytes new =
     let w : List ℕ = put x0 4 (to_le_bytes w32 ((start + length q) % z.cap)) in
     let w_len : length w ≡ z.size = length-put x0 4 (to_le_bytes w32 ((start + length q) % z.cap))
     ∙ length-size_put (size == z.cap) (min z.cap (size + length q)) x ∙ len in
-    let w_bytes : IsBytes w = put-bytes x0 4 _ (size_put-bytes (size == z.cap) (min z.cap (size + length q)) x bytes)
+    let w_bytes : AreBytes w = put-bytes x0 4 _ (size_put-bytes (size == z.cap) (min z.cap (size + length q)) x bytes)
     (word-bytes ((start + length q) % z.cap)) in
     let w_block : (b : ℕ) → SamePart z w x (Block b) = (λ b. SamePart-trans
     (header_put-block z x0 4 (to_le_bytes w32 ((start + length q) % z.cap)) b (omega arith))
@@ -146,7 +143,7 @@ block_has z valid b h = elim (cases_lt b z.blocks) [
 
 -- an append of bytes that fit
 pub append_keeps : (z : Zone) (image told : List ℕ) (c : ℕ) (cs : List ℕ) → IsValidZone z → HasParity z.parity
-    → length image ≡ z.size → IsBytes image → IsBytes (c ∷ cs) → length (c ∷ cs) ≤ z.cap
+    → length image ≡ z.size → AreBytes image → AreBytes (c ∷ cs) → length (c ∷ cs) ≤ z.cap
     → IsRingForm z image told → (standing_words image).start < z.cap
     → ((standing_words image).size < z.cap → (standing_words image).start ≡ (standing_words image).size)
     → IsRingForm z (all_stages z (append_stages z (standing_words image).start (standing_words image).size (c ∷ cs))

@@ -6,22 +6,17 @@ use Rattle.std.specs.List.{AllByRecursion}
 use Rattle.zone_spec.specs.declared.Zone.{Zone}
 use Rattle.zone_spec.specs.Zones.{IsValidZone}
 use Rattle.code_spec.specs.Code.{nearest}
-use Rattle.zone_spec.specs.Parts.{Part, Header, Block, part_at, part_len, part_parity_at, part_bytes, part_word}
+use Rattle.zone_spec.specs.Parts.{AreBytes, Part, Header, Block, part_at, part_len, part_parity_at, part_bytes, part_word}
 use Rattle.zone_spec.specs.PartReadings.{part_reading}
 use Rattle.zone_spec.specs.Stores.{Store, put, after_stores}
 use Rattle.zone_spec.specs.Boot.{fix_stores}
 use Rattle.code_laws.specs.Toward.{IsToward, StandsFor}
 use Rattle.code_laws.proofs.Toward.{toward}
 use Rattle.ring_laws.proofs.Images.{length-put}
-use Rattle.ring_laws.proofs.PartsLaw.{IsBytes}
 use Rattle.ring_laws.proofs.PartWords.{part_word-IsWord, length-part_bytes, length-part_word, part_word-short, part_bytes-word, reading_near, reading_none}
 use Rattle.ring_laws.proofs.StoreBytes.{all-append}
 
 -- ---- the bytes of a word of a part, by their places in the image
-
--- the byte of a part's word at i
-abbrev pub word_byte : Zone → List ℕ → Part → ℕ → ℕ
-word_byte z x p i = get_or (part_word z x p) i 0
 
 pub slice_byte : (x : List ℕ) (a b i : ℕ) → i < b - a → get_or (slice_range x a b) i 0 ≡ get_or x (a + i) 0
 slice_byte x a b i h = get_or-take (b - a) (drop a x) i 0 h ∙ get_or-drop a x i 0
@@ -213,7 +208,7 @@ pub record IsMended (z : Zone) (image y : List ℕ) (part : Part) : Type 0 where
 
 -- the word of a part that is towards what it stands for reads the same
 pub toward_mended : (z : Zone) (image y : List ℕ) (part : Part) → IsValidZone z → length y ≡ length image
-    → IsBytes image → IsBytes y
+    → AreBytes image → AreBytes y
     → IsToward z.parity (part_word z image part) (part_word z y part) → IsMended z image y part
 toward_mended z image y part valid l hi hy t =
     let w : List ℕ = part_word z image part in

@@ -61,11 +61,6 @@ length-after_stores image (s ∷ ss) = length-after_stores (put image s.place s.
 
 -- ---- a call that is underway
 
-pub IsUnderway-begin : (z : Zone) (call : Call) (image : List ℕ)
-    → IsUnderway z call image image 0 (call_stores z call image)
-unfolding after_stores
-IsUnderway-begin z call image = record { done = []; whole = refl; image = refl; count = refl }
-
 -- one store more
 pub IsUnderway-step : {z : Zone} {call : Call} {before now : List ℕ} {made : ℕ} {s : Store} {left : List Store}
     → IsUnderway z call before now made (s ∷ left) → IsUnderway z call before (put now s.place s.bytes) (made + 1) left
@@ -76,9 +71,3 @@ IsUnderway-step {z} {call} {before} {now} {made} {s} {left} u = record {
   image = ap (λ x. put x s.place s.bytes) u.image ∙ sym (after_stores-append before u.done (s ∷ []));
   count = omega (arith, u.count, length-append u.done (s ∷ []));
 }
-
--- the image is that after so many stores of the call
-pub IsUnderway-image : {z : Zone} {call : Call} {before now : List ℕ} {made : ℕ} {left : List Store}
-    → IsUnderway z call before now made left → now ≡ image_after z call before made
-IsUnderway-image {z} {call} {before} {now} {made} {left} u =
-    u.image ∙ ap (after_stores before) (sym (ap (take made) u.whole ∙ take_at u.done left made (sym u.count)))

@@ -1,7 +1,7 @@
 -- The laws, from the lemmas that stand on them
 use Rattle.ring_laws.specs.Laws.{CallKeepsRingForm, BootLeavesRingForm, RingFormReadsTold, FinishedZoneReadsTold}
 use Rattle.ring_laws.proofs.CallLaw.{call_law}
-use Rattle.ring_laws.proofs.BootLaw.{block_some}
+use Rattle.ring_laws.proofs.PartsLaw.{block_some}
 use Rattle.ring_laws.proofs.BootRing.{boot_keeps}
 use Rattle.ring_laws.proofs.ReadingLaw.{reading_law}
 

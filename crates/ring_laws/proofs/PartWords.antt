@@ -4,21 +4,21 @@ use Rattle.std.specs.List.{AllByRecursion}
 use Rattle.zone_spec.specs.declared.Zone.{Zone}
 use Rattle.zone_spec.specs.Zones.{IsValidZone}
 use Rattle.code_spec.specs.Code.{IsWord, is_codeword, parity_of, nearest}
-use Rattle.zone_spec.specs.Parts.{Part, part_at, part_len, part_parity_at, part_bytes, part_word}
+use Rattle.zone_spec.specs.Parts.{AreBytes, Part, part_at, part_len, part_parity_at, part_bytes, part_word}
 use Rattle.zone_spec.specs.PartReadings.{part_reading, reading_by}
 use Rattle.code_laws.proofs.Laws.{parity_made}
-use Rattle.ring_laws.proofs.PartsLaw.{IsBytes, HasParity, slice_range-bytes, part_short}
+use Rattle.ring_laws.proofs.PartsLaw.{HasParity, slice_range-bytes, part_short}
 
 pub bytes-append : (xs ys : List ℕ) → AllByRecursion (λ b. b < 256) xs → AllByRecursion (λ b. b < 256) ys
     → AllByRecursion (λ b. b < 256) (xs ++ ys)
 bytes-append [] ys h k = k
 bytes-append (x ∷ xs) ys h k = (h.0, bytes-append xs ys h.1 k)
 
-pub bytes-all : (xs : List ℕ) → IsBytes xs → AllByRecursion (λ b. b < 256) xs
+pub bytes-all : (xs : List ℕ) → AreBytes xs → AllByRecursion (λ b. b < 256) xs
 bytes-all [] h = tt
 bytes-all (x ∷ xs) h = (h 0, bytes-all xs (λ i. h (suc i)))
 
-pub bytes-each : (xs : List ℕ) → AllByRecursion (λ b. b < 256) xs → IsBytes xs
+pub bytes-each : (xs : List ℕ) → AllByRecursion (λ b. b < 256) xs → AreBytes xs
 bytes-each [] h i = none i
   where
     none : (i : ℕ) → get_or [] i 0 < 256
@@ -35,7 +35,7 @@ has_parity r m h l =
     (made.0.0, bytes-each _ made.0.1, made.1)
 
 module _ (z : Zone) where
-  pub part_word-IsWord : (x : List ℕ) (p : Part) → IsBytes x → IsWord (length (part_word z x p)) (part_word z x p)
+  pub part_word-IsWord : (x : List ℕ) (p : Part) → AreBytes x → IsWord (length (part_word z x p)) (part_word z x p)
   unfolding part_word part_bytes
   part_word-IsWord x p h = (
     refl,

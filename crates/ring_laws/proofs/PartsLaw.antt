@@ -6,21 +6,20 @@ use Rattle.std.specs.List.{range_with_len}
 use Rattle.zone_spec.specs.declared.Zone.{Zone}
 use Rattle.zone_spec.specs.Zones.{IsValidZone}
 use Rattle.code_spec.specs.Code.{is_codeword, nearest, parity_of}
-use Rattle.zone_spec.specs.Parts.{Part, Header, Block, part_at, part_len, part_parity_at, part_bytes, part_word}
+use Rattle.zone_spec.specs.Parts.{AreBytes, Part, Header, Block, part_at, part_len, part_parity_at, part_bytes, part_word}
 use Rattle.zone_spec.specs.Stages.{ParityOf, stage_stores}
 use Rattle.zone_spec.specs.Stores.{put}
 use Rattle.zone_spec.specs.Ring.{ReadsAsStands}
 use Rattle.ring_laws.proofs.Images.{length-put, put-below, put-above, put-inside, after_stores-byte_stores}
 use Rattle.ring_laws.proofs.AppendLaw.{all_stages, stage_image}
 
--- each entry is a byte
-abbrev pub IsBytes : List ℕ → Type 0
-IsBytes xs = (i : ℕ) → get_or xs i 0 < 256
+pub block_some : (z : Zone) → IsValidZone z → 0 < z.block
+block_some z valid = grind (arith, valid.block)
 
 -- parity makes a codeword of every message that leaves it room
 abbrev pub HasParity : ℕ → Type 0
-HasParity r = (m : List ℕ) → IsBytes m → length m + r ≤ 255
-    → (length (parity_of r m) ≡ r) × IsBytes (parity_of r m) × IsTrue (is_codeword r (m ++ parity_of r m))
+HasParity r = (m : List ℕ) → AreBytes m → length m + r ≤ 255
+    → (length (parity_of r m) ≡ r) × AreBytes (parity_of r m) × IsTrue (is_codeword r (m ++ parity_of r m))
 
 -- a part's place among the parities: the blocks in order, and then the header
 abbrev pub part_number : Zone → Part → ℕ
@@ -118,7 +117,7 @@ part_fits z p valid has =
     ≤ z.blocks + 1 = omega (arith, part_number-below z p has) in h) in
     omega (arith, part_parity_at-number z p, valid.cap, add-mul (part_number z p) 1 z.parity)
 
-pub slice_range-bytes : (xs : List ℕ) (a b : ℕ) → IsBytes xs → IsBytes (slice_range xs a b)
+pub slice_range-bytes : (xs : List ℕ) (a b : ℕ) → AreBytes xs → AreBytes (slice_range xs a b)
 slice_range-bytes xs a b h i = elim (cases_lt i (b - a)) [
   | inl l ↦ rw (get_or-take (b - a) (drop a xs) i 0 l, get_or-drop a xs i 0) (h (a + i))
   | inr g ↦ (let e : get_or (slice_range xs a b) i 0 ≡ 0 = get_or_past (slice_range xs a b) i 0
@@ -143,14 +142,14 @@ slice_range-put x bs at n l h =
 
 -- a word whose parity was just computed reads as it stands
 pub ReadsAsStands-parity : (z : Zone) (x : List ℕ) (p : Part) → IsValidZone z → HasPart z p → HasParity z.parity
-    → length x ≡ z.size → IsBytes x
+    → length x ≡ z.size → AreBytes x
     → length (part_bytes z x p) + z.parity ≤ 255 → ReadsAsStands z
     (put x (part_parity_at z p) (parity_of z.parity (part_bytes z x p))) p
 unfolding part_bytes part_word
 ReadsAsStands-parity z x p valid has parity len bytes short c near =
     let msg : List ℕ = part_bytes z x p in
     let par : List ℕ = parity_of z.parity msg in
-    let made : (length par ≡ z.parity) × IsBytes par × IsTrue (is_codeword z.parity (msg ++ par)) =
+    let made : (length par ≡ z.parity) × AreBytes par × IsTrue (is_codeword z.parity (msg ++ par)) =
     parity msg (slice_range-bytes x _ _ bytes) short in
     let at : part_parity_at z p ≡ 12 + z.cap + part_number z p * z.parity = part_parity_at-number z p in
     let same : part_bytes z (put x (part_parity_at z p) par) p ≡ msg =
@@ -215,7 +214,7 @@ stage_parity-data z x p =
     after_stores-byte_stores x (part_parity_at z p) (parity_of z.parity (part_bytes z x p)) in
     rw e (record { total = length-put x _ _; each = λ i h. put-below x _ i _ (omega arith) })
 
-pub set-bytes : (x : List ℕ) (at b : ℕ) → IsBytes x → b < 256 → IsBytes (set x at b)
+pub set-bytes : (x : List ℕ) (at b : ℕ) → AreBytes x → b < 256 → AreBytes (set x at b)
 set-bytes x at b h l i = elim (cases_eq i at) [
   | inl e ↦ elim (cases_lt i (length x)) [
     | inl m ↦ (let p : at < length x = omega arith in rw (e, get_or-set_same x at b 0 p) l)
@@ -225,7 +224,7 @@ set-bytes x at b h l i = elim (cases_eq i at) [
   | inr n ↦ rw (get_or-set_other x at i b 0 n) (h i)
 ]
 
-pub put-bytes : (x : List ℕ) (at : ℕ) (bs : List ℕ) → IsBytes x → IsBytes bs → IsBytes (put x at bs)
+pub put-bytes : (x : List ℕ) (at : ℕ) (bs : List ℕ) → AreBytes x → AreBytes bs → AreBytes (put x at bs)
 unfolding put
 put-bytes x at [] h k = h
 put-bytes x at (b ∷ bs) h k = put-bytes (set x at b) (at + 1) bs (set-bytes x at b h (k 0)) (λ i. k (suc i))
@@ -253,26 +252,26 @@ module _ (z : Zone) (valid : IsValidZone z) (parity : HasParity z.parity) where
   parity_image x p = after_stores-byte_stores x (part_parity_at z p) (parity_of z.parity (part_bytes z x p))
 
   -- what the parity of a part leaves
-  pub parity-bytes : (x : List ℕ) (p : Part) → IsBytes x → IsBytes (stage_image z (ParityOf p) x)
+  pub parity-bytes : (x : List ℕ) (p : Part) → AreBytes x → AreBytes (stage_image z (ParityOf p) x)
   unfolding part_bytes
   parity-bytes x p bytes =
       let made : (length (parity_of z.parity (part_bytes z x p)) ≡ z.parity)
-      × IsBytes (parity_of z.parity (part_bytes z x p))
+      × AreBytes (parity_of z.parity (part_bytes z x p))
       × IsTrue (is_codeword z.parity (part_bytes z x p ++ parity_of z.parity (part_bytes z x p))) =
       parity (part_bytes z x p) (slice_range-bytes x _ _ bytes) (part_short x p) in
-      subst IsBytes (sym (parity_image x p)) (put-bytes x _ _ bytes made.1)
+      subst AreBytes (sym (parity_image x p)) (put-bytes x _ _ bytes made.1)
 
-  pub parity-own : (x : List ℕ) (p : Part) → HasPart z p → length x ≡ z.size → IsBytes x
+  pub parity-own : (x : List ℕ) (p : Part) → HasPart z p → length x ≡ z.size → AreBytes x
       → ReadsAsStands z (stage_image z (ParityOf p) x) p
   parity-own x p has len bytes = subst (λ y. ReadsAsStands z y p) (sym (parity_image x p))
       (ReadsAsStands-parity z x p valid has parity len bytes (part_short x p))
 
-  pub parity-other : (x : List ℕ) (p q : Part) → IsBytes x → part_number z p ≢ part_number z q
+  pub parity-other : (x : List ℕ) (p q : Part) → AreBytes x → part_number z p ≢ part_number z q
       → SamePart z (stage_image z (ParityOf p) x) x q
   unfolding part_bytes
   parity-other x p q bytes ne =
       let made : (length (parity_of z.parity (part_bytes z x p)) ≡ z.parity)
-      × IsBytes (parity_of z.parity (part_bytes z x p))
+      × AreBytes (parity_of z.parity (part_bytes z x p))
       × IsTrue (is_codeword z.parity (part_bytes z x p ++ parity_of z.parity (part_bytes z x p))) =
       parity (part_bytes z x p) (slice_range-bytes x _ _ bytes) (part_short x p) in
       subst (λ y. SamePart z y x q) (sym (parity_image x p))
@@ -281,14 +280,14 @@ module _ (z : Zone) (valid : IsValidZone z) (parity : HasParity z.parity) where
 -- what a list of stages leaves of the parts: those of some blocks fresh, and all others as they were
 pub record LeavesParts (z : Zone) (x y : List ℕ) (low high : ℕ) : Type 0 where
   pub data_same : SameData z y x
-  pub bytes : IsBytes y
+  pub bytes : AreBytes y
   pub header : SamePart z y x Header
   pub others : (b : ℕ) → b < z.blocks → (b < low) ⊎ (high ≤ b) → SamePart z y x (Block b)
   pub fresh : (b : ℕ) → low ≤ b → b < high → ReadsAsStands z y (Block b)
 
 -- the parities of the n blocks from a on
 pub parities_leave : (z : Zone) → IsValidZone z → HasParity z.parity → (n a : ℕ) (x : List ℕ) → a + n ≤ z.blocks
-    → length x ≡ z.size → IsBytes x
+    → length x ≡ z.size → AreBytes x
     → LeavesParts z x (all_stages z (map (λ k. ParityOf (Block k)) (range_with_len a n)) x) a (a + n)
 unfolding all_stages
 parities_leave z valid parity zero a x fits len bytes = record {

@@ -52,9 +52,6 @@ state_of-ring z w e h k = elim (cases_eq w.size 0) [
 told_some : (x : ℕ) (xs : List ℕ) (s : State) → s ≡ (if length (x ∷ xs) == 0 then Empty else Found) → s ≡ Found
 told_some x xs s e = let n : (length (x ∷ xs) == 0) ≡ false = grind (arith, nat_tests) in rw n at e
 
-told_none : (s : State) → s ≡ (if length {A = ℕ} [] == 0 then Empty else Found) → s ≡ Empty
-told_none s e = e
-
 pub reads_in : (z : Zone) (image told : List ℕ) (w : Words) (s : State) → log_read z image w ≡ told
     → s ≡ (if length told == 0 then Empty else Found)
     → ((reading_in z image w s).log ≡ told) × ((reading_in z image w s).words ≡ w)

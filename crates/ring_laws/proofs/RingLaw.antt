@@ -40,13 +40,6 @@ size_put-below : (full : Bool) (size : ℕ) (image : List ℕ) (i : ℕ) → i <
 size_put-below true size image i h = refl
 size_put-below false size image i h = put-below image 8 i (to_le_bytes w32 size) h
 
-pub length-appended : (z : Zone) (start size : ℕ) (q image : List ℕ)
-    → length (appended z start size q image) ≡ length image
-length-appended z start size q image =
-    length-put _ (12 + 0) (drop (z.cap - start) q) ∙ length-put _ (12 + start) (take (z.cap - start) q)
-    ∙ length-put _ 4 (to_le_bytes w32 ((start + length q) % z.cap))
-    ∙ length-size_put (size == z.cap) (min z.cap (size + length q)) image
-
 -- the data after an append, by its two runs
 module _ (z : Zone) (start size : ℕ) (q image : List ℕ) (room : 12 + z.cap ≤ length image) (below : start < z.cap)
     (short : length q ≤ z.cap) where

@@ -4,22 +4,19 @@ use Rattle.std.proofs.Math.Nat.{div-lt_iff_lt-mul, le-div_iff_mul-le, lt-div-mul
 use Rattle.std.specs.List.{range_with_len}
 use Rattle.zone_spec.specs.declared.Zone.{Zone}
 use Rattle.zone_spec.specs.Zones.{IsValidZone}
-use Rattle.zone_spec.specs.Parts.{Header, Block}
+use Rattle.zone_spec.specs.Parts.{AreBytes, Header, Block}
 use Rattle.zone_spec.specs.Stages.{Run, ParityOf, stage_stores}
 use Rattle.zone_spec.specs.Stores.{put}
 use Rattle.zone_spec.specs.Calls.{run_stages}
 use Rattle.zone_spec.specs.Ring.{ReadsAsStands}
 use Rattle.ring_laws.proofs.Images.{length-put, put-below, put-above, after_stores-byte_stores}
 use Rattle.ring_laws.proofs.AppendLaw.{all_stages, stage_image}
-use Rattle.ring_laws.proofs.PartsLaw.{IsBytes, HasParity, SamePart, SamePart-trans, SamePart-places, SameData, SameData-refl, LeavesParts, parities_leave, put-bytes}
-
-block_some : (k : ℕ) → (k ≡ 32) ⊎ (k ≡ 64) ⊎ (k ≡ 128) → 0 < k
-block_some k h = grind (arith, h)
+use Rattle.ring_laws.proofs.PartsLaw.{block_some, HasParity, SamePart, SamePart-trans, SamePart-places, SameData, SameData-refl, LeavesParts, parities_leave, put-bytes}
 
 -- the blocks hold all data
 pub cap_within : (z : Zone) → IsValidZone z → z.cap ≤ z.blocks * z.block
 cap_within z valid =
-    let k : 0 < z.block = block_some z.block valid.block in
+    let k : 0 < z.block = block_some z valid in
     let d : ℕ = z.block + z.parity in
     let n : ℕ = (z.size - 12) - z.parity in
     let l : (n + d) - 1 < (((n + d) - 1) / d) * d + d = lt-div-mul-add (omega arith) in
@@ -52,7 +49,7 @@ met_order k place n some = (le-div_iff_mul-le some).1 (omega (arith, div-mul-le_
 -- what a run leaves
 pub record RunLeaves (z : Zone) (place : ℕ) (xs x y : List ℕ) : Type 0 where
   pub data_same : SameData z y (put x (12 + place) xs)
-  pub bytes : IsBytes y
+  pub bytes : AreBytes y
   pub header : SamePart z y x Header
   pub unmet : (b : ℕ) → b < z.blocks → (z.block * (b + 1) ≤ place) ⊎ (place + length xs ≤ z.block * b)
       → SamePart z y x (Block b)
@@ -76,7 +73,7 @@ data_put-header z x place xs fits = SamePart-places z _ x Header (length-put x (
     (λ i h k. put-above x (12 + place) i xs (omega arith))
 
 pub run_leaves : (z : Zone) → IsValidZone z → HasParity z.parity → (place : ℕ) (xs x : List ℕ)
-    → place + length xs ≤ z.cap → length x ≡ z.size → IsBytes x → IsBytes xs
+    → place + length xs ≤ z.cap → length x ≡ z.size → AreBytes x → AreBytes xs
     → RunLeaves z place xs x (all_stages z (run_stages z place xs) x)
 unfolding all_stages put stage_stores
 run_leaves z valid parity place [] x fits len bytes new = record {
@@ -88,7 +85,7 @@ run_leaves z valid parity place [] x fits len bytes new = record {
 }
 run_leaves z valid parity place (c ∷ cs) x fits len bytes new =
     let xs : List ℕ = c ∷ cs in
-    let k : 0 < z.block = block_some z.block valid.block in
+    let k : 0 < z.block = block_some z valid in
     let x1 : List ℕ = put x (12 + place) xs in
     let stage : stage_image z (Run place xs) x ≡ x1 = after_stores-byte_stores x (12 + place) xs in
     let a : ℕ = place / z.block in

@@ -3,22 +3,18 @@ use Rattle.std.proofs.Common.{ℕ, zero, suc, ◌+◌, ◌-◌, ◌%◌, ◌<◌
 use Rattle.std.specs.List.{AllByRecursion}
 use Rattle.zone_spec.specs.declared.Zone.{Zone}
 use Rattle.zone_spec.specs.Zones.{IsValidZone}
-use Rattle.zone_spec.specs.Parts.{Header, Block, standing_words, part_bytes, part_at, part_len, part_parity_at, IsImage}
+use Rattle.zone_spec.specs.Parts.{AreBytes, Header, Block, standing_words, part_bytes, part_at, part_len, part_parity_at, IsImage}
 use Rattle.zone_spec.specs.Told.{Call, Append, Erase, Dump, last_items}
 use Rattle.zone_spec.specs.Stores.{Store, put, after_stores, byte_stores}
 use Rattle.zone_spec.specs.Stages.{Stage, SigWord, StartWord, SizeWord, Run, ParityOf, stage_stores, stores_in_turn, blocks_met}
 use Rattle.zone_spec.specs.Calls.{run_stages, append_stages, erase_stages, call_stages, call_stores, image_after, CanBegin}
 use Rattle.ring_laws.proofs.Images.{length-after_stores}
-use Rattle.ring_laws.proofs.PartsLaw.{IsBytes, slice_range-bytes, put-bytes, part_short}
+use Rattle.ring_laws.proofs.PartsLaw.{slice_range-bytes, put-bytes, part_short}
 use Rattle.ring_laws.proofs.EveryParity.{word-bytes, part-bytes}
 use Rattle.ring_laws.proofs.PartWords.{has_parity, bytes-each}
 
 abbrev pub IsStore : Store → Type 0
-IsStore s = IsBytes s.bytes
-
-pub all-cons : {A : Type 0} (P : A → Type 0) (x : A) (xs : List A) → P x → AllByRecursion P xs
-    → AllByRecursion P (x ∷ xs)
-all-cons P x xs h k = (h, k)
+IsStore s = AreBytes s.bytes
 
 pub all-append : {A : Type 0} (P : A → Type 0) (xs ys : List A) → AllByRecursion P xs → AllByRecursion P ys
     → AllByRecursion P (xs ++ ys)
@@ -35,30 +31,30 @@ pub all-map : {A B : Type 0} (P : B → Type 0) (f : A → B) (xs : List A) → 
 all-map P f [] h = tt
 all-map P f (x ∷ xs) h = (h x, all-map P f xs h)
 
-pub after-bytes : (image : List ℕ) (ss : List Store) → IsBytes image → AllByRecursion IsStore ss
-    → IsBytes (after_stores image ss)
+pub after-bytes : (image : List ℕ) (ss : List Store) → AreBytes image → AllByRecursion IsStore ss
+    → AreBytes (after_stores image ss)
 unfolding after_stores
 after-bytes image [] h k = h
 after-bytes image (s ∷ ss) h k = after-bytes (put image s.place s.bytes) ss (put-bytes image s.place s.bytes h k.0) k.1
 
-pub one-byte : (c : ℕ) → c < 256 → IsBytes (c ∷ [])
+pub one-byte : (c : ℕ) → c < 256 → AreBytes (c ∷ [])
 one-byte c h = bytes-each (c ∷ []) (h, tt)
 
-pub byte_stores-all : (place : ℕ) (bs : List ℕ) → IsBytes bs → AllByRecursion IsStore (byte_stores place bs)
+pub byte_stores-all : (place : ℕ) (bs : List ℕ) → AreBytes bs → AllByRecursion IsStore (byte_stores place bs)
 unfolding byte_stores
 byte_stores-all place [] h = tt
 byte_stores-all place (b ∷ bs) h = (one-byte b (h 0), byte_stores-all (place + 1) bs (λ i. h (suc i)))
 
 -- a run of bytes
 abbrev pub HasBytes : Stage → Type 0
-HasBytes (Run place bytes) = IsBytes bytes
+HasBytes (Run place bytes) = AreBytes bytes
 HasBytes (ParityOf part) = Unit {0}
 HasBytes (SigWord n) = Unit {0}
 HasBytes (StartWord n) = Unit {0}
 HasBytes (SizeWord n) = Unit {0}
 
 module _ (z : Zone) (valid : IsValidZone z) where
-  pub stage_stores-all : (g : Stage) (image : List ℕ) → IsBytes image → HasBytes g
+  pub stage_stores-all : (g : Stage) (image : List ℕ) → AreBytes image → HasBytes g
       → AllByRecursion IsStore (stage_stores z g image)
   unfolding stage_stores part_bytes
   stage_stores-all (SigWord n) image h k = (word-bytes n, tt)
@@ -70,7 +66,7 @@ module _ (z : Zone) (valid : IsValidZone z) where
       (has_parity z.parity (part_bytes z image part) (slice_range-bytes image (part_at z part)
       (part_at z part + part_len z part) h) (part_short z valid (has_parity z.parity) image part)).1
 
-  pub stores_in_turn-all : (gs : List Stage) (image : List ℕ) → IsBytes image → AllByRecursion HasBytes gs
+  pub stores_in_turn-all : (gs : List Stage) (image : List ℕ) → AreBytes image → AllByRecursion HasBytes gs
       → AllByRecursion IsStore (stores_in_turn z gs image)
   unfolding stores_in_turn
   stores_in_turn-all [] image h k = tt
@@ -80,7 +76,7 @@ module _ (z : Zone) (valid : IsValidZone z) where
       (stores_in_turn-all gs (after_stores image (stage_stores z g image))
       (after-bytes image (stage_stores z g image) h first) k.1)
 
-  run-all : (place : ℕ) (bs : List ℕ) → IsBytes bs → AllByRecursion HasBytes (run_stages z place bs)
+  run-all : (place : ℕ) (bs : List ℕ) → AreBytes bs → AllByRecursion HasBytes (run_stages z place bs)
   run-all place [] h = tt
   run-all place (b ∷ bs) h = (
     h,
@@ -92,7 +88,7 @@ module _ (z : Zone) (valid : IsValidZone z) where
   size-all true n = tt
   size-all false n = (tt, tt)
 
-  append-all : (start size : ℕ) (bs : List ℕ) → IsBytes bs → AllByRecursion HasBytes (append_stages z start size bs)
+  append-all : (start size : ℕ) (bs : List ℕ) → AreBytes bs → AllByRecursion HasBytes (append_stages z start size bs)
   append-all start size [] h = tt
   append-all start size (b ∷ bs) h =
       let q : List ℕ = b ∷ bs in

@@ -14,46 +14,6 @@ use Rattle.std.proofs.lemmas.Nat.{xor_block}
 use Rattle.std.proofs.lemmas.Grind.{get_or_after_one}
 use Rattle.code_laws.proofs.Xor.{xor_zero_r}
 
--- a polynomial times x plus a
-pub root_value : (g m n : List ℕ) (a x : ℕ) → x < 256 → m ≡ g ++ 0 ∷ [] → length n ≡ length m
-    → get_or n 0 0 ≡ get_or m 0 0
-    → ((k : ℕ) → k + 1 < length n → get_or n (k + 1) 0 ≡ gf_add (get_or m (k + 1) 0) (gf_mul a (get_or m k 0)))
-    → value_of n x ≡ gf_mul (gf_add x a) (value_of g x)
-root_value g m n a x b em ln front rest =
-    let lm : length m ≡ length g + 1 = ap length em ∙ length-append g (0 ∷ []) in
-    value_of-added_at 1 a x n m g ln (omega arith)
-    (λ k h. first k h)
-    (λ k h. ap (λ (i : ℕ). get_or n i 0) (omega arith) ∙ rest k (omega arith)
-    ∙ ap₂ (λ (i y : ℕ). gf_add (get_or m i 0) (gf_mul a y)) (omega arith)
-    (ap (λ (u : List ℕ). get_or u k 0) em ∙ get_or_append_left g (0 ∷ []) 0 k h))
-    ∙ ap (λ (y : ℕ). gf_add y (gf_mul a (value_of g x)))
-    (ap (λ (u : List ℕ). value_of u x) em ∙ value_of-push g 0 x (omega arith) b)
-    ∙ alg (value_of g x) x a
-  where
-    first : (k : ℕ) → k < 1 → get_or n k 0 ≡ get_or m k 0
-    first zero h = front
-    first (suc k) h = absurd (omega arith)
-
-    alg : (v x a : ℕ) → gf_add (gf_add (gf_mul v x) 0) (gf_mul a v) ≡ gf_mul (gf_add x a) v
-    alg v x a = simp ring
-
-pub roots_step : (g m n : List ℕ) (a j : ℕ) → a ≡ gf_pow 2 j → m ≡ g ++ 0 ∷ [] → length n ≡ length m
-    → get_or n 0 0 ≡ get_or m 0 0
-    → ((k : ℕ) → k + 1 < length n → get_or n (k + 1) 0 ≡ gf_add (get_or m (k + 1) 0) (gf_mul a (get_or m k 0)))
-    → ((i : ℕ) → i < j → value_of g (gf_pow 2 i) ≡ 0)
-    → (i : ℕ) → i < j + 1 → value_of n (gf_pow 2 i) ≡ 0
-roots_step g m n a j ea em ln front rest roots i h =
-    root_value g m n a (gf_pow 2 i) (pow_below 2 i) em ln front rest ∙ go (cases i j)
-  where
-    cases : (i j : ℕ) → (i < j) ⊎ (j ≤ i)
-    cases i j = grind arith
-
-    go : (i < j) ⊎ (j ≤ i) → gf_mul (gf_add (gf_pow 2 i) a) (value_of g (gf_pow 2 i)) ≡ 0
-    go (inl l) = ap (gf_mul (gf_add (gf_pow 2 i) a)) (roots i l) ∙ mul_zero (gf_add (gf_pow 2 i) a)
-    go (inr l) = let e : i ≡ j = omega arith in ap (λ (y : ℕ). gf_mul y (value_of g (gf_pow 2 i)))
-        (ap (λ (y : ℕ). gf_add (gf_pow 2 y) a) e ∙ ap (gf_add (gf_pow 2 j)) ea ∙ add_self (gf_pow 2 j))
-        ∙ zero_mul (value_of g (gf_pow 2 i))
-
 -- what one `shift_step` leaves
 pub shifted : (o u low high : List ℕ) (p : ℕ) → length u ≡ length o → 0 < length o → length low ≡ length o
     → length high ≡ length o

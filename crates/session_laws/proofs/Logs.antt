@@ -17,10 +17,10 @@ use Rattle.zone_spec.specs.TimeLines.{read_line}
 use Rattle.zone_spec.specs.declared.Name.TheVariants.{Console as ConsoleName, Pmsg as PmsgName}
 use Rattle.zone_spec.specs.Records.{Saved, Listed, is_of, found, found_in, logs_of, dumps_of, dump_of, ftrace_of, plain}
 use Rattle.session_laws.specs.Logs.{LogBytesCome, UnsignedAddsNothing, NotFoundAddsNothing}
+use Rattle.ring_laws.proofs.PartsLaw.{block_some}
 use Rattle.ring_laws.proofs.PartWords.{reading_near, reading_none}
 use Rattle.ring_laws.proofs.States.{Says, state_says, reading_is, reading_state, count_below}
 use Rattle.ring_laws.proofs.Fixes.{part_byte, slice_length}
-use Rattle.ring_laws.proofs.BootLaw.{block_some}
 use Rattle.damage_laws.proofs.Within.{get-mapped, place_below}
 use Rattle.damage_laws.proofs.CutPlaces.{range_in}
 

@@ -12,4 +12,3 @@ pub mod BootPart
 pub mod Operations
 pub mod Sound
 pub mod Headline
-pub mod Boots

@@ -9,11 +9,6 @@ consumed (Some a) None c xs ys h k = absurd h
 consumed (Some a) (Some b) None xs ys h k = absurd k
 consumed (Some a) (Some b) (Some c) xs ys h k = rw (h, k) (sym (append_assoc xs ys c))
 
-pub all_consumed : (a b : Option (List ℕ)) (xs : List ℕ) → Consumes a b xs → IsAtEnd b → IfSome a (λ bs. xs ≡ bs)
-all_consumed None b xs h e = tt
-all_consumed (Some a) None xs h e = absurd h
-all_consumed (Some a) (Some b) xs h e = grind (arith, common_steps)
-
 pub longer : (a b : Option (List ℕ)) (xs : List ℕ) (n : ℕ) → Consumes a b xs → n < length xs
     → IfSome a (λ bs. n < length bs)
 longer None b xs n h l = tt

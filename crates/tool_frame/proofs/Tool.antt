@@ -107,9 +107,6 @@ good script a b n status eight nine le ok s = elim s [
   | inr k ↦ free_early script a b status (inr (inr (inr k)))
 ]
 
-same_error : {A B : Type 0} (r : Result A B) (b c : B) → r ≡ Err b → r ≡ Err c → c ≡ b
-same_error r b c e f = let g : Err b ≡ Err c = sym e ∙ f in cc
-
 pub script_at : (e : End) (script : List ℕ) (a m b : Outside) (status : ℕ) → ScriptAt script a.given m.given e
     → Finished e m.given b.given m.sink_faults b.sink_faults status → ScriptAnswers script a b status
 script_at (Ok u) script a m b status h f = good script a b 0 status (λ z. absurd (omega arith))
@@ -305,7 +302,7 @@ pub tool_answers : (r : Result Plan Stop) (a m b : Outside) (e : End) (status : 
 tool_answers (Ok p) a m b e status script image h f = (
   plan_answers p.command p a m b e status script image h f,
   among (statuses p.command) (status_of e) status (can_end p.command p a m e h) (can_fail p.command)
-  (status_is e m.given b.given m.sink_faults b.sink_faults status f),
+      (status_is e m.given b.given m.sink_faults b.sink_faults status f),
 )
 tool_answers (Err s) a m b e status script image h f =
     fault_answers s a m b status (script_on a m b h.1.script script) (image_on a m b h.1.image image) h.1.given

@@ -13,6 +13,7 @@ use Rattle.blk_spec.specs.Reading.{BlkDump}
 use Rattle.blk_spec.specs.Reasons.{reason_word}
 use Rattle.blk_spec.specs.Names.{is_name, dump_name, dump_content}
 use Rattle.blk_spec.specs.States.{BlkState, name_if, names_of, content_of, is_listed}
+use Rattle.blk_laws.proofs.Listings.{or-false, listed-parts, listed-console, listed-pmsg}
 use Rattle.zone_blk.proofs.Readings.{if-true, if-false}
 
 pub packed-content : (d : BlkDump) → d.packed ≡ true → d.body ≡ dump_content d
@@ -47,54 +48,15 @@ some-map : {X Y : Type 0} (f : X → Y) (o : Option X) → is_some (option_map f
 some-map f None = refl
 some-map f (Some x) = refl
 
-or-false : (b : Bool) → (b || false) ≡ b
-or-false true = refl
-or-false false = refl
-
-no-dump-named : (name : BlkName) (dumps : List BlkDump) → ((d : BlkDump) → is_name name (dump_name d) ≡ false)
-    → list_any (is_name name) (map dump_name dumps) ≡ false
-no-dump-named name [] h = refl
-no-dump-named name (d ∷ dumps) h = rw (h d) (no-dump-named name dumps h)
-
-any-if : (name other : BlkName) (saved : Option (List ℕ))
-    → list_any (is_name name) (name_if other saved) ≡ (is_name name other && is_some saved)
-any-if name other None = and-none (is_name name other)
-  where
-    and-none : (b : Bool) → false ≡ (b && false)
-    and-none true = refl
-    and-none false = refl
-any-if name other (Some log) = or-and (is_name name other)
-  where
-    or-and : (b : Bool) → (b || false) ≡ (b && true)
-    or-and true = refl
-    or-and false = refl
-
-three : (name : BlkName) (b : BlkState) → is_listed b name
-    ≡ (list_any (is_name name) (map dump_name b.dumps) || (is_name name Console && is_some b.console.saved)
-    || (is_name name Pmsg && is_some b.pmsg.saved))
-unfolding names_of
-three name b =
-    list_any-append (is_name name) (map dump_name b.dumps ++ name_if Console b.console.saved)
-    (name_if Pmsg b.pmsg.saved)
-    ∙ ap (λ x. x || list_any (is_name name) (name_if Pmsg b.pmsg.saved))
-    (list_any-append (is_name name) (map dump_name b.dumps) (name_if Console b.console.saved))
-    ∙ ap (λ x. list_any (is_name name) (map dump_name b.dumps) || x
-    || list_any (is_name name) (name_if Pmsg b.pmsg.saved)) (any-if name Console b.console.saved)
-    ∙ ap (λ x. list_any (is_name name) (map dump_name b.dumps) || (is_name name Console && is_some b.console.saved)
-    || x) (any-if name Pmsg b.pmsg.saved)
-
 pub listed-content : (b : BlkState) (name : BlkName) → is_listed b name ≡ is_some (content_of b name)
 unfolding content_of
 listed-content b (Dump index packed) =
-    three (Dump index packed) b ∙ or-false (list_any (is_name (Dump index packed)) (map dump_name b.dumps) || false)
+    listed-parts (Dump index packed) b ∙ or-false (list_any (is_name (Dump index packed)) (map dump_name b.dumps) || false)
     ∙ or-false (list_any (is_name (Dump index packed)) (map dump_name b.dumps))
     ∙ any-dump (Dump index packed) b.dumps ∙ sym (some-map dump_content
     (find (λ (d : BlkDump). is_name (Dump index packed) (dump_name d)) b.dumps))
-listed-content b Console =
-    three Console b ∙ ap (λ x. x || is_some b.console.saved || false) (no-dump-named Console b.dumps (λ d. refl))
-    ∙ or-false (is_some b.console.saved)
-listed-content b Pmsg =
-    three Pmsg b ∙ ap (λ x. x || false || is_some b.pmsg.saved) (no-dump-named Pmsg b.dumps (λ d. refl))
+listed-content b Console = listed-console b
+listed-content b Pmsg = listed-pmsg b
 
 pub listed-dump : (b : BlkState) (index : ℕ) (packed : Bool)
     → is_listed b (Dump index packed) ≡ is_some (find (λ (d : BlkDump). is_name (Dump index packed) (dump_name d))
@@ -103,21 +65,9 @@ unfolding content_of
 listed-dump b index packed = listed-content b (Dump index packed)
     ∙ some-map dump_content (find (λ (d : BlkDump). is_name (Dump index packed) (dump_name d)) b.dumps)
 
-pub listed-console : (b : BlkState) → is_listed b Console ≡ is_some b.console.saved
-unfolding content_of
-listed-console b = listed-content b Console
-
-pub listed-pmsg : (b : BlkState) → is_listed b Pmsg ≡ is_some b.pmsg.saved
-unfolding content_of
-listed-pmsg b = listed-content b Pmsg
-
 pub some-copied : {X : Type 0} (o : Option (Bor X)) → is_some (option_copied o) ≡ is_some o
 some-copied None = refl
 some-copied (Some x) = refl
-
-pub some-not-none : {X : Type 0} (o : Option X) → is_some o ≡ true → o ≡ None → ⊥
-some-not-none None h e = cc
-some-not-none (Some x) h e = cc
 
 -- a listed dump is of one of the layout's zones
 index-within : (l : BlkLayout) (index : ℕ) (packed : Bool) (dumps : List BlkDump)

@@ -8,6 +8,7 @@ use Rattle.zone_spec.specs.Stores.{Store, put, after_stores}
 use Rattle.zone_spec.specs.Stages.{stores_in_turn, stage_count}
 use Rattle.zone_spec.specs.Reading.{IsRing}
 use Rattle.zone_spec.specs.Calls.{call_stores, call_stages, IsUnderway}
+use Rattle.ring_laws.proofs.Images.{IsUnderway-step}
 use Rattle.zone_flight.specs.declared.progress.Phase.{Phase}
 use Rattle.zone_flight.specs.declared.progress.Phase.TheVariants.{ZeroStart, ZeroSize, Size, Start, First, FirstParity, Second, SecondParity, Header as HeaderPhase, Finished}
 use Rattle.zone_flight.specs.Flying.{Flying, payload, IsSameCall}
@@ -16,27 +17,10 @@ use Rattle.zone_flight.specs.Machine.{stores_of, behind, stores_left, count_left
 use Rattle.zone_flight.specs.Calls.{IsOpenFor}
 use Rattle.zone_flight.specs.Counts.{total_of}
 
-after_stores-append : (image : List ℕ) (xs ys : List Store)
-    → after_stores image (xs ++ ys) ≡ after_stores (after_stores image xs) ys
-unfolding after_stores
-after_stores-append image [] ys = refl
-after_stores-append image (x ∷ xs) ys = after_stores-append (put image x.place x.bytes) xs ys
-
 pub underway_begins : (z : Zone) (call : Call) (image : List ℕ) (left : List Store) → left ≡ call_stores z call image
     → IsUnderway z call image image 0 left
 unfolding after_stores
 underway_begins z call image left e = record { done = []; whole = sym e; image = refl; count = refl }
-
--- one store more
-underway_step : {z : Zone} {call : Call} {before now : List ℕ} {made : ℕ} {s : Store} {left : List Store}
-    → IsUnderway z call before now made (s ∷ left) → IsUnderway z call before (put now s.place s.bytes) (made + 1) left
-unfolding after_stores
-underway_step {z} {call} {before} {now} {made} {s} {left} u = record {
-  done = u.done ++ s ∷ [];
-  whole = u.whole ∙ sym (append_assoc u.done (s ∷ []) left);
-  image = ap (λ x. put x s.place s.bytes) u.image ∙ sym (after_stores-append before u.done (s ∷ []));
-  count = omega (arith, u.count, length-append u.done (s ∷ []));
-}
 
 -- the flight one store later in its phase
 abbrev pub later_by_one : Flying → Flying
@@ -114,7 +98,7 @@ stands_next f h s old new before get put_is settled stands =
     let g : Flying = later_by_one f in
     let u : IsUnderway f.zone f.call before (put old s.place s.bytes) (f.made + 1)
     (stores_left g (put old s.place s.bytes)) =
-    underway_step (subst (IsUnderway f.zone f.call before old f.made) (left_next f s old get) stands.underway) in
+    IsUnderway-step (subst (IsUnderway f.zone f.call before old f.made) (left_next f s old get) stands.underway) in
     let v : IsUnderway f.zone f.call before new (f.made + 1) (stores_left g new) =
     subst (λ x. IsUnderway f.zone f.call before x (f.made + 1) (stores_left g x)) (sym put_is) u in
     let w : IsUnderway f.zone f.call before new (f.made + 1) (stores_left h new) =
@@ -138,17 +122,6 @@ within_next f Second w = w
 within_next f SecondParity w = w
 within_next f HeaderPhase w = w
 within_next f Finished w = w
-
-pub sound_next : (f : Flying) → IsSound f → f.place.number < phase_len f f.place.phase → IsSound (later_by_one f)
-sound_next f sound h = record {
-  valid = sound.valid;
-  below = sound.below;
-  fits = sound.fits;
-  short = sound.short;
-  line = sound.line;
-  number = omega (arith, h, moved_len f f.place.phase);
-  within = within_next f f.place.phase sound.within;
-}
 
 pub total_same : {f g : Flying} → IsSameCall f g → total_of g ≡ total_of f
 total_same {f} {g} same =

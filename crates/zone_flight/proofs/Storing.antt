@@ -4,6 +4,7 @@ use Rattle.std.specs.Int.{to_le_bytes}
 use Rattle.std.proofs.Math.Nat.{div-lt_iff_lt-mul, lt-div-mul-add, le-div_iff_mul-le}
 use Rattle.zone_spec.specs.Zones.{IsValidZone}
 use Rattle.zone_spec.specs.declared.Zone.{Zone}
+use Rattle.ring_laws.proofs.RunLaw.{cap_within}
 use Rattle.zone_spec.specs.Parts.{Header, Block, part_parity_at}
 use Rattle.zone_spec.specs.Stores.{Store, put, byte_stores}
 use Rattle.ram_region.specs.CutRegion.{CutRegion, span, with_span}
@@ -15,19 +16,6 @@ use Rattle.zone_flight.specs.Machine.{stores_of, Stores}
 
 pub block_some : (k : ℕ) → (k ≡ 32) ⊎ (k ≡ 64) ⊎ (k ≡ 128) → (0 < k) × (k ≤ 128)
 block_some k h = (grind (arith, h), grind (arith, h))
-
--- the blocks hold all data
-pub cap_within : (z : Zone) → IsValidZone z → z.cap ≤ z.blocks * z.block
-cap_within z valid =
-    let k : 0 < z.block = (block_some z.block valid.block).0 in
-    let d : ℕ = z.block + z.parity in
-    let n : ℕ = (z.size - 12) - z.parity in
-    let l : (n + d) - 1 < (((n + d) - 1) / d) * d + d = lt-div-mul-add (omega arith) in
-    let b : z.blocks ≡ ((n + d) - 1) / d = valid.blocks in
-    let m : z.blocks * d ≡ z.blocks * z.block + z.blocks * z.parity = grind arith in
-    let c : (z.blocks + 1) * z.parity ≡ z.blocks * z.parity + z.parity = grind arith in
-    let l2 : (n + d) - 1 < z.blocks * d + d = rw b l in
-    omega (arith, valid.cap)
 
 get-byte_stores : (place k : ℕ) (xs : List ℕ) → k < length xs
     → slice_get (byte_stores place xs) k ≡ Some (record { place = place + k; bytes = get_or xs k 0 ∷ [] })

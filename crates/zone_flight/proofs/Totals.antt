@@ -15,7 +15,8 @@ use Rattle.zone_spec.specs.Calls.{append_stages, erase_stages, run_stages, call_
 use Rattle.zone_flight.specs.Calls.{last_of, line_of, front_of, body_stages}
 use Rattle.zone_flight.proofs.Left.{counted}
 use Rattle.zone_flight.proofs.Parts.{append_begins_ne, append_begins_full, sized}
-use Rattle.zone_flight.proofs.Storing.{block_some, cap_within}
+use Rattle.ring_laws.proofs.RunLaw.{cap_within}
+use Rattle.zone_flight.proofs.Storing.{block_some}
 
 abbrev pub met : Zone → ℕ → ℕ → ℕ
 met z place n = ((place + n + z.block) - 1) / z.block - place / z.block

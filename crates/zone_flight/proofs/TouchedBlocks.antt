@@ -17,7 +17,8 @@ use Rattle.zone_spec.specs.Touched.{touched_by, runs_of}
 use Rattle.zone_flight.specs.Calls.{last_of, line_of, front_of, body_stages}
 use Rattle.zone_flight.specs.Counts.{runs_between}
 use Rattle.zone_flight.proofs.Parts.{append_begins_ne, append_begins_full, sized, front_short}
-use Rattle.zone_flight.proofs.Storing.{block_some, cap_within}
+use Rattle.ring_laws.proofs.RunLaw.{cap_within}
+use Rattle.zone_flight.proofs.Storing.{block_some}
 use Rattle.zone_flight.proofs.Totals.{last_short, stages_append, stages_dump}
 use Rattle.zone_flight.proofs.Runs.{has, has_range, lacks_range, IsTouched, touched_runs_are}
 

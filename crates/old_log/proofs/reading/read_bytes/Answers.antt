@@ -1,7 +1,7 @@
 use Rattle.std.proofs.Common.{◌≡◌, ℕ, List, ◌+◌, ◌<◌, ◌++◌, length, take, arith, refl, sym, ap, ap₂, ◌∙◌, subst, length-take-le}
 use Rattle.zone_spec.specs.Parts.{Block}
 use Rattle.zone_spec.specs.PartReadings.{part_reading}
-use Rattle.old_log.proofs.Images.{block_some}
+use Rattle.ring_laws.proofs.PartsLaw.{block_some}
 use Rattle.old_log.proofs.Fronts.{below-ceil, bytes_read-next, bytes_read-none, sum_by-next, counted-corrected, counted-bad}
 use Rattle.old_log.proofs.reading.read_bytes.Goals as goal
 

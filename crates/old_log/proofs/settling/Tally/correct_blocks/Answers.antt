@@ -3,7 +3,7 @@ use Rattle.std.specs.List.{range_with_len}
 use Rattle.zone_spec.specs.Parts.{Block}
 use Rattle.zone_spec.specs.Boot.{fix_stores, part_fixes}
 use Rattle.ram_region.specs.CutRegion.{span}
-use Rattle.old_log.proofs.Images.{block_some}
+use Rattle.ring_laws.proofs.PartsLaw.{block_some}
 use Rattle.old_log.proofs.Fronts.{below-ceil, ceil-is, ceil-most}
 use Rattle.old_log.proofs.Storing.{makes-none, makes-same, makes-append, makes-length, makes-spans, makes-keep, span-is, fix-length}
 use Rattle.old_log.proofs.Corrections.{block-fixes, block-most, fixes-same, fixes-below, fixes-next}

@@ -4,7 +4,8 @@ use Rattle.blk_spec.specs.declared.BlkName.{BlkName}
 use Rattle.blk_spec.specs.Reading.{BlkDump}
 use Rattle.blk_spec.specs.Names.{is_name, dump_name}
 use Rattle.blk_spec.specs.States.{BlkState, is_listed}
-use Rattle.zone_blk.proofs.Contents.{listed-dump, listed-console, listed-pmsg, some-copied}
+use Rattle.blk_laws.proofs.Listings.{listed-console, listed-pmsg}
+use Rattle.zone_blk.proofs.Contents.{listed-dump, some-copied}
 use Rattle.zone_blk.proofs.blk.Blk.lists.Goals as goal
 
 pub returns-in-Dump-clause-listed : goal.returns-in-Dump-clause-listed

@@ -5,7 +5,8 @@ use Rattle.blk_spec.specs.declared.BlkName.TheVariants.{Dump}
 use Rattle.blk_spec.specs.declared.BlkZone.{BlkZone}
 use Rattle.blk_spec.specs.States.{BlkState, is_listed}
 use Rattle.zone_blk.specs.Loading.{IsIn}
-use Rattle.zone_blk.proofs.Contents.{dump-inside, listed-console, listed-pmsg, some-not-none}
+use Rattle.blk_laws.proofs.Listings.{listed-console, listed-pmsg, some-not-none}
+use Rattle.zone_blk.proofs.Contents.{dump-inside}
 use Rattle.zone_blk.proofs.blk.Blk.zone_named.Goals as goal
 
 pub dump_zone-requires-clause-index : goal.dump_zone-requires-clause-index
