@@ -1,3 +1,1 @@
-pub mod WordLaws
-pub mod Apart
 pub mod LayoutLaws

@@ -6,8 +6,8 @@ mod words;
 
 pub use blk_spec::{BlkLayout, BlkParams};
 pub use layout::blk_layout;
+pub use param_words::ParamFault;
 pub use words::read_blk_words;
-pub use zone_params::ParamFault;
 pub use zone_spec::LayoutFault;
 
 #[cfg(test)]

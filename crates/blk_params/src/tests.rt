@@ -11,19 +11,6 @@ fn words_of(alloc: Global, line: &str) -> Result<Vec<String>, AllocError> {
     Ok(words)
 }
 
-// The number of the first fault of the words, 0 for none, and its word.
-fn fault_of(alloc: Global, line: &str) -> Result<(u32, u32), AllocError> {
-    let words = words_of(alloc, line)?;
-    Ok(match read_blk_words(&words) {
-        Ok(_) => (0, 0),
-        Err(fault) => match fault {
-            ParamFault::UnknownKey(place)
-            | ParamFault::Twice(place)
-            | ParamFault::NotANumber(place) => { (fault.number(), place) }
-        },
-    })
-}
-
 // The number of the layout's fault, 0 for none, and 99 for words that are no parameters.
 fn layout_fault_of(alloc: Global, line: &str) -> Result<u32, AllocError> {
     let words = words_of(alloc, line)?;
@@ -34,28 +21,6 @@ fn layout_fault_of(alloc: Global, line: &str) -> Result<u32, AllocError> {
         },
         Err(_) => 99,
     })
-}
-
-#[test]
-fn the_first_faulty_word_is_told(rt: HostRuntime) {
-    for (line, want) in [
-        ("", (0, 0)),
-        (
-            "total_size=16384 kmsg_size=0x1000 console_size=010000 pmsg_size=0",
-            (0, 0),
-        ),
-        ("total_size=4096 total_size=1", (2, 1)),
-        ("ramoops.total_size=4096", (1, 0)),
-        ("mem_size=4096", (1, 0)),
-        ("total_size", (1, 0)),
-        ("=1", (1, 0)),
-        ("kmsg_size=1 pmsg_size=x", (3, 1)),
-        ("kmsg_size=1 kmsg_size=x", (2, 1)),
-        ("console_size=1 unknown=x", (1, 1)),
-        ("pmsg_size=4294967296", (3, 0)),
-    ] {
-        assert_eq!(rt; fault_of(rt.alloc(), line), Ok(want), "of {line}");
-    }
 }
 
 #[test]

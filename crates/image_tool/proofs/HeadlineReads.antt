@@ -12,9 +12,10 @@ use Rattle.zone_spec.specs.declared.params.LayoutFault.{LayoutFault}
 use Rattle.zone_spec.specs.Layout.{layout_of}
 use Rattle.zone_spec.specs.Layouts.{IsLayout}
 use Rattle.zone_spec.specs.Parts.{AreBytes}
-use Rattle.zone_params.specs.Numbers.{digits_number, number_of, begins}
-use Rattle.zone_params.specs.Words.{given, value_text, first_fault, params_of, ok_unless}
-use Rattle.zone_params.specs.declared.faults.ParamFault.{ParamFault}
+use Rattle.param_words.specs.Numbers.{digits_number, number_of, begins}
+use Rattle.param_words.specs.Words.{KeyTable, given, value_text, ok_unless}
+use Rattle.zone_params.specs.Words.{keys, first_fault, params_of}
+use Rattle.param_words.specs.declared.faults.ParamFault.{ParamFault}
 use Rattle.zone_params.proofs.WholeLayout.{whole_layout}
 use Rattle.ram_region.proofs.Chains.{AreBytes-take}
 use Rattle.session_laws.proofs.Boots.{report_is_exact}
@@ -57,9 +58,9 @@ or_zero : (o : Option ℕ) → ((n : ℕ) → o ≡ Some n → n < 2 ^ 32) → u
 or_zero None h = omega arith
 or_zero (Some n) h = h n refl
 
-given_small : (words : List Text) (key : Text) → unwrap_or (given words key) 0 < 2 ^ 32
+given_small : (table : KeyTable) (words : List Text) (key : Text) → unwrap_or (given table words key) 0 < 2 ^ 32
 unfolding given
-given_small words key = by (value_text words key)
+given_small table words key = by (value_text table words key)
   where
     by : (o : Option (List ℕ)) → unwrap_or (option_and_then number_of o) 0 < 2 ^ 32
     by None = omega arith
@@ -77,7 +78,7 @@ laid command params plan (Err fault) e h small = absurd (cc)
 read : (a : Asked) (plan : Plan) (o : Option ParamFault) → with_params a (ok_unless o (params_of a.params)) ≡ Ok plan
     → IsLayout plan.zones (mem_of plan)
 read a plan None h = laid a.command (params_of a.params) plan (layout_of (params_of a.params)) refl h
-    (given_small a.params (codes "ftrace_sig"))
+    (given_small keys a.params (codes "ftrace_sig"))
 read a plan (Some fault) h = absurd (cc)
 
 planned_whole : (o : Option Asked) (plan : Plan) → planned o ≡ Ok plan → IsLayout plan.zones (mem_of plan)

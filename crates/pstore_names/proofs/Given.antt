@@ -54,6 +54,11 @@ pub same-name : (a b : Name) → is_name a b ≡ true → a ≡ b
 same-name (DumpName i p) (DumpName j q) e = let parts = and_parts (i == j) (if p then q else not q) e in
     same-dump i j p q ((Decides-eqb i j).0 parts.0) parts.1
   where
+    same-dump : (i j : ℕ) (p q : Bool) → i ≡ j → (if p then q else not q) ≡ true → DumpName i p ≡ DumpName j q
+    same-dump i j true true e h = ap (λ k. DumpName k true) e
+    same-dump i j true false e h = cc
+    same-dump i j false true e h = cc
+    same-dump i j false false e h = ap (λ k. DumpName k false) e
 same-name (DumpName i p) ConsoleName e = cc
 same-name (DumpName i p) PmsgName e = cc
 same-name (DumpName i p) FtraceName e = cc

@@ -11,8 +11,9 @@ use Rattle.session_spec.specs.Off.{fresh}
 use Rattle.session_spec.specs.Boot.{booted}
 use Rattle.session_spec.specs.Stop.{stopped, session_image}
 use Rattle.session_spec.specs.Erasures.{saved_logs, erased}
-use Rattle.zone_params.specs.declared.faults.ParamFault.{ParamFault}
-use Rattle.zone_params.specs.Words.{first_fault, params_of, ok_unless}
+use Rattle.param_words.specs.declared.faults.ParamFault.{ParamFault}
+use Rattle.param_words.specs.Words.{ok_unless}
+use Rattle.zone_params.specs.Words.{first_fault, params_of}
 use Rattle.box_script.specs.Fields.{Text, number}
 use Rattle.box_script.specs.Lines.{script_of}
 use Rattle.box_script.specs.declared.line.Line.{Line}

@@ -1,6 +1,3 @@
-pub mod Texts
-pub mod WordLaws
-pub mod Apart
 pub mod Rounding
 pub mod Faultless
 pub mod LaidOut

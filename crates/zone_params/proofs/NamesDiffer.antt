@@ -1,6 +1,6 @@
 -- No two zones of a layout have the same name
-use Rattle.std.proofs.Common.{◌≡◌, ℕ, zero, suc, ◌+◌, ◌*◌, ◌<◌, ◌≤◌, Bool, true, false, not, ◌&&◌, if◌then◌else◌, ◌==◌, nat_lt, List, [], ◌∷◌, ◌++◌, map, length, Option, Some, None, Ok, refl, sym, ap, subst, ◌∙◌, arith, slice_get}
-use Rattle.std.specs.List.{AllByRecursion, range_with_len, position, position_or_len}
+use Rattle.std.proofs.Common.{◌≡◌, ℕ, zero, suc, ◌+◌, ◌*◌, ◌<◌, ◌≤◌, Bool, true, false, not, if◌then◌else◌, ◌==◌, nat_lt, List, [], ◌∷◌, ◌++◌, map, length, Some, None, Ok, refl, sym, ap, subst, ◌∙◌, arith, slice_get}
+use Rattle.std.specs.List.{AllByRecursion, range_with_len, position_or_len}
 use Rattle.std.proofs.lemmas.Bool.{lt-ltb}
 use Rattle.std.proofs.lemmas.Option.{slice_get_within}
 use Rattle.zone_spec.specs.declared.Kind.{Kind}
@@ -14,7 +14,7 @@ use Rattle.zone_spec.specs.Records.{is_of}
 use Rattle.zone_params.specs.Laid.{NamesDiffer}
 use Rattle.zone_params.proofs.LaidOut.{of_row}
 use Rattle.zone_params.proofs.Faultless.{taken}
-use Rattle.zone_params.proofs.Texts.{if_true}
+use Rattle.param_words.proofs.Texts.{if_true}
 use Rattle.zone_params.proofs.WholeLayout.{no_fault}
 
 -- none of these zones has the name of the first

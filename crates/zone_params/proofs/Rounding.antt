@@ -3,7 +3,7 @@ use Rattle.std.proofs.Common.{◌≡◌, ℕ, zero, suc, ◌*◌, ◌^◌, ◌<�
 use Rattle.std.proofs.Math.Nat.{pow-suc, pow-le-pow_right}
 use Rattle.std.proofs.lemmas.Nat.{pow_pos}
 use Rattle.std.proofs.lemmas.Bool.{le-leb, lt-leb, leb-true, leb-false, eqb-true, eqb-false}
-use Rattle.zone_params.proofs.Texts.{if_true, if_false}
+use Rattle.param_words.proofs.Texts.{if_true, if_false}
 use Rattle.zone_spec.specs.Layout.{power_within, rounded}
 
 power_is : (k e n : ℕ) → e ≤ k → 2 ^ e ≤ n → n < 2 * 2 ^ e → power_within k n ≡ 2 ^ e

@@ -1,5 +1,3 @@
-pub mod Faults
-pub mod Numbers
 pub mod Words
 pub mod Layouts
 pub mod Laid

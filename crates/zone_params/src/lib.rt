@@ -8,9 +8,10 @@ mod params;
 mod rows;
 pub mod types;
 
-pub use faults::{LayoutError, ParamFault};
+pub use faults::LayoutError;
 pub use laying::layout;
-pub use params::{number, read_words};
+pub use param_words::ParamFault;
+pub use params::read_words;
 pub use zone_spec::{Kind, LayoutFault, Params, Zone, ZoneName};
 
 #[cfg(test)]

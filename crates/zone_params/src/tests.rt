@@ -11,19 +11,6 @@ fn words_of(alloc: Global, line: &str) -> Result<Vec<String>, AllocError> {
     Ok(words)
 }
 
-// The number of the first fault, 0 for none, and its word.
-fn fault_of(alloc: Global, line: &str) -> Result<(u32, u32), AllocError> {
-    let words = words_of(alloc, line)?;
-    Ok(match read_words(&words) {
-        Ok(_) => (0, 0),
-        Err(fault) => match fault {
-            ParamFault::UnknownKey(place)
-            | ParamFault::Twice(place)
-            | ParamFault::NotANumber(place) => { (fault.number(), place) }
-        },
-    })
-}
-
 // The number of the layout's fault, 0 for none.
 fn layout_fault_of(alloc: Global, line: &str) -> Result<u32, AllocError> {
     let words = words_of(alloc, line)?;
@@ -50,61 +37,6 @@ fn shape(l: &types::Layout, kind: Kind, index: u32) -> Option<(u32, u32, u32, u3
     let place = l.find(ZoneName { kind, index })?;
     let zone = l.zones().get(place as usize)?;
     Some((zone.at, zone.size, zone.cap, zone.blocks))
-}
-
-#[test]
-fn numbers_have_three_spellings(rt: HostRuntime) {
-    for (text, value) in [
-        ("0", Some(0)),
-        ("7", Some(7)),
-        ("10", Some(10)),
-        ("4294967295", Some(4294967295)),
-        ("4294967296", None),
-        ("0x0", Some(0)),
-        ("0xfF", Some(255)),
-        ("0XFf", Some(255)),
-        ("0x000000000000000000001", Some(1)),
-        ("0xffffffff", Some(4294967295)),
-        ("0x100000000", None),
-        ("00", Some(0)),
-        ("010", Some(8)),
-        ("0000000000000000000000017", Some(15)),
-        ("037777777777", Some(4294967295)),
-        ("040000000000", None),
-        ("08", None),
-        ("", None),
-        ("0x", None),
-        ("0X", None),
-        ("+1", None),
-        ("-1", None),
-        ("0x+1", None),
-        ("0+1", None),
-        ("1 ", None),
-        ("12a", None),
-        ("0xg", None),
-    ] {
-        assert_eq!(rt; number(text), value, "of {text}");
-    }
-}
-
-#[test]
-fn the_first_faulty_word_is_told(rt: HostRuntime) {
-    for (line, want) in [
-        ("", (0, 0)),
-        ("mem_size=4096 mem_size=1", (2, 1)),
-        ("mem_size=4096 ramoops.mem_size=1", (2, 1)),
-        ("ramoops.mem_size=4096 mem_size=x", (2, 1)),
-        ("mem_size", (1, 0)),
-        ("=1", (1, 0)),
-        ("ecc=1 mem-size=1", (1, 1)),
-        ("ramoops.ramoops.ecc=1", (1, 0)),
-        ("ramoops.=1", (1, 0)),
-        ("ecc=1 cpus=two mem_size=", (3, 1)),
-        ("ecc=1=1", (3, 0)),
-        ("ecc=1 unknown=x ecc=2", (1, 1)),
-    ] {
-        assert_eq!(rt; fault_of(rt.alloc(), line), Ok(want), "of {line}");
-    }
 }
 
 #[test]

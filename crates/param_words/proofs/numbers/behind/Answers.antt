@@ -1,0 +1,5 @@
+use Rattle.param_words.proofs.Texts.{behind_front}
+use Rattle.param_words.proofs.numbers.behind.Goals as goal
+
+pub returns : goal.returns
+returns c = behind_front c.args.front.now c.args.text.now c.strip_prefix.result c.strip_prefix.ensures.cases

@@ -1,0 +1,10 @@
+use Rattle.std.proofs.Common.{◌∙◌, arith}
+use Rattle.std.proofs.lemmas.Str.Pattern.{starts_char}
+use Rattle.param_words.proofs.Texts.{parsed_digits, not_decided}
+use Rattle.param_words.proofs.numbers.digits.Goals as goal
+
+pub returns : goal.returns
+returns c = c.ok.ensures.value ∙ parsed_digits c.args.base c.args.text.now c.from_str_radix.result
+    (not_decided _ c.starts_with.result c.if-starts_with.false
+    (starts_char 43 c.args.text.now c.starts_with.result c.starts_with.ensures.cases (omega arith) (omega arith)))
+    c.from_str_radix.ensures.value

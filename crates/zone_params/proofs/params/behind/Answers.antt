@@ -1,5 +1,0 @@
-use Rattle.zone_params.proofs.Texts.{behind_front}
-use Rattle.zone_params.proofs.params.behind.Goals as goal
-
-pub returns : goal.returns
-returns c = behind_front c.args.front.now c.args.text.now c.strip_prefix.result c.strip_prefix.ensures.cases

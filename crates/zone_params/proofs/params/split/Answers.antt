@@ -1,5 +1,0 @@
-use Rattle.zone_params.proofs.WordLaws.{no_split}
-use Rattle.zone_params.proofs.params.split.Goals as goal
-
-pub returns-in-None : goal.returns-in-None
-returns-in-None c = no_split c.args.word.now c.split_once.result c.split_once.ensures.cases c.in-None.is
