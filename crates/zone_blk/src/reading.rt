@@ -113,22 +113,22 @@ fn saved_ring(alloc: Global, zone: BlkZone, bytes: &[u8]) -> Result<Option<Bytes
     Ok(Some(Bytes::from_vec(log)))
 }
 
-fn is_dump(words: Words, data: &[u8]) -> bool
-    requires { 40 ≤ length data.now }
-    ensures { result ≡ is_dump_zone words data.now }
+fn is_dump(words: Words, content: &[u8]) -> bool
+    requires { 40 ≤ length content.now }
+    ensures { result ≡ is_dump_zone words content.now }
 {
     words.size >= DUMP_HEADER
-        && word_at(data, 0) == MAGIC
-        && long_at(data, 8) < 1 << 63
-        && long_at(data, 16) < NANOS
+        && word_at(content, 0) == MAGIC
+        && long_at(content, 8) < 1 << 63
+        && long_at(content, 16) < NANOS
 }
 
-fn is_listed(zone: BlkZone, words: Words, data: &[u8]) -> bool
+fn is_listed(zone: BlkZone, words: Words, content: &[u8]) -> bool
     requires sized { 12 ≤ zone.size }
-    requires header { 40 ≤ length data.now }
-    ensures { result ≡ (is_valid_zone zone words && is_dump_zone words data.now) }
+    requires header { 40 ≤ length content.now }
+    ensures { result ≡ (is_valid_zone zone words && is_dump_zone words content.now) }
 {
-    is_valid(zone, words) && is_dump(words, data)
+    is_valid(zone, words) && is_dump(words, content)
 }
 
 /// The dump of a zone with these bytes, where it is listed.
