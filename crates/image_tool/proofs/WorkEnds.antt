@@ -38,7 +38,7 @@ pub layout_shown : (plan : Plan) (e : End) (a b : Outside) → plan.command ≡ 
     → EndedAt (shows (layout_text plan.params plan.zones ∷ [])) a.given b.given a.holds a.holds e
     → PlanEnds plan.command plan a b e
 layout_shown plan e a b is script image can ended = rw is (record {
-  can = rw is can;
+  can = can;
   whole = rw image.holds ended;
   script = script;
   image = image;
@@ -49,7 +49,7 @@ pub blank_left : (plan : Plan) (mem : ℕ) (e : End) (a b : Outside) → mem ≡
     → NoScript a b → b.given ≡ a.given → IsAmong (statuses BlankImage) (status_of e)
     → EndedAt (leaves (replicate mem 0)) a.given a.given a.holds b.holds e → PlanEnds plan.command plan a b e
 blank_left plan mem e a b same is script given can ended =
-    rw is (record { can = rw is can; whole = rw (given, ← same) ended; script = script })
+    rw is (record { can = can; whole = rw (given, ← same) ended; script = script })
 
 -- an image was made
 pub image_made : (c : ReadCommand) (n : ℕ) (layout : ReadLayout) (e : End) (a b : Outside) → c ≡ Make n
