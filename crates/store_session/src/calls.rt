@@ -76,6 +76,7 @@ pub fn make(live: &mut Live, ask: Ask) -> Result<(), Refusal>
     requires { CanBeAsked ask }
     ensures made { OnOk result (Done live.old live.new (λ layout s. makes layout s (told_ask ask))) }
     ensures refused { IfErr result (λ why. IsRefused live.old why (λ layout s. makes layout s (told_ask ask))) }
+    ensures unchanged { OnErr result (live.new ≡ live.old) }
 {
     check(&ask);
     let zone = match begin(live, ask) {
