@@ -17,7 +17,7 @@ use Rattle.tool_spec.specs.declared.Stop.TheVariants.{Memory, Usage, Param, Layo
 use Rattle.tool_frame.specs.Ends.{Finished}
 use Rattle.tool_frame.specs.Ended.{KeptAt}
 use Rattle.tool_frame.proofs.Answered.{answers, appends_on}
-use Rattle.tool_frame.proofs.Tool.{status_is, short_at, script_at, script_on, image_on, fault_answers, tool_answers}
+use Rattle.tool_frame.proofs.Tool.{status_is, short_at, script_at, unread_at, script_on, image_on, fault_answers, tool_answers}
 use Rattle.image_tool.specs.BlkEnds.{StoppedAt, LinesEnded, LinesOrStopEnded, KeptBefore, BlkEnds, BlkPlanEnds, AskedEnds}
 
 -- ---- good lines
@@ -263,9 +263,9 @@ good_words (Err Usage) status holds holds' h is = absurd h
 good_words (Err (Param x y)) status holds holds' h is = absurd h
 good_words (Err (Layout x)) status holds holds' h is = absurd h
 
-blk_answers : (layout : BlkLayout) (a m b : Outside) (e : End) (status : ℕ) → NoImage m b → BlkEnds layout a m e
-    → Finished e m.given b.given m.sink_faults b.sink_faults status → BlkAnswers layout a b status
-blk_answers layout a m b e status image h f =
+blk_answers : (layout : BlkLayout) (a m b : Outside) (e : End) (status : ℕ) → NoScript m b → NoImage m b
+    → BlkEnds layout a m e → Finished e m.given b.given m.sink_faults b.sink_faults status → BlkAnswers layout a b status
+blk_answers layout a m b e status none image h f =
     let s = status_is e m.given b.given m.sink_faults b.sink_faults status f in
     record {
       whole = record {
@@ -277,6 +277,7 @@ blk_answers layout a m b e status image h f =
             s in record { short = r.0; told = r.1 };
       };
       script = record { told = λ script l. script_at e script a m b status (h.script.told script l) f };
+      unread = unread_at e a m b status h.unread none s;
       words = good_words e status a.holds m.holds h.kept s;
       kept = λ zero one six seven ten. image.holds ∙ kept_before e status a.holds m.holds h.kept s zero one six seven
           ten;
@@ -284,7 +285,7 @@ blk_answers layout a m b e status image h f =
 
 blk_plan_answers : (r : Result BlkLayout Stop) (a m b : Outside) (e : End) (status : ℕ) → NoScript m b → NoImage m b
     → BlkPlanEnds r a m e → Finished e m.given b.given m.sink_faults b.sink_faults status → BlkPlanAnswers r a b status
-blk_plan_answers (Ok layout) a m b e status script image h f = blk_answers layout a m b e status image h f
+blk_plan_answers (Ok layout) a m b e status script image h f = blk_answers layout a m b e status script image h f
 blk_plan_answers (Err s) a m b e status script image h f =
     fault_answers s a m b status (script_on a m b h.1.script script) (image_on a m b h.1.image image) h.1.given
     (rw h.0 at f)

@@ -5,12 +5,12 @@ use Rattle.box_script.specs.Lines.{script_of}
 use Rattle.box_script.specs.declared.line.Line.{Line}
 use Rattle.tool_spec.specs.Ends.{End}
 use Rattle.tool_spec.specs.Commands.{script_limit, stops}
-use Rattle.tool_spec.specs.Answers.{Outside}
+use Rattle.tool_spec.specs.Answers.{Outside, NoScript}
 use Rattle.tool_spec.specs.BlkCommands.{blk_lines, lines_or_bad}
 use Rattle.tool_spec.specs.declared.Stop.{Stop}
 use Rattle.tool_spec.specs.declared.Stop.TheVariants.{Memory, Usage, Param, Layout, Short, ScriptFault, ImageFault, SinkFault, TooLong, BadLine, Refused}
 use Rattle.tool_frame.specs.Stages.{SizeStop, ScriptStop, ParseStop}
-use Rattle.tool_frame.specs.Ended.{CausedAt, ShortAt, ScriptAt}
+use Rattle.tool_frame.specs.Ended.{CausedAt, ShortAt, ScriptAt, UnreadAt}
 use Rattle.tool_frame.proofs.Script.{Quiet, Read, nat_lt-true, nat_lt-false, quiet_memory, put_nothing, read_of, good_script}
 use Rattle.blk_session.specs.Playing.{seen, PlaysOn, Plays, IsCaused}
 use Rattle.image_tool.specs.BlkEnds.{LinesEnded, LinesOrStopEnded, KeptBefore, BlkEnds}
@@ -74,13 +74,14 @@ memory_ended layout a b q = record {
   whole = record { told = λ bytes script t l. memory_lines layout bytes (blk_lines layout bytes script) a b q t };
   image = record { told = λ bytes t. tt };
   script = record { told = λ script l. tt };
+  unread = tt;
   kept = tt;
 }
 
-stop_short : (layout : BlkLayout) (a b : Outside) (has needed : ℕ) → Quiet a b
+stop_short : (layout : BlkLayout) (a b : Outside) (has needed : ℕ) → NoScript a b → Quiet a b
     → (needed ≡ layout.total) × (has < layout.total) × IfSome a.holds (λ bs. has ≡ length bs)
     → BlkEnds layout a b (Err (Short has needed))
-stop_short layout a b has needed q h = record {
+stop_short layout a b has needed none q h = record {
   whole = record {
     told = λ bytes script t l.
         let size : has ≡ length bytes = rw t at h.2 in
@@ -91,28 +92,30 @@ stop_short layout a b has needed q h = record {
   };
   image = record { told = λ bytes t. let size : has ≡ length bytes = rw t at h.2 in rw size at h.1 };
   script = record { told = λ script l. tt };
+  unread = none;
   kept = q.holds;
 }
 
 -- the store's size was not told, or it is too short
-pub size_stopped : (layout : BlkLayout) (a b : Outside) (s : Stop) (f g : ℕ) → Quiet a b
+pub size_stopped : (layout : BlkLayout) (a b : Outside) (s : Stop) (f g : ℕ) → NoScript a b → Quiet a b
     → SizeStop s layout.total a.holds f g → BlkEnds layout a b (Err s)
-size_stopped layout a b ImageFault f g q h = record {
+size_stopped layout a b ImageFault f g none q h = record {
   whole = record { told = λ bytes script t l. image_lines layout bytes (blk_lines layout bytes script) a b q t };
   image = record { told = λ bytes t. tt };
   script = record { told = λ script l. tt };
+  unread = tt;
   kept = tt;
 }
-size_stopped layout a b (Short has needed) f g q h = stop_short layout a b has needed q h
-size_stopped layout a b Memory f g q h = absurd h
-size_stopped layout a b Usage f g q h = absurd h
-size_stopped layout a b (Param x y) f g q h = absurd h
-size_stopped layout a b (Layout x) f g q h = absurd h
-size_stopped layout a b ScriptFault f g q h = absurd h
-size_stopped layout a b SinkFault f g q h = absurd h
-size_stopped layout a b TooLong f g q h = absurd h
-size_stopped layout a b (BadLine x) f g q h = absurd h
-size_stopped layout a b (Refused x y) f g q h = absurd h
+size_stopped layout a b (Short has needed) f g none q h = stop_short layout a b has needed none q h
+size_stopped layout a b Memory f g none q h = absurd h
+size_stopped layout a b Usage f g none q h = absurd h
+size_stopped layout a b (Param x y) f g none q h = absurd h
+size_stopped layout a b (Layout x) f g none q h = absurd h
+size_stopped layout a b ScriptFault f g none q h = absurd h
+size_stopped layout a b SinkFault f g none q h = absurd h
+size_stopped layout a b TooLong f g none q h = absurd h
+size_stopped layout a b (BadLine x) f g none q h = absurd h
+size_stopped layout a b (Refused x y) f g none q h = absurd h
 
 stop_long : (layout : BlkLayout) (a b : Outside) → IfSome a.holds (λ bs. layout.total ≤ length bs) → Quiet a b
     → IfSome a.left (λ bs. script_limit < length bs) → BlkEnds layout a b (Err TooLong)
@@ -126,6 +129,7 @@ stop_long layout a b room q h = record {
   };
   image = record { told = λ bytes t. room_of layout.total a.holds bytes room t };
   script = record { told = λ script s. let long : script_limit < length script = rw s at h in (long, q.given) };
+  unread = tt;
   kept = q.holds;
 }
 
@@ -137,6 +141,7 @@ script_stopped layout a b ScriptFault f g room q h = record {
   whole = record { told = λ bytes script t l. script_lines layout bytes (blk_lines layout bytes script) a b q t };
   image = record { told = λ bytes t. room_of layout.total a.holds bytes room t };
   script = record { told = λ script l. tt };
+  unread = tt;
   kept = q.holds;
 }
 script_stopped layout a b TooLong f g room q h = stop_long layout a b room q h
@@ -175,6 +180,7 @@ stop_bad layout a b text n room read q h = record {
         let bad : script_of script ≡ Err n = rw same h in
         (few, bad, q.given);
   };
+  unread = tt;
   kept = q.holds;
 }
 
@@ -290,6 +296,21 @@ played_kept (Err ScriptFault) g g' h h' holds holds' given given' before now c =
 played_kept (Err TooLong) g g' h h' holds holds' given given' before now c = absurd c
 played_kept (Err (BadLine x)) g g' h h' holds holds' given given' before now c = absurd c
 
+played_unread : (e : End) (a b : Outside) (g g' h h' : ℕ) (holds holds' given given' : Option (List ℕ))
+    → IsCaused e (seen holds g given h) (seen holds' g' given' h') → UnreadAt a b e
+played_unread (Ok u) a b g g' h h' holds holds' given given' c = tt
+played_unread (Err Memory) a b g g' h h' holds holds' given given' c = tt
+played_unread (Err ImageFault) a b g g' h h' holds holds' given given' c = tt
+played_unread (Err SinkFault) a b g g' h h' holds holds' given given' c = tt
+played_unread (Err (Refused n cause)) a b g g' h h' holds holds' given given' c = tt
+played_unread (Err Usage) a b g g' h h' holds holds' given given' c = absurd c
+played_unread (Err (Param x y)) a b g g' h h' holds holds' given given' c = absurd c
+played_unread (Err (Layout x)) a b g g' h h' holds holds' given given' c = absurd c
+played_unread (Err (Short x y)) a b g g' h h' holds holds' given given' c = absurd c
+played_unread (Err ScriptFault) a b g g' h h' holds holds' given given' c = absurd c
+played_unread (Err TooLong) a b g g' h h' holds holds' given given' c = absurd c
+played_unread (Err (BadLine x)) a b g g' h h' holds holds' given given' c = absurd c
+
 -- a fault is told only where its count rose since the moment before the lines, at which no count was lower
 pub played_caused : (e : End) (f f' g0 g g' h0 h h' : ℕ) (holds holds' given given' : Option (List ℕ)) → g0 ≤ g
     → h0 ≤ h → IsCaused e (seen holds g given h) (seen holds' g' given' h') → CausedAt f f' g0 g' h0 h' e
@@ -326,4 +347,5 @@ play_ended layout a b text lines e holds g g' h h' room read ok same c p = recor
         c (good_script a text lines read ok script s);
   };
   kept = played_kept e g g' h h' holds b.holds a.given b.given a.holds b.holds c;
+  unread = played_unread e a b g g' h h' holds b.holds a.given b.given c;
 }

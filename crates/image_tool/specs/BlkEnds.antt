@@ -9,7 +9,7 @@ use Rattle.tool_spec.specs.Commands.{stops, plan_of}
 use Rattle.tool_spec.specs.Answers.{Outside, IfHolds, IfLeft, IfTold}
 use Rattle.tool_spec.specs.BlkCommands.{blk_asked, blk_plan_of, blk_lines}
 use Rattle.tool_spec.specs.BlkAnswers.{LinesStop, AllDone}
-use Rattle.tool_frame.specs.Ended.{Ended, ShortAt, ScriptAt, Nothing, WorkEnds}
+use Rattle.tool_frame.specs.Ended.{Ended, ShortAt, ScriptAt, UnreadAt, Nothing, WorkEnds}
 use Rattle.tool_spec.specs.declared.Stop.{Stop}
 use Rattle.tool_spec.specs.declared.Stop.TheVariants.{Memory, Usage, Param, Layout, ImageFault, SinkFault, Refused}
 
@@ -47,6 +47,7 @@ pub record BlkEnds (layout : BlkLayout) (a b : Outside) (e : End) : Type 0 where
   pub image : IfHolds a (λ bytes. ShortAt layout.total (length bytes) e)
   pub script : IfLeft a (λ script. ScriptAt script a.given b.given e)
   pub kept : KeptBefore a.holds b.holds e
+  pub unread : UnreadAt a b e
 
 -- the work of a layout, or of none
 abbrev pub BlkPlanEnds : Result BlkLayout Stop → Outside → Outside → End → Type 0

@@ -11,7 +11,7 @@ use Rattle.box_script.specs.declared.line.Line.{Line}
 use Rattle.tool_spec.specs.Ends.{End}
 use Rattle.tool_spec.specs.Scripts.{ran}
 use Rattle.tool_spec.specs.Commands.{RunScript, Plan, Wanted, wanted, wanted_run, wanted_script, wanted_lines, mem_of, stops, script_limit, script_end}
-use Rattle.tool_spec.specs.Answers.{Outside, whole}
+use Rattle.tool_spec.specs.Answers.{Outside, NoScript, whole}
 use Rattle.tool_spec.specs.declared.Cause.{Cause}
 use Rattle.tool_spec.specs.declared.Stop.{Stop}
 use Rattle.tool_spec.specs.declared.Stop.TheVariants.{Memory, Usage, Param, Layout, Short, ScriptFault, ImageFault, SinkFault, TooLong, BadLine, Refused}
@@ -90,11 +90,12 @@ ended_as w v a b e same h = rw same h
 
 -- ---- stops
 
-stop_short : (plan : Plan) (a b : Outside) (has needed : ℕ) → plan.command ≡ RunScript → Quiet a b
-    → (needed ≡ mem_of plan) × (has < mem_of plan) × IfSome a.holds (λ bs. has ≡ length bs)
+stop_short : (plan : Plan) (a b : Outside) (has needed : ℕ) → plan.command ≡ RunScript → NoScript a b
+    → Quiet a b → (needed ≡ mem_of plan) × (has < mem_of plan) × IfSome a.holds (λ bs. has ≡ length bs)
     → RunEnds plan a b (Err (Short has needed))
-stop_short plan a b has needed is q h = record {
+stop_short plan a b has needed is none q h = record {
   can = rw is refl;
+  unread = none;
   whole = record {
     told = λ bytes script t l.
         let size : has ≡ length bytes = rw t at h.2 in
@@ -106,38 +107,41 @@ stop_short plan a b has needed is q h = record {
   script = record { told = λ script l. tt };
 }
 
-pub load_stopped : (plan : Plan) (a b : Outside) (s : Stop) (f g : ℕ) → plan.command ≡ RunScript → Quiet a b
-    → LoadStop s (mem_of plan) a.holds f g → RunEnds plan a b (Err s)
-load_stopped plan a b Memory f g is q h = record {
+pub load_stopped : (plan : Plan) (a b : Outside) (s : Stop) (f g : ℕ) → plan.command ≡ RunScript → NoScript a b
+    → Quiet a b → LoadStop s (mem_of plan) a.holds f g → RunEnds plan a b (Err s)
+load_stopped plan a b Memory f g is none q h = record {
   can = rw is refl;
+  unread = tt;
   whole = record
       { told = λ bytes script t l. quiet_memory (wanted plan bytes script) a b q };
   image =
       record { told = λ bytes t. tt };
   script = record { told = λ script l. tt };
 }
-load_stopped plan a b ImageFault f g is q h = record {
+load_stopped plan a b ImageFault f g is none q h = record {
   can = rw is refl;
+  unread = tt;
   whole = record
       { told = λ bytes script t l. inl (q.given, q.holds) };
   image = record { told = λ bytes t. tt };
   script =
       record { told = λ script l. tt };
 }
-load_stopped plan a b (Short has needed) f g is q h = stop_short plan a b has needed is q h
-load_stopped plan a b Usage f g is q h = absurd h
-load_stopped plan a b (Param x y) f g is q h = absurd h
-load_stopped plan a b (Layout x) f g is q h = absurd h
-load_stopped plan a b ScriptFault f g is q h = absurd h
-load_stopped plan a b SinkFault f g is q h = absurd h
-load_stopped plan a b TooLong f g is q h = absurd h
-load_stopped plan a b (BadLine x) f g is q h = absurd h
-load_stopped plan a b (Refused x y) f g is q h = absurd h
+load_stopped plan a b (Short has needed) f g is none q h = stop_short plan a b has needed is none q h
+load_stopped plan a b Usage f g is none q h = absurd h
+load_stopped plan a b (Param x y) f g is none q h = absurd h
+load_stopped plan a b (Layout x) f g is none q h = absurd h
+load_stopped plan a b ScriptFault f g is none q h = absurd h
+load_stopped plan a b SinkFault f g is none q h = absurd h
+load_stopped plan a b TooLong f g is none q h = absurd h
+load_stopped plan a b (BadLine x) f g is none q h = absurd h
+load_stopped plan a b (Refused x y) f g is none q h = absurd h
 
 stop_long : (plan : Plan) (a b : Outside) (image : List ℕ) → Loaded plan a image → Quiet a b
     → IfSome a.left (λ bs. script_limit < length bs) → RunEnds plan a b (Err TooLong)
 stop_long plan a b image l q h = record {
   can = rw l.is refl;
+  unread = tt;
   whole = record {
     told = λ bytes script t s.
         let i = loaded_of plan a image bytes l t in
@@ -154,12 +158,14 @@ pub script_stopped : (plan : Plan) (a b : Outside) (image : List ℕ) (s : Stop)
     → Quiet a b → ScriptStop s a.left f g → RunEnds plan a b (Err s)
 script_stopped plan a b image Memory f g l q h = record {
   can = rw l.is refl;
+  unread = tt;
   whole = record { told = λ bytes script t s. quiet_memory (wanted plan bytes script) a b q };
   image = record { told = λ bytes t. tt };
   script = record { told = λ script s. tt };
 }
 script_stopped plan a b image ScriptFault f g l q h = record {
   can = rw l.is refl;
+  unread = tt;
   whole = record { told = λ bytes script t s. (q.given, q.holds) };
   image = record { told = λ bytes t. (loaded_of plan a image bytes l t).0 };
   script =
@@ -179,6 +185,7 @@ stop_bad : (plan : Plan) (a b : Outside) (image text : List ℕ) (n : ℕ) → L
     → script_of text ≡ Err n → RunEnds plan a b (Err (BadLine n))
 stop_bad plan a b image text n l r q h = record {
   can = rw l.is refl;
+  unread = tt;
   whole = record {
     told = λ bytes script t s.
         let i = loaded_of plan a image bytes l t in
@@ -202,6 +209,7 @@ pub parse_stopped : (plan : Plan) (a b : Outside) (image text : List ℕ) (s : S
     → Quiet a b → ParseStop s (script_of text) → RunEnds plan a b (Err s)
 parse_stopped plan a b image text Memory l r q h = record {
   can = rw l.is refl;
+  unread = tt;
   whole = record { told = λ bytes script t s. quiet_memory (wanted plan bytes script) a b q };
   image = record { told = λ bytes t. tt };
   script = record { told = λ script s. tt };
@@ -234,6 +242,7 @@ stop_line : (plan : Plan) (a b : Outside) (image text : List ℕ) (lines : List 
     → RunEnds plan a b (Err (Refused n c))
 stop_line plan a b image text lines n c l r e kept h = record {
   can = rw l.is refl;
+  unread = tt;
   whole = record {
     told = λ bytes script t s. ended_as (wanted plan bytes script)
         (wanted_lines (ran plan.zones image lines)) a b (Err (Refused n c))
@@ -248,6 +257,7 @@ pub play_stopped : (plan : Plan) (a b : Outside) (image text : List ℕ) (lines 
     → PlayStop s plan.zones image lines a.given b.given f g → RunEnds plan a b (Err s)
 play_stopped plan a b image text lines Memory f g l r e kept h = record {
   can = rw l.is refl;
+  unread = tt;
   whole = record {
     told = λ bytes script t s. ended_as (wanted plan bytes script)
         (wanted_lines (ran plan.zones image lines)) a b (Err Memory)
@@ -258,6 +268,7 @@ play_stopped plan a b image text lines Memory f g l r e kept h = record {
 }
 play_stopped plan a b image text lines SinkFault f g l r e kept h = record {
   can = rw l.is refl;
+  unread = tt;
   whole = record {
     told = λ bytes script t s. ended_as (wanted plan bytes script)
         (wanted_lines (ran plan.zones image lines)) a b (Err SinkFault)
@@ -289,6 +300,7 @@ pub play_saved : (plan : Plan) (a b : Outside) (image text last : List ℕ) (lin
     → Writes a.holds b.holds 0 last → RunEnds plan a b (Ok tt)
 play_saved plan a b image text last lines session l r e p same wrote = record {
   can = rw l.is refl;
+  unread = tt;
   whole = record {
     told = λ bytes script t s.
         let d = all_done plan.zones image lines session a.given b.given p in
@@ -305,6 +317,7 @@ pub play_unsaved : (plan : Plan) (a b : Outside) (image text last : List ℕ) (l
     → WritesFront a.holds b.holds 0 last → RunEnds plan a b (Err ImageFault)
 play_unsaved plan a b image text last lines session l r e p same wrote = record {
   can = rw l.is refl;
+  unread = tt;
   whole = record {
     told = λ bytes script t s.
         let d = all_done plan.zones image lines session a.given b.given p in

@@ -8,7 +8,7 @@ use Rattle.tool_spec.specs.Commands.{Command, RunScript, ListRecords, ExtractRec
 use Rattle.tool_spec.specs.Answers.{Outside, NoScript, NoImage, IsFree, ScriptAnswers, RunAnswers, PlanAnswers, FaultAnswers, ToolAnswers, statuses, IsAmong}
 use Rattle.tool_frame.specs.Ends.{LastPut, Finished}
 use Rattle.tool_frame.specs.Words.{PlanStop}
-use Rattle.tool_frame.specs.Ended.{PutTexts, Ended, ShortAt, ScriptAt, CanEnd, RunEnds, PlanEnds, Nothing, WorkEnds}
+use Rattle.tool_frame.specs.Ended.{PutTexts, Ended, ShortAt, ScriptAt, UnreadAt, CanEnd, RunEnds, PlanEnds, Nothing, WorkEnds}
 use Rattle.tool_frame.proofs.Answered.{answers}
 use Rattle.tool_spec.specs.declared.Stop.{Stop}
 use Rattle.tool_spec.specs.declared.Stop.TheVariants.{Memory, Usage, Param, Layout, Short, ScriptFault, ImageFault, SinkFault, TooLong, BadLine, Refused}
@@ -160,6 +160,26 @@ script_at (Err (Refused x y)) script a m b status h f =
 
 -- ---- commands
 
+not_four : (n status : ℕ) → n ≢ 4 → (status ≡ n) ⊎ (status ≡ 7) → status ≡ 4 → ⊥
+not_four n status other (inl is) four = other (sym is ∙ four)
+not_four n status other (inr is) four = omega arith
+
+-- a status 4 is of an image that is too short
+pub unread_at : (e : End) (a m b : Outside) (status : ℕ) → UnreadAt a m e → NoScript m b
+    → (status ≡ status_of e) ⊎ (status ≡ 7) → status ≡ 4 → NoScript a b
+unread_at (Err (Short x y)) a m b status h k s four = script_on a m b h k
+unread_at (Ok u) a m b status h k s four = absurd (not_four 0 status (λ z. absurd (omega arith)) s four)
+unread_at (Err Memory) a m b status h k s four = absurd (not_four 1 status (λ z. absurd (omega arith)) s four)
+unread_at (Err Usage) a m b status h k s four = absurd (not_four 2 status (λ z. absurd (omega arith)) s four)
+unread_at (Err (Param x y)) a m b status h k s four = absurd (not_four 3 status (λ z. absurd (omega arith)) s four)
+unread_at (Err (Layout x)) a m b status h k s four = absurd (not_four 3 status (λ z. absurd (omega arith)) s four)
+unread_at (Err ScriptFault) a m b status h k s four = absurd (not_four 5 status (λ z. absurd (omega arith)) s four)
+unread_at (Err ImageFault) a m b status h k s four = absurd (not_four 6 status (λ z. absurd (omega arith)) s four)
+unread_at (Err SinkFault) a m b status h k s four = absurd (not_four 7 status (λ z. absurd (omega arith)) s four)
+unread_at (Err TooLong) a m b status h k s four = absurd (not_four 8 status (λ z. absurd (omega arith)) s four)
+unread_at (Err (BadLine x)) a m b status h k s four = absurd (not_four 9 status (λ z. absurd (omega arith)) s four)
+unread_at (Err (Refused x y)) a m b status h k s four = absurd (not_four 10 status (λ z. absurd (omega arith)) s four)
+
 run_answers : (plan : Plan) (a m b : Outside) (e : End) (status : ℕ) → NoScript m b → NoImage m b → RunEnds plan a m e
     → Finished e m.given b.given m.sink_faults b.sink_faults status → RunAnswers plan a b status
 run_answers plan a m b e status script image h f =
@@ -171,6 +191,7 @@ run_answers plan a m b e status script image h f =
             record { short = r.0; told = r.1 };
       };
       script = record { told = λ text l. script_at e text a m b status (h.script.told text l) f };
+      unread = unread_at e a m b status h.unread script s;
     }
 
 plan_answers : (c : Command) (plan : Plan) (a m b : Outside) (e : End) (status : ℕ) → NoScript m b → NoImage m b
@@ -320,6 +341,7 @@ out_of_memory w a b h = (rw h.given (no_texts w a.given), h.image.holds)
 pub memory_ends : (c : Command) (plan : Plan) (a b : Outside) → Nothing a b → PlanEnds c plan a b (Err Memory)
 memory_ends RunScript plan a b h = record {
   can = can_want plan.command;
+  unread = tt;
   whole = record { told = λ bytes script t l. out_of_memory (wanted plan bytes script) a b h };
   image = record { told = λ bytes t. tt };
   script = record { told = λ script l. tt };

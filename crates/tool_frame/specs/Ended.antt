@@ -74,12 +74,18 @@ ScriptAt script given given' e = (length script ≤ script_limit) × IsOk (scrip
 abbrev pub CanEnd : Plan → End → Type 0
 CanEnd plan e = IsAmong (statuses plan.command) (status_of e)
 
+-- of an image that is too short the script is not read
+abbrev pub UnreadAt : Outside → Outside → End → Type 0
+UnreadAt a b (Err (Short has needed)) = NoScript a b
+UnreadAt a b e = ⊤
+
 -- how each command's work ends, as far as the outside tells what it uses
 pub record RunEnds (plan : Plan) (a b : Outside) (e : End) : Type 0 where
   pub can : CanEnd plan e
   pub whole : IfTold a (λ bytes script. Ended (wanted plan bytes script) a b e)
   pub image : IfHolds a (λ bytes. ShortAt (mem_of plan) (length bytes) e)
   pub script : IfLeft a (λ script. ScriptAt script a.given b.given e)
+  pub unread : UnreadAt a b e
 
 pub record ImageEnds (plan : Plan) (a b : Outside) (e : End) : Type 0 where
   pub can : CanEnd plan e

@@ -158,6 +158,8 @@ pub record RunAnswers (plan : Plan) (a b : Outside) (status : ℕ) : Type 0 wher
   pub whole : IfTold a (λ bytes script. Answers (wanted plan bytes script) a b status)
   pub image : IfHolds a (λ bytes. ShortAnswers (mem_of plan) bytes status)
   pub script : IfLeft a (λ script. ScriptAnswers script a b status)
+  -- of an image that is too short the script is not read
+  pub unread : status ≡ 4 → NoScript a b
 
 -- a command that reads the image and leaves the script
 pub record ImageAnswers (plan : Plan) (a b : Outside) (status : ℕ) : Type 0 where

@@ -7,7 +7,7 @@ use Rattle.box_script.specs.Fields.{Text}
 use Rattle.box_script.specs.declared.line.Line.{Line}
 use Rattle.tool_spec.specs.Ends.{End, status_of, last_line}
 use Rattle.tool_spec.specs.Commands.{script_end, stops, plan_of}
-use Rattle.tool_spec.specs.Answers.{Outside, IfHolds, IfLeft, IfTold, front, whole, IsFree, Answers, FaultAnswers, ShortAnswers, ScriptAnswers, ToolAnswers}
+use Rattle.tool_spec.specs.Answers.{Outside, IfHolds, IfLeft, IfTold, NoScript, front, whole, IsFree, Answers, FaultAnswers, ShortAnswers, ScriptAnswers, ToolAnswers}
 use Rattle.tool_spec.specs.BlkScripts.{BlkRan, blk_ran, line_writes}
 use Rattle.tool_spec.specs.BlkCommands.{blk_asked, blk_plan_of, blk_lines}
 use Rattle.tool_spec.specs.declared.Stop.{Stop}
@@ -119,6 +119,8 @@ pub record BlkAnswers (layout : BlkLayout) (a b : Outside) (status : ℕ) : Type
   pub whole : IfTold a (λ bytes script. LinesOrStopAnswers layout bytes (blk_lines layout bytes script) a b status)
   pub image : IfHolds a (λ bytes. ShortAnswers layout.total bytes status)
   pub script : IfLeft a (λ script. ScriptAnswers script a b status)
+  -- of a store that is too short the script is not read
+  pub unread : status ≡ 4 → NoScript a b
   -- the words have no fault
   pub words : (status ≢ 2) × (status ≢ 3)
   -- the store is untouched on a status that comes before the lines alone
