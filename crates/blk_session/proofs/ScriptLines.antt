@@ -17,7 +17,8 @@ use Rattle.tool_spec.specs.declared.Cause.{Cause}
 use Rattle.tool_spec.specs.declared.Stop.{Stop}
 use Rattle.tool_spec.specs.declared.Stop.TheVariants.{Memory, Usage, Param, Layout, Short, ScriptFault, ImageFault, SinkFault, TooLong, BadLine, Refused}
 use Rattle.tool_frame.proofs.Answered.{appends_on}
-use Rattle.tool_frame.proofs.Play.{Extends, extends_self, extends_on, front_of, whole_more, nothing_put}
+use Rattle.tool_frame.proofs.Answered.{nothing_put}
+use Rattle.tool_frame.proofs.Play.{Extends, extends_self, extends_on, front_of, whole_more}
 use Rattle.blk_session.specs.Playing.{Seen, Puts, LineStops, PlayStop, Plays, IsCaused}
 
 -- ---- texts only grow

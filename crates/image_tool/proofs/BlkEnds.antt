@@ -10,8 +10,9 @@ use Rattle.tool_spec.specs.BlkCommands.{blk_lines, lines_or_bad}
 use Rattle.tool_spec.specs.declared.Stop.{Stop}
 use Rattle.tool_spec.specs.declared.Stop.TheVariants.{Memory, Usage, Param, Layout, Short, ScriptFault, ImageFault, SinkFault, TooLong, BadLine, Refused}
 use Rattle.tool_frame.specs.Stages.{SizeStop, ScriptStop, ParseStop}
-use Rattle.tool_frame.specs.Ended.{CausedAt, ShortAt, ScriptAt, UnreadAt}
-use Rattle.tool_frame.proofs.Script.{Quiet, Read, nat_lt-true, nat_lt-false, quiet_memory, put_nothing, read_of, good_script}
+use Rattle.tool_frame.specs.Ended.{CausedAt, ScriptEnds}
+use Rattle.tool_frame.proofs.ReadParts.{Read, read_of, room_of, unread_fault, unread_short, read_memory, read_fault, read_long, read_bad, read_unput, read_unsaved, read_refused, read_done}
+use Rattle.tool_frame.proofs.Script.{Quiet, nat_lt-true, nat_lt-false, quiet_memory, put_nothing}
 use Rattle.blk_session.specs.Playing.{seen, PlaysOn, Plays, IsCaused}
 use Rattle.image_tool.specs.BlkEnds.{LinesEnded, LinesOrStopEnded, KeptBefore, BlkEnds}
 
@@ -28,10 +29,6 @@ long_lines layout bytes script room h = rw (nat_lt-false room, nat_lt-true h) re
 read_lines : (layout : BlkLayout) (bytes script : List ℕ) → layout.total ≤ length bytes → length script ≤ script_limit
     → blk_lines layout bytes script ≡ lines_or_bad (script_of script)
 read_lines layout bytes script room h = rw (nat_lt-false room, nat_lt-false h) refl
-
-room_of : (n : ℕ) (holds : Option (List ℕ)) (bytes : List ℕ) → IfSome holds (λ bs. n ≤ length bs) → holds ≡ Some bytes
-    → n ≤ length bytes
-room_of n holds bytes h t = rw t at h
 
 -- ---- stops before the first line
 
@@ -69,15 +66,6 @@ lines_as : (layout : BlkLayout) (bytes : List ℕ) (r r' : Result (List Line) St
     → LinesOrStopEnded layout bytes r' a b e → LinesOrStopEnded layout bytes r a b e
 lines_as layout bytes r r' a b e same h = rw same h
 
-memory_ended : (layout : BlkLayout) (a b : Outside) → Quiet a b → BlkEnds layout a b (Err Memory)
-memory_ended layout a b q = record {
-  whole = record { told = λ bytes script t l. memory_lines layout bytes (blk_lines layout bytes script) a b q t };
-  image = record { told = λ bytes t. tt };
-  script = record { told = λ script l. tt };
-  unread = tt;
-  kept = tt;
-}
-
 stop_short : (layout : BlkLayout) (a b : Outside) (has needed : ℕ) → NoScript a b → Quiet a b
     → (needed ≡ layout.total) × (has < layout.total) × IfSome a.holds (λ bs. has ≡ length bs)
     → BlkEnds layout a b (Err (Short has needed))
@@ -90,9 +78,7 @@ stop_short layout a b has needed none q h = record {
         (Err (Short has needed)) (short_lines layout bytes script few)
         (rw (size, h.0) refl, put_nothing a b q, q.holds);
   };
-  image = record { told = λ bytes t. let size : has ≡ length bytes = rw t at h.2 in rw size at h.1 };
-  script = record { told = λ script l. tt };
-  unread = none;
+  read = unread_short layout.total a b has needed none q.given h;
   kept = q.holds;
 }
 
@@ -101,9 +87,7 @@ pub size_stopped : (layout : BlkLayout) (a b : Outside) (s : Stop) (f g : ℕ) �
     → SizeStop s layout.total a.holds f g → BlkEnds layout a b (Err s)
 size_stopped layout a b ImageFault f g none q h = record {
   whole = record { told = λ bytes script t l. image_lines layout bytes (blk_lines layout bytes script) a b q t };
-  image = record { told = λ bytes t. tt };
-  script = record { told = λ script l. tt };
-  unread = tt;
+  read = unread_fault layout.total a b none;
   kept = tt;
 }
 size_stopped layout a b (Short has needed) f g none q h = stop_short layout a b has needed none q h
@@ -117,88 +101,78 @@ size_stopped layout a b TooLong f g none q h = absurd h
 size_stopped layout a b (BadLine x) f g none q h = absurd h
 size_stopped layout a b (Refused x y) f g none q h = absurd h
 
-stop_long : (layout : BlkLayout) (a b : Outside) → IfSome a.holds (λ bs. layout.total ≤ length bs) → Quiet a b
-    → IfSome a.left (λ bs. script_limit < length bs) → BlkEnds layout a b (Err TooLong)
-stop_long layout a b room q h = record {
-  whole = record {
-    told = λ bytes script t s.
-        let long : script_limit < length script = rw s at h in
-        lines_as layout bytes (blk_lines layout bytes script) (Err TooLong) a b (Err TooLong)
-        (long_lines layout bytes script (room_of layout.total a.holds bytes room t) long)
-        (refl, put_nothing a b q, q.holds);
-  };
-  image = record { told = λ bytes t. room_of layout.total a.holds bytes room t };
-  script = record { told = λ script s. let long : script_limit < length script = rw s at h in (long, q.given) };
-  unread = tt;
-  kept = q.holds;
-}
+-- what follows was done on a store with room
+module _ (layout : BlkLayout) (a b : Outside) (room : IfSome a.holds (λ bs. layout.total ≤ length bs)) where
+  memory_ended : Quiet a b → BlkEnds layout a b (Err Memory)
+  memory_ended q = record {
+    whole = record { told = λ bytes script t l. memory_lines layout bytes (blk_lines layout bytes script) a b q t };
+    read = read_memory layout.total a b room;
+    kept = tt;
+  }
 
--- the script was not read
-pub script_stopped : (layout : BlkLayout) (a b : Outside) (s : Stop) (f g : ℕ)
-    → IfSome a.holds (λ bs. layout.total ≤ length bs) → Quiet a b → ScriptStop s a.left f g → BlkEnds layout a b (Err s)
-script_stopped layout a b Memory f g room q h = memory_ended layout a b q
-script_stopped layout a b ScriptFault f g room q h = record {
-  whole = record { told = λ bytes script t l. script_lines layout bytes (blk_lines layout bytes script) a b q t };
-  image = record { told = λ bytes t. room_of layout.total a.holds bytes room t };
-  script = record { told = λ script l. tt };
-  unread = tt;
-  kept = q.holds;
-}
-script_stopped layout a b TooLong f g room q h = stop_long layout a b room q h
-script_stopped layout a b Usage f g room q h = absurd h
-script_stopped layout a b (Param x y) f g room q h = absurd h
-script_stopped layout a b (Layout x) f g room q h = absurd h
-script_stopped layout a b (Short x y) f g room q h = absurd h
-script_stopped layout a b ImageFault f g room q h = absurd h
-script_stopped layout a b SinkFault f g room q h = absurd h
-script_stopped layout a b (BadLine x) f g room q h = absurd h
-script_stopped layout a b (Refused x y) f g room q h = absurd h
+  stop_long : Quiet a b → IfSome a.left (λ bs. script_limit < length bs) → BlkEnds layout a b (Err TooLong)
+  stop_long q h = record {
+    whole = record {
+      told = λ bytes script t s.
+          let long : script_limit < length script = rw s at h in
+          lines_as layout bytes (blk_lines layout bytes script) (Err TooLong) a b (Err TooLong)
+          (long_lines layout bytes script (room_of layout.total a.holds bytes room t) long)
+          (refl, put_nothing a b q, q.holds);
+    };
+    read = read_long layout.total a b room q.given h;
+    kept = q.holds;
+  }
 
--- the lines of a script that was read
-lines_read : (layout : BlkLayout) (a : Outside) (text bytes script : List ℕ) (r : Result (List Line) ℕ)
-    → IfSome a.holds (λ bs. layout.total ≤ length bs) → Read a text → script_of text ≡ r → a.holds ≡ Some bytes
-    → a.left ≡ Some script → blk_lines layout bytes script ≡ lines_or_bad r
-lines_read layout a text bytes script r room read e t s =
-    let same : script ≡ text = sym (read_of a text script read s) in
-    let few : length script ≤ script_limit = rw same read.few in
-    read_lines layout bytes script (room_of layout.total a.holds bytes room t) few ∙ rw (same, e) refl
+  -- the script was not read
+  pub script_stopped : (s : Stop) (f g : ℕ) → Quiet a b → ScriptStop s a.left f g → BlkEnds layout a b (Err s)
+  script_stopped Memory f g q h = memory_ended q
+  script_stopped ScriptFault f g q h = record {
+    whole = record { told = λ bytes script t l. script_lines layout bytes (blk_lines layout bytes script) a b q t };
+    read = read_fault layout.total a b room q.given;
+    kept = q.holds;
+  }
+  script_stopped TooLong f g q h = stop_long q h
+  script_stopped Usage f g q h = absurd h
+  script_stopped (Param x y) f g q h = absurd h
+  script_stopped (Layout x) f g q h = absurd h
+  script_stopped (Short x y) f g q h = absurd h
+  script_stopped ImageFault f g q h = absurd h
+  script_stopped SinkFault f g q h = absurd h
+  script_stopped (BadLine x) f g q h = absurd h
+  script_stopped (Refused x y) f g q h = absurd h
 
-stop_bad : (layout : BlkLayout) (a b : Outside) (text : List ℕ) (n : ℕ)
-    → IfSome a.holds (λ bs. layout.total ≤ length bs) → Read a text → Quiet a b → script_of text ≡ Err n
-    → BlkEnds layout a b (Err (BadLine n))
-stop_bad layout a b text n room read q h = record {
-  whole = record {
-    told = λ bytes script t s. lines_as layout bytes (blk_lines layout bytes script) (Err (BadLine n)) a b
-        (Err (BadLine n)) (lines_read layout a text bytes script (Err n) room read h t s)
-        (refl, put_nothing a b q, q.holds);
-  };
-  image = record { told = λ bytes t. room_of layout.total a.holds bytes room t };
-  script = record {
-    told = λ script s.
-        let same : script ≡ text = sym (read_of a text script read s) in
+  module _ (text : List ℕ) (read : Read a b text) where
+    -- the lines of a script that was read
+    lines_read : (bytes script : List ℕ) (r : Result (List Line) ℕ) → script_of text ≡ r → a.holds ≡ Some bytes
+        → a.left ≡ Some script → blk_lines layout bytes script ≡ lines_or_bad r
+    lines_read bytes script r e t s =
+        let same : script ≡ text = sym (read_of a b text script read s) in
         let few : length script ≤ script_limit = rw same read.few in
-        let bad : script_of script ≡ Err n = rw same h in
-        (few, bad, q.given);
-  };
-  unread = tt;
-  kept = q.holds;
-}
+        read_lines layout bytes script (room_of layout.total a.holds bytes room t) few ∙ rw (same, e) refl
 
--- the script has a bad line
-pub parse_stopped : (layout : BlkLayout) (a b : Outside) (text : List ℕ) (s : Stop)
-    → IfSome a.holds (λ bs. layout.total ≤ length bs) → Read a text → Quiet a b → ParseStop s (script_of text)
-    → BlkEnds layout a b (Err s)
-parse_stopped layout a b text Memory room read q h = memory_ended layout a b q
-parse_stopped layout a b text (BadLine n) room read q h = stop_bad layout a b text n room read q h
-parse_stopped layout a b text Usage room read q h = absurd h
-parse_stopped layout a b text (Param x y) room read q h = absurd h
-parse_stopped layout a b text (Layout x) room read q h = absurd h
-parse_stopped layout a b text (Short x y) room read q h = absurd h
-parse_stopped layout a b text ScriptFault room read q h = absurd h
-parse_stopped layout a b text ImageFault room read q h = absurd h
-parse_stopped layout a b text SinkFault room read q h = absurd h
-parse_stopped layout a b text TooLong room read q h = absurd h
-parse_stopped layout a b text (Refused x y) room read q h = absurd h
+    stop_bad : (n : ℕ) → Quiet a b → script_of text ≡ Err n → BlkEnds layout a b (Err (BadLine n))
+    stop_bad n q h = record {
+      whole = record {
+        told = λ bytes script t s. lines_as layout bytes (blk_lines layout bytes script) (Err (BadLine n)) a b
+            (Err (BadLine n)) (lines_read bytes script (Err n) h t s) (refl, put_nothing a b q, q.holds);
+      };
+      read = read_bad layout.total a b room text read n h q.given;
+      kept = q.holds;
+    }
+
+    -- the script has a bad line
+    pub parse_stopped : (s : Stop) → Quiet a b → ParseStop s (script_of text) → BlkEnds layout a b (Err s)
+    parse_stopped Memory q h = memory_ended q
+    parse_stopped (BadLine n) q h = stop_bad n q h
+    parse_stopped Usage q h = absurd h
+    parse_stopped (Param x y) q h = absurd h
+    parse_stopped (Layout x) q h = absurd h
+    parse_stopped (Short x y) q h = absurd h
+    parse_stopped ScriptFault q h = absurd h
+    parse_stopped ImageFault q h = absurd h
+    parse_stopped SinkFault q h = absurd h
+    parse_stopped TooLong q h = absurd h
+    parse_stopped (Refused x y) q h = absurd h
 
 -- ---- lines
 
@@ -249,37 +223,24 @@ lines_played (Err ScriptFault) layout bytes lines a b holds g g' h h' c p = absu
 lines_played (Err TooLong) layout bytes lines a b holds g g' h h' c p = absurd c
 lines_played (Err (BadLine x)) layout bytes lines a b holds g g' h h' c p = absurd c
 
--- lines end no other way than behind their reading
-played_short : (e : End) (mem size g g' h h' : ℕ) (holds holds' given given' : Option (List ℕ))
-    → IsCaused e (seen holds g given h) (seen holds' g' given' h') → mem ≤ size → ShortAt mem size e
-played_short (Ok u) mem size g g' h h' holds holds' given given' c le = le
-played_short (Err Memory) mem size g g' h h' holds holds' given given' c le = tt
-played_short (Err ImageFault) mem size g g' h h' holds holds' given given' c le = tt
-played_short (Err SinkFault) mem size g g' h h' holds holds' given given' c le = le
-played_short (Err (Refused n cause)) mem size g g' h h' holds holds' given given' c le = le
-played_short (Err Usage) mem size g g' h h' holds holds' given given' c le = absurd c
-played_short (Err (Param x y)) mem size g g' h h' holds holds' given given' c le = absurd c
-played_short (Err (Layout x)) mem size g g' h h' holds holds' given given' c le = absurd c
-played_short (Err (Short x y)) mem size g g' h h' holds holds' given given' c le = absurd c
-played_short (Err ScriptFault) mem size g g' h h' holds holds' given given' c le = absurd c
-played_short (Err TooLong) mem size g g' h h' holds holds' given given' c le = absurd c
-played_short (Err (BadLine x)) mem size g g' h h' holds holds' given given' c le = absurd c
-
-played_script : (e : End) (script : List ℕ) (g g' h h' : ℕ) (holds holds' given given' before now : Option (List ℕ))
-    → IsCaused e (seen holds g given h) (seen holds' g' given' h')
-    → (length script ≤ script_limit) × IsOk (script_of script) → ScriptAt script before now e
-played_script (Ok u) script g g' h h' holds holds' given given' before now c good = good
-played_script (Err Memory) script g g' h h' holds holds' given given' before now c good = tt
-played_script (Err ImageFault) script g g' h h' holds holds' given given' before now c good = tt
-played_script (Err SinkFault) script g g' h h' holds holds' given given' before now c good = tt
-played_script (Err (Refused n cause)) script g g' h h' holds holds' given given' before now c good = good
-played_script (Err Usage) script g g' h h' holds holds' given given' before now c good = absurd c
-played_script (Err (Param x y)) script g g' h h' holds holds' given given' before now c good = absurd c
-played_script (Err (Layout x)) script g g' h h' holds holds' given given' before now c good = absurd c
-played_script (Err (Short x y)) script g g' h h' holds holds' given given' before now c good = absurd c
-played_script (Err ScriptFault) script g g' h h' holds holds' given given' before now c good = absurd c
-played_script (Err TooLong) script g g' h h' holds holds' given given' before now c good = absurd c
-played_script (Err (BadLine x)) script g g' h h' holds holds' given given' before now c good = absurd c
+-- lines end no other way than after their reading
+module _ (mem : ℕ) (a b : Outside) (room : IfSome a.holds (λ bs. mem ≤ length bs)) (text : List ℕ)
+    (read : Read a b text) (lines : List Line) (ok : script_of text ≡ Ok lines) where
+  played_read : (e : End) (g g' h h' : ℕ) (holds holds' given given' : Option (List ℕ))
+      → IsCaused e (seen holds g given h) (seen holds' g' given' h') → ScriptEnds mem a b e
+  played_read (Ok u) g g' h h' holds holds' given given' c = read_done mem a b room text read lines ok
+  played_read (Err Memory) g g' h h' holds holds' given given' c = read_memory mem a b room
+  played_read (Err ImageFault) g g' h h' holds holds' given given' c = read_unsaved mem a b room text read
+  played_read (Err SinkFault) g g' h h' holds holds' given given' c = read_unput mem a b room text read
+  played_read (Err (Refused n cause)) g g' h h' holds holds' given given' c =
+      read_refused mem a b room text read lines ok n cause
+  played_read (Err Usage) g g' h h' holds holds' given given' c = absurd c
+  played_read (Err (Param x y)) g g' h h' holds holds' given given' c = absurd c
+  played_read (Err (Layout x)) g g' h h' holds holds' given given' c = absurd c
+  played_read (Err (Short x y)) g g' h h' holds holds' given given' c = absurd c
+  played_read (Err ScriptFault) g g' h h' holds holds' given given' c = absurd c
+  played_read (Err TooLong) g g' h h' holds holds' given given' c = absurd c
+  played_read (Err (BadLine x)) g g' h h' holds holds' given given' c = absurd c
 
 played_kept : (e : End) (g g' h h' : ℕ) (holds holds' given given' before now : Option (List ℕ))
     → IsCaused e (seen holds g given h) (seen holds' g' given' h') → KeptBefore before now e
@@ -296,22 +257,7 @@ played_kept (Err ScriptFault) g g' h h' holds holds' given given' before now c =
 played_kept (Err TooLong) g g' h h' holds holds' given given' before now c = absurd c
 played_kept (Err (BadLine x)) g g' h h' holds holds' given given' before now c = absurd c
 
-played_unread : (e : End) (a b : Outside) (g g' h h' : ℕ) (holds holds' given given' : Option (List ℕ))
-    → IsCaused e (seen holds g given h) (seen holds' g' given' h') → UnreadAt a b e
-played_unread (Ok u) a b g g' h h' holds holds' given given' c = tt
-played_unread (Err Memory) a b g g' h h' holds holds' given given' c = tt
-played_unread (Err ImageFault) a b g g' h h' holds holds' given given' c = tt
-played_unread (Err SinkFault) a b g g' h h' holds holds' given given' c = tt
-played_unread (Err (Refused n cause)) a b g g' h h' holds holds' given given' c = tt
-played_unread (Err Usage) a b g g' h h' holds holds' given given' c = absurd c
-played_unread (Err (Param x y)) a b g g' h h' holds holds' given given' c = absurd c
-played_unread (Err (Layout x)) a b g g' h h' holds holds' given given' c = absurd c
-played_unread (Err (Short x y)) a b g g' h h' holds holds' given given' c = absurd c
-played_unread (Err ScriptFault) a b g g' h h' holds holds' given given' c = absurd c
-played_unread (Err TooLong) a b g g' h h' holds holds' given given' c = absurd c
-played_unread (Err (BadLine x)) a b g g' h h' holds holds' given given' c = absurd c
-
--- a fault is told only where its count rose since the moment before the lines, at which no count was lower
+-- a fault is named only if its count rose since the moment before the lines, at which no count was lower
 pub played_caused : (e : End) (f f' g0 g g' h0 h h' : ℕ) (holds holds' given given' : Option (List ℕ)) → g0 ≤ g
     → h0 ≤ h → IsCaused e (seen holds g given h) (seen holds' g' given' h') → CausedAt f f' g0 g' h0 h' e
 played_caused (Ok u) f f' g0 g g' h0 h h' holds holds' given given' p q c = tt
@@ -329,23 +275,15 @@ played_caused (Err (BadLine x)) f f' g0 g g' h0 h h' holds holds' given given' p
 
 -- lines were played on a store that holds what it held
 pub play_ended : (layout : BlkLayout) (a b : Outside) (text : List ℕ) (lines : List Line) (e : End)
-    (holds : Option (List ℕ)) (g g' h h' : ℕ) → IfSome a.holds (λ bs. layout.total ≤ length bs) → Read a text
+    (holds : Option (List ℕ)) (g g' h h' : ℕ) → IfSome a.holds (λ bs. layout.total ≤ length bs) → Read a b text
     → script_of text ≡ Ok lines → holds ≡ a.holds → IsCaused e (seen holds g a.given h) (seen b.holds g' b.given h')
     → Plays e layout lines (seen holds g a.given h) (seen b.holds g' b.given h') → BlkEnds layout a b e
 play_ended layout a b text lines e holds g g' h h' room read ok same c p = record {
   whole = record {
     told = λ bytes script t s. lines_as layout bytes (blk_lines layout bytes script) (Ok lines) a b e
-        (lines_read layout a text bytes script (Ok lines) room read ok t s)
+        (lines_read layout a b room text read bytes script (Ok lines) ok t s)
         (lines_played e layout bytes lines a b holds g g' h h' c (p bytes (same ∙ t)));
   };
-  image = record {
-    told = λ bytes t. played_short e layout.total (length bytes)
-        g g' h h' holds b.holds a.given b.given c (room_of layout.total a.holds bytes room t);
-  };
-  script = record {
-    told = λ script s. played_script e script g g' h h' holds b.holds a.given b.given a.given b.given
-        c (good_script a text lines read ok script s);
-  };
+  read = played_read layout.total a b room text read lines ok e g g' h h' holds b.holds a.given b.given c;
   kept = played_kept e g g' h h' holds b.holds a.given b.given a.holds b.holds c;
-  unread = played_unread e a b g g' h h' holds b.holds a.given b.given c;
 }

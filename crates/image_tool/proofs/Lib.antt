@@ -7,3 +7,4 @@ pub mod ScriptEnds
 pub mod WorkEnds
 pub mod BlkEnds
 pub mod BlkAnswered
+pub mod Completed

@@ -1,14 +1,14 @@
 -- How the making of an image ends
-use Rattle.std.proofs.Common.{◌≡◌, ℕ, List, [], Ok, Err, refl, append-nil, inr}
+use Rattle.std.proofs.Common.{◌≡◌, ℕ, List, [], ◌∷◌, Ok, Err, refl, append-nil, inl, inr}
 use Rattle.std.specs.Io.KnownBytes.{Appends}
 use Rattle.box_io.specs.Outside.{AppendsFront, Writes, WritesFront}
 use Rattle.session_spec.specs.Stop.{session_image}
 use Rattle.box_script.specs.Fields.{Text}
 use Rattle.tool_spec.specs.Generated.{generated, summary}
 use Rattle.tool_spec.specs.Commands.{MakeImage, Plan, wanted, wanted_make, mem_of}
-use Rattle.tool_spec.specs.Answers.{Outside, NoScript}
+use Rattle.tool_spec.specs.Answers.{Outside, NoScript, NoImage, PutsAll, whole}
 use Rattle.tool_spec.specs.declared.Stop.TheVariants.{Memory, SinkFault, ImageFault}
-use Rattle.tool_frame.specs.Ended.{MakeEnds}
+use Rattle.tool_frame.specs.Ended.{WrittenAt, MakeEnds}
 use Rattle.tool_frame.proofs.Script.{Quiet, quiet_memory}
 
 make_wanted : (plan : Plan) (n : ℕ) → plan.command ≡ MakeImage n
@@ -16,12 +16,18 @@ make_wanted : (plan : Plan) (n : ℕ) → plan.command ≡ MakeImage n
 make_wanted plan n is = rw is refl
 
 module _ (plan : Plan) (n : ℕ) (a b : Outside) (is : plan.command ≡ MakeImage n) (none : NoScript a b) where
-  pub make_memory : Quiet a b → MakeEnds plan a b (Err Memory)
-  make_memory q = record { can = rw is refl; whole = quiet_memory (wanted plan [] []) a b q; script = none }
+  pub make_memory : NoImage a b → Quiet a b → MakeEnds plan a b (Err Memory)
+  make_memory image q = record {
+    can = rw is refl;
+    whole = quiet_memory (wanted plan [] []) a b q;
+    script = none;
+    image_fault = tt;
+    text_first = inl image;
+  }
 
   module _ (text : Text) (e : text ≡ summary n plan.zones (generated plan.zones (mem_of plan) n)) where
-    pub make_unput : b.holds ≡ a.holds → AppendsFront a.given b.given text → MakeEnds plan a b (Err SinkFault)
-    make_unput same put = record {
+    pub make_unput : NoImage a b → AppendsFront a.given b.given text → MakeEnds plan a b (Err SinkFault)
+    make_unput image put = record {
       can = rw is refl;
       whole = rw (make_wanted plan n is) (
         record {
@@ -31,13 +37,20 @@ module _ (plan : Plan) (n : ℕ) (a b : Outside) (is : plan.command ≡ MakeImag
             ← e,
           ) put;
         },
-        same,
+        image.holds,
       );
       script = none;
+      image_fault = tt;
+      text_first = inl image;
     }
 
     module _ (image : List ℕ) (i : image ≡ session_image (generated plan.zones (mem_of plan) n).session)
         (put : Appends a.given b.given text) where
+      puts_all : PutsAll (wanted plan [] []) a b
+      puts_all = ([], rw (make_wanted plan n is, append-nil (whole (summary n plan.zones
+          (generated plan.zones (mem_of plan) n) ∷ [])), append-nil (summary n plan.zones
+          (generated plan.zones (mem_of plan) n)), ← e) put)
+
       pub make_saved : Writes a.holds b.holds 0 image → MakeEnds plan a b (Ok tt)
       make_saved wrote = record {
         can = rw is refl;
@@ -47,16 +60,18 @@ module _ (plan : Plan) (n : ℕ) (a b : Outside) (is : plan.command ≡ MakeImag
           rw i at wrote,
         );
         script = none;
+        image_fault = tt;
+        text_first = inr puts_all;
       }
 
       pub make_unsaved : WritesFront a.holds b.holds 0 image → MakeEnds plan a b (Err ImageFault)
-      make_unsaved wrote = record {
-        can = rw is refl;
-        whole = rw (make_wanted plan n is)
-            (inr (
-              refl,
-              rw (append-nil (summary n plan.zones (generated plan.zones (mem_of plan) n)), ← e) put,
-              rw i at wrote,
-            ));
-        script = none;
-      }
+      make_unsaved wrote =
+          let written : WrittenAt (wanted plan [] []) a b (Err ImageFault) = rw (make_wanted plan n is)
+          (refl, rw (append-nil (summary n plan.zones (generated plan.zones (mem_of plan) n)), ← e) put, rw i at wrote)
+          in record {
+            can = rw is refl;
+            whole = inr written;
+            script = none;
+            image_fault = written;
+            text_first = inr puts_all;
+          }

@@ -6,10 +6,7 @@ use Rattle.box_io.specs.Outside.{AppendsFront, Writes, WritesFront}
 use Rattle.tool_spec.specs.Commands.{shows, leaves}
 use Rattle.tool_spec.specs.declared.Stop.TheVariants.{Memory, SinkFault, ImageFault}
 use Rattle.tool_frame.specs.Ended.{EndedAt}
-
-nothing_put : (given : Option (List ℕ)) → Appends given given []
-nothing_put None = tt
-nothing_put (Some xs) = grind (arith, common_steps)
+use Rattle.tool_frame.proofs.Answered.{nothing_put}
 
 pub put_all : (text bytes : List ℕ) (given given' holds : Option (List ℕ)) → bytes ≡ text → Appends given given' bytes
     → EndedAt (shows (text ∷ [])) given given' holds holds (Ok tt)

@@ -1,15 +1,15 @@
 -- How the work of any words ends, before its last line; of a script on the block store by its lines
-use Rattle.std.specs.Prelude.{◌≡◌, ⊤, ℕ, List, length, Option, None, Some, Result, Ok, Err}
+use Rattle.std.specs.Prelude.{◌≡◌, ⊤, ℕ, List, Option, None, Some, Result, Ok, Err}
 use Rattle.std.specs.Io.KnownBytes.{Appends}
 use Rattle.blk_spec.specs.declared.BlkLayout.{BlkLayout}
 use Rattle.box_script.specs.Fields.{Text}
 use Rattle.box_script.specs.declared.line.Line.{Line}
 use Rattle.tool_spec.specs.Ends.{End}
 use Rattle.tool_spec.specs.Commands.{stops, plan_of}
-use Rattle.tool_spec.specs.Answers.{Outside, IfHolds, IfLeft, IfTold}
+use Rattle.tool_spec.specs.Answers.{Outside, IfTold}
 use Rattle.tool_spec.specs.BlkCommands.{blk_asked, blk_plan_of, blk_lines}
 use Rattle.tool_spec.specs.BlkAnswers.{LinesStop, AllDone}
-use Rattle.tool_frame.specs.Ended.{Ended, ShortAt, ScriptAt, UnreadAt, Nothing, WorkEnds}
+use Rattle.tool_frame.specs.Ended.{Ended, ScriptEnds, Nothing, WorkEnds}
 use Rattle.tool_spec.specs.declared.Stop.{Stop}
 use Rattle.tool_spec.specs.declared.Stop.TheVariants.{Memory, Usage, Param, Layout, ImageFault, SinkFault, Refused}
 
@@ -44,10 +44,8 @@ KeptBefore holds holds' (Err s) = holds' ≡ holds
 -- a script on the block store, as far as the outside tells what it uses
 pub record BlkEnds (layout : BlkLayout) (a b : Outside) (e : End) : Type 0 where
   pub whole : IfTold a (λ bytes script. LinesOrStopEnded layout bytes (blk_lines layout bytes script) a b e)
-  pub image : IfHolds a (λ bytes. ShortAt layout.total (length bytes) e)
-  pub script : IfLeft a (λ script. ScriptAt script a.given b.given e)
+  pub read : ScriptEnds layout.total a b e
   pub kept : KeptBefore a.holds b.holds e
-  pub unread : UnreadAt a b e
 
 -- the work of a layout, or of none
 abbrev pub BlkPlanEnds : Result BlkLayout Stop → Outside → Outside → End → Type 0

@@ -1,5 +1,7 @@
 // The commands that read no image.
-ghost use Rattle.std.specs.Prelude.{◌≡◌, ℕ, ◌≤◌, ◌<◌, ◌^◌, ◌∷◌, [], List, Option, replicate, length, IfErr, MatchOption};
+ghost use Rattle.std.specs.Prelude.{◌≡◌, ℕ, ◌≤◌, ◌<◌, ◌^◌, ◌∷◌, [], List, Option, Err, replicate, length, IfErr, MatchOption};
+ghost use Rattle.box_io.specs.Outside.{WritesFront};
+ghost use Rattle.tool_spec.specs.declared.Stop.TheVariants.{ImageFault};
 ghost use Rattle.tool_spec.specs.Texts.{layout_text};
 ghost use Rattle.tool_spec.specs.Ends.{status_of};
 ghost use Rattle.tool_spec.specs.Commands.{ShowLayout, BlankImage, shows, leaves};
@@ -42,6 +44,8 @@ pub fn blank<M: Store>(image: &mut M, mem: u32) -> Result<(), Stop>
     ensures can { IsAmong (statuses BlankImage) (status_of result) }
     ensures ended { (given : Option (List ℕ)) → EndedAt (leaves (replicate mem 0)) given given (M.holds image.old)
         (M.holds image.new) result }
+    ensures written { result ≡ Err ImageFault
+        → WritesFront (M.holds image.old) (M.holds image.new) 0 (replicate mem 0) }
 {
     match fill(image, mem) {
         Ok(()) => Ok(()),

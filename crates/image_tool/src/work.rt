@@ -1,10 +1,11 @@
 // The run of a command.
-ghost use Rattle.std.specs.Prelude.{◌≡◌, ◌≢◌, ◌≤◌, None};
+ghost use Rattle.std.specs.Prelude.{◌≡◌, ◌≢◌, ◌⊎◌, ◌≤◌, None};
 ghost use Rattle.box_io.specs.Outside.{Rose};
 ghost use Rattle.tool_spec.specs.Commands.{plan_of};
 ghost use Rattle.tool_spec.specs.Answers.{outside, Later};
 ghost use Rattle.tool_spec.specs.BlkCommands.{blk_asked, blk_plan_of};
 ghost use Rattle.tool_spec.specs.BlkAnswers.{AllAnswers};
+ghost use Rattle.tool_spec.specs.Complete.{Completes};
 ghost use Rattle.tool_frame.specs.Words.{texts};
 ghost use Rattle.image_tool.specs.Headline.{RunReads};
 ghost use Rattle.image_tool.specs.BlkEnds.{BlkPlanEnds, AllEnds};
@@ -137,13 +138,18 @@ pub fn run<S: Source, M: Store, O: Sink>(
     ensures script_fault { result ≡ 5 → Rose (S.faults script.old) (S.faults script.new) }
     ensures image_fault { result ≡ 6 → Rose (M.faults image.old) (M.faults image.new) }
     ensures sink_fault { result ≡ 7 → Rose (O.faults out.old) (O.faults out.new) }
-    ensures untouched { blk_asked (texts words.now) ≡ None → result ≢ 0 → result ≢ 6 → result ≢ 7
-        → M.holds image.new ≡ M.holds image.old }
+    ensures untouched { blk_asked (texts words.now) ≡ None → result ≢ 0
+        → (M.holds image.new ≡ M.holds image.old) ⊎ Rose (M.faults image.old) (M.faults image.new) }
     ensures answers { let before = outside (S.left script.old) (S.faults script.old) (M.holds image.old)
         (M.faults image.old) (O.given out.old) (O.faults out.old) in
         let after = outside (S.left script.new) (S.faults script.new) (M.holds image.new) (M.faults image.new)
         (O.given out.new) (O.faults out.new) in
         AllAnswers (texts words.now) before after result }
+    ensures complete { Completes (texts words.now)
+        (outside (S.left script.old) (S.faults script.old) (M.holds image.old) (M.faults image.old) (O.given out.old)
+        (O.faults out.old))
+        (outside (S.left script.new) (S.faults script.new) (M.holds image.new) (M.faults image.new) (O.given out.new)
+        (O.faults out.new)) result }
     ensures reads { RunReads (plan_of (texts words.now))
         (outside (S.left script.old) (S.faults script.old) (M.holds image.old) (M.faults image.old) (O.given out.old)
         (O.faults out.old)) }

@@ -4,6 +4,7 @@ pub mod Answered
 pub mod Image
 pub mod Play
 pub mod Script
+pub mod ReadParts
 pub mod Tool
 pub mod Few
 pub mod Sizes

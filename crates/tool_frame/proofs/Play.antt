@@ -18,7 +18,7 @@ use Rattle.tool_spec.specs.declared.Stop.{Stop}
 use Rattle.tool_spec.specs.declared.Stop.TheVariants.{Refused}
 use Rattle.tool_frame.specs.Ended.{PutTexts, PutSome}
 use Rattle.tool_frame.specs.Playing.{Played, PlayedTo, PlayStop}
-use Rattle.tool_frame.proofs.Answered.{appends_on, front_on}
+use Rattle.tool_frame.proofs.Answered.{appends_on, front_on, nothing_put}
 
 -- ---- texts only grow
 
@@ -109,10 +109,6 @@ pub whole_more : (texts : List Text) (text : Text) → whole (texts ++ text ∷ 
 whole_more texts text = grind (arith, common_steps)
 
 -- nothing is done yet
-pub nothing_put : (given : Option (List ℕ)) → Appends given given []
-nothing_put None = tt
-nothing_put (Some xs) = grind (arith, common_steps)
-
 pub played_none : (layout : List Zone) (image : List ℕ) (lines : List Line) (given : Option (List ℕ))
     → PlayedTo layout image lines 0 (started layout image).session given given
 played_none layout image lines given = record {

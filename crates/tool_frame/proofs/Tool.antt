@@ -1,15 +1,17 @@
 -- What the tool answers for each command, from how its work ended and what the last line left
-use Rattle.std.proofs.Common.{◌≡◌, ◌≢◌, ◌⊎◌, true, false, ℕ, ◌<◌, ◌≤◌, List, [], length, Option, Some, None, Result, Ok, Err, refl, sym, ap, ◌∙◌, arith, inl, inr, IsOk}
+use Rattle.std.proofs.Common.{◌≡◌, ◌≢◌, ◌⊎◌, true, false, ℕ, ◌<◌, ◌≤◌, List, [], ◌++◌, length, take, Option, Some, None, Result, Ok, Err, refl, sym, ap, ◌∙◌, arith, inl, inr, append_assoc, IsOk}
 use Rattle.std.proofs.lemmas.Grind.{common_steps}
-use Rattle.std.specs.Io.KnownBytes.{Appends}
+use Rattle.std.specs.Io.KnownBytes.{Appends, IsAtEnd}
 use Rattle.box_script.specs.Lines.{script_of}
-use Rattle.tool_spec.specs.Ends.{End, status_of}
-use Rattle.tool_spec.specs.Commands.{Command, RunScript, ListRecords, ExtractRecord, EraseRecord, ShowLayout, BlankImage, MakeImage, Plan, Wanted, wanted, script_limit}
-use Rattle.tool_spec.specs.Answers.{Outside, NoScript, NoImage, IsFree, ScriptAnswers, RunAnswers, PlanAnswers, FaultAnswers, ToolAnswers, statuses, IsAmong}
+use Rattle.box_script.specs.Fields.{Text}
+use Rattle.tool_spec.specs.Ends.{End, status_of, last_line}
+use Rattle.tool_spec.specs.Commands.{Command, RunScript, ListRecords, ExtractRecord, EraseRecord, ShowLayout, BlankImage, MakeImage, Plan, Wanted, wanted, mem_of, script_limit}
+use Rattle.tool_spec.specs.Answers.{Outside, IfHolds, NoScript, NoImage, RoseFor, PutsAll, IsFree, SavedInPart, ShortAnswers, ScriptAnswers, ScriptUse, ScriptRead, RunAnswers, MakeAnswers, PlanAnswers, FaultAnswers, ToolAnswers, whole, statuses, IsAmong}
 use Rattle.tool_frame.specs.Ends.{LastPut, Finished}
 use Rattle.tool_frame.specs.Words.{PlanStop}
-use Rattle.tool_frame.specs.Ended.{PutTexts, Ended, ShortAt, ScriptAt, UnreadAt, CanEnd, RunEnds, PlanEnds, Nothing, WorkEnds}
-use Rattle.tool_frame.proofs.Answered.{answers}
+use Rattle.tool_frame.specs.Ended.{PutTexts, Ended, Caused, ShortAt, ScriptAt, UseAt, ScriptEnds, CanEnd, RunEnds, WrittenAt, MakeEnds, PlanEnds, Nothing, WorkEnds}
+use Rattle.tool_frame.proofs.ReadParts.{unread_memory}
+use Rattle.tool_frame.proofs.Answered.{GoesOn, rose_on, sink_rose, saved_in_part, answers, appends_on, nothing_put}
 use Rattle.tool_spec.specs.declared.Stop.{Stop}
 use Rattle.tool_spec.specs.declared.Stop.TheVariants.{Memory, Usage, Param, Layout, Short, ScriptFault, ImageFault, SinkFault, TooLong, BadLine, Refused}
 
@@ -19,212 +21,420 @@ script_on a m b h k = record { left = k.left ∙ h.left; source = k.source ∙ h
 pub image_on : (a m b : Outside) → NoImage a m → NoImage m b → NoImage a b
 image_on a m b h k = record { holds = k.holds ∙ h.holds; store = k.store ∙ h.store }
 
--- the status is that of the end, or 7
-pub status_is : (e : End) (given given' : Option (List ℕ)) (before now status : ℕ)
-    → Finished e given given' before now status → (status ≡ status_of e) ⊎ (status ≡ 7)
-status_is (Ok u) given given' before now status f = inl f.answer
-status_is (Err Memory) given given' before now status f = elim f.shown [ inl h ↦ inl h.0 | inr h ↦ inr h.0 ]
-status_is (Err Usage) given given' before now status f = elim f.shown [ inl h ↦ inl h.0 | inr h ↦ inr h.0 ]
-status_is (Err (Param x y)) given given' before now status f = elim f.shown [ inl h ↦ inl h.0 | inr h ↦ inr h.0 ]
-status_is (Err (Layout x)) given given' before now status f = elim f.shown [ inl h ↦ inl h.0 | inr h ↦ inr h.0 ]
-status_is (Err (Short x y)) given given' before now status f = elim f.shown [ inl h ↦ inl h.0 | inr h ↦ inr h.0 ]
-status_is (Err ScriptFault) given given' before now status f = elim f.shown [ inl h ↦ inl h.0 | inr h ↦ inr h.0 ]
-status_is (Err ImageFault) given given' before now status f = elim f.shown [ inl h ↦ inl h.0 | inr h ↦ inr h.0 ]
-status_is (Err SinkFault) given given' before now status f = inr f.answer
-status_is (Err TooLong) given given' before now status f = elim f.shown [ inl h ↦ inl h.0 | inr h ↦ inr h.0 ]
-status_is (Err (BadLine x)) given given' before now status f = elim f.shown [ inl h ↦ inl h.0 | inr h ↦ inr h.0 ]
-status_is (Err (Refused x y)) given given' before now status f = elim f.shown [ inl h ↦ inl h.0 | inr h ↦ inr h.0 ]
-
--- ---- an image that is too short
-
-enough : (mem n size status : ℕ) → n ≢ 4 → mem ≤ size → (status ≡ n) ⊎ (status ≡ 7)
-    → (status ≡ 4 → size < mem) × (size < mem → (status ≡ 4) ⊎ IsFree status)
-enough mem n size status four le h = elim h [
-  | inl k ↦ (λ z. absurd (four (sym k ∙ z)), λ z. absurd (omega arith))
-  | inr k ↦ (λ z. absurd (omega arith), λ z. inr (inr (inr (inr k))))
-]
-
-pub short_at : (e : End) (mem size status : ℕ) → ShortAt mem size e → (status ≡ status_of e) ⊎ (status ≡ 7)
-    → (status ≡ 4 → size < mem) × (size < mem → (status ≡ 4) ⊎ IsFree status)
-short_at (Ok u) mem size status h s = enough mem 0 size status (λ z. absurd (omega arith)) h s
-short_at (Err Memory) mem size status h s = elim s [
-  | inl k ↦ (λ z. absurd (omega arith), λ z. inr (inl k))
-  | inr k ↦ (λ z. absurd (omega arith), λ z. inr (inr (inr (inr k))))
-]
-short_at (Err ImageFault) mem size status h s = elim s [
-  | inl k ↦ (λ z. absurd (omega arith), λ z. inr (inr (inr (inl k))))
-  | inr k ↦ (λ z. absurd (omega arith), λ z. inr (inr (inr (inr k))))
-]
-short_at (Err (Short x y)) mem size status h s = elim s [
-  | inl k ↦ (λ z. h, λ z. inl k)
-  | inr k ↦ (λ z. absurd (omega arith), λ z. inr (inr (inr (inr k))))
-]
-short_at (Err Usage) mem size status h s = enough mem 2 size status (λ z. absurd (omega arith)) h s
-short_at (Err (Param x y)) mem size status h s = enough mem 3 size status (λ z. absurd (omega arith)) h s
-short_at (Err (Layout x)) mem size status h s = enough mem 3 size status (λ z. absurd (omega arith)) h s
-short_at (Err ScriptFault) mem size status h s = enough mem 5 size status (λ z. absurd (omega arith)) h s
-short_at (Err SinkFault) mem size status h s = enough mem 7 size status (λ z. absurd (omega arith)) h s
-short_at (Err TooLong) mem size status h s = enough mem 8 size status (λ z. absurd (omega arith)) h s
-short_at (Err (BadLine x)) mem size status h s = enough mem 9 size status (λ z. absurd (omega arith)) h s
-short_at (Err (Refused x y)) mem size status h s = enough mem 10 size status (λ z. absurd (omega arith)) h s
-
--- ---- a script
-
--- a status that says nothing of the script
-early : (script : List ℕ) (a b : Outside) (status : ℕ) → (status ≡ 4) ⊎ IsFree status → status ≢ 8 → status ≢ 9
-    → ScriptAnswers script a b status
-early script a b status h eight nine = record {
-  long = λ z. absurd (eight z);
-  bad = λ z. absurd (nine z);
-  told_long = λ z. inr h;
-  told_bad = λ n e z. inr h;
-}
-
-free_early : (script : List ℕ) (a b : Outside) (status : ℕ) → IsFree status → ScriptAnswers script a b status
-free_early script a b status (inl k) = early script a b status (inr (inl k)) (λ z. absurd (omega arith))
-    (λ z. absurd (omega arith))
-free_early script a b status (inr (inl k)) = early script a b status (inr (inr (inl k))) (λ z. absurd (omega arith))
-    (λ z. absurd (omega arith))
-free_early script a b status (inr (inr (inl k))) = early script a b status (inr (inr (inr (inl k))))
-    (λ z. absurd (omega arith)) (λ z. absurd (omega arith))
-free_early script a b status (inr (inr (inr k))) = early script a b status (inr (inr (inr (inr k))))
-    (λ z. absurd (omega arith)) (λ z. absurd (omega arith))
-
 -- a good script
 no_error : {A B : Type 0} (r : Result A B) (b : B) → IsOk r → r ≡ Err b → ⊥
 no_error (Ok a) b h e = let clash : Ok a ≡ Err b = e in cc
 no_error (Err c) b h e = let clash : false ≡ true = h in cc
 
-good : (script : List ℕ) (a b : Outside) (n status : ℕ) → n ≢ 8 → n ≢ 9 → length script ≤ script_limit
-    → IsOk (script_of script) → (status ≡ n) ⊎ (status ≡ 7) → ScriptAnswers script a b status
-good script a b n status eight nine le ok s = elim s [
-  | inl k ↦ record {
-    long = λ z. absurd (eight (sym k ∙ z));
-    bad = λ z. absurd (nine (sym k ∙ z));
-    told_long = λ z. absurd (omega arith);
-    told_bad = λ l e z. absurd (no_error (script_of script) l ok e);
+-- ---- the status of an end
+
+-- the status is that of the end; or 7, and the output failed
+abbrev IsStatus : End → Outside → Outside → ℕ → Type 0
+IsStatus e a b status = (status ≡ status_of e) ⊎ ((status ≡ 7) × RoseFor SinkFault a b)
+
+module _ (a m b : Outside) (on : GoesOn a m b) (status : ℕ) where
+  put_status : (s : Stop) → LastPut s m.given b.given m.sink_faults b.sink_faults status → IsStatus (Err s) a b status
+  put_status s f = elim f.shown [ inl h ↦ inl h.0 | inr h ↦ inr (h.0, sink_rose a m b on h.1) ]
+
+  pub status_is : (e : End) → Caused a m e → Finished e m.given b.given m.sink_faults b.sink_faults status
+      → IsStatus e a b status
+  status_is (Ok u) c f = inl f.answer
+  status_is (Err Memory) c f = put_status Memory f
+  status_is (Err Usage) c f = put_status Usage f
+  status_is (Err (Param x y)) c f = put_status (Param x y) f
+  status_is (Err (Layout x)) c f = put_status (Layout x) f
+  status_is (Err (Short x y)) c f = put_status (Short x y) f
+  status_is (Err ScriptFault) c f = put_status ScriptFault f
+  status_is (Err ImageFault) c f = put_status ImageFault f
+  status_is (Err SinkFault) c f = inr (f.answer, rose_on a m b on SinkFault c f.later)
+  status_is (Err TooLong) c f = put_status TooLong f
+  status_is (Err (BadLine x)) c f = put_status (BadLine x) f
+  status_is (Err (Refused x y)) c f = put_status (Refused x y) f
+
+  -- text that was put by the end of the work, and the last line; or the output failed
+  put_after : (s : Stop) (n : ℕ) → status_of (Err s) ≡ n → n ≢ 7 → m.given ≡ a.given
+      → LastPut s m.given b.given m.sink_faults b.sink_faults status → status ≡ n → Appends a.given b.given (last_line s)
+  put_after s n is seven quiet f here = elim f.shown [
+    | inl h ↦ rw quiet at h.1
+    | inr h ↦ absurd (seven (sym here ∙ h.0))
+  ]
+
+  -- an end with another status
+  other : (n k : ℕ) → n ≢ k → k ≢ 7 → (status ≡ n) ⊎ ((status ≡ 7) × RoseFor SinkFault a b) → status ≡ k → ⊥
+  other n k ne seven (inl is) here = ne (sym is ∙ here)
+  other n k ne seven (inr is) here = seven (sym here ∙ is.0)
+
+  -- ---- an image that is too short
+
+  module _ (mem : ℕ) (bytes : List ℕ) (unread : length bytes < mem → NoScript a b) where
+    enough : (n : ℕ) → n ≢ 4 → mem ≤ length bytes → (status ≡ n) ⊎ ((status ≡ 7) × RoseFor SinkFault a b)
+        → ShortAnswers mem bytes a b status
+    enough n four le s = record {
+      short = λ z. absurd (other n 4 four (λ z. absurd (omega arith)) s z);
+      told = λ z. absurd (omega (arith, le));
+      unread = unread;
+    }
+
+    early_stop : (s : Stop) → status_of (Err s) ≢ 4 → RoseFor s a b
+        → (status ≡ status_of (Err s) → (status ≡ 1) ⊎ ((status ≡ 6) × RoseFor ImageFault a b))
+        → IsStatus (Err s) a b status → ShortAnswers mem bytes a b status
+    early_stop s four rose is (inl k) = record {
+      short = λ z. absurd (four (sym k ∙ z));
+      told = λ z. elim (is k) [ inl one ↦ inr (inl one) | inr six ↦ inr (inr (inl six)) ];
+      unread = unread;
+    }
+    early_stop s four rose is (inr k) = record {
+      short = λ z. absurd (omega (arith, k.0));
+      told = λ z. inr (inr (inr k));
+      unread = unread;
+    }
+
+    short_stop : (has needed : ℕ) → (length bytes < mem) × (has ≡ length bytes) × (needed ≡ mem) → m.given ≡ a.given
+        → LastPut (Short has needed) m.given b.given m.sink_faults b.sink_faults status
+        → ShortAnswers mem bytes a b status
+    short_stop has needed h quiet f = elim f.shown [
+      | inl k ↦ record {
+        short = λ z. (h.0, rw (← h.1, ← h.2) (rw quiet at k.1));
+        told = λ z. inl k.0;
+        unread = unread;
+      }
+      | inr k ↦ record {
+        short = λ z. absurd (omega (arith, k.0));
+        told = λ z. inr (inr (inr (k.0, sink_rose a m b on k.1)));
+        unread = unread;
+      }
+    ]
+
+    pub short_at : (e : End) → Caused a m e → ShortAt mem (length bytes) e → UseAt a m e
+        → Finished e m.given b.given m.sink_faults b.sink_faults status → ShortAnswers mem bytes a b status
+    short_at (Ok u) c h q f = enough 0 (λ z. absurd (omega arith)) h (inl f.answer)
+    short_at (Err Memory) c h q f = early_stop Memory (λ z. absurd (omega arith)) tt (λ k. inl k) (put_status Memory f)
+    short_at (Err ImageFault) c h q f = early_stop ImageFault (λ z. absurd (omega arith))
+        (rose_on a m b on ImageFault c f.later) (λ k. inr (k, rose_on a m b on ImageFault c f.later))
+        (put_status ImageFault f)
+    short_at (Err (Short x y)) c h q f = short_stop x y h q.1 f
+    short_at (Err Usage) c h q f = enough 2 (λ z. absurd (omega arith)) h (put_status Usage f)
+    short_at (Err (Param x y)) c h q f = enough 3 (λ z. absurd (omega arith)) h (put_status (Param x y) f)
+    short_at (Err (Layout x)) c h q f = enough 3 (λ z. absurd (omega arith)) h (put_status (Layout x) f)
+    short_at (Err ScriptFault) c h q f = enough 5 (λ z. absurd (omega arith)) h (put_status ScriptFault f)
+    short_at (Err SinkFault) c h q f = enough 7 (λ z. absurd (omega arith)) h
+        (inr (f.answer, rose_on a m b on SinkFault c f.later))
+    short_at (Err TooLong) c h q f = enough 8 (λ z. absurd (omega arith)) h (put_status TooLong f)
+    short_at (Err (BadLine x)) c h q f = enough 9 (λ z. absurd (omega arith)) h (put_status (BadLine x) f)
+    short_at (Err (Refused x y)) c h q f = enough 10 (λ z. absurd (omega arith)) h (put_status (Refused x y) f)
+
+  -- ---- a script
+
+  module _ (script : List ℕ) where
+    -- a status that says nothing of the script
+    early : (status ≡ 4) ⊎ IsFree a b status → status ≢ 8 → status ≢ 9 → ScriptAnswers script a b status
+    early h eight nine = record {
+      long = λ z. absurd (eight z);
+      bad = λ z. absurd (nine z);
+      told_long = λ z. inr h;
+      told_bad = λ n e z. inr h;
+    }
+
+    free_early : IsFree a b status → ScriptAnswers script a b status
+    free_early (inl k) = early (inr (inl k)) (λ z. absurd (omega arith)) (λ z. absurd (omega arith))
+    free_early (inr (inl k)) = early (inr (inr (inl k))) (λ z. absurd (omega (arith, k.0)))
+        (λ z. absurd (omega (arith, k.0)))
+    free_early (inr (inr (inl k))) = early (inr (inr (inr (inl k)))) (λ z. absurd (omega (arith, k.0)))
+        (λ z. absurd (omega (arith, k.0)))
+    free_early (inr (inr (inr k))) = early (inr (inr (inr (inr k)))) (λ z. absurd (omega (arith, k.0)))
+        (λ z. absurd (omega (arith, k.0)))
+
+    free_by : (s : Stop) → (status ≡ status_of (Err s) → IsFree a b status) → IsStatus (Err s) a b status
+        → ScriptAnswers script a b status
+    free_by s free (inl k) = free_early (free k)
+    free_by s free (inr k) = free_early (inr (inr (inr k)))
+
+    -- a good script
+    good : (n : ℕ) → n ≢ 8 → n ≢ 9 → (length script ≤ script_limit) × IsOk (script_of script)
+        → (status ≡ n) ⊎ ((status ≡ 7) × RoseFor SinkFault a b) → ScriptAnswers script a b status
+    good n eight nine ok s = record {
+      long = λ z. absurd (other n 8 eight (λ z. absurd (omega arith)) s z);
+      bad = λ z. absurd (other n 9 nine (λ z. absurd (omega arith)) s z);
+      told_long = λ z. absurd (omega (arith, ok.0));
+      told_bad = λ l e z. absurd (no_error (script_of script) l ok.1 e);
+    }
+
+    bad_line : (n : ℕ) → (length script ≤ script_limit) × (script_of script ≡ Err n) → m.given ≡ a.given
+        → LastPut (BadLine n) m.given b.given m.sink_faults b.sink_faults status → ScriptAnswers script a b status
+    bad_line n h quiet f = elim f.shown [
+      | inl k ↦ record {
+        long = λ z. absurd (omega (arith, k.0));
+        bad = λ z. (n, h.1, rw quiet at k.1);
+        told_long = λ z. absurd (omega (arith, h.0));
+        told_bad = λ l e z. inl k.0;
+      }
+      | inr k ↦ free_early (inr (inr (inr (k.0, sink_rose a m b on k.1))))
+    ]
+
+    too_long : script_limit < length script → IsStatus (Err TooLong) a b status → ScriptAnswers script a b status
+    too_long h (inl k) = record {
+      long = λ z. h;
+      bad = λ z. absurd (omega (arith, k));
+      told_long = λ z. inl k;
+      told_bad = λ n e z. absurd (omega (arith, h));
+    }
+    too_long h (inr k) = free_early (inr (inr (inr k)))
+
+    pub script_at : (e : End) → Caused a m e → ScriptAt script e → UseAt a m e
+        → Finished e m.given b.given m.sink_faults b.sink_faults status → ScriptAnswers script a b status
+    script_at (Ok u) c h q f = good 0 (λ z. absurd (omega arith)) (λ z. absurd (omega arith)) h (inl f.answer)
+    script_at (Err Memory) c h q f = free_by Memory (λ k. inl k) (put_status Memory f)
+    script_at (Err ScriptFault) c h q f = free_by ScriptFault
+        (λ k. inr (inl (k, rose_on a m b on ScriptFault c f.later))) (put_status ScriptFault f)
+    script_at (Err ImageFault) c h q f = free_by ImageFault
+        (λ k. inr (inr (inl (k, rose_on a m b on ImageFault c f.later)))) (put_status ImageFault f)
+    script_at (Err SinkFault) c h q f = free_early (inr (inr (inr (f.answer, rose_on a m b on SinkFault c f.later))))
+    script_at (Err (Short x y)) c h q f = elim (put_status (Short x y) f) [
+      | inl k ↦ early (inl k) (λ z. absurd (omega (arith, k))) (λ z. absurd (omega (arith, k)))
+      | inr k ↦ free_early (inr (inr (inr k)))
+    ]
+    script_at (Err TooLong) c h q f = too_long h (put_status TooLong f)
+    script_at (Err (BadLine x)) c h q f = bad_line x h q.1 f
+    script_at (Err Usage) c h q f = good 2 (λ z. absurd (omega arith)) (λ z. absurd (omega arith)) h
+        (put_status Usage f)
+    script_at (Err (Param x y)) c h q f = good 3 (λ z. absurd (omega arith)) (λ z. absurd (omega arith)) h
+        (put_status (Param x y) f)
+    script_at (Err (Layout x)) c h q f = good 3 (λ z. absurd (omega arith)) (λ z. absurd (omega arith)) h
+        (put_status (Layout x) f)
+    script_at (Err (Refused x y)) c h q f = good 10 (λ z. absurd (omega arith)) (λ z. absurd (omega arith)) h
+        (put_status (Refused x y) f)
+
+  -- ---- how much of the script was read
+
+  -- none of the statuses that say something of it
+  silent : (n : ℕ) → n ≢ 0 → n ≢ 4 → n ≢ 5 → n ≢ 6 → n ≢ 8 → n ≢ 9 → n ≢ 10 → status ≡ n → ScriptUse a b status
+  silent n zero four five six eight nine ten is = record {
+    unread = λ z. absurd (four (sym is ∙ z));
+    whole = λ z. elim z [
+      | inl y ↦ absurd (zero (sym is ∙ y))
+      | inr y ↦ elim y [ inl x ↦ absurd (nine (sym is ∙ x)) | inr x ↦ absurd (ten (sym is ∙ x)) ]
+    ];
+    either = λ z. absurd (six (sym is ∙ z));
+    fault = λ z. absurd (five (sym is ∙ z));
+    long = λ z. absurd (eight (sym is ∙ z));
   }
-  | inr k ↦ free_early script a b status (inr (inr (inr k)))
-]
 
-pub script_at : (e : End) (script : List ℕ) (a m b : Outside) (status : ℕ) → ScriptAt script a.given m.given e
-    → Finished e m.given b.given m.sink_faults b.sink_faults status → ScriptAnswers script a b status
-script_at (Ok u) script a m b status h f = good script a b 0 status (λ z. absurd (omega arith))
-    (λ z. absurd (omega arith)) h.0 h.1 (inl f.answer)
-script_at (Err Memory) script a m b status h f = elim f.shown [
-  | inl k ↦ free_early script a b status (inl k.0)
-  | inr k ↦ free_early script a b status (inr (inr (inr k.0)))
-]
-script_at (Err ScriptFault) script a m b status h f = elim f.shown [
-  | inl k ↦ free_early script a b status (inr (inl k.0))
-  | inr k ↦ free_early script a b status (inr (inr (inr k.0)))
-]
-script_at (Err ImageFault) script a m b status h f = elim f.shown [
-  | inl k ↦ free_early script a b status (inr (inr (inl k.0)))
-  | inr k ↦ free_early script a b status (inr (inr (inr k.0)))
-]
-script_at (Err SinkFault) script a m b status h f = free_early script a b status (inr (inr (inr f.answer)))
-script_at (Err (Short x y)) script a m b status h f = elim f.shown [
-  | inl k ↦ early script a b status (inl k.0) (λ z. absurd (omega arith)) (λ z. absurd (omega arith))
-  | inr k ↦ free_early script a b status (inr (inr (inr k.0)))
-]
-script_at (Err TooLong) script a m b status h f = elim f.shown [
-  | inl k ↦ record {
-    long = λ z. (h.0, rw h.1 at k.1);
-    bad = λ z. absurd (omega arith);
-    told_long = λ z. inl k.0;
-    told_bad = λ n e z. absurd (omega (arith, h.0));
+  unput : (status ≡ 7) × RoseFor SinkFault a b → ScriptUse a b status
+  unput s = silent 7 (λ z. absurd (omega arith)) (λ z. absurd (omega arith)) (λ z. absurd (omega arith))
+      (λ z. absurd (omega arith)) (λ z. absurd (omega arith)) (λ z. absurd (omega arith))
+      (λ z. absurd (omega arith)) s.0
+
+  ended_at : (n : ℕ) → n ≢ 4 → n ≢ 5 → n ≢ 6 → n ≢ 8 → IsAtEnd m.left → status ≡ n → ScriptUse a b status
+  ended_at n four five six eight h is = record {
+    unread = λ z. absurd (four (sym is ∙ z));
+    whole = λ z. rw on.script.left h;
+    either = λ z. absurd (six (sym is ∙ z));
+    fault = λ z. absurd (five (sym is ∙ z));
+    long = λ z. absurd (eight (sym is ∙ z));
   }
-  | inr k ↦ free_early script a b status (inr (inr (inr k.0)))
-]
-script_at (Err (BadLine x)) script a m b status h f = elim f.shown [
-  | inl k ↦ record {
-    long = λ z. absurd (omega arith);
-    bad = λ z. (x, h.1, rw h.2 at k.1);
-    told_long = λ z. absurd (omega (arith, h.0));
-    told_bad = λ n e z. inl k.0;
+
+  unread_at : NoScript a m → status ≡ 4 → ScriptUse a b status
+  unread_at h is = record {
+    unread = λ z. script_on a m b h on.script;
+    whole = λ z. elim z [
+      | inl y ↦ absurd (omega (arith, y))
+      | inr y ↦ elim y [ inl x ↦ absurd (omega (arith, x)) | inr x ↦ absurd (omega (arith, x)) ]
+    ];
+    either = λ z. absurd (omega (arith, z));
+    fault = λ z. absurd (omega (arith, z));
+    long = λ z. absurd (omega (arith, z));
   }
-  | inr k ↦ free_early script a b status (inr (inr (inr k.0)))
-]
-script_at (Err Usage) script a m b status h f = good script a b 2 status (λ z. absurd (omega arith))
-    (λ z. absurd (omega arith)) h.0 h.1 (status_is (Err Usage) m.given b.given m.sink_faults b.sink_faults status f)
-script_at (Err (Param x y)) script a m b status h f = good script a b 3 status (λ z. absurd (omega arith))
-    (λ z. absurd (omega arith)) h.0 h.1 (status_is (Err (Param x y))
-    m.given b.given m.sink_faults b.sink_faults status f)
-script_at (Err (Layout x)) script a m b status h f = good script a b 3 status (λ z. absurd (omega arith))
-    (λ z. absurd (omega arith)) h.0 h.1 (status_is (Err (Layout x))
-    m.given b.given m.sink_faults b.sink_faults status f)
-script_at (Err (Refused x y)) script a m b status h f =
-    good script a b 10 status (λ z. absurd (omega arith)) (λ z. absurd (omega arith)) h.0 h.1
-    (status_is (Err (Refused x y)) m.given b.given m.sink_faults b.sink_faults status f)
 
--- ---- commands
+  either_at : NoScript a m ⊎ IsAtEnd m.left → status ≡ 6 → ScriptUse a b status
+  either_at h is = record {
+    unread = λ z. absurd (omega (arith, z));
+    whole = λ z. elim z [
+      | inl y ↦ absurd (omega (arith, y))
+      | inr y ↦ elim y [ inl x ↦ absurd (omega (arith, x)) | inr x ↦ absurd (omega (arith, x)) ]
+    ];
+    either = λ z. elim h [ inl k ↦ inl (script_on a m b k on.script) | inr k ↦ inr (rw on.script.left k) ];
+    fault = λ z. absurd (omega (arith, z));
+    long = λ z. absurd (omega (arith, z));
+  }
 
-not_four : (n status : ℕ) → n ≢ 4 → (status ≡ n) ⊎ (status ≡ 7) → status ≡ 4 → ⊥
-not_four n status other (inl is) four = other (sym is ∙ four)
-not_four n status other (inr is) four = omega arith
+  fault_at : Appends a.given b.given (last_line ScriptFault) → status ≡ 5 → ScriptUse a b status
+  fault_at h is = record {
+    unread = λ z. absurd (omega (arith, z));
+    whole = λ z. elim z [
+      | inl y ↦ absurd (omega (arith, y))
+      | inr y ↦ elim y [ inl x ↦ absurd (omega (arith, x)) | inr x ↦ absurd (omega (arith, x)) ]
+    ];
+    either = λ z. absurd (omega (arith, z));
+    fault = λ z. h;
+    long = λ z. absurd (omega (arith, z));
+  }
 
--- a status 4 is of an image that is too short
-pub unread_at : (e : End) (a m b : Outside) (status : ℕ) → UnreadAt a m e → NoScript m b
-    → (status ≡ status_of e) ⊎ (status ≡ 7) → status ≡ 4 → NoScript a b
-unread_at (Err (Short x y)) a m b status h k s four = script_on a m b h k
-unread_at (Ok u) a m b status h k s four = absurd (not_four 0 status (λ z. absurd (omega arith)) s four)
-unread_at (Err Memory) a m b status h k s four = absurd (not_four 1 status (λ z. absurd (omega arith)) s four)
-unread_at (Err Usage) a m b status h k s four = absurd (not_four 2 status (λ z. absurd (omega arith)) s four)
-unread_at (Err (Param x y)) a m b status h k s four = absurd (not_four 3 status (λ z. absurd (omega arith)) s four)
-unread_at (Err (Layout x)) a m b status h k s four = absurd (not_four 3 status (λ z. absurd (omega arith)) s four)
-unread_at (Err ScriptFault) a m b status h k s four = absurd (not_four 5 status (λ z. absurd (omega arith)) s four)
-unread_at (Err ImageFault) a m b status h k s four = absurd (not_four 6 status (λ z. absurd (omega arith)) s four)
-unread_at (Err SinkFault) a m b status h k s four = absurd (not_four 7 status (λ z. absurd (omega arith)) s four)
-unread_at (Err TooLong) a m b status h k s four = absurd (not_four 8 status (λ z. absurd (omega arith)) s four)
-unread_at (Err (BadLine x)) a m b status h k s four = absurd (not_four 9 status (λ z. absurd (omega arith)) s four)
-unread_at (Err (Refused x y)) a m b status h k s four = absurd (not_four 10 status (λ z. absurd (omega arith)) s four)
+  long_at : Appends a.given b.given (last_line TooLong) → status ≡ 8 → ScriptUse a b status
+  long_at h is = record {
+    unread = λ z. absurd (omega (arith, z));
+    whole = λ z. elim z [
+      | inl y ↦ absurd (omega (arith, y))
+      | inr y ↦ elim y [ inl x ↦ absurd (omega (arith, x)) | inr x ↦ absurd (omega (arith, x)) ]
+    ];
+    either = λ z. absurd (omega (arith, z));
+    fault = λ z. absurd (omega (arith, z));
+    long = λ z. h;
+  }
 
-run_answers : (plan : Plan) (a m b : Outside) (e : End) (status : ℕ) → NoScript m b → NoImage m b → RunEnds plan a m e
-    → Finished e m.given b.given m.sink_faults b.sink_faults status → RunAnswers plan a b status
-run_answers plan a m b e status script image h f =
-    let s = status_is e m.given b.given m.sink_faults b.sink_faults status f in
-    record {
-      whole = record { told = λ bytes text t l. answers e _ a m b status image.holds (h.whole.told bytes text t l) f };
-      image = record {
-        told = λ bytes t. let r = short_at e _ _ status (h.image.told bytes t) s in
-            record { short = r.0; told = r.1 };
-      };
-      script = record { told = λ text l. script_at e text a m b status (h.script.told text l) f };
-      unread = unread_at e a m b status h.unread script s;
-    }
+  used_by : (s : Stop) → (status ≡ status_of (Err s) → ScriptUse a b status) → IsStatus (Err s) a b status
+      → ScriptUse a b status
+  used_by s by (inl k) = by k
+  used_by s by (inr k) = unput k
 
-plan_answers : (c : Command) (plan : Plan) (a m b : Outside) (e : End) (status : ℕ) → NoScript m b → NoImage m b
-    → PlanEnds c plan a m e → Finished e m.given b.given m.sink_faults b.sink_faults status
-    → PlanAnswers c plan a b status
-plan_answers RunScript plan a m b e status script image h f = run_answers plan a m b e status script image h f
-plan_answers ListRecords plan a m b e status script image h f =
-    record {
-      whole = record { told = λ bytes t. answers e _ a m b status image.holds (h.whole.told bytes t) f };
-      script = script_on a m b h.script script;
-      image = image.holds ∙ h.image;
-    }
-plan_answers (ExtractRecord name) plan a m b e status script image h f =
-    record {
-      whole = record { told = λ bytes t. answers e _ a m b status image.holds (h.whole.told bytes t) f };
-      script = script_on a m b h.script script;
-      image = image.holds ∙ h.image;
-    }
-plan_answers (EraseRecord name) plan a m b e status script image h f =
-    record {
-      whole = record { told = λ bytes t. answers e _ a m b status image.holds (h.whole.told bytes t) f };
-      script = script_on a m b h.script script;
-    }
-plan_answers ShowLayout plan a m b e status script image h f =
-    record {
-      whole = answers e _ a m b status image.holds h.whole f;
-      script = script_on a m b h.script script;
-      image = image_on a m b h.image image;
-    }
-plan_answers BlankImage plan a m b e status script image h f =
-    record { whole = answers e _ a m b status image.holds h.whole f; script = script_on a m b h.script script }
-plan_answers (MakeImage n) plan a m b e status script image h f =
-    record { whole = answers e _ a m b status image.holds h.whole f; script = script_on a m b h.script script }
+  -- an end that says nothing of the script
+  quiet_end : (s : Stop) (n : ℕ) → status_of (Err s) ≡ n → n ≢ 0 → n ≢ 4 → n ≢ 5 → n ≢ 6 → n ≢ 8 → n ≢ 9 → n ≢ 10
+      → IsStatus (Err s) a b status → ScriptUse a b status
+  quiet_end s n is zero four five six eight nine ten k = used_by s
+      (λ here. silent n zero four five six eight nine ten (here ∙ is)) k
+
+  pub use_at : (e : End) → Caused a m e → UseAt a m e → Finished e m.given b.given m.sink_faults b.sink_faults status
+      → ScriptUse a b status
+  use_at (Ok u) c h f = ended_at 0 (λ z. absurd (omega arith)) (λ z. absurd (omega arith)) (λ z. absurd (omega arith))
+      (λ z. absurd (omega arith)) h f.answer
+  use_at (Err Memory) c h f = quiet_end Memory 1 refl (λ z. absurd (omega arith)) (λ z. absurd (omega arith))
+      (λ z. absurd (omega arith)) (λ z. absurd (omega arith)) (λ z. absurd (omega arith)) (λ z. absurd (omega arith))
+      (λ z. absurd (omega arith)) (put_status Memory f)
+  use_at (Err Usage) c h f = quiet_end Usage 2 refl (λ z. absurd (omega arith)) (λ z. absurd (omega arith))
+      (λ z. absurd (omega arith)) (λ z. absurd (omega arith)) (λ z. absurd (omega arith)) (λ z. absurd (omega arith))
+      (λ z. absurd (omega arith)) (put_status Usage f)
+  use_at (Err (Param x y)) c h f = quiet_end (Param x y) 3 refl (λ z. absurd (omega arith)) (λ z. absurd (omega arith))
+      (λ z. absurd (omega arith)) (λ z. absurd (omega arith)) (λ z. absurd (omega arith)) (λ z. absurd (omega arith))
+      (λ z. absurd (omega arith)) (put_status (Param x y) f)
+  use_at (Err (Layout x)) c h f = quiet_end (Layout x) 3 refl (λ z. absurd (omega arith)) (λ z. absurd (omega arith))
+      (λ z. absurd (omega arith)) (λ z. absurd (omega arith)) (λ z. absurd (omega arith)) (λ z. absurd (omega arith))
+      (λ z. absurd (omega arith)) (put_status (Layout x) f)
+  use_at (Err (Short x y)) c h f = used_by (Short x y) (unread_at h.0) (put_status (Short x y) f)
+  use_at (Err ScriptFault) c h f = used_by ScriptFault
+      (λ k. fault_at (put_after ScriptFault 5 refl (λ z. absurd (omega arith)) h f k) k) (put_status ScriptFault f)
+  use_at (Err ImageFault) c h f = used_by ImageFault (either_at h) (put_status ImageFault f)
+  use_at (Err SinkFault) c h f = unput (f.answer, rose_on a m b on SinkFault c f.later)
+  use_at (Err TooLong) c h f = used_by TooLong
+      (λ k. long_at (put_after TooLong 8 refl (λ z. absurd (omega arith)) h f k) k) (put_status TooLong f)
+  use_at (Err (BadLine x)) c h f = used_by (BadLine x)
+      (ended_at 9 (λ z. absurd (omega arith)) (λ z. absurd (omega arith)) (λ z. absurd (omega arith))
+      (λ z. absurd (omega arith)) h.0) (put_status (BadLine x) f)
+  use_at (Err (Refused x y)) c h f = used_by (Refused x y)
+      (ended_at 10 (λ z. absurd (omega arith)) (λ z. absurd (omega arith)) (λ z. absurd (omega arith))
+      (λ z. absurd (omega arith)) h) (put_status (Refused x y) f)
+
+  -- ---- commands
+
+  pub script_read : (mem : ℕ) (e : End) → Caused a m e → ScriptEnds mem a m e
+      → Finished e m.given b.given m.sink_faults b.sink_faults status → ScriptRead mem a b status
+  script_read mem e c h f = record {
+    image = record {
+      told = λ bytes t. short_at mem bytes (λ few. script_on a m b (h.unread.told bytes t few) on.script) e c
+          (h.image.told bytes t) h.used f;
+    };
+    script = record { told = λ text l. script_at text e c (h.script.told text l) h.used f };
+    used = use_at e c h.used f;
+  }
+
+  run_answers : (plan : Plan) (e : End) → Caused a m e → RunEnds plan a m e
+      → Finished e m.given b.given m.sink_faults b.sink_faults status → RunAnswers plan a b status
+  run_answers plan e c h f = record {
+    whole = record { told = λ bytes text t l. answers a m b on _ status e c (h.whole.told bytes text t l) f };
+    read = script_read (mem_of plan) e c h.read f;
+  }
+
+  -- what the last line put
+  abbrev PutsMore : Type 0
+  PutsMore = (more : Text) × Appends m.given b.given more
+
+  some_put : (s : Stop) → LastPut s m.given b.given m.sink_faults b.sink_faults status → PutsMore
+  some_put s f = elim f.shown [ inl h ↦ (last_line s, h.1) | inr h ↦ (take h.2.count (last_line s), h.2.bytes) ]
+
+  none_put : b.given ≡ m.given → PutsMore
+  none_put same = ([], rw same (nothing_put m.given))
+
+  last_put : (e : End) → Finished e m.given b.given m.sink_faults b.sink_faults status → PutsMore
+  last_put (Ok u) f = none_put f.same
+  last_put (Err SinkFault) f = none_put f.same
+  last_put (Err Memory) f = some_put Memory f
+  last_put (Err Usage) f = some_put Usage f
+  last_put (Err (Param x y)) f = some_put (Param x y) f
+  last_put (Err (Layout x)) f = some_put (Layout x) f
+  last_put (Err (Short x y)) f = some_put (Short x y) f
+  last_put (Err ScriptFault) f = some_put ScriptFault f
+  last_put (Err ImageFault) f = some_put ImageFault f
+  last_put (Err TooLong) f = some_put TooLong f
+  last_put (Err (BadLine x)) f = some_put (BadLine x) f
+  last_put (Err (Refused x y)) f = some_put (Refused x y) f
+
+  -- text that was put first stays so
+  text_on : (w : Wanted) → NoImage a m ⊎ PutsAll w a m → PutsMore → NoImage a b ⊎ PutsAll w a b
+  text_on w (inl h) put = inl (image_on a m b h on.image)
+  text_on w (inr h) put =
+      inr (h.0 ++ put.0, rw (← append_assoc (whole w.texts) h.0 put.0)
+      (appends_on a.given m.given b.given (whole w.texts ++ h.0) put.0 h.1 put.1))
+
+  -- the image failed as it was written
+  not_six : (w : Wanted) (n : ℕ) → n ≢ 6 → (status ≡ n) ⊎ ((status ≡ 7) × RoseFor SinkFault a b) → status ≡ 6
+      → SavedInPart w a b (last_line ImageFault)
+  not_six w n ne s six = absurd (other n 6 ne (λ z. absurd (omega arith)) s six)
+
+  image_written : (w : Wanted) → Caused a m (Err ImageFault) → WrittenAt w a m (Err ImageFault)
+      → LastPut ImageFault m.given b.given m.sink_faults b.sink_faults status → status ≡ 6
+      → SavedInPart w a b (last_line ImageFault)
+  image_written w c h f six = elim f.shown [
+    | inl k ↦ saved_in_part a m b on w status (last_line ImageFault) c f.later h.0 h.1 h.2 k.1
+    | inr k ↦ absurd (omega (arith, k.0, six))
+  ]
+
+  written_at : (w : Wanted) (e : End) → Caused a m e → WrittenAt w a m e
+      → Finished e m.given b.given m.sink_faults b.sink_faults status → status ≡ 6
+      → SavedInPart w a b (last_line ImageFault)
+  written_at w (Err ImageFault) c h f = image_written w c h f
+  written_at w (Ok u) c h f = not_six w 0 (λ z. absurd (omega arith)) (inl f.answer)
+  written_at w (Err Memory) c h f = not_six w 1 (λ z. absurd (omega arith)) (put_status Memory f)
+  written_at w (Err Usage) c h f = not_six w 2 (λ z. absurd (omega arith)) (put_status Usage f)
+  written_at w (Err (Param x y)) c h f = not_six w 3 (λ z. absurd (omega arith)) (put_status (Param x y) f)
+  written_at w (Err (Layout x)) c h f = not_six w 3 (λ z. absurd (omega arith)) (put_status (Layout x) f)
+  written_at w (Err (Short x y)) c h f = not_six w 4 (λ z. absurd (omega arith)) (put_status (Short x y) f)
+  written_at w (Err ScriptFault) c h f = not_six w 5 (λ z. absurd (omega arith)) (put_status ScriptFault f)
+  written_at w (Err SinkFault) c h f = not_six w 7 (λ z. absurd (omega arith)) (inl f.answer)
+  written_at w (Err TooLong) c h f = not_six w 8 (λ z. absurd (omega arith)) (put_status TooLong f)
+  written_at w (Err (BadLine x)) c h f = not_six w 9 (λ z. absurd (omega arith)) (put_status (BadLine x) f)
+  written_at w (Err (Refused x y)) c h f = not_six w 10 (λ z. absurd (omega arith)) (put_status (Refused x y) f)
+
+  make_answers : (plan : Plan) (e : End) → Caused a m e → MakeEnds plan a m e
+      → Finished e m.given b.given m.sink_faults b.sink_faults status → MakeAnswers plan a b status
+  make_answers plan e c h f = record {
+    whole = answers a m b on _ status e c h.whole f;
+    script = script_on a m b h.script on.script;
+    image_fault = written_at (wanted plan [] []) e c h.image_fault f;
+    text_first = text_on (wanted plan [] []) h.text_first (last_put e f);
+  }
+
+  pub plan_answers : (k : Command) (plan : Plan) (e : End) → Caused a m e → PlanEnds k plan a m e
+      → Finished e m.given b.given m.sink_faults b.sink_faults status → PlanAnswers k plan a b status
+  plan_answers RunScript plan e c h f = run_answers plan e c h f
+  plan_answers ListRecords plan e c h f = record {
+    whole = record { told = λ bytes t. answers a m b on _ status e c (h.whole.told bytes t) f };
+    script = script_on a m b h.script on.script;
+    image = on.image.holds ∙ h.image;
+  }
+  plan_answers (ExtractRecord name) plan e c h f = record {
+    whole = record { told = λ bytes t. answers a m b on _ status e c (h.whole.told bytes t) f };
+    script = script_on a m b h.script on.script;
+    image = on.image.holds ∙ h.image;
+  }
+  plan_answers (EraseRecord name) plan e c h f = record {
+    whole = record { told = λ bytes t. answers a m b on _ status e c (h.whole.told bytes t) f };
+    script = script_on a m b h.script on.script;
+  }
+  plan_answers ShowLayout plan e c h f = record {
+    whole = answers a m b on _ status e c h.whole f;
+    script = script_on a m b h.script on.script;
+    image = image_on a m b h.image on.image;
+  }
+  plan_answers BlankImage plan e c h f = make_answers plan e c h f
+  plan_answers (MakeImage n) plan e c h f = make_answers plan e c h f
 
 -- ---- the statuses of a command
 
@@ -257,10 +467,10 @@ can_end BlankImage plan a b e h = h.can
 can_end (MakeImage n) plan a b e h = h.can
 
 -- the status of an end, or 7
-among : (all : List ℕ) (n status : ℕ) → IsAmong all n → IsAmong all 7 → (status ≡ n) ⊎ (status ≡ 7)
+among : {A : Type 0} (all : List ℕ) (n status : ℕ) → IsAmong all n → IsAmong all 7 → (status ≡ n) ⊎ ((status ≡ 7) × A)
     → IsAmong all status
 among all n status h k (inl is) = rw is h
-among all n status h k (inr is) = rw is k
+among all n status h k (inr is) = rw is.0 k
 
 fault_put : (s : Stop) (a m b : Outside) (status : ℕ) → NoScript a b → NoImage a b → m.given ≡ a.given
     → LastPut s m.given b.given m.sink_faults b.sink_faults status → status_of (Err s) ≢ 7 → FaultAnswers s a b status
@@ -280,10 +490,6 @@ fault_put s a m b status script image given f seven = elim f.shown [
     image = image;
   }
 ]
-
-pub nothing_put : (given : Option (List ℕ)) → Appends given given []
-nothing_put None = tt
-nothing_put (Some xs) = grind (arith, common_steps)
 
 pub fault_answers : (s : Stop) (a m b : Outside) (status : ℕ) → NoScript a b → NoImage a b → m.given ≡ a.given
     → Finished (Err s) m.given b.given m.sink_faults b.sink_faults status → FaultAnswers s a b status
@@ -318,15 +524,15 @@ fault_answers SinkFault a m b status script image given f =
       image = image;
     }
 
-pub tool_answers : (r : Result Plan Stop) (a m b : Outside) (e : End) (status : ℕ) → NoScript m b → NoImage m b
+pub tool_answers : (r : Result Plan Stop) (a m b : Outside) (e : End) (status : ℕ) → GoesOn a m b → Caused a m e
     → WorkEnds r a m e → Finished e m.given b.given m.sink_faults b.sink_faults status → ToolAnswers r a b status
-tool_answers (Ok p) a m b e status script image h f = (
-  plan_answers p.command p a m b e status script image h f,
+tool_answers (Ok p) a m b e status on c h f = (
+  plan_answers a m b on status p.command p e c h f,
   among (statuses p.command) (status_of e) status (can_end p.command p a m e h) (can_fail p.command)
-      (status_is e m.given b.given m.sink_faults b.sink_faults status f),
+      (status_is a m b on status e c f),
 )
-tool_answers (Err s) a m b e status script image h f =
-    fault_answers s a m b status (script_on a m b h.1.script script) (image_on a m b h.1.image image) h.1.given
+tool_answers (Err s) a m b e status on c h f =
+    fault_answers s a m b status (script_on a m b h.1.script on.script) (image_on a m b h.1.image on.image) h.1.given
     (rw h.0 at f)
 
 -- ---- work that nothing has come of
@@ -337,14 +543,12 @@ no_texts w given = record { count = 0; bytes = nothing_put given }
 pub out_of_memory : (w : Wanted) (a b : Outside) → Nothing a b → Ended w a b (Err Memory)
 out_of_memory w a b h = (rw h.given (no_texts w a.given), h.image.holds)
 
--- want of memory before anything was touched
+-- out of memory before anything was touched
 pub memory_ends : (c : Command) (plan : Plan) (a b : Outside) → Nothing a b → PlanEnds c plan a b (Err Memory)
 memory_ends RunScript plan a b h = record {
   can = can_want plan.command;
-  unread = tt;
   whole = record { told = λ bytes script t l. out_of_memory (wanted plan bytes script) a b h };
-  image = record { told = λ bytes t. tt };
-  script = record { told = λ script l. tt };
+  read = unread_memory (mem_of plan) a b h.script;
 }
 memory_ends ListRecords plan a b h = record {
   can = can_want plan.command;
@@ -373,11 +577,15 @@ memory_ends BlankImage plan a b h = record {
   can = can_want plan.command;
   whole = out_of_memory (wanted plan [] []) a b h;
   script = h.script;
+  image_fault = tt;
+  text_first = inl h.image;
 }
 memory_ends (MakeImage n) plan a b h = record {
   can = can_want plan.command;
   whole = out_of_memory (wanted plan [] []) a b h;
   script = h.script;
+  image_fault = tt;
+  text_first = inl h.image;
 }
 
 clash : {A B : Type 0} {x : A} {y : B} → Ok x ≡ Err y → ⊥

@@ -1,14 +1,14 @@
 -- How the work of a run ends, before its last line
 use Rattle.std.specs.Prelude.{◌≡◌, ◌⊎◌, ⊤, ℕ, ◌≤◌, ◌<◌, List, [], length, Option, Result, Ok, Err, IsOk}
-use Rattle.std.specs.Io.KnownBytes.{Appends}
+use Rattle.std.specs.Io.KnownBytes.{Appends, IsAtEnd}
 use Rattle.box_io.specs.Outside.{Rose, AppendsFront}
 use Rattle.box_script.specs.Fields.{Text}
 use Rattle.box_script.specs.Lines.{script_of}
 use Rattle.tool_spec.specs.Ends.{End, status_of}
 use Rattle.tool_spec.specs.Commands.{Command, RunScript, ListRecords, ExtractRecord, EraseRecord, ShowLayout, BlankImage, MakeImage, Plan, Wanted, wanted, mem_of, script_limit}
-use Rattle.tool_spec.specs.Answers.{Outside, IfHolds, IfLeft, IfTold, NoScript, NoImage, front, whole, WritesAll, WritesSome, statuses, IsAmong}
+use Rattle.tool_spec.specs.Answers.{Outside, IfHolds, IfLeft, IfTold, NoScript, NoImage, front, whole, WritesAll, WritesSome, PutsAll, statuses, IsAmong}
 use Rattle.tool_spec.specs.declared.Stop.{Stop}
-use Rattle.tool_spec.specs.declared.Stop.TheVariants.{Memory, Short, ScriptFault, ImageFault, SinkFault, TooLong, BadLine}
+use Rattle.tool_spec.specs.declared.Stop.TheVariants.{Memory, Short, ScriptFault, ImageFault, SinkFault, TooLong, BadLine, Refused}
 
 -- some first texts were put
 pub record PutTexts (texts : List Text) (old new : Option (List ℕ)) : Type 0 where
@@ -51,41 +51,51 @@ KeptAt holds holds' (Ok u) = ⊤
 KeptAt holds holds' (Err ImageFault) = ⊤
 KeptAt holds holds' (Err s) = holds' ≡ holds
 
--- an image of this size: too short, or long enough for what comes behind its reading
+-- an image of this size: too short, or long enough for what comes after its reading
 abbrev pub ShortAt : ℕ → ℕ → End → Type 0
 ShortAt mem size (Err Memory) = ⊤
 ShortAt mem size (Err ImageFault) = ⊤
-ShortAt mem size (Err (Short has needed)) = size < mem
+ShortAt mem size (Err (Short has needed)) = (size < mem) × (has ≡ size) × (needed ≡ mem)
 ShortAt mem size e = mem ≤ size
 
--- a script: too long, bad in a line, or good for what comes behind its reading
-abbrev pub ScriptAt : List ℕ → Option (List ℕ) → Option (List ℕ) → End → Type 0
-ScriptAt script given given' (Err Memory) = ⊤
-ScriptAt script given given' (Err (Short has needed)) = ⊤
-ScriptAt script given given' (Err ScriptFault) = ⊤
-ScriptAt script given given' (Err ImageFault) = ⊤
-ScriptAt script given given' (Err SinkFault) = ⊤
-ScriptAt script given given' (Err TooLong) = (script_limit < length script) × (given' ≡ given)
-ScriptAt script given given' (Err (BadLine n)) = (length script ≤ script_limit) × (script_of script ≡ Err n)
-    × (given' ≡ given)
-ScriptAt script given given' e = (length script ≤ script_limit) × IsOk (script_of script)
+-- a script: too long, bad in a line, or good for what comes after its reading
+abbrev pub ScriptAt : List ℕ → End → Type 0
+ScriptAt script (Err Memory) = ⊤
+ScriptAt script (Err (Short has needed)) = ⊤
+ScriptAt script (Err ScriptFault) = ⊤
+ScriptAt script (Err ImageFault) = ⊤
+ScriptAt script (Err SinkFault) = ⊤
+ScriptAt script (Err TooLong) = script_limit < length script
+ScriptAt script (Err (BadLine n)) = (length script ≤ script_limit) × (script_of script ≡ Err n)
+ScriptAt script e = (length script ≤ script_limit) × IsOk (script_of script)
+
+-- how much of the script was read, and that nothing was put before its first line
+abbrev pub UseAt : Outside → Outside → End → Type 0
+UseAt a b (Ok u) = IsAtEnd b.left
+UseAt a b (Err (Short has needed)) = NoScript a b × (b.given ≡ a.given)
+UseAt a b (Err ScriptFault) = b.given ≡ a.given
+UseAt a b (Err ImageFault) = NoScript a b ⊎ IsAtEnd b.left
+UseAt a b (Err TooLong) = b.given ≡ a.given
+UseAt a b (Err (BadLine n)) = IsAtEnd b.left × (b.given ≡ a.given)
+UseAt a b (Err (Refused n cause)) = IsAtEnd b.left
+UseAt a b e = ⊤
+
+-- the work of a command that reads an image of this size and a script
+pub record ScriptEnds (mem : ℕ) (a b : Outside) (e : End) : Type 0 where
+  pub image : IfHolds a (λ bytes. ShortAt mem (length bytes) e)
+  pub unread : IfHolds a (λ bytes. length bytes < mem → NoScript a b)
+  pub script : IfLeft a (λ script. ScriptAt script e)
+  pub used : UseAt a b e
 
 -- an end whose status the command of a plan can answer
 abbrev pub CanEnd : Plan → End → Type 0
 CanEnd plan e = IsAmong (statuses plan.command) (status_of e)
 
--- of an image that is too short the script is not read
-abbrev pub UnreadAt : Outside → Outside → End → Type 0
-UnreadAt a b (Err (Short has needed)) = NoScript a b
-UnreadAt a b e = ⊤
-
 -- how each command's work ends, as far as the outside tells what it uses
 pub record RunEnds (plan : Plan) (a b : Outside) (e : End) : Type 0 where
   pub can : CanEnd plan e
   pub whole : IfTold a (λ bytes script. Ended (wanted plan bytes script) a b e)
-  pub image : IfHolds a (λ bytes. ShortAt (mem_of plan) (length bytes) e)
-  pub script : IfLeft a (λ script. ScriptAt script a.given b.given e)
-  pub unread : UnreadAt a b e
+  pub read : ScriptEnds (mem_of plan) a b e
 
 pub record ImageEnds (plan : Plan) (a b : Outside) (e : End) : Type 0 where
   pub can : CanEnd plan e
@@ -98,10 +108,18 @@ pub record ReadEnds (plan : Plan) (a b : Outside) (e : End) : Type 0 where
   pub script : NoScript a b
   pub image : b.holds ≡ a.holds
 
+-- the image fails only as it is written
+abbrev pub WrittenAt : Wanted → Outside → Outside → End → Type 0
+WrittenAt w a b (Err ImageFault) = (w.end ≡ Ok tt) × Appends a.given b.given (whole w.texts)
+    × WritesSome w.writes a.holds b.holds
+WrittenAt w a b e = ⊤
+
 pub record MakeEnds (plan : Plan) (a b : Outside) (e : End) : Type 0 where
   pub can : CanEnd plan e
   pub whole : Ended (wanted plan [] []) a b e
   pub script : NoScript a b
+  pub image_fault : WrittenAt (wanted plan [] []) a b e
+  pub text_first : NoImage a b ⊎ PutsAll (wanted plan [] []) a b
 
 pub record ShowEnds (plan : Plan) (a b : Outside) (e : End) : Type 0 where
   pub can : CanEnd plan e

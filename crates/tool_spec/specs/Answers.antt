@@ -1,14 +1,14 @@
 -- What a run answers: its status, the text that it put, and what the image then holds
 use Rattle.std.specs.Prelude.{◌≡◌, ◌≢◌, ◌⊎◌, ⊤, ℕ, ◌≤◌, ◌<◌, ◌==◌, true, List, [], ◌∷◌, ◌++◌, length, take, flat_map, Option, None, Some, Result, Ok, Err}
 use Rattle.std.specs.List.{list_any}
-use Rattle.std.specs.Io.KnownBytes.{Appends}
-use Rattle.box_io.specs.Outside.{AppendsFront, Writes, WritesFront}
+use Rattle.std.specs.Io.KnownBytes.{Appends, IsAtEnd}
+use Rattle.box_io.specs.Outside.{Rose, AppendsFront, Writes, WritesFront}
 use Rattle.box_script.specs.Fields.{Text}
 use Rattle.box_script.specs.Lines.{script_of}
 use Rattle.tool_spec.specs.Ends.{End, status_of, last_line}
 use Rattle.tool_spec.specs.Commands.{Command, RunScript, ListRecords, ExtractRecord, EraseRecord, ShowLayout, BlankImage, MakeImage, Plan, Wanted, wanted, mem_of, script_limit}
 use Rattle.tool_spec.specs.declared.Stop.{Stop}
-use Rattle.tool_spec.specs.declared.Stop.TheVariants.{Memory, ScriptFault, ImageFault, SinkFault, TooLong, BadLine}
+use Rattle.tool_spec.specs.declared.Stop.TheVariants.{Memory, Short, ScriptFault, ImageFault, SinkFault, TooLong, BadLine}
 
 -- ---- the outside
 
@@ -60,6 +60,13 @@ pub record Later (a b : Outside) : Type 0 where
   pub store : a.store_faults ≤ b.store_faults
   pub sink : a.sink_faults ≤ b.sink_faults
 
+-- a fault of the script, the image or the output is named only if its count rose
+abbrev pub RoseFor : Stop → Outside → Outside → Type 0
+RoseFor ScriptFault a b = Rose a.source_faults b.source_faults
+RoseFor ImageFault a b = Rose a.store_faults b.store_faults
+RoseFor SinkFault a b = Rose a.sink_faults b.sink_faults
+RoseFor s a b = ⊤
+
 -- ---- text and image
 
 -- the first k texts end to end
@@ -83,13 +90,6 @@ CanStop end ImageFault = ⊤
 CanStop end SinkFault = ⊤
 CanStop end s = end ≡ Err s
 
--- a front of some first texts and a last line was put
-pub record PutFront (texts : List Text) (end : End) (old new : Option (List ℕ)) : Type 0 where
-  pub count : ℕ
-  pub last : Stop
-  pub can : CanStop end last
-  pub bytes : AppendsFront old new (front texts count ++ last_line last)
-
 -- all that is wanted was written to the image's front, and else nothing
 abbrev pub WritesAll : Option (List ℕ) → Option (List ℕ) → Option (List ℕ) → Type 0
 WritesAll None old new = new ≡ old
@@ -102,33 +102,52 @@ WritesSome (Some bytes) old new = WritesFront old new 0 bytes
 
 -- ---- answers
 
--- the statuses that come beside a wanted one: want of memory, and a fault of the script, the image, the output
-abbrev pub IsFree : ℕ → Type 0
-IsFree status = (status ≡ 1) ⊎ ((status ≡ 5) ⊎ ((status ≡ 6) ⊎ (status ≡ 7)))
+-- the statuses that come beside a wanted one: out of memory; and a fault of the script, the image or the output,
+-- each only if its count rose
+abbrev pub IsFree : Outside → Outside → ℕ → Type 0
+IsFree a b status = (status ≡ 1) ⊎ (((status ≡ 5) × RoseFor ScriptFault a b)
+    ⊎ (((status ≡ 6) × RoseFor ImageFault a b) ⊎ ((status ≡ 7) × RoseFor SinkFault a b)))
 
--- the image is as it was, or a front of what is wanted was written to it where all else was done
-abbrev pub UnwrittenOrPart : Wanted → Outside → Outside → Type 0
-UnwrittenOrPart w a b = (b.holds ≡ a.holds) ⊎ ((w.end ≡ Ok tt) × WritesSome w.writes a.holds b.holds)
+-- the output failed: a front of some first texts and a last line was put, and the image is untouched
+pub record PutFront (w : Wanted) (a b : Outside) : Type 0 where
+  pub count : ℕ
+  pub last : Stop
+  pub can : CanStop w.end last
+  pub rose : RoseFor last a b
+  pub bytes : AppendsFront a.given b.given (front w.texts count ++ last_line last)
+  pub holds : b.holds ≡ a.holds
+
+-- the image failed as it was written back: all else was done, the whole text was put and then this, and a front of
+-- what is wanted was written
+pub record SavedInPart (w : Wanted) (a b : Outside) (last : Text) : Type 0 where
+  pub end : w.end ≡ Ok tt
+  pub rose : RoseFor ImageFault a b
+  pub put : Appends a.given b.given (whole w.texts ++ last)
+  pub written : WritesSome w.writes a.holds b.holds
+
+-- the whole text was put, and maybe more
+abbrev pub PutsAll : Wanted → Outside → Outside → Type 0
+PutsAll w a b = (more : Text) × Appends a.given b.given (whole w.texts ++ more)
 
 -- what is answered where a command wants this
 pub record Answers (w : Wanted) (a b : Outside) (status : ℕ) : Type 0 where
-  -- the status that is wanted, but for want of memory and faults
-  pub exact : (status ≡ status_of w.end) ⊎ IsFree status
+  -- the status that is wanted, but for memory and faults
+  pub exact : (status ≡ status_of w.end) ⊎ IsFree a b status
   -- all was done: the whole text was put, and what is to be written was
   pub done : status ≡ 0 → (w.end ≡ Ok tt) × Appends a.given b.given (whole w.texts) × WritesAll w.writes a.holds b.holds
   -- a refusal: the texts before it, and the last line
-  pub refused : (s : Stop) → w.end ≡ Err s → (IsFree status → ⊥)
+  pub refused : (s : Stop) → w.end ≡ Err s → (IsFree a b status → ⊥)
       → Appends a.given b.given (whole w.texts ++ last_line s)
-  -- want of memory and faults: some first texts, and the last line
+  -- out of memory: some first texts, and the last line
   pub memory : status ≡ 1 → PutThen w.texts a.given b.given (last_line Memory)
   pub script_fault : status ≡ 5 → Appends a.given b.given (last_line ScriptFault)
+  -- the image failed as it was read, before any text, or as it was written back
   pub image_fault : status ≡ 6 → (Appends a.given b.given (last_line ImageFault) × (b.holds ≡ a.holds))
-      ⊎ ((w.end ≡ Ok tt) × Appends a.given b.given (whole w.texts ++ last_line ImageFault)
-      × WritesSome w.writes a.holds b.holds)
-  pub sink_fault : status ≡ 7 → PutFront w.texts w.end a.given b.given
-  -- the image is untouched, but for a fault in writing it, which also a fault of the last line can follow
+      ⊎ SavedInPart w a b (last_line ImageFault)
+  -- the output failed, maybe in the last line after the image failed as it was written back
+  pub sink_fault : status ≡ 7 → PutFront w a b ⊎ ((k : ℕ) × SavedInPart w a b (take k (last_line ImageFault)))
+  -- the image is untouched, but for a fault in writing it back
   pub kept : status ≢ 0 → status ≢ 6 → status ≢ 7 → b.holds ≡ a.holds
-  pub unwritten : status ≢ 0 → UnwrittenOrPart w a b
 
 -- where the words, the parameters or the layout are at fault: the status and the last line, and nothing touched
 pub record FaultAnswers (s : Stop) (a b : Outside) (status : ℕ) : Type 0 where
@@ -138,28 +157,44 @@ pub record FaultAnswers (s : Stop) (a b : Outside) (status : ℕ) : Type 0 where
   pub script : NoScript a b
   pub image : NoImage a b
 
--- an image of this size that is read: status 4 exactly where it is too short, but for what comes before
-pub record ShortAnswers (mem : ℕ) (bytes : List ℕ) (status : ℕ) : Type 0 where
-  pub short : status ≡ 4 → length bytes < mem
-  pub told : length bytes < mem → (status ≡ 4) ⊎ IsFree status
+-- an image of this size that is read: status 4 exactly if it is too short, but for what comes before; and then the
+-- script is not read, whatever the status
+pub record ShortAnswers (mem : ℕ) (bytes : List ℕ) (a b : Outside) (status : ℕ) : Type 0 where
+  pub short : status ≡ 4 → (length bytes < mem) × Appends a.given b.given (last_line (Short (length bytes) mem))
+  pub told : length bytes < mem → (status ≡ 4) ⊎ ((status ≡ 1) ⊎ (((status ≡ 6) × RoseFor ImageFault a b)
+      ⊎ ((status ≡ 7) × RoseFor SinkFault a b)))
+  pub unread : length bytes < mem → NoScript a b
 
--- a script that is read: status 8 exactly where it is too long, and 9 exactly where it has a bad line, but
--- for what comes before
+-- a script that is read: status 8 exactly if it is too long, and 9 exactly if it has a bad line, but for what comes
+-- before
 pub record ScriptAnswers (script : List ℕ) (a b : Outside) (status : ℕ) : Type 0 where
-  pub long : status ≡ 8 → (script_limit < length script) × Appends a.given b.given (last_line TooLong)
+  pub long : status ≡ 8 → script_limit < length script
   pub bad : status ≡ 9 → (n : ℕ) × (script_of script ≡ Err n) × Appends a.given b.given (last_line (BadLine n))
-  pub told_long : script_limit < length script → (status ≡ 8) ⊎ (status ≡ 4) ⊎ IsFree status
+  pub told_long : script_limit < length script → (status ≡ 8) ⊎ (status ≡ 4) ⊎ IsFree a b status
   pub told_bad : (n : ℕ) → script_of script ≡ Err n → length script ≤ script_limit
-      → (status ≡ 9) ⊎ (status ≡ 4) ⊎ IsFree status
+      → (status ≡ 9) ⊎ (status ≡ 4) ⊎ IsFree a b status
 
--- a command reads a script, and what it wants stands on both the image and the script; what may be said
--- where one of them is not told is said besides
+-- how much of the script was read, and the texts that need neither the image nor the script to be told
+pub record ScriptUse (a b : Outside) (status : ℕ) : Type 0 where
+  -- an image that is too short comes before the script
+  pub unread : status ≡ 4 → NoScript a b
+  -- all lines are read before the first is done
+  pub whole : (status ≡ 0) ⊎ ((status ≡ 9) ⊎ (status ≡ 10)) → IsAtEnd b.left
+  -- the image failed before the script was read, or after its last line
+  pub either : status ≡ 6 → NoScript a b ⊎ IsAtEnd b.left
+  pub fault : status ≡ 5 → Appends a.given b.given (last_line ScriptFault)
+  pub long : status ≡ 8 → Appends a.given b.given (last_line TooLong)
+
+-- an image of this size and a script that are read: what may be said if only one of them is told, or neither
+pub record ScriptRead (mem : ℕ) (a b : Outside) (status : ℕ) : Type 0 where
+  pub image : IfHolds a (λ bytes. ShortAnswers mem bytes a b status)
+  pub script : IfLeft a (λ script. ScriptAnswers script a b status)
+  pub used : ScriptUse a b status
+
+-- a command reads a script, and what it wants stands on both the image and the script
 pub record RunAnswers (plan : Plan) (a b : Outside) (status : ℕ) : Type 0 where
   pub whole : IfTold a (λ bytes script. Answers (wanted plan bytes script) a b status)
-  pub image : IfHolds a (λ bytes. ShortAnswers (mem_of plan) bytes status)
-  pub script : IfLeft a (λ script. ScriptAnswers script a b status)
-  -- of an image that is too short the script is not read
-  pub unread : status ≡ 4 → NoScript a b
+  pub read : ScriptRead (mem_of plan) a b status
 
 -- a command that reads the image and leaves the script
 pub record ImageAnswers (plan : Plan) (a b : Outside) (status : ℕ) : Type 0 where
@@ -172,10 +207,12 @@ pub record ReadAnswers (plan : Plan) (a b : Outside) (status : ℕ) : Type 0 whe
   pub script : NoScript a b
   pub image : b.holds ≡ a.holds
 
--- a command that reads nothing
+-- a command that reads nothing: it puts its whole text before it touches the image
 pub record MakeAnswers (plan : Plan) (a b : Outside) (status : ℕ) : Type 0 where
   pub whole : Answers (wanted plan [] []) a b status
   pub script : NoScript a b
+  pub image_fault : status ≡ 6 → SavedInPart (wanted plan [] []) a b (last_line ImageFault)
+  pub text_first : NoImage a b ⊎ PutsAll (wanted plan [] []) a b
 
 -- and does not look at the image
 pub record ShowAnswers (plan : Plan) (a b : Outside) (status : ℕ) : Type 0 where

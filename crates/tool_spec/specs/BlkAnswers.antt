@@ -7,7 +7,7 @@ use Rattle.box_script.specs.Fields.{Text}
 use Rattle.box_script.specs.declared.line.Line.{Line}
 use Rattle.tool_spec.specs.Ends.{End, status_of, last_line}
 use Rattle.tool_spec.specs.Commands.{script_end, stops, plan_of}
-use Rattle.tool_spec.specs.Answers.{Outside, IfHolds, IfLeft, IfTold, NoScript, front, whole, IsFree, Answers, FaultAnswers, ShortAnswers, ScriptAnswers, ToolAnswers}
+use Rattle.tool_spec.specs.Answers.{Outside, IfTold, RoseFor, front, whole, IsFree, Answers, FaultAnswers, ScriptRead, ToolAnswers}
 use Rattle.tool_spec.specs.BlkScripts.{BlkRan, blk_ran, line_writes}
 use Rattle.tool_spec.specs.BlkCommands.{blk_asked, blk_plan_of, blk_lines}
 use Rattle.tool_spec.specs.declared.Stop.{Stop}
@@ -86,11 +86,11 @@ pub record StoppedFor (stop : Stop) (layout : BlkLayout) (bytes : List ℕ) (lin
   pub stops : LinesStop stop layout bytes lines text b.holds
   pub put : Appends a.given b.given (text ++ last_line stop)
 
--- lines stopped for some cause, and only a part of the last line was put; where the text of a line was put in part
--- there
+-- lines stopped for some cause, and only a part of the last line was put; if the text of a line was put in part, there
 -- is no last line
 pub record StoppedUnput (layout : BlkLayout) (bytes : List ℕ) (lines : List Line) (a b : Outside) : Type 0 where
   pub stop : Stop
+  pub rose : RoseFor stop a b
   pub text : Text
   pub stops : LinesStop stop layout bytes lines text b.holds
   pub part : ℕ
@@ -99,8 +99,8 @@ pub record StoppedUnput (layout : BlkLayout) (bytes : List ℕ) (lines : List Li
 -- good lines on a store with room
 pub record LinesAnswers (layout : BlkLayout) (bytes : List ℕ) (lines : List Line) (a b : Outside)
     (status : ℕ) : Type 0 where
-  -- the status that is wanted, but for want of memory and faults
-  pub exact : (status ≡ status_of (blk_end (blk_ran layout bytes lines))) ⊎ IsFree status
+  -- the status that is wanted, but for memory and faults
+  pub exact : (status ≡ status_of (blk_end (blk_ran layout bytes lines))) ⊎ IsFree a b status
   pub done : status ≡ 0 → AllDone layout bytes lines a b
   pub refused : status ≡ 10 → (stop : Stop) → blk_end (blk_ran layout bytes lines) ≡ Err stop
       → StoppedFor stop layout bytes lines a b
@@ -114,13 +114,10 @@ abbrev pub LinesOrStopAnswers : BlkLayout → List ℕ → Result (List Line) St
 LinesOrStopAnswers layout bytes (Ok lines) a b status = LinesAnswers layout bytes lines a b status
 LinesOrStopAnswers layout bytes (Err stop) a b status = Answers (stops stop) a b status
 
--- a script on the block store; what may be said where the script or the store is not told is said besides
+-- a script on the block store
 pub record BlkAnswers (layout : BlkLayout) (a b : Outside) (status : ℕ) : Type 0 where
   pub whole : IfTold a (λ bytes script. LinesOrStopAnswers layout bytes (blk_lines layout bytes script) a b status)
-  pub image : IfHolds a (λ bytes. ShortAnswers layout.total bytes status)
-  pub script : IfLeft a (λ script. ScriptAnswers script a b status)
-  -- of a store that is too short the script is not read
-  pub unread : status ≡ 4 → NoScript a b
+  pub read : ScriptRead layout.total a b status
   -- the words have no fault
   pub words : (status ≢ 2) × (status ≢ 3)
   -- the store is untouched on a status that comes before the lines alone

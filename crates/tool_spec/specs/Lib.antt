@@ -8,3 +8,4 @@ pub mod Headline
 pub mod BlkScripts
 pub mod BlkCommands
 pub mod BlkAnswers
+pub mod Complete

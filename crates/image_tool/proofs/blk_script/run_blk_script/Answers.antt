@@ -10,6 +10,7 @@ returns-clause-ended g c =
       read = c.in-Ok-read_script.ensures.ok.1;
       few = omega
           (arith, c.in-Ok-read_script.ensures.ok.0, c.in-Ok-read_script.text.ok);
+      end = c.in-Ok-read_script.ensures.end;
     })
     (rw c.deref.ensures.value at c.in-Ok-lines.ensures.read)
     c.check_size.ensures.same

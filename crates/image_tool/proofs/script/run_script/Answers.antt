@@ -12,29 +12,31 @@ returns-in-Err-play-clause-caused g c = play_caused _ _ _ _ _ _ _ _ _ _ _ _
     (c.in-Err-play.ensures.played _ _ _ c.in-Ok-fresh_store.ensures)
 
 pub returns-in-Err-play-clause-ended : goal.returns-in-Err-play-clause-ended
-returns-in-Err-play-clause-ended g c = play_stopped (plan_for RunScript c.args.layout)
-    _ _ c.in-Ok.bytes.items c.in-Ok-read_script.text.items c.in-Ok-lines.lines _ _ _
+returns-in-Err-play-clause-ended g c = play_stopped (plan_for RunScript c.args.layout) _ _ c.in-Ok.bytes.items
     (record { is = refl; read = rw c.mem.ensures at c.in-Ok.ensures.ok.1 })
+    c.in-Ok-read_script.text.items
     (record {
       read = c.in-Ok-read_script.ensures.ok.1;
-      few = omega
-          (arith, c.in-Ok-read_script.ensures.ok.0, c.in-Ok-read_script.text.ok);
+      few = omega (arith, c.in-Ok-read_script.ensures.ok.0, c.in-Ok-read_script.text.ok);
+      end = c.in-Ok-read_script.ensures.end;
     })
-    (rw c.deref.ensures.value at c.in-Ok-lines.ensures.read) c.in-Ok.ensures.same
+    c.in-Ok-lines.lines (rw c.deref.ensures.value at c.in-Ok-lines.ensures.read) _ _ _ c.in-Ok.ensures.same
     (rw c.as_slice.ensures at (c.in-Err-play.ensures.played _ _ _ c.in-Ok-fresh_store.ensures))
 
 pub returns-in-Ok-save-clause-ended : goal.returns-in-Ok-save-clause-ended
 returns-in-Ok-save-clause-ended g c =
     let played = c.in-Ok-play.ensures.played (zones_of c.args.layout) (rounded (params_of c.args.layout).mem)
     c.in-Ok.bytes.items c.in-Ok-fresh_store.ensures in
-    play_saved (plan_for RunScript c.args.layout) _ _ c.in-Ok.bytes.items c.in-Ok-read_script.text.items
-    c.into_image.result c.in-Ok-lines.lines played.session
+    play_saved (plan_for RunScript c.args.layout) _ _ c.in-Ok.bytes.items
     (record { is = refl; read = rw c.mem.ensures at c.in-Ok.ensures.ok.1 })
+    c.in-Ok-read_script.text.items
     (record {
       read = c.in-Ok-read_script.ensures.ok.1;
       few = omega (arith, c.in-Ok-read_script.ensures.ok.0, c.in-Ok-read_script.text.ok);
+      end = c.in-Ok-read_script.ensures.end;
     })
-    (rw c.deref.ensures.value at c.in-Ok-lines.ensures.read) (rw c.as_slice.ensures at played.played)
+    c.in-Ok-lines.lines (rw c.deref.ensures.value at c.in-Ok-lines.ensures.read)
+    c.into_image.result played.session (rw c.as_slice.ensures at played.played)
     (c.into_image.ensures (zones_of c.args.layout) (rounded (params_of c.args.layout).mem)
     played.session played.stands) (rw (c.as_slice-3.ensures, c.in-Ok.ensures.same) at c.in-Ok-save.ensures.bytes)
 
@@ -42,13 +44,15 @@ pub returns-clause-ended : goal.returns-clause-ended
 returns-clause-ended g c =
     let played = c.in-Ok-play.ensures.played (zones_of c.args.layout) (rounded (params_of c.args.layout).mem)
     c.in-Ok.bytes.items c.in-Ok-fresh_store.ensures in
-    play_unsaved (plan_for RunScript c.args.layout) _ _ c.in-Ok.bytes.items c.in-Ok-read_script.text.items
-    c.into_image.result c.in-Ok-lines.lines played.session
+    play_unsaved (plan_for RunScript c.args.layout) _ _ c.in-Ok.bytes.items
     (record { is = refl; read = rw c.mem.ensures at c.in-Ok.ensures.ok.1 })
+    c.in-Ok-read_script.text.items
     (record {
       read = c.in-Ok-read_script.ensures.ok.1;
       few = omega (arith, c.in-Ok-read_script.ensures.ok.0, c.in-Ok-read_script.text.ok);
+      end = c.in-Ok-read_script.ensures.end;
     })
-    (rw c.deref.ensures.value at c.in-Ok-lines.ensures.read) (rw c.as_slice.ensures at played.played)
+    c.in-Ok-lines.lines (rw c.deref.ensures.value at c.in-Ok-lines.ensures.read)
+    c.into_image.result played.session (rw c.as_slice.ensures at played.played)
     (c.into_image.ensures (zones_of c.args.layout) (rounded (params_of c.args.layout).mem)
     played.session played.stands) (rw (c.as_slice-3.ensures, c.in-Ok.ensures.same) at c.in-Err-save.ensures.bytes)

@@ -29,7 +29,7 @@ pub returns-in-Blank-clause-ended : goal.returns-in-Blank-clause-ended
 returns-in-Blank-clause-ended g c =
     read_done _ (plan_seen c.in-Ok.plan) _ _ _ c.in-Ok.ensures.plan
     (blank_left (plan_seen c.in-Ok.plan) c.mem.result _ _ _ c.mem.ensures (ap command_seen c.in-Blank.is)
-    (record { left = refl; source = refl }) refl c.blank.ensures.can (c.blank.ensures.ended _))
+    (record { left = refl; source = refl }) refl c.blank.ensures.can (c.blank.ensures.ended _) c.blank.ensures.written)
 
 pub returns-in-Make-clause-caused : goal.returns-in-Make-clause-caused
 returns-in-Make-clause-caused g c = c.make.ensures.caused _ _
