@@ -16,19 +16,20 @@ use Rattle.zone_spec.specs.Stages.{Stage, SigWord, StartWord, SizeWord, Run, Par
 use Rattle.zone_spec.specs.Calls.{erase_stages, call_stages, call_stores}
 use Rattle.zone_spec.specs.Boot.{boot_fixes, boot_erasure, boot_stores, signing, keeps}
 use Rattle.zone_spec.specs.Touched.{touched_by, before_runs, runs_of}
-use Rattle.zone_spec.specs.Cut.{Cut, is_touched}
+use Rattle.zone_spec.specs.Cut.{Cut, cut_pairs, is_touched}
 use Rattle.session_spec.specs.States.{Flight}
 use Rattle.session_spec.specs.Stop.{cut_of}
 use Rattle.session_spec.specs.BootPart.{boot_cut}
 use Rattle.session_spec.specs.Sound.{IsInFlight}
-use Rattle.session_spec.specs.Headline.{RunsAreTouched}
-use Rattle.damage_laws.specs.CutCalls.{CutReportIsExact, RisesFrom}
+use Rattle.session_spec.specs.Exact.{RunsAreTouched, RisesFrom}
+use Rattle.damage_laws.specs.CutCalls.{CutReportIsExact}
 use Rattle.damage_laws.specs.CutErasures.{BootCutReportIsExact}
 use Rattle.ring_laws.proofs.PartsLaw.{slice_range-bytes, part_short}
 use Rattle.ring_laws.proofs.PartWords.{has_parity}
 use Rattle.ring_laws.proofs.StoreBytes.{HasBytes, after-bytes, stage_stores-all, call-all}
 use Rattle.ring_laws.proofs.BootLaw.{booted_bytes, booted_image}
 use Rattle.damage_laws.proofs.Touched.{any_range, call-leaves}
+use Rattle.damage_laws.proofs.Seen.{seen_is_exact}
 
 -- ---- runs
 
@@ -234,7 +235,7 @@ cut_report_is_exact z f stop told reading valid flies =
       kind = refl;
       made = refl;
       total = sym (length-call z f stop told valid flies);
-      header = refl;
+      header = seen_is_exact z reading.words (cut_pairs (cut_of z f));
       touched = cut_touched z f stop told valid flies;
       apart = runs_rise (λ b. is_touched z (cut_of z f) b) z.blocks 0;
     }
@@ -271,7 +272,7 @@ boot_cut_report_is_exact z now k reading valid im within =
           ap (sum_by (stage_count z)) (append-nil stages),
           length-append (boot_fixes z now) (stores_in_turn z stages (after_stores now (boot_fixes z now))),
         );
-        header = refl;
+        header = seen_is_exact z reading.words (cut_pairs (boot_cut z now k));
         touched = runs_touched z (boot_cut z now k) (λ b e. absurd
             (true≢false (sym e ∙ ap (λ ts. list_any (λ c. c == b) ts) facts.1)));
         apart = runs_rise (λ b. is_touched z (boot_cut z now k) b) z.blocks 0;

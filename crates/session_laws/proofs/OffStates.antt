@@ -52,9 +52,11 @@ module _ (layout : List Zone) (mem : ℕ) (lies : IsLayout layout mem) where
             in_flight = λ cut c b. (
               v.told,
               f,
-              refl,
-              (let s : cut_of z f ≡ cut = cc in sym s),
-              subst (Stands z v.image v.told) e sound.stands,
+              record {
+                told_is = refl;
+                cut_is = (let s : cut_of z f ≡ cut = cc in sym s);
+                at_stop = subst (Stands z v.image v.told) e sound.stands;
+              },
             );
             in_erasure = λ cut c b. absurd (true≢false (let s : cut_of z f ≡ cut = cc in
                 sym b ∙ ap (λ (k : Cut). k.by_boot) (sym s)));
