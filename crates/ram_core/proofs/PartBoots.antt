@@ -50,6 +50,7 @@ use Rattle.zone_params.specs.Laid.{params_of, zones_of}
 use Rattle.ram_core.specs.declared.off.OpenOff.{OpenOff}
 use Rattle.ram_core.specs.declared.booting.Prepared.{Prepared}
 use Rattle.ram_core.specs.Booting.{held_after, PreparesTo, IsOpen}
+use Rattle.ram_core.specs.Resting.{IsResting}
 use Rattle.ram_core.specs.Parting.{stores_before, left_for, Passes, PartsTo}
 use Rattle.ram_core.specs.Parted.{parted, AreInOrder, IsParted}
 use Rattle.ram_core.specs.Booted.{PartsZone, BootedInPart}
@@ -424,3 +425,21 @@ module _ (v : OffSeen) (o : OpenOff) (is : IsOpen v o) where
           (subst (λ (m : ℕ). BootedInPart L m s limit after (limit - progress.left)) st.same_mem
           (parted_own s (subst (λ (l : List Zone). StandsOff l M before s) (sym st.same_layout)
           (subst (λ (m : ℕ). StandsOff layout m before s) (sym st.same_mem) st))))
+
+      -- and it stands for a sound state again
+      pub part_rests : IsResting (record {
+        layout = L;
+        mem = M;
+        image = concat new.spans ++ new.rest;
+        zones = known;
+      })
+      part_rests =
+          let rest : IsResting (record { layout = L; mem = M; image = v.image; zones = o.zones.items }) =
+          subst IsResting is.seen is.resting in
+          let parted = parted_own rest.state rest.stands in
+          record {
+            lies = is.lies;
+            state = boot_parted L limit rest.state;
+            stands = parted.off;
+            sound = parted.sound rest.sound;
+          }

@@ -7,21 +7,12 @@ use Rattle.session_spec.specs.Boot.{booted}
 use Rattle.session_spec.specs.Report.{ZoneReport, report}
 use Rattle.session_spec.specs.Erasures.{saved_logs}
 use Rattle.session_spec.specs.Sound.{IsState}
-use Rattle.session_spec.specs.Headline.{ReadsLastWritten, EachOffZone}
-use Rattle.session_laws.specs.Boots.{ReportsExactly, ReadsCut}
-use Rattle.session_laws.specs.Sessions.{ReadsAsAtStop}
+use Rattle.session_spec.specs.Headline.{EachOffZone}
+use Rattle.session_laws.specs.ZoneReads.{ReadsZone}
 use Rattle.session_laws.specs.CutBoots.{MakesOwnStores, ReadsAfter, HoldsAfter, IsLeftOrStopped}
 use Rattle.session_spec.specs.BootPart.{boot_parted, boot_made}
 use Rattle.ram_core.specs.LiveSeen.{LiveSeen, StandsLive}
 use Rattle.ram_core.specs.OffSeen.{OffSeen, StandsOff}
-
--- what a boot reads of a zone of a sound state: the headline; a zone that stands as at its stop reads as told; what a
--- zone reads that was cut; and its report is exact
-pub record ReadsZone (z : Zone) (zone : OffZone) (now : List ℕ) : Type 0 where
-  pub last_written : ReadsLastWritten z zone now
-  pub as_at_stop : ReadsAsAtStop z zone now
-  pub cut : ReadsCut z zone now
-  pub reported : ReportsExactly z zone now
 
 -- the live state, the saved logs and the report are those of a boot, and each zone of a sound state reads as it must
 pub record Booted (layout : List Zone) (mem : ℕ) (s : OffState) (after : LiveSeen) (saved : List Saved)

@@ -129,6 +129,16 @@ verdict_is_exact (Some told) log = by (bytes_eq log told) refl
               ));
         }
 
+pub verdict_differs : (told log : List ℕ) → told ≢ log
+    → verdict_of (Some told) log ≡ Differs (length told) (length log) (common_prefix_len nat_eq told log)
+verdict_differs told log ne = by (bytes_eq log told) refl
+  where
+    by : (b : Bool) → bytes_eq log told ≡ b
+        → cond b AsTold (Differs (length told) (length log) (common_prefix_len nat_eq told log))
+        ≡ Differs (length told) (length log) (common_prefix_len nat_eq told log)
+    by true e = absurd (ne (sym (equal_lists log told e)))
+    by false e = refl
+
 -- ---- reports, and cut zones
 
 -- of each flight that the cut is of
