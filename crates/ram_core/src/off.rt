@@ -211,6 +211,7 @@ impl Off {
     // Cuts the image. On a refusal the machine is as it was.
     fn open(self) -> Result<OpenOff, (Off, AllocError)>
         ensures open { IfOk result (λ o. IsOpen self o) }
+        ensures sound { IsResting self }
         ensures refused { IfErr result (λ e. e.0 ≡ self) }
     {
         let _len = self.image.len();
@@ -246,6 +247,7 @@ impl Off {
     pub fn boot(self) -> Result<(Live, Logs, Report), (Off, AllocError)>
         ensures booted { IfOk result (λ r. (layout : List AZone) (mem : ℕ) (s : OffState)
             → StandsOff layout mem self s → Booted layout mem s r.0 (saved r.1) (map told_report r.2)) }
+        ensures sound { IsResting self }
         ensures refused { IfErr result (λ e. e.0 ≡ self) }
     {
         let mut open = self.open()?;
@@ -270,6 +272,7 @@ impl Off {
     pub fn boot_part(self, limit: u64) -> Result<(Off, u64), (Off, AllocError)>
         ensures parted { IfOk result (λ r. (layout : List AZone) (mem : ℕ) (s : OffState)
             → StandsOff layout mem self s → BootedInPart layout mem s limit r.0 r.1) }
+        ensures sound { IsResting self }
         ensures refused { IfErr result (λ e. e.0 ≡ self) }
     {
         let mut open = self.open()?;

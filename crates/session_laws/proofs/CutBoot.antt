@@ -33,7 +33,7 @@ use Rattle.damage_laws.proofs.Corrections.{corrections_keep_reading}
 use Rattle.session_laws.specs.CutBoots.{CutBootMakesStores, CutBootLeavesRest, CutBootHolds, CutBootReads, CutBootKeepsStops}
 use Rattle.session_spec.specs.States.{OffState, OffZone}
 use Rattle.std.proofs.lemmas.Bool.Decides.{nat_tests}
-use Rattle.session_laws.proofs.OffStates.{fits, off_bytes}
+use Rattle.session_laws.proofs.OffStates.{memory_fits, memory_bytes, off_bytes}
 use Rattle.session_laws.proofs.PartedStates.{parted-state}
 use Rattle.zone_spec.specs.Layouts.{zones_end}
 use Rattle.session_spec.specs.Zones.{zone_bytes}
@@ -361,10 +361,11 @@ left_or_stopped z old now later all n valid hs hn is whole =
         )
 
 pub cut_boot_makes_stores : CutBootMakesStores
-cut_boot_makes_stores layout mem off k i z lies state hz =
+cut_boot_makes_stores layout mem off k i z lies memory hz =
     zone_after off.image layout 0 k off.image i z hz (λ j y e. (lies.valid j y e).1 ∙ omega arith)
-    (λ j y e. stores_in y (lies.valid j y e).0 (zone_bytes y off.image) (off_bytes layout mem lies off state j y e))
-    (fits layout mem lies off state i z hz)
+    (λ j y e. stores_in y (lies.valid j y e).0 (zone_bytes y off.image)
+    (memory_bytes layout mem lies off.image memory j y e))
+    (memory_fits layout mem lies off.image memory i z hz)
 
 -- ---- behind the last zone
 
@@ -399,13 +400,13 @@ stores_below image (y ∷ ys) base loc ins =
     (stores_below image ys (base + y.size) (located_tail y ys base loc) (λ i v e. ins (suc i) v e)))
 
 pub cut_boot_leaves_rest : CutBootLeavesRest
-cut_boot_leaves_rest layout mem off k lies state =
+cut_boot_leaves_rest layout mem off k lies memory =
     let image : List ℕ = off.image in
     let ss : List Store = take k (image_boot_stores layout image) in
     let e : ℕ = zones_end layout in
     let whole : AllByRecursion (Below (0 + e)) (image_boot_stores layout image) =
     stores_below image layout 0 (λ j y h. (lies.valid j y h).1 ∙ omega arith)
-    (λ j y h. stores_in y (lies.valid j y h).0 (zone_bytes y image) (off_bytes layout mem lies off state j y h)) in
+    (λ j y h. stores_in y (lies.valid j y h).0 (zone_bytes y image) (memory_bytes layout mem lies image memory j y h)) in
     let n : 0 + e ≡ e = omega arith in
     let below : AllByRecursion (Below e) ss = all-take (Below e) k (image_boot_stores layout image)
     (subst (λ m. AllByRecursion (Below m) (image_boot_stores layout image)) n whole) in
@@ -432,13 +433,13 @@ mended_of z now n (inr none) = elim (cases_lt n (length (boot_fixes z now))) [
 ]
 
 pub cut_boot_reads : CutBootReads
-cut_boot_reads layout mem off k i z lies state hz =
+cut_boot_reads layout mem off k i z lies memory hz =
     let now : List ℕ = zone_bytes z off.image in
     let n : ℕ = left_at layout off.image k i in
     let is : after_stores now (take n (boot_stores z now)) ≡ zone_bytes z (boot_parted layout k off).image =
-    sym (cut_boot_makes_stores layout mem off k i z lies state hz) in
+    sym (cut_boot_makes_stores layout mem off k i z lies memory hz) in
     let valid : IsValidZone z = (lies.valid i z hz).0 in
-    let im : IsImage z now = off_bytes layout mem lies off state i z hz in
+    let im : IsImage z now = memory_bytes layout mem lies off.image memory i z hz in
     record {
       not_begun = λ h. subst (λ x. ReadsAlike z now x (min n (length (boot_fixes z now)))) (mended_of z now n h ∙ is)
           (corrections_keep_reading z now (min n (length (boot_fixes z now))) valid im
@@ -499,14 +500,14 @@ rest_is z now all n old c e h f =
     ])) f
 
 pub cut_boot_holds : CutBootHolds
-cut_boot_holds layout mem off k i z old new lies state hz ho hv =
+cut_boot_holds layout mem off k i z old new lies memory hz ho hv =
     let image : List ℕ = off.image in
     let now : List ℕ = zone_bytes z image in
     let n : ℕ = left_at layout image k i in
     let all : Bool = nat_le (boot_count layout image) k in
     let is : zone_parted z now all n old ≡ new = new_zone layout off k i z old new hz ho hv in
     let made : zone_bytes z (boot_parted layout k off).image ≡ after_stores now (take n (boot_stores z now)) =
-    cut_boot_makes_stores layout mem off k i z lies state hz in
+    cut_boot_makes_stores layout mem off k i z lies memory hz in
     let within : boot_count layout image ≤ k → length (boot_stores z now) ≤ n =
     (λ h. omega (arith, h, count_within image layout i z hz)) in
     record {
@@ -535,7 +536,7 @@ cut_boot_keeps_stops layout mem off k lies state = (
       let valid : IsValidZone z = (lies.valid i z hz).0 in
       let later : List ℕ = zone_bytes z (boot_parted layout k off).image in
       let is : later ≡ after_stores now (take (left_at layout image k i) (boot_stores z now)) =
-      cut_boot_makes_stores layout mem off k i z lies state hz in
+      cut_boot_makes_stores layout mem off k i z lies state.image hz in
       let new_is : zone_parted z now (nat_le (boot_count layout image) k) (left_at layout image k i) old ≡ new =
       new_zone layout off k i z old new hz ho hv in
       let sides = left_or_stopped z old now later (nat_le (boot_count layout image) k) (left_at layout image k i)

@@ -9,7 +9,7 @@ use Rattle.zone_spec.specs.Layouts.{IsLayout, zones_end}
 use Rattle.session_spec.specs.Zones.{zone_bytes}
 use Rattle.session_spec.specs.States.{OffZone, OffState, Off}
 use Rattle.session_spec.specs.BootPart.{boot_parted, boot_count, boot_cut, left_at, IsWithinErasure}
-use Rattle.session_spec.specs.Sound.{IsState}
+use Rattle.session_spec.specs.Sound.{IsMemory, IsState}
 use Rattle.ring_laws.specs.Laws.{ReadsTold}
 use Rattle.damage_laws.specs.CutErasures.{ReadsAlike}
 
@@ -23,13 +23,13 @@ MakesOwnStores layout off k i z =
 -- so has each zone
 abbrev pub CutBootMakesStores : Type 0
 CutBootMakesStores = (layout : List Zone) (mem : ℕ) (off : OffState) (k i : ℕ) (z : Zone) → IsLayout layout mem
-    → IsState layout mem (Off off) → slice_get layout i ≡ Some z
+    → IsMemory mem off.image → slice_get layout i ≡ Some z
     → MakesOwnStores layout off k i z
 
 -- the bytes behind the last zone are left
 abbrev pub CutBootLeavesRest : Type 0
 CutBootLeavesRest = (layout : List Zone) (mem : ℕ) (off : OffState) (k : ℕ) → IsLayout layout mem
-    → IsState layout mem (Off off)
+    → IsMemory mem off.image
     → drop (zones_end layout) (boot_parted layout k off).image ≡ drop (zones_end layout) off.image
 
 -- of a zone's own stores and those after it n were made: its last one, or a store after it
@@ -60,7 +60,7 @@ pub record HoldsAfter (layout : List Zone) (off : OffState) (k i : ℕ) (z : Zon
 -- so it is of each zone
 abbrev pub CutBootHolds : Type 0
 CutBootHolds = (layout : List Zone) (mem : ℕ) (off : OffState) (k i : ℕ) (z : Zone) (old new : OffZone)
-    → IsLayout layout mem → IsState layout mem (Off off)
+    → IsLayout layout mem → IsMemory mem off.image
     → slice_get layout i ≡ Some z → slice_get off.zones i ≡ Some old
     → slice_get (boot_parted layout k off).zones i ≡ Some new
     → HoldsAfter layout off k i z old new
@@ -78,7 +78,7 @@ pub record ReadsAfter (layout : List Zone) (off : OffState) (k i : ℕ) (z : Zon
 -- so reads each zone
 abbrev pub CutBootReads : Type 0
 CutBootReads = (layout : List Zone) (mem : ℕ) (off : OffState) (k i : ℕ) (z : Zone) → IsLayout layout mem
-    → IsState layout mem (Off off) → slice_get layout i ≡ Some z
+    → IsMemory mem off.image → slice_get layout i ≡ Some z
     → ReadsAfter layout off k i z
 
 -- what is held of a zone is as before, and damage from before and after the boot counts together; or the

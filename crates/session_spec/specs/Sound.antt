@@ -65,10 +65,14 @@ abbrev pub AreZones : List Zone → Session → Type 0
 AreZones layout (Off off) = EachZone layout off.zones IsOffZone
 AreZones layout (Live live) = EachZone layout live.zones IsLiveZone
 
+-- an image of mem bytes
+abbrev pub IsMemory : ℕ → List ℕ → Type 0
+IsMemory mem image = (length image ≡ mem) × AreBytes image
+
 -- a sound state: its zones are so, and its image is of mem bytes
 pub record IsState (layout : List Zone) (mem : ℕ) (session : Session) : Type 0 where
   pub zones : AreZones layout session
-  pub image : (length (session_image session) ≡ mem) × AreBytes (session_image session)
+  pub image : IsMemory mem (session_image session)
 
 -- a time that a dump can be written at
 abbrev pub IsTime : Time → Type 0
