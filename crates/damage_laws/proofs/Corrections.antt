@@ -453,15 +453,15 @@ corrections_keep_reading z now k valid im h =
     reading_is z now ∙ ap (λ w. reading_in z now w (state_of z w)) (sym (reading_words z now))
     ∙ ap (reading_in z now r.words) (ap (state_of z) (reading_words z now) ∙ sym (reading_state z now)) in
     let whole : zone_reading z (after_boot_stores z now k) ≡ reading_in z y r.words r.state =
-    ap (zone_reading z) is ∙ reads in (
-      ap (λ (v : ZoneReading). v.state) whole ∙ state_in_reading z y r.words r.state,
-      ap (λ (v : ZoneReading). v.words) whole ∙ words_in_reading z y r.words r.state,
-      ap (λ (v : ZoneReading). v.log) whole ∙ log_in z now y r.words r.state
+    ap (zone_reading z) is ∙ reads in record {
+      state = ap (λ (v : ZoneReading). v.state) whole ∙ state_in_reading z y r.words r.state;
+      words = ap (λ (v : ZoneReading). v.words) whole ∙ words_in_reading z y r.words r.state;
+      log = ap (λ (v : ZoneReading). v.log) whole ∙ log_in z now y r.words r.state
           (λ p. ap (λ xs. get_or xs (p % z.block) 0) (fixed_mended z valid now im k (Block (p / z.block))).reading)
-          ∙ ap (λ (v : ZoneReading). v.log) (sym own),
-      ap (λ (v : ZoneReading). v.corrected + k) whole ∙ count z valid now im k h
-          ∙ ap (λ (v : ZoneReading). v.corrected) (sym own),
-    )
+          ∙ ap (λ (v : ZoneReading). v.log) (sym own);
+      corrected = ap (λ (v : ZoneReading). v.corrected + k) whole ∙ count z valid now im k h
+          ∙ ap (λ (v : ZoneReading). v.corrected) (sym own);
+    }
   where
     map_all : (f g : ℕ → ℕ) (xs : List ℕ) → ((p : ℕ) → f p ≡ g p) → map f xs ≡ map g xs
     map_all f g [] h = refl

@@ -16,19 +16,21 @@ use Rattle.zone_spec.specs.Stages.{Stage, SigWord, StartWord, SizeWord, Run, Par
 use Rattle.zone_spec.specs.Calls.{erase_stages, call_stages, call_stores}
 use Rattle.zone_spec.specs.Boot.{boot_fixes, boot_erasure, boot_stores, signing, keeps}
 use Rattle.zone_spec.specs.Touched.{touched_by, before_runs, runs_of}
-use Rattle.zone_spec.specs.Cut.{Cut, is_touched}
+use Rattle.zone_spec.specs.Cut.{Cut, cut_pairs, is_touched}
 use Rattle.session_spec.specs.States.{Flight}
 use Rattle.session_spec.specs.Stop.{cut_of}
 use Rattle.session_spec.specs.BootPart.{boot_cut}
 use Rattle.session_spec.specs.Sound.{IsInFlight}
-use Rattle.session_spec.specs.Headline.{RunsAreTouched}
-use Rattle.damage_laws.specs.CutCalls.{CutReportIsExact, RisesFrom}
+use Rattle.session_spec.specs.Exact.{RunsAreTouched, RisesFrom}
+use Rattle.damage_laws.specs.CutCalls.{CutReportIsExact}
 use Rattle.damage_laws.specs.CutErasures.{BootCutReportIsExact}
 use Rattle.ring_laws.proofs.PartsLaw.{slice_range-bytes, part_short}
 use Rattle.ring_laws.proofs.PartWords.{has_parity}
+use Rattle.ring_laws.proofs.StoreCounts.{length-stores}
 use Rattle.ring_laws.proofs.StoreBytes.{HasBytes, after-bytes, stage_stores-all, call-all}
 use Rattle.ring_laws.proofs.BootLaw.{booted_bytes, booted_image}
 use Rattle.damage_laws.proofs.Touched.{any_range, call-leaves}
+use Rattle.damage_laws.proofs.Seen.{seen_is_exact}
 
 -- ---- runs
 
@@ -185,37 +187,6 @@ runs_rise test (suc n) a = by (test a) (runs_rise test n (a + 1))
 
 -- ---- the number of stores
 
-length-byte_stores : (place : ℕ) (bs : List ℕ) → length (byte_stores place bs) ≡ length bs
-unfolding byte_stores
-length-byte_stores place [] = refl
-length-byte_stores place (b ∷ bs) = ap suc (length-byte_stores (place + 1) bs)
-
-module _ (z : Zone) (valid : IsValidZone z) where
-  pub length-stage : (g : Stage) (image : List ℕ) → AreBytes image → length (stage_stores z g image) ≡ stage_count z g
-  unfolding stage_stores part_bytes
-  length-stage (SigWord n) image h = refl
-  length-stage (StartWord n) image h = refl
-  length-stage (SizeWord n) image h = refl
-  length-stage (Run place bytes) image h = length-byte_stores (12 + place) bytes
-  length-stage (ParityOf part) image h =
-      length-byte_stores (part_parity_at z part) _
-      ∙ (has_parity z.parity (part_bytes z image part) (slice_range-bytes image (part_at z part)
-      (part_at z part + part_len z part) h) (part_short z valid (has_parity z.parity) image part)).0
-
-  pub length-stores : (gs : List Stage) (image : List ℕ) → AreBytes image → AllByRecursion HasBytes gs
-      → length (stores_in_turn z gs image) ≡ sum_by (stage_count z) gs
-  unfolding stores_in_turn
-  length-stores [] image h k = refl
-  length-stores (g ∷ gs) image h k =
-      omega (
-        arith,
-        length-append (stage_stores z g image) (stores_in_turn z gs (after_stores image (stage_stores z g image))),
-        length-stage g image h,
-        length-stores gs (after_stores image (stage_stores z g image))
-            (after-bytes image (stage_stores z g image) h (stage_stores-all z valid g image h k.0)) k.1,
-        sum_by-cons (stage_count z) g gs,
-      )
-
 pub length-call : (z : Zone) (f : Flight) (stop told : List ℕ) → IsValidZone z → IsInFlight z stop told f
     → length (call_stores z f.call f.image) ≡ sum_by (stage_count z) (call_stages z (standing_words f.image) f.call)
 unfolding call_stores
@@ -234,7 +205,7 @@ cut_report_is_exact z f stop told reading valid flies =
       kind = refl;
       made = refl;
       total = sym (length-call z f stop told valid flies);
-      header = refl;
+      header = seen_is_exact z reading.words (cut_pairs (cut_of z f));
       touched = cut_touched z f stop told valid flies;
       apart = runs_rise (λ b. is_touched z (cut_of z f) b) z.blocks 0;
     }
@@ -271,7 +242,7 @@ boot_cut_report_is_exact z now k reading valid im within =
           ap (sum_by (stage_count z)) (append-nil stages),
           length-append (boot_fixes z now) (stores_in_turn z stages (after_stores now (boot_fixes z now))),
         );
-        header = refl;
+        header = seen_is_exact z reading.words (cut_pairs (boot_cut z now k));
         touched = runs_touched z (boot_cut z now k) (λ b e. absurd
             (true≢false (sym e ∙ ap (λ ts. list_any (λ c. c == b) ts) facts.1)));
         apart = runs_rise (λ b. is_touched z (boot_cut z now k) b) z.blocks 0;

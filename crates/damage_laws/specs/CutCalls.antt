@@ -1,7 +1,6 @@
 -- What a zone reads whose call a stop cut
-use Rattle.std.specs.Prelude.{◌≡◌, ℕ, ◌+◌, ◌/◌, ◌≤◌, List, [], ◌∷◌, length, Contains, MatchOption, Some}
+use Rattle.std.specs.Prelude.{◌≡◌, ℕ, ◌/◌, ◌≤◌, List, length, Contains, MatchOption, Some}
 use Rattle.zone_spec.specs.declared.Zone.{Zone}
-use Rattle.zone_spec.specs.declared.CallKind.{CallKind}
 use Rattle.zone_spec.specs.Zones.{IsValidZone}
 use Rattle.code_spec.specs.Code.{distance, nearest}
 use Rattle.zone_spec.specs.Parts.{Header, IsImage, part_word, standing_words, words_in}
@@ -10,13 +9,14 @@ use Rattle.zone_spec.specs.Reading.{ZoneReading}
 use Rattle.zone_spec.specs.Told.{kind_of}
 use Rattle.zone_spec.specs.Calls.{call_stores}
 use Rattle.zone_spec.specs.Damage.{IsNotDamagedFurther}
-use Rattle.zone_spec.specs.Pairs.{pair_of, header_seen}
-use Rattle.zone_spec.specs.Cut.{Cut, CutReport, cut_pairs, cut_report}
+use Rattle.zone_spec.specs.Pairs.{pair_of}
+use Rattle.zone_spec.specs.Cut.{Cut, cut_pairs, cut_report}
 use Rattle.zone_spec.specs.Windows.{Window, current_window}
 use Rattle.session_spec.specs.States.{Flight}
 use Rattle.session_spec.specs.Stop.{cut_of}
 use Rattle.session_spec.specs.Sound.{IsInFlight}
-use Rattle.session_spec.specs.Headline.{OldPlacesRead, NoOtherPlaces, RunsAreTouched}
+use Rattle.session_spec.specs.Exact.{IsExactReport}
+use Rattle.session_spec.specs.Headline.{OldPlacesRead, NoOtherPlaces}
 
 -- the header is within half the parity of a word
 abbrev pub IsNearHeader : Zone → List ℕ → List ℕ → Type 0
@@ -51,25 +51,9 @@ CutZoneReads = (z : Zone) (stop now told : List ℕ) (f : Flight) → IsValidZon
     → IsImage z now
     → IsNotDamagedFurther z stop now → CutReads z (cut_of z f) told stop now
 
--- the runs rise from a number on, with a block between each two that is in none
-abbrev pub RisesFrom : ℕ → List (ℕ × ℕ) → Type 0
-RisesFrom a [] = Unit {0}
-RisesFrom a (run ∷ runs) = (a ≤ run.0) × (run.0 ≤ run.1) × RisesFrom (run.1 + 2) runs
-
--- a report of a cut is exact: the call's kind, the stores made and in all, the pair that the header
--- reads, and the touched blocks in runs that are as long as can be
-pub record IsExactReport (z : Zone) (reading : ZoneReading) (cut : Cut) (call : CallKind) (stored all : ℕ)
-    (r : CutReport) : Type 0 where
-  pub kind : r.kind ≡ call
-  pub made : r.made ≡ stored
-  pub total : r.total ≡ all
-  pub header : r.header ≡ header_seen z reading.words (cut_pairs cut)
-  pub touched : RunsAreTouched z cut r.runs
-  pub apart : RisesFrom 0 r.runs
-
--- so is that of a cut call: its numbers are the flight's
+-- the report of a cut call is exact: its numbers are the flight's
 abbrev pub CutReportIsExact : Type 0
 CutReportIsExact = (z : Zone) (f : Flight) (stop told : List ℕ) (reading : ZoneReading) → IsValidZone z
     → IsInFlight z stop told f
-    → IsExactReport z reading (cut_of z f) (kind_of f.call) f.made (length (call_stores z f.call f.image))
+    → IsExactReport z reading.words (cut_of z f) (kind_of f.call) f.made (length (call_stores z f.call f.image))
     (cut_report z reading (cut_of z f))

@@ -16,20 +16,25 @@ use Rattle.zone_spec.specs.Damage.{IsNotDamagedFurther}
 use Rattle.zone_spec.specs.Pairs.{header_seen}
 use Rattle.zone_spec.specs.Cut.{Cut, cut_pairs, cut_report, words_before}
 use Rattle.session_spec.specs.BootPart.{IsWithinErasure, boot_cut}
+use Rattle.session_spec.specs.Exact.{IsExactReport}
 use Rattle.damage_laws.specs.Idle.{BlocksWithinBounds}
-use Rattle.damage_laws.specs.CutCalls.{HeaderReads, IsExactReport}
+use Rattle.damage_laws.specs.CutCalls.{HeaderReads}
 
 -- the zone's bytes after the boot
 abbrev pub after_boot_stores : Zone → List ℕ → ℕ → List ℕ
 after_boot_stores z now k = after_stores now (take k (boot_stores z now))
 
--- before the erasure the zone reads the same, but that each store made is a correction less
+-- a zone reads the same later as now, but that so many bytes fewer are corrected
+pub record ReadsAlike (z : Zone) (now later : List ℕ) (mended : ℕ) : Type 0 where
+  pub state : (zone_reading z later).state ≡ (zone_reading z now).state
+  pub words : (zone_reading z later).words ≡ (zone_reading z now).words
+  pub log : (zone_reading z later).log ≡ (zone_reading z now).log
+  pub corrected : (zone_reading z later).corrected + mended ≡ (zone_reading z now).corrected
+
+-- so it does before a boot's erasure: each store made is a correction less
 abbrev pub CorrectionsKeepReading : Type 0
 CorrectionsKeepReading = (z : Zone) (now : List ℕ) (k : ℕ) → IsValidZone z → IsImage z now
-    → k ≤ length (boot_fixes z now)
-    → let before = zone_reading z now in let after = zone_reading z (after_boot_stores z now k) in
-    (after.state ≡ before.state) × (after.words ≡ before.words) × (after.log ≡ before.log)
-    × (after.corrected + k ≡ before.corrected)
+    → k ≤ length (boot_fixes z now) → ReadsAlike z now (after_boot_stores z now k) k
 
 -- What a zone reads whose erasure was begun and not finished, later being what stands when the next boot
 -- begins: pair 0 is the words that the boot read;
@@ -56,5 +61,5 @@ abbrev pub BootCutReportIsExact : Type 0
 BootCutReportIsExact = (z : Zone) (now : List ℕ) (k : ℕ) (reading : ZoneReading) → IsValidZone z → IsImage z now
     → IsWithinErasure z now k
     → let r = cut_report z reading (boot_cut z now k) in
-    IsExactReport z reading (boot_cut z now k) Erase (k - length (boot_fixes z now))
+    IsExactReport z reading.words (boot_cut z now k) Erase (k - length (boot_fixes z now))
     (length (boot_stores z now) - length (boot_fixes z now)) r × (r.runs ≡ [])

@@ -23,13 +23,11 @@ use Rattle.session_spec.specs.Boot.{booted_zone, booted}
 use Rattle.session_spec.specs.Report.{ZoneReport, report_cut as reported_cut, zone_report, report}
 use Rattle.session_spec.specs.Erasures.{saved_logs}
 use Rattle.session_spec.specs.Sound.{IsState}
-use Rattle.session_spec.specs.Headline.{EachOffZone}
 use Rattle.session_laws.proofs.Lists.{get-map, get-zip-map, length-zip-map, zone_within}
 use Rattle.session_laws.proofs.Zones.{zone_image}
 use Rattle.session_laws.proofs.OffStates.{booted-state, fresh-state}
-use Rattle.session_laws.proofs.Sessions.{image_is_zones_and_rest, undamaged_reads_told}
-use Rattle.session_laws.proofs.Boots.{report_is_exact, cut_zones_read}
-use Rattle.store_laws.proofs.Laws.{sound_state_reads_last_written}
+use Rattle.session_laws.proofs.Sessions.{image_is_zones_and_rest}
+use Rattle.session_laws.proofs.ZoneReads.{sound_state_reads_zones}
 use Rattle.ram_region.specs.CutRegion.{CutRegion, span, cut_at}
 use Rattle.old_log.specs.Saving.{SavedLogs, saved}
 use Rattle.ram_core.specs.declared.zones.HeldZone.{HeldZone}
@@ -44,7 +42,8 @@ use Rattle.zone_params.specs.Laid.{params_of, zones_of}
 use Rattle.ram_core.specs.declared.off.OpenOff.{OpenOff}
 use Rattle.ram_core.specs.declared.booting.Prepared.{Prepared}
 use Rattle.ram_core.specs.Booting.{SpansFit, held_after, PreparesTo, AreLogs, SettlesTo, IsOpen, seen_off}
-use Rattle.ram_core.specs.Booted.{ReadsZone, Booted}
+use Rattle.ram_core.specs.Booted.{Booted}
+use Rattle.ram_core.specs.Resting.{IsResting}
 use Rattle.ram_core.proofs.Lists.{same_items, get-of-map}
 
 module _ (layout : List Zone) (mem : ℕ) (image : List ℕ) (lies : IsLayout layout mem) (size : length image ≡ mem)
@@ -133,23 +132,6 @@ module _ (layout : List Zone) (mem : ℕ) (image : List ℕ) (lies : IsLayout la
       stands = booted_stands (fresh layout image) refl;
       sound = booted-state layout mem lies (fresh layout image) (fresh-state layout mem lies image size bytes);
     }
-
--- what is read of each zone of a sound state
-pub all_read : (layout : List Zone) (mem : ℕ) (s : OffState) → IsLayout layout mem → IsState layout mem (Off s)
-    → EachOffZone layout s ReadsZone
-all_read layout mem s lies sound =
-    let a = sound_state_reads_last_written layout mem s lies sound in
-    let b = undamaged_reads_told layout mem s lies sound in
-    let c = cut_zones_read layout mem s lies sound in
-    let d = report_is_exact layout mem s lies sound in (
-      a.0,
-      λ i z zone ez ek. record {
-        last_written = a.1 i z zone ez ek;
-        as_at_stop = b.1 i z zone ez ek;
-        cut = c.1 i z zone ez ek;
-        reported = d.1 i z zone ez ek;
-      },
-    )
 
 -- the report of a zone, by what is kept of it
 cut_reported : (z : Zone) (reading : ZoneReading) (o : Option Cut)
@@ -244,6 +226,9 @@ module _ (v : OffSeen) (o : OpenOff) (is : IsOpen v o) where
   open_closed = ap (λ (im : List ℕ). record { layout = L; mem = M; image = im; zones = o.zones.items }) open_whole
       ∙ sym is.seen
 
+  pub open_rests : IsResting (seen_off o)
+  open_rests = subst IsResting (sym open_closed) is.resting
+
   pub logs_from : (p : Prepared) → PreparesTo L o.spans.spans o.zones.items (length L) p
       → AreLogs L o.spans.spans p.logs
   logs_from p prepared = record {
@@ -284,7 +269,7 @@ module _ (v : OffSeen) (o : OpenOff) (is : IsOpen v o) where
       reports = reports_are L M v.image is.lies is.size is.bytes o.zones.items s stands.image is.known stands.count
           stands.zones p.reports.items own_prepared.reports_len
           (λ i z b k r ez eb ek er. own_prepared.reports i z b k r (slice_get_within L i z ez) ez eb ek er);
-      reads = λ sound. all_read L M s is.lies sound;
+      reads = λ sound. sound_state_reads_zones L M s is.lies sound;
     }
 
     pub boot_is : (layout : List Zone) (mem : ℕ) (s : OffState) → StandsOff layout mem v s

@@ -24,6 +24,7 @@ use Rattle.ram_core.specs.Storing.{CanStore, is_next, is_last_of_dump}
 use Rattle.ram_core.specs.Cursors.{cursor_after}
 use Rattle.ram_core.proofs.Changes.{Changes, changed_stands}
 use Rattle.ram_core.proofs.Begun.{here}
+use Rattle.ram_core.proofs.Storing.{flight_total}
 use Rattle.ram_core.proofs.Running.{own, over, runs_after}
 
 can_by : (z : Zone) (live : LiveZone) (o : Option Flying) (p : Option Flight) (bytes : List ℕ) → IsLiveZone z live
@@ -31,7 +32,7 @@ can_by : (z : Zone) (live : LiveZone) (o : Option Flying) (p : Option Flight) (b
 can_by z live None p bytes sound image stands s = tt
 can_by z live (Some f) None bytes sound image stands s = absurd s
 can_by z live (Some f) (Some g) bytes sound image stands s = (
-  let a = s.made in let b = s.total in let c = stands.left in omega (arith, a, b, c),
+  let a = s.made in let b = flight_total z bytes f g s in let c = stands.left in omega (arith, a, b, c),
   ap length (sym image)
       ∙ sound.size.0 ∙ ap (λ (y : Zone). y.size) (sym s.zone),
 )

@@ -14,3 +14,4 @@ pub mod Boots
 pub mod Parting
 pub mod Passing
 pub mod PartBoots
+pub mod Resting

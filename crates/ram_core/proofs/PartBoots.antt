@@ -29,7 +29,7 @@ use Rattle.session_spec.specs.Zones.{zone_bytes}
 use Rattle.session_spec.specs.States.{OffZone, OffState, Off}
 use Rattle.session_spec.specs.Off.{fresh}
 use Rattle.session_spec.specs.BootPart.{moved, image_boot_stores, boot_count, IsWithinErasure, boot_cut, zone_finished, zone_cut, zone_parted, left_at, boot_parted}
-use Rattle.session_spec.specs.Sound.{IsState}
+use Rattle.session_spec.specs.Sound.{IsMemory, IsState}
 use Rattle.session_laws.proofs.Lists.{length-numbered, get-map, zone_within}
 use Rattle.session_laws.proofs.Zones.{zone_image}
 use Rattle.session_laws.proofs.OffStates.{fresh-state}
@@ -50,6 +50,7 @@ use Rattle.zone_params.specs.Laid.{params_of, zones_of}
 use Rattle.ram_core.specs.declared.off.OpenOff.{OpenOff}
 use Rattle.ram_core.specs.declared.booting.Prepared.{Prepared}
 use Rattle.ram_core.specs.Booting.{held_after, PreparesTo, IsOpen}
+use Rattle.ram_core.specs.Resting.{IsResting}
 use Rattle.ram_core.specs.Parting.{stores_before, left_for, Passes, PartsTo}
 use Rattle.ram_core.specs.Parted.{parted, AreInOrder, IsParted}
 use Rattle.ram_core.specs.Booted.{PartsZone, BootedInPart}
@@ -226,9 +227,6 @@ module _ (layout : List Zone) (mem : ℕ) (image : List ℕ) (lies : IsLayout la
       (let a = (lies.valid i z ez).1 in let b = zone_within layout i z ez in let c = lies.within in
       omega (arith, a, b, c, size)) bytes
 
-  fresh_is : IsState layout mem (Off (fresh layout image))
-  fresh_is = fresh-state layout mem lies image size bytes
-
   module _ (new : CutRegion) (limit : ℕ) (progress : Progress) (passed : List Passed)
       (parts : PartsTo layout (cut_at layout image) new limit (length layout) progress passed) where
     abbrev after_image : List ℕ
@@ -247,7 +245,7 @@ module _ (layout : List Zone) (mem : ℕ) (image : List ℕ) (lies : IsLayout la
         (span_is layout mem image lies size bytes i z ez)
         ∙ ap (λ (n : ℕ). after_stores (zone_bytes z image) (take n (boot_stores z (zone_bytes z image))))
         (left_is i z ez)
-        ∙ sym (cut_boot_makes_stores layout mem (fresh layout image) limit i z lies fresh_is ez)
+        ∙ sym (cut_boot_makes_stores layout mem (fresh layout image) limit i z lies (size, bytes) ez)
 
     pub parted_image : concat new.spans ++ new.rest ≡ after_image
     parted_image =
@@ -258,7 +256,7 @@ module _ (layout : List Zone) (mem : ℕ) (image : List ℕ) (lies : IsLayout la
         ∙ ap (λ (xs : List ℕ). xs ++ new.rest) (concat_is (map (λ (z : Zone). zone_bytes z after_image) layout)
         ∙ flat_map-map (λ (x : List ℕ). x) (λ (z : Zone). zone_bytes z after_image) layout)
         ∙ ap (λ (r : List ℕ). flat_map (λ (z : Zone). zone_bytes z after_image) layout ++ r)
-        (parts.rest ∙ sym (cut_boot_leaves_rest layout mem (fresh layout image) limit lies fresh_is))
+        (parts.rest ∙ sym (cut_boot_leaves_rest layout mem (fresh layout image) limit lies (size, bytes)))
         ∙ image_is_zones_and_rest layout mem after_image lies
         (length-after_stores image (take limit (image_boot_stores layout image)) ∙ size)
       where
@@ -348,20 +346,15 @@ module _ (layout : List Zone) (mem : ℕ) (image : List ℕ) (lies : IsLayout la
               (held_is i z (zone_bytes z image) h.0 ez (span_got layout mem image lies size bytes i z ez) h.1) all
               (stands i z old.0 before.0 ez old.1 before.1)))
 
--- what is left of each zone of a sound state
-pub all_parted : (layout : List Zone) (mem : ℕ) (s : OffState) (limit : ℕ) → IsLayout layout mem
-    → IsState layout mem (Off s) → IsState layout mem (Off (boot_parted layout limit s))
-    × ((i : ℕ) (z : Zone) → slice_get layout i ≡ Some z → PartsZone layout s limit i z)
-all_parted layout mem s limit lies sound =
-    let stops = cut_boot_keeps_stops layout mem s limit lies sound in (
-      stops.0,
-      λ i z ez. record {
-        stores = cut_boot_makes_stores layout mem s limit i z lies sound ez;
-        reads = cut_boot_reads layout mem s limit i z lies sound ez;
-        holds = λ old new eo en. cut_boot_holds layout mem s limit i z old new lies sound ez eo en;
-        stops = λ old new eo en. stops.1 i z old new ez eo en;
-      },
-    )
+-- what is left of each zone
+pub all_parted : (layout : List Zone) (mem : ℕ) (s : OffState) (limit i : ℕ) (z : Zone) → IsLayout layout mem
+    → IsMemory mem s.image → slice_get layout i ≡ Some z → PartsZone layout mem s limit i z
+all_parted layout mem s limit i z lies memory ez = record {
+  stores = cut_boot_makes_stores layout mem s limit i z lies memory ez;
+  reads = cut_boot_reads layout mem s limit i z lies memory ez;
+  holds = λ old new eo en. cut_boot_holds layout mem s limit i z old new lies memory ez eo en;
+  stops = λ sound old new eo en. (cut_boot_keeps_stops layout mem s limit lies sound).1 i z old new ez eo en;
+}
 
 -- ---- by an image that is open
 module _ (v : OffSeen) (o : OpenOff) (is : IsOpen v o) where
@@ -405,8 +398,9 @@ module _ (v : OffSeen) (o : OpenOff) (is : IsOpen v o) where
                 passes s stands.image stands.count stands.zones;
             count = made_is L M v.image is.lies is.size is.bytes new limit progress passed own_parts
                 ∙ ap (λ (im : List ℕ). min limit (boot_count L im)) stands.image;
-            sound = λ sound. (all_parted L M s limit is.lies sound).0;
-            zones = λ sound. (all_parted L M s limit is.lies sound).1;
+            sound = λ sound. (cut_boot_keeps_stops L M s limit is.lies sound).0;
+            zones = λ i z ez. all_parted L M s limit i z is.lies
+                (subst (IsMemory M) stands.image (is.size, is.bytes)) ez;
           }
 
       pub part_is : (layout : List Zone) (mem : ℕ) (s : OffState) → StandsOff layout mem v s
@@ -424,3 +418,21 @@ module _ (v : OffSeen) (o : OpenOff) (is : IsOpen v o) where
           (subst (λ (m : ℕ). BootedInPart L m s limit after (limit - progress.left)) st.same_mem
           (parted_own s (subst (λ (l : List Zone). StandsOff l M before s) (sym st.same_layout)
           (subst (λ (m : ℕ). StandsOff layout m before s) (sym st.same_mem) st))))
+
+      -- and it stands for a sound state again
+      pub part_rests : IsResting (record {
+        layout = L;
+        mem = M;
+        image = concat new.spans ++ new.rest;
+        zones = known;
+      })
+      part_rests =
+          let rest : IsResting (record { layout = L; mem = M; image = v.image; zones = o.zones.items }) =
+          subst IsResting is.seen is.resting in
+          let parted = parted_own rest.state rest.stands in
+          record {
+            lies = is.lies;
+            state = boot_parted L limit rest.state;
+            stands = parted.off;
+            sound = parted.sound rest.sound;
+          }

@@ -1,16 +1,9 @@
 -- A flight that begins stands for the call begun
 use Rattle.std.proofs.Common.{◌≡◌, ℕ, ◌<◌, Bool, true, false, cond, ◌==◌, List, length, refl, sym, ap, ◌∙◌, subst, arith, Some}
 use Rattle.std.proofs.lemmas.Bool.Decides.{nat_tests}
-use Rattle.std.specs.List.{sum_by}
 use Rattle.zone_spec.specs.declared.Zone.{Zone}
-use Rattle.zone_spec.specs.declared.Words.{Words}
-use Rattle.zone_spec.specs.Zones.{IsValidZone}
-use Rattle.zone_spec.specs.Parts.{IsImage, standing_words}
 use Rattle.zone_spec.specs.Told.{Call}
-use Rattle.zone_spec.specs.Stages.{stage_count}
-use Rattle.zone_spec.specs.Calls.{call_stages, call_stores, CanBegin}
-use Rattle.damage_laws.proofs.CutNumbers.{length-stores}
-use Rattle.ring_laws.proofs.StoreBytes.{call-all}
+use Rattle.zone_spec.specs.Calls.{call_stores}
 use Rattle.session_spec.specs.States.{LiveZone}
 use Rattle.session_spec.specs.ZoneCalls.{begun}
 use Rattle.zone_flight.specs.Flying.{Flying}
@@ -19,20 +12,9 @@ use Rattle.zone_flight.specs.Machine.{StandsFor}
 use Rattle.ram_core.specs.declared.zones.HeldZone.{HeldZone}
 use Rattle.ram_core.specs.LiveSeen.{StandsForZone}
 
--- a call's number of stores is that which a flight counts
-call_count : (z : Zone) (call : Call) (bytes : List ℕ) → IsValidZone z → IsImage z bytes → CanBegin z bytes call
-    → length (call_stores z call bytes) ≡ sum_by (stage_count z) (call_stages z (standing_words bytes) call)
-unfolding call_stores
-call_count z call bytes valid im can = length-stores z valid (call_stages z (standing_words bytes) call) bytes im.1
-    (call-all z valid bytes call can)
-
 -- a flight at its begin on a zone's bytes
 pub record Begins (z : Zone) (bytes : List ℕ) (call : Call) (seen : Flying) : Type 0 where
-  pub valid : IsValidZone z
-  pub image : IsImage z bytes
-  pub can : CanBegin z bytes call
   pub zone : seen.zone ≡ z
-  pub words : seen.words ≡ standing_words bytes
   pub of_call : seen.call ≡ call
   pub made : seen.made ≡ 0
   pub stands : StandsFor seen bytes bytes
@@ -40,10 +22,8 @@ pub record Begins (z : Zone) (bytes : List ℕ) (call : Call) (seen : Flying) : 
 total_is : (z : Zone) (bytes : List ℕ) (call : Call) (seen : Flying) → Begins z bytes call seen
     → total_of seen ≡ length (call_stores z call bytes)
 total_is z bytes call seen b =
-    ap (λ (y : Zone). sum_by (stage_count y) (call_stages y seen.words seen.call)) b.zone
-    ∙ ap (λ (w : Words). sum_by (stage_count z) (call_stages z w seen.call)) b.words
-    ∙ ap (λ (c : Call). sum_by (stage_count z) (call_stages z (standing_words bytes) c)) b.of_call
-    ∙ sym (call_count z call bytes b.valid b.image b.can)
+    b.stands.total ∙ ap (λ (y : Zone). length (call_stores y seen.call bytes)) b.zone
+    ∙ ap (λ (c : Call). length (call_stores z c bytes)) b.of_call
 
 -- stores are left: the flight stands
 pub begun_some : (z : Zone) (bytes : List ℕ) (call : Call) (seen : Flying) (old new : HeldZone) (live : LiveZone)
@@ -68,7 +48,6 @@ begun_some z bytes call seen old new live b some e stands =
         zone = b.zone;
         call = b.of_call;
         made = b.made;
-        total = counted;
         image = subst (λ (im : List ℕ). StandsFor seen bytes im) (sym stands.image) b.stands;
       };
     }

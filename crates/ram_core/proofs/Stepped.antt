@@ -12,6 +12,7 @@ use Rattle.session_spec.specs.LiveZones.{Target, target_at, target, with_zone, c
 use Rattle.session_spec.specs.LiveCalls.{goes_on, step}
 use Rattle.ram_core.specs.Storing.{stores_left_of}
 use Rattle.ram_core.specs.declared.zones.HeldZone.{HeldZone}
+use Rattle.ram_core.proofs.Storing.{flight_total}
 use Rattle.ram_core.specs.LiveSeen.{LiveSeen, StandsLive, StandsForSome, Leaves, StoresNext}
 use Rattle.ram_core.specs.Places.{flies_at, held_at, flies_in}
 use Rattle.ram_core.specs.Running.{IsRunning}
@@ -128,7 +129,7 @@ same_left : (z : Zone) (bytes : List ℕ) (o : Option Flying) (p : Option Flight
 same_left z bytes None None s = refl
 same_left z bytes None (Some f) s = absurd s
 same_left z bytes (Some f) None s = absurd s
-same_left z bytes (Some f) (Some g) s = rw (s.total, s.made) refl
+same_left z bytes (Some f) (Some g) s = rw (flight_total z bytes f g s, s.made) refl
 
 pub left_here : (v x : LiveSeen) (i : ℕ) (below : i < length x.layout) (h : HeldZone) → v ≡ x → h ≡ get_or v.zones i h
     → (s : LiveState) (stands : StandsLive x.layout x.mem x s)

@@ -30,7 +30,9 @@ use Rattle.ram_core.specs.SeenCut.{cut_of_flight}
 use Rattle.ram_core.specs.Stopped.{stop_zone}
 use Rattle.ram_core.specs.OffSeen.{shown_cut, StandsForKnown, StandsOff}
 use Rattle.ram_core.specs.LiveSeen.{LiveSeen, StandsForFlight, StandsForSome, StandsForZone, StandsLive}
+use Rattle.session_laws.proofs.OffStates.{stopped-state}
 use Rattle.ram_core.specs.Running.{IsRunning}
+use Rattle.ram_core.specs.Resting.{IsResting}
 use Rattle.ram_core.proofs.Begun.{here}
 use Rattle.ram_core.proofs.Running.{own, over}
 
@@ -206,3 +208,13 @@ module _ (v : LiveSeen) (running : IsRunning v) where
     ap length (ei ∙ image_is v running.state running.stands) ∙ running.sound.image.0,
     ap length ek ∙ length-map v.zones stop_zone ∙ running.stands.kept,
   )
+
+  pub stopped_rests : (image : List ℕ) (known : List KnownZone) → image ≡ concat v.spans.spans ++ v.spans.rest
+      → known ≡ map stop_zone v.zones
+      → IsResting (record { layout = v.layout; mem = v.mem; image = image; zones = known })
+  stopped_rests image known ei ek = record {
+    lies = running.lies;
+    state = stopped v.layout running.state;
+    stands = stopped_own image known running.state ei ek running.stands;
+    sound = stopped-state v.layout v.mem running.lies running.state running.sound;
+  }

@@ -1,11 +1,11 @@
 -- A flight's next store is that of the flight for which it stands
-use Rattle.std.proofs.Common.{◌≡◌, ◌≢◌, ℕ, ◌+◌, ◌<◌, Bool, true, false, cond, nat_lt, ◌&&◌, not, is_some, List, refl, sym, ap, ◌∙◌, arith, Option, Some, None}
+use Rattle.std.proofs.Common.{◌≡◌, ◌≢◌, ℕ, ◌+◌, ◌<◌, Bool, true, false, cond, nat_lt, ◌&&◌, not, is_some, List, length, refl, sym, ap, ◌∙◌, arith, Option, Some, None}
 use Rattle.std.proofs.lemmas.Bool.Decides.{nat_tests}
 use Rattle.circular_buffer.specs.Buffer.{Buffer, buffer}
 use Rattle.zone_spec.specs.declared.Zone.{Zone}
 use Rattle.zone_spec.specs.declared.CallKind.{CallKind}
 use Rattle.zone_spec.specs.Told.{Call, Append, Erase, Dump, kind_of, told_after}
-use Rattle.zone_spec.specs.Calls.{image_after}
+use Rattle.zone_spec.specs.Calls.{call_stores, image_after}
 use Rattle.session_spec.specs.States.{Flight, LiveZone}
 use Rattle.session_spec.specs.ZoneCalls.{stepped, stepped_by, total_stores}
 use Rattle.session_spec.specs.LiveZones.{is_dump, flies_dump}
@@ -23,6 +23,13 @@ pub record Steps (f g : Flying) (old new : List ℕ) : Type 0 where
   pub same : IsSameCall f g
   pub made : g.made ≡ f.made + 1
   pub stands : (before : List ℕ) → StandsFor f old before → StandsFor g new before
+
+-- a flight counts as many stores as that for which it stands has
+pub flight_total : (z : Zone) (bytes : List ℕ) (f : Flying) (h : Flight) → StandsForFlight z bytes f h
+    → total_of f ≡ total_stores z h
+flight_total z bytes f h s =
+    s.image.total ∙ ap (λ (y : Zone). length (call_stores y f.call h.image)) s.zone
+    ∙ ap (λ (c : Call). length (call_stores z c h.image)) s.call
 
 module _ (z : Zone) (f g : Flying) (old new : List ℕ) (steps : Steps f g old new) where
   image_is : (h : Flight) → StandsForFlight z old f h → image_after z h.call h.image (h.made + 1) ≡ new
@@ -53,12 +60,11 @@ module _ (z : Zone) (f g : Flying) (old new : List ℕ) (steps : Steps f g old n
       zone = steps.same.zone ∙ s.zone;
       call = steps.same.call ∙ s.call;
       made = steps.made ∙ ap (λ (n : ℕ). n + 1) s.made;
-      total = total_same steps.same ∙ s.total;
       image = steps.stands h.image s.image;
     };
   }
   stored_in held live h false stands s some e =
-      absurd (some (let m = steps.made in let l = steps.left in let a = s.made in let b = s.total in
+      absurd (some (let m = steps.made in let l = steps.left in let a = s.made in let b = flight_total z old f h s in
       let n = total_same steps.same in grind (arith, nat_tests)))
 
   stored_by : (held : Buffer ℕ) (live : LiveZone) (o : Option Flight)
@@ -88,11 +94,11 @@ module _ (z : Zone) (f g : Flying) (old new : List ℕ) (steps : Steps f g old n
         flight = None;
       }))
   ended_in held told live h true room stands s all e k =
-      absurd (let m = steps.made in let l = steps.left in let a = s.made in let b = s.total in
+      absurd (let m = steps.made in let l = steps.left in let a = s.made in let b = flight_total z old f h s in
       let n = total_same steps.same in grind (arith, nat_tests))
   ended_in held told live h false room stands s all e k = record {
     image = ap (λ (n : ℕ). image_after z h.call h.image n)
-        (let m = steps.made in let a = s.made in let b = s.total in let n = total_same steps.same in
+        (let m = steps.made in let a = s.made in let b = flight_total z old f h s in let n = total_same steps.same in
         omega (arith, m, a, b, n, all)) ∙ image_is h s;
     told =
         ap (λ (n : ℕ). told_after n h.call live.told) (sym room)
@@ -141,7 +147,7 @@ module _ (z : Zone) (f g : Flying) (old new : List ℕ) (steps : Steps f g old n
             flight = None;
           }))))) ≡ false
       by true k = none (is_dump h.call)
-      by false k = absurd (some (let m = steps.made in let l = steps.left in let a = s.made in let b = s.total in
+      by false k = absurd (some (let m = steps.made in let l = steps.left in let a = s.made in let b = flight_total z old f h s in
           let n = total_same steps.same in grind (arith, nat_tests)))
 
   pub no_last : (live : LiveZone) → StandsForSome z old (Some f) live.flight → g.made ≢ total_of g
@@ -169,7 +175,7 @@ module _ (z : Zone) (f g : Flying) (old new : List ℕ) (steps : Steps f g old n
             told = told_after z.cap h.call live.told;
             flight = None;
           }))))) ≡ is_dump_kind kind
-      by true k = absurd (let m = steps.made in let l = steps.left in let a = s.made in let b = s.total in
+      by true k = absurd (let m = steps.made in let l = steps.left in let a = s.made in let b = flight_total z old f h s in
           let n = total_same steps.same in grind (arith, nat_tests))
       by false k = whole (is_dump h.call) ∙ dump_kind h.call
           ∙ ap (λ (c : Call). is_dump_kind (kind_of c)) (sym s.call ∙ sym steps.same.call) ∙ ap is_dump_kind (sym e)

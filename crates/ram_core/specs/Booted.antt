@@ -7,21 +7,12 @@ use Rattle.session_spec.specs.Boot.{booted}
 use Rattle.session_spec.specs.Report.{ZoneReport, report}
 use Rattle.session_spec.specs.Erasures.{saved_logs}
 use Rattle.session_spec.specs.Sound.{IsState}
-use Rattle.session_spec.specs.Headline.{ReadsLastWritten, EachOffZone}
-use Rattle.session_laws.specs.Boots.{ReportsExactly, ReadsCut}
-use Rattle.session_laws.specs.Sessions.{ReadsAsAtStop}
+use Rattle.session_spec.specs.Headline.{EachOffZone}
+use Rattle.session_laws.specs.ZoneReads.{ReadsZone}
 use Rattle.session_laws.specs.CutBoots.{MakesOwnStores, ReadsAfter, HoldsAfter, IsLeftOrStopped}
 use Rattle.session_spec.specs.BootPart.{boot_parted, boot_made}
 use Rattle.ram_core.specs.LiveSeen.{LiveSeen, StandsLive}
 use Rattle.ram_core.specs.OffSeen.{OffSeen, StandsOff}
-
--- what a boot reads of a zone of a sound state: the headline; a zone that stands as at its stop reads as told; what a
--- zone reads that was cut; and its report is exact
-pub record ReadsZone (z : Zone) (zone : OffZone) (now : List ℕ) : Type 0 where
-  pub last_written : ReadsLastWritten z zone now
-  pub as_at_stop : ReadsAsAtStop z zone now
-  pub cut : ReadsCut z zone now
-  pub reported : ReportsExactly z zone now
 
 -- the live state, the saved logs and the report are those of a boot, and each zone of a sound state reads as it must
 pub record Booted (layout : List Zone) (mem : ℕ) (s : OffState) (after : LiveSeen) (saved : List Saved)
@@ -31,23 +22,22 @@ pub record Booted (layout : List Zone) (mem : ℕ) (s : OffState) (after : LiveS
   pub reports : told ≡ report layout s
   pub reads : IsState layout mem (Off s) → EachOffZone layout s ReadsZone
 
--- what a cut boot leaves of the i-th zone of a sound state: its own of the stores made; what it reads; what is known
--- of it; and its stop
-pub record PartsZone (layout : List Zone) (s : OffState) (limit i : ℕ) (z : Zone) : Type 0 where
+-- what a cut boot leaves of the i-th zone: its own of the stores made; what it reads; what is known of it; and, of a
+-- sound state, its stop
+pub record PartsZone (layout : List Zone) (mem : ℕ) (s : OffState) (limit i : ℕ) (z : Zone) : Type 0 where
   pub stores : MakesOwnStores layout s limit i z
   pub reads : ReadsAfter layout s limit i z
   pub holds : (old new : OffZone) → slice_get s.zones i ≡ Some old
       → slice_get (boot_parted layout limit s).zones i ≡ Some new → HoldsAfter layout s limit i z old new
-  pub stops : (old new : OffZone) → slice_get s.zones i ≡ Some old
+  pub stops : IsState layout mem (Off s) → (old new : OffZone) → slice_get s.zones i ≡ Some old
       → slice_get (boot_parted layout limit s).zones i ≡ Some new
       → IsLeftOrStopped s (boot_parted layout limit s) z (old, new)
 
--- the state and the number of stores made are those of a boot that is cut after so many; a sound state stays sound,
--- and each of its zones is left as it must be
+-- the state and the number of stores made are those of a boot that is cut after so many; a sound state stays sound;
+-- and each zone is left as it must be
 pub record BootedInPart (layout : List Zone) (mem : ℕ) (s : OffState) (limit : ℕ) (after : OffSeen)
     (made : ℕ) : Type 0 where
   pub off : StandsOff layout mem after (boot_parted layout limit s)
   pub count : made ≡ boot_made layout limit s
   pub sound : IsState layout mem (Off s) → IsState layout mem (Off (boot_parted layout limit s))
-  pub zones : IsState layout mem (Off s) → (i : ℕ) (z : Zone) → slice_get layout i ≡ Some z
-      → PartsZone layout s limit i z
+  pub zones : (i : ℕ) (z : Zone) → slice_get layout i ≡ Some z → PartsZone layout mem s limit i z

@@ -13,6 +13,7 @@ use Rattle.zone_spec.specs.Layout.{rounded}
 use Rattle.zone_spec.specs.Layouts.{IsLayout}
 use Rattle.zone_params.specs.Laid.{params_of, zones_of}
 use Rattle.ram_core.specs.OffSeen.{OffSeen}
+use Rattle.ram_core.specs.Resting.{IsResting}
 use Rattle.ram_core.specs.LiveSeen.{LiveSeen}
 use Rattle.ram_core.specs.declared.off.OpenOff.{OpenOff}
 use Rattle.ram_core.specs.declared.booting.Prepared.{Prepared}
@@ -90,6 +91,7 @@ pub record IsOpen (v : OffSeen) (o : OpenOff) : Type 0 where
   pub size : length v.image ≡ rounded (params_of o.layout).mem
   pub bytes : AreBytes v.image
   pub known : length o.zones.items ≡ length (zones_of o.layout)
+  pub resting : IsResting v
 
 -- what a contract sees of the machine when the image is whole again
 abbrev pub seen_off : OpenOff → OffSeen

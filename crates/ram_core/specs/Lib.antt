@@ -6,6 +6,7 @@ pub mod Places
 pub mod Cursors
 pub mod SeenCut
 pub mod OffSeen
+pub mod Resting
 pub mod Stopped
 pub mod Reports
 pub mod Booting

@@ -10,9 +10,8 @@ use Rattle.zone_flight.specs.Flying.{Flying}
 use Rattle.zone_flight.specs.Machine.{StandsFor}
 use Rattle.ram_region.specs.CutRegion.{CutRegion, span}
 use Rattle.session_spec.specs.States.{Flight, LiveZone, LiveState}
-use Rattle.session_spec.specs.ZoneCalls.{stepped, total_stores}
+use Rattle.session_spec.specs.ZoneCalls.{stepped}
 use Rattle.session_spec.specs.LiveZones.{with_zone}
-use Rattle.zone_flight.specs.Counts.{total_of}
 use Rattle.ram_core.specs.declared.zones.HeldZone.{HeldZone}
 
 -- the zones of the layout and the bytes of the image, the zones' bytes and those behind them, what is kept of each
@@ -25,12 +24,11 @@ pub record LiveSeen : Type 0 where
   pub cursor : ℕ
 
 -- a flight and its zone's bytes stand for a flight of the definitions: its call on the zone, so many of its stores
--- made and in all, on the image that the zone had
+-- made, on the image that the zone had
 pub record StandsForFlight (z : Zone) (bytes : List ℕ) (seen : Flying) (f : Flight) : Type 0 where
   pub zone : seen.zone ≡ z
   pub call : seen.call ≡ f.call
   pub made : seen.made ≡ f.made
-  pub total : total_of seen ≡ total_stores z f
   pub image : StandsFor seen bytes f.image
 
 -- both are none, or one stands for the other

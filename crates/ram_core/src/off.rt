@@ -11,6 +11,7 @@ ghost use Rattle.std.specs.List.{concat};
 ghost use Rattle.old_log.specs.Saving.{saved};
 ghost use Rattle.ram_core.specs.Stopped.{HasRoom};
 ghost use Rattle.ram_core.specs.Running.{IsRunning};
+ghost use Rattle.ram_core.specs.Resting.{IsResting};
 ghost use Rattle.ram_core.specs.Reports.{told_report};
 ghost use Rattle.ram_core.specs.Booted.{Booted, BootedInPart};
 ghost use Rattle.std.specs.Vec.{vec_capacity};
@@ -42,6 +43,7 @@ impl Model for Off {
     ghost use Rattle.zone_spec.specs.Layout.{rounded};
     ghost use Rattle.zone_params.specs.Laid.{params_of, zones_of};
     ghost use Rattle.ram_core.specs.OffSeen.{OffSeen};
+    ghost use Rattle.ram_core.specs.Resting.{IsResting};
 
     ghost Value = { OffSeen };
 
@@ -53,7 +55,13 @@ impl Model for Off {
     } };
 
     ghost invariant = { λ o. (length o.image ≡ rounded (params_of o.layout).mem)
-        × (length o.zones.items ≡ length (zones_of o.layout)) };
+        × (length o.zones.items ≡ length (zones_of o.layout))
+        × IsResting (record {
+            layout = zones_of o.layout;
+            mem = rounded (params_of o.layout).mem;
+            image = o.image;
+            zones = o.zones.items;
+        }) };
 }
 
 /// A machine that is off, whose image is cut into the zones' spans.
@@ -70,6 +78,7 @@ impl OpenOff {
     fn close(self) -> Off
         requires size { length (concat self.spans.spans ++ self.spans.rest) ≡ rounded (params_of self.layout).mem }
         requires known { length self.zones.items ≡ length (zones_of self.layout) }
+        requires resting { IsResting (seen_off self) }
         ensures { result ≡ seen_off self }
     {
         let OpenOff {
@@ -160,6 +169,7 @@ impl Off {
         ensures { IfOk result (λ off. StandsOff (zones_of layout) (rounded (params_of layout).mem) off
             (fresh_state (zones_of layout) image)) }
     {
+        let _len = image.len();
         let zones = unknown(alloc, layout.zones().len())?;
         Ok(Off {
             alloc,
@@ -201,6 +211,7 @@ impl Off {
     // Cuts the image. On a refusal the machine is as it was.
     fn open(self) -> Result<OpenOff, (Off, AllocError)>
         ensures open { IfOk result (λ o. IsOpen self o) }
+        ensures sound { IsResting self }
         ensures refused { IfErr result (λ e. e.0 ≡ self) }
     {
         let _len = self.image.len();
@@ -236,6 +247,7 @@ impl Off {
     pub fn boot(self) -> Result<(Live, Logs, Report), (Off, AllocError)>
         ensures booted { IfOk result (λ r. (layout : List AZone) (mem : ℕ) (s : OffState)
             → StandsOff layout mem self s → Booted layout mem s r.0 (saved r.1) (map told_report r.2)) }
+        ensures sound { IsResting self }
         ensures refused { IfErr result (λ e. e.0 ≡ self) }
     {
         let mut open = self.open()?;
@@ -260,6 +272,7 @@ impl Off {
     pub fn boot_part(self, limit: u64) -> Result<(Off, u64), (Off, AllocError)>
         ensures parted { IfOk result (λ r. (layout : List AZone) (mem : ℕ) (s : OffState)
             → StandsOff layout mem self s → BootedInPart layout mem s limit r.0 r.1) }
+        ensures sound { IsResting self }
         ensures refused { IfErr result (λ e. e.0 ≡ self) }
     {
         let mut open = self.open()?;

@@ -9,6 +9,7 @@ pub mod EveryParity
 pub mod PartWords
 pub mod CallLaw
 pub mod StoreBytes
+pub mod StoreCounts
 pub mod Fixes
 pub mod States
 pub mod BootLaw

@@ -2,6 +2,7 @@
 use Rattle.std.proofs.Common.{ℕ, zero, suc, ◌+◌, ◌-◌, ◌%◌, ◌<◌, List, [], ◌∷◌, ◌++◌, length, take, drop, map, min, Bool, true, false, cond, ◌==◌, ◌∙◌}
 use Rattle.std.specs.List.{AllByRecursion}
 use Rattle.zone_spec.specs.declared.Zone.{Zone}
+use Rattle.zone_spec.specs.declared.Words.{Words}
 use Rattle.zone_spec.specs.Zones.{IsValidZone}
 use Rattle.zone_spec.specs.Parts.{AreBytes, Header, Block, standing_words, part_bytes, part_at, part_len, part_parity_at, IsImage}
 use Rattle.zone_spec.specs.Told.{Call, Append, Erase, Dump, last_items}
@@ -46,6 +47,12 @@ byte_stores-all place [] h = tt
 byte_stores-all place (b ∷ bs) h = (one-byte b (h 0), byte_stores-all (place + 1) bs (λ i. h (suc i)))
 
 -- a run of bytes
+-- what a call appends is of bytes
+abbrev pub HasCallBytes : Call → Type 0
+HasCallBytes (Append payload) = AreBytes payload
+HasCallBytes Erase = Unit {0}
+HasCallBytes (Dump line body) = AreBytes line × AreBytes body
+
 abbrev pub HasBytes : Stage → Type 0
 HasBytes (Run place bytes) = AreBytes bytes
 HasBytes (ParityOf part) = Unit {0}
@@ -106,20 +113,27 @@ module _ (z : Zone) (valid : IsValidZone z) where
       (run-all 0 (drop (z.cap - start) q) parts.1))
       (tt, tt)
 
-  pub call-all : (image : List ℕ) (call : Call) → CanBegin z image call
-      → AllByRecursion HasBytes (call_stages z (standing_words image) call)
-  call-all image (Append payload) can = all-append HasBytes _ []
-      (append-all (standing_words image).start (standing_words image).size (last_items z.cap payload)
-      (part-bytes (length payload - z.cap) payload can.1).1) tt
-  call-all image Erase can = (tt, (tt, (tt, tt)))
-  call-all image (Dump line body) can =
+  pub call_stages-all : (w : Words) (call : Call) → HasCallBytes call → AllByRecursion HasBytes (call_stages z w call)
+  call_stages-all w (Append payload) h = all-append HasBytes _ []
+      (append-all w.start w.size (last_items z.cap payload) (part-bytes (length payload - z.cap) payload h).1) tt
+  call_stages-all w Erase h = (tt, (tt, (tt, tt)))
+  call_stages-all w (Dump line body) bytes =
       let h : ℕ = length line in
       let first : List Stage = append_stages z 0 0 line in
       let second : List Stage = append_stages z h h (take (z.cap - h) body) in
       all-append HasBytes erase_stages (first ++ (second ++ [])) (tt, (tt, (tt, tt)))
-      (all-append HasBytes first (second ++ []) (append-all 0 0 line can.2)
+      (all-append HasBytes first (second ++ []) (append-all 0 0 line bytes.0)
       (all-append HasBytes second [] (append-all h h (take (z.cap - h) body)
-      (part-bytes (z.cap - h) body can.3).0) tt))
+      (part-bytes (z.cap - h) body bytes.1).0) tt))
+
+  begun-bytes : (image : List ℕ) (call : Call) → CanBegin z image call → HasCallBytes call
+  begun-bytes image (Append payload) can = can.1
+  begun-bytes image Erase can = tt
+  begun-bytes image (Dump line body) can = (can.2, can.3)
+
+  pub call-all : (image : List ℕ) (call : Call) → CanBegin z image call
+      → AllByRecursion HasBytes (call_stages z (standing_words image) call)
+  call-all image call can = call_stages-all (standing_words image) call (begun-bytes image call can)
 
   -- the image after any stores of a call
   pub call_image : (image : List ℕ) (call : Call) (k : ℕ) → IsImage z image → CanBegin z image call

@@ -1,5 +1,5 @@
 -- Exact verdicts and reports, and what cut zones of a sound state read
-use Rattle.std.proofs.Common.{◌≡◌, ◌≢◌, ℕ, suc, ◌+◌, ◌-◌, Bool, true, false, cond, ◌&&◌, List, [], ◌∷◌, length, take, slice_get, refl, sym, ap, ap₂, ◌∙◌, subst, arith, Some, None, eqb-true, eq-eqb}
+use Rattle.std.proofs.Common.{Option, ◌≡◌, ◌≢◌, ℕ, suc, ◌+◌, ◌-◌, Bool, true, false, cond, ◌&&◌, List, [], ◌∷◌, length, take, slice_get, refl, sym, ap, ap₂, ◌∙◌, subst, arith, Some, None, eqb-true, eq-eqb}
 use Rattle.std.specs.Prelude.{nat_eq, bytes_eq}
 use Rattle.std.specs.List.{common_prefix_len}
 use Rattle.zone_spec.specs.declared.Zone.{Zone}
@@ -13,17 +13,18 @@ use Rattle.zone_spec.specs.Calls.{call_stores}
 use Rattle.zone_spec.specs.Boot.{boot_fixes, boot_stores}
 use Rattle.session_spec.specs.BootPart.{boot_cut}
 use Rattle.zone_spec.specs.Verdicts.{verdict_of}
-use Rattle.zone_spec.specs.Cut.{cut_report}
+use Rattle.zone_spec.specs.Cut.{Cut, cut_report}
 use Rattle.session_spec.specs.Zones.{zone_bytes}
 use Rattle.session_spec.specs.States.{OffZone}
 use Rattle.session_spec.specs.Report.{report_cut}
 use Rattle.session_spec.specs.Sound.{IsOffZone, IsInFlight}
-use Rattle.damage_laws.specs.CutCalls.{CutReads, IsExactReport}
+use Rattle.session_spec.specs.Exact.{IsExactVerdict, IsExactReport, ReportsCall}
+use Rattle.damage_laws.specs.CutCalls.{CutReads}
 use Rattle.damage_laws.specs.CutErasures.{BootCutReads}
 use Rattle.damage_laws.proofs.CutNumbers.{cut_report_is_exact, boot_cut_report_is_exact}
 use Rattle.damage_laws.proofs.CutHeader.{cut_zone_reads}
 use Rattle.damage_laws.proofs.BootCut.{boot_cut_zone_reads}
-use Rattle.session_laws.specs.Boots.{IsExactVerdict, VerdictIsExact, ReportsExactly, ReportIsExact, ReadsCut, CutZonesRead}
+use Rattle.session_laws.specs.Boots.{VerdictIsExact, ReportsErasure, ReportsExactly, ReportIsExact, ReadsCut, CutZonesRead}
 use Rattle.session_laws.proofs.OffStates.{off_bytes}
 
 -- ---- verdicts
@@ -87,7 +88,7 @@ verdict_is_exact None log = record {
 }
 verdict_is_exact (Some told) log = by (bytes_eq log told) refl
   where
-    by : (b : Bool) → bytes_eq log told ≡ b → IsExactVerdict (Some told) log
+    by : (b : Bool) → bytes_eq log told ≡ b → IsExactVerdict (Some told) log (verdict_of (Some told) log)
     by true e =
         let same : log ≡ told = equal_lists log told e in
         let is : verdict_of (Some told) log ≡ AsTold = (rw e refl) in
@@ -117,43 +118,74 @@ verdict_is_exact (Some told) log = by (bytes_eq log told) refl
                 absurd (omega (arith, f)))),
           );
           differs = λ list h ne. (
-              let s : told ≡ list = cc in
-              subst (λ v. (verdict_of (Some told) log ≡ Differs (length v) (length log)
-              (common_prefix_len nat_eq v log)) × (take (common_prefix_len nat_eq v log) v
-              ≡ take (common_prefix_len nat_eq v log) log) × (slice_get v (common_prefix_len nat_eq v log)
-              ≢ slice_get log (common_prefix_len nat_eq v log))) s
-              (is, same_front told log, first_differs told log (λ k. ne (sym s ∙ k))));
+              let s : told ≡ list = cc in (
+                common_prefix_len nat_eq told log,
+                is ∙ ap (λ (v : List ℕ). Differs (length v) (length log) (common_prefix_len nat_eq told log)) s,
+                subst (λ v. take (common_prefix_len nat_eq told log) v ≡ take (common_prefix_len nat_eq told log) log) s
+                    (same_front told log),
+                subst (λ v. slice_get v (common_prefix_len nat_eq told log)
+                    ≢ slice_get log (common_prefix_len nat_eq told log)) s
+                    (first_differs told log (λ k. ne (sym s ∙ k))),
+              ));
         }
+
+pub verdict_differs : (told log : List ℕ) → told ≢ log
+    → verdict_of (Some told) log ≡ Differs (length told) (length log) (common_prefix_len nat_eq told log)
+verdict_differs told log ne = by (bytes_eq log told) refl
+  where
+    by : (b : Bool) → bytes_eq log told ≡ b
+        → cond b AsTold (Differs (length told) (length log) (common_prefix_len nat_eq told log))
+        ≡ Differs (length told) (length log) (common_prefix_len nat_eq told log)
+    by true e = absurd (ne (sym (equal_lists log told e)))
+    by false e = refl
 
 -- ---- reports, and cut zones
 
-zone_reports : (z : Zone) (zone : OffZone) (now : List ℕ) → IsValidZone z → IsOffZone z zone → ReportsExactly z zone now
+-- of each flight that the cut is of
+pub call_reported : (z : Zone) (zone : OffZone) (now : List ℕ) (cut : Cut) → IsValidZone z → IsOffZone z zone
+    → zone.cut ≡ Some cut → cut.by_boot ≡ false → ReportsCall z zone now cut
+call_reported z zone now cut valid sound c own =
+    let reading : ZoneReading = zone_reading z now in
+    record {
+      flight = sound.in_flight cut c own;
+      exact = λ told f is. (
+          cut_report z reading cut,
+          ap (report_cut z reading) c,
+          subst (λ k. IsExactReport z reading.words k (kind_of f.call) f.made
+              (length (call_stores z f.call f.image)) (cut_report z reading k)) (sym is.cut_is)
+              (cut_report_is_exact z f zone.stop told reading valid is.at_stop),
+      );
+    }
+
+erasure_reported : (z : Zone) (zone : OffZone) (now : List ℕ) (cut : Cut) → IsValidZone z → IsOffZone z zone
+    → zone.cut ≡ Some cut → cut.by_boot ≡ true → ReportsErasure z zone now cut
+erasure_reported z zone now cut valid sound c own =
+    let reading : ZoneReading = zone_reading z now in
+    record {
+      boot = sound.in_erasure cut c own;
+      exact = λ before count is. (
+          cut_report z reading cut,
+          ap (report_cut z reading) c,
+          subst (λ k. IsExactReport z reading.words k Erase (count - length (boot_fixes z before))
+              (length (boot_stores z before) - length (boot_fixes z before)) (cut_report z reading k)) (sym is.cut_is)
+              (boot_cut_report_is_exact z before count reading valid is.size is.within).0,
+      );
+    }
+
+-- a cut is reported exactly where there is one
+none_reported : (z : Zone) (reading : ZoneReading) (o : Option Cut) → report_cut z reading o ≡ None → o ≡ None
+none_reported z reading None e = refl
+none_reported z reading (Some cut) e = (let n : Some (cut_report z reading cut) ≡ None = e in cc)
+
+pub zone_reports : (z : Zone) (zone : OffZone) (now : List ℕ) → IsValidZone z → IsOffZone z zone
+    → ReportsExactly z zone now
 zone_reports z zone now valid sound =
     let reading : ZoneReading = zone_reading z now in
     record {
-      verdict = refl;
-      whole = λ c. ap (report_cut z reading) c;
-      cut_call = λ cut c own.
-          let f = sound.in_flight cut c own in (
-            f.1,
-            cut_report z reading cut,
-            f.3,
-            ap (report_cut z reading) c,
-            subst (λ k. IsExactReport z reading k (kind_of f.1.call) f.1.made
-                (length (call_stores z f.1.call f.1.image)) (cut_report z reading k)) (sym f.3)
-                (cut_report_is_exact z f.1 zone.stop f.0 reading valid f.4),
-          );
-      cut_erasure = λ cut c own.
-          let b = sound.in_erasure cut c own in (
-            b.0,
-            b.1,
-            cut_report z reading cut,
-            b.4,
-            ap (report_cut z reading) c,
-            subst (λ k. IsExactReport z reading k Erase (b.1 - length (boot_fixes z b.0))
-                (length (boot_stores z b.0) - length (boot_fixes z b.0)) (cut_report z reading k)) (sym b.4)
-                (boot_cut_report_is_exact z b.0 b.1 reading valid b.2 b.3).0,
-          );
+      verdict = verdict_is_exact zone.told reading.log;
+      whole = (none_reported z reading zone.cut, ap (report_cut z reading));
+      cut_call = λ cut c own. call_reported z zone now cut valid sound c own;
+      cut_erasure = λ cut c own. erasure_reported z zone now cut valid sound c own;
     }
 
 pub report_is_exact : ReportIsExact
@@ -163,22 +195,21 @@ report_is_exact layout mem off lies state = (
       (state.zones.1 i z zone hz hv),
 )
 
-zone_cuts : (z : Zone) (zone : OffZone) (now : List ℕ) → IsValidZone z → IsOffZone z zone → IsImage z now
+pub zone_cuts : (z : Zone) (zone : OffZone) (now : List ℕ) → IsValidZone z → IsOffZone z zone → IsImage z now
     → ReadsCut z zone now
 zone_cuts z zone now valid sound hn = record {
   call = λ told cut t c own damage.
       let f = sound.in_flight cut c own in
-      let same : f.0 ≡ told = (let e : Some f.0 ≡ Some told = sym f.2 ∙ t in cc) in
-      subst (λ k. CutReads z k told zone.stop now) (sym f.3)
-      (cut_zone_reads z zone.stop now told f.1 valid (subst (λ xs. IsInFlight z zone.stop xs f.1) same f.4)
+      let same : f.0 ≡ told = (let e : Some f.0 ≡ Some told = sym f.2.told_is ∙ t in cc) in
+      subst (λ k. CutReads z k told zone.stop now) (sym f.2.cut_is)
+      (cut_zone_reads z zone.stop now told f.1 valid (subst (λ xs. IsInFlight z zone.stop xs f.1) same f.2.at_stop)
       hn damage);
-  erasure = λ cut c own.
-      let b = sound.in_erasure cut c own in (
-        b.0,
-        subst (λ k. BootCutReads z b.0 zone.stop now k) (sym b.4)
-            (subst (λ s. BootCutReads z b.0 s now (boot_cut z b.0 b.1)) (sym b.5)
-            (boot_cut_zone_reads z b.0 now b.1 valid b.2 hn b.3)),
-      );
+  erasure = λ cut c own. record {
+      boot = sound.in_erasure cut c own;
+      reads = λ before count is. subst (λ k. BootCutReads z before zone.stop now k) (sym is.cut_is)
+          (subst (λ s. BootCutReads z before s now (boot_cut z before count)) (sym is.at_stop)
+          (boot_cut_zone_reads z before now count valid is.size hn is.within));
+  };
 }
 
 pub cut_zones_read : CutZonesRead

@@ -1,5 +1,5 @@
 -- A boot that is cut leaves what is held of a zone, or its end becomes the zone's stop
-use Rattle.std.proofs.Common.{◌≡◌, ℕ, zero, suc, ◌+◌, ◌-◌, ◌<◌, ◌≤◌, ◌⊎◌, Bool, true, false, cond, ◌&&◌, ◌||◌, nat_lt, nat_le, List, [], ◌∷◌, ◌++◌, length, take, map, slice_get, get_or, refl, sym, ap, ap₂, ◌∙◌, subst, arith, inl, inr, Option, Some, None, length-append, ext_get_or, take_all, leb-true, ltb-false, true≢false, get_or-drop, length-drop, drop, le-leb}
+use Rattle.std.proofs.Common.{◌≡◌, ℕ, zero, suc, ◌+◌, ◌-◌, ◌<◌, ◌≤◌, ◌⊎◌, Bool, true, false, cond, ◌&&◌, ◌||◌, nat_lt, nat_le, List, [], ◌∷◌, ◌++◌, length, take, map, slice_get, get_or, refl, sym, ap, ap₂, ◌∙◌, subst, arith, inl, inr, Option, Some, None, length-append, ext_get_or, take_all, append-nil, min, leb-true, ltb-false, true≢false, get_or-drop, length-drop, drop, le-leb}
 use Rattle.std.specs.List.{AllByRecursion}
 use Rattle.std.proofs.lemmas.Bool.{cases_lt}
 use Rattle.std.proofs.lemmas.List.Sums.{sum_by-cons}
@@ -33,11 +33,13 @@ use Rattle.damage_laws.proofs.Corrections.{corrections_keep_reading}
 use Rattle.session_laws.specs.CutBoots.{CutBootMakesStores, CutBootLeavesRest, CutBootHolds, CutBootReads, CutBootKeepsStops}
 use Rattle.session_spec.specs.States.{OffState, OffZone}
 use Rattle.std.proofs.lemmas.Bool.Decides.{nat_tests}
-use Rattle.session_laws.proofs.OffStates.{fits, off_bytes}
+use Rattle.session_laws.proofs.OffStates.{memory_fits, memory_bytes, off_bytes}
 use Rattle.session_laws.proofs.PartedStates.{parted-state}
 use Rattle.zone_spec.specs.Layouts.{zones_end}
 use Rattle.session_spec.specs.Zones.{zone_bytes}
-use Rattle.session_spec.specs.BootPart.{moved, image_boot_stores, boot_count, left_at, boot_parted, zone_parted, zone_finished, zone_cut}
+use Rattle.damage_laws.specs.CutErasures.{ReadsAlike, after_boot_stores}
+use Rattle.std.proofs.Math.Nat.{min-eq_left, min-eq_right, min-le_right}
+use Rattle.session_spec.specs.BootPart.{boot_cut, moved, image_boot_stores, boot_count, left_at, boot_parted, zone_parted, zone_finished, zone_cut}
 
 take-none : {X : Type 0} (k : ℕ) (xs : List X) → xs ≡ [] → take k xs ≡ []
 take-none zero xs e = refl
@@ -359,10 +361,11 @@ left_or_stopped z old now later all n valid hs hn is whole =
         )
 
 pub cut_boot_makes_stores : CutBootMakesStores
-cut_boot_makes_stores layout mem off k i z lies state hz =
+cut_boot_makes_stores layout mem off k i z lies memory hz =
     zone_after off.image layout 0 k off.image i z hz (λ j y e. (lies.valid j y e).1 ∙ omega arith)
-    (λ j y e. stores_in y (lies.valid j y e).0 (zone_bytes y off.image) (off_bytes layout mem lies off state j y e))
-    (fits layout mem lies off state i z hz)
+    (λ j y e. stores_in y (lies.valid j y e).0 (zone_bytes y off.image)
+    (memory_bytes layout mem lies off.image memory j y e))
+    (memory_fits layout mem lies off.image memory i z hz)
 
 -- ---- behind the last zone
 
@@ -397,13 +400,13 @@ stores_below image (y ∷ ys) base loc ins =
     (stores_below image ys (base + y.size) (located_tail y ys base loc) (λ i v e. ins (suc i) v e)))
 
 pub cut_boot_leaves_rest : CutBootLeavesRest
-cut_boot_leaves_rest layout mem off k lies state =
+cut_boot_leaves_rest layout mem off k lies memory =
     let image : List ℕ = off.image in
     let ss : List Store = take k (image_boot_stores layout image) in
     let e : ℕ = zones_end layout in
     let whole : AllByRecursion (Below (0 + e)) (image_boot_stores layout image) =
     stores_below image layout 0 (λ j y h. (lies.valid j y h).1 ∙ omega arith)
-    (λ j y h. stores_in y (lies.valid j y h).0 (zone_bytes y image) (off_bytes layout mem lies off state j y h)) in
+    (λ j y h. stores_in y (lies.valid j y h).0 (zone_bytes y image) (memory_bytes layout mem lies image memory j y h)) in
     let n : 0 + e ≡ e = omega arith in
     let below : AllByRecursion (Below e) ss = all-take (Below e) k (image_boot_stores layout image)
     (subst (λ m. AllByRecursion (Below m) (image_boot_stores layout image)) n whole) in
@@ -412,23 +415,39 @@ cut_boot_leaves_rest layout mem off k lies state =
     (λ i h. get_or-drop e (after_stores image ss) i 0 ∙ after_below e ss image (e + i) (omega arith) below
     ∙ sym (get_or-drop e image i 0))
 
+-- the stores made before the erasure, or where there is none, are the corrections made
+mended_of : (z : Zone) (now : List ℕ) (n : ℕ) → (n ≤ length (boot_fixes z now)) ⊎ (boot_erasure z now ≡ [])
+    → after_boot_stores z now (min n (length (boot_fixes z now))) ≡ after_boot_stores z now n
+unfolding boot_stores stores_in_turn
+mended_of z now n (inl h) = ap (after_boot_stores z now) (min-eq_left h)
+mended_of z now n (inr none) = elim (cases_lt n (length (boot_fixes z now))) [
+  | inl a ↦ ap (after_boot_stores z now) (min-eq_left (omega (arith, a)))
+  | inr b ↦
+      let all : boot_stores z now ≡ boot_fixes z now =
+      ap (λ gs. boot_fixes z now ++ stores_in_turn z gs (after_stores now (boot_fixes z now))) none
+      ∙ append-nil (boot_fixes z now) in
+      let m : min n (length (boot_fixes z now)) ≡ length (boot_fixes z now) = min-eq_right b in
+      ap (after_stores now) (
+        ap₂ take m all ∙ take_all (length (boot_fixes z now)) (boot_fixes z now) (omega arith)
+        ∙ sym (ap (take n) all ∙ take_all n (boot_fixes z now) b))
+]
+
 pub cut_boot_reads : CutBootReads
-cut_boot_reads layout mem off k i z lies state hz =
+cut_boot_reads layout mem off k i z lies memory hz =
     let now : List ℕ = zone_bytes z off.image in
     let n : ℕ = left_at layout off.image k i in
     let is : after_stores now (take n (boot_stores z now)) ≡ zone_bytes z (boot_parted layout k off).image =
-    sym (cut_boot_makes_stores layout mem off k i z lies state hz) in
+    sym (cut_boot_makes_stores layout mem off k i z lies memory hz) in
     let valid : IsValidZone z = (lies.valid i z hz).0 in
-    let im : IsImage z now = off_bytes layout mem lies off state i z hz in (
-      (λ h. subst (λ x. ((zone_reading z x).state ≡ (zone_reading z now).state)
-          × ((zone_reading z x).words ≡ (zone_reading z now).words)
-          × ((zone_reading z x).log ≡ (zone_reading z now).log)
-          × ((zone_reading z x).corrected + n ≡ (zone_reading z now).corrected)) is
-          (corrections_keep_reading z now n valid im h)),
-      (λ h. subst (λ x. ReadsTold z x (told_by_boot z now))
+    let im : IsImage z now = memory_bytes layout mem lies off.image memory i z hz in
+    record {
+      not_begun = λ h. subst (λ x. ReadsAlike z now x (min n (length (boot_fixes z now)))) (mended_of z now n h ∙ is)
+          (corrections_keep_reading z now (min n (length (boot_fixes z now))) valid im
+          (min-le_right n (length (boot_fixes z now))));
+      finished = λ h. subst (λ x. ReadsTold z x (told_by_boot z now))
           (sym (ap (after_stores now) (take_all n (boot_stores z now) h)) ∙ is)
-          (finished_zone_reads_told z now valid im)),
-    )
+          (finished_zone_reads_told z now valid im);
+    }
 
 -- a zone of the state that a cut boot leaves
 pub new_zone : (layout : List Zone) (off : OffState) (k i : ℕ) (z : Zone) (old new : OffZone)
@@ -481,37 +500,32 @@ rest_is z now all n old c e h f =
     ])) f
 
 pub cut_boot_holds : CutBootHolds
-cut_boot_holds layout mem off k i z old new lies state hz ho hv =
+cut_boot_holds layout mem off k i z old new lies memory hz ho hv =
     let image : List ℕ = off.image in
     let now : List ℕ = zone_bytes z image in
     let n : ℕ = left_at layout image k i in
     let all : Bool = nat_le (boot_count layout image) k in
     let is : zone_parted z now all n old ≡ new = new_zone layout off k i z old new hz ho hv in
     let made : zone_bytes z (boot_parted layout k off).image ≡ after_stores now (take n (boot_stores z now)) =
-    cut_boot_makes_stores layout mem off k i z lies state hz in
+    cut_boot_makes_stores layout mem off k i z lies memory hz in
     let within : boot_count layout image ≤ k → length (boot_stores z now) ≤ n =
-    (λ h. omega (arith, h, count_within image layout i z hz)) in (
-      (λ h.
+    (λ h. omega (arith, h, count_within image layout i z hz)) in
+    record {
+      finished = λ h.
           let e : zone_finished z now ≡ new = sym (done_is z now all n old
           (elim h [ inl a ↦ inl (le-leb (boot_count layout image) k a) | inr p ↦ inr p ])) ∙ is in
-          let most : length (boot_stores z now) ≤ n = elim h [ inl a ↦ within a | inr p ↦ p.1 ] in (
-            ap (λ (v : OffZone). v.told) (sym e),
-            ap (λ (v : OffZone). v.cut) (sym e),
-            ap (λ (v : OffZone). v.stop) (sym e) ∙ sym (made
-                ∙ ap (after_stores now) (take_all n (boot_stores z now) most)),
-          )),
-      (λ h.
+          let most : length (boot_stores z now) ≤ n = elim h [ inl a ↦ within a | inr p ↦ p.1 ] in
+          sym e ∙ ap (λ bytes. record { stop = bytes; told = Some (told_by_boot z now); cut = None })
+          (sym (made ∙ ap (after_stores now) (take_all n (boot_stores z now) most)));
+      erasing = λ h.
           let some : all ≡ false = elim (cases_lt k (boot_count layout image))
           [ inl a ↦ grind (arith, nat_tests, a) | inr b ↦ absurd (omega (arith, within b, h.1)) ] in
           let e : zone_cut z now n old ≡ new = sym (rest_is z now all n old true some (inr h.1)
-          (grind (arith, nat_tests, h.0))) ∙ is in (
-            ap (λ (v : OffZone). v.told) (sym e),
-            ap (λ (v : OffZone). v.cut) (sym e),
-            ap (λ (v : OffZone). v.stop) (sym e) ∙ sym made,
-          )),
-      (λ some few left. sym (sym (rest_is z now all n old false (grind (arith, nat_tests, some)) left
-          (grind (arith, nat_tests, few))) ∙ is)),
-    )
+          (grind (arith, nat_tests, h.0))) ∙ is in
+          sym e ∙ ap (λ bytes. record { stop = bytes; told = old.told; cut = Some (boot_cut z now n) }) (sym made);
+      not_begun = λ some few left. sym (sym (rest_is z now all n old false (grind (arith, nat_tests, some)) left
+          (grind (arith, nat_tests, few))) ∙ is);
+    }
 
 pub cut_boot_keeps_stops : CutBootKeepsStops
 cut_boot_keeps_stops layout mem off k lies state = (
@@ -522,7 +536,7 @@ cut_boot_keeps_stops layout mem off k lies state = (
       let valid : IsValidZone z = (lies.valid i z hz).0 in
       let later : List ℕ = zone_bytes z (boot_parted layout k off).image in
       let is : later ≡ after_stores now (take (left_at layout image k i) (boot_stores z now)) =
-      cut_boot_makes_stores layout mem off k i z lies state hz in
+      cut_boot_makes_stores layout mem off k i z lies state.image hz in
       let new_is : zone_parted z now (nat_le (boot_count layout image) k) (left_at layout image k i) old ≡ new =
       new_zone layout off k i z old new hz ho hv in
       let sides = left_or_stopped z old now later (nat_le (boot_count layout image) k) (left_at layout image k i)

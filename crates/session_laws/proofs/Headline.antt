@@ -3,21 +3,19 @@ use Rattle.std.proofs.Common.{◌≡◌, ℕ, List, sym, ◌∙◌, subst, arith
 use Rattle.zone_spec.specs.declared.Zone.{Zone}
 use Rattle.zone_spec.specs.Zones.{IsValidZone}
 use Rattle.zone_spec.specs.Parts.{Header, Block, IsImage}
-use Rattle.zone_spec.specs.Reading.{zone_reading}
 use Rattle.zone_spec.specs.Ring.{IsRingForm}
-use Rattle.zone_spec.specs.Cut.{cut_report}
 use Rattle.damage_laws.proofs.Within.{idle_log}
 use Rattle.damage_laws.proofs.CutPlaces.{old_places, no_other_places}
-use Rattle.damage_laws.proofs.CutNumbers.{cut_touched}
 use Rattle.zone_spec.specs.Layouts.{IsLayout}
 use Rattle.session_spec.specs.Zones.{zone_bytes}
 use Rattle.session_spec.specs.States.{OffZone, OffState, Off}
 use Rattle.session_spec.specs.Sound.{IsState, IsOffZone, IsInFlight}
-use Rattle.session_spec.specs.Headline.{ReadsLastWritten, EachOffZone, OldPlacesRead, NoOtherPlaces, RunsAreTouched}
+use Rattle.session_spec.specs.Headline.{ReadsLastWritten, EachOffZone, OldPlacesRead, NoOtherPlaces}
 use Rattle.session_laws.proofs.OffStates.{off_bytes}
+use Rattle.session_laws.proofs.Boots.{call_reported}
 
 -- of one zone
-zone_reads : (z : Zone) (zone : OffZone) (now : List ℕ) → IsValidZone z → IsOffZone z zone → IsImage z now
+pub zone_reads : (z : Zone) (zone : OffZone) (now : List ℕ) → IsValidZone z → IsOffZone z zone → IsImage z now
     → ReadsLastWritten z zone now
 zone_reads z zone now valid sound hn = record {
   idle = λ told t c within.
@@ -26,15 +24,13 @@ zone_reads z zone now valid sound hn = record {
       (λ b h. within (Block b) (omega (arith, ring.told_length, ring.ring.1)));
   places = λ told cut t c own damage.
       let f = sound.in_flight cut c own in
-      let same : f.0 ≡ told = (let e : Some f.0 ≡ Some told = sym f.2 ∙ t in cc) in
-      subst (λ k. OldPlacesRead z k told zone.stop now × NoOtherPlaces z k now) (sym f.3) (
-        old_places z zone.stop now told f.1 valid sound.size (subst (λ xs. IsInFlight z zone.stop xs f.1) same f.4) hn,
-        no_other_places z valid zone.stop now f.0 f.1 f.4,
+      let same : f.0 ≡ told = (let e : Some f.0 ≡ Some told = sym f.2.told_is ∙ t in cc) in
+      let at : IsInFlight z zone.stop told f.1 = subst (λ xs. IsInFlight z zone.stop xs f.1) same f.2.at_stop in
+      subst (λ k. OldPlacesRead z k told zone.stop now × NoOtherPlaces z k now) (sym f.2.cut_is) (
+        old_places z zone.stop now told f.1 valid sound.size at hn,
+        no_other_places z valid zone.stop now told f.1 at,
       );
-  reported = λ cut c own.
-      let f = sound.in_flight cut c own in
-      subst (λ k. RunsAreTouched z k (cut_report z (zone_reading z now) k).runs) (sym f.3)
-      (cut_touched z f.1 zone.stop f.0 valid f.4);
+  reported = λ cut c own. call_reported z zone now cut valid sound c own;
 }
 
 pub state_reads : (layout : List Zone) (mem : ℕ) (off : OffState) → IsLayout layout mem → IsState layout mem (Off off)

@@ -9,5 +9,6 @@ pub mod Operations
 pub mod Sessions
 pub mod Logs
 pub mod CutBoot
-pub mod Headline
 pub mod Boots
+pub mod Headline
+pub mod ZoneReads

@@ -13,19 +13,23 @@ use Rattle.session_spec.specs.States.{Flight, OffState, LiveZone, LiveState, Off
 use Rattle.session_spec.specs.Off.{fresh, flipped}
 use Rattle.session_spec.specs.Stop.{cut_of, cut_by_stop, zone_stopped, stopped}
 use Rattle.session_spec.specs.Boot.{booted_zone, booted}
-use Rattle.session_spec.specs.Sound.{Stands, IsLiveZone, IsOffZone, IsState}
+use Rattle.session_spec.specs.Sound.{Stands, IsLiveZone, IsOffZone, IsMemory, IsState}
 use Rattle.session_laws.proofs.Lists.{each-zip-map, each-map, zone_within}
 use Rattle.session_laws.proofs.Zones.{zone_image, booted-sound}
 use Rattle.session_laws.proofs.LiveStates.{live_state}
 
 module _ (layout : List Zone) (mem : ℕ) (lies : IsLayout layout mem) where
-  pub fits : (off : OffState) → IsState layout mem (Off off) → (i : ℕ) (z : Zone) → slice_get layout i ≡ Some z
-      → z.at + z.size ≤ length off.image
-  fits off state i z h = omega (arith, (lies.valid i z h).1, zone_within layout i z h, lies.within, state.image.0)
+  pub memory_fits : (image : List ℕ) → IsMemory mem image → (i : ℕ) (z : Zone) → slice_get layout i ≡ Some z
+      → z.at + z.size ≤ length image
+  memory_fits image memory i z h = omega (arith, (lies.valid i z h).1, zone_within layout i z h, lies.within, memory.0)
+
+  pub memory_bytes : (image : List ℕ) → IsMemory mem image → (i : ℕ) (z : Zone) → slice_get layout i ≡ Some z
+      → IsImage z (zone_bytes z image)
+  memory_bytes image memory i z h = zone_image z (lies.valid i z h).0 image (memory_fits image memory i z h) memory.1
 
   pub off_bytes : (off : OffState) → IsState layout mem (Off off) → (i : ℕ) (z : Zone) → slice_get layout i ≡ Some z
       → IsImage z (zone_bytes z off.image)
-  off_bytes off state i z h = zone_image z (lies.valid i z h).0 off.image (fits off state i z h) state.image.1
+  off_bytes off state i z h = memory_bytes off.image state.image i z h
 
   pub stopped-state : (live : LiveState) → IsState layout mem (Live live)
       → IsState layout mem (Off (stopped layout live))
@@ -52,9 +56,11 @@ module _ (layout : List Zone) (mem : ℕ) (lies : IsLayout layout mem) where
             in_flight = λ cut c b. (
               v.told,
               f,
-              refl,
-              (let s : cut_of z f ≡ cut = cc in sym s),
-              subst (Stands z v.image v.told) e sound.stands,
+              record {
+                told_is = refl;
+                cut_is = (let s : cut_of z f ≡ cut = cc in sym s);
+                at_stop = subst (Stands z v.image v.told) e sound.stands;
+              },
             );
             in_erasure = λ cut c b. absurd (true≢false (let s : cut_of z f ≡ cut = cc in
                 sym b ∙ ap (λ (k : Cut). k.by_boot) (sym s)));
@@ -64,7 +70,7 @@ module _ (layout : List Zone) (mem : ℕ) (lies : IsLayout layout mem) where
   booted-state off state =
       live_state layout mem lies (booted layout off)
       (each-map layout IsLiveZone (booted_zone off.image)
-      (λ i z h. booted-sound z (lies.valid i z h).0 off.image (fits off state i z h) state.image.1))
+      (λ i z h. booted-sound z (lies.valid i z h).0 off.image (memory_fits off.image state.image i z h) state.image.1))
       (omega (arith, lies.within, state.image.0, length-drop (zones_end layout) off.image))
       (part-bytes (zones_end layout) off.image state.image.1).1
 

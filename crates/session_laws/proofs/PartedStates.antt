@@ -68,10 +68,12 @@ module _ (layout : List Zone) (mem : ℕ) (lies : IsLayout layout mem) where
             in_erasure = λ cut c b. (
               bytes,
               count,
-              im,
-              (begun, left),
-              (let d : boot_cut z bytes count ≡ cut = cc in sym d),
-              refl,
+              record {
+                size = im;
+                within = (begun, left);
+                cut_is = (let d : boot_cut z bytes count ≡ cut = cc in sym d);
+                at_stop = refl;
+              },
             );
           }
       by false e false f = sound

@@ -3,6 +3,7 @@ use Rattle.std.proofs.Common.{slice_get, take, drop, ap₂, suc, ◌-◌, length
 use Rattle.std.proofs.lemmas.List.Sums.{sum_by-cons}
 use Rattle.std.proofs.lemmas.List.{take-append-drop, drop-drop}
 use Rattle.zone_spec.specs.Layouts.{zones_end}
+use Rattle.session_spec.specs.States.{OffZone}
 use Rattle.session_spec.specs.Zones.{zone_bytes, zone_bytes}
 use Rattle.zone_spec.specs.declared.Zone.{Zone}
 use Rattle.std.proofs.lemmas.Bool.{cases_lt}
@@ -17,7 +18,7 @@ use Rattle.damage_laws.proofs.CutPlaces.{old_places}
 use Rattle.session_spec.specs.Sound.{IsOffZone, IsInFlight}
 use Rattle.session_spec.specs.Headline.{OldPlacesRead}
 use Rattle.ring_laws.proofs.RingLaw.{last_items-short}
-use Rattle.session_laws.specs.Sessions.{AppendsTellLastBytes, ImageIsZonesAndRest, UndamagedReadsTold, FlipChangesOneByte}
+use Rattle.session_laws.specs.Sessions.{AppendsTellLastBytes, ImageIsZonesAndRest, UndamagedReadsTold, ReadsAsAtStop, FlipChangesOneByte}
 use Rattle.session_laws.proofs.OffStates.{off_bytes}
 
 -- ---- appends
@@ -49,28 +50,28 @@ appends_tell_last_bytes cap told (p ∷ ps) l =
 
 -- ---- undamaged zones
 
+pub zone_undamaged : (z : Zone) (zone : OffZone) (now : List ℕ) → IsValidZone z → IsOffZone z zone → IsImage z now
+    → ReadsAsAtStop z zone now
+zone_undamaged z zone now valid sound hn = record {
+  idle = λ told t c same.
+      let whole : verdict_of (Some told) (zone_reading z now).log ≡ AsTold =
+      (idle_zone_reads_told z zone.stop now told valid sound.size hn (sound.idle told t c)
+      (inr (ap (λ x. part_word z x Header) same))).whole
+      (λ b h. inr (ap (λ x. part_word z x (Block b)) same)) in
+      ap (λ o. verdict_of o (zone_reading z now).log) t ∙ whole;
+  places = λ told cut t c own same.
+      let f = sound.in_flight cut c own in
+      let e : f.0 ≡ told = (let g : Some f.0 ≡ Some told = sym f.2.told_is ∙ t in cc) in
+      subst (λ k. OldPlacesRead z k told zone.stop now) (sym f.2.cut_is)
+      (old_places z zone.stop now told f.1 valid sound.size
+      (subst (λ xs. IsInFlight z zone.stop xs f.1) e f.2.at_stop) hn);
+}
+
 pub undamaged_reads_told : UndamagedReadsTold
 undamaged_reads_told layout mem off lies state = (
   state.zones.0,
-  λ i z zone hz hv.
-      let now : List ℕ = zone_bytes z off.image in
-      let sound : IsOffZone z zone = state.zones.1 i z zone hz hv in
-      let hn : IsImage z now = off_bytes layout mem lies off state i z hz in
-      let valid : IsValidZone z = (lies.valid i z hz).0 in
-      record {
-        idle = λ told t c same.
-            let whole : verdict_of (Some told) (zone_reading z now).log ≡ AsTold =
-            (idle_zone_reads_told z zone.stop now told valid sound.size hn (sound.idle told t c)
-            (inr (ap (λ x. part_word z x Header) same))).whole
-            (λ b h. inr (ap (λ x. part_word z x (Block b)) same)) in
-            ap (λ o. verdict_of o (zone_reading z now).log) t ∙ whole;
-        places = λ told cut t c own same.
-            let f = sound.in_flight cut c own in
-            let e : f.0 ≡ told = (let g : Some f.0 ≡ Some told = sym f.2 ∙ t in cc) in
-            subst (λ k. OldPlacesRead z k told zone.stop now) (sym f.3)
-            (old_places z zone.stop now told f.1 valid sound.size (subst (λ xs. IsInFlight z zone.stop xs f.1) e f.4)
-            hn);
-      },
+  λ i z zone hz hv. zone_undamaged z zone (zone_bytes z off.image) (lies.valid i z hz).0
+      (state.zones.1 i z zone hz hv) (off_bytes layout mem lies off state i z hz),
 )
 
 -- ---- flips

@@ -1,4 +1,5 @@
 pub mod Sessions
 pub mod Logs
 pub mod Boots
+pub mod ZoneReads
 pub mod CutBoots

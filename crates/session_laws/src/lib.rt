@@ -5,6 +5,7 @@
 ghost use Rattle.session_laws.specs.Sessions.{ImageIsZonesAndRest, FreshIsSound, OperationsKeepStatesSound, StatesAreSound, AppendsTellLastBytes, UndamagedReadsTold, FlipChangesOneByte};
 ghost use Rattle.session_laws.specs.Logs.{LogBytesCome, UnsignedAddsNothing, NotFoundAddsNothing};
 ghost use Rattle.session_laws.specs.Boots.{VerdictIsExact, ReportIsExact, CutZonesRead};
+ghost use Rattle.session_laws.specs.ZoneReads.{SoundStateReadsZones};
 ghost use Rattle.session_laws.specs.CutBoots.{CutBootMakesStores, CutBootLeavesRest, CutBootHolds, CutBootReads, CutBootKeepsStops};
 
 /// An image is its zones' bytes end to end, and the bytes behind them.
@@ -72,6 +73,11 @@ pub fn report_is_exact()
 /// What a boot reads of a zone whose call a stop cut, or whose erasure an earlier boot's stop cut.
 pub fn cut_zones_read()
     ensures { CutZonesRead }
+{}
+
+/// All that a boot reads and reports of the zones of a sound state.
+pub fn sound_state_reads_zones()
+    ensures { SoundStateReadsZones }
 {}
 
 /// Of the stores that a cut boot made, each zone has its own, and no other.

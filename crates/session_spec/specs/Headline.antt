@@ -1,6 +1,6 @@
 -- What a boot reads of what was told. Of one zone: its stop, what it was told, its cut, and its bytes as
 -- they stand now
-use Rattle.std.specs.Prelude.{◌≡◌, ℕ, ◌/◌, ◌≤◌, ◌↔◌, true, false, List, slice_get, Contains, Some, None}
+use Rattle.std.specs.Prelude.{◌≡◌, ℕ, ◌/◌, false, List, slice_get, Contains, Some, None}
 use Rattle.zone_spec.specs.declared.Zone.{Zone}
 use Rattle.zone_spec.specs.declared.HeaderSeen.TheVariants.{Pair as SeenPair}
 use Rattle.zone_spec.specs.Parts.{Block}
@@ -8,9 +8,10 @@ use Rattle.zone_spec.specs.PartReadings.{words_read}
 use Rattle.zone_spec.specs.Reading.{zone_reading, log_places, byte_read}
 use Rattle.zone_spec.specs.Damage.{IsWithinBounds, IsZoneWithinBounds, IsNotDamagedFurther}
 use Rattle.zone_spec.specs.Pairs.{header_seen}
-use Rattle.zone_spec.specs.Cut.{Cut, words_before, cut_pairs, is_touched, cut_report}
+use Rattle.zone_spec.specs.Cut.{Cut, words_before, cut_pairs, is_touched}
 use Rattle.session_spec.specs.Zones.{EachZone, zone_bytes}
 use Rattle.session_spec.specs.States.{OffZone, OffState}
+use Rattle.session_spec.specs.Exact.{ReportsCall}
 
 -- each old ring place in an untouched block within bounds reads its told byte
 abbrev pub OldPlacesRead : Zone → Cut → List ℕ → List ℕ → List ℕ → Type 0
@@ -27,11 +28,6 @@ NoOtherPlaces z cut now =
     → is_touched z cut (place / z.block) ≡ false
     → Contains (log_places (words_before cut).start (words_before cut).size) place
 
--- these runs are just the touched blocks
-abbrev pub RunsAreTouched : Zone → Cut → List (ℕ × ℕ) → Type 0
-RunsAreTouched z cut runs = (b : ℕ) → (is_touched z cut b ≡ true) ↔
-    ((lo hi : ℕ) × Contains runs (lo, hi) × (lo ≤ b) × (b ≤ hi))
-
 -- an idle zone reads the last bytes written that fit; in a zone whose call a stop cut, only touched
 -- blocks and the header, both reported, make a difference
 pub record ReadsLastWritten (z : Zone) (zone : OffZone) (now : List ℕ) : Type 0 where
@@ -40,8 +36,7 @@ pub record ReadsLastWritten (z : Zone) (zone : OffZone) (now : List ℕ) : Type 
   pub places : (told : List ℕ) (cut : Cut) → zone.told ≡ Some told → zone.cut ≡ Some cut → cut.by_boot ≡ false
       → IsNotDamagedFurther z zone.stop now
       → OldPlacesRead z cut told zone.stop now × NoOtherPlaces z cut now
-  pub reported : (cut : Cut) → zone.cut ≡ Some cut → cut.by_boot ≡ false
-      → RunsAreTouched z cut (cut_report z (zone_reading z now) cut).runs
+  pub reported : (cut : Cut) → zone.cut ≡ Some cut → cut.by_boot ≡ false → ReportsCall z zone now cut
 
 -- it is so of each zone of an off state and of its bytes as they stand
 abbrev pub EachOffZone : List Zone → OffState → (Zone → OffZone → List ℕ → Type 0) → Type 0

@@ -36,26 +36,43 @@ pub record IsLiveZone (z : Zone) (zone : LiveZone) : Type 0 where
   pub size : IsImage z zone.image
   pub stands : Stands z zone.image zone.told zone.flight
 
+-- a flight that the zone was in at its stop, and that its cut is of
+pub record IsCutFlight (z : Zone) (zone : OffZone) (cut : Cut) (told : List ℕ) (f : Flight) : Type 0 where
+  pub told_is : zone.told ≡ Some told
+  pub cut_is : cut ≡ cut_of z f
+  pub at_stop : IsInFlight z zone.stop told f
+
+-- a boot that began on these bytes of the zone, was cut within its erasure after count stores in it, and
+-- left its cut and its stop
+pub record IsCutErasure (z : Zone) (zone : OffZone) (cut : Cut) (before : List ℕ) (count : ℕ) : Type 0 where
+  pub size : IsImage z before
+  pub within : IsWithinErasure z before count
+  pub cut_is : cut ≡ boot_cut z before count
+  pub at_stop : zone.stop ≡ after_stores before (take count (boot_stores z before))
+
 -- a zone with a told list and no cut was at its stop in ring form with that list; a zone cut by a flight
 -- was at its stop in that flight; a zone cut by a boot's erasure was at its stop within it
 pub record IsOffZone (z : Zone) (zone : OffZone) : Type 0 where
   pub size : IsImage z zone.stop
   pub idle : (told : List ℕ) → zone.told ≡ Some told → zone.cut ≡ None → IsRingForm z zone.stop told
   pub in_flight : (cut : Cut) → zone.cut ≡ Some cut → cut.by_boot ≡ false
-      → (told : List ℕ) × (f : Flight) × (zone.told ≡ Some told) × (cut ≡ cut_of z f) × IsInFlight z zone.stop told f
+      → (told : List ℕ) × (f : Flight) × IsCutFlight z zone cut told f
   pub in_erasure : (cut : Cut) → zone.cut ≡ Some cut → cut.by_boot ≡ true
-      → (now : List ℕ) × (count : ℕ) × IsImage z now × IsWithinErasure z now count × (cut ≡ boot_cut z now count)
-      × (zone.stop ≡ after_stores now (take count (boot_stores z now)))
+      → (before : List ℕ) × (count : ℕ) × IsCutErasure z zone cut before count
 
 -- the zones of a state are so
 abbrev pub AreZones : List Zone → Session → Type 0
 AreZones layout (Off off) = EachZone layout off.zones IsOffZone
 AreZones layout (Live live) = EachZone layout live.zones IsLiveZone
 
+-- an image of mem bytes
+abbrev pub IsMemory : ℕ → List ℕ → Type 0
+IsMemory mem image = (length image ≡ mem) × AreBytes image
+
 -- a sound state: its zones are so, and its image is of mem bytes
 pub record IsState (layout : List Zone) (mem : ℕ) (session : Session) : Type 0 where
   pub zones : AreZones layout session
-  pub image : (length (session_image session) ≡ mem) × AreBytes (session_image session)
+  pub image : IsMemory mem (session_image session)
 
 -- a time that a dump can be written at
 abbrev pub IsTime : Time → Type 0

@@ -7,7 +7,7 @@ use Rattle.std.specs.List.{sum_by}
 use Rattle.zone_spec.specs.declared.Zone.{Zone}
 use Rattle.zone_spec.specs.declared.Words.{Words}
 use Rattle.zone_spec.specs.Zones.{IsValidZone}
-use Rattle.zone_spec.specs.Parts.{standing_words}
+use Rattle.zone_spec.specs.Parts.{AreBytes, standing_words}
 use Rattle.zone_spec.specs.Reading.{IsRing}
 use Rattle.zone_spec.specs.Told.{Call, Append, Erase, Dump}
 use Rattle.zone_spec.specs.Stores.{Store, after_stores}
@@ -17,7 +17,9 @@ use Rattle.zone_flight.specs.declared.progress.Leg.TheVariants.{Erasure, Payload
 use Rattle.zone_flight.specs.declared.progress.Place.{Place}
 use Rattle.zone_flight.specs.declared.progress.Phase.{Phase}
 use Rattle.zone_flight.specs.declared.progress.Phase.TheVariants.{ZeroStart, Size, Start, Finished}
-use Rattle.zone_flight.specs.Calls.{last_of, line_of, front_of, IsOpenFor}
+use Rattle.zone_flight.specs.Calls.{last_of, line_of, front_of, IsOpenFor, AreCallBytes}
+use Rattle.ring_laws.proofs.StoreBytes.{HasCallBytes, call_stages-all}
+use Rattle.ring_laws.proofs.StoreCounts.{length-stores}
 use Rattle.zone_flight.specs.Flying.{Flying, payload}
 use Rattle.zone_flight.specs.Phases.{IsSound, IsWithin, IsFinished, phase_len}
 use Rattle.zone_flight.specs.Machine.{stores_of, behind, stores_left, count_left, IsKept, StandsFor}
@@ -148,13 +150,22 @@ kept_starts f starts none ring open_for small = record {
   small = small;
 }
 
+call_bytes : (call : Call) → AreCallBytes call → HasCallBytes call
+call_bytes (Append payload) h = h
+call_bytes Erase h = h
+call_bytes (Dump line body) h = h
+
 pub stands_starts : (f : Flying) (image : List ℕ) → Starts f → f.made ≡ 0 → f.words ≡ standing_words image
-    → StandsFor f image image
+    → AreBytes image → AreCallBytes f.call → StandsFor f image image
 unfolding call_stores
-stands_starts f image starts none words = record {
+stands_starts f image starts none words bytes appended = record {
   words = sym words;
   underway =
       subst (λ n. IsUnderway f.zone f.call image image n (stores_left f image)) (sym none)
       (underway_begins f.zone f.call image (stores_left f image)
       (starts.left image ∙ ap (λ w. stores_in_turn f.zone (call_stages f.zone w f.call) image) words));
+  total =
+      ap (λ w. sum_by (stage_count f.zone) (call_stages f.zone w f.call)) words
+      ∙ sym (length-stores f.zone starts.sound.valid (call_stages f.zone (standing_words image) f.call) image bytes
+      (call_stages-all f.zone starts.sound.valid (standing_words image) f.call (call_bytes f.call appended)));
 }

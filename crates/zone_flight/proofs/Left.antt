@@ -7,6 +7,7 @@ use Rattle.zone_spec.specs.declared.Zone.{Zone}
 use Rattle.zone_spec.specs.Parts.{Header, Block, part_parity_at}
 use Rattle.zone_spec.specs.Stores.{Store, after_stores, byte_stores}
 use Rattle.zone_spec.specs.Stages.{Stage, stage_stores, stage_count, stores_in_turn}
+use Rattle.ring_laws.proofs.StoreCounts.{length-byte_stores}
 use Rattle.zone_flight.specs.declared.progress.Phase.{Phase}
 use Rattle.zone_flight.specs.declared.progress.Phase.TheVariants.{ZeroStart, ZeroSize, Size, Start, First, FirstParity, Second, SecondParity, Header as HeaderPhase, Finished}
 use Rattle.zone_flight.specs.Flying.{Flying, payload, IsSameCall}
@@ -16,11 +17,6 @@ use Rattle.zone_flight.specs.Machine.{stores_of, behind, stores_left, count_left
 -- every store of the phase is made
 abbrev pub AllStored : Flying → Type 0
 AllStored f = f.place.number ≡ length (stores_of f f.place.phase)
-
-pub length-byte_stores : (place : ℕ) (xs : List ℕ) → length (byte_stores place xs) ≡ length xs
-unfolding byte_stores
-length-byte_stores place [] = refl
-length-byte_stores place (x ∷ xs) = ap suc (length-byte_stores (place + 1) xs)
 
 length-stores_of : (f : Flying) (p : Phase) → IsWithin f p → length (stores_of f p) ≡ phase_len f p
 length-stores_of f ZeroStart w = refl

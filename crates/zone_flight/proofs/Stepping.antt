@@ -89,6 +89,12 @@ count_next f h =
     let b : behind (later_by_one f) p ≡ behind f p = moved_behind f p in
     rw b (omega (arith, n))
 
+pub total_same : {f g : Flying} → IsSameCall f g → total_of g ≡ total_of f
+total_same {f} {g} same =
+    ap (λ z. sum_by (stage_count z) (call_stages z g.words g.call)) same.zone
+    ∙ ap (λ w. sum_by (stage_count f.zone) (call_stages f.zone w g.call)) same.words
+    ∙ ap (λ c. sum_by (stage_count f.zone) (call_stages f.zone f.words c)) same.call
+
 -- after the store, whatever phase was then entered
 pub stands_next : (f h : Flying) (s : Store) (old new before : List ℕ)
     → slice_get (stores_of f f.place.phase) f.place.number ≡ Some s → new ≡ put old s.place s.bytes
@@ -109,6 +115,10 @@ stands_next f h s old new before get put_is settled stands =
           subst (λ n. IsUnderway h.zone h.call before new n (stores_left h new)) (sym settled.made)
           (subst (λ z. IsUnderway z h.call before new (f.made + 1) (stores_left h new)) (sym settled.same.zone)
           (subst (λ c. IsUnderway f.zone c before new (f.made + 1) (stores_left h new)) (sym settled.same.call) w));
+      total =
+          total_same settled.same ∙ stands.total
+          ∙ ap (λ z. length (call_stores z f.call before)) (sym settled.same.zone)
+          ∙ ap (λ c. length (call_stores h.zone c before)) (sym settled.same.call);
     }
 
 within_next : (f : Flying) (p : Phase) → IsWithin f p → IsWithin (later_by_one f) p
@@ -122,12 +132,6 @@ within_next f Second w = w
 within_next f SecondParity w = w
 within_next f HeaderPhase w = w
 within_next f Finished w = w
-
-pub total_same : {f g : Flying} → IsSameCall f g → total_of g ≡ total_of f
-total_same {f} {g} same =
-    ap (λ z. sum_by (stage_count z) (call_stages z g.words g.call)) same.zone
-    ∙ ap (λ w. sum_by (stage_count f.zone) (call_stages f.zone w g.call)) same.words
-    ∙ ap (λ c. sum_by (stage_count f.zone) (call_stages f.zone f.words c)) same.call
 
 none_left : (f : Flying) → IsFinished f → count_left f ≡ 0
 none_left f e =

@@ -3,6 +3,7 @@ use Rattle.std.specs.Prelude.{ℕ, ◌-◌, List, [], ◌++◌, length, take}
 use Rattle.zone_spec.specs.declared.Zone.{Zone}
 use Rattle.zone_spec.specs.Told.{Call, Append, Erase, Dump, last_items}
 use Rattle.zone_spec.specs.declared.Words.{Words}
+use Rattle.zone_spec.specs.Parts.{AreBytes}
 use Rattle.zone_spec.specs.Ring.{IsOpen}
 use Rattle.zone_spec.specs.Stages.{Stage}
 use Rattle.zone_spec.specs.Calls.{append_stages}
@@ -21,6 +22,12 @@ abbrev pub IsOpenFor : Call → Words → ℕ → Type 0
 IsOpenFor (Append payload) w cap = IsOpen w cap
 IsOpenFor Erase w cap = Unit {0}
 IsOpenFor (Dump line body) w cap = Unit {0}
+
+-- what a call appends is of bytes
+abbrev pub AreCallBytes : Call → Type 0
+AreCallBytes (Append payload) = AreBytes payload
+AreCallBytes Erase = Unit {0}
+AreCallBytes (Dump line body) = AreBytes line × AreBytes body
 
 -- the bytes that an append stores, those of a dump's line, and the front of its body; nothing where the call is another
 unfoldable pub last_of : ℕ → Call → List ℕ

@@ -5,7 +5,7 @@ use Rattle.zone_spec.specs.Parts.{Header, Block, part_parity_at, standing_words}
 use Rattle.zone_spec.specs.Reading.{IsRing}
 use Rattle.zone_spec.specs.Stores.{Store, after_stores, byte_stores, put, word_store}
 use Rattle.zone_spec.specs.Stages.{Stage, StartWord, SizeWord, ParityOf, stage_count, stores_in_turn}
-use Rattle.zone_spec.specs.Calls.{run_stages, IsUnderway}
+use Rattle.zone_spec.specs.Calls.{call_stores, run_stages, IsUnderway}
 use Rattle.ram_region.specs.CutRegion.{CutRegion, span, with_span}
 use Rattle.zone_flight.specs.declared.progress.Phase.{Phase}
 use Rattle.zone_flight.specs.declared.progress.Phase.TheVariants.{ZeroStart, ZeroSize, Size, Start, First, FirstParity, Second, SecondParity, Header as HeaderPhase, Finished}
@@ -70,11 +70,13 @@ pub record IsKept (f : Flying) : Type 0 where
   pub counted : f.made + count_left f ≡ total_of f
   pub small : total_of f < 2 ^ 32
 
--- the flight and a zone's image stand for the image before: pair 0 is its words, and the image is that after the
--- stores made of the call, and what the flight stores next is what the call stores next
+-- the flight and a zone's image stand for the image before: pair 0 is its words, the image is that after the stores
+-- made of the call, what the flight stores next is what the call stores next, and it counts as many stores as the
+-- call has
 pub record StandsFor (f : Flying) (now before : List ℕ) : Type 0 where
   pub words : standing_words before ≡ f.words
   pub underway : IsUnderway f.zone f.call before now f.made (stores_left f now)
+  pub total : total_of f ≡ length (call_stores f.zone f.call before)
 
 -- how many phases come, with this one
 abbrev pub phases_left : Flying → Phase → ℕ

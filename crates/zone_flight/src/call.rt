@@ -1,7 +1,8 @@
 // The calls on a zone, with what they store.
 ghost use Rattle.std.specs.Prelude.{◌≡◌, ◌≤◌, List, ℕ, length};
 ghost use Rattle.zone_spec.specs.Told.{kind_of};
-ghost use Rattle.zone_flight.specs.Calls.{told_call};
+ghost use Rattle.zone_spec.specs.Parts.{AreBytes};
+ghost use Rattle.zone_flight.specs.Calls.{told_call, AreCallBytes};
 
 use arrayvec::ArrayString;
 use box_io::Bytes;
@@ -48,7 +49,28 @@ pub enum Call {
     Dump(Line36, Bytes),
 }
 
+// Tells that a line is of bytes.
+fn check_line(line: &[u8])
+    ensures { AreBytes line.now }
+{}
+
 impl Call {
+    /// Tells that what it stores is of bytes.
+    pub(crate) fn check(&self)
+        ensures { AreCallBytes (told_call self.now) }
+    {
+        match self {
+            Call::Append(payload) => {
+                let _len = payload.len();
+            }
+            Call::Erase => {}
+            Call::Dump(line, body) => {
+                check_line(line.as_str().as_bytes());
+                let _len = body.len();
+            }
+        }
+    }
+
     pub fn kind(&self) -> CallKind
         ensures { result ≡ kind_of (told_call self.now) }
     {

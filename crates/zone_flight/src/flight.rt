@@ -101,9 +101,11 @@ impl Flight {
         self.total() - self.made()
     }
 
-    /// All stores of the call.
+    /// All stores of the call, made or not.
     pub fn total(&self) -> u64
-        ensures { result ≡ total_of self.now }
+        ensures value { result ≡ total_of self.now }
+        ensures stores { (now before : List ℕ) → StandsFor self.now now before
+            → result ≡ length (call_stores self.now.zone self.now.call before) }
     {
         call_total(
             &self.progress.zone,

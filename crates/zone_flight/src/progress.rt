@@ -85,6 +85,8 @@ impl Progress {
         ensures made { result.made ≡ 0 }
         ensures stands { StandsFor (seen result) span.now span.now }
     {
+        let _len = span.len();
+        call.check();
         let words = Words::read(span);
         let _total = call_total(&zone, &words, &call);
         let place = first_place(&zone, &words, &call);

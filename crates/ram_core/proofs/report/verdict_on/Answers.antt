@@ -3,7 +3,7 @@ use Rattle.std.proofs.lemmas.List.Sums.{common_prefix_len-le}
 use Rattle.zone_spec.specs.declared.Verdict.TheVariants.{Differs}
 use Rattle.zone_spec.specs.Verdicts.{verdict_of}
 use Rattle.std.specs.List.{common_prefix_len}
-use Rattle.session_laws.proofs.Boots.{verdict_is_exact}
+use Rattle.session_laws.proofs.Boots.{verdict_is_exact, verdict_differs}
 use Rattle.ram_core.proofs.Prefixes.{common_whole, common_same}
 use Rattle.ram_core.proofs.report.verdict_on.Goals.{else-first-told_len-via-then-first-told_len+else-first-seen, else-first-told_len-via-else-first-told_len}
 use Rattle.ram_core.proofs.report.verdict_on.Goals as goal
@@ -20,7 +20,7 @@ differ : (told log : List ℕ) (n first : ℕ) → first ≡ common_prefix_len n
     → (told ≡ log → ⊥) → Differs n (length log) first ≡ verdict_of (Some told) log
 differ told log n first ef en other =
     ap (λ (k : ℕ). Differs k (length log) first) en ∙ ap (λ (k : ℕ). Differs (length told) (length log) k) ef
-    ∙ sym ((verdict_is_exact (Some told) log).differs told refl other).0
+    ∙ sym (verdict_differs told log other)
 
 pub returns-else-first-told_len : goal.returns-else-first-told_len
 returns-else-first-told_len c =

@@ -6,11 +6,7 @@ use Rattle.ram_core.proofs.zones.start.Goals as goal
 pub returns-then-left-gt0-clause-begun : goal.returns-then-left-gt0-clause-begun
 returns-then-left-gt0-clause-begun c live stands =
     let begins : Begins c.args.zone c.args.span.now (told_call c.args.call) c.begin-flight.result = record {
-      valid = c.requires.valid;
-      image = c.requires.image;
-      can = c.requires.can;
       zone = c.begin-flight.ensures.zone;
-      words = c.begin-flight.ensures.words;
       of_call = c.begin-flight.ensures.call;
       made = c.begin-flight.ensures.made;
       stands = c.begin-flight.ensures.stands;
@@ -22,11 +18,7 @@ returns-then-left-gt0-clause-begun c live stands =
 pub returns-else-left-gt0-clause-begun : goal.returns-else-left-gt0-clause-begun
 returns-else-left-gt0-clause-begun c live stands =
     let begins : Begins c.args.zone c.args.span.now (told_call c.args.call) c.begin-flight.result = record {
-      valid = c.requires.valid;
-      image = c.requires.image;
-      can = c.requires.can;
       zone = c.begin-flight.ensures.zone;
-      words = c.begin-flight.ensures.words;
       of_call = c.begin-flight.ensures.call;
       made = c.begin-flight.ensures.made;
       stands = c.begin-flight.ensures.stands;

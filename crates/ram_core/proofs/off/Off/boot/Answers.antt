@@ -6,7 +6,7 @@ use Rattle.ram_core.specs.declared.report.ZoneReport.{ZoneReport}
 use Rattle.ram_core.specs.Reports.{told_report}
 use Rattle.ram_core.specs.LiveSeen.{LiveSeen}
 use Rattle.ram_core.specs.Booted.{Booted}
-use Rattle.ram_core.proofs.Boots.{open_fits, open_whole, open_closed, logs_from, boot_runs, boot_is}
+use Rattle.ram_core.proofs.Boots.{open_fits, open_whole, open_closed, open_rests, logs_from, boot_runs, boot_is}
 use Rattle.ram_core.proofs.off.Off.boot.Goals as goal
 
 pub prepare-requires-clause-spans : goal.prepare-requires-clause-spans
@@ -22,6 +22,9 @@ settle_all-requires-clause-logs c = logs_from c.args.self c.in_ok-open.open c.in
 pub close-requires-clause-size : goal.close-requires-clause-size
 close-requires-clause-size c = ap length (open_whole c.args.self c.in_ok-open.open c.in_ok-open.ensures.«open»)
     ∙ c.in_ok-open.ensures.«open».size
+
+pub close-requires-clause-resting : goal.close-requires-clause-resting
+close-requires-clause-resting c = open_rests c.args.self c.in_ok-open.open c.in_ok-open.ensures.«open»
 
 pub returns-in-Err-clause-refused : goal.returns-in-Err-clause-refused
 returns-in-Err-clause-refused c = c.close.ensures ∙ open_closed c.args.self c.in_ok-open.open

@@ -49,4 +49,4 @@ returns-clause-stands c =
     subst (λ f. StandsFor f c.args.span.now c.args.span.now)
     (is_started z w call c.first_place-place.result c.new.result.items c.first_place-place.ensures c.new.ensures)
     (stands_starts (started z w call) c.args.span.now (starts z w c.requires.valid ring call open_for
-    c.call_total-total.ensures.line) refl c.read-words.ensures)
+    c.call_total-total.ensures.line) refl c.read-words.ensures c.len-len.ensures.bytes c.check.ensures)

@@ -1,0 +1,13 @@
+-- What is so of every machine that is off
+use Rattle.zone_spec.specs.Layouts.{IsLayout}
+use Rattle.session_spec.specs.States.{OffState, Off}
+use Rattle.session_spec.specs.Sound.{IsState}
+use Rattle.ram_core.specs.OffSeen.{OffSeen, StandsOff}
+
+-- the machine stands for a sound state: its zones' bytes at their stops are those of some state that a session can
+-- come to
+pub record IsResting (v : OffSeen) : Type 0 where
+  pub lies : IsLayout v.layout v.mem
+  pub state : OffState
+  pub stands : StandsOff v.layout v.mem v state
+  pub sound : IsState v.layout v.mem (Off state)
