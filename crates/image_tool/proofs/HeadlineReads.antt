@@ -1,32 +1,54 @@
 -- The headline at the boots of a run
-use Rattle.std.proofs.Common.{◌≡◌, ℕ, ◌^◌, ◌<◌, ◌≤◌, Bool, true, false, cond, ◌&&◌, ◌||◌, nat_lt, List, [], length, drop, take, codes, Option, Some, None, Result, Ok, Err, IfSome, refl, subst, arith}
+use Rattle.std.proofs.Common.{◌≡◌, ℕ, ◌^◌, ◌<◌, ◌≤◌, Bool, true, false, cond, ◌&&◌, ◌||◌, nat_lt, List, [], length, drop, take, map, zip, codes, Option, Some, None, Result, Ok, Err, IfSome, refl, sym, ap, ◌∙◌, subst, arith}
 use Rattle.std.specs.Option.{option_and_then, unwrap_or}
 use Rattle.std.specs.List.{list_all}
 use Rattle.std.specs.Char.{is_digit}
 use Rattle.std.specs.Str.Parse.{digits_value}
 use Rattle.std.proofs.lemmas.Bool.{ltb-true}
-use Rattle.std.proofs.lemmas.List.{length-take}
+use Rattle.std.proofs.lemmas.List.{length-take, length-map}
+use Rattle.std.proofs.lemmas.Option.{slice_get_within, get_or_from_slice_get}
+use Rattle.std.specs.Io.KnownBytes.{Appends}
 use Rattle.zone_spec.specs.declared.Zone.{Zone}
 use Rattle.zone_spec.specs.declared.params.Params.{Params}
 use Rattle.zone_spec.specs.declared.params.LayoutFault.{LayoutFault}
 use Rattle.zone_spec.specs.Layout.{layout_of}
 use Rattle.zone_spec.specs.Layouts.{IsLayout}
 use Rattle.zone_spec.specs.Parts.{AreBytes}
+use Rattle.zone_spec.specs.Reading.{ZoneReading, zone_reading}
+use Rattle.session_spec.specs.Zones.{zone_bytes}
+use Rattle.session_spec.specs.States.{OffZone, OffState, Off, Live}
+use Rattle.session_spec.specs.Boot.{booted}
+use Rattle.session_spec.specs.Erasures.{saved_logs}
+use Rattle.session_spec.specs.Report.{ZoneReport, zone_report, report}
+use Rattle.session_spec.specs.Headline.{EachOffZone}
+use Rattle.session_laws.specs.ZoneReads.{ReadsZone}
+use Rattle.session_laws.proofs.ZoneReads.{sound_state_reads_zones}
 use Rattle.param_words.specs.Numbers.{digits_number, number_of, begins}
 use Rattle.param_words.specs.Words.{KeyTable, given, value_text, ok_unless}
 use Rattle.zone_params.specs.Words.{keys, first_fault, params_of}
 use Rattle.param_words.specs.declared.faults.ParamFault.{ParamFault}
 use Rattle.zone_params.proofs.WholeLayout.{whole_layout}
 use Rattle.ram_region.proofs.Chains.{AreBytes-take}
-use Rattle.session_laws.proofs.Boots.{report_is_exact}
+use Rattle.old_log.proofs.Saves.{zip-at, zip-length}
+use Rattle.ram_core.proofs.Lists.{get-of-map}
 use Rattle.box_script.specs.Fields.{Text}
+use Rattle.box_script.specs.Lines.{script_of}
+use Rattle.box_script.specs.declared.line.Line.{Line}
+use Rattle.box_script.specs.declared.line.Line.TheVariants.{Boot}
 use Rattle.box_script.proofs.Inside.{read_fields}
-use Rattle.tool_spec.specs.Commands.{Asked, Command, Plan, planned, with_params, with_layout, mem_of}
-use Rattle.tool_spec.specs.Answers.{Outside}
+use Rattle.tool_spec.specs.Ends.{End}
+use Rattle.tool_spec.specs.Texts.{boot_text}
+use Rattle.tool_spec.specs.Scripts.{Done, Ran, ran, line_done}
+use Rattle.tool_spec.specs.Commands.{Asked, Command, RunScript, Plan, Wanted, plan_of, planned, with_params, with_layout, mem_of, wanted, wanted_run, wanted_lines, script_limit, script_end, stops}
+use Rattle.tool_spec.specs.Answers.{Outside, whole, RunAnswers, PlanAnswers, ToolAnswers}
+use Rattle.tool_spec.specs.BlkAnswers.{AskedAnswers}
+use Rattle.tool_spec.specs.declared.Cause.{Cause}
 use Rattle.tool_spec.specs.declared.Stop.{Stop}
-use Rattle.store_laws.proofs.Laws.{sound_state_reads_last_written}
+use Rattle.tool_spec.specs.declared.Stop.TheVariants.{TooLong}
+use Rattle.tool_frame.proofs.Play.{text_at}
+use Rattle.tool_frame.proofs.Script.{run_wanted}
 use Rattle.tool_laws.proofs.Sound.{states_sound}
-use Rattle.image_tool.specs.Headline.{RunReads}
+use Rattle.image_tool.specs.Headline.{BootsRead, ShowsBoot, BootsShown, RunReads}
 
 -- ---- numbers of parameters are small
 
@@ -90,18 +112,112 @@ planned_whole (Some a) plan h = read a plan (first_fault [] a.params) h
 front_size : (mem : ℕ) (bytes : List ℕ) → mem ≤ length bytes → length (take mem bytes) ≡ mem
 front_size mem bytes h = omega (arith, h, length-take mem bytes)
 
-pub run_reads : (o : Option Asked) (r : Result Plan Stop) (a : Outside) → planned o ≡ r → IfSome a.holds AreBytes
-    → RunReads r a
-run_reads o (Err s) a e held = tt
-run_reads o (Ok plan) a e held = λ is. record {
+-- the text of a boot is of the zones' readings and reports
+shows_boot : (layout : List Zone) (off : OffState) → EachOffZone layout off ReadsZone
+    → ShowsBoot layout off (boot_text (saved_logs layout (booted layout off)) (report layout off))
+shows_boot layout off reads =
+    let saves : Zone → Option ZoneReading = λ z. Some (zone_reading z (zone_bytes z off.image)) in
+    let reports : Zone × OffZone → ZoneReport = λ pair. zone_report pair.0 pair.1 (zone_bytes pair.0 off.image) in
+    record {
+      logs = saved_logs layout (booted layout off);
+      reports = report layout off;
+      is = refl;
+      counts = (
+        omega (arith, zip-length layout (map saves layout) (omega (arith, length-map layout saves)),
+            length-map layout saves),
+        omega (arith, length-map (zip layout off.zones) reports,
+            zip-length layout off.zones (omega (arith, reads.0)), reads.0),
+      );
+      zones = λ i z zone at here. (
+        zip-at layout (map saves layout) i z (saves z) at (get-of-map saves layout i z at),
+        get-of-map reports (zip layout off.zones) i (z, zone) (zip-at layout off.zones i z zone at here),
+        reads.1 i z zone at here,
+      );
+    }
+
+-- what a line `boot` does
+boot_done : (layout : List Zone) (off : OffState) → line_done layout (Off off) Boot ≡ Ok (record {
+  session = Live (booted layout off);
+  text = boot_text (saved_logs layout (booted layout off)) (report layout off);
+})
+unfolding line_done
+boot_done layout off = refl
+
+-- a script is too long, or is done line by line
+long_by : (layout : List Zone) (image script : List ℕ) → nat_lt script_limit (length script) ≡ true
+    → wanted_run layout image script ≡ stops TooLong
+long_by layout image script e = rw e refl
+
+lines_by : (layout : List Zone) (image script : List ℕ) (lines : List Line)
+    → nat_lt script_limit (length script) ≡ false → script_of script ≡ Ok lines
+    → wanted_run layout image script ≡ wanted_lines (ran layout image lines)
+lines_by layout image script lines e good = rw (e, good) refl
+
+too_long : (w : Wanted) → w ≡ stops TooLong → w.end ≡ Ok tt → ⊥
+too_long w e h = let clash : Err TooLong ≡ Ok tt = sym (ap (λ (x : Wanted). x.end) e) ∙ h in cc
+
+-- what a run that did all puts at a boot
+module _ (plan : Plan) (bytes script : List ℕ) (lines : List Line) (is : plan.command ≡ RunScript)
+    (long : mem_of plan ≤ length bytes) (good : script_of script ≡ Ok lines) where
+  abbrev image : List ℕ
+  image = take (mem_of plan) bytes
+
+  -- the script was not too long, and no line was refused
+  lines_wanted : (t : Bool) → nat_lt script_limit (length script) ≡ t → (wanted plan bytes script).end ≡ Ok tt
+      → wanted plan bytes script ≡ wanted_lines (ran plan.zones image lines)
+  lines_wanted true e h = absurd (too_long (wanted plan bytes script)
+      (run_wanted plan bytes script is long ∙ long_by plan.zones image script e) h)
+  lines_wanted false e h = run_wanted plan bytes script is long ∙ lines_by plan.zones image script lines e good
+
+  none_refused : (c : Option Cause) (n : ℕ) → script_end n c ≡ Ok tt → c ≡ None
+  none_refused None n h = refl
+  none_refused (Some cause) n h = absurd (cc)
+
+  boots_shown : (a b : Outside) → (wanted plan bytes script).end ≡ Ok tt
+      → Appends a.given b.given (whole (wanted plan bytes script).texts) → BootsRead plan.zones image lines
+      → BootsShown plan.zones image lines a.given b.given
+  boots_shown a b end put reads k off at session =
+      let w = lines_wanted (nat_lt script_limit (length script)) refl end in
+      let r = ran plan.zones image lines in
+      let ended : script_end (length r.texts) r.refused ≡ Ok tt = rw w at end in
+      let all : Appends a.given b.given (whole r.texts) = rw w at put in
+      let text = boot_text (saved_logs plan.zones (booted plan.zones off)) (report plan.zones off) in
+      let done : line_done plan.zones (ran plan.zones image (take k lines)).session Boot
+      ≡ Ok (record { session = Live (booted plan.zones off); text = text }) = rw session (boot_done plan.zones off) in
+      let t = text_at plan.zones image lines k Boot (record { session = Live (booted plan.zones off); text = text })
+      (slice_get_within lines k Boot at) (sym (get_or_from_slice_get lines k Boot Boot at))
+      (none_refused r.refused (length r.texts) ended) done in
+      record {
+        text = text;
+        shows = shows_boot plan.zones off (reads k off session);
+        rest = t.more;
+        put = rw t.is at all;
+      }
+
+pub run_reads : (o : Option Asked) (r : Result Plan Stop) (a b : Outside) (status : ℕ) → planned o ≡ r
+    → IfSome a.holds AreBytes → ToolAnswers r a b status → RunReads r a b status
+run_reads o (Err s) a b status e held answers = tt
+run_reads o (Ok plan) a b status e held answers = λ is. record {
   told = λ bytes script holds left lines long good.
       let lies = planned_whole o plan e in
       let all : AreBytes bytes = rw holds at held in
       let size = front_size (mem_of plan) bytes long in
       let front : AreBytes (take (mem_of plan) bytes) = AreBytes-take (mem_of plan) bytes all in
       let sound = states_sound plan.zones (mem_of plan) (take (mem_of plan) bytes) lines lies size front
-      (read_fields script lines good) in (
-        λ k off at. sound_state_reads_last_written plan.zones (mem_of plan) off lies (rw at at (sound k)),
-        λ k off at. report_is_exact plan.zones (mem_of plan) off lies (rw at at (sound k)),
-      );
+      (read_fields script lines good) in
+      let reads : BootsRead plan.zones (take (mem_of plan) bytes) lines =
+      λ k off at. sound_state_reads_zones plan.zones (mem_of plan) off lies (rw at at (sound k)) in
+      let run : RunAnswers plan a b status =
+      subst (λ (c : Command). PlanAnswers c plan a b status) is answers.0 in
+      record {
+        read = reads;
+        shown = λ zero. let d = (run.whole.told bytes script holds left).done zero in
+            boots_shown plan bytes script lines is long good a b d.0 d.1 reads;
+      };
 }
+
+-- words that ask for no script on the block store
+pub answered_by : (asked : Option (List Text)) (words : List Text) (a b : Outside) (status : ℕ) → asked ≡ None
+    → AskedAnswers asked words a b status → ToolAnswers (plan_of words) a b status
+answered_by None words a b status none h = h
+answered_by (Some params) words a b status none h = absurd (cc)

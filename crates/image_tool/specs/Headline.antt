@@ -1,27 +1,64 @@
--- What every boot of a run's script reads and reports
-use Rattle.std.specs.Prelude.{◌≡◌, ⊤, ℕ, ◌≤◌, List, length, take, Result, Ok, Err}
+-- What every boot of a run's script reads, reports and puts
+use Rattle.std.specs.Prelude.{◌≡◌, ⊤, ℕ, ◌≤◌, List, ◌++◌, length, take, slice_get, Option, Some, Result, Ok, Err}
+use Rattle.std.specs.Io.KnownBytes.{Appends}
 use Rattle.zone_spec.specs.declared.Zone.{Zone}
-use Rattle.session_spec.specs.States.{OffState, Off}
+use Rattle.zone_spec.specs.Reading.{zone_reading}
+use Rattle.zone_spec.specs.Records.{Saved}
+use Rattle.session_spec.specs.Zones.{zone_bytes}
+use Rattle.session_spec.specs.States.{OffZone, OffState, Off}
+use Rattle.session_spec.specs.Report.{ZoneReport, zone_report}
 use Rattle.session_spec.specs.Headline.{EachOffZone}
-use Rattle.session_laws.specs.Boots.{ReportsExactly}
+use Rattle.session_laws.specs.ZoneReads.{ReadsZone}
+use Rattle.box_script.specs.Fields.{Text}
 use Rattle.box_script.specs.Lines.{script_of}
 use Rattle.box_script.specs.declared.line.Line.{Line}
+use Rattle.box_script.specs.declared.line.Line.TheVariants.{Boot}
+use Rattle.tool_spec.specs.Texts.{boot_text}
 use Rattle.tool_spec.specs.Scripts.{ran}
 use Rattle.tool_spec.specs.Commands.{RunScript, Plan, mem_of}
-use Rattle.tool_spec.specs.Answers.{Outside, IfTold}
-use Rattle.tool_spec.specs.Headline.{ScriptReadsLastWritten}
+use Rattle.tool_spec.specs.Answers.{Outside, IfTold, front}
 use Rattle.tool_spec.specs.declared.Stop.{Stop}
 
--- behind each line of a script, where the machine is then off, the next boot's report is exact: its verdict is on the
--- told list and the log that is read, and it tells just the cut that a stop or a boot's limit left
-abbrev pub ScriptReportsExactly : List Zone → List ℕ → List Line → Type 0
-ScriptReportsExactly layout image lines = (k : ℕ) (off : OffState)
-    → (ran layout image (take k lines)).session ≡ Off off → EachOffZone layout off ReportsExactly
+-- after each line of a script, if the machine is then off, the next boot reads of each zone what it must: the headline,
+-- and all else that is said of a boot
+abbrev pub BootsRead : List Zone → List ℕ → List Line → Type 0
+BootsRead layout image lines = (k : ℕ) (off : OffState)
+    → (ran layout image (take k lines)).session ≡ Off off → EachOffZone layout off ReadsZone
 
--- so it is of the script on the image, where both are told and good
-abbrev pub RunReads : Result Plan Stop → Outside → Type 0
-RunReads (Ok plan) a = plan.command ≡ RunScript → IfTold a
+-- a text is that of a boot: of one reading and one report for each zone, which are the zone's, and that reading and
+-- report are as they must be
+pub record ShowsBoot (layout : List Zone) (off : OffState) (text : Text) : Type 0 where
+  pub logs : List Saved
+  pub reports : List ZoneReport
+  pub is : text ≡ boot_text logs reports
+  pub counts : (length logs ≡ length layout) × (length reports ≡ length layout)
+  pub zones : (i : ℕ) (z : Zone) (zone : OffZone) → slice_get layout i ≡ Some z → slice_get off.zones i ≡ Some zone
+      → let now = zone_bytes z off.image in
+      (slice_get logs i ≡ Some (z, Some (zone_reading z now)))
+      × (slice_get reports i ≡ Some (zone_report z zone now)) × ReadsZone z zone now
+
+-- after the texts of the lines before it, a line `boot` put this text
+pub record PutsBoot (layout : List Zone) (off : OffState) (texts : List Text) (k : ℕ)
+    (old new : Option (List ℕ)) : Type 0 where
+  pub text : Text
+  pub shows : ShowsBoot layout off text
+  pub rest : Text
+  pub put : Appends old new (front texts k ++ text ++ rest)
+
+-- so did each
+abbrev pub BootsShown : List Zone → List ℕ → List Line → Option (List ℕ) → Option (List ℕ) → Type 0
+BootsShown layout image lines old new = (k : ℕ) (off : OffState) → slice_get lines k ≡ Some Boot
+    → (ran layout image (take k lines)).session ≡ Off off
+    → PutsBoot layout off (ran layout image lines).texts k old new
+
+-- of the script on the image, if both are told and good: what its boots read, and on status 0 what they put
+pub record ScriptReads (layout : List Zone) (image : List ℕ) (lines : List Line) (a b : Outside)
+    (status : ℕ) : Type 0 where
+  pub read : BootsRead layout image lines
+  pub shown : status ≡ 0 → BootsShown layout image lines a.given b.given
+
+abbrev pub RunReads : Result Plan Stop → Outside → Outside → ℕ → Type 0
+RunReads (Ok plan) a b status = plan.command ≡ RunScript → IfTold a
     (λ bytes script. (lines : List Line) → mem_of plan ≤ length bytes → script_of script ≡ Ok lines
-    → ScriptReadsLastWritten plan.zones (take (mem_of plan) bytes) lines
-    × ScriptReportsExactly plan.zones (take (mem_of plan) bytes) lines)
-RunReads (Err s) a = ⊤
+    → ScriptReads plan.zones (take (mem_of plan) bytes) lines a b status)
+RunReads (Err s) a b status = ⊤

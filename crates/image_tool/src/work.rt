@@ -150,9 +150,11 @@ pub fn run<S: Source, M: Store, O: Sink>(
         (O.faults out.old))
         (outside (S.left script.new) (S.faults script.new) (M.holds image.new) (M.faults image.new) (O.given out.new)
         (O.faults out.new)) result }
-    ensures reads { RunReads (plan_of (texts words.now))
+    ensures reads { blk_asked (texts words.now) ≡ None → RunReads (plan_of (texts words.now))
         (outside (S.left script.old) (S.faults script.old) (M.holds image.old) (M.faults image.old) (O.given out.old)
-        (O.faults out.old)) }
+        (O.faults out.old))
+        (outside (S.left script.new) (S.faults script.new) (M.holds image.new) (M.faults image.new) (O.given out.new)
+        (O.faults out.new)) result }
 {
     let end = do_work(alloc, words, script, image, out);
     finish(end, out)

@@ -180,3 +180,67 @@ stopped_put layout image lines i line session next text bytes a b c h is p g sam
       bytes = rw (prefix_front layout image lines (i + 1), all)
           (front_on a b c (whole r.texts) text p.so_far.texts (rw same at put));
     }
+
+-- ---- the text of a line among all texts
+
+-- a script that is not refused was not refused at any line before
+refused_stays : (r : Ran) (next : Result Done Cause) (c : Option Cause) → r.refused ≡ c
+    → (ran_on r c next).refused ≡ None → r.refused ≡ None
+refused_stays r next (Some cause) e h = h
+refused_stays r next None e h = e
+
+still_done : (layout : List Zone) (lines : List Line) (r : Ran) → (fold (next_line layout) r lines).refused ≡ None
+    → r.refused ≡ None
+still_done layout [] r h = h
+still_done layout (line ∷ lines) r h =
+    refused_stays r (line_done layout r.session line) r.refused refl (still_done layout lines (next_line layout r line) h)
+
+take_done : (layout : List Zone) (lines : List Line) (k : ℕ) (r : Ran)
+    → (fold (next_line layout) r lines).refused ≡ None → (fold (next_line layout) r (take k lines)).refused ≡ None
+take_done layout lines zero r h = still_done layout lines r h
+take_done layout [] (suc k) r h = h
+take_done layout (line ∷ lines) (suc k) r h = take_done layout lines k (next_line layout r line) h
+
+-- each line that was done has a text
+one_text : (r : Ran) (c : Option Cause) (next : Result Done Cause) → r.refused ≡ c → (ran_on r c next).refused ≡ None
+    → length (ran_on r c next).texts ≡ length r.texts + 1
+one_text r (Some cause) next e h = let clash : Some cause ≡ None = sym e ∙ h in absurd (cc)
+one_text r None (Ok d) e h = omega (arith, length-append r.texts (d.text ∷ []))
+one_text r None (Err cause) e h = absurd (cc)
+
+texts_counted : (layout : List Zone) (lines : List Line) (k : ℕ) (r : Ran) → k ≤ length lines
+    → (fold (next_line layout) r (take k lines)).refused ≡ None
+    → length (fold (next_line layout) r (take k lines)).texts ≡ length r.texts + k
+texts_counted layout lines zero r le h = omega arith
+texts_counted layout [] (suc k) r le h = absurd (omega (arith, le))
+texts_counted layout (line ∷ lines) (suc k) r le h =
+    let next = next_line layout r line in
+    let one = one_text r r.refused (line_done layout r.session line) refl
+    (still_done layout (take k lines) next h) in
+    let more = texts_counted layout lines k next (omega (arith, le)) h in omega (arith, one, more)
+
+-- all texts end to end, with that of the k-th line among them
+pub record TextAt (all : List Text) (k : ℕ) (text : Text) : Type 0 where
+  pub more : Text
+  pub is : whole all ≡ front all k ++ text ++ more
+
+text_among : (before all more : List Text) (k : ℕ) (text : Text) → length before ≡ k
+    → all ≡ (before ++ text ∷ []) ++ more → TextAt all k text
+text_among before all more k text n e = record {
+  more = whole more;
+  is = rw (e, ← n) (grind (arith, common_steps));
+}
+
+-- where no line was refused, the text of each stands in its place
+pub text_at : (layout : List Zone) (image : List ℕ) (lines : List Line) (k : ℕ) (line : Line) (d : Done)
+    → k < length lines → line ≡ get_or lines k line → (ran layout image lines).refused ≡ None
+    → line_done layout (ran layout image (take k lines)).session line ≡ Ok d
+    → TextAt (ran layout image lines).texts k d.text
+text_at layout image lines k line d h is none g =
+    let first = started layout image in
+    let quiet = take_done layout lines k first none in
+    let e = done_at layout image lines k line d h is quiet g in
+    let count = texts_counted layout lines k first (omega (arith, h)) quiet in
+    let x = take_extends layout lines (k + 1) first in
+    text_among (ran layout image (take k lines)).texts (ran layout image lines).texts x.more k d.text
+    (count ∙ omega arith) (x.is ∙ ap (λ (r : Ran). r.texts ++ x.more) e)

@@ -34,7 +34,7 @@ short_wanted : (plan : Plan) (bytes script : List ℕ) → plan.command ≡ RunS
     → wanted plan bytes script ≡ stops (Short (length bytes) (mem_of plan))
 short_wanted plan bytes script is h = rw (is, nat_lt-true h) refl
 
-run_wanted : (plan : Plan) (bytes script : List ℕ) → plan.command ≡ RunScript → mem_of plan ≤ length bytes
+pub run_wanted : (plan : Plan) (bytes script : List ℕ) → plan.command ≡ RunScript → mem_of plan ≤ length bytes
     → wanted plan bytes script ≡ wanted_run plan.zones (take (mem_of plan) bytes) script
 run_wanted plan bytes script is h = rw (is, nat_lt-false h) refl
 

@@ -4,7 +4,7 @@ use Rattle.tool_spec.specs.BlkCommands.{blk_asked}
 use Rattle.tool_frame.specs.Words.{texts}
 use Rattle.image_tool.proofs.BlkAnswered.{asked_answers, untouched_by}
 use Rattle.image_tool.proofs.Completed.{asked_done}
-use Rattle.image_tool.proofs.HeadlineReads.{run_reads}
+use Rattle.image_tool.proofs.HeadlineReads.{run_reads, answered_by}
 use Rattle.image_tool.proofs.work.run.Goals as goal
 
 pub returns-clause-untouched : goal.returns-clause-untouched
@@ -32,5 +32,5 @@ returns-clause-complete g c = λ bytes script tells done script_ok image_ok sink
     (returns-clause-answers g c) bytes script tells done
 
 pub returns-clause-reads : goal.returns-clause-reads
-returns-clause-reads g c = run_reads (asked (texts c.args.words.now)) _ _ refl
-    (g.met.M.Store.held_bytes c.args.image.now)
+returns-clause-reads g c = λ none. run_reads (asked (texts c.args.words.now)) _ _ _ _ refl
+    (g.met.M.Store.held_bytes c.args.image.now) (answered_by (blk_asked (texts c.args.words.now)) (texts c.args.words.now) _ _ _ none (returns-clause-answers g c))
