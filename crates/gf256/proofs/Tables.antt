@@ -38,7 +38,8 @@ power_is i l =
 zeros_behind : drop 510 POWERS ≡ replicate 256 0
 zeros_behind = refl
 
-zeros : (m n : ℕ) → let z : ℕ = get_or (replicate m 0) n 0 in z ≡ 0
+-- zeros, and past their end the default
+pub zeros : (m n : ℕ) → get_or (replicate {A = ℕ} m 0) n 0 ≡ 0
 zeros zero n = refl
 zeros (suc m) zero = refl
 zeros (suc m) (suc n) = zeros m n
