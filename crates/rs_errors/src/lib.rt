@@ -134,31 +134,23 @@ fn reduce(
     }
 }
 
-fn clear(word: &mut [u8])
-    ensures { (k : ℕ) → k < length word.new → slice_index word.new k ≡ 0 }
-{
-    for x in word.iter_mut() {
-        *x = 0;
-    }
-}
-
-/// Makes the word zero but for a 1 at `place`.
+/// Makes a word of zeros zero but for a 1 at `place`.
 fn single(word: &mut [u8], place: usize)
-    requires { place < length word.old }
+    requires inside { place < length word.old }
+    requires zeros { (k : ℕ) → k < length word.old → slice_index word.old k ≡ 0 }
     ensures one { slice_index word.new place ≡ 1 }
     ensures zeros { (k : ℕ) → k < length word.new → k ≢ place → slice_index word.new k ≡ 0 }
 {
-    clear(word);
     word[place] = 1;
 }
 
-/// Stores 16 zeros and then the symbols of `word`, the last one first.
+/// Stores the symbols of `word`, the last one first, after 16 zeros.
 fn reverse_into(word: &[u8], out: &mut [u8])
-    requires { length out.old ≡ length word.now + 16 }
+    requires len { length out.old ≡ length word.now + 16 }
+    requires zeros { LeadingZeros 16 out.old }
     ensures zeros { LeadingZeros 16 out.new }
     ensures rest { drop 16 out.new ≡ reverse word.now }
 {
-    clear(out);
     for i in 0..word.len() {
         out[16 + i] = word[word.len() - 1 - i];
     }
@@ -241,7 +233,6 @@ fn solve(t: usize, syndromes: &[u8]) -> Solution
     single(rest_a, 15);
     let mut factors = [0u8; 79];
     let factor_a = &mut factors[..t + 16];
-    clear(factor_a);
     let mut more_rests = [0u8; 142];
     let rest_b = &mut more_rests[..t + t + 16];
     reverse_into(syndromes, rest_b);
@@ -419,14 +410,10 @@ fn excess(coder: &Parity, msg: &[u8], par: &[u8], out: &mut [u8])
 
 fn is_codeword(coder: &Parity, msg: &[u8], par: &[u8]) -> bool
     requires coder { coder.now ≡ length par.now }
-    requires few { length par.now ≤ 127 }
     requires fits { length msg.now + length par.now ≤ 255 }
     ensures { IsTrue result ↔ HasRoots (length par.now) (msg.now ++ par.now) }
 {
-    let mut buffer = [0u8; 127];
-    let out = &mut buffer[..par.len()];
-    excess(coder, msg, par, out);
-    all_zero(out)
+    coder.is_parity(msg, par)
 }
 
 /// Tells whether the word is no codeword, and then makes `values` its syndromes, which are those of the excess alone.
