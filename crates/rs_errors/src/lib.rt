@@ -14,7 +14,7 @@ ghost use Rattle.rs_errors.specs.Fixes.{Below255, IsFix, AreFixes, AllInside, fi
 ghost use Rattle.rs_errors.specs.Euclid.{IsStep, IsSolution, LeadingZeros};
 
 use arrayvec::ArrayVec;
-use gf_poly::{add_scaled, rising_values, syndromes, values_at};
+use gf_poly::{rising_values, syndromes, values_at};
 use gf256::{add, antilog, inv, log, mul, mul_pow_by_bits, pow_ratio};
 use rs_encode::Parity;
 
@@ -397,6 +397,16 @@ fn all_zero(values: &[u8]) -> bool
     values.iter().all(|x| *x == 0)
 }
 
+fn add_symbols(word: &mut [u8], other: &[u8])
+    requires { length other.now ≡ length word.old }
+    ensures { (k : ℕ) → k < length word.new
+        → slice_index word.new k ≡ gf_add (slice_index word.old k) (slice_index other.now k) }
+{
+    for i in 0..word.len() {
+        word[i] = add(word[i], other[i]);
+    }
+}
+
 /// Makes `out` the sum of `par` and the parity of `msg`, all zeros where the two are a codeword.
 fn excess(coder: &Parity, msg: &[u8], par: &[u8], out: &mut [u8])
     requires coder { coder.now ≡ length par.now }
@@ -405,7 +415,7 @@ fn excess(coder: &Parity, msg: &[u8], par: &[u8], out: &mut [u8])
     ensures { IsAdded 1 out.new (parity_of (length par.now) msg.now) par.now }
 {
     coder.parity(msg, out);
-    add_scaled(out, 0, 1, par);
+    add_symbols(out, par);
 }
 
 fn is_codeword(coder: &Parity, msg: &[u8], par: &[u8]) -> bool
