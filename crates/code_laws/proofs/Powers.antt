@@ -1,9 +1,8 @@
--- powers of 2 in the field, and the tables
-use Rattle.std.proofs.Common.{◌≡◌, ◌≢◌, ℕ, zero, suc, ◌+◌, ◌-◌, ◌*◌, ◌/◌, ◌%◌, ◌^◌, ◌<◌, ◌≤◌, refl, sym, ap, ◌∙◌, subst, arith, inl, inr, Bool, true, false, ◌&&◌, not, eqb, ltb, List, [], ◌∷◌, length, get_or, suc-add, zero-add, pow-suc, div-lt_iff_lt-mul, mod-lt, mul_comm, zero-mul, one-mul}
+-- Powers of 2 in the field: 2 has order 255, and each byte but 0 has an inverse
+use Rattle.std.proofs.Common.{◌≡◌, ◌≢◌, ℕ, zero, suc, ◌+◌, ◌-◌, ◌*◌, ◌/◌, ◌%◌, ◌^◌, ◌<◌, ◌≤◌, refl, sym, ap, ◌∙◌, subst, arith, inl, inr, Bool, true, false, ◌&&◌, not, eqb, ltb, suc-add, zero-add, pow-suc, div-lt_iff_lt-mul, mod-lt, mul_comm, zero-mul, one-mul}
 use Rattle.std.proofs.lemmas.Bool.Decides.{Decides-eqb, Decides-ltb, Decides-and}
 use Rattle.std.proofs.lemmas.Nat.{xor_lt, pow_pos, shr_split}
 use Rattle.code_spec.specs.Field.{gf_mul, gf_pow}
-use Rattle.code_laws.specs.declared.TheConstants.{EXP, LOG}
 use Rattle.code_laws.proofs.Xor.{IsAdditive, additive_zero, top_bit, below_two}
 use Rattle.code_laws.proofs.Field.{mul_comm as gf_comm, mul_assoc as gf_assoc, mul_one, additive_l, additive_r, mul_low_l, mul_low_r, below, checked}
 
@@ -58,107 +57,75 @@ pow_add x zero n = rw (zero-add n, pow_zero x) (sym (one_mul (gf_pow x n) (pow_b
 pow_add x (suc m) n = rw (suc-add m n, pow_suc x (m + n), pow_suc x m)
     (ap (gf_mul x) (pow_add x m n) ∙ sym (gf_assoc x (gf_pow x m) (gf_pow x n)))
 
--- a list holds x, 2 x, 4 x and so on
-holds_powers : ℕ → List ℕ → Bool
-holds_powers x [] = true
-holds_powers x (c ∷ cs) = eqb c x && holds_powers (gf_mul 2 x) cs
-
-holds_at : (x : ℕ) (cs : List ℕ) → x < 256 → holds_powers x cs ≡ true → (i : ℕ) → i < length cs
-    → get_or cs i 0 ≡ gf_mul (gf_pow 2 i) x
-unfolding holds_powers
-holds_at x [] b e i l = absurd (omega arith)
-holds_at x (c ∷ cs) b e zero l =
-    rw (pow_zero 2) ((Decides-eqb c x).0 ((Decides-and (eqb c x) (holds_powers (gf_mul 2 x) cs) ((λ h. h), (λ h. h))
-    ((λ h. h), (λ h. h))).0 e).0 ∙ sym (one_mul x b))
-holds_at x (c ∷ cs) b e (suc i) l =
-    holds_at (gf_mul 2 x) cs (mul_below 2 x) ((Decides-and (eqb c x) (holds_powers (gf_mul 2 x) cs)
-    ((λ h. h), (λ h. h)) ((λ h. h), (λ h. h))).0 e).1 i (omega arith)
-    ∙ sym (gf_assoc (gf_pow 2 i) 2 x) ∙ ap (λ (y : ℕ). gf_mul y x) (gf_comm (gf_pow 2 i) 2 ∙ sym (pow_suc 2 i))
-
-exp_test : holds_powers 1 EXP ≡ true
-unfolding holds_powers gf_mul
-exp_test = refl
-
-exp_length : length EXP ≡ 510
-exp_length = refl
-
-pub exp_at_lem : (i : ℕ) → i < 510 → get_or EXP i 0 ≡ gf_pow 2 i
-exp_at_lem i l = holds_at 1 EXP (omega arith) exp_test i (rw exp_length l) ∙ mul_one (gf_pow 2 i) (pow_below 2 i)
-
--- entry by entry, the logarithm of a is below 255, and 2 to it is a
-logs_hold : ℕ → List ℕ → Bool
-logs_hold a [] = true
-logs_hold a (c ∷ cs) = (ltb c 255 && eqb (get_or EXP c 0) a) && logs_hold (suc a) cs
-
-both : (p q : Bool) → (p && q) ≡ true → (p ≡ true) × (q ≡ true)
-both p q e = (Decides-and p q ((λ h. h), (λ h. h)) ((λ h. h), (λ h. h))).0 e
-
-logs_at : (a : ℕ) (cs : List ℕ) → logs_hold a cs ≡ true → (i : ℕ) → i < length cs
-    → (get_or cs i 0 < 255) × (get_or EXP (get_or cs i 0) 0 ≡ i + a)
-unfolding logs_hold
-logs_at a [] e i l = absurd (omega arith)
-logs_at a (c ∷ cs) e zero l =
-    let h = both (ltb c 255 && eqb (get_or EXP c 0) a) (logs_hold (suc a) cs) e in
-    let h' = both (ltb c 255) (eqb (get_or EXP c 0) a) h.0 in
-    ((Decides-ltb c 255).0 h'.0, (Decides-eqb (get_or EXP c 0) a).0 h'.1 ∙ sym (zero-add a))
-logs_at a (c ∷ cs) e (suc i) l =
-    let h = both (ltb c 255 && eqb (get_or EXP c 0) a) (logs_hold (suc a) cs) e in
-    let r = logs_at (suc a) cs h.1 i (omega arith) in
-    (r.0, r.1 ∙ omega arith)
-
-logs_of : List ℕ → Bool
-logs_of [] = true
-logs_of (c ∷ cs) = logs_hold 1 cs
-
-log_test : logs_of LOG ≡ true
-unfolding logs_of logs_hold
-log_test = refl
-
-log_length : length LOG ≡ 256
-log_length = refl
-
-log_of_list : (cs : List ℕ) → logs_of cs ≡ true → (a : ℕ) → suc a < length cs
-    → (get_or cs (suc a) 0 < 255) × (get_or EXP (get_or cs (suc a) 0) 0 ≡ suc a)
-unfolding logs_of
-log_of_list [] e a l = absurd (omega arith)
-log_of_list (c ∷ cs) e a l = let r = logs_at 1 cs e a (omega arith) in (r.0, r.1 ∙ omega arith)
-
-pub log_lem : (a : ℕ) → a < 256 → a ≢ 0 → (get_or LOG a 0 < 255) × (gf_pow 2 (get_or LOG a 0) ≡ a)
-log_lem zero l n = absurd (n refl)
-log_lem (suc a) l n =
-    let r = log_of_list LOG log_test a (rw log_length l) in
-    (r.0, sym (exp_at_lem (get_or LOG (suc a) 0) (omega (arith, r.0))) ∙ r.1)
-
 pub pow_255 : gf_pow 2 255 ≡ 1
-pow_255 = sym (exp_at_lem 255 (omega arith))
+unfolding gf_pow gf_mul
+pow_255 = refl
 
-later_test : below (λ i. not (eqb (get_or EXP (suc i) 0) 1)) 254 ≡ true
-later_test = refl
+-- the factor 2 goes over to the power
+pub pow_double : (k x : ℕ) → gf_mul (gf_pow 2 k) (gf_mul 2 x) ≡ gf_mul (gf_pow 2 (suc k)) x
+pow_double k x = sym (gf_assoc (gf_pow 2 k) 2 x)
+    ∙ ap (λ (y : ℕ). gf_mul y x) (gf_comm (gf_pow 2 k) 2 ∙ sym (pow_suc 2 k))
+
+pub both : (p q : Bool) → (p && q) ≡ true → (p ≡ true) × (q ≡ true)
+both p q e = (Decides-and p q ((λ h. h), (λ h. h)) ((λ h. h), (λ h. h))).0 e
 
 not_true : (b : Bool) → not b ≡ true → b ≡ true → ⊥
 not_true true e h = cc
 not_true false e h = cc
 
+-- of x, 2 x, 4 x and so on, n of them, none is 1
+none_is_one : ℕ → ℕ → Bool
+none_is_one zero x = true
+none_is_one (suc n) x = not (eqb x 1) && none_is_one n (gf_mul 2 x)
+
+none_at : (n x k : ℕ) → x < 256 → none_is_one n x ≡ true → k < n → gf_mul (gf_pow 2 k) x ≢ 1
+unfolding none_is_one
+none_at zero x k b e l h = absurd (omega arith)
+none_at (suc n) x zero b e l h =
+    not_true (eqb x 1) (both (not (eqb x 1)) (none_is_one n (gf_mul 2 x)) e).0
+    ((Decides-eqb x 1).1 (sym (one_mul x b) ∙ ap (λ (y : ℕ). gf_mul y x) (sym (pow_zero 2)) ∙ h))
+none_at (suc n) x (suc k) b e l h =
+    none_at n (gf_mul 2 x) k (mul_below 2 x) (both (not (eqb x 1)) (none_is_one n (gf_mul 2 x)) e).1 (omega arith)
+    (pow_double k x ∙ h)
+
+none_test : none_is_one 254 2 ≡ true
+unfolding none_is_one gf_mul
+none_test = refl
+
 pub order_least : (k : ℕ) → 0 < k → k < 255 → gf_pow 2 k ≢ 1
 order_least zero p l e = absurd (omega arith)
 order_least (suc k) p l e =
-    not_true (eqb (get_or EXP (suc k) 0) 1) (checked (λ i. not (eqb (get_or EXP (suc i) 0) 1)) 254 later_test k
-    (omega arith))
-    ((Decides-eqb (get_or EXP (suc k) 0) 1).1 (exp_at_lem (suc k) (omega arith) ∙ e))
+    none_at 254 2 k (omega arith) none_test (omega arith) (gf_comm (gf_pow 2 k) 2 ∙ sym (pow_suc 2 k) ∙ e)
 
 -- 2 to the k has an inverse
 pub pow_inverse : (k : ℕ) → k ≤ 255 → gf_mul (gf_pow 2 k) (gf_pow 2 (255 - k)) ≡ 1
 pow_inverse k l = sym (pow_add 2 k (255 - k)) ∙ ap (gf_pow 2) (omega arith) ∙ pow_255
 
+-- the product of x, of its square, of the square of that and so on, n of them
+squares : ℕ → ℕ → ℕ
+squares zero x = 1
+squares (suc n) x = gf_mul x (squares n (gf_mul x x))
+
+-- a to the 254
+reciprocal : ℕ → ℕ
+reciprocal a = squares 7 (gf_mul a a)
+
+reciprocal_below : (a : ℕ) → reciprocal a < 256
+unfolding reciprocal squares
+reciprocal_below a = mul_below (gf_mul a a) (squares 6 (gf_mul (gf_mul a a) (gf_mul a a)))
+
+reciprocal_test : below (λ a. eqb (gf_mul (suc a) (reciprocal (suc a))) 1) 255 ≡ true
+unfolding reciprocal squares gf_mul
+reciprocal_test = refl
+
 pub inverse : (a : ℕ) → a < 256 → a ≢ 0 → (b : ℕ) × (b < 256) × (gf_mul a b ≡ 1)
-inverse a l n =
-    let h = log_lem a l n in
-    let k : ℕ = get_or LOG a 0 in (
-      gf_pow 2 (255 - k),
-      pow_below 2 (255 - k),
-      ap (λ (x : ℕ). gf_mul x (gf_pow 2 (255 - k))) (sym h.1)
-          ∙ pow_inverse k (omega (arith, h.0)),
-    )
+inverse zero l n = absurd (n refl)
+inverse (suc a) l n = (
+  reciprocal (suc a),
+  reciprocal_below (suc a),
+  (Decides-eqb (gf_mul (suc a) (reciprocal (suc a))) 1).0
+      (checked (λ x. eqb (gf_mul (suc x) (reciprocal (suc x))) 1) 255 reciprocal_test a (omega arith)),
+)
 
 pub mul_zero : (a : ℕ) → gf_mul a 0 ≡ 0
 mul_zero a = additive_zero (λ x. gf_mul a x) (additive_r a)

@@ -72,6 +72,11 @@ zero_mul a = gf_comm 0 a ∙ mul_zero a
 pub equal_from_add : (a b : ℕ) → gf_add a b ≡ 0 → a ≡ b
 equal_from_add a b e = sym (add_zero a) ∙ ap (gf_add a) (sym e) ∙ add_cancel a b
 
+-- the multiple by 0 adds nothing
+pub add_no_multiple : (a c b : ℕ) → c ≡ 0 → a ≡ gf_add a (gf_mul c b)
+add_no_multiple a c b e =
+    sym (ap (λ (x : ℕ). gf_add a (gf_mul x b)) e ∙ ap (gf_add a) (zero_mul b) ∙ add_zero a)
+
 pub ruleset sums = (add_assoc, add_comm, add_left_comm, add_self, add_cancel, zero_add, add_zero)
 
 pub ruleset ring = (

@@ -8,8 +8,10 @@ ghost use Rattle.code_spec.specs.Code.{value_of};
 ghost use Rattle.code_spec.specs.Polynomials.{poly};
 ghost use Rattle.code_spec.specs.Series.{times, plus, scale};
 
+pub mod laws;
+
 use arrayvec::ArrayVec;
-use gf256::{add, alpha_pow, inv, mul};
+use gf256::{add, inv, log, mul, mul_pow, mul_pow_by_bits};
 
 /// The value of `word` at `x`.
 pub fn value(word: &[u8], x: u8) -> u8
@@ -22,6 +24,19 @@ pub fn value(word: &[u8], x: u8) -> u8
     sum
 }
 
+/// Adds 2 to the `power` times `other` to the last symbols of `word`, from `start` on.
+fn add_multiple(word: &mut [u8], start: usize, power: u8, other: &[u8])
+    requires { start + length other.now ≡ length word.old }
+    ensures front { (k : ℕ) → k < start → slice_index word.new k ≡ slice_index word.old k }
+    ensures rest { (k : ℕ) → k < length other.now →
+        slice_index word.new (start + k)
+        ≡ gf_add (slice_index word.old (start + k)) (gf_mul (slice_index other.now k) (gf_pow 2 power)) }
+{
+    for i in 0..other.len() {
+        word[start + i] = add(word[start + i], mul_pow(other[i], power));
+    }
+}
+
 /// Adds `factor` times `other` to the last symbols of `word`, from `start` on.
 pub fn add_scaled(word: &mut [u8], start: usize, factor: u8, other: &[u8])
     requires { start + length other.now ≡ length word.old }
@@ -30,20 +45,73 @@ pub fn add_scaled(word: &mut [u8], start: usize, factor: u8, other: &[u8])
         slice_index word.new (start + k)
         ≡ gf_add (slice_index word.old (start + k)) (gf_mul factor (slice_index other.now k)) }
 {
-    for i in 0..other.len() {
-        word[start + i] = add(word[start + i], mul(factor, other[i]));
+    if factor == 0 {
+        return;
+    }
+    add_multiple(word, start, log(factor), other);
+}
+
+/// The values of a word at 2 to each of `logs` become those of the word followed by `symbol`.
+fn horner_step(values: &mut [u8], logs: &[u8], symbol: u8)
+    requires { length logs.now ≡ length values.old }
+    ensures { (k : ℕ) → k < length values.new → slice_index values.new k
+        ≡ gf_add (gf_mul (slice_index values.old k) (gf_pow 2 (slice_index logs.now k))) symbol }
+{
+    for k in 0..values.len() {
+        values[k] = add(mul_pow(values[k], logs[k]), symbol);
     }
 }
 
-/// The value of `word` with `start` before it.
-fn value_on(start: u8, word: &[u8], x: u8) -> u8
-    ensures { result ≡ gf_add (gf_mul start (gf_pow x (length word.now))) (value_of word.now x) }
+/// The values of a word at 2 to each of `logs` become those of the word followed by `more`.
+fn values_on(more: &[u8], logs: &[u8], values: &mut [u8])
+    requires { length logs.now ≡ length values.old }
+    ensures { (k : ℕ) → k < length values.new → let x = gf_pow 2 (slice_index logs.now k) in slice_index values.new k
+        ≡ gf_add (gf_mul (slice_index values.old k) (gf_pow x (length more.now))) (value_of more.now x) }
 {
-    let mut sum = start;
-    for c in word {
-        sum = add(mul(sum, x), *c);
+    for c in more {
+        horner_step(values, logs, *c);
     }
-    sum
+}
+
+/// The values of `word` at 2 to each of `logs`.
+pub fn values_at(word: &[u8], logs: &[u8], out: &mut [u8])
+    requires { length logs.now ≡ length out.old }
+    ensures { (k : ℕ) → k < length out.new
+        → slice_index out.new k ≡ value_of word.now (gf_pow 2 (slice_index logs.now k)) }
+{
+    out.fill(0);
+    values_on(word, logs, out);
+}
+
+/// The values of a word at 2 to the `log`, the next power and so on become those of the word followed by `symbol`.
+fn rising_step(values: &mut [u8], log: usize, symbol: u8)
+    requires { log + length values.old ≤ 502 }
+    ensures { (k : ℕ) → k < length values.new → slice_index values.new k
+        ≡ gf_add (gf_mul (slice_index values.old k) (gf_pow 2 (log + k))) symbol }
+{
+    for k in 0..values.len() {
+        values[k] = add(mul_pow_by_bits(values[k], log + k), symbol);
+    }
+}
+
+/// The values of a word at 2 to the `log`, the next power and so on become those of the word followed by `more`.
+fn rising_values_on(more: &[u8], log: usize, values: &mut [u8])
+    requires { log + length values.old ≤ 502 }
+    ensures { (k : ℕ) → k < length values.new → let x = gf_pow 2 (log + k) in slice_index values.new k
+        ≡ gf_add (gf_mul (slice_index values.old k) (gf_pow x (length more.now))) (value_of more.now x) }
+{
+    for c in more {
+        rising_step(values, log, *c);
+    }
+}
+
+/// The values of `word` at 2 to the `log`, the next power and so on. A multiple of 16 values is fastest.
+pub fn rising_values(word: &[u8], log: usize, out: &mut [u8])
+    requires { log + length out.old ≤ 502 }
+    ensures { (k : ℕ) → k < length out.new → slice_index out.new k ≡ value_of word.now (gf_pow 2 (log + k)) }
+{
+    out.fill(0);
+    rising_values_on(word, log, out);
 }
 
 /// The values of `msg` and then `par`, as one word, at 2 to the 0, 1 and so on: `out[i]` is that at 2 to the i.
@@ -52,10 +120,14 @@ pub fn syndromes(msg: &[u8], par: &[u8], out: &mut [u8])
     requires fits { length msg.now + length par.now ≤ 255 }
     ensures { (i : ℕ) → i < length out.new → slice_index out.new i ≡ value_of (msg.now ++ par.now) (gf_pow 2 i) }
 {
-    for i in 0..out.len() {
-        let x = alpha_pow(i as u8);
-        out[i] = value_on(value(msg, x), par, x);
-    }
+    // the loop over values works on vectors of 16
+    let lanes = out.len().div_ceil(16) * 16;
+    let mut buffer = [0u8; 256];
+    let values = &mut buffer[..lanes];
+    rising_values(msg, 0, values);
+    rising_values_on(par, 0, values);
+    let count = out.len();
+    out.copy_from_slice(&values[..count]);
 }
 
 /// The product of `a` and `b`.

@@ -1,34 +1,36 @@
 //! Parity of a message in the Reed-Solomon code whose generator has the roots 2^0 .. 2^(r-1).
 #![tactic(auto)]
 
-ghost use Rattle.std.specs.Prelude.{◌≡◌, ◌+◌, ◌*◌, ◌≤◌, ◌<◌, ℕ, List, ◌++◌, ◌∷◌, [], length, slice_index, take, drop};
+ghost use Rattle.std.specs.Prelude.{◌≡◌, ◌+◌, ◌*◌, ◌/◌, ◌%◌, ◌^◌, ◌≤◌, ◌<◌, ℕ, ◌++◌, ◌∷◌, [], length, slice_index, drop, bit_xor, ◌↔◌, IsTrue};
 ghost use Rattle.code_spec.specs.Field.{gf_add, gf_mul};
 ghost use Rattle.code_spec.specs.Code.{IsCodeword, parity_of};
-ghost use Rattle.rs_encode.specs.Generator.{IsGenerator, IsRows};
+ghost use Rattle.rs_encode.specs.Generator.{IsGenerator};
+ghost use Rattle.rs_encode.specs.Lanes.{IsMultiple, IsColumn, IsRest, IsTable, HoldLanes, HoldsLane};
 
 use arrayvec::ArrayVec;
 use gf256::{add, alpha_pow, mul};
 use std::marker::Model;
 
-/// The encoder for `r` parity symbols: the generator, and its multiples by each low and each high half of a byte.
-/// It holds some 4 KiB; a caller with many messages keeps one.
+/// The encoder for `r` parity symbols. It holds 4 KiB; a caller with many messages keeps one.
+///
+/// The rest of a message stands in lanes of 16 symbols, the first symbol in the highest byte. Up to 16 symbols are one
+/// lane, and the table has the generator's multiple by each byte. More symbols are several lanes, and for each of them
+/// the table has the multiples by each low and by each high half of a byte.
 #[derive(Drop)]
 pub struct Parity {
-    generator: ArrayVec<u8, 128>,
-    low: [u8; 2048],
-    high: [u8; 2048],
+    r: usize,
+    table: [u128; 256],
 }
 
 impl Model for Parity {
-    ghost use Rattle.std.specs.Prelude.{ℕ, ◌-◌, length};
-    ghost use Rattle.rs_encode.specs.Generator.{IsGenerator, IsRows};
+    ghost use Rattle.std.specs.Prelude.{ℕ};
+    ghost use Rattle.rs_encode.specs.Lanes.{IsTable};
 
     ghost Value = { ℕ };
 
-    ghost view = { λ p. length p.generator.items - 1 };
+    ghost view = { λ p. p.r };
 
-    ghost invariant = { λ p. IsGenerator p.generator.items × IsRows 1 p.generator.items p.low
-        × IsRows 16 p.generator.items p.high };
+    ghost invariant = { λ p. IsTable p.r p.table };
 }
 
 /// Multiplies the polynomial, whose last coefficient is 0, by x plus `root`, and divides it by x.
@@ -59,65 +61,169 @@ fn generator_of(r: usize) -> ArrayVec<u8, 128>
     generator
 }
 
-/// Stores `factor` times the generator but for its first coefficient, from `start` on.
-fn fill_row(rows: &mut [u8], start: usize, factor: u8, generator: &[u8])
-    requires some { 0 < length generator.now }
-    requires fits { start + length generator.now ≤ length rows.old + 1 }
-    ensures row { (k : ℕ) → k + 1 < length generator.now
-        → slice_index rows.new (start + k) ≡ gf_mul factor (slice_index generator.now (k + 1)) }
-    ensures before { (k : ℕ) → k < start → slice_index rows.new k ≡ slice_index rows.old k }
+/// The symbol at `k`, or 0 past the end.
+fn symbol_or_zero(symbols: &[u8], k: usize) -> u8
+    ensures { result ≡ slice_index symbols.now k }
 {
-    for k in 0..generator.len() - 1 {
-        rows[start + k] = mul(factor, generator[k + 1]);
+    if k < symbols.len() { symbols[k] } else { 0 }
+}
+
+/// The lane of `factor` times the first 16 of `symbols`.
+fn lane_of(factor: u8, symbols: &[u8]) -> u128
+    ensures { IsMultiple factor symbols.now result }
+{
+    let mut lane = 0u128;
+    for k in 0..16usize {
+        lane = (lane << 8u32) ^ u128::from(mul(factor, symbol_or_zero(symbols, k)));
+    }
+    lane
+}
+
+/// Stores the sums of `row` and each of the `count` rows from `start` on, after those rows.
+fn double_rows(table: &mut [u128], start: usize, count: usize, row: u128)
+    requires count { count ≤ 128 }
+    requires fits { start + 2 * count ≤ length table.old }
+    ensures sums { (f : ℕ) → f < count →
+        slice_index table.new (start + count + f) ≡ bit_xor (slice_index table.old (start + f)) row }
+    ensures before { (k : ℕ) → k < start + count → slice_index table.new k ≡ slice_index table.old k }
+    ensures after { (k : ℕ) → start + 2 * count ≤ k → slice_index table.new k ≡ slice_index table.old k }
+{
+    for f in 0..count {
+        table[start + count + f] = table[start + f] ^ row;
     }
 }
 
-/// The multiples of the generator by 0 to 15 times `scale`, each at a multiple of 128.
-fn rows_of(generator: &[u8], scale: u8) -> [u8; 2048]
+/// Stores the multiples of `symbols` by each number below 2^bits times 2^shift, from `start` on, where a 0 stands.
+fn fill_column(table: &mut [u128], start: usize, bits: u32, shift: u32, symbols: &[u8])
+    requires byte { bits + shift ≤ 8 }
+    requires fits { start + 2 ^ bits ≤ length table.old }
+    requires zero { slice_index table.old start ≡ 0 }
+    ensures column { IsColumn start (2 ^ bits) shift symbols.now table.new }
+    ensures before { (k : ℕ) → k < start → slice_index table.new k ≡ slice_index table.old k }
+    ensures after { (k : ℕ) → start + 2 ^ bits ≤ k → slice_index table.new k ≡ slice_index table.old k }
+{
+    for bit in 0..bits {
+        let row = lane_of(1u8 << (bit + shift), symbols);
+        double_rows(table, start, 1usize << bit, row);
+    }
+}
+
+/// The generator's multiples by each byte.
+fn byte_table(generator: &[u8]) -> [u128; 256]
+    requires { 0 < length generator.now }
+    ensures { IsColumn 0 256 0 (drop 1 generator.now) result }
+{
+    let mut table = [0u128; 256];
+    fill_column(&mut table, 0, 8, 0, &generator[1..]);
+    table
+}
+
+/// For each 16 of the generator's coefficients after the first, their multiples by low and by high halves of bytes.
+fn half_table(generator: &[u8]) -> [u128; 256]
     requires some { 0 < length generator.now }
     requires fits { length generator.now ≤ 128 }
-    requires scale { scale ≤ 16 }
-    ensures { IsRows scale generator.now result }
+    ensures low { (j : ℕ) → 16 * j + 1 < length generator.now →
+        IsColumn (32 * j) 16 0 (drop (16 * j + 1) generator.now) result }
+    ensures high { (j : ℕ) → 16 * j + 1 < length generator.now →
+        IsColumn (32 * j + 16) 16 4 (drop (16 * j + 1) generator.now) result }
 {
-    let mut rows = [0u8; 2048];
-    for f in 0..16u8 {
-        fill_row(&mut rows, 128 * f as usize, f * scale, generator);
+    let mut table = [0u128; 256];
+    let count = (generator.len() - 1).div_ceil(16);
+    for j in 0..count {
+        let symbols = &generator[16 * j + 1..];
+        fill_column(&mut table, 32 * j, 4, 0, symbols);
+        fill_column(&mut table, 32 * j + 16, 4, 4, symbols);
     }
-    rows
+    table
 }
 
-fn row(rows: &[u8], index: u8, r: usize) -> &[u8]
-    requires index { index < 16 }
-    requires fits { r ≤ 128 }
-    requires len { length rows.now ≡ 2048 }
-    ensures { result.now ≡ take r (drop (128 * index) rows.now) }
+/// The table of the generator.
+fn table_of(generator: &[u8]) -> [u128; 256]
+    requires { IsGenerator generator.now }
+    ensures { (r : ℕ) → length generator.now ≡ r + 1 → IsTable r result }
 {
-    let start = 128 * index as usize;
-    &rows[start..start + r]
+    if generator.len() <= 17 {
+        byte_table(generator)
+    } else {
+        half_table(generator)
+    }
 }
 
-/// Shifts `word` to the left and adds `low` and `high`.
-fn shift_step(word: &mut [u8], low: &[u8], high: &[u8])
-    requires some { 0 < length word.old }
-    requires low { length low.now ≡ length word.old }
-    requires high { length high.now ≡ length word.old }
-    ensures { (k : ℕ) → k < length word.new →
-        slice_index word.new k
-        ≡ gf_add (slice_index word.old (k + 1)) (gf_add (slice_index low.now k) (slice_index high.now k)) }
+/// `lane` moved on by one byte, then the first byte of `next`; `row` is added.
+fn moved_lane(lane: u128, next: u128, row: u128) -> u128
+    ensures { result ≡ bit_xor (bit_xor (lane * 2 ^ 8 % 2 ^ 128) (next / 2 ^ 120)) row }
 {
-    let last = word.len() - 1;
-    for i in 0..last {
-        word[i] = add(word[i + 1], add(low[i], high[i]));
-    }
-    word[last] = add(low[last], high[last]);
+    ((lane << 8u32) ^ (next >> 120u32)) ^ row
 }
 
-fn clear(word: &mut [u8])
-    ensures { (k : ℕ) → k < length word.new → slice_index word.new k ≡ 0 }
+/// Moves the first `count` lanes on by one byte, and adds the rows of `factor`.
+fn move_lanes(table: &[u128], factor: u8, count: usize, lanes: &mut [u128])
+    requires table { length table.now ≡ 256 }
+    requires count { count ≤ 8 }
+    requires fits { count < length lanes.old }
+    ensures moved { (j : ℕ) → j < count → slice_index lanes.new j
+        ≡ bit_xor (bit_xor (slice_index lanes.old j * 2 ^ 8 % 2 ^ 128) (slice_index lanes.old (j + 1) / 2 ^ 120))
+        (bit_xor (slice_index table.now (32 * j + factor % 16)) (slice_index table.now (32 * j + 16 + factor / 16))) }
+    ensures rest { (j : ℕ) → count ≤ j → slice_index lanes.new j ≡ slice_index lanes.old j }
+    ensures fits { (j : ℕ) → slice_index lanes.new j < 2 ^ 128 }
 {
-    for x in word.iter_mut() {
-        *x = 0;
+    let low = (factor % 16) as usize;
+    let high = (factor / 16) as usize;
+    for j in 0..count {
+        let row = table[32 * j + low] ^ table[32 * j + 16 + high];
+        lanes[j] = moved_lane(lanes[j], lanes[j + 1], row);
     }
+}
+
+/// Stores the bytes of `lane`, the highest first, from `start` on, as far as there is room.
+fn write_lane(lane: u128, start: usize, out: &mut [u8])
+    requires { start ≤ length out.old }
+    ensures bytes { HoldsLane lane start out.new }
+    ensures before { (k : ℕ) → k < start → slice_index out.new k ≡ slice_index out.old k }
+{
+    let bytes = lane.to_be_bytes();
+    let count = (out.len() - start).min(16);
+    for k in 0..count {
+        out[start + k] = bytes[k];
+    }
+}
+
+/// Makes `out` the bytes of the lanes, as far as there is room.
+fn write_lanes(lanes: &[u128], out: &mut [u8])
+    requires { length out.old ≤ 16 * length lanes.now }
+    ensures { HoldLanes lanes.now out.new }
+{
+    for j in 0..out.len().div_ceil(16) {
+        write_lane(lanes[j], 16 * j, out);
+    }
+}
+
+/// Whether the bytes of `lane`, the highest first, stand in `symbols` from `start` on, as far as there is room.
+fn has_lane(lane: u128, start: usize, symbols: &[u8]) -> bool
+    requires { start ≤ length symbols.now }
+    ensures { IsTrue result ↔ HoldsLane lane start symbols.now }
+{
+    let bytes = lane.to_be_bytes();
+    let count = (symbols.len() - start).min(16);
+    for k in 0..count {
+        if symbols[start + k] != bytes[k] {
+            return false;
+        }
+    }
+    true
+}
+
+/// Whether `symbols` are the bytes of the lanes, as far as there is room.
+fn has_lanes(lanes: &[u128], symbols: &[u8]) -> bool
+    requires { length symbols.now ≤ 16 * length lanes.now }
+    ensures { IsTrue result ↔ HoldLanes lanes.now symbols.now }
+{
+    for j in 0..symbols.len().div_ceil(16) {
+        if !has_lane(lanes[j], 16 * j, symbols) {
+            return false;
+        }
+    }
+    true
 }
 
 impl Parity {
@@ -128,26 +234,73 @@ impl Parity {
         ensures { result ≡ r }
     {
         let generator = generator_of(r);
-        let low = rows_of(generator.as_slice(), 1);
-        let high = rows_of(generator.as_slice(), 16);
-        Parity {
-            generator,
-            low,
-            high,
-        }
+        let table = table_of(generator.as_slice());
+        Parity { r, table }
     }
 
-    /// Takes the rest of a message to the rest of the message with `symbol` behind it.
-    fn step(&self, symbol: u8, rest: &mut [u8])
-        requires { length rest.old ≡ self.now }
-        ensures { (w : List ℕ) → IsCodeword self.now (w ++ rest.old)
-            → IsCodeword self.now ((w ++ symbol ∷ []) ++ rest.new) }
+    /// The rest of `msg` in one lane.
+    fn rest_in_lane(&self, msg: &[u8]) -> u128
+        requires { self.now ≤ 16 }
+        ensures { IsRest self.now msg.now (result ∷ []) }
     {
-        let r = self.generator.len() - 1;
-        let factor = add(symbol, rest[0]);
-        let low = row(&self.low, factor % 16, r);
-        let high = row(&self.high, factor / 16, r);
-        shift_step(rest, low, high);
+        let mut rest = 0u128;
+        for c in msg {
+            let factor = add(*c, (rest >> 120u32) as u8);
+            rest = (rest << 8u32) ^ self.table[factor as usize];
+        }
+        rest
+    }
+
+    /// The rests of two messages, each in one lane. The two chains of work run side by side.
+    fn rest_pair(&self, a: &[u8], b: &[u8]) -> (u128, u128)
+        requires narrow { self.now ≤ 16 }
+        requires same { length b.now ≡ length a.now }
+        ensures a { IsRest self.now a.now (result.0 ∷ []) }
+        ensures b { IsRest self.now b.now (result.1 ∷ []) }
+    {
+        let mut rest_a = 0u128;
+        let mut rest_b = 0u128;
+        for i in 0..a.len() {
+            let factor_a = add(a[i], (rest_a >> 120u32) as u8);
+            rest_a = (rest_a << 8u32) ^ self.table[factor_a as usize];
+            let factor_b = add(b[i], (rest_b >> 120u32) as u8);
+            rest_b = (rest_b << 8u32) ^ self.table[factor_b as usize];
+        }
+        (rest_a, rest_b)
+    }
+
+    /// The rest of `msg` in `count` lanes. It is inlined so that a fixed number of lanes stays in registers.
+    #[inline(always)]
+    fn rest_by(&self, msg: &[u8], count: usize) -> [u128; 9]
+        requires more { 16 < self.now }
+        requires enough { self.now ≤ 16 * count }
+        requires few { 16 * count < self.now + 16 }
+        ensures { IsRest self.now msg.now result }
+    {
+        let mut lanes = [0u128; 9];
+        for c in msg {
+            let factor = add(*c, (lanes[0] >> 120u32) as u8);
+            move_lanes(&self.table, factor, count, &mut lanes);
+        }
+        lanes
+    }
+
+    /// The rest of `msg`, in as many lanes as it needs.
+    fn rest_in_lanes(&self, msg: &[u8]) -> [u128; 9]
+        requires { 16 < self.now }
+        ensures { IsRest self.now msg.now result }
+    {
+        if self.r <= 32 {
+            self.rest_by(msg, 2)
+        } else if self.r <= 48 {
+            self.rest_by(msg, 3)
+        } else if self.r <= 64 {
+            self.rest_by(msg, 4)
+        } else if self.r <= 112 {
+            self.rest_by(msg, self.r.div_ceil(16))
+        } else {
+            self.rest_by(msg, 8)
+        }
     }
 
     /// Makes `out` the parity of `msg`.
@@ -156,9 +309,42 @@ impl Parity {
         requires fits { length msg.now + self.now ≤ 255 }
         ensures { out.new ≡ parity_of self.now msg.now }
     {
-        clear(out);
-        for c in msg {
-            self.step(*c, out);
+        if self.r <= 16 {
+            write_lanes(&[self.rest_in_lane(msg)], out);
+        } else {
+            write_lanes(&self.rest_in_lanes(msg), out);
+        }
+    }
+
+    /// Makes `out_a` the parity of `a` and `out_b` that of `b`. Up to 16 parity symbols this is faster than two calls.
+    pub fn parity_pair(&self, a: &[u8], b: &[u8], out_a: &mut [u8], out_b: &mut [u8])
+        requires len_a { length out_a.old ≡ self.now }
+        requires len_b { length out_b.old ≡ self.now }
+        requires same { length b.now ≡ length a.now }
+        requires fits { length a.now + self.now ≤ 255 }
+        ensures a { out_a.new ≡ parity_of self.now a.now }
+        ensures b { out_b.new ≡ parity_of self.now b.now }
+    {
+        if self.r <= 16 {
+            let rests = self.rest_pair(a, b);
+            write_lanes(&[rests.0], out_a);
+            write_lanes(&[rests.1], out_b);
+        } else {
+            self.parity(a, out_a);
+            self.parity(b, out_b);
+        }
+    }
+
+    /// Whether `par` is the parity of `msg`.
+    pub fn is_parity(&self, msg: &[u8], par: &[u8]) -> bool
+        requires len { length par.now ≡ self.now }
+        requires fits { length msg.now + self.now ≤ 255 }
+        ensures { IsTrue result ↔ IsCodeword self.now (msg.now ++ par.now) }
+    {
+        if self.r <= 16 {
+            has_lanes(&[self.rest_in_lane(msg)], par)
+        } else {
+            has_lanes(&self.rest_in_lanes(msg), par)
         }
     }
 }
@@ -173,8 +359,16 @@ mod tests {
         assert!(rt; 1 <= r && r <= 127, "at most 127 parity symbols");
         assert!(rt; msg.len() + r <= 255, "at most 255 symbols");
         let mut out = [7u8; 127];
-        Parity::new(r).parity(msg, &mut out[..r]);
+        let coder = Parity::new(r);
+        coder.parity(msg, &mut out[..r]);
         assert_eq!(rt; &out[..r], want, "at {r}");
+        assert!(rt; coder.is_parity(msg, &out[..r]), "its own parity at {r}");
+        let mut other = [9u8; 127];
+        coder.parity_pair(msg, msg, &mut out[..r], &mut other[..r]);
+        assert_eq!(rt; &out[..r], want, "first of two at {r}");
+        assert_eq!(rt; &other[..r], want, "second of two at {r}");
+        other[r - 1] ^= 1;
+        assert!(rt; !coder.is_parity(msg, &other[..r]), "other parity at {r}");
     }
 
     /// 11, 48, 85 and so on, each 37 more than the last.

@@ -2,20 +2,20 @@
 //! syndromes, a search of the word's own places, and Forney's masks.
 #![tactic(auto)]
 
-ghost use Rattle.std.specs.Prelude.{◌≡◌, ◌≢◌, ◌+◌, ◌-◌, ◌/◌, ◌≤◌, ◌<◌, ◌↔◌, ℕ, ◌++◌, ◌∷◌, length, slice_index, take, reverse, replicate, List, true, false, IsTrue, IfSome, IfNone, unwrap_or};
-ghost use Rattle.code_spec.specs.Field.{gf_mul, gf_pow};
+ghost use Rattle.std.specs.Prelude.{◌≡◌, ◌≢◌, ◌+◌, ◌-◌, ◌/◌, ◌≤◌, ◌<◌, ◌↔◌, ℕ, ◌++◌, ◌∷◌, length, slice_index, take, drop, reverse, List, true, false, IsTrue, IfSome, IfNone, unwrap_or};
+ghost use Rattle.code_spec.specs.Field.{gf_add, gf_mul, gf_pow};
 ghost use Rattle.code_spec.specs.Code.{value_of, distance, nearest, parity_of};
 ghost use Rattle.code_spec.specs.Polynomials.{poly};
-ghost use Rattle.code_spec.specs.Series.{Bytes};
+ghost use Rattle.code_spec.specs.Series.{shift, one, Bytes};
 ghost use Rattle.code_laws.proofs.Symbols.{HasRoots, IsAdded};
 ghost use Rattle.rs_errors.specs.Decoding.{decoded_by, fixes_by};
 ghost use Rattle.rs_errors.specs.Places.{roots_of, gap_ratio};
 ghost use Rattle.rs_errors.specs.Fixes.{Below255, IsFix, AreFixes, AllInside, fixes_from, PowersBelow, IsDamage, applied, IsWithin, fixes_between};
-ghost use Rattle.rs_errors.specs.Euclid.{IsStep, IsSolution};
+ghost use Rattle.rs_errors.specs.Euclid.{IsStep, IsSolution, LeadingZeros};
 
 use arrayvec::ArrayVec;
-use gf_poly::{add_scaled, divide, product, syndromes, value};
-use gf256::{add, alpha_pow, inv, mul};
+use gf_poly::{rising_values, syndromes, values_at};
+use gf256::{add, antilog, inv, log, mul, mul_pow_by_bits, pow_ratio};
 use rs_encode::Parity;
 
 /// A place of a word, from 0 at its first symbol on, and the mask that corrects it by exclusive-or, which is not 0.
@@ -36,104 +36,214 @@ pub enum Decoded {
     Bad,
 }
 
-/// A remainder of Euclid's algorithm, and the factor of the syndromes in it.
+/// What Euclid's algorithm finds, up to a factor: the locator, and the evaluator with no leading zeros.
 #[derive(Drop)]
-struct Row {
-    rest: ArrayVec<u8, 255>,
-    factor: ArrayVec<u8, 255>,
+struct Solution {
+    locator: ArrayVec<u8, 64>,
+    evaluator: ArrayVec<u8, 64>,
 }
 
-/// Takes leading zeros away.
-fn trim(word: &mut ArrayVec<u8, 255>)
-    ensures same { poly word.new.items ≡ poly word.old.items }
-    ensures len { length word.new.items ≤ length word.old.items }
-    ensures leading { 0 < length word.new.items → slice_index word.new.items 0 ≢ 0 }
+/// The place of the first symbol that is not zero, after `start` zeros, or the length.
+fn leading(word: &[u8], start: usize) -> usize
+    requires start { start ≤ length word.now }
+    requires zeros { LeadingZeros start word.now }
+    ensures after { start ≤ result }
+    ensures within { result ≤ length word.now }
+    ensures zeros { LeadingZeros result word.now }
+    ensures some { result < length word.now → slice_index word.now result ≢ 0 }
 {
-    while word.len() > 0 && word[0] == 0 {
-        word.remove(0);
+    for i in start..word.len() {
+        if word[i] != 0 {
+            return i;
+        }
+    }
+    word.len()
+}
+
+/// Adds 2 to the `power` times `other`, shifted to the left by `shift`, to `word`; `other` has `start` leading zeros.
+fn add_shifted_multiple(word: &mut [u8], shift: usize, power: u8, other: &[u8], start: usize)
+    requires len { length other.now ≡ length word.old }
+    requires inside { start ≤ length other.now }
+    requires room { shift + 15 ≤ start }
+    requires zeros { LeadingZeros start other.now }
+    ensures { (k : ℕ) → k < length word.new → slice_index word.new k
+        ≡ gf_add (slice_index word.old k) (gf_mul (slice_index other.now (k + shift)) (gf_pow 2 power)) }
+{
+    // whole vectors of 16 symbols
+    let lanes = (other.len() - start).div_ceil(16) * 16;
+    for i in other.len() - lanes..other.len() {
+        word[i - shift] = add(word[i - shift], mul_pow_by_bits(other[i], power as usize));
     }
 }
 
-fn next_row(old: &Row, new: &Row) -> Row
-    requires some { 0 < length new.now.rest.items }
-    requires falls { length new.now.rest.items < length old.now.rest.items }
-    requires leading { slice_index new.now.rest.items 0 ≢ 0 }
-    requires factor { 0 < length new.now.factor.items }
-    requires grows { length old.now.factor.items ≤ length new.now.factor.items }
-    requires fits { length old.now.rest.items + length new.now.factor.items ≤ 256 }
-    requires bytes { Bytes (poly old.now.factor.items) }
-    ensures step { IsStep (poly old.now.rest.items) (poly old.now.factor.items) (poly new.now.rest.items)
-        (poly new.now.factor.items) (poly result.rest.items) (poly result.factor.items) }
-    ensures falls { length result.rest.items < length new.now.rest.items }
-    ensures leading { 0 < length result.rest.items → slice_index result.rest.items 0 ≢ 0 }
-    ensures factor { length result.factor.items + length new.now.rest.items
-        ≡ length old.now.rest.items + length new.now.factor.items }
+/// Adds `factor` times `other`, shifted to the left by `shift`, to `word`; `other` has `start` leading zeros.
+fn add_shifted(word: &mut [u8], shift: usize, factor: u8, other: &[u8], start: usize)
+    requires len { length other.now ≡ length word.old }
+    requires inside { start ≤ length other.now }
+    requires room { shift + 15 ≤ start }
+    requires zeros { LeadingZeros start other.now }
+    ensures { (k : ℕ) → k < length word.new → slice_index word.new k
+        ≡ gf_add (slice_index word.old k) (gf_mul factor (slice_index other.now (k + shift))) }
 {
-    let mut quotient: ArrayVec<u8, 255> = ArrayVec::new();
-    let mut rest: ArrayVec<u8, 255> = ArrayVec::new();
-    let mut factor: ArrayVec<u8, 255> = ArrayVec::new();
-    divide(
-        old.rest.as_slice(),
-        new.rest.as_slice(),
-        &mut quotient,
-        &mut rest,
-    );
-    trim(&mut rest);
-    product(quotient.as_slice(), new.factor.as_slice(), &mut factor);
-    let start = factor.len() - old.factor.len();
-    add_scaled(factor.as_mut_slice(), start, 1, old.factor.as_slice());
-    Row { rest, factor }
-}
-
-fn power(n: usize) -> ArrayVec<u8, 255>
-    requires { n ≤ 254 }
-    ensures len { length result.items ≡ n + 1 }
-    ensures value { result.items ≡ 1 ∷ replicate n 0 }
-{
-    let mut word: ArrayVec<u8, 255> = ArrayVec::new();
-    word.push(1);
-    for _ in 0..n {
-        word.push(0);
+    if factor == 0 {
+        return;
     }
-    word
+    add_shifted_multiple(word, shift, log(factor), other, start);
 }
 
-fn reversed(word: &[u8]) -> ArrayVec<u8, 255>
-    requires { length word.now ≤ 255 }
-    ensures { result.items ≡ reverse word.now }
+fn symbol(word: &[u8], place: usize) -> u8
+    requires { place < length word.now }
+    ensures { result ≡ slice_index word.now place }
 {
-    let mut out: ArrayVec<u8, 255> = ArrayVec::new();
+    word[place]
+}
+
+/// Divides the rest of the old row, which begins at `from`, by that of the new row, which begins at `to`, and takes the
+/// quotient's multiple of the new factor from the old one. Each row has 15 zeros more in front than it needs, room for
+/// whole vectors.
+fn reduce(
+    old_rest: &mut [u8],
+    old_factor: &mut [u8],
+    new_rest: &[u8],
+    new_factor: &[u8],
+    from: usize,
+    to: usize,
+)
+    requires rests { length new_rest.now ≡ length old_rest.old }
+    requires factors { length new_factor.now ≡ length old_factor.old }
+    requires padded { 15 ≤ from }
+    requires order { from ≤ to }
+    requires inside { to < length new_rest.now }
+    requires room { to < length new_factor.now }
+    requires leading { slice_index new_rest.now to ≢ 0 }
+    requires old_zeros { LeadingZeros from old_rest.old }
+    requires new_zeros { LeadingZeros to new_rest.now }
+    requires old_room { LeadingZeros (length new_factor.now + 14 - from) old_factor.old }
+    requires new_room { LeadingZeros (length new_factor.now + 14 - from) new_factor.now }
+    ensures step { IsStep (poly old_rest.old) (poly old_factor.old) (poly new_rest.now) (poly new_factor.now)
+        (poly old_rest.new) (poly old_factor.new) }
+    ensures zeros { LeadingZeros (to + 1) old_rest.new }
+    ensures room { LeadingZeros (length new_factor.now + 14 - to) old_factor.new }
+{
+    let inverse = inv(new_rest[to]);
+    let start = new_factor.len() + 14 - from;
+    for k in from..to + 1 {
+        let factor = mul(symbol(old_rest, k), inverse);
+        add_shifted(old_rest, to - k, factor, new_rest, to);
+        add_shifted(old_factor, to - k, factor, new_factor, start);
+    }
+}
+
+/// Makes a word of zeros zero but for a 1 at `place`.
+fn single(word: &mut [u8], place: usize)
+    requires inside { place < length word.old }
+    requires zeros { (k : ℕ) → k < length word.old → slice_index word.old k ≡ 0 }
+    ensures one { slice_index word.new place ≡ 1 }
+    ensures zeros { (k : ℕ) → k < length word.new → k ≢ place → slice_index word.new k ≡ 0 }
+{
+    word[place] = 1;
+}
+
+/// Stores the symbols of `word`, the last one first, after 16 zeros.
+fn reverse_into(word: &[u8], out: &mut [u8])
+    requires len { length out.old ≡ length word.now + 16 }
+    requires zeros { LeadingZeros 16 out.old }
+    ensures zeros { LeadingZeros 16 out.new }
+    ensures rest { drop 16 out.new ≡ reverse word.now }
+{
     for i in 0..word.len() {
-        out.push(word[word.len() - 1 - i]);
+        out[16 + i] = word[word.len() - 1 - i];
+    }
+}
+
+fn tail(word: &[u8], start: usize) -> ArrayVec<u8, 64>
+    requires start { start ≤ length word.now }
+    requires fits { length word.now ≤ start + 64 }
+    ensures { result.items ≡ drop start word.now }
+{
+    let mut out: ArrayVec<u8, 64> = ArrayVec::new();
+    for i in start..word.len() {
+        out.push(word[i]);
     }
     out
 }
 
+/// The solution in a row whose rest begins at `to`. The rest of the row before it begins at `from`.
+fn trimmed(factor: &[u8], rest: &[u8], from: usize, to: usize) -> Solution
+    requires padded { 15 ≤ from }
+    requires from { from < length factor.now }
+    requires fits { length factor.now ≤ 79 }
+    requires to { to ≤ length rest.now }
+    requires short { length rest.now ≤ to + 64 }
+    ensures locator { result.locator.items ≡ drop (length factor.now + 14 - from) factor.now }
+    ensures evaluator { result.evaluator.items ≡ drop to rest.now }
+{
+    Solution {
+        locator: tail(factor, factor.len() + 14 - from),
+        evaluator: tail(rest, to),
+    }
+}
+
+/// Euclid's algorithm, in place, on two rows, each of a rest and the factor of the syndromes in it.
+fn euclid(
+    t: usize,
+    rest_a: &mut [u8],
+    factor_a: &mut [u8],
+    rest_b: &mut [u8],
+    factor_b: &mut [u8],
+) -> Solution
+    requires some { 0 < t }
+    requires fits { t ≤ 63 }
+    requires len_a { length rest_a.old ≡ t + t + 16 }
+    requires len_b { length rest_b.old ≡ t + t + 16 }
+    requires len_factor_a { length factor_a.old ≡ t + 16 }
+    requires len_factor_b { length factor_b.old ≡ t + 16 }
+    requires power { poly rest_a.old ≡ shift (t + t) one }
+    requires power_zeros { LeadingZeros 15 rest_a.old }
+    requires syndromes { LeadingZeros 16 rest_b.old }
+    requires bytes { Bytes (poly rest_b.old) }
+    requires none { LeadingZeros (t + 16) factor_a.old }
+    requires one { poly factor_b.old ≡ one }
+    requires one_zeros { LeadingZeros (t + 15) factor_b.old }
+    ensures { IsSolution t (poly rest_b.old) result.locator.items result.evaluator.items }
+{
+    let mut a = 15;
+    let mut b = leading(rest_b, 16);
+    while b <= t + 15 {
+        reduce(rest_a, factor_a, rest_b, factor_b, a, b);
+        a = leading(rest_a, b + 1);
+        if a > t + 15 {
+            return trimmed(factor_a, rest_a, b, a);
+        }
+        reduce(rest_b, factor_b, rest_a, factor_a, b, a);
+        b = leading(rest_b, a + 1);
+    }
+    trimmed(factor_b, rest_b, a, b)
+}
+
 /// The locator and the evaluator, up to a factor, where at most t places differ from a codeword.
-fn solve(t: usize, syndromes: &[u8]) -> Row
+fn solve(t: usize, syndromes: &[u8]) -> Solution
     requires len { length syndromes.now ≡ t + t }
     requires some { 0 < t }
     requires fits { t ≤ 63 }
-    ensures { IsSolution t (poly (reverse syndromes.now)) result.factor.items result.rest.items }
+    ensures { IsSolution t (poly (reverse syndromes.now)) result.locator.items result.evaluator.items }
 {
-    let mut old = Row {
-        rest: power(t + t),
-        factor: ArrayVec::new(),
-    };
-    let mut new = Row {
-        rest: reversed(syndromes),
-        factor: power(0),
-    };
-    trim(&mut new.rest);
-    while new.rest.len() > t {
-        let next = next_row(&old, &new);
-        old = new;
-        new = next;
-    }
-    new
+    let mut rests = [0u8; 142];
+    let rest_a = &mut rests[..t + t + 16];
+    single(rest_a, 15);
+    let mut factors = [0u8; 79];
+    let factor_a = &mut factors[..t + 16];
+    let mut more_rests = [0u8; 142];
+    let rest_b = &mut more_rests[..t + t + 16];
+    reverse_into(syndromes, rest_b);
+    let mut more_factors = [0u8; 79];
+    let factor_b = &mut more_factors[..t + 16];
+    single(factor_b, t + 15);
+    euclid(t, rest_a, factor_a, rest_b, factor_b)
 }
 
-/// The powers of the word's own places at which the locator is zero, from the highest on.
+/// The powers of the word's own places at which the locator is zero, from the highest on: Chien's search,
+/// on 64 places at once.
 fn own_roots(locator: &[u8], places: usize, powers: &mut ArrayVec<u8, 63>)
     requires some { 0 < length locator.now }
     requires fits { length locator.now ≤ 64 }
@@ -142,43 +252,88 @@ fn own_roots(locator: &[u8], places: usize, powers: &mut ArrayVec<u8, 63>)
 {
     powers.clear();
     let degree = locator.len() - 1;
+    let mut values = [0u8; 64];
     for place in 0..places {
+        if powers.len() == degree {
+            return;
+        }
+        if place % 64 == 0 {
+            rising_values(locator, 256 - places + place, &mut values);
+        }
         let power = (places - 1 - place) as u8;
-        if powers.len() < degree && value(locator, alpha_pow(255 - power)) == 0 {
+        if values[place % 64] == 0 {
             powers.push(power);
         }
     }
 }
 
+/// The logarithm of 1 + Y / X for two locators.
+fn log_gap(other: u8, power: u8) -> u8
+    requires below { other < 255 }
+    requires own { power < 255 }
+    requires differ { other ≢ power }
+    ensures below { result < 255 }
+    ensures value { gf_pow 2 result ≡ gf_add 1 (gf_mul (gf_pow 2 other) (gf_pow 2 (255 - power))) }
+{
+    log(add(1, pow_ratio(other, power)))
+}
+
 /// The product of 1 + Y / X over the other locators Y.
 fn ratio(powers: &[u8], power: u8) -> u8
+    requires few { length powers.now ≤ 63 }
     requires own { power < 255 }
     requires below { Below255 powers.now }
     ensures value { result ≡ gap_ratio powers.now power }
     ensures some { result ≢ 0 }
 {
-    let reciprocal = alpha_pow(255 - power);
-    let mut product = 1;
+    let mut sum = 0usize;
     for i in powers {
         if *i != power {
-            product = mul(product, add(1, mul(alpha_pow(*i), reciprocal)));
+            sum += log_gap(*i, power) as usize;
         }
     }
-    product
+    antilog(sum)
 }
 
-fn fix_of(evaluator: &[u8], scale: u8, powers: &[u8], power: u8, places: usize) -> Fix
+/// Forney's mask at a place where the evaluator has this value.
+fn fix_of(value: u8, scale: u8, powers: &[u8], power: u8, places: usize) -> Fix
     requires own { power < places }
     requires places { places ≤ 255 }
+    requires few { length powers.now ≤ 63 }
     requires below { Below255 powers.now }
-    ensures { IsFix places scale evaluator.now powers.now power result }
+    ensures place { result.place + power + 1 ≡ places }
+    ensures mask_byte { result.mask < 256 }
+    ensures mask { gf_mul result.mask (gap_ratio powers.now power) ≡ gf_mul scale value }
 {
-    let over = mul(scale, value(evaluator, alpha_pow(255 - power)));
+    let over = mul(scale, value);
     let under = ratio(powers, power);
     Fix {
         place: (places - 1 - power as usize) as u8,
         mask: mul(over, inv(under)),
     }
+}
+
+/// The logarithms of the reciprocals.
+fn reciprocals(powers: &[u8], logs: &mut [u8])
+    requires { length logs.old ≡ length powers.now }
+    ensures { (k : ℕ) → k < length logs.new → slice_index logs.new k ≡ 255 - slice_index powers.now k }
+{
+    for k in 0..logs.len() {
+        logs[k] = 255 - powers[k];
+    }
+}
+
+/// The values of the evaluator at the reciprocals of the locators.
+fn evaluated(evaluator: &[u8], powers: &[u8], values: &mut [u8])
+    requires few { length powers.now ≤ 63 }
+    requires len { length values.old ≡ length powers.now }
+    ensures { (k : ℕ) → k < length values.new
+        → slice_index values.new k ≡ value_of evaluator.now (gf_pow 2 (255 - slice_index powers.now k)) }
+{
+    let mut buffer = [0u8; 63];
+    let logs = &mut buffer[..powers.len()];
+    reciprocals(powers, logs);
+    values_at(evaluator, logs, values);
 }
 
 fn fill(evaluator: &[u8], scale: u8, powers: &[u8], places: usize, fixes: &mut ArrayVec<Fix, 63>)
@@ -188,8 +343,11 @@ fn fill(evaluator: &[u8], scale: u8, powers: &[u8], places: usize, fixes: &mut A
     ensures { AreFixes places scale evaluator.now powers.now powers.now fixes.new.items }
 {
     fixes.clear();
-    for power in powers {
-        let fix = fix_of(evaluator, scale, powers, *power, places);
+    let mut buffer = [0u8; 63];
+    let values = &mut buffer[..powers.len()];
+    evaluated(evaluator, powers, values);
+    for k in 0..powers.len() {
+        let fix = fix_of(values[k], scale, powers, powers[k], places);
         fixes.push(fix);
     }
 }
@@ -213,18 +371,18 @@ fn candidate(t: usize, syndromes: &[u8], places: usize, fixes: &mut ArrayVec<Fix
         → (result ≡ true) × (fixes.new.items ≡ fixes_from places D) }
 {
     fixes.clear();
-    let row = solve(t, syndromes);
-    let constant = last(row.factor.as_slice());
+    let solution = solve(t, syndromes);
+    let constant = last(solution.locator.as_slice());
     if constant == 0 {
         return false;
     }
     let mut powers: ArrayVec<u8, 63> = ArrayVec::new();
-    own_roots(row.factor.as_slice(), places, &mut powers);
-    if powers.len() + 1 < row.factor.len() {
+    own_roots(solution.locator.as_slice(), places, &mut powers);
+    if powers.len() + 1 < solution.locator.len() {
         return false;
     }
     fill(
-        row.rest.as_slice(),
+        solution.evaluator.as_slice(),
         inv(constant),
         powers.as_slice(),
         places,
@@ -239,6 +397,16 @@ fn all_zero(values: &[u8]) -> bool
     values.iter().all(|x| *x == 0)
 }
 
+fn add_symbols(word: &mut [u8], other: &[u8])
+    requires { length other.now ≡ length word.old }
+    ensures { (k : ℕ) → k < length word.new
+        → slice_index word.new k ≡ gf_add (slice_index word.old k) (slice_index other.now k) }
+{
+    for i in 0..word.len() {
+        word[i] = add(word[i], other[i]);
+    }
+}
+
 /// Makes `out` the sum of `par` and the parity of `msg`, all zeros where the two are a codeword.
 fn excess(coder: &Parity, msg: &[u8], par: &[u8], out: &mut [u8])
     requires coder { coder.now ≡ length par.now }
@@ -247,19 +415,15 @@ fn excess(coder: &Parity, msg: &[u8], par: &[u8], out: &mut [u8])
     ensures { IsAdded 1 out.new (parity_of (length par.now) msg.now) par.now }
 {
     coder.parity(msg, out);
-    add_scaled(out, 0, 1, par);
+    add_symbols(out, par);
 }
 
 fn is_codeword(coder: &Parity, msg: &[u8], par: &[u8]) -> bool
     requires coder { coder.now ≡ length par.now }
-    requires few { length par.now ≤ 127 }
     requires fits { length msg.now + length par.now ≤ 255 }
     ensures { IsTrue result ↔ HasRoots (length par.now) (msg.now ++ par.now) }
 {
-    let mut buffer = [0u8; 127];
-    let out = &mut buffer[..par.len()];
-    excess(coder, msg, par, out);
-    all_zero(out)
+    coder.is_parity(msg, par)
 }
 
 /// Tells whether the word is no codeword, and then makes `values` its syndromes, which are those of the excess alone.
@@ -293,17 +457,23 @@ fn apply(word: &mut [u8], fixes: &[Fix])
     }
 }
 
+fn extend(word: &mut ArrayVec<u8, 255>, more: &[u8])
+    requires { length word.old.items + length more.now ≤ 255 }
+    ensures { word.new.items ≡ word.old.items ++ more.now }
+{
+    match word.try_extend_from_slice(more) {
+        Ok(()) => {}
+        Err(_) => unreachable!(),
+    }
+}
+
 fn joined(msg: &[u8], par: &[u8]) -> ArrayVec<u8, 255>
     requires { length msg.now + length par.now ≤ 255 }
     ensures { result.items ≡ msg.now ++ par.now }
 {
     let mut word: ArrayVec<u8, 255> = ArrayVec::new();
-    for c in msg {
-        word.push(*c);
-    }
-    for c in par {
-        word.push(*c);
-    }
+    extend(&mut word, msg);
+    extend(&mut word, par);
     word
 }
 
