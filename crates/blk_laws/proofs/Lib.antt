@@ -8,3 +8,5 @@ pub mod Listings
 pub mod Sessions
 pub mod Lines
 pub mod CutSessions
+pub mod Faults
+pub mod Ends
