@@ -11,11 +11,11 @@ use Rattle.blk_spec.specs.States.{BlkState, append_refusal, append_of, appended,
 use Rattle.blk_spec.specs.Session.{Operation, Load, Append, Dump, Erase, NoRecord, cause_for, cause_loaded, cause_of, called, done_loaded, session_after, Done, Fails, NoMemory, failed_call, failed_in, call_after}
 use Rattle.blk_laws.specs.Ends.{Leaves, holding, held_after, AnswersAreCalls}
 
-some-same : {X : Type 0} (x y : X) → Some x ≡ Some y → x ≡ y
+pub some-same : {X : Type 0} (x y : X) → Some x ≡ Some y → x ≡ y
 some-same x y e = cc
 
 -- what is kept had come through
-kept-through : (c : BlkCut) (kept tried : ℕ) → kept ≤ through c tried → through c kept ≡ kept
+pub kept-through : (c : BlkCut) (kept tried : ℕ) → kept ≤ through c tried → through c kept ≡ kept
 kept-through Uncut kept tried h = refl
 kept-through (After limit) kept tried h = omega arith
 kept-through Dropped kept tried h = omega arith

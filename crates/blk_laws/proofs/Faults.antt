@@ -27,7 +27,7 @@ use Rattle.blk_laws.proofs.Lines.{writes-longer}
 use Rattle.blk_laws.proofs.Sessions.{Follows, Goes, keeps-same, follows-cut, console-apart, pmsg-apart, dump-apart, ended-goes, based-goes, lists-told}
 use Rattle.blk_laws.proofs.CutSessions.{append-failed, follows-ring, early-stands}
 
-through-most : (c : BlkCut) (n : ℕ) → through c n ≤ n
+pub through-most : (c : BlkCut) (n : ℕ) → through c n ≤ n
 through-most Uncut n = omega arith
 through-most (After limit) n = omega arith
 through-most Dropped n = omega arith

@@ -10,3 +10,4 @@ pub mod Lines
 pub mod CutSessions
 pub mod Faults
 pub mod Ends
+pub mod EarlyWrites

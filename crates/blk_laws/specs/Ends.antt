@@ -1,5 +1,5 @@
 -- What the calls answer and leave, as calls of a session
-use Rattle.std.specs.Prelude.{◌≡◌, ℕ, Bool, List, Option, Some, None, IfSome, Result, Ok, Err}
+use Rattle.std.specs.Prelude.{◌≡◌, ℕ, ◌<◌, Bool, List, [], Option, Some, None, IfSome, Result, Ok, Err}
 use Rattle.blk_spec.specs.declared.BlkLayout.{BlkLayout}
 use Rattle.blk_spec.specs.declared.BlkRing.{BlkRing}
 use Rattle.blk_spec.specs.declared.BlkTime.{BlkTime}
@@ -7,9 +7,11 @@ use Rattle.blk_spec.specs.declared.BlkName.{BlkName}
 use Rattle.blk_spec.specs.declared.BlkFault.{BlkFault}
 use Rattle.blk_spec.specs.declared.BlkFault.TheVariants.{NoZone as NoZoneFault, NoRecord as NoRecordFault, StoreFault, Memory}
 use Rattle.blk_spec.specs.declared.Reason.{Reason}
-use Rattle.blk_spec.specs.States.{BlkState, append_refusal, append_of, appended, dump_refusal, dump_of, dumped, erase_refusal, erase_of, erased}
-use Rattle.blk_spec.specs.Answers.{Answers, Loads}
+use Rattle.blk_spec.specs.Layout.{ring_zone, capacity}
+use Rattle.blk_spec.specs.States.{BlkState, append_refusal, append_of, appended, dump_refusal, dump_of, dumped, erase_refusal, erase_of, erased, ring_of}
+use Rattle.blk_spec.specs.Answers.{FailsWithin, Answers, Loads}
 use Rattle.blk_spec.specs.Session.{Session, Operation, Load, Append, Dump, Erase, Cause, NoZone, NoRecord, cause_of, Outcome, Done, Fails, NoMemory, call_after}
+use Rattle.blk_laws.specs.Sessions.{append_call, IsHarmless}
 
 -- a call that answered so has this cause and this outcome
 abbrev pub Answered : {T : Type 0} → Result T BlkFault → Option Cause → Outcome → Type 0
@@ -50,3 +52,12 @@ AnswersAreCalls =
     × ((r : Result Unit BlkFault) (b new : BlkState) (name : BlkName) (before now : List ℕ)
     → Answers r (erase_refusal b name) (erase_of b name) (erased b name) b new (Some before) (Some now)
     → Leaves r b.layout (holding before b) (Erase (Some name)) (holding now new))
+
+-- a fault within the first write of an append to a ring that is not full is harmless
+abbrev pub FirstWriteFaultsAreHarmless : Type 0
+FirstWriteFaultsAreHarmless =
+    (b new : BlkState) (ring : BlkRing) (payload before now : List ℕ)
+    (fault : FailsWithin (append_of b ring payload) b.cut new.cut (Some before) (Some now)) → fault.made ≡ []
+    → (ring_of b ring).words.size < capacity (ring_zone b.layout ring) → new ≡ record b { cut = new.cut }
+    → (call_after b.layout (holding before b) (append_call ring payload (Fails fault.kept fault.tried)) ≡ holding now new)
+    × IsHarmless (Fails fault.kept fault.tried) (Some b) (Append ring payload)

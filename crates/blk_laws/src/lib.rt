@@ -4,7 +4,7 @@
 ghost use Rattle.blk_laws.specs.Rows.{FirstAppend, FullRingAppend, FirstDump, FirstRingRead};
 ghost use Rattle.blk_laws.specs.Laws.{LoadingListsReading, StandingRingIsListed, ErasedRingIsEmpty, AppendKeepsLastBytes, CutAppendListsBefore, CallsWriteWithin, OtherZonesStay};
 ghost use Rattle.blk_laws.specs.Sessions.{EveryLoadingListsReading, WholeSessionListsTold, EarlyCutListsBefore, HarmlessFaultsListTold, SessionIsCalls};
-ghost use Rattle.blk_laws.specs.Ends.{AnswersAreCalls};
+ghost use Rattle.blk_laws.specs.Ends.{AnswersAreCalls, FirstWriteFaultsAreHarmless};
 
 /// Every loading lists the reading of the store's bytes, whatever was done before it.
 pub fn loading_lists_reading()
@@ -77,6 +77,12 @@ pub fn session_is_calls()
 /// outcome.
 pub fn answers_are_calls()
     ensures { AnswersAreCalls }
+{}
+
+/// Where an append to a ring that is not full answers a fault within its first write, that is a harmless call of a
+/// session.
+pub fn first_write_faults_are_harmless()
+    ensures { FirstWriteFaultsAreHarmless }
 {}
 
 /// Worked: the writes of a first append of three bytes.
