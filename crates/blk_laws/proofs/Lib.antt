@@ -8,3 +8,6 @@ pub mod Listings
 pub mod Sessions
 pub mod Lines
 pub mod CutSessions
+pub mod Faults
+pub mod Ends
+pub mod EarlyWrites

@@ -1,6 +1,6 @@
 -- What the rings of a session stand for
 use Rattle.std.proofs.Common.{◌≡◌, ℕ, ◌+◌, ◌-◌, ◌<◌, ◌≤◌, ◌==◌, inl, inr, Bool, true, false, if◌then◌else◌, List, [], ◌∷◌, ◌++◌, length, drop, Option, Some, None, IfSome, refl, sym, ap, ap₂, ◌∙◌, arith, subst, zero, suc, mod-lt, length-append, length-drop}
-use Rattle.std.proofs.lemmas.Bool.{cases_lt, eqb-true}
+use Rattle.std.proofs.lemmas.Bool.{cases_lt, eqb-true, and_parts}
 use Rattle.std.proofs.lemmas.Bool.Decides.{nat_tests}
 use Rattle.std.proofs.lemmas.List.{drop-drop}
 use Rattle.zone_spec.specs.Told.{last_items}
@@ -21,14 +21,15 @@ use Rattle.blk_spec.specs.Writes.{Write, after_writes, bytes_in, reaching, spent
 use Rattle.blk_spec.specs.Rings.{header_write, empty_words, append_writes, words_after}
 use Rattle.blk_spec.specs.Dumps.{counter_for}
 use Rattle.blk_spec.specs.Reading.{zone_bytes, header_words, ring_log, ring_saved}
-use Rattle.blk_spec.specs.States.{BlkState, RingState, ring_of, clearing, load_writes, loaded, append_of, appended, dump_of, dumped, is_listed, erase_of, erased, empty_ring}
-use Rattle.blk_spec.specs.Session.{Operation, Load, Append, AppendElsewhere, Dump, CutAfter, ListAll, Extract, Erase, Cause, NoRecord, Session, cause_for, cause_loaded, cause_of, unless_listed, called, load_session, done_loaded, unless_refused, session_after, session_run, begun}
+use Rattle.blk_spec.specs.States.{BlkState, RingState, clearing, load_writes, loaded, append_of, appended, dump_of, dumped, is_listed, erase_of, erased, empty_ring}
+use Rattle.blk_spec.specs.Session.{Operation, Load, Append, AppendElsewhere, Dump, CutAfter, ListAll, Extract, Erase, Cause, NoRecord, Session, cause_for, cause_loaded, cause_of, unless_listed, called, load_session, done_loaded, unless_refused, session_after, begun, Outcome, Done, Fails, NoMemory, Call, ended, call_after, calls_run}
 use Rattle.blk_laws.specs.Standing.{LiesIn, StandsFor, header_with, listed}
 use Rattle.blk_laws.specs.Apart.{AreWithin, AreApart}
-use Rattle.blk_laws.specs.Sessions.{Told, told_of, untold, telling, forgetting, told_by, unless_told, told_run, none_dropped, is_whole}
+use Rattle.blk_laws.specs.Sessions.{Told, untold, telling, forgetting, told_by, unless_told, told_ending, told_call, told_run, none_dropped, is_whole, is_no_fault, no_faults, based, ring_read, ring_told}
 use Rattle.blk_laws.proofs.Standing.{standing-listed, erased as erased-stands}
 use Rattle.blk_laws.proofs.Appends.{after-append, append-stands}
 use Rattle.blk_laws.proofs.Apart.{stays, length-after, append-within, dump-within, header-within}
+use Rattle.blk_laws.proofs.Lines.{HasLayout, calls-layout, calls-longer}
 use Rattle.blk_laws.proofs.Cuts.{whole-before, whole-limited, all-reached, length-reached}
 use Rattle.blk_laws.proofs.Listings.{ring-inside, ring-lies, dump-size, dump-room, no-ring, AllBelow, console-saved, pmsg-saved, listed-below, below-filter, dumps-below}
 
@@ -69,7 +70,7 @@ stands-same z words store after told e s = record {
   log = ap (λ (xs : List ℕ). ring_log (header_with z words) (drop 12 xs)) e ∙ s.log;
 }
 
-keeps-same : (z : BlkZone) (ring : RingState) (store after told : List ℕ) → zone_bytes after z ≡ zone_bytes store z
+pub keeps-same : (z : BlkZone) (ring : RingState) (store after told : List ℕ) → zone_bytes after z ≡ zone_bytes store z
     → Keeps z ring store told → Keeps z ring after told
 keeps-same z ring store after told e k = record {
   standing = λ h. stands-same z ring.words store after (last_items (capacity z) told) e (k.standing h);
@@ -108,7 +109,7 @@ pub record Goes (l : BlkLayout) (s : Session) (t : Told) : Type 0 where
   pub room : l.total ≤ length s.store
   pub state : IfSome s.blk (λ (b : BlkState). (b.layout ≡ l) × (none_dropped b.cut ≡ true → Follows l b s.store t))
 
-follows-cut : (l : BlkLayout) (b : BlkState) (store : List ℕ) (t : Told) (c : BlkCut) → Follows l b store t
+pub follows-cut : (l : BlkLayout) (b : BlkState) (store : List ℕ) (t : Told) (c : BlkCut) → Follows l b store t
     → Follows l (record b { cut = c }) store t
 follows-cut l b store t c f = record { console = f.console; pmsg = f.pmsg; cursor = f.cursor; dumps = f.dumps }
 
@@ -128,13 +129,13 @@ called-goes l store b next ws z t room same inside f = record {
   );
 }
 
-console-apart : (l : BlkLayout) → AreApart (ring_zone l ConsoleRing) (ring_zone l PmsgRing)
+pub console-apart : (l : BlkLayout) → AreApart (ring_zone l ConsoleRing) (ring_zone l PmsgRing)
 console-apart l = inr (omega arith)
 
-pmsg-apart : (l : BlkLayout) → AreApart (ring_zone l PmsgRing) (ring_zone l ConsoleRing)
+pub pmsg-apart : (l : BlkLayout) → AreApart (ring_zone l PmsgRing) (ring_zone l ConsoleRing)
 pmsg-apart l = inl (omega arith)
 
-dump-apart : (l : BlkLayout) (index : ℕ) (ring : BlkRing) → AreApart (dump_zone l index) (ring_zone l ring)
+pub dump-apart : (l : BlkLayout) (index : ℕ) (ring : BlkRing) → AreApart (dump_zone l index) (ring_zone l ring)
 dump-apart l index ConsoleRing = inr (omega arith)
 dump-apart l index PmsgRing = inr (omega arith)
 
@@ -440,13 +441,23 @@ line-goes l store (Some b) t operation valid g =
     (subst (λ (m : BlkLayout). m.total ≤ length store) (sym same) g.room)
     (λ e. subst (λ (m : BlkLayout). Follows m b store t) (sym same) (g.state.1 e)) operation)
 
-pub run-goes : (l : BlkLayout) (s : Session) (t : Told) (operations : List Operation) → IsLayout l → Goes l s t
-    → Goes l (session_run l s operations) (told_run l s t operations)
-unfolding session_run told_run
-run-goes l s t [] valid g = g
-run-goes l s t (operation ∷ operations) valid g =
-    run-goes l (session_after l s operation) (unless_told (cause_of s.blk operation) (told_by operation t) t)
-    operations valid (line-goes l s.store s.blk t operation valid g)
+pub ended-goes : (l : BlkLayout) (s : Session) (t : Told) (operation : Operation) (outcome : Outcome) → IsLayout l
+    → is_no_fault outcome ≡ true → Goes l s t
+    → Goes l (ended l s operation outcome)
+    (told_ending outcome (unless_told (cause_of s.blk operation) (told_by operation t) t) t)
+ended-goes l s t operation Done valid h g = line-goes l s.store s.blk t operation valid g
+ended-goes l s t operation (Fails kept tried) valid h g = cc
+ended-goes l s t operation NoMemory valid h g = g
+
+-- calls within which the store did not fail
+pub calls-goes : (l : BlkLayout) (s : Session) (t : Told) (calls : List Call) → IsLayout l → no_faults calls ≡ true
+    → Goes l s t → Goes l (calls_run l s calls) (told_run l s t calls)
+unfolding calls_run told_run call_after
+calls-goes l s t [] valid h g = g
+calls-goes l s t (call ∷ calls) valid h g =
+    let parts = and_parts (is_no_fault call.outcome) (no_faults calls) h in
+    calls-goes l (ended l s call.operation call.outcome) (told_call s.blk call t) calls valid parts.1
+    (ended-goes l s t call.operation call.outcome valid parts.0 g)
 
 keeps-listed : (l : BlkLayout) (r : BlkRing) (ring : RingState) (store told : List ℕ) → IsLayout l
     → l.total ≤ length store → Keeps (ring_zone l r) ring store told
@@ -460,21 +471,44 @@ keeps-listed l r ring store told valid room k = elim (cases_lt 0 (ring_zone l r)
       no-ring l r store none ∙ sym (ap listed empty))
 ]
 
-lists-told : (l : BlkLayout) (store : List ℕ) (blk : Option BlkState) (t : Told) (ring : BlkRing) → IsLayout l
-    → Goes l (record { store = store; blk = blk }) t → is_whole blk ≡ true
-    → (ring_of (loaded l store) ring).saved ≡ listed (last_items (capacity (ring_zone l ring)) (told_of t ring))
-lists-told l store None t ring valid g e = cc
-lists-told l store (Some b) t ConsoleRing valid g e = keeps-listed l ConsoleRing b.console store t.console valid
-    g.room (g.state.1 e).console
-lists-told l store (Some b) t PmsgRing valid g e = keeps-listed l PmsgRing b.pmsg store t.pmsg valid g.room
-    (g.state.1 e).pmsg
+pub lists-told : (l : BlkLayout) (s : Session) (t : Told) (ring : BlkRing) → IsLayout l → Goes l s t
+    → is_whole s.blk ≡ true → ring_read l s ring ≡ ring_told l t ring
+lists-told l s t ring valid g e = by-blk s.blk ring g.state e
+  where
+    by-blk : (blk : Option BlkState) (r : BlkRing) → IfSome blk (λ (b : BlkState). (b.layout ≡ l)
+        × (none_dropped b.cut ≡ true → Follows l b s.store t)) → is_whole blk ≡ true
+        → ring_read l s r ≡ ring_told l t r
+    by-blk None r h k = cc
+    by-blk (Some b) ConsoleRing h k = keeps-listed l ConsoleRing b.console s.store t.console valid g.room
+        (h.1 k).console
+    by-blk (Some b) PmsgRing h k = keeps-listed l PmsgRing b.pmsg s.store t.pmsg valid g.room (h.1 k).pmsg
 
-pub whole-session : (l : BlkLayout) (store : List ℕ) (operations : List Operation) (ring : BlkRing) → IsLayout l
-    → l.total ≤ length store
-    → is_whole (session_run l (begun store) operations).blk ≡ true
-    → (ring_of (loaded l (session_run l (begun store) operations).store) ring).saved
-    ≡ listed (last_items (capacity (ring_zone l ring)) (told_of (told_run l (begun store) untold operations) ring))
-whole-session l store operations ring valid room e =
-    let s = session_run l (begun store) operations in
-    lists-told l s.store s.blk (told_run l (begun store) untold operations) ring valid
-    (run-goes l (begun store) untold operations valid (record { room = room; state = tt })) e
+-- ---- a session from its first line, and from its base load
+
+pub begun-goes : (l : BlkLayout) (store : List ℕ) → l.total ≤ length store → Goes l (begun store) untold
+begun-goes l store room = record { room = room; state = tt }
+
+loads-goes : (l : BlkLayout) (store : List ℕ) (blk : Option BlkState) → IsLayout l → l.total ≤ length store
+    → HasLayout l (record { store = store; blk = blk })
+    → Goes l (session_after l (record { store = store; blk = blk }) Load) untold
+unfolding session_after cause_of
+loads-goes l store None valid room h = load-goes l store valid room
+loads-goes l store (Some b) valid room h =
+    subst (λ (m : BlkLayout). Goes l (load_session m store) untold) (sym h) (load-goes l store valid room)
+
+pub based-goes : (l : BlkLayout) (store : List ℕ) (before : List Call) → IsLayout l → l.total ≤ length store
+    → Goes l (based l store before) untold
+unfolding call_after
+based-goes l store before valid room =
+    let s = calls_run l (begun store) before in
+    loads-goes l s.store s.blk valid (omega (arith, room, calls-longer l (begun store) before))
+    (calls-layout l (begun store) before tt)
+
+pub whole-session : (l : BlkLayout) (store : List ℕ) (before since : List Call) (ring : BlkRing) → IsLayout l
+    → l.total ≤ length store → no_faults since ≡ true
+    → is_whole (calls_run l (based l store before) since).blk ≡ true
+    → ring_read l (calls_run l (based l store before) since) ring
+    ≡ ring_told l (told_run l (based l store before) untold since) ring
+whole-session l store before since ring valid room none e =
+    lists-told l (calls_run l (based l store before) since) (told_run l (based l store before) untold since) ring valid
+    (calls-goes l (based l store before) untold since valid none (based-goes l store before valid room)) e

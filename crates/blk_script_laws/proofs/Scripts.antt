@@ -1,18 +1,23 @@
 -- A script's lines as the operations of a session
-use Rattle.std.proofs.Common.{◌≡◌, ℕ, List, [], ◌∷◌, Option, Some, None, refl, sym, ap, ◌∙◌}
-use Rattle.std.specs.List.{fold}
+use Rattle.std.proofs.Common.{◌≡◌, ℕ, ◌≤◌, true, List, [], ◌∷◌, ◌++◌, map, length, Option, Some, None, IfSome, refl, sym, ap, ◌∙◌, subst}
+use Rattle.std.specs.List.{fold, list_all}
+use Rattle.std.proofs.lemmas.Bool.{and_from, and_parts}
 use Rattle.std.proofs.lemmas.List.Sums.{fold-append}
 use Rattle.blk_spec.specs.declared.BlkLayout.{BlkLayout}
-use Rattle.blk_spec.specs.States.{BlkState, loaded, ring_of}
-use Rattle.blk_spec.specs.Session.{Operation, Load, Cause as SessionCause, Session, cause_of, session_after, session_run, begun}
-use Rattle.blk_laws.specs.Sessions.{is_whole}
-use Rattle.blk_laws.proofs.Lines.{every-loading}
-use Rattle.blk_laws.proofs.Sessions.{whole-session}
+use Rattle.blk_spec.specs.declared.BlkRing.{BlkRing}
+use Rattle.blk_spec.specs.Layout.{IsLayout}
+use Rattle.blk_spec.specs.States.{BlkState, loaded}
+use Rattle.blk_spec.specs.Session.{Operation, Load, Append, Cause as SessionCause, Session, cause_of, session_after, session_run, begun, Done, done_call, call_after, calls_run}
+use Rattle.blk_laws.specs.Sessions.{untold, told_run, is_whole, is_no_load, no_faults, no_loads, ring_read, append_call}
+use Rattle.blk_laws.proofs.Lines.{every-loading, session-is-calls}
+use Rattle.blk_laws.proofs.Sessions.{Goes, calls-goes, begun-goes, lists-told}
+use Rattle.blk_laws.proofs.CutSessions.{cut-run}
+use Rattle.zone_spec.specs.declared.ZoneName.{ZoneName}
 use Rattle.box_script.specs.declared.line.Line.{Line}
 use Rattle.box_script.specs.declared.line.Line.TheVariants.{Blank, Write, Dump, BeginWrite, BeginErase, BeginDump, Step, Finish, Stop, Flip, Boot, BootPart, List as ListLine, Extract, Erase, KDump, CutAfter}
-use Rattle.tool_spec.specs.BlkScripts.{BlkRan, blk_ran_on, blk_next_line, blk_ran, blk_started, blk_line_done, operation_of, performs_if, done_unless, put_by}
+use Rattle.tool_spec.specs.BlkScripts.{BlkRan, blk_ran_on, blk_next_line, blk_ran, blk_started, blk_line_done, operation_of, performs_if, done_unless, put_by, ring_for, append_to}
 use Rattle.tool_spec.specs.declared.Cause.{Cause}
-use Rattle.blk_script_laws.specs.Scripts.{operation_unless, before, operations_from, script_operations, ScriptsAreSessions, EveryBootListsReading, WholeScriptListsTold}
+use Rattle.blk_script_laws.specs.Scripts.{operation_unless, before, operations_from, script_operations, script_calls, is_no_boot, ScriptsAreSessions, EveryBootListsReading, WholeScriptListsTold, EarlyCutScriptListsBefore}
 
 -- what a script so far is left in by an operation, done or refused
 by_cause : (ran : BlkRan) (operation : Operation) (text : List ℕ) (cause : Option SessionCause)
@@ -86,20 +91,136 @@ unfolding blk_line_done operation_of cause_of session_after
 loads layout ran None e none = rw (none, e) refl
 loads layout ran (Some b) e none = rw (none, e) refl
 
+-- ---- a script's operations as calls
+
+calls_are : (layout : BlkLayout) (store : List ℕ) (lines : List Line)
+    → (blk_ran layout store lines).session ≡ calls_run layout (begun store) (script_calls layout store lines)
+calls_are layout store lines = scripts_are layout store lines
+    ∙ session-is-calls layout (begun store) (script_operations layout store lines)
+
+all_done : (operations : List Operation) → no_faults (map done_call operations) ≡ true
+all_done [] = refl
+all_done (operation ∷ operations) = all_done operations
+
+script_goes : (layout : BlkLayout) (store : List ℕ) (lines : List Line) → IsLayout layout
+    → layout.total ≤ length store
+    → Goes layout (blk_ran layout store lines).session
+    (told_run layout (begun store) untold (script_calls layout store lines))
+script_goes layout store lines valid room =
+    let calls = script_calls layout store lines in
+    subst (λ (s : Session). Goes layout s (told_run layout (begun store) untold calls))
+    (sym (calls_are layout store lines))
+    (calls-goes layout (begun store) untold calls valid (all_done (script_operations layout store lines))
+    (begun-goes layout store room))
+
 pub boot_lists : EveryBootListsReading
+unfolding call_after
 boot_lists layout store lines none =
     let ran = blk_ran layout store lines in
-    let is : ran.session ≡ session_run layout (begun store) (script_operations layout store lines) =
-    scripts_are layout store lines in
+    let is = calls_are layout store lines in
     ap (λ (r : BlkRan). r.session.blk) (fold-append (blk_next_line layout) (blk_started store) lines (Boot ∷ []))
     ∙ ap (λ (s : Session). s.blk) (loads layout ran ran.session.blk refl none)
     ∙ ap (λ (s : Session). (session_after layout s Load).blk) is
-    ∙ every-loading layout store (script_operations layout store lines)
+    ∙ every-loading layout store (script_calls layout store lines)
     ∙ ap (λ (s : Session). Some (loaded layout s.store)) (sym is)
 
 pub script_lists : WholeScriptListsTold
-script_lists layout store lines ring lies room whole =
-    let is = scripts_are layout store lines in
-    ap (λ (s : Session). (ring_of (loaded layout s.store) ring).saved) is
-    ∙ whole-session layout store (script_operations layout store lines) ring lies room
-    (ap (λ (s : Session). is_whole s.blk) (sym is) ∙ whole)
+script_lists layout store lines ring valid room whole =
+    lists-told layout (blk_ran layout store lines).session
+    (told_run layout (begun store) untold (script_calls layout store lines)) ring valid
+    (script_goes layout store lines valid room) whole
+
+-- ---- a line whose append is cut
+
+-- the lines behind some first ones, from the session that these leave
+lines_behind : (layout : BlkLayout) (store : List ℕ) (lines behind : List Line)
+    → (blk_ran layout store (lines ++ behind)).session
+    ≡ calls_run layout (blk_ran layout store lines).session
+    (map done_call (operations_from layout (blk_ran layout store lines) behind))
+lines_behind layout store lines behind =
+    let ran = blk_ran layout store lines in
+    ap (λ (r : BlkRan). r.session) (fold-append (blk_next_line layout) (blk_started store) lines behind)
+    ∙ run_from layout behind ran ∙ session-is-calls layout ran.session (operations_from layout ran behind)
+
+append_no_load : (ring : Option BlkRing) (bytes : List ℕ) → is_no_load (append_to ring bytes) Done ≡ true
+append_no_load None bytes = refl
+append_no_load (Some ring) bytes = refl
+
+line_no_load : (blk : Option BlkState) (line : Line) → is_no_boot line ≡ true
+    → IfSome (operation_of blk line) (λ (operation : Operation). is_no_load operation Done ≡ true)
+unfolding operation_of
+line_no_load blk Blank h = tt
+line_no_load blk (Write zone bytes) h = append_no_load (ring_for zone.kind) bytes
+line_no_load blk (Dump time packed bytes) h = tt
+line_no_load blk (BeginWrite zone bytes) h = tt
+line_no_load blk (BeginErase zone) h = tt
+line_no_load blk (BeginDump time packed bytes) h = tt
+line_no_load blk (Step zone k) h = tt
+line_no_load blk (Finish zone) h = tt
+line_no_load blk Stop h = tt
+line_no_load blk (Flip place mask) h = tt
+line_no_load blk Boot h = cc
+line_no_load blk (BootPart k) h = tt
+line_no_load blk ListLine h = refl
+line_no_load blk (Extract name) h = refl
+line_no_load blk (Erase name) h = refl
+line_no_load blk (KDump secs nanos packed reason bytes) h = refl
+line_no_load blk (CutAfter k) h = refl
+
+unless_no_load : (cause : Option Cause) (blk : Option BlkState) (line : Line) → is_no_boot line ≡ true
+    → IfSome (operation_unless cause blk line) (λ (operation : Operation). is_no_load operation Done ≡ true)
+unless_no_load None blk line h = line_no_load blk line h
+unless_no_load (Some cause) blk line h = tt
+
+before_no_load : (operation : Option Operation) (operations : List Operation)
+    → IfSome operation (λ (o : Operation). is_no_load o Done ≡ true) → no_loads (map done_call operations) ≡ true
+    → no_loads (map done_call (before operation operations)) ≡ true
+before_no_load None operations h k = k
+before_no_load (Some operation) operations h k = and_from (is_no_load operation Done)
+    (no_loads (map done_call operations)) h k
+
+lines_no_load : (layout : BlkLayout) (ran : BlkRan) (lines : List Line) → list_all is_no_boot lines ≡ true
+    → no_loads (map done_call (operations_from layout ran lines)) ≡ true
+unfolding operations_from
+lines_no_load layout ran [] h = refl
+lines_no_load layout ran (line ∷ lines) h =
+    let parts = and_parts (is_no_boot line) (list_all is_no_boot lines) h in
+    before_no_load (operation_unless ran.refused ran.session.blk line)
+    (operations_from layout (blk_next_line layout ran line) lines)
+    (unless_no_load ran.refused ran.session.blk line parts.0)
+    (lines_no_load layout (blk_next_line layout ran line) lines parts.1)
+
+-- a line that appends to a ring is that append
+write_operation : (blk : Option BlkState) (zone : ZoneName) (ring : BlkRing) (payload : List ℕ) (cause : Option Cause)
+    → cause ≡ None → ring_for zone.kind ≡ Some ring → (operations : List Operation)
+    → before (operation_unless cause blk (Write zone payload)) operations ≡ Append ring payload ∷ operations
+unfolding operation_of
+write_operation blk zone ring payload None e is operations =
+    ap (λ (r : Option BlkRing). append_to r payload ∷ operations) is
+write_operation blk zone ring payload (Some cause) e is operations = cc
+
+write_behind : (layout : BlkLayout) (store : List ℕ) (lines behind : List Line) (zone : ZoneName) (ring : BlkRing)
+    (payload : List ℕ) → (blk_ran layout store lines).refused ≡ None → ring_for zone.kind ≡ Some ring
+    → (blk_ran layout store (lines ++ Write zone payload ∷ behind)).session
+    ≡ calls_run layout (call_after layout (blk_ran layout store lines).session (append_call ring payload Done))
+    (map done_call (operations_from layout
+    (blk_next_line layout (blk_ran layout store lines) (Write zone payload)) behind))
+unfolding operations_from calls_run
+write_behind layout store lines behind zone ring payload none is =
+    let ran = blk_ran layout store lines in
+    lines_behind layout store lines (Write zone payload ∷ behind)
+    ∙ ap (λ (operations : List Operation). calls_run layout ran.session (map done_call operations))
+    (write_operation ran.session.blk zone ring payload ran.refused none is
+    (operations_from layout (blk_next_line layout ran (Write zone payload)) behind))
+
+pub script_lists_before : EarlyCutScriptListsBefore
+unfolding operations_from calls_run
+script_lists_before layout store lines behind b zone ring payload limit valid room none is to at early cut unbooted =
+    let ran = blk_ran layout store lines in
+    let next = blk_next_line layout ran (Write zone payload) in
+    let t = told_run layout (begun store) untold (script_calls layout store lines) in
+    ap (λ (s : Session). ring_read layout s ring) (write_behind layout store lines behind zone ring payload none to)
+    ∙ cut-run layout ran.session.store ran.session.blk t b ring payload Done limit
+    (map done_call (operations_from layout next behind)) valid (script_goes layout store lines valid room) is at early
+    (ap (λ (s : Session). is_whole s.blk) (sym (write_behind layout store lines [] zone ring payload none to)) ∙ cut)
+    (lines_no_load layout next behind unbooted)

@@ -1,16 +1,17 @@
 -- Scripts on the block store as sessions, and what the laws of sessions say of them
-use Rattle.std.specs.Prelude.{◌≡◌, ℕ, ◌≤◌, true, List, [], ◌∷◌, ◌++◌, length, Option, Some, None}
-use Rattle.zone_spec.specs.Told.{last_items}
+use Rattle.std.specs.Prelude.{◌≡◌, ℕ, ◌≤◌, Bool, true, false, List, [], ◌∷◌, ◌++◌, map, length, Option, Some, None}
+use Rattle.std.specs.List.{list_all}
+use Rattle.zone_spec.specs.declared.ZoneName.{ZoneName}
 use Rattle.blk_spec.specs.declared.BlkLayout.{BlkLayout}
 use Rattle.blk_spec.specs.declared.BlkRing.{BlkRing}
-use Rattle.blk_spec.specs.Layout.{IsLayout, ring_zone, capacity}
-use Rattle.blk_spec.specs.States.{BlkState, loaded, ring_of}
-use Rattle.blk_spec.specs.Session.{Operation, session_run, begun}
-use Rattle.blk_laws.specs.Standing.{listed}
-use Rattle.blk_laws.specs.Sessions.{told_of, untold, told_run, is_whole}
+use Rattle.blk_spec.specs.declared.BlkCut.TheVariants.{After}
+use Rattle.blk_spec.specs.Layout.{IsLayout}
+use Rattle.blk_spec.specs.States.{BlkState, loaded}
+use Rattle.blk_spec.specs.Session.{Operation, session_run, begun, Call, done_call}
+use Rattle.blk_laws.specs.Sessions.{untold, told_run, is_whole, ring_read, ring_told, IsEarly}
 use Rattle.box_script.specs.declared.line.Line.{Line}
-use Rattle.box_script.specs.declared.line.Line.TheVariants.{Boot}
-use Rattle.tool_spec.specs.BlkScripts.{BlkRan, blk_next_line, blk_ran, blk_started, operation_of}
+use Rattle.box_script.specs.declared.line.Line.TheVariants.{Boot, Write}
+use Rattle.tool_spec.specs.BlkScripts.{BlkRan, blk_next_line, blk_ran, blk_started, operation_of, ring_for}
 use Rattle.tool_spec.specs.declared.Cause.{Cause}
 
 -- the operation of a line that is not behind a refused one
@@ -44,11 +45,30 @@ EveryBootListsReading =
     → (blk_ran layout store (lines ++ Boot ∷ [])).session.blk
     ≡ Some (loaded layout (blk_ran layout store lines).session.store)
 
+-- a script's operations, none of which meets a fault, as calls
+abbrev pub script_calls : BlkLayout → List ℕ → List Line → List Call
+script_calls layout store lines = map done_call (script_operations layout store lines)
+
 abbrev pub WholeScriptListsTold : Type 0
 WholeScriptListsTold =
     (layout : BlkLayout) (store : List ℕ) (lines : List Line) (ring : BlkRing) → IsLayout layout
     → layout.total ≤ length store
     → is_whole (blk_ran layout store lines).session.blk ≡ true
-    → (ring_of (loaded layout (blk_ran layout store lines).session.store) ring).saved
-    ≡ listed (last_items (capacity (ring_zone layout ring))
-    (told_of (told_run layout (begun store) untold (script_operations layout store lines)) ring))
+    → ring_read layout (blk_ran layout store lines).session ring
+    ≡ ring_told layout (told_run layout (begun store) untold (script_calls layout store lines)) ring
+
+abbrev pub is_no_boot : Line → Bool
+is_no_boot Boot = false
+is_no_boot other = true
+
+-- a `write` line whose append was cut early, and no boot after it
+abbrev pub EarlyCutScriptListsBefore : Type 0
+EarlyCutScriptListsBefore =
+    (layout : BlkLayout) (store : List ℕ) (lines behind : List Line) (b : BlkState) (zone : ZoneName) (ring : BlkRing)
+    (payload : List ℕ) (limit : ℕ) → IsLayout layout → layout.total ≤ length store
+    → (blk_ran layout store lines).refused ≡ None → (blk_ran layout store lines).session.blk ≡ Some b
+    → ring_for zone.kind ≡ Some ring → b.cut ≡ After limit → IsEarly b ring payload limit
+    → is_whole (blk_ran layout store (lines ++ Write zone payload ∷ [])).session.blk ≡ false
+    → list_all is_no_boot behind ≡ true
+    → ring_read layout (blk_ran layout store (lines ++ Write zone payload ∷ behind)).session ring
+    ≡ ring_told layout (told_run layout (begun store) untold (script_calls layout store lines)) ring

@@ -5,9 +5,9 @@ use Rattle.std.specs.Prelude.{Option}
 use Rattle.blk_spec.specs.declared.BlkCut.{BlkCut}
 use Rattle.blk_spec.specs.declared.BlkCut.TheVariants.{Uncut, After, Dropped}
 use Rattle.blk_spec.specs.Writes.{Write, store_after, bytes_in, first_bytes, through, reaching}
-use Rattle.blk_spec.specs.Answers.{FailsWithin}
-use Rattle.zone_blk.specs.Answering.{HasFront}
+use Rattle.blk_spec.specs.Answers.{FailsWithin, HasFront}
 use Rattle.zone_blk.proofs.Effects.{through-within}
+use Rattle.zone_blk.proofs.Sequences.{tried-within}
 
 first-first : (k m : ℕ) (ws : List Write) → k ≤ m → first_bytes k (first_bytes m ws) ≡ first_bytes k ws
 unfolding first_bytes
@@ -35,8 +35,8 @@ through-all Dropped n m h = omega arith
 pub front-reached : (c d : BlkCut) (ws : List Write) (before now : Option (List ℕ)) → FailsWithin ws c d before now
     → HasFront (reaching c ws) before now
 front-reached c d ws before now f =
-    let most : f.kept ≤ through c (bytes_in ws) = omega (arith, f.fewer, through-all c f.tried (bytes_in ws) f.within)
-    in
+    let tried : f.tried ≤ bytes_in ws = tried-within f.made f.others ws f.failed f.tried f.parts f.within in
+    let most : f.kept ≤ through c (bytes_in ws) = omega (arith, f.most, through-all c f.tried (bytes_in ws) tried) in
     record {
       kept = f.kept;
       within = omega (arith, most, bytes-first (through c (bytes_in ws)) ws, through-within c (bytes_in ws));

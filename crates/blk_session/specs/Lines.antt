@@ -8,7 +8,7 @@ use Rattle.blk_spec.specs.declared.BlkFault.{BlkFault}
 use Rattle.blk_spec.specs.declared.BlkFault.TheVariants.{NoZone as NoZoneThere, NoRecord as NoRecordThere, StoreFault as StoreFaultThere, Memory as MemoryThere}
 use Rattle.blk_spec.specs.States.{BlkState}
 use Rattle.blk_spec.specs.Session.{Operation}
-use Rattle.zone_blk.specs.Answering.{HasFront}
+use Rattle.blk_spec.specs.Answers.{HasFront}
 use Rattle.box_script.specs.Fields.{Text}
 use Rattle.box_script.specs.declared.line.Line.{Line}
 use Rattle.box_script.specs.declared.line.Line.TheVariants.{Write, List as ListLine, Extract, Erase, KDump, CutAfter}

@@ -5,7 +5,7 @@ use Rattle.std.proofs.Common.{w32, w64}
 use Rattle.blk_spec.specs.declared.BlkZone.{BlkZone}
 use Rattle.blk_spec.specs.declared.BlkTime.{BlkTime}
 use Rattle.blk_spec.specs.declared.Reason.{Reason}
-use Rattle.blk_spec.specs.declared.Reason.TheVariants.{Panic, Oops, Emergency, Shutdown}
+use Rattle.blk_spec.specs.declared.Reason.TheVariants.{Panic, Oops}
 use Rattle.blk_spec.specs.Reasons.{reason_number}
 use Rattle.blk_spec.specs.Layout.{capacity}
 use Rattle.blk_spec.specs.Writes.{Write}

@@ -1,14 +1,14 @@
--- A session on the block store: its lines, and what each makes of the store's bytes and of what is loaded
-use Rattle.std.specs.Prelude.{ℕ, ◌+◌, Bool, if◌then◌else◌, List, [], ◌∷◌, Option, Some, None}
+-- A session on the block store: its lines, what each makes of the store's bytes and of what is loaded, and what it
+-- leaves where the store fails or memory is wanting
+use Rattle.std.specs.Prelude.{ℕ, Bool, if◌then◌else◌, List, [], ◌∷◌, Option, Some, None}
 use Rattle.blk_spec.specs.declared.BlkLayout.{BlkLayout}
 use Rattle.blk_spec.specs.declared.BlkRing.{BlkRing}
 use Rattle.blk_spec.specs.declared.BlkTime.{BlkTime}
 use Rattle.blk_spec.specs.declared.BlkName.{BlkName}
-use Rattle.blk_spec.specs.declared.BlkCut.TheVariants.{Uncut}
 use Rattle.blk_spec.specs.declared.BlkFault.{BlkFault}
-use Rattle.blk_spec.specs.declared.BlkFault.TheVariants.{NoZone as NoZoneFault, NoRecord as NoRecordFault}
+use Rattle.blk_spec.specs.declared.BlkFault.TheVariants.{NoZone as NoZoneFault}
 use Rattle.blk_spec.specs.declared.Reason.{Reason}
-use Rattle.blk_spec.specs.Writes.{Write, after_writes, reaching, spent, bytes_in}
+use Rattle.blk_spec.specs.Writes.{Write, after_writes, first_bytes, through, reaching, spent, bytes_in}
 use Rattle.blk_spec.specs.States.{BlkState, loaded, load_writes, append_refusal, append_of, appended, dump_refusal, dump_of, dumped, is_listed, erase_of, erased, cut_after}
 
 -- a line of a session; a name is None where a text names no record
@@ -108,3 +108,58 @@ begun store = record { store = store; blk = None }
 unfoldable pub session_run : BlkLayout → Session → List Operation → Session
 session_run l s [] = s
 session_run l s (operation ∷ operations) = session_run l (session_after l s operation) operations
+
+-- ---- calls that may meet a fault
+
+-- How a call ends. `Done`: it is done, or refused where it has a cause. `Fails`: the store failed within its writes; it
+-- has the first `kept` bytes of them, as far as the cut lets them through, and the first `tried` count as written.
+-- `NoMemory`: a loading found no memory; the store is as before.
+pub data Outcome : Type 0 where
+  Done : Outcome
+  Fails : (kept tried : ℕ) → Outcome
+  NoMemory : Outcome
+
+-- a line with its outcome
+pub record Call : Type 0 where
+  pub operation : Operation
+  pub outcome : Outcome
+
+abbrev pub done_call : Operation → Call
+done_call operation = record { operation = operation; outcome = Done }
+
+-- the writes of a call on a loaded store
+abbrev pub call_writes : BlkState → Operation → List Write
+call_writes b (Append ring payload) = append_of b ring payload
+call_writes b (Dump time packed reason body) = dump_of b time packed reason body
+call_writes b (Erase (Some name)) = erase_of b name
+call_writes b other = []
+
+-- the store failed within these writes: of what is loaded the cut alone is changed
+abbrev pub failed_call : List ℕ → BlkState → List Write → ℕ → ℕ → Session
+failed_call store b ws kept tried = record {
+  store = after_writes (first_bytes (through b.cut kept) ws) store;
+  blk = Some (record b { cut = spent tried b.cut });
+}
+
+-- a loading that failed leaves what was loaded before it
+abbrev pub failed_in : BlkLayout → List ℕ → Option BlkState → Operation → ℕ → ℕ → Session
+failed_in l store blk Load kept tried = record {
+  store = after_writes (first_bytes kept (load_writes l)) store;
+  blk = blk;
+}
+failed_in l store None operation kept tried = record { store = store; blk = None }
+failed_in l store (Some b) operation kept tried = failed_call store b (call_writes b operation) kept tried
+
+abbrev pub ended : BlkLayout → Session → Operation → Outcome → Session
+ended l s operation Done = session_after l s operation
+ended l s operation (Fails kept tried) = unless_refused (cause_of s.blk operation)
+    (failed_in l s.store s.blk operation kept tried) s
+ended l s operation NoMemory = s
+
+unfoldable pub call_after : BlkLayout → Session → Call → Session
+call_after l s call = ended l s call.operation call.outcome
+
+-- the calls in order
+unfoldable pub calls_run : BlkLayout → Session → List Call → Session
+calls_run l s [] = s
+calls_run l s (call ∷ calls) = calls_run l (call_after l s call) calls

@@ -1,12 +1,11 @@
 -- A store keeps its room, whatever is written; and the writes of a loading
-use Rattle.std.proofs.Common.{◌≡◌, ℕ, ◌+◌, ◌≤◌, List, [], ◌∷◌, ◌++◌, length, take, drop, Option, Some, None, Result, Ok, Err, sym, ap, ◌∙◌, arith, length-append, length-take, length-drop, subst}
+use Rattle.std.proofs.Common.{◌≡◌, ℕ, List, ◌++◌, Option, Some, None, Result, Ok, Err, sym, ap, ◌∙◌, arith, subst}
 use Rattle.box_io.specs.declared.outside.Failed.{Failed}
 use Rattle.blk_spec.specs.declared.BlkCut.{BlkCut}
 use Rattle.blk_spec.specs.declared.BlkCut.TheVariants.{Uncut}
-use Rattle.blk_spec.specs.Writes.{Write, after_write, after_writes, store_after, bytes_in, first_bytes, reaching}
-use Rattle.blk_spec.specs.Answers.{HasRoom, Makes, FailsWithin, Answers}
+use Rattle.blk_spec.specs.Writes.{Write, store_after, bytes_in, first_bytes, reaching}
+use Rattle.blk_spec.specs.Answers.{HasRoom, Makes, FailsWithin, Answers, HasFront, Loads}
 use Rattle.zone_blk.specs.Outcomes.{Ends}
-use Rattle.zone_blk.specs.Answering.{HasFront, Loads}
 use Rattle.zone_blk.specs.Loading.{IsReadFault}
 use Rattle.blk_spec.specs.declared.BlkFault.{BlkFault}
 use Rattle.blk_spec.specs.declared.BlkFault.TheVariants.{StoreFault, Memory, NoZone, NoRecord}
@@ -15,23 +14,9 @@ use Rattle.blk_spec.specs.declared.BlkZone.{BlkZone}
 use Rattle.blk_spec.specs.declared.BlkRing.TheVariants.{Console, Pmsg}
 use Rattle.blk_spec.specs.Layout.{ring_zone}
 use Rattle.blk_spec.specs.States.{BlkState, clearing, load_writes}
-use Rattle.zone_blk.proofs.Sequences.{none-told}
+use Rattle.zone_blk.proofs.Sequences.{none-told, tried-within}
+use Rattle.blk_laws.proofs.Lines.{writes-longer}
 use Rattle.zone_blk.proofs.Effects.{first-all}
-
-longer : (store : List ℕ) (w : Write) → length store ≤ length (after_write store w)
-longer store w =
-    omega (
-      arith,
-      length-append (take w.at store ++ w.bytes) (drop (w.at + length w.bytes) store),
-      length-append (take w.at store) w.bytes,
-      length-take w.at store,
-      length-drop (w.at + length w.bytes) store,
-    )
-
-pub writes-longer : (ws : List Write) (store : List ℕ) → length store ≤ length (after_writes ws store)
-unfolding after_writes
-writes-longer [] store = omega arith
-writes-longer (w ∷ ws) store = omega (arith, longer store w, writes-longer ws (after_write store w))
 
 pub room-after : (n : ℕ) (ws : List Write) (old new : Option (List ℕ)) → new ≡ store_after ws old → HasRoom n old
     → HasRoom n new
@@ -52,7 +37,11 @@ uncut-store ws d old new p = p.store ∙ ap (λ (vs : List Write). store_after v
 
 pub uncut-front : (ws : List Write) (d : BlkCut) (old new : Option (List ℕ)) → FailsWithin ws Uncut d old new
     → HasFront ws old new
-uncut-front ws d old new p = record { kept = p.kept; within = omega (arith, p.fewer, p.within); store = p.store }
+uncut-front ws d old new p = record {
+  kept = p.kept;
+  within = omega (arith, p.most, tried-within p.made p.others ws p.failed p.tried p.parts p.within);
+  store = p.store;
+}
 
 pub load-writes : (l : BlkLayout) (pmsg console : BlkZone) → pmsg ≡ ring_zone l Pmsg → console ≡ ring_zone l Console
     → clearing pmsg ++ clearing console ≡ load_writes l

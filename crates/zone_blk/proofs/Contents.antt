@@ -1,18 +1,17 @@
 -- Contents and names of records
-use Rattle.std.proofs.Common.{◌≡◌, ℕ, Bool, true, false, not, ◌&&◌, ◌||◌, ◌==◌, if◌then◌else◌, List, [], ◌∷◌, ◌++◌, map, length, codes, Option, Some, None, is_some, refl, sym, ap, ◌∙◌, append_assoc, Bor, suc, ◌<◌, get_or, arith}
+use Rattle.std.proofs.Common.{◌≡◌, ℕ, Bool, true, false, not, ◌||◌, ◌==◌, if◌then◌else◌, List, [], ◌∷◌, ◌++◌, map, length, codes, Option, Some, None, is_some, refl, sym, ap, ◌∙◌, append_assoc, Bor, suc, ◌<◌, get_or, arith}
 use Rattle.std.specs.Prelude.{decimal}
 use Rattle.std.specs.List.{find, list_any, All}
 use Rattle.std.specs.Option.{option_map, option_copied}
 use Rattle.std.proofs.lemmas.Bool.{and_parts, eqb-true}
 use Rattle.blk_spec.specs.declared.BlkLayout.{BlkLayout}
 use Rattle.zone_blk.specs.Loading.{IsIn}
-use Rattle.std.proofs.lemmas.List.Folds.{list_any-append}
 use Rattle.blk_spec.specs.declared.BlkName.{BlkName}
 use Rattle.blk_spec.specs.declared.BlkName.TheVariants.{Dump, Console, Pmsg}
 use Rattle.blk_spec.specs.Reading.{BlkDump}
 use Rattle.blk_spec.specs.Reasons.{reason_word}
 use Rattle.blk_spec.specs.Names.{is_name, dump_name, dump_content}
-use Rattle.blk_spec.specs.States.{BlkState, name_if, names_of, content_of, is_listed}
+use Rattle.blk_spec.specs.States.{BlkState, content_of, is_listed}
 use Rattle.blk_laws.proofs.Listings.{or-false, listed-parts, listed-console, listed-pmsg}
 use Rattle.zone_blk.proofs.Readings.{if-true, if-false}
 

@@ -1,5 +1,5 @@
 -- Writes one behind another: all made, or the store failed within them
-use Rattle.std.proofs.Common.{◌≡◌, ℕ, ◌+◌, ◌-◌, ◌≤◌, replicate, List, [], ◌++◌, length, take, drop, Option, Some, None, MatchResult, Result, Ok, Err, refl, sym, ap, ◌∙◌, arith, append_assoc, length-append, length-take, ◌⊎◌, inl, inr, subst}
+use Rattle.std.proofs.Common.{◌≡◌, ℕ, ◌+◌, ◌-◌, ◌<◌, ◌≤◌, replicate, List, [], ◌∷◌, ◌++◌, length, take, drop, Option, Some, None, MatchResult, Result, Ok, Err, refl, sym, ap, ◌∙◌, arith, append_assoc, length-append, length-take, ◌⊎◌, inl, inr, subst}
 use Rattle.std.proofs.lemmas.List.{places, same_lists, take_all, take-take, take-append-le, drop-drop, take_at, drop_at, length-replicate, replicate-append-replicate}
 use Rattle.std.proofs.lemmas.Bool.{cases_lt}
 use Rattle.std.proofs.lemmas.Grind.{common_steps}
@@ -34,28 +34,45 @@ makes-one old new c d at count bytes k s w = record {
   cut = s ∙ ap (λ n. spent n c) (sym (bytes_in-one at bytes));
 }
 
-fails-one : (old new : Option (List ℕ)) (c d : BlkCut) (at count : ℕ) (bytes : List ℕ)
+through-none : (c : BlkCut) → through c 0 ≡ 0
+through-none c = omega (arith, through-within c 0)
+
+-- the bytes that count as written are some of the writes'
+pub tried-within : (made others ws : List Write) (failed : Write) (tried : ℕ) → ws ≡ made ++ failed ∷ others
+    → tried ≤ bytes_in made + length failed.bytes → tried ≤ bytes_in ws
+unfolding bytes_in
+tried-within made others ws failed tried parts h =
+    omega (arith, h, ap bytes_in parts, bytes_in-append made (failed ∷ others))
+
+fails-one : (old new : Option (List ℕ)) (c d : BlkCut) (at count : ℕ) (bytes : List ℕ) → 0 < count
     → count ≡ through c (length bytes) → d ≡ spent (length bytes) c
     → WritesFront old new at (take count bytes) → FailsWithin (one_write at bytes) c d old new
-fails-one old new c d at count bytes k s w =
+unfolding bytes_in
+fails-one old new c d at count bytes h k s w =
     let few : w.count ≤ count = omega (arith, w.within, length-take count bytes) in
     let first : take w.count (take count bytes) ≡ take w.count bytes = take-take w.count count bytes few in
     record {
+      made = [];
+      failed = record { at = at; bytes = bytes };
+      others = [];
       tried = length bytes;
       kept = w.count;
-      within = omega (arith, bytes_in-one at bytes);
-      fewer = omega arith;
+      parts = refl;
+      within = omega arith;
+      some = omega (arith, through-none c);
+      least = omega (arith, through-none c);
+      most = omega arith;
       store = written-one old new at w.count bytes (subst (λ (bs : List ℕ). Writes old new at bs) first w.bytes);
       cut = s;
     }
 
 -- what a call of the store gives, of as many bytes as reach it
 pub ends-one : (r : Result Unit Failed) (old new : Option (List ℕ)) (c d : BlkCut) (at count : ℕ) (bytes : List ℕ)
-    → count ≡ through c (length bytes) → d ≡ spent (length bytes) c
+    → 0 < count → count ≡ through c (length bytes) → d ≡ spent (length bytes) c
     → MatchResult r (λ _. Writes old new at (take count bytes)) (λ _. WritesFront old new at (take count bytes))
     → Ends r (one_write at bytes) c d old new
-ends-one (Ok done) old new c d at count bytes k s w = makes-one old new c d at count bytes k s w
-ends-one (Err failed) old new c d at count bytes k s w = fails-one old new c d at count bytes k s w
+ends-one (Ok done) old new c d at count bytes h k s w = makes-one old new c d at count bytes k s w
+ends-one (Err failed) old new c d at count bytes h k s w = fails-one old new c d at count bytes h k s w
 
 -- a write of which nothing reaches the store
 pub none-told : (ws : List Write) (store : Option (List ℕ)) → store ≡ store_after (first_bytes 0 ws) store
@@ -70,9 +87,6 @@ makes-none store c d at count bytes k z s = record {
       (sym z ∙ k ∙ ap (through c) (sym (bytes_in-one at bytes)));
   cut = s ∙ ap (λ n. spent n c) (sym (bytes_in-one at bytes));
 }
-
-through-none : (c : BlkCut) → through c 0 ≡ 0
-through-none c = omega (arith, through-within c 0)
 
 spent-none : (c : BlkCut) → spent 0 c ≡ c
 spent-none Uncut = refl
@@ -101,17 +115,34 @@ module _ (vs ws : List Write) (c0 c1 c2 : BlkCut) (h0 h1 h2 : Option (List ℕ))
         ∙ ap (λ n. spent n c0) (sym (bytes_in-append vs ws));
   }
 
+  both-through : (n : ℕ) → through c0 (bytes_in vs + n)
+      ≡ through c0 (bytes_in vs) + through (spent (bytes_in vs) c0) n
+  both-through n = through-more c0 (bytes_in vs) n
+
   pub then-fails : Makes vs c0 c1 h0 h1 → FailsWithin ws c1 c2 h1 h2 → FailsWithin (vs ++ ws) c0 c2 h0 h2
   then-fails p q =
       let few : q.kept ≤ through (spent (bytes_in vs) c0) q.tried =
-      subst (λ c. q.kept ≤ through c q.tried) p.cut q.fewer in
+      subst (λ c. q.kept ≤ through c q.tried) p.cut q.most in
+      let more : through (spent (bytes_in vs) c0) (bytes_in q.made) ≤ q.kept =
+      subst (λ c. through c (bytes_in q.made) ≤ q.kept) p.cut q.least in
+      let some : through (spent (bytes_in vs) c0) (bytes_in q.made) < through (spent (bytes_in vs) c0) q.tried =
+      subst (λ c. through c (bytes_in q.made) < through c q.tried) p.cut q.some in
+      let made : through c0 (bytes_in (vs ++ q.made)) ≡ through c0 (bytes_in vs)
+      + through (spent (bytes_in vs) c0) (bytes_in q.made) =
+      ap (through c0) (bytes_in-append vs q.made) ∙ both-through (bytes_in q.made) in
       let whole : (through c0 (bytes_in vs) ≡ bytes_in vs) ⊎ (q.kept ≡ 0) =
       elim (all-or-none c0 (bytes_in vs) q.tried) [ inl e ↦ inl e | inr e ↦ inr (omega arith) ] in
       record {
+        made = vs ++ q.made;
+        failed = q.failed;
+        others = q.others;
         tried = bytes_in vs + q.tried;
         kept = through c0 (bytes_in vs) + q.kept;
-        within = omega (arith, bytes_in-append vs ws, q.within);
-        fewer = omega (arith, through-more c0 (bytes_in vs) q.tried);
+        parts = ap (λ (us : List Write). vs ++ us) q.parts ∙ sym (append_assoc vs q.made (q.failed ∷ q.others));
+        within = omega (arith, bytes_in-append vs q.made, q.within);
+        some = omega (arith, made, some, both-through q.tried);
+        least = omega (arith, made, more);
+        most = omega (arith, few, both-through q.tried);
         store = q.store ∙ ap (store_after (first_bytes q.kept ws)) p.store
             ∙ sym (in-turn-told (through c0 (bytes_in vs)) q.kept vs ws h0 (through-within c0 (bytes_in vs)) whole);
         cut = q.cut ∙ ap (spent q.tried) p.cut ∙ sym (spent-more c0 (bytes_in vs) q.tried);
@@ -119,12 +150,23 @@ module _ (vs ws : List Write) (c0 c1 c2 : BlkCut) (h0 h1 h2 : Option (List ℕ))
 
   pub fails-before : FailsWithin vs c0 c1 h0 h1 → FailsWithin (vs ++ ws) c0 c1 h0 h1
   fails-before p = record {
+    made = p.made;
+    failed = p.failed;
+    others = p.others ++ ws;
     tried = p.tried;
     kept = p.kept;
-    within = omega (arith, bytes_in-append vs ws, p.within);
-    fewer = p.fewer;
+    parts = ap (λ (us : List Write). us ++ ws) p.parts ∙ append_assoc p.made (p.failed ∷ p.others) ws;
+    within = p.within;
+    some = p.some;
+    least = p.least;
+    most = p.most;
     store = p.store ∙ none-told ws (store_after (first_bytes p.kept vs) h0)
-        ∙ sym (in-turn-told p.kept 0 vs ws h0 (omega (arith, p.within, p.fewer, through-within c0 p.tried))
+        ∙ sym (in-turn-told p.kept 0 vs ws h0 (omega (
+          arith,
+          p.most,
+          through-within c0 p.tried,
+          tried-within p.made p.others vs p.failed p.tried p.parts p.within,
+        ))
         (inr refl)) ∙ ap (λ n. store_after (first_bytes n (vs ++ ws)) h0) (omega arith);
     cut = p.cut;
   }
@@ -197,11 +239,23 @@ module _ (at : ℕ) (a b : List ℕ) (c0 c1 c2 : BlkCut) (h0 h1 h2 : Option (Lis
 
   as-one : (d : BlkCut) (h : Option (List ℕ)) → FailsWithin (one_write at a ++ one_write (at + length a) b) c0 d h0 h
       → FailsWithin (one_write at (a ++ b)) c0 d h0 h
+  unfolding bytes_in
   as-one d h p = record {
+    made = [];
+    failed = record { at = at; bytes = a ++ b };
+    others = [];
     tried = p.tried;
     kept = p.kept;
-    within = omega (arith, same-bytes at a b, p.within);
-    fewer = p.fewer;
+    parts = refl;
+    within = omega (
+      arith,
+      same-bytes at a b,
+      bytes_in-one at (a ++ b),
+      tried-within p.made p.others (one_write at a ++ one_write (at + length a) b) p.failed p.tried p.parts p.within,
+    );
+    some = omega (arith, through-none c0, p.some);
+    least = omega (arith, through-none c0);
+    most = p.most;
     store = p.store ∙ joined-told p.kept at a b h0 room;
     cut = p.cut;
   }

@@ -4,7 +4,7 @@ ghost use Rattle.std.specs.List.{find};
 ghost use Rattle.std.specs.Option.{option_map};
 ghost use Rattle.box_io.specs.Outside.{HasCause, Rose};
 ghost use Rattle.blk_spec.specs.Layout.{IsLayout};
-ghost use Rattle.blk_spec.specs.Answers.{HasRoom, Answers};
+ghost use Rattle.blk_spec.specs.Answers.{HasRoom, Answers, Loads};
 ghost use Rattle.blk_spec.specs.States.{append_refusal, append_of, appended, dump_refusal, dump_of, dumped, erase_refusal, erase_of, erased, cut_after as cut_state, names_of, content_of, time_of, is_listed, zone_of, loaded, load_writes, clearing};
 ghost use Rattle.blk_spec.specs.Rings.{empty_words};
 ghost use Rattle.blk_spec.specs.Writes.{limited as limited_to};
@@ -13,7 +13,7 @@ ghost use Rattle.blk_spec.specs.Names.{is_name as is_same, dump_name as name_of_
 ghost use Rattle.blk_spec.specs.Dumps.{counter_for as counter_of, counted as counted_of};
 ghost use Rattle.zone_blk.specs.Outcomes.{Ends};
 ghost use Rattle.zone_blk.specs.Loading.{IsReadFault};
-ghost use Rattle.zone_blk.specs.Answering.{Loads, IsContent, IsLoadedState};
+ghost use Rattle.zone_blk.specs.Answering.{IsContent, IsLoadedState};
 ghost use Rattle.blk_spec.specs.declared.BlkFault.TheVariants.{StoreFault};
 ghost use Rattle.zone_blk.specs.Fits.{IsZone, IsWithin};
 ghost use Rattle.zone_blk.specs.Calls.{RingAnswers, counters_seen};

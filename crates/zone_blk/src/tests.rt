@@ -394,6 +394,81 @@ fn a_failing_store_is_told(rt: HostRuntime) -> Result<(), Fail> {
     Ok(())
 }
 
+// The header of the second append is torn: its new length stands beside the old start.
+#[test]
+fn append_that_fails_in_its_header(rt: HostRuntime) -> Result<(), Fail> {
+    let mut store = zeros(rt.alloc(), 16384, &[10])?;
+    let mut blk = reload(rt.alloc(), &mut store)?;
+    append(&mut blk, &mut store, BlkRing::Console, b"abc")?;
+    assert_eq!(rt;
+        append(&mut blk, &mut store, BlkRing::Console, b"de").err(),
+        Some(BlkFault::StoreFault)
+    );
+    assert_eq!(rt;
+        store.bytes().get(4096..4114),
+        Some(b"\x46\x42\x47\x43\x05\0\0\0\x03\0\0\0abcde\0".as_slice())
+    );
+    let blk = reload(rt.alloc(), &mut store)?;
+    assert_eq!(rt;
+        blk.content(BlkName::Console)?.as_slice(),
+        b"deabc".as_slice()
+    );
+    Ok(())
+}
+
+// Of 13 bytes the failed write of three has three, the next data two, and their header eight.
+#[test]
+fn cut_after_a_failed_write(rt: HostRuntime) -> Result<(), Fail> {
+    let mut store = zeros(rt.alloc(), 16384, &[7])?;
+    let mut blk = reload(rt.alloc(), &mut store)?;
+    blk.cut_after(13);
+    assert_eq!(rt;
+        append(&mut blk, &mut store, BlkRing::Console, b"abc").err(),
+        Some(BlkFault::StoreFault)
+    );
+    assert_eq!(rt;
+        store.bytes().get(4096..4111),
+        Some(b"\x46\x42\x47\x43\0\0\0\0\0\0\0\0a\0\0".as_slice())
+    );
+    append(&mut blk, &mut store, BlkRing::Console, b"de")?;
+    assert_eq!(rt;
+        store.bytes().get(4096..4111),
+        Some(b"\x46\x42\x47\x43\x02\0\0\0\0\0\0\0de\0".as_slice())
+    );
+    let blk = reload(rt.alloc(), &mut store)?;
+    assert_eq!(rt; blk.content(BlkName::Console)?.as_slice(), b"de".as_slice());
+    Ok(())
+}
+
+// The first header is written, the second torn; what was loaded before goes on.
+#[test]
+fn load_that_fails_in_its_second_write(rt: HostRuntime) -> Result<(), Fail> {
+    let mut store = zeros(rt.alloc(), 16384, &[16])?;
+    let mut blk = reload(rt.alloc(), &mut store)?;
+    append(&mut blk, &mut store, BlkRing::Console, b"abc")?;
+    append(&mut blk, &mut store, BlkRing::Pmsg, b"de")?;
+    assert_eq!(rt;
+        reload(rt.alloc(), &mut store).err(),
+        Some(BlkFault::StoreFault)
+    );
+    assert_eq!(rt;
+        store.bytes().get(0..14),
+        Some(b"\x43\x42\x47\x43\0\0\0\0\0\0\0\0de".as_slice())
+    );
+    assert_eq!(rt;
+        store.bytes().get(4096..4111),
+        Some(b"\x46\x42\x47\x43\0\0\0\0\x03\0\0\0abc".as_slice())
+    );
+    append(&mut blk, &mut store, BlkRing::Console, b"f")?;
+    let blk = reload(rt.alloc(), &mut store)?;
+    assert_eq!(rt;
+        blk.content(BlkName::Console)?.as_slice(),
+        b"abcf".as_slice()
+    );
+    assert_eq!(rt; blk.content(BlkName::Pmsg).err(), Some(BlkFault::NoRecord));
+    Ok(())
+}
+
 // Whether the store has these bytes from here on.
 fn holds_at(store: &MemStore, at: usize, bytes: &[u8]) -> bool {
     match store.bytes().get(at..) {

@@ -116,7 +116,7 @@ pub fn write_run<M: Store>(
 {
     match write(store, cut, zone, zone.at + 12 + place, bytes) {
         Ok(()) => write_header(store, cut, zone, words),
-        Err(Failed) => Err(Failed),
+        Err(failed) => Err(failed),
     }
 }
 

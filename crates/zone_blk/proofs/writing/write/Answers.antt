@@ -1,3 +1,4 @@
+use Rattle.std.proofs.Common.{arith}
 use Rattle.zone_blk.proofs.Sequences.{makes-none, ends-one}
 use Rattle.zone_blk.proofs.writing.write.Goals as goal
 
@@ -11,5 +12,5 @@ pub returns-clause-ends : goal.returns-clause-ends
 returns-clause-ends g c =
     ends-one c.write_at.result (g.M.Store.holds c.args.store.now) (g.M.Store.holds c.write_at.new.self)
     c.args.cut.now c.pass-passing.result.cut c.args.at c.pass-passing.result.count c.args.bytes.now
-    c.pass-passing.ensures.count c.pass-passing.ensures.cut
+    (omega (arith, c.if-passing-eq0.false)) c.pass-passing.ensures.count c.pass-passing.ensures.cut
     c.write_at.ensures.bytes

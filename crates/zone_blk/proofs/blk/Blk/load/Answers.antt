@@ -1,8 +1,8 @@
-use Rattle.std.proofs.Common.{◌∙◌, sym, ap, subst}
-use Rattle.blk_spec.specs.Answers.{HasRoom}
+use Rattle.std.proofs.Common.{◌∙◌, sym, ap, subst, Option, List, ℕ}
+use Rattle.blk_spec.specs.Answers.{HasRoom, HasFront}
 use Rattle.blk_spec.specs.Writes.{store_after}
 use Rattle.blk_spec.specs.States.{load_writes}
-use Rattle.zone_blk.proofs.Clearing.{load-refused, uncut-store, room-makes, room-fails}
+use Rattle.zone_blk.proofs.Clearing.{load-refused, uncut-store, uncut-front, room-makes, room-fails}
 use Rattle.zone_blk.proofs.blk.Blk.load.Goals as goal
 
 pub returns-in-Err-clause-answer : goal.returns-in-Err-clause-answer
@@ -17,6 +17,13 @@ returns-in-Ok-clear_rings-clause-answer g c = (
       (g.M.Store.holds c.clear_rings.new.store) c.in-Ok-clear_rings.ensures.ends
       ∙ ap (store_after (load_writes c.args.layout)) c.in-Ok.ensures.same,
 )
+
+pub returns-in-Err-clear_rings-clause-answer : goal.returns-in-Err-clear_rings-clause-answer
+returns-in-Err-clear_rings-clause-answer g c =
+    subst (λ (before : Option (List ℕ)). HasFront (load_writes c.args.layout) before
+    (g.M.Store.holds c.clear_rings.new.store)) c.in-Ok.ensures.same
+    (uncut-front (load_writes c.args.layout) c.clear_rings.new.cut (g.M.Store.holds c.read_all.new.store)
+    (g.M.Store.holds c.clear_rings.new.store) c.in-Err-clear_rings.ensures.ends)
 
 pub returns-in-Ok-clear_rings-clause-room : goal.returns-in-Ok-clear_rings-clause-room
 returns-in-Ok-clear_rings-clause-room g c = λ n room. room-makes _ _ _ _ _ c.in-Ok-clear_rings.ensures.ends n
