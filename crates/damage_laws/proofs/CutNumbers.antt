@@ -3,16 +3,15 @@ use Rattle.std.proofs.Common.{◌≡◌, ◌≢◌, ℕ, zero, suc, ◌+◌, ◌
 use Rattle.std.specs.Prelude.{Contains, sum_by}
 use Rattle.std.proofs.lemmas.Bool.{cases_eq}
 use Rattle.std.proofs.lemmas.Bool.Decides.{nat_tests}
-use Rattle.std.proofs.lemmas.List.Sums.{sum_by-cons}
 use Rattle.std.specs.List.{AllByRecursion, range_with_len, list_any}
 use Rattle.zone_spec.specs.declared.Zone.{Zone}
 use Rattle.zone_spec.specs.declared.State.{State}
 use Rattle.zone_spec.specs.declared.State.TheVariants.{Unsigned, Empty, Invalid, Found}
 use Rattle.zone_spec.specs.Zones.{IsValidZone}
-use Rattle.zone_spec.specs.Parts.{AreBytes, part_bytes, part_at, part_len, part_parity_at, standing_words}
+use Rattle.zone_spec.specs.Parts.{standing_words}
 use Rattle.zone_spec.specs.Reading.{zone_reading}
-use Rattle.zone_spec.specs.Stores.{after_stores, byte_stores}
-use Rattle.zone_spec.specs.Stages.{Stage, SigWord, StartWord, SizeWord, Run, ParityOf, stage_stores, stores_in_turn, stage_count}
+use Rattle.zone_spec.specs.Stores.{after_stores}
+use Rattle.zone_spec.specs.Stages.{Stage, stores_in_turn, stage_count}
 use Rattle.zone_spec.specs.Calls.{erase_stages, call_stages, call_stores}
 use Rattle.zone_spec.specs.Boot.{boot_fixes, boot_erasure, boot_stores, signing, keeps}
 use Rattle.zone_spec.specs.Touched.{touched_by, before_runs, runs_of}
@@ -24,10 +23,8 @@ use Rattle.session_spec.specs.Sound.{IsInFlight}
 use Rattle.session_spec.specs.Exact.{RunsAreTouched, RisesFrom}
 use Rattle.damage_laws.specs.CutCalls.{CutReportIsExact}
 use Rattle.damage_laws.specs.CutErasures.{BootCutReportIsExact}
-use Rattle.ring_laws.proofs.PartsLaw.{slice_range-bytes, part_short}
-use Rattle.ring_laws.proofs.PartWords.{has_parity}
 use Rattle.ring_laws.proofs.StoreCounts.{length-stores}
-use Rattle.ring_laws.proofs.StoreBytes.{HasBytes, after-bytes, stage_stores-all, call-all}
+use Rattle.ring_laws.proofs.StoreBytes.{HasBytes, call-all}
 use Rattle.ring_laws.proofs.BootLaw.{booted_bytes, booted_image}
 use Rattle.damage_laws.proofs.Touched.{any_range, call-leaves}
 use Rattle.damage_laws.proofs.Seen.{seen_is_exact}

@@ -1,5 +1,5 @@
 -- The pair that is seen is the first pair that the words are
-use Rattle.std.proofs.Common.{◌≡◌, ◌≢◌, ℕ, nat_lt, ◌<◌, ◌≤◌, Bool, true, false, cond, ◌&&◌, ◌==◌, List, length, get_or, slice_get, refl, sym, ap, ap₂, ◌∙◌, subst, arith, inl, inr, ◌⊎◌, Option, Some, None, true≢false, eq-eqb, eqb-true}
+use Rattle.std.proofs.Common.{◌≡◌, ◌≢◌, ℕ, nat_lt, ◌<◌, ◌≤◌, Bool, true, false, ◌&&◌, ◌==◌, List, length, get_or, slice_get, refl, sym, ap, ap₂, ◌∙◌, subst, arith, inl, inr, Option, Some, None, true≢false, eq-eqb, eqb-true}
 use Rattle.std.specs.List.{position, position_or_len}
 use Rattle.std.proofs.lemmas.Bool.{cases_lt}
 use Rattle.std.proofs.lemmas.Bool.Decides.{eqb_tells, nat_tests}
@@ -9,7 +9,6 @@ use Rattle.std.proofs.lemmas.Option.{get_or_from_slice_get, slice_get-get_or, sl
 use Rattle.zone_spec.specs.declared.Zone.{Zone}
 use Rattle.zone_spec.specs.declared.Words.{Words}
 use Rattle.zone_spec.specs.declared.Pair.{Pair}
-use Rattle.zone_spec.specs.declared.HeaderSeen.{HeaderSeen}
 use Rattle.zone_spec.specs.declared.HeaderSeen.TheVariants.{Pair as SeenPair, Foreign}
 use Rattle.zone_spec.specs.Pairs.{pair_of, seen_at, header_seen}
 use Rattle.session_spec.specs.Exact.{IsFirstPair, IsExactSeen}
@@ -56,9 +55,9 @@ module _ (z : Zone) (w : Words) (pairs : List Pair) where
       let f = first_of i e in
       record {
         pair = λ j. (
-            (λ h. (let same : i ≡ j = cc in subst (IsFirstPair z w pairs) same
-                (record { signed = signed; pair = f.0; first = f.1 }))),
-            (λ h. ap SeenPair (least i j f h)),
+          (λ h. (let same : i ≡ j = cc in subst (IsFirstPair z w pairs) same
+              (record { signed = signed; pair = f.0; first = f.1 }))),
+          (λ h. ap SeenPair (least i j f h)),
         );
         foreign = (
           (λ h. (let n : SeenPair i ≡ Foreign = h in cc)),
@@ -74,8 +73,8 @@ module _ (z : Zone) (w : Words) (pairs : List Pair) where
       ]
   seen_by None e signed = record {
     pair = λ j. (
-        (λ h. (let n : Foreign ≡ SeenPair j = h in cc)),
-        (λ h. absurd (none_of e j h.pair)),
+      (λ h. (let n : Foreign ≡ SeenPair j = h in cc)),
+      (λ h. absurd (none_of e j h.pair)),
     );
     foreign = ((λ h. inr (none_of e)), (λ h. refl));
   }
@@ -84,7 +83,7 @@ module _ (z : Zone) (w : Words) (pairs : List Pair) where
   seen_is_exact = elim (eqb_tells w.sig z.sig) [
     | inl s ↦ rw s.0 (seen_by (position test pairs) refl s.1)
     | inr n ↦ rw n.0 (record {
-        pair = λ j. ((λ h. (let c : Foreign ≡ SeenPair j = h in cc)), (λ h. absurd (n.1 h.signed)));
-        foreign = ((λ h. inl n.1), (λ h. refl));
-      })
+      pair = λ j. ((λ h. (let c : Foreign ≡ SeenPair j = h in cc)), (λ h. absurd (n.1 h.signed)));
+      foreign = ((λ h. inl n.1), (λ h. refl));
+    })
   ]

@@ -5,7 +5,7 @@ use Rattle.circular_buffer.proofs.Places.{slice_get-some}
 use Rattle.zone_spec.specs.declared.Zone.{Zone}
 use Rattle.ram_region.specs.CutRegion.{span}
 use Rattle.zone_spec.specs.declared.Kind.TheVariants.{Dump as DumpKind}
-use Rattle.zone_spec.specs.declared.Refusal.TheVariants.{NoZone, Busy}
+use Rattle.zone_spec.specs.declared.Refusal.TheVariants.{Busy}
 use Rattle.zone_spec.specs.Records.{is_of}
 use Rattle.zone_spec.specs.Layouts.{zone_place}
 use Rattle.zone_spec.specs.Told.{Call}

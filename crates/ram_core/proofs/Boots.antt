@@ -17,12 +17,11 @@ use Rattle.zone_spec.specs.Boot.{boot_stores}
 use Rattle.zone_spec.specs.Verdicts.{verdict_of}
 use Rattle.zone_spec.specs.Cut.{Cut, CutReport}
 use Rattle.session_spec.specs.Zones.{zone_bytes}
-use Rattle.session_spec.specs.States.{OffZone, OffState, LiveZone, Off}
+use Rattle.session_spec.specs.States.{OffZone, OffState, LiveZone}
 use Rattle.session_spec.specs.Off.{fresh}
 use Rattle.session_spec.specs.Boot.{booted_zone, booted}
 use Rattle.session_spec.specs.Report.{ZoneReport, report_cut as reported_cut, zone_report, report}
 use Rattle.session_spec.specs.Erasures.{saved_logs}
-use Rattle.session_spec.specs.Sound.{IsState}
 use Rattle.session_laws.proofs.Lists.{get-map, get-zip-map, length-zip-map, zone_within}
 use Rattle.session_laws.proofs.Zones.{zone_image}
 use Rattle.session_laws.proofs.OffStates.{booted-state, fresh-state}

@@ -26,13 +26,12 @@ use Rattle.zone_spec.specs.Pairs.{pairs_from, pair_of}
 use Rattle.zone_spec.specs.Boot.{boot_stores, boot_fixes, boot_erasure, signing, keeps, told_by_boot}
 use Rattle.zone_spec.specs.Cut.{cut_stages, cut_pairs}
 use Rattle.session_spec.specs.Zones.{zone_bytes}
-use Rattle.session_spec.specs.States.{OffZone, OffState, Off}
+use Rattle.session_spec.specs.States.{OffZone, OffState}
 use Rattle.session_spec.specs.Off.{fresh}
 use Rattle.session_spec.specs.BootPart.{moved, image_boot_stores, boot_count, IsWithinErasure, boot_cut, zone_finished, zone_cut, zone_parted, left_at, boot_parted}
-use Rattle.session_spec.specs.Sound.{IsMemory, IsState}
+use Rattle.session_spec.specs.Sound.{IsMemory}
 use Rattle.session_laws.proofs.Lists.{length-numbered, get-map, zone_within}
 use Rattle.session_laws.proofs.Zones.{zone_image}
-use Rattle.session_laws.proofs.OffStates.{fresh-state}
 use Rattle.session_laws.proofs.Sessions.{image_is_zones_and_rest}
 use Rattle.session_laws.proofs.CutBoot.{cut_boot_makes_stores, cut_boot_leaves_rest, cut_boot_reads, cut_boot_holds, cut_boot_keeps_stops, new_zone, count_within}
 use Rattle.damage_laws.proofs.BootCut.{boot_cut_zone_reads}

@@ -1,6 +1,6 @@
 -- A machine that is off stands for a sound state: as it is made, and after a flip
 use Rattle.std.proofs.Common.{◌≡◌, ℕ, ◌<◌, List, length, refl, ◌∙◌, ap, subst}
-use Rattle.std.specs.Prelude.{slice_get, slice_index, slice_set, bit_xor, Some, None}
+use Rattle.std.specs.Prelude.{slice_index, slice_set, bit_xor, None}
 use Rattle.std.specs.Option.{option_map}
 use Rattle.std.proofs.lemmas.List.{length-map}
 use Rattle.zone_spec.specs.declared.Zone.{Zone}
@@ -12,7 +12,7 @@ use Rattle.session_spec.specs.Off.{fresh, flipped}
 use Rattle.session_laws.proofs.OffStates.{fresh-state, flipped-state}
 use Rattle.session_laws.proofs.Lists.{get-map}
 use Rattle.ram_core.specs.declared.known.KnownZone.{KnownZone}
-use Rattle.ram_core.specs.OffSeen.{OffSeen, StandsForKnown, StandsOff, AreUnknown, shown_cut}
+use Rattle.ram_core.specs.OffSeen.{OffSeen, StandsForKnown, StandsOff, AreUnknown}
 use Rattle.ram_core.specs.Resting.{IsResting}
 
 module _ (layout : List Zone) (mem : ℕ) (image : List ℕ) (known : List KnownZone)

@@ -1,5 +1,5 @@
 -- A step in the machine is a step in the state for which it stands
-use Rattle.std.proofs.Common.{◌≡◌, ℕ, ◌-◌, ◌<◌, Bool, true, false, cond, is_some, List, length, slice_get, get_or, refl, sym, ap, ◌∙◌, subst, arith, Option, Some, None, Result, Ok, Err}
+use Rattle.std.proofs.Common.{◌≡◌, ℕ, ◌<◌, Bool, true, false, cond, is_some, List, length, slice_get, get_or, refl, sym, ap, ◌∙◌, subst, Option, Some, None, Ok, Err}
 use Rattle.std.specs.Option.{option_map}
 use Rattle.zone_spec.specs.declared.Zone.{Zone}
 use Rattle.zone_spec.specs.declared.ZoneName.{ZoneName}
@@ -8,7 +8,7 @@ use Rattle.zone_spec.specs.Layouts.{zone_place}
 use Rattle.session_spec.specs.States.{Flight, LiveZone, LiveState}
 use Rattle.zone_flight.specs.Flying.{Flying}
 use Rattle.session_spec.specs.ZoneCalls.{stepped, stores_left}
-use Rattle.session_spec.specs.LiveZones.{Target, target_at, target, with_zone, changed}
+use Rattle.session_spec.specs.LiveZones.{Target, target_at, target, with_zone}
 use Rattle.session_spec.specs.LiveCalls.{goes_on, step}
 use Rattle.ram_core.specs.Storing.{stores_left_of}
 use Rattle.ram_core.specs.declared.zones.HeldZone.{HeldZone}

@@ -4,8 +4,7 @@ use Rattle.session_spec.specs.States.{OffState, Off}
 use Rattle.session_spec.specs.Sound.{IsState}
 use Rattle.ram_core.specs.OffSeen.{OffSeen, StandsOff}
 
--- the machine stands for a sound state: its zones' bytes at their stops are those of some state that a session can
--- come to
+-- the machine stands for some sound state
 pub record IsResting (v : OffSeen) : Type 0 where
   pub lies : IsLayout v.layout v.mem
   pub state : OffState

@@ -57,10 +57,10 @@ impl Model for Off {
     ghost invariant = { λ o. (length o.image ≡ rounded (params_of o.layout).mem)
         × (length o.zones.items ≡ length (zones_of o.layout))
         × IsResting (record {
-            layout = zones_of o.layout;
-            mem = rounded (params_of o.layout).mem;
-            image = o.image;
-            zones = o.zones.items;
+          layout = zones_of o.layout;
+          mem = rounded (params_of o.layout).mem;
+          image = o.image;
+          zones = o.zones.items;
         }) };
 }
 

@@ -1,9 +1,9 @@
 -- What stores leave
-use Rattle.std.proofs.Common.{◌≡◌, ℕ, zero, suc, ◌+◌, ◌<◌, ◌≤◌, List, [], ◌∷◌, ◌++◌, length, take, set, get_or, refl, sym, ap, ◌∙◌, arith, length-set, get_or-set_other, get_or-set_same, take_at, ◌≢◌, length-append, append_assoc}
+use Rattle.std.proofs.Common.{◌≡◌, ℕ, zero, suc, ◌+◌, ◌<◌, ◌≤◌, List, [], ◌∷◌, ◌++◌, length, set, get_or, refl, sym, ap, ◌∙◌, arith, length-set, get_or-set_other, get_or-set_same, ◌≢◌, length-append, append_assoc}
 use Rattle.zone_spec.specs.declared.Zone.{Zone}
 use Rattle.zone_spec.specs.Told.{Call}
 use Rattle.zone_spec.specs.Stores.{Store, put, after_stores, byte_stores}
-use Rattle.zone_spec.specs.Calls.{call_stores, image_after, IsUnderway}
+use Rattle.zone_spec.specs.Calls.{IsUnderway}
 
 pub length-put : (image : List ℕ) (at : ℕ) (bs : List ℕ) → length (put image at bs) ≡ length image
 unfolding put

@@ -149,11 +149,11 @@ call_reported z zone now cut valid sound c own =
     record {
       flight = sound.in_flight cut c own;
       exact = λ told f is. (
-          cut_report z reading cut,
-          ap (report_cut z reading) c,
-          subst (λ k. IsExactReport z reading.words k (kind_of f.call) f.made
-              (length (call_stores z f.call f.image)) (cut_report z reading k)) (sym is.cut_is)
-              (cut_report_is_exact z f zone.stop told reading valid is.at_stop),
+        cut_report z reading cut,
+        ap (report_cut z reading) c,
+        subst (λ k. IsExactReport z reading.words k (kind_of f.call) f.made
+            (length (call_stores z f.call f.image)) (cut_report z reading k)) (sym is.cut_is)
+            (cut_report_is_exact z f zone.stop told reading valid is.at_stop),
       );
     }
 
@@ -164,11 +164,11 @@ erasure_reported z zone now cut valid sound c own =
     record {
       boot = sound.in_erasure cut c own;
       exact = λ before count is. (
-          cut_report z reading cut,
-          ap (report_cut z reading) c,
-          subst (λ k. IsExactReport z reading.words k Erase (count - length (boot_fixes z before))
-              (length (boot_stores z before) - length (boot_fixes z before)) (cut_report z reading k)) (sym is.cut_is)
-              (boot_cut_report_is_exact z before count reading valid is.size is.within).0,
+        cut_report z reading cut,
+        ap (report_cut z reading) c,
+        subst (λ k. IsExactReport z reading.words k Erase (count - length (boot_fixes z before))
+            (length (boot_stores z before) - length (boot_fixes z before)) (cut_report z reading k)) (sym is.cut_is)
+            (boot_cut_report_is_exact z before count reading valid is.size is.within).0,
       );
     }
 
@@ -205,10 +205,10 @@ zone_cuts z zone now valid sound hn = record {
       (cut_zone_reads z zone.stop now told f.1 valid (subst (λ xs. IsInFlight z zone.stop xs f.1) same f.2.at_stop)
       hn damage);
   erasure = λ cut c own. record {
-      boot = sound.in_erasure cut c own;
-      reads = λ before count is. subst (λ k. BootCutReads z before zone.stop now k) (sym is.cut_is)
-          (subst (λ s. BootCutReads z before s now (boot_cut z before count)) (sym is.at_stop)
-          (boot_cut_zone_reads z before now count valid is.size hn is.within));
+    boot = sound.in_erasure cut c own;
+    reads = λ before count is. subst (λ k. BootCutReads z before zone.stop now k) (sym is.cut_is)
+        (subst (λ s. BootCutReads z before s now (boot_cut z before count)) (sym is.at_stop)
+        (boot_cut_zone_reads z before now count valid is.size hn is.within));
   };
 }
 

@@ -428,8 +428,8 @@ mended_of z now n (inr none) = elim (cases_lt n (length (boot_fixes z now))) [
       ∙ append-nil (boot_fixes z now) in
       let m : min n (length (boot_fixes z now)) ≡ length (boot_fixes z now) = min-eq_right b in
       ap (after_stores now) (
-        ap₂ take m all ∙ take_all (length (boot_fixes z now)) (boot_fixes z now) (omega arith)
-        ∙ sym (ap (take n) all ∙ take_all n (boot_fixes z now) b))
+      ap₂ take m all ∙ take_all (length (boot_fixes z now)) (boot_fixes z now) (omega arith)
+      ∙ sym (ap (take n) all ∙ take_all n (boot_fixes z now) b))
 ]
 
 pub cut_boot_reads : CutBootReads

@@ -17,8 +17,8 @@ use Rattle.session_spec.specs.ZoneCalls.{total_stores}
 use Rattle.session_spec.specs.Report.{zone_report}
 use Rattle.session_spec.specs.Sound.{IsCutFlight}
 
--- nothing is told exactly where no list is known; as told exactly where the list is the log; else both
--- lengths, and how long the front is that the two share
+-- the verdict is nothing told exactly where no list is known, as told exactly where the list is the log,
+-- and else has both lengths and the length of the longest front that the two share
 pub record IsExactVerdict (told : Option (List ℕ)) (log : List ℕ) (verdict : Verdict) : Type 0 where
   pub nothing_told : (verdict ≡ NothingTold) ↔ (told ≡ None)
   pub as_told : (verdict ≡ AsTold) ↔ (told ≡ Some log)

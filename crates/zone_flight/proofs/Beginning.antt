@@ -1,5 +1,5 @@
 -- A flight at the begin of its call
-use Rattle.std.proofs.Common.{◌≡◌, ℕ, ◌+◌, ◌-◌, ◌%◌, ◌^◌, ◌<◌, ◌≤◌, ◌⊎◌, min, Bool, true, false, ◌==◌, List, [], ◌∷◌, ◌++◌, length, take, drop, refl, sym, ap, ◌∙◌, subst, arith, append-nil, inl, inr}
+use Rattle.std.proofs.Common.{◌≡◌, ℕ, ◌+◌, ◌%◌, ◌^◌, ◌<◌, ◌≤◌, ◌⊎◌, min, List, [], ◌∷◌, ◌++◌, length, refl, sym, ap, ◌∙◌, subst, arith, append-nil, inl, inr}
 use Rattle.std.proofs.lemmas.Bool.Decides.{eqb_tells}
 use Rattle.std.proofs.lemmas.List.{nil_from_length}
 use Rattle.std.proofs.lemmas.List.Sums.{sum_by-cons}
@@ -10,11 +10,10 @@ use Rattle.zone_spec.specs.Zones.{IsValidZone}
 use Rattle.zone_spec.specs.Parts.{AreBytes, standing_words}
 use Rattle.zone_spec.specs.Reading.{IsRing}
 use Rattle.zone_spec.specs.Told.{Call, Append, Erase, Dump}
-use Rattle.zone_spec.specs.Stores.{Store, after_stores}
+use Rattle.zone_spec.specs.Stores.{after_stores}
 use Rattle.zone_spec.specs.Stages.{Stage, StartWord, SizeWord, stage_stores, stage_count, stores_in_turn}
-use Rattle.zone_spec.specs.Calls.{append_stages, erase_stages, call_stages, call_stores, IsUnderway}
-use Rattle.zone_flight.specs.declared.progress.Leg.TheVariants.{Erasure, Payload}
-use Rattle.zone_flight.specs.declared.progress.Place.{Place}
+use Rattle.zone_spec.specs.Calls.{append_stages, call_stages, call_stores, IsUnderway}
+use Rattle.zone_flight.specs.declared.progress.Leg.TheVariants.{Payload}
 use Rattle.zone_flight.specs.declared.progress.Phase.{Phase}
 use Rattle.zone_flight.specs.declared.progress.Phase.TheVariants.{ZeroStart, Size, Start, Finished}
 use Rattle.zone_flight.specs.Calls.{last_of, line_of, front_of, IsOpenFor, AreCallBytes}
@@ -24,7 +23,7 @@ use Rattle.zone_flight.specs.Flying.{Flying, payload}
 use Rattle.zone_flight.specs.Phases.{IsSound, IsWithin, IsFinished, phase_len}
 use Rattle.zone_flight.specs.Machine.{stores_of, behind, stores_left, count_left, IsKept, StandsFor}
 use Rattle.zone_flight.specs.Counts.{total_of}
-use Rattle.zone_flight.specs.First.{first_place, append_phase, erasure}
+use Rattle.zone_flight.specs.First.{first_place, erasure}
 use Rattle.zone_flight.proofs.Left.{counted, left_begun, count_begun, in_turn_next}
 use Rattle.zone_flight.proofs.Parts.{append_begins_ne, append_begins_full}
 use Rattle.zone_flight.proofs.Totals.{last_short, stages_append, stages_dump}

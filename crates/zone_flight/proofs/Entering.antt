@@ -1,18 +1,18 @@
 -- The stores that are left stay the same where a phase is entered
-use Rattle.std.proofs.Common.{◌≡◌, ℕ, zero, suc, ◌+◌, ◌-◌, ◌*◌, ◌/◌, ◌%◌, ◌<◌, ◌≤◌, min, List, [], ◌∷◌, ◌++◌, length, take, drop, map, refl, sym, ap, ◌∙◌, subst, arith, length-take, length-drop, append_assoc, div-mul-le_self, add-mul}
+use Rattle.std.proofs.Common.{◌≡◌, ℕ, suc, ◌+◌, ◌-◌, ◌/◌, ◌%◌, ◌<◌, ◌≤◌, List, [], ◌∷◌, ◌++◌, length, map, refl, sym, ap, ◌∙◌, arith, length-take, length-drop, div-mul-le_self, add-mul}
 use Rattle.std.proofs.Math.Nat.{le-div_iff_mul-le}
 use Rattle.std.specs.List.{range_with_len, sum_by}
 use Rattle.zone_spec.specs.declared.Zone.{Zone}
 use Rattle.code_spec.specs.Code.{parity_of}
-use Rattle.zone_spec.specs.Parts.{Part, Header, Block, part_parity_at, part_bytes}
-use Rattle.zone_spec.specs.Stores.{Store, after_stores, byte_stores}
+use Rattle.zone_spec.specs.Parts.{Header, Block, part_parity_at, part_bytes}
+use Rattle.zone_spec.specs.Stores.{byte_stores}
 use Rattle.zone_spec.specs.Stages.{Stage, StartWord, SizeWord, Run, ParityOf, stage_stores, stage_count, stores_in_turn, blocks_met}
 use Rattle.zone_spec.specs.Calls.{run_stages}
 use Rattle.zone_flight.specs.declared.progress.Phase.{Phase}
 use Rattle.zone_flight.specs.declared.progress.Phase.TheVariants.{ZeroStart, ZeroSize, Size, Start, First, FirstParity, Second, SecondParity, Header as HeaderPhase, Finished}
-use Rattle.zone_flight.specs.Flying.{Flying, payload, later, IsSameCall}
-use Rattle.zone_flight.specs.Phases.{IsDone, IsSound, IsWithin, phase_len, first_run, second_run, first_len, second_len, first_end, second_end}
-use Rattle.zone_flight.specs.Machine.{stores_of, behind, closing, stores_left, count_left, Enters, phases_left, parities_between}
+use Rattle.zone_flight.specs.Flying.{Flying, payload, later}
+use Rattle.zone_flight.specs.Phases.{IsDone, phase_len, first_run, second_run, second_len, first_end, second_end}
+use Rattle.zone_flight.specs.Machine.{stores_of, behind, closing, Enters, parities_between}
 use Rattle.zone_flight.proofs.Left.{AllStored, left_begun, left_done, count_begun, count_done, enters_by}
 
 -- the flight in another phase, at its begin

@@ -1,16 +1,16 @@
 -- What is left of a flight at the begin and at the end of a phase, and where the next stage's stores are entered
-use Rattle.std.proofs.Common.{◌≡◌, ℕ, zero, suc, ◌+◌, ◌-◌, ◌*◌, ◌/◌, ◌%◌, ◌<◌, ◌≤◌, min, List, [], ◌∷◌, ◌++◌, length, take, drop, map, refl, sym, ap, ◌∙◌, subst, arith, length-take, length-drop}
+use Rattle.std.proofs.Common.{◌≡◌, ℕ, suc, ◌+◌, ◌-◌, ◌≤◌, List, [], ◌∷◌, ◌++◌, length, drop, refl, sym, ap, ◌∙◌, arith, length-take, length-drop}
 use Rattle.std.proofs.lemmas.List.{drop_all}
 use Rattle.std.proofs.lemmas.List.Sums.{sum_by-cons}
 use Rattle.std.specs.List.{sum_by}
 use Rattle.zone_spec.specs.declared.Zone.{Zone}
 use Rattle.zone_spec.specs.Parts.{Header, Block, part_parity_at}
-use Rattle.zone_spec.specs.Stores.{Store, after_stores, byte_stores}
+use Rattle.zone_spec.specs.Stores.{after_stores}
 use Rattle.zone_spec.specs.Stages.{Stage, stage_stores, stage_count, stores_in_turn}
 use Rattle.ring_laws.proofs.StoreCounts.{length-byte_stores}
 use Rattle.zone_flight.specs.declared.progress.Phase.{Phase}
 use Rattle.zone_flight.specs.declared.progress.Phase.TheVariants.{ZeroStart, ZeroSize, Size, Start, First, FirstParity, Second, SecondParity, Header as HeaderPhase, Finished}
-use Rattle.zone_flight.specs.Flying.{Flying, payload, IsSameCall}
+use Rattle.zone_flight.specs.Flying.{Flying, payload}
 use Rattle.zone_flight.specs.Phases.{IsDone, IsSound, IsWithin, phase_len, first_run, second_run}
 use Rattle.zone_flight.specs.Machine.{stores_of, behind, stores_left, count_left, phases_left, Enters}
 

@@ -1,5 +1,5 @@
 -- The parts of a call behind one another
-use Rattle.std.proofs.Common.{◌≡◌, ℕ, ◌+◌, ◌-◌, ◌%◌, ◌<◌, ◌≤◌, min, Bool, true, false, cond, ◌==◌, List, [], ◌∷◌, ◌++◌, length, take, drop, refl, sym, ap, ◌∙◌, subst, arith, append_assoc, append-nil, length-take}
+use Rattle.std.proofs.Common.{◌≡◌, ℕ, ◌+◌, ◌-◌, ◌%◌, ◌<◌, ◌≤◌, min, Bool, true, false, cond, ◌==◌, List, [], ◌∷◌, ◌++◌, length, take, drop, refl, sym, ap, ◌∙◌, arith, append_assoc, append-nil, length-take}
 use Rattle.std.proofs.lemmas.Bool.{ne_eqb}
 use Rattle.zone_spec.specs.declared.Zone.{Zone}
 use Rattle.std.proofs.lemmas.List.{nil_from_length}
@@ -8,14 +8,13 @@ use Rattle.zone_spec.specs.Parts.{Header}
 use Rattle.zone_spec.specs.Stages.{Stage, StartWord, SizeWord, ParityOf, stage_stores}
 use Rattle.zone_spec.specs.Calls.{append_stages, run_stages}
 use Rattle.zone_flight.specs.declared.progress.Leg.{Leg}
-use Rattle.zone_flight.specs.declared.progress.Leg.TheVariants.{Erasure, Payload, Line, Body}
+use Rattle.zone_flight.specs.declared.progress.Leg.TheVariants.{Erasure, Line, Body}
 use Rattle.zone_flight.specs.declared.progress.Place.{Place}
-use Rattle.zone_flight.specs.declared.progress.Phase.{Phase}
-use Rattle.zone_flight.specs.declared.progress.Phase.TheVariants.{Size, Start, Header as HeaderPhase}
+use Rattle.zone_flight.specs.declared.progress.Phase.TheVariants.{Size, Header as HeaderPhase}
 use Rattle.zone_flight.specs.Calls.{line_of, front_of, body_stages}
-use Rattle.zone_flight.specs.Flying.{Flying, at_place, payload, later}
-use Rattle.zone_flight.specs.Phases.{IsDone, IsSound, first_run, second_run}
-use Rattle.zone_flight.specs.Machine.{behind, Enters}
+use Rattle.zone_flight.specs.Flying.{Flying, at_place, later}
+use Rattle.zone_flight.specs.Phases.{IsDone, IsSound}
+use Rattle.zone_flight.specs.Machine.{Enters}
 use Rattle.zone_flight.proofs.Left.{AllStored, enters_by}
 
 regroup : (a r1 r2 more : List Stage) (s h : Stage) → a ++ s ∷ [] ++ r1 ++ r2 ++ h ∷ [] ++ more

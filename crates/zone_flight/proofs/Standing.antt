@@ -1,10 +1,9 @@
 -- What it means that a flight stands for an image
-use Rattle.std.proofs.Common.{◌≡◌, ℕ, ◌+◌, ◌<◌, List, [], ◌++◌, length, take, drop, refl, sym, ap, ◌∙◌, subst, arith, take_at, append-nil}
+use Rattle.std.proofs.Common.{◌≡◌, ℕ, List, [], ◌++◌, length, take, drop, sym, ap, ◌∙◌, arith, take_at, append-nil}
 use Rattle.std.proofs.lemmas.List.{drop_all}
 use Rattle.zone_spec.specs.Stores.{Store, after_stores}
 use Rattle.zone_spec.specs.Stages.{stores_in_turn}
 use Rattle.zone_spec.specs.Calls.{call_stores, image_after}
-use Rattle.zone_flight.specs.declared.progress.Phase.TheVariants.{Finished}
 use Rattle.zone_flight.specs.Flying.{Flying}
 use Rattle.zone_flight.specs.Phases.{IsFinished}
 use Rattle.zone_flight.specs.Machine.{stores_of, behind, stores_left, IsKept, StandsFor}

@@ -1,7 +1,6 @@
 -- A store of a flight, and the stores that are then left
-use Rattle.std.proofs.Common.{◌≡◌, ℕ, zero, suc, ◌+◌, ◌-◌, ◌<◌, ◌≤◌, ◌⊎◌, List, [], ◌∷◌, ◌++◌, length, drop, slice_get, refl, sym, ap, ◌∙◌, subst, arith, Option, Some, None, append_assoc, length-append, inl, inr, ◌↔◌}
+use Rattle.std.proofs.Common.{◌≡◌, ℕ, zero, suc, ◌+◌, ◌<◌, List, [], ◌∷◌, ◌++◌, length, drop, slice_get, refl, sym, ap, ◌∙◌, subst, arith, Some, inl, inr, ◌↔◌}
 use Rattle.std.specs.List.{sum_by}
-use Rattle.std.proofs.lemmas.List.{drop_all}
 use Rattle.zone_spec.specs.declared.Zone.{Zone}
 use Rattle.zone_spec.specs.Told.{Call}
 use Rattle.zone_spec.specs.Stores.{Store, put, after_stores}
@@ -11,7 +10,7 @@ use Rattle.zone_spec.specs.Calls.{call_stores, call_stages, IsUnderway}
 use Rattle.ring_laws.proofs.Images.{IsUnderway-step}
 use Rattle.zone_flight.specs.declared.progress.Phase.{Phase}
 use Rattle.zone_flight.specs.declared.progress.Phase.TheVariants.{ZeroStart, ZeroSize, Size, Start, First, FirstParity, Second, SecondParity, Header as HeaderPhase, Finished}
-use Rattle.zone_flight.specs.Flying.{Flying, payload, IsSameCall}
+use Rattle.zone_flight.specs.Flying.{Flying, IsSameCall}
 use Rattle.zone_flight.specs.Phases.{phase_len, IsFinished, IsSound, IsWithin}
 use Rattle.zone_flight.specs.Machine.{stores_of, behind, stores_left, count_left, StandsFor, IsSettled, IsKept}
 use Rattle.zone_flight.specs.Calls.{IsOpenFor}

@@ -1,7 +1,7 @@
 -- The store that a phase makes next
-use Rattle.std.proofs.Common.{◌≡◌, ℕ, zero, suc, ◌+◌, ◌-◌, ◌*◌, ◌/◌, ◌%◌, ◌<◌, ◌≤◌, ◌⊎◌, min, List, [], ◌∷◌, ◌++◌, length, take, drop, get_or, slice_get, slice_index, refl, sym, ap, ◌∙◌, subst, arith, length-take, length-drop, get_or-take, get_or-drop, Option, Some, None, w32, mul-le-mul_right}
+use Rattle.std.proofs.Common.{◌≡◌, ℕ, zero, suc, ◌+◌, ◌-◌, ◌*◌, ◌/◌, ◌%◌, ◌<◌, ◌≤◌, ◌⊎◌, min, List, [], ◌∷◌, length, get_or, slice_get, slice_index, sym, ap, ◌∙◌, subst, arith, length-take, length-drop, get_or-take, get_or-drop, Some, w32, mul-le-mul_right}
 use Rattle.std.specs.Int.{to_le_bytes}
-use Rattle.std.proofs.Math.Nat.{div-lt_iff_lt-mul, lt-div-mul-add, le-div_iff_mul-le}
+use Rattle.std.proofs.Math.Nat.{div-lt_iff_lt-mul, le-div_iff_mul-le}
 use Rattle.zone_spec.specs.Zones.{IsValidZone}
 use Rattle.zone_spec.specs.declared.Zone.{Zone}
 use Rattle.ring_laws.proofs.RunLaw.{cap_within}
@@ -9,7 +9,7 @@ use Rattle.zone_spec.specs.Parts.{Header, Block, part_parity_at}
 use Rattle.zone_spec.specs.Stores.{Store, put, byte_stores}
 use Rattle.ram_region.specs.CutRegion.{CutRegion, span, with_span}
 use Rattle.zone_flight.specs.declared.progress.Phase.{Phase}
-use Rattle.zone_flight.specs.declared.progress.Phase.TheVariants.{ZeroStart, ZeroSize, Size, Start, First, FirstParity, Second, SecondParity, Header as HeaderPhase, Finished}
+use Rattle.zone_flight.specs.declared.progress.Phase.TheVariants.{ZeroStart, ZeroSize, Size, Start, First, FirstParity, Second, SecondParity, Header as HeaderPhase}
 use Rattle.zone_flight.specs.Flying.{Flying, payload}
 use Rattle.zone_flight.specs.Phases.{phase_len, first_run, second_run, first_len, second_len}
 use Rattle.zone_flight.specs.Machine.{stores_of, Stores}

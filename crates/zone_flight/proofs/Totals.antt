@@ -1,10 +1,9 @@
 -- How many stores the stages of a call have
-use Rattle.std.proofs.Common.{◌≡◌, ℕ, zero, suc, ◌+◌, ◌-◌, ◌*◌, ◌/◌, ◌%◌, ◌^◌, ◌<◌, ◌≤◌, ◌⊎◌, min, Bool, true, false, cond, if◌then◌else◌, ◌==◌, List, [], ◌∷◌, ◌++◌, length, take, drop, map, refl, sym, ap, ◌∙◌, subst, arith, append-nil, inl, inr, length-take, length-drop, mul-le-mul_right, add-mul}
+use Rattle.std.proofs.Common.{◌≡◌, ℕ, suc, ◌+◌, ◌-◌, ◌*◌, ◌/◌, ◌%◌, ◌^◌, ◌<◌, ◌≤◌, min, if◌then◌else◌, ◌==◌, List, [], ◌∷◌, ◌++◌, length, take, drop, map, refl, sym, ap, ◌∙◌, arith, append-nil, inl, inr, length-take, length-drop, mul-le-mul_right}
 use Rattle.std.proofs.Math.Nat.{div-lt_iff_lt-mul}
 use Rattle.std.proofs.lemmas.List.FromFn.{length-range_with_len}
 use Rattle.std.proofs.lemmas.List.Sums.{sum_by-cons, sum_by-append}
 use Rattle.std.proofs.lemmas.Bool.Decides.{eqb_tells}
-use Rattle.std.specs.List.{range_with_len, sum_by}
 use Rattle.zone_spec.specs.declared.Zone.{Zone}
 use Rattle.zone_spec.specs.Zones.{IsValidZone}
 use Rattle.zone_spec.specs.declared.Words.{Words}
@@ -15,8 +14,6 @@ use Rattle.zone_spec.specs.Calls.{append_stages, erase_stages, run_stages, call_
 use Rattle.zone_flight.specs.Calls.{last_of, line_of, front_of, body_stages}
 use Rattle.zone_flight.proofs.Left.{counted}
 use Rattle.zone_flight.proofs.Parts.{append_begins_ne, append_begins_full, sized}
-use Rattle.ring_laws.proofs.RunLaw.{cap_within}
-use Rattle.zone_flight.proofs.Storing.{block_some}
 
 abbrev pub met : Zone → ℕ → ℕ → ℕ
 met z place n = ((place + n + z.block) - 1) / z.block - place / z.block

@@ -1,22 +1,22 @@
 -- The blocks that the stages of a call touch
-use Rattle.std.proofs.Common.{◌≡◌, ℕ, zero, suc, ◌+◌, ◌-◌, ◌*◌, ◌/◌, ◌<◌, ◌≤◌, ◌⊎◌, min, max, Bool, true, false, ◌||◌, List, [], ◌∷◌, ◌++◌, length, take, drop, map, refl, sym, ap, ap₂, ◌∙◌, subst, arith, append-nil, append_assoc, inl, inr, length-take, length-drop, div-mul-le_self, filter, take_all, ◌==◌}
+use Rattle.std.proofs.Common.{◌≡◌, ℕ, zero, suc, ◌+◌, ◌-◌, ◌*◌, ◌/◌, ◌<◌, ◌≤◌, ◌⊎◌, min, Bool, true, false, ◌||◌, List, [], ◌∷◌, ◌++◌, length, take, drop, map, refl, sym, ap, ap₂, ◌∙◌, arith, append-nil, inl, inr, length-take, length-drop, div-mul-le_self, filter, take_all, ◌==◌}
 use Rattle.std.proofs.Math.Nat.{div-lt_iff_lt-mul, le-div_iff_mul-le}
 use Rattle.std.proofs.lemmas.Bool.{cases_lt}
 use Rattle.std.proofs.lemmas.Bool.Decides.{eqb_tells}
 use Rattle.std.proofs.lemmas.List.{nil_from_length, drop_all}
 use Rattle.std.proofs.lemmas.List.Folds.{list_any-append}
-use Rattle.std.specs.List.{range_with_len, list_any}
+use Rattle.std.specs.List.{range_with_len}
 use Rattle.zone_spec.specs.declared.Zone.{Zone}
 use Rattle.zone_spec.specs.declared.Words.{Words}
 use Rattle.zone_spec.specs.Zones.{IsValidZone}
 use Rattle.zone_spec.specs.Parts.{Header, Block}
-use Rattle.zone_spec.specs.Told.{Call, Append, Erase, Dump}
+use Rattle.zone_spec.specs.Told.{Append, Erase, Dump}
 use Rattle.zone_spec.specs.Stages.{Stage, ParityOf, blocks_met}
-use Rattle.zone_spec.specs.Calls.{append_stages, erase_stages, run_stages, call_stages}
+use Rattle.zone_spec.specs.Calls.{append_stages, run_stages, call_stages}
 use Rattle.zone_spec.specs.Touched.{touched_by, runs_of}
 use Rattle.zone_flight.specs.Calls.{last_of, line_of, front_of, body_stages}
 use Rattle.zone_flight.specs.Counts.{runs_between}
-use Rattle.zone_flight.proofs.Parts.{append_begins_ne, append_begins_full, sized, front_short}
+use Rattle.zone_flight.proofs.Parts.{append_begins_ne, append_begins_full, sized}
 use Rattle.ring_laws.proofs.RunLaw.{cap_within}
 use Rattle.zone_flight.proofs.Storing.{block_some}
 use Rattle.zone_flight.proofs.Totals.{last_short, stages_append, stages_dump}

@@ -1,7 +1,6 @@
-use Rattle.std.proofs.Common.{arith, ℕ, ◌≡◌, ◌<◌, ◌≤◌, ◌++◌, ◌∷◌, [], List, sym, ap, ◌∙◌, length, refl, append-nil}
+use Rattle.std.proofs.Common.{arith, ℕ, ◌≡◌, ◌++◌, ◌∷◌, [], List, sym, ap, ◌∙◌, length, refl, append-nil}
 use Rattle.zone_spec.specs.declared.Pair.{Pair}
-use Rattle.zone_spec.specs.Told.{Call, Append, Erase, Dump}
-use Rattle.zone_spec.specs.Stages.{Stage}
+use Rattle.zone_spec.specs.Told.{Append, Erase, Dump}
 use Rattle.zone_spec.specs.Calls.{append_stages, call_stages}
 use Rattle.zone_spec.specs.Pairs.{pairs_from, pair_of}
 use Rattle.zone_flight.specs.Calls.{told_call, last_of, line_of, front_of}

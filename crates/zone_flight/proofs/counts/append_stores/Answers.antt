@@ -1,9 +1,4 @@
-use Rattle.std.proofs.Common.{arith, ℕ, ◌≡◌, ◌+◌, ◌-◌, ◌*◌, ◌<◌, ◌≤◌, ◌^◌, min, List, [], ◌∷◌, refl, sym, ap, ◌∙◌, subst, length, take, drop, length-take, length-drop, if◌then◌else◌, ◌==◌, true, false}
-use Rattle.std.proofs.lemmas.Grind.{common_steps}
-use Rattle.std.proofs.lemmas.List.{nil_from_length}
-use Rattle.zone_spec.specs.Stages.{stage_count}
-use Rattle.zone_spec.specs.Calls.{append_stages}
-use Rattle.std.specs.List.{sum_by}
+use Rattle.std.proofs.Common.{arith, ◌≡◌, ◌+◌, ◌-◌, ◌*◌, sym, ap, ◌∙◌, length, take, drop, length-take, length-drop, if◌then◌else◌, ◌==◌}
 use Rattle.zone_flight.proofs.Storing.{block_some}
 use Rattle.zone_flight.proofs.Totals.{met, append_count, parity_most}
 use Rattle.zone_flight.proofs.counts.append_stores.Goals as goal

@@ -1,7 +1,7 @@
-use Rattle.std.proofs.Common.{arith, ℕ, ◌≡◌, ◌+◌, ◌-◌, ◌/◌, ◌<◌, ◌≤◌, ◌++◌, ◌∷◌, [], List, sym, ap, ◌∙◌, length, refl, append-nil, filter, subst}
+use Rattle.std.proofs.Common.{arith, ℕ, ◌≡◌, ◌+◌, ◌-◌, ◌/◌, ◌<◌, List, sym, ap, ◌∙◌, length, filter, subst}
 use Rattle.std.proofs.lemmas.Grind.{common_steps}
 use Rattle.std.specs.List.{range_with_len}
-use Rattle.zone_spec.specs.Told.{Call, Append, Erase, Dump}
+use Rattle.zone_spec.specs.Told.{Append, Erase, Dump}
 use Rattle.zone_spec.specs.Calls.{call_stages}
 use Rattle.zone_spec.specs.Touched.{touched_by, runs_of}
 use Rattle.zone_flight.specs.Calls.{told_call, last_of, line_of, front_of, IsOpenFor}

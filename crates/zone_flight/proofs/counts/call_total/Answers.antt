@@ -1,12 +1,11 @@
-use Rattle.std.proofs.Common.{arith, ℕ, ◌≡◌, ◌+◌, ◌-◌, ◌*◌, ◌<◌, ◌≤◌, ◌^◌, List, [], ◌∷◌, ◌++◌, refl, sym, ap, ◌∙◌, subst, length, Fits, w32}
-use Rattle.std.proofs.lemmas.List.Sums.{sum_by-cons, sum_by-append}
+use Rattle.std.proofs.Common.{arith, ◌≡◌, ◌+◌, ◌++◌, sym, ap, ◌∙◌, length}
+use Rattle.std.proofs.lemmas.List.Sums.{sum_by-append}
 use Rattle.std.specs.List.{sum_by}
-use Rattle.zone_spec.specs.Told.{Call, Append, Erase, Dump}
-use Rattle.zone_spec.specs.Stages.{Stage, stage_count}
+use Rattle.zone_spec.specs.Told.{Call, Append, Dump}
+use Rattle.zone_spec.specs.Stages.{stage_count}
 use Rattle.zone_spec.specs.Calls.{append_stages, call_stages, erase_stages}
 use Rattle.zone_flight.specs.Calls.{told_call, last_of, line_of, front_of, body_stages}
-use Rattle.zone_flight.proofs.Parts.{front_short}
-use Rattle.zone_flight.proofs.Totals.{last_short, stages_append, stages_dump, erase_count}
+use Rattle.zone_flight.proofs.Totals.{stages_append, stages_dump, erase_count}
 use Rattle.zone_flight.proofs.counts.call_total.Goals as goal
 
 pub returns-in-Append-clause-value : goal.returns-in-Append-clause-value

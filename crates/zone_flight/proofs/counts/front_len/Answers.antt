@@ -1,4 +1,4 @@
-use Rattle.std.proofs.Common.{arith, ◌≡◌, ◌≤◌, length, ap}
+use Rattle.std.proofs.Common.{arith, ◌≡◌, length, ap}
 use Rattle.zone_flight.specs.Calls.{told_call, front_of}
 use Rattle.zone_flight.proofs.Parts.{front_short}
 use Rattle.zone_flight.proofs.counts.front_len.Goals as goal

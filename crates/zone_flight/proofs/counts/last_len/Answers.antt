@@ -1,4 +1,4 @@
-use Rattle.std.proofs.Common.{arith, ◌≡◌, ◌≤◌, length, ap}
+use Rattle.std.proofs.Common.{arith, ◌≡◌, length, ap}
 use Rattle.zone_flight.specs.Calls.{told_call, last_of}
 use Rattle.zone_flight.proofs.Totals.{last_short}
 use Rattle.zone_flight.proofs.counts.last_len.Goals as goal

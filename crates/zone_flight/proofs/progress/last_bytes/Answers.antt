@@ -1,6 +1,6 @@
-use Rattle.std.proofs.Common.{◌≡◌, ℕ, ◌-◌, List, [], length, take, drop, refl, sym, ap, ◌∙◌, arith, take_all, length-drop}
+use Rattle.std.proofs.Common.{refl, arith}
 use Rattle.std.proofs.lemmas.Grind.{common_steps}
-use Rattle.zone_flight.specs.Calls.{told_call, last_of}
+use Rattle.zone_flight.specs.Calls.{last_of}
 use Rattle.zone_flight.proofs.progress.last_bytes.Goals as goal
 
 pub returns-in-Append : goal.returns-in-Append

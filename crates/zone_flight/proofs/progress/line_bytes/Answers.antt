@@ -1,6 +1,6 @@
-use Rattle.std.proofs.Common.{◌≡◌, ℕ, List, [], refl, sym, ap, ◌∙◌, arith}
+use Rattle.std.proofs.Common.{refl, arith}
 use Rattle.std.proofs.lemmas.Grind.{common_steps}
-use Rattle.zone_flight.specs.Calls.{told_call, line_of}
+use Rattle.zone_flight.specs.Calls.{line_of}
 use Rattle.zone_flight.proofs.progress.line_bytes.Goals as goal
 
 pub returns-in-Append-clause-value : goal.returns-in-Append-clause-value

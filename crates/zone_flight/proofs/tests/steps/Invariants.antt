@@ -1,4 +1,4 @@
-use Rattle.std.proofs.Common.{◌≡◌, ℕ}
+use Rattle.std.proofs.Common.{◌≡◌}
 use Rattle.zone_flight.proofs.tests.steps.Given as goal
 
 abbrev pub invariant-loop : goal.invariant-loop

@@ -1,4 +1,4 @@
-use Rattle.std.proofs.Common.{◌≡◌, sym, ◌∙◌}
+use Rattle.std.proofs.Common.{sym, ◌∙◌}
 use Rattle.session_spec.specs.ZoneCalls.{stores_left}
 use Rattle.ram_core.proofs.Stepped.{target_shows, left_here}
 use Rattle.ram_core.proofs.live.Live.left.Goals as goal

@@ -1,8 +1,7 @@
-use Rattle.std.proofs.Common.{◌≡◌, List, ℕ, ap, sym, ◌∙◌, subst, length}
+use Rattle.std.proofs.Common.{◌≡◌, ap, sym, ◌∙◌, subst}
 use Rattle.zone_flight.specs.Flying.{Flying}
-use Rattle.zone_flight.specs.Machine.{IsKept, StandsFor}
-use Rattle.zone_flight.specs.Counts.{total_of}
-use Rattle.zone_spec.specs.Calls.{image_after, call_stores}
+use Rattle.zone_flight.specs.Machine.{IsKept}
+use Rattle.zone_spec.specs.Calls.{image_after}
 use Rattle.zone_flight.proofs.Standing.{stands_image, stands_last}
 use Rattle.zone_flight.proofs.flight.Flight.made.Goals as goal
 

@@ -1,15 +1,13 @@
-use Rattle.std.proofs.Common.{arith, ℕ, ◌≡◌, ◌<◌, ◌≤◌, ◌^◌, List, [], length, refl, sym, ap, ◌∙◌, subst}
+use Rattle.std.proofs.Common.{arith, ℕ, ◌≡◌, List, [], refl, sym, ap, ◌∙◌, subst}
 use Rattle.zone_spec.specs.declared.Words.{Words}
 use Rattle.zone_spec.specs.declared.Zone.{Zone}
-use Rattle.zone_spec.specs.Parts.{standing_words}
 use Rattle.zone_spec.specs.Reading.{IsRing}
 use Rattle.zone_spec.specs.Told.{Call}
-use Rattle.zone_flight.specs.Calls.{told_call, line_of, IsOpenFor}
-use Rattle.zone_flight.specs.Flying.{Flying, seen}
+use Rattle.zone_flight.specs.Calls.{told_call, IsOpenFor}
 use Rattle.zone_flight.specs.First.{first_place}
 use Rattle.zone_flight.specs.declared.progress.Place.{Place}
 use Rattle.zone_flight.specs.Machine.{IsKept, StandsFor}
-use Rattle.zone_flight.proofs.Beginning.{Starts, starts, started, kept_starts, stands_starts}
+use Rattle.zone_flight.proofs.Beginning.{starts, started, kept_starts, stands_starts}
 use Rattle.zone_flight.proofs.progress.Progress.begin.Goals as goal
 
 is_started : (z : Zone) (w : Words) (call : Call) (place : Place) (parity : List ℕ) → place ≡ first_place z w call

@@ -1,11 +1,11 @@
-use Rattle.std.proofs.Common.{arith, ℕ, ◌≡◌, ◌+◌, ◌/◌, ◌<◌, ◌≤◌, [], refl, sym, ap, ◌∙◌, subst, length}
+use Rattle.std.proofs.Common.{arith, ◌+◌, ◌/◌, refl, sym, subst}
 use Rattle.std.proofs.lemmas.List.{nil_from_length}
-use Rattle.zone_flight.specs.declared.progress.Phase.TheVariants.{ZeroStart, ZeroSize, Size, Start, First, FirstParity, Second, SecondParity, Header, Finished}
-use Rattle.zone_flight.specs.Flying.{Flying, seen, payload}
-use Rattle.zone_flight.specs.Phases.{IsWithin, first_end, second_end, second_run, second_len, first_len}
+use Rattle.zone_flight.specs.declared.progress.Phase.TheVariants.{Start, First, Second}
+use Rattle.zone_flight.specs.Flying.{Flying, seen}
+use Rattle.zone_flight.specs.Phases.{IsWithin, second_run, second_len, first_len}
 use Rattle.zone_flight.specs.Machine.{Enters}
 use Rattle.zone_flight.proofs.Left.{all_stored}
-use Rattle.zone_flight.proofs.Storing.{block_some, block_begins}
+use Rattle.zone_flight.proofs.Storing.{block_some}
 use Rattle.zone_flight.proofs.Entering.{end_above, end_some, first_some, second_length, enter_zero_size, enter_header_erased, enter_start, enter_first, enter_first_parity, enter_next_parity, enter_second, enter_second_parity, enter_later_parity, enter_header_first, enter_header_second}
 use Rattle.zone_flight.proofs.progress.Progress.enter.Goals as goal
 

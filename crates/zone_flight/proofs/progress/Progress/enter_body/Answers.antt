@@ -1,6 +1,6 @@
-use Rattle.std.proofs.Common.{◌≡◌, ℕ, ◌<◌, ◌≤◌, List, [], length, refl, sym, ap, ◌∙◌, subst, arith}
+use Rattle.std.proofs.Common.{◌≡◌, ℕ, ◌<◌, length, sym, ap, ◌∙◌, subst, arith}
 use Rattle.std.proofs.lemmas.Grind.{common_steps}
-use Rattle.zone_flight.specs.Calls.{told_call, front_of, line_of, body_stages}
+use Rattle.zone_flight.specs.Calls.{front_of, line_of}
 use Rattle.zone_flight.specs.Flying.{Flying, seen, at_place}
 use Rattle.zone_flight.specs.Phases.{IsSound}
 use Rattle.zone_flight.specs.Machine.{Enters}

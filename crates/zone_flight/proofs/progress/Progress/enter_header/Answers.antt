@@ -1,4 +1,4 @@
-use Rattle.std.proofs.Common.{◌≡◌, length, ap, ◌∙◌}
+use Rattle.std.proofs.Common.{length, ap, ◌∙◌}
 use Rattle.zone_spec.specs.Parts.{Header}
 use Rattle.zone_flight.proofs.ParityBytes.{parity_length}
 use Rattle.zone_flight.proofs.progress.Progress.enter_header.Goals as goal

@@ -1,13 +1,11 @@
-use Rattle.std.proofs.Common.{◌≡◌, ℕ, ◌<◌, ◌≤◌, List, [], length, refl, sym, ap, ◌∙◌, subst, arith}
+use Rattle.std.proofs.Common.{◌<◌, length, sym, ap, subst, arith}
 use Rattle.std.proofs.lemmas.Grind.{common_steps}
-use Rattle.zone_flight.specs.Calls.{told_call, front_of, line_of, body_stages, later_stages}
-use Rattle.zone_flight.specs.Flying.{Flying, seen, at_place, later}
-use Rattle.zone_flight.specs.Phases.{IsSound}
+use Rattle.zone_flight.specs.Calls.{line_of, later_stages}
+use Rattle.zone_flight.specs.Flying.{Flying, seen}
 use Rattle.zone_flight.specs.Machine.{Enters}
-use Rattle.zone_flight.specs.declared.progress.Leg.TheVariants.{Line}
 use Rattle.zone_flight.proofs.Left.{all_stored}
 use Rattle.zone_flight.proofs.Entering.{enter_finished}
-use Rattle.zone_flight.proofs.Parts.{enter_line, begun}
+use Rattle.zone_flight.proofs.Parts.{enter_line}
 use Rattle.zone_flight.proofs.progress.Progress.enter_next_leg.Goals as goal
 
 pub returns-else-is_empty-clause-enters : goal.returns-else-is_empty-clause-enters

@@ -1,4 +1,4 @@
-use Rattle.std.proofs.Common.{◌≡◌, List, ℕ, length}
+use Rattle.std.proofs.Common.{◌≡◌}
 use Rattle.zone_flight.specs.Flying.{seen, IsSameCall}
 use Rattle.zone_flight.specs.Phases.{IsSound}
 use Rattle.zone_flight.specs.Machine.{stores_left, count_left, phases_left}

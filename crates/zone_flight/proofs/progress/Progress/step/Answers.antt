@@ -1,12 +1,10 @@
-use Rattle.std.proofs.Common.{arith, ℕ, ◌≡◌, ◌+◌, ◌<◌, ◌≤◌, ◌^◌, List, length, refl, sym, ap, ◌∙◌, subst, Fits, w64, IsTrue, slice_get, Some}
+use Rattle.std.proofs.Common.{arith, ℕ, ◌≡◌, ◌<◌, length, ap, ◌∙◌, subst}
 use Rattle.std.proofs.lemmas.Grind.{common_steps}
-use Rattle.zone_spec.specs.Stores.{Store, put}
-use Rattle.ram_region.specs.CutRegion.{CutRegion, span, with_span}
+use Rattle.zone_spec.specs.Stores.{put}
+use Rattle.ram_region.specs.CutRegion.{CutRegion, span}
 use Rattle.ram_region.proofs.Cuts.{span-with_span, put-length}
 use Rattle.zone_flight.specs.Flying.{Flying, seen}
-use Rattle.zone_flight.specs.Phases.{IsFinished, phase_len}
-use Rattle.zone_flight.specs.Machine.{IsKept, IsSettled, StandsFor, Stores}
-use Rattle.zone_flight.specs.Counts.{total_of}
+use Rattle.zone_flight.specs.Machine.{IsKept, IsSettled, Stores}
 use Rattle.zone_flight.proofs.Stepping.{later_by_one, stands_next, kept_next, ends, is_ready}
 use Rattle.zone_flight.proofs.progress.Progress.step.Goals as goal
 

@@ -1,10 +1,10 @@
-use Rattle.std.proofs.Common.{arith, ℕ, ◌≡◌, ◌+◌, ◌*◌, ◌/◌, ◌%◌, ◌<◌, ◌≤◌, min, [], ◌∷◌, refl, sym, ap, ◌∙◌, subst, length, slice_index, w32}
+use Rattle.std.proofs.Common.{arith, ◌+◌, ◌%◌, ◌<◌, min, [], ◌∷◌, ap, ◌∙◌, subst, slice_index, w32}
 use Rattle.std.specs.Int.{to_le_bytes}
 use Rattle.zone_spec.specs.Stores.{put}
 use Rattle.ram_region.specs.CutRegion.{span, with_span}
 use Rattle.zone_flight.specs.declared.progress.Phase.TheVariants.{ZeroStart, ZeroSize, Size, Start, First, FirstParity, Second, SecondParity, Header}
 use Rattle.zone_flight.specs.Flying.{Flying, seen, payload}
-use Rattle.zone_flight.specs.Phases.{IsWithin, first_len, second_len, second_end}
+use Rattle.zone_flight.specs.Phases.{IsWithin, first_len, second_len}
 use Rattle.zone_flight.proofs.Storing.{parity_in, block_in, ready_in, stored_zero_start, stored_zero_size, stored_size, stored_start, stored_first, stored_second, stored_parity_first, stored_parity_second, stored_header}
 use Rattle.zone_flight.proofs.progress.Progress.store.Goals as goal
 
