@@ -1,5 +1,5 @@
 // A script's lines, read.
-ghost use Rattle.std.specs.Prelude.{◌≡◌, ◌<◌, ◌^◌, length, MatchResult, IfOk, Ok};
+ghost use Rattle.std.specs.Prelude.{◌≡◌, ◌+◌, ◌≤◌, ◌^◌, MatchResult, IfOk, Ok};
 ghost use Rattle.box_script.specs.Lines.{line_of, script_of};
 ghost use Rattle.box_script.specs.Printed.{AllHaveFields};
 ghost use Rattle.box_script.specs.Reading.{ReadsLine, IsFaultOf};
@@ -46,9 +46,19 @@ fn read_line(alloc: Global, text: &[u8], number: u32) -> Result<Line, ParseFault
     }
 }
 
-/// The lines of a script, each ended by a newline.
+/// The number of the line after so many, or want of memory where 32 bits do not count it.
+fn number_after(count: usize) -> Result<u32, ParseFault>
+    ensures { MatchResult result (λ number. number ≡ count + 1) (λ fault. (fault ≡ Memory) × (2 ^ 32 ≤ count + 1)) }
+{
+    if count < u32::MAX as usize {
+        Ok(count as u32 + 1)
+    } else {
+        Err(ParseFault::Memory)
+    }
+}
+
+/// The lines of a script, each ended by a newline. Where 32 bits do not count its lines, the answer is want of memory.
 pub fn parse(alloc: Global, script: &[u8]) -> Result<Lines, ParseFault>
-    requires { length script.now < 2 ^ 32 }
     ensures read { MatchResult result
         (λ lines. script_of script.now ≡ Ok lines)
         (λ fault. IsFaultOf fault (script_of script.now)) }
@@ -57,7 +67,7 @@ pub fn parse(alloc: Global, script: &[u8]) -> Result<Lines, ParseFault>
     let mut lines = Vec::new(alloc);
     let mut rest = script;
     while let Some((text, after)) = rows::cut(rest, b'\n') {
-        let number = lines.len() as u32 + 1;
+        let number = number_after(lines.len())?;
         let line = match read_line(alloc, text, number) {
             Ok(line) => line,
             Err(fault) => return Err(fault),
@@ -66,7 +76,8 @@ pub fn parse(alloc: Global, script: &[u8]) -> Result<Lines, ParseFault>
         rest = after;
     }
     if !rest.is_empty() {
-        return Err(ParseFault::BadLine(lines.len() as u32 + 1));
+        let last = number_after(lines.len())?;
+        return Err(ParseFault::BadLine(last));
     }
     Ok(Lines::from_vec(lines))
 }

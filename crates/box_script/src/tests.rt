@@ -4,9 +4,6 @@ use zone_spec::{Kind, Time, ZoneName};
 
 // What is printed of a script that is read, or the number of its bad line, or 0 where memory ran out.
 fn printed(alloc: Global, script: &[u8]) -> Result<Vec<u8>, u32> {
-    if script.len() >= 1 << 32 {
-        return Err(0);
-    }
     match parse(alloc, script) {
         Ok(lines) => match print(alloc, &lines) {
             Ok(text) => Ok(text.into_vec()),
@@ -19,9 +16,6 @@ fn printed(alloc: Global, script: &[u8]) -> Result<Vec<u8>, u32> {
 
 // The number of the bad line of a script, or 0 where it has none.
 fn bad_line(alloc: Global, script: &[u8]) -> u32 {
-    if script.len() >= 1 << 32 {
-        return 0;
-    }
     match parse(alloc, script) {
         Err(ParseFault::BadLine(number)) => number,
         _ => 0,

@@ -723,6 +723,100 @@ fn a_boot_stops_within_its_erasure(rt: HostRuntime) -> Result<(), Fail> {
     Ok(())
 }
 
+const ENTRY: &[u8] = &[
+    1, 0, 0, 0, 0, 0, 0, 0, 2, 0, 0, 0, 0, 0, 0, 0, 0, 5, 0, 0, 0, 0, 0, 0,
+];
+
+// Two ftrace zones of 2048 bytes.
+fn two_processors() -> Params {
+    Params {
+        console: 0,
+        ftrace: 4096,
+        cpus: 2,
+        ..console(0)
+    }
+}
+
+// The same as it stops with two entries in the first ring and one in the second.
+fn traced(rt: &impl Abort, alloc: Global) -> Result<Off, Fail> {
+    let mut live = live(rt, alloc, &two_processors())?;
+    let _made = write(rt, alloc, &mut live, FTRACE, ENTRY)?;
+    let _made = write(rt, alloc, &mut live, FTRACE, ENTRY)?;
+    let second = ZoneName {
+        kind: Kind::Ftrace,
+        index: 1,
+    };
+    let _made = write(rt, alloc, &mut live, second, ENTRY)?;
+    Ok(live.stop())
+}
+
+// What the second ftrace ring tells at a boot, where a boot before made so many stores in it: its start was damaged, so
+// that boot erases it with two stores.
+fn tells_erased_ring(report: &Report, made: u64) -> bool {
+    match made {
+        0 => tells(report, 1, differs(24, 0, 0)),
+        1 => {
+            let erasure = cut(CallKind::Erase, 1, 2, HeaderSeen::Pair(1), &[]);
+            tells_cut(report, 1, Verdict::AsTold, &erasure)
+        }
+        _ => tells(report, 1, Verdict::AsTold),
+    }
+}
+
+// What a zone tells at a boot, where a first boot before made so many of its three stores there.
+fn tells_first(report: &Report, i: usize, made: u64) -> bool {
+    match made {
+        0 => tells(report, i, Verdict::NothingTold),
+        1 | 2 => {
+            let erasure = cut(CallKind::Erase, made, 3, HeaderSeen::Pair(0), &[]);
+            tells_cut(report, i, Verdict::NothingTold, &erasure)
+        }
+        _ => tells(report, i, Verdict::AsTold),
+    }
+}
+
+// Rings that are kept have no stores in a boot, so it stops as a whole one.
+#[test]
+fn a_boot_keeps_the_rings_of_two_processors(rt: HostRuntime) -> Result<(), Fail> {
+    let alloc = rt.alloc();
+    for limit in [0, 1, 9] {
+        let (off, made) = boot_part(&rt, traced(&rt, alloc)?, limit);
+        assert_eq!(rt; made, 0);
+        let (_, logs, report) = boot(&rt, off);
+        assert!(rt; tells(&report, 0, Verdict::AsTold));
+        assert!(rt; tells(&report, 1, Verdict::AsTold));
+        assert!(rt; reads(&logs, 0, &ENTRY.repeat(alloc, 2)?));
+        assert!(rt; reads(&logs, 1, ENTRY));
+    }
+    Ok(())
+}
+
+#[test]
+fn a_boot_of_two_processors_stops_after_each_store(rt: HostRuntime) -> Result<(), Fail> {
+    let alloc = rt.alloc();
+    for limit in 0u64..8 {
+        let (off, made) = boot_part(&rt, zeros(&rt, alloc, &two_processors())?, limit);
+        assert_eq!(rt; made, limit.min(6));
+        let (_, logs, report) = boot(&rt, off);
+        assert!(rt; tells_first(&report, 0, made));
+        assert!(rt; tells_first(&report, 1, made.saturating_sub(3)));
+        assert!(rt; reads(&logs, 0, &[]));
+        assert!(rt; reads(&logs, 1, &[]));
+    }
+    for limit in 0u64..4 {
+        let mut off = traced(&rt, alloc)?;
+        flip_all(&rt, &mut off, 2052, &[1]);
+        let (off, made) = boot_part(&rt, off, limit);
+        assert_eq!(rt; made, limit.min(2));
+        let (_, logs, report) = boot(&rt, off);
+        assert!(rt; tells(&report, 0, Verdict::AsTold));
+        assert!(rt; tells_erased_ring(&report, made));
+        assert!(rt; reads(&logs, 0, &ENTRY.repeat(alloc, 2)?));
+        assert!(rt; reads(&logs, 1, if made == 1 { ENTRY } else { &[] }));
+    }
+    Ok(())
+}
+
 // A live store of four zones with a record in each, the third cut.
 fn recorded(rt: &impl Abort, alloc: Global) -> Result<Live, Fail> {
     let mut live = live(rt, alloc, &four(1))?;

@@ -9,8 +9,9 @@ loop-text-init c = rw c.new-lines.ensures.items (at_start c.args.script.now)
 pub returns-in-Err-clause-read : goal.returns-in-Err-clause-read
 returns-in-Err-clause-read c =
     fault_of_line c.args.script.now c.loop-text.rest.now c.in-Some.text.now c.in-Some.after.now
-    c.loop-text.lines.items (c.len.result + 1) c.in-Err.fault
-    c.loop-text.invariant c.in-Some.ensures.parts (ap (λ n. n + 1) (c.len.ensures ∙ c.loop-text.lines.ok.0))
+    c.loop-text.lines.items c.in_ok-number.number c.in-Err.fault
+    c.loop-text.invariant c.in-Some.ensures.parts
+    (c.in_ok-number.ensures ∙ ap (λ n. n + 1) (c.len.ensures ∙ c.loop-text.lines.ok.0))
     c.in-Err.ensures
 
 pub loop-text-preserved : goal.loop-text-preserved
@@ -23,7 +24,8 @@ pub returns-then-not-is_empty-clause-read : goal.returns-then-not-is_empty-claus
 returns-then-not-is_empty-clause-read c =
     open_end c.args.script.now c.loop-text.rest.now c.loop-text.lines.items c.loop-text.invariant
     c.in_default.ensures.none (sym c.is_empty.ensures ∙ c.if-not-is_empty.true)
-    ∙ ap (λ n. Err (n + 1)) (sym c.loop-text.lines.ok.0 ∙ sym c.len-then-not-is_empty.ensures)
+    ∙ ap Err (sym (c.in_ok-last.ensures
+    ∙ ap (λ n. n + 1) (c.len-then-not-is_empty.ensures ∙ c.loop-text.lines.ok.0)))
 
 pub returns-clause-read : goal.returns-clause-read
 returns-clause-read c =
