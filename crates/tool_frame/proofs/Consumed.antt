@@ -1,7 +1,6 @@
 -- Bytes that a source gave in two parts.
-use Rattle.std.proofs.Common.{◌≡◌, ℕ, ◌<◌, List, ◌++◌, length, append_assoc, arith, Option, Some, None, IfSome, length-append, sym, ap}
-use Rattle.std.proofs.lemmas.Grind.{common_steps}
-use Rattle.std.specs.Io.KnownBytes.{Consumes, IsAtEnd}
+use Rattle.std.proofs.Common.{ℕ, ◌<◌, List, ◌++◌, length, append_assoc, arith, Option, Some, None, IfSome, length-append, sym, ap}
+use Rattle.std.specs.Io.KnownBytes.{Consumes}
 
 pub consumed : (a b c : Option (List ℕ)) (xs ys : List ℕ) → Consumes a b xs → Consumes b c ys → Consumes a c (xs ++ ys)
 consumed None b c xs ys h k = tt

@@ -1,11 +1,11 @@
 -- A script's lines, done one by one
-use Rattle.std.proofs.Common.{◌≡◌, ℕ, zero, suc, ◌+◌, ◌<◌, ◌≤◌, List, [], ◌∷◌, ◌++◌, length, take, get_or, flat_map, Option, Some, None, Result, Ok, Err, refl, sym, ap, ◌∙◌, arith, append_assoc, append-nil, length-append}
+use Rattle.std.proofs.Common.{◌≡◌, ℕ, zero, suc, ◌+◌, ◌<◌, ◌≤◌, List, [], ◌∷◌, ◌++◌, length, take, get_or, Option, Some, None, Result, Ok, Err, refl, sym, ap, ◌∙◌, arith, append_assoc, append-nil, length-append}
 use Rattle.std.proofs.lemmas.List.Sums.{fold_more}
 use Rattle.std.proofs.lemmas.List.Folds.{fold_stuck}
 use Rattle.std.proofs.lemmas.Grind.{common_steps}
 use Rattle.std.specs.List.{fold}
 use Rattle.std.specs.Io.KnownBytes.{Appends}
-use Rattle.box_io.specs.Outside.{Rose, AppendsFront}
+use Rattle.box_io.specs.Outside.{AppendsFront}
 use Rattle.zone_spec.specs.declared.Zone.{Zone}
 use Rattle.session_spec.specs.States.{Session}
 use Rattle.box_script.specs.Fields.{Text}
@@ -14,10 +14,9 @@ use Rattle.tool_spec.specs.Scripts.{Done, Ran, ran, ran_on, next_line, started, 
 use Rattle.tool_spec.specs.Commands.{script_end}
 use Rattle.tool_spec.specs.Answers.{front, whole}
 use Rattle.tool_spec.specs.declared.Cause.{Cause}
-use Rattle.tool_spec.specs.declared.Stop.{Stop}
 use Rattle.tool_spec.specs.declared.Stop.TheVariants.{Refused}
 use Rattle.tool_frame.specs.Ended.{PutTexts, PutSome}
-use Rattle.tool_frame.specs.Playing.{Played, PlayedTo, PlayStop}
+use Rattle.tool_frame.specs.Playing.{Played, PlayedTo}
 use Rattle.tool_frame.proofs.Answered.{appends_on, front_on, nothing_put}
 
 -- ---- texts only grow

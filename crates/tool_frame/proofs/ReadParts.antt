@@ -1,5 +1,5 @@
 -- How the stages of a command that reads an image of a size and then a script end, as far as each is told alone
-use Rattle.std.proofs.Common.{◌≡◌, ℕ, ◌<◌, ◌≤◌, List, length, Option, Some, None, Result, Ok, Err, IfSome, refl, sym, arith, inl, inr, IsOk}
+use Rattle.std.proofs.Common.{◌≡◌, ℕ, ◌<◌, ◌≤◌, List, length, Option, Some, Ok, Err, IfSome, refl, sym, arith, inl, inr, IsOk}
 use Rattle.std.specs.Io.KnownBytes.{IsAtEnd}
 use Rattle.box_script.specs.Lines.{script_of}
 use Rattle.box_script.specs.declared.line.Line.{Line}

@@ -1,8 +1,8 @@
 -- How the stages of a script's run end it
-use Rattle.std.proofs.Common.{◌≡◌, ℕ, ◌<◌, ◌≤◌, List, [], length, take, Option, Some, None, Result, Ok, Err, IfSome, refl, sym, ap, ◌∙◌, arith, inl, inr, true, false, nat_lt, IsOk}
+use Rattle.std.proofs.Common.{◌≡◌, ℕ, ◌<◌, ◌≤◌, List, [], length, take, Option, Some, None, Ok, Err, IfSome, refl, sym, ◌∙◌, arith, inl, inr, true, false, nat_lt}
 use Rattle.std.proofs.lemmas.Bool.Decides.{nat_tests}
 use Rattle.std.specs.Io.KnownBytes.{Appends}
-use Rattle.box_io.specs.Outside.{Rose, Writes, WritesFront}
+use Rattle.box_io.specs.Outside.{Writes, WritesFront}
 use Rattle.zone_spec.specs.declared.Zone.{Zone}
 use Rattle.session_spec.specs.States.{Session}
 use Rattle.session_spec.specs.Stop.{session_image}
@@ -10,14 +10,13 @@ use Rattle.box_script.specs.Lines.{script_of}
 use Rattle.box_script.specs.declared.line.Line.{Line}
 use Rattle.tool_spec.specs.Ends.{End}
 use Rattle.tool_spec.specs.Scripts.{ran}
-use Rattle.tool_spec.specs.Commands.{RunScript, Plan, Wanted, wanted, wanted_run, wanted_script, wanted_lines, mem_of, stops, script_limit, script_end}
-use Rattle.tool_spec.specs.Answers.{Outside, NoScript, whole}
-use Rattle.tool_spec.specs.declared.Cause.{Cause}
+use Rattle.tool_spec.specs.Commands.{RunScript, Plan, Wanted, wanted, wanted_run, wanted_script, wanted_lines, mem_of, stops, script_limit}
+use Rattle.tool_spec.specs.Answers.{Outside, NoScript}
 use Rattle.tool_spec.specs.declared.Stop.{Stop}
 use Rattle.tool_spec.specs.declared.Stop.TheVariants.{Memory, Usage, Param, Layout, Short, ScriptFault, ImageFault, SinkFault, TooLong, BadLine, Refused}
 use Rattle.tool_frame.specs.Stages.{LoadStop, ScriptStop, ParseStop}
 use Rattle.tool_frame.specs.Playing.{Played, PlayStop}
-use Rattle.tool_frame.specs.Ended.{PutTexts, PutSome, Ended, RunEnds}
+use Rattle.tool_frame.specs.Ended.{Ended, RunEnds}
 use Rattle.tool_frame.proofs.Answered.{nothing_put}
 use Rattle.tool_frame.proofs.ReadParts.{Read, read_of, unread_memory, unread_fault, unread_short, read_memory, read_fault, read_long, read_bad, read_unput, read_unsaved, read_refused, read_done}
 use Rattle.tool_frame.proofs.Tool.{no_texts}

@@ -1,12 +1,11 @@
 -- What the tool answers for each command, from how its work ended and what the last line left
-use Rattle.std.proofs.Common.{◌≡◌, ◌≢◌, ◌⊎◌, true, false, ℕ, ◌<◌, ◌≤◌, List, [], ◌++◌, length, take, Option, Some, None, Result, Ok, Err, refl, sym, ap, ◌∙◌, arith, inl, inr, append_assoc, IsOk}
-use Rattle.std.proofs.lemmas.Grind.{common_steps}
+use Rattle.std.proofs.Common.{◌≡◌, ◌≢◌, ◌⊎◌, true, false, ℕ, ◌<◌, ◌≤◌, List, [], ◌++◌, length, take, Option, Result, Ok, Err, refl, sym, ap, ◌∙◌, arith, inl, inr, append_assoc, IsOk}
 use Rattle.std.specs.Io.KnownBytes.{Appends, IsAtEnd}
 use Rattle.box_script.specs.Lines.{script_of}
 use Rattle.box_script.specs.Fields.{Text}
 use Rattle.tool_spec.specs.Ends.{End, status_of, last_line}
 use Rattle.tool_spec.specs.Commands.{Command, RunScript, ListRecords, ExtractRecord, EraseRecord, ShowLayout, BlankImage, MakeImage, Plan, Wanted, wanted, mem_of, script_limit}
-use Rattle.tool_spec.specs.Answers.{Outside, IfHolds, NoScript, NoImage, RoseFor, PutsAll, IsFree, SavedInPart, ShortAnswers, ScriptAnswers, ScriptUse, ScriptRead, RunAnswers, MakeAnswers, PlanAnswers, FaultAnswers, ToolAnswers, whole, statuses, IsAmong}
+use Rattle.tool_spec.specs.Answers.{Outside, NoScript, NoImage, RoseFor, PutsAll, IsFree, SavedInPart, ShortAnswers, ScriptAnswers, ScriptUse, ScriptRead, RunAnswers, MakeAnswers, PlanAnswers, FaultAnswers, ToolAnswers, whole, statuses, IsAmong}
 use Rattle.tool_frame.specs.Ends.{LastPut, Finished}
 use Rattle.tool_frame.specs.Words.{PlanStop}
 use Rattle.tool_frame.specs.Ended.{PutTexts, Ended, Caused, ShortAt, ScriptAt, UseAt, ScriptEnds, CanEnd, RunEnds, WrittenAt, MakeEnds, PlanEnds, Nothing, WorkEnds}
@@ -370,8 +369,11 @@ module _ (a m b : Outside) (on : GoesOn a m b) (status : ℕ) where
   text_on : (w : Wanted) → NoImage a m ⊎ PutsAll w a m → PutsMore → NoImage a b ⊎ PutsAll w a b
   text_on w (inl h) put = inl (image_on a m b h on.image)
   text_on w (inr h) put =
-      inr (h.0 ++ put.0, rw (← append_assoc (whole w.texts) h.0 put.0)
-      (appends_on a.given m.given b.given (whole w.texts ++ h.0) put.0 h.1 put.1))
+      inr (
+        h.0 ++ put.0,
+        rw (← append_assoc (whole w.texts) h.0 put.0)
+            (appends_on a.given m.given b.given (whole w.texts ++ h.0) put.0 h.1 put.1),
+      )
 
   -- the image failed as it was written
   not_six : (w : Wanted) (n : ℕ) → n ≢ 6 → (status ≡ n) ⊎ ((status ≡ 7) × RoseFor SinkFault a b) → status ≡ 6

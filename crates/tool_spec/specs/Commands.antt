@@ -72,7 +72,8 @@ asked_by word words =
     else if bytes_eq word (codes "make") then with_number words
     else None
 
--- IMAGE COMMAND and what stands behind it; None where the words are outside the grammar
+-- IMAGE COMMAND and what follows it; None for words outside the grammar, and for those of a script on the block store,
+-- which are looked at before
 abbrev pub asked : List Text → Option Asked
 asked (image ∷ word ∷ words) = asked_by word words
 asked other = None

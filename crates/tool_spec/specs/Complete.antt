@@ -4,7 +4,7 @@ use Rattle.blk_spec.specs.declared.BlkLayout.{BlkLayout}
 use Rattle.box_script.specs.Fields.{Text}
 use Rattle.box_script.specs.declared.line.Line.{Line}
 use Rattle.tool_spec.specs.Ends.{End}
-use Rattle.tool_spec.specs.Commands.{Command, RunScript, ListRecords, ExtractRecord, EraseRecord, ShowLayout, BlankImage, MakeImage, Plan, wanted, plan_of}
+use Rattle.tool_spec.specs.Commands.{Command, RunScript, ShowLayout, BlankImage, MakeImage, Plan, wanted, plan_of}
 use Rattle.tool_spec.specs.BlkScripts.{blk_ran}
 use Rattle.tool_spec.specs.BlkCommands.{blk_asked, blk_plan_of, blk_lines}
 use Rattle.tool_spec.specs.Answers.{Outside, RoseFor}
