@@ -123,10 +123,17 @@ shows_boot layout off reads =
       reports = report layout off;
       is = refl;
       counts = (
-        omega (arith, zip-length layout (map saves layout) (omega (arith, length-map layout saves)),
-            length-map layout saves),
-        omega (arith, length-map (zip layout off.zones) reports,
-            zip-length layout off.zones (omega (arith, reads.0)), reads.0),
+        omega (
+          arith,
+          zip-length layout (map saves layout) (omega (arith, length-map layout saves)),
+          length-map layout saves,
+        ),
+        omega (
+          arith,
+          length-map (zip layout off.zones) reports,
+          zip-length layout off.zones (omega (arith, reads.0)),
+          reads.0,
+        ),
       );
       zones = λ i z zone at here. (
         zip-at layout (map saves layout) i z (saves z) at (get-of-map saves layout i z at),

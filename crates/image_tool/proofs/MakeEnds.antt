@@ -47,9 +47,17 @@ module _ (plan : Plan) (n : ℕ) (a b : Outside) (is : plan.command ≡ MakeImag
     module _ (image : List ℕ) (i : image ≡ session_image (generated plan.zones (mem_of plan) n).session)
         (put : Appends a.given b.given text) where
       puts_all : PutsAll (wanted plan [] []) a b
-      puts_all = ([], rw (make_wanted plan n is, append-nil (whole (summary n plan.zones
-          (generated plan.zones (mem_of plan) n) ∷ [])), append-nil (summary n plan.zones
-          (generated plan.zones (mem_of plan) n)), ← e) put)
+      puts_all = (
+        [],
+        rw (
+          make_wanted plan n is,
+          append-nil (whole (summary n plan.zones
+              (generated plan.zones (mem_of plan) n) ∷ [])),
+          append-nil (summary n plan.zones
+              (generated plan.zones (mem_of plan) n)),
+          ← e,
+        ) put,
+      )
 
       pub make_saved : Writes a.holds b.holds 0 image → MakeEnds plan a b (Ok tt)
       make_saved wrote = record {

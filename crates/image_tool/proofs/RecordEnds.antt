@@ -28,10 +28,10 @@ use Rattle.tool_frame.specs.Ended.{Ended, CanEnd, ReadEnds, ImageEnds}
 use Rattle.tool_frame.specs.Stages.{LoadStop}
 use Rattle.tool_frame.proofs.Image.{load_can, image_stopped, image_done}
 use Rattle.tool_frame.proofs.Script.{Quiet, quiet_memory, put_nothing}
-use Rattle.store_session.specs.Records.{IsContent}
-use Rattle.store_session.specs.Erasing.{ErasesNamed, IsBusy, EraseFails}
-use Rattle.store_session.specs.declared.machine.LineError.{LineError}
-use Rattle.store_session.specs.declared.machine.LineError.TheVariants.{Memory, Refused}
+use Rattle.ram_session.specs.Records.{IsContent}
+use Rattle.ram_session.specs.Erasing.{ErasesNamed, IsBusy, EraseFails}
+use Rattle.ram_session.specs.declared.machine.LineError.{LineError}
+use Rattle.ram_session.specs.declared.machine.LineError.TheVariants.{Memory, Refused}
 use Rattle.image_tool.specs.Stores.{BootedFrom}
 use Rattle.image_tool.specs.Records.{stop_for}
 use Rattle.image_tool.proofs.Shown.{put_all, put_front, wrote_all, wrote_front}
