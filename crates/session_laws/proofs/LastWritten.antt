@@ -1,4 +1,4 @@
--- What a zone of a sound state reads
+-- What a zone of a sound state reads, and from it the headline
 use Rattle.std.proofs.Common.{◌≡◌, ℕ, List, sym, ◌∙◌, subst, arith, Some}
 use Rattle.zone_spec.specs.declared.Zone.{Zone}
 use Rattle.zone_spec.specs.Zones.{IsValidZone}
@@ -11,7 +11,9 @@ use Rattle.session_spec.specs.Zones.{zone_bytes}
 use Rattle.session_spec.specs.States.{OffZone, OffState, Off}
 use Rattle.session_spec.specs.Sound.{IsState, IsOffZone, IsInFlight}
 use Rattle.session_spec.specs.Headline.{ReadsLastWritten, EachOffZone, OldPlacesRead, NoOtherPlaces}
+use Rattle.session_laws.specs.Headline.{Headline, SoundStateReadsLastWritten}
 use Rattle.session_laws.proofs.OffStates.{off_bytes}
+use Rattle.session_laws.proofs.Operations.{states_are_sound}
 use Rattle.session_laws.proofs.Boots.{call_reported}
 
 -- of one zone
@@ -40,3 +42,10 @@ state_reads layout mem off lies state = (
   λ i z zone hz hv. zone_reads z zone (zone_bytes z off.image) (lies.valid i z hz).0
       (state.zones.1 i z zone hz hv) (off_bytes layout mem lies off state i z hz),
 )
+
+pub sound_state_reads_last_written : SoundStateReadsLastWritten
+sound_state_reads_last_written layout mem off lies state = state_reads layout mem off lies state
+
+pub headline : Headline
+headline layout mem off lies reached = state_reads layout mem off lies
+    (states_are_sound layout mem (Off off) lies reached)

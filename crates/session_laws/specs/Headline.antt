@@ -1,10 +1,7 @@
 -- The headline: however the stores of calls interleave over the zones, stopped after any store, then
--- damaged in each sound
--- block and header by at most half the parity, the next boot reads from each idle zone exactly the last
--- bytes written since
--- its erasure that fit, in order; in a cut zone without further header damage, only touched blocks and
--- the header, both
--- reported, may make a difference
+-- damaged in each sound block and header by at most half the parity, the next boot reads from each idle
+-- zone exactly the last bytes written since its erasure that fit, in order; in a cut zone without further
+-- header damage, only touched blocks and the header, both reported, may make a difference
 use Rattle.std.specs.Prelude.{ℕ, List}
 use Rattle.zone_spec.specs.declared.Zone.{Zone}
 use Rattle.zone_spec.specs.Layouts.{IsLayout}
