@@ -14,7 +14,7 @@ use Rattle.session_spec.specs.Stop.{stopped}
 use Rattle.old_log.specs.Saving.{SavedLogs, saved}
 use Rattle.ram_core.specs.LiveSeen.{LiveSeen, StandsLive}
 use Rattle.ram_core.specs.OffSeen.{OffSeen, StandsOff}
-use Rattle.box_script.specs.Fields.{Text}
+use Rattle.grammar_spec.specs.Fields.{Text}
 use Rattle.tool_spec.specs.Ends.{End}
 use Rattle.tool_spec.specs.Texts.{listing}
 use Rattle.tool_spec.specs.Scripts.{named}

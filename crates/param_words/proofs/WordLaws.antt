@@ -5,9 +5,9 @@ use Rattle.std.specs.List.{list_any, find, position_or_len, after_first}
 use Rattle.std.proofs.Math.ListN.{drop_of_length-le}
 use Rattle.std.proofs.lemmas.Bool.{and_left, le-ltb}
 use Rattle.std.proofs.lemmas.Str.Pattern.{split_once_first, IsSplitOnceResult}
-use Rattle.param_words.specs.declared.faults.ParamFault.TheVariants.{UnknownKey, Twice, NotANumber}
-use Rattle.param_words.specs.Numbers.{number_of}
-use Rattle.param_words.specs.Words.{KeyTable, key_of, has_key, IsSplit, value_text, given, word_fault, texts}
+use Rattle.grammar_spec.specs.declared.faults.ParamFault.TheVariants.{UnknownKey, Twice, NotANumber}
+use Rattle.grammar_spec.specs.Numbers.{number_of}
+use Rattle.grammar_spec.specs.Words.{KeyTable, key_of, has_key, IsSplit, value_text, given, word_fault, texts}
 use Rattle.param_words.proofs.Texts.{if_true, if_false, any_before_end}
 
 -- a word without a separator

@@ -1,7 +1,7 @@
 -- What is counted beside a session
 use Rattle.std.specs.Prelude.{ℕ, ◌+◌, ◌*◌, ◌^◌, ◌≤◌, ◌++◌, codes, decimal}
 use Rattle.session_spec.specs.States.{Session}
-use Rattle.box_script.specs.Fields.{Text}
+use Rattle.grammar_spec.specs.Fields.{Text}
 use Rattle.tool_spec.specs.Texts.{newline}
 use Rattle.tool_spec.specs.Generated.{Generated}
 use Rattle.ram_generator.specs.declared.counts.Counts.{Counts}

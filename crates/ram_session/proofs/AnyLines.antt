@@ -6,11 +6,11 @@ use Rattle.session_spec.specs.States.{OffState, LiveState, Session, Off as OffOf
 use Rattle.old_log.specs.Saving.{SavedLogs}
 use Rattle.ram_core.specs.OffSeen.{OffSeen}
 use Rattle.ram_core.specs.LiveSeen.{LiveSeen}
-use Rattle.box_script.specs.declared.line.Line.{Line}
-use Rattle.box_script.specs.declared.line.Line.TheVariants.{Blank, Write, Dump, BeginWrite, BeginErase, BeginDump, Step, Finish, Stop, Flip, Boot, BootPart, List as ListLine, Extract, Erase, KDump, CutAfter}
+use Rattle.grammar_spec.specs.declared.line.Line.{Line}
+use Rattle.grammar_spec.specs.declared.line.Line.TheVariants.{Blank, Write, Dump, BeginWrite, BeginErase, BeginDump, Step, Finish, Stop, Flip, Boot, BootPart, List as ListLine, Extract, Erase, KDump, CutAfter}
 use Rattle.zone_spec.specs.declared.Time.{Time}
 use Rattle.session_spec.specs.Sound.{IsTime}
-use Rattle.box_script.specs.Printed.{HasFields}
+use Rattle.grammar_spec.specs.Printed.{HasFields}
 use Rattle.tool_spec.specs.Scripts.{line_done}
 use Rattle.tool_spec.specs.declared.Cause.{Cause}
 use Rattle.tool_spec.specs.declared.Cause.TheVariants.{IsOff, IsLive, NotHere}

@@ -14,7 +14,7 @@ use Rattle.session_spec.specs.Erasures.{saved_logs, erase_zone, erased}
 use Rattle.session_spec.specs.Operations.{EraseRecord, operated, erases}
 use Rattle.old_log.specs.Saving.{SavedLogs, saved}
 use Rattle.ram_core.specs.LiveSeen.{LiveSeen, StandsLive}
-use Rattle.box_script.specs.declared.line.Line.TheVariants.{Erase}
+use Rattle.grammar_spec.specs.declared.line.Line.TheVariants.{Erase}
 use Rattle.tool_spec.specs.Scripts.{line_done, named, erases_of}
 use Rattle.tool_spec.specs.declared.Cause.TheVariants.{IsOff, IsLive, NoZone, Busy, Idle, OutOfImage, NoRecord, NotHere}
 use Rattle.ram_session.specs.Erasing.{Erases, Forgets, ErasesNamed, IsBusy, EraseFails}

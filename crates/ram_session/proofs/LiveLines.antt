@@ -15,8 +15,8 @@ use Rattle.session_spec.specs.LiveCalls.{Ask, Append, Erase, Dump, asked_name, b
 use Rattle.session_spec.specs.Operations.{answered}
 use Rattle.old_log.specs.Saving.{SavedLogs}
 use Rattle.ram_core.specs.LiveSeen.{LiveSeen, StandsLive, Leaves as LeavesLive}
-use Rattle.box_script.specs.declared.line.Line.{Line}
-use Rattle.box_script.specs.declared.line.Line.TheVariants.{Write, Dump as DumpLine, BeginWrite, BeginErase, BeginDump, Step, Finish}
+use Rattle.grammar_spec.specs.declared.line.Line.{Line}
+use Rattle.grammar_spec.specs.declared.line.Line.TheVariants.{Write, Dump as DumpLine, BeginWrite, BeginErase, BeginDump, Step, Finish}
 use Rattle.tool_spec.specs.Scripts.{line_done, done_or_refused, refusal_cause}
 use Rattle.tool_spec.specs.declared.Cause.{Cause}
 use Rattle.tool_laws.proofs.Steps.{calls_keep_logs}

@@ -7,7 +7,7 @@ use Rattle.session_spec.specs.States.{OffState, Session, Off as OffOf, Live as L
 use Rattle.session_spec.specs.Off.{flipped}
 use Rattle.session_spec.specs.Sound.{IsState}
 use Rattle.ram_core.specs.OffSeen.{OffSeen, StandsOff}
-use Rattle.box_script.specs.declared.line.Line.TheVariants.{Flip}
+use Rattle.grammar_spec.specs.declared.line.Line.TheVariants.{Flip}
 use Rattle.tool_spec.specs.Scripts.{line_done}
 use Rattle.tool_spec.specs.declared.Cause.TheVariants.{OutOfImage}
 use Rattle.ram_session.specs.Sessions.{Stands, LineDone, LineRefused}

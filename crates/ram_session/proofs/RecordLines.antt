@@ -15,7 +15,7 @@ use Rattle.session_spec.specs.States.{LiveState, Off as OffOf, Live as LiveOf}
 use Rattle.session_spec.specs.Erasures.{saved_logs}
 use Rattle.old_log.specs.Saving.{SavedLogs, saved}
 use Rattle.ram_core.specs.LiveSeen.{LiveSeen}
-use Rattle.box_script.specs.declared.line.Line.TheVariants.{Extract}
+use Rattle.grammar_spec.specs.declared.line.Line.TheVariants.{Extract}
 use Rattle.pstore_names.proofs.Given.{same-name}
 use Rattle.tool_spec.specs.Texts.{extract_text}
 use Rattle.tool_spec.specs.Scripts.{line_done, named, extracts_of}

@@ -7,8 +7,8 @@ use Rattle.session_spec.specs.States.{Session, Off as OffOf}
 use Rattle.session_spec.specs.Off.{fresh}
 use Rattle.session_spec.specs.Sound.{IsState}
 use Rattle.ram_core.specs.OffSeen.{OffSeen}
-use Rattle.box_script.specs.declared.line.Line.{Line}
-use Rattle.box_script.specs.Printed.{AllHaveFields}
+use Rattle.grammar_spec.specs.declared.line.Line.{Line}
+use Rattle.grammar_spec.specs.Printed.{AllHaveFields}
 use Rattle.tool_spec.specs.Scripts.{ran, started}
 use Rattle.tool_spec.specs.declared.Stop.{Stop}
 use Rattle.tool_spec.specs.declared.Stop.TheVariants.{Memory, Usage, Param, Layout, Short, ScriptFault, ImageFault, SinkFault, TooLong, BadLine, Refused}

@@ -13,7 +13,7 @@ use Rattle.ram_core.specs.OffSeen.{OffSeen, StandsOff}
 use Rattle.ram_core.specs.LiveSeen.{LiveSeen, StandsLive}
 use Rattle.ram_core.specs.Booted.{Booted, BootedInPart}
 use Rattle.session_spec.specs.BootPart.{boot_parted, boot_made}
-use Rattle.box_script.specs.declared.line.Line.TheVariants.{Blank, Boot, BootPart, Stop, List as ListLine}
+use Rattle.grammar_spec.specs.declared.line.Line.TheVariants.{Blank, Boot, BootPart, Stop, List as ListLine}
 use Rattle.tool_spec.specs.Texts.{boot_text, part_text, listing}
 use Rattle.tool_spec.specs.Scripts.{line_done}
 use Rattle.ram_session.specs.Sessions.{Stands, LineDone}

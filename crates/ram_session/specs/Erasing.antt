@@ -11,7 +11,7 @@ use Rattle.session_spec.specs.LiveZones.{flies}
 use Rattle.session_spec.specs.Erasures.{saved_logs, erase_zone, erased}
 use Rattle.old_log.specs.Saving.{SavedLogs, saved}
 use Rattle.ram_core.specs.LiveSeen.{LiveSeen, StandsLive}
-use Rattle.box_script.specs.Fields.{Text}
+use Rattle.grammar_spec.specs.Fields.{Text}
 use Rattle.tool_spec.specs.Scripts.{named}
 use Rattle.tool_spec.specs.declared.Cause.TheVariants.{NoRecord, Busy}
 use Rattle.ram_session.specs.declared.machine.LineError.{LineError}

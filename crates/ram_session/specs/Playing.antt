@@ -8,8 +8,8 @@ use Rattle.zone_spec.specs.Parts.{AreBytes}
 use Rattle.session_spec.specs.States.{Session}
 use Rattle.session_spec.specs.Off.{fresh}
 use Rattle.ram_core.specs.OffSeen.{OffSeen, StandsOff}
-use Rattle.box_script.specs.Fields.{Text}
-use Rattle.box_script.specs.declared.line.Line.{Line}
+use Rattle.grammar_spec.specs.Fields.{Text}
+use Rattle.grammar_spec.specs.declared.line.Line.{Line}
 use Rattle.tool_spec.specs.declared.Stop.{Stop}
 use Rattle.tool_spec.specs.declared.Stop.TheVariants.{Memory, SinkFault, Refused}
 use Rattle.tool_frame.specs.Playing.{Played, PlayStop}

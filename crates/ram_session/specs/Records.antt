@@ -3,7 +3,7 @@ use Rattle.std.specs.Prelude.{◌≡◌, ⊤, ℕ, List, Some, None, Result, Ok,
 use Rattle.std.specs.Option.{option_map}
 use Rattle.zone_spec.specs.Records.{Saved}
 use Rattle.zone_spec.specs.Notices.{content}
-use Rattle.box_script.specs.Fields.{Text}
+use Rattle.grammar_spec.specs.Fields.{Text}
 use Rattle.tool_spec.specs.Scripts.{named}
 use Rattle.tool_spec.specs.declared.Cause.TheVariants.{NoRecord}
 use Rattle.ram_session.specs.declared.machine.LineError.{LineError}

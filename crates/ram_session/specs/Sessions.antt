@@ -8,9 +8,9 @@ use Rattle.session_spec.specs.Erasures.{saved_logs}
 use Rattle.old_log.specs.Saving.{saved}
 use Rattle.ram_core.specs.OffSeen.{StandsOff}
 use Rattle.ram_core.specs.LiveSeen.{StandsLive}
-use Rattle.box_script.specs.Fields.{Text}
-use Rattle.box_script.specs.declared.line.Line.{Line}
-use Rattle.box_script.specs.declared.line.Line.TheVariants.{Write, Dump, BeginWrite, BeginErase, BeginDump, Step, Finish}
+use Rattle.grammar_spec.specs.Fields.{Text}
+use Rattle.grammar_spec.specs.declared.line.Line.{Line}
+use Rattle.grammar_spec.specs.declared.line.Line.TheVariants.{Write, Dump, BeginWrite, BeginErase, BeginDump, Step, Finish}
 use Rattle.tool_spec.specs.Scripts.{line_done}
 use Rattle.tool_spec.specs.declared.Cause.{Cause}
 use Rattle.ram_session.specs.declared.machine.Machine.{Machine}

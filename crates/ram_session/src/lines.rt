@@ -1,7 +1,7 @@
 // The lines of a script, whatever the machine's state.
 ghost use Rattle.std.specs.Prelude.{◌≡◌, ⊤, [], MatchResult};
 ghost use Rattle.old_log.specs.Saving.{SavedLogs};
-ghost use Rattle.box_script.specs.Printed.{HasFields};
+ghost use Rattle.grammar_spec.specs.Printed.{HasFields};
 ghost use Rattle.ram_session.specs.Sessions.{LineDone, LineFails, IsCall};
 ghost use Rattle.ram_session.specs.declared.machine.Machine.TheVariants.{Off as OffMachine, Live as LiveMachine};
 

@@ -3,7 +3,7 @@ ghost use Rattle.std.specs.Prelude.{◌≡◌, [], MatchResult};
 ghost use Rattle.old_log.specs.Saving.{SavedLogs};
 ghost use Rattle.session_spec.specs.Sound.{IsTime};
 ghost use Rattle.ram_session.specs.Sessions.{LineDone, LineFails};
-ghost use Rattle.box_script.specs.declared.line.Line.TheVariants.{Write, Dump, BeginWrite, BeginErase, BeginDump, Step, Finish};
+ghost use Rattle.grammar_spec.specs.declared.line.Line.TheVariants.{Write, Dump, BeginWrite, BeginErase, BeginDump, Step, Finish};
 ghost use Rattle.ram_session.specs.declared.machine.Machine.TheVariants.{Live as LiveMachine};
 ghost use Rattle.tool_spec.specs.Scripts.{refusal_cause};
 

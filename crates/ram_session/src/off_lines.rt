@@ -1,7 +1,7 @@
 // Lines while the machine is off.
 ghost use Rattle.std.specs.Prelude.{◌≡◌, [], MatchResult};
 ghost use Rattle.ram_session.specs.Sessions.{LineDone, LineRefused};
-ghost use Rattle.box_script.specs.declared.line.Line.TheVariants.{Flip};
+ghost use Rattle.grammar_spec.specs.declared.line.Line.TheVariants.{Flip};
 ghost use Rattle.ram_session.specs.declared.machine.Machine.TheVariants.{Off as OffMachine};
 ghost use Rattle.tool_spec.specs.declared.Cause.TheVariants.{OutOfImage};
 

@@ -1,6 +1,6 @@
 // The lines of a script, in order.
 ghost use Rattle.std.specs.Prelude.{◌≡◌, ◌≤◌, ◌<◌, ◌^◌, length, MatchResult};
-ghost use Rattle.box_script.specs.Printed.{HasFields, AllHaveFields};
+ghost use Rattle.grammar_spec.specs.Printed.{HasFields, AllHaveFields};
 ghost use Rattle.ram_session.specs.Playing.{Puts, LineStops, Plays};
 
 use crate::lines::do_line;

@@ -5,7 +5,7 @@ ghost use Rattle.std.specs.Option.{option_map};
 ghost use Rattle.zone_spec.specs.Names.{name_text as text_of};
 ghost use Rattle.zone_spec.specs.Records.{Listed};
 ghost use Rattle.old_log.specs.Saving.{saved};
-ghost use Rattle.box_script.specs.declared.line.Line.TheVariants.{Extract};
+ghost use Rattle.grammar_spec.specs.declared.line.Line.TheVariants.{Extract};
 ghost use Rattle.tool_spec.specs.Scripts.{named as record_named};
 ghost use Rattle.ram_session.specs.Records.{IsContent};
 ghost use Rattle.ram_session.specs.Sessions.{LineDone, LineFails};

@@ -1,7 +1,7 @@
 // Lines that boot, stop or list.
 ghost use Rattle.std.specs.Prelude.{◌≡◌, [], IfOk, MatchResult, map};
 ghost use Rattle.ram_session.specs.Sessions.{LineDone, LineFails};
-ghost use Rattle.box_script.specs.declared.line.Line.TheVariants.{Boot, BootPart, Stop, List as ListLine};
+ghost use Rattle.grammar_spec.specs.declared.line.Line.TheVariants.{Boot, BootPart, Stop, List as ListLine};
 ghost use Rattle.ram_session.specs.declared.machine.Machine.TheVariants.{Off as OffMachine, Live as LiveMachine};
 ghost use Rattle.ram_core.specs.LiveSeen.{LiveSeen};
 

@@ -3,7 +3,7 @@ ghost use Rattle.std.specs.Prelude.{◌≡◌, ℕ, ◌<◌, ◌++◌, length, m
 ghost use Rattle.std.specs.Option.{option_map, option_copied};
 ghost use Rattle.zone_spec.specs.Reading.{ZoneReading};
 ghost use Rattle.zone_spec.specs.Records.{Saved};
-ghost use Rattle.box_script.specs.Printed.{zone_text};
+ghost use Rattle.grammar_spec.specs.Printed.{zone_text};
 ghost use Rattle.old_log.specs.Saving.{saved};
 ghost use Rattle.ram_core.specs.Reports.{told_cut, told_report};
 ghost use Rattle.tool_spec.specs.Texts.{newline, state_text, verdict_text, boot_line, call_text, seen_text, run_text, runs_text, cut_line, cut_text, zone_lines, boot_text, part_text};

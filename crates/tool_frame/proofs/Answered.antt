@@ -4,7 +4,7 @@ use Rattle.std.proofs.lemmas.Grind.{common_steps}
 use Rattle.std.proofs.Math.Seq.{take-append-add}
 use Rattle.std.specs.Io.KnownBytes.{Appends}
 use Rattle.box_io.specs.Outside.{AppendsFront}
-use Rattle.box_script.specs.Fields.{Text}
+use Rattle.grammar_spec.specs.Fields.{Text}
 use Rattle.tool_spec.specs.Ends.{End, status_of, last_line}
 use Rattle.tool_spec.specs.Commands.{Wanted}
 use Rattle.tool_spec.specs.Answers.{Outside, Later, NoScript, NoImage, RoseFor, front, whole, WritesAll, WritesSome, IsFree, PutFront, SavedInPart, CanStop, Answers}

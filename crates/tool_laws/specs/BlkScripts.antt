@@ -9,8 +9,8 @@ use Rattle.blk_spec.specs.Layout.{IsLayout}
 use Rattle.blk_spec.specs.States.{BlkState, loaded}
 use Rattle.blk_spec.specs.Session.{Operation, session_run, begun, Call, done_call}
 use Rattle.blk_laws.specs.Sessions.{untold, told_run, is_whole, ring_read, ring_told, IsEarly}
-use Rattle.box_script.specs.declared.line.Line.{Line}
-use Rattle.box_script.specs.declared.line.Line.TheVariants.{Boot, Write}
+use Rattle.grammar_spec.specs.declared.line.Line.{Line}
+use Rattle.grammar_spec.specs.declared.line.Line.TheVariants.{Boot, Write}
 use Rattle.tool_spec.specs.BlkScripts.{BlkRan, blk_next_line, blk_ran, blk_started, operation_of, ring_for}
 use Rattle.tool_spec.specs.declared.Cause.{Cause}
 

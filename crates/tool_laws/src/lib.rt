@@ -62,8 +62,9 @@ pub fn whole_script_lists_told()
     ensures { WholeScriptListsTold }
 {}
 
-/// Where the first line that is cut since the last boot is a `write` to a ring that is not full, and the cut falls among
-/// its data bytes before its first header, the next boot lists of that ring what it would have listed before that line.
+/// Where the first line that is cut since the last boot is a `write` to a ring that is not full, and the cut falls
+/// among its data bytes before its first header, the next boot lists of that ring what it would have listed before that
+/// line.
 pub fn early_cut_script_lists_before()
     ensures { EarlyCutScriptListsBefore }
 {}

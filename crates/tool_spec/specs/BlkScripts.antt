@@ -15,9 +15,9 @@ use Rattle.blk_spec.specs.Writes.{Write as StoreWrite, reaching}
 use Rattle.blk_spec.specs.Names.{name_text}
 use Rattle.blk_spec.specs.States.{BlkState, load_writes, append_of, dump_of, erase_of, names_of, content_of, time_of}
 use Rattle.blk_spec.specs.Session.{Session, Operation, Load, Append, AppendElsewhere, Dump as DumpNow, CutAfter as CutNow, ListAll, Extract as ExtractRecord, Erase as EraseRecord, Cause as SessionCause, IsOff as IsOffThere, NoZone as NoZoneThere, NoRecord as NoRecordThere, cause_of, session_after, begun}
-use Rattle.box_script.specs.Fields.{Text}
-use Rattle.box_script.specs.declared.line.Line.{Line}
-use Rattle.box_script.specs.declared.line.Line.TheVariants.{Blank, Write, Boot, List as ListLine, Extract, Erase, KDump, CutAfter}
+use Rattle.grammar_spec.specs.Fields.{Text}
+use Rattle.grammar_spec.specs.declared.line.Line.{Line}
+use Rattle.grammar_spec.specs.declared.line.Line.TheVariants.{Blank, Write, Boot, List as ListLine, Extract, Erase, KDump, CutAfter}
 use Rattle.tool_spec.specs.Texts.{newline}
 use Rattle.tool_spec.specs.declared.Cause.{Cause}
 use Rattle.tool_spec.specs.declared.Cause.TheVariants.{IsOff, NoZone, NoRecord, NotHere}

@@ -1,5 +1,5 @@
 use Rattle.std.proofs.Common.{◌≡◌, subst, sym}
-use Rattle.box_script.specs.declared.line.Line.{Line}
+use Rattle.grammar_spec.specs.declared.line.Line.{Line}
 use Rattle.ram_session.specs.Sessions.{LineFails}
 use Rattle.ram_session.specs.declared.machine.Machine.TheVariants.{Live as LiveMachine}
 use Rattle.ram_session.proofs.lines.do_live.Goals as goal

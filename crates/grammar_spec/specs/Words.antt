@@ -4,9 +4,9 @@ use Rattle.std.specs.Option.{option_and_then, option_map}
 use Rattle.std.specs.List.{list_any, find, before_first, after_first}
 use Rattle.std.specs.declared.string.String.{String}
 use Rattle.std.specs.declared.alloc.Global.{Global}
-use Rattle.param_words.specs.declared.faults.ParamFault.{ParamFault}
-use Rattle.param_words.specs.declared.faults.ParamFault.TheVariants.{UnknownKey, Twice, NotANumber}
-use Rattle.param_words.specs.Numbers.{number_of, begins}
+use Rattle.grammar_spec.specs.declared.faults.ParamFault.{ParamFault}
+use Rattle.grammar_spec.specs.declared.faults.ParamFault.TheVariants.{UnknownKey, Twice, NotANumber}
+use Rattle.grammar_spec.specs.Numbers.{number_of, begins}
 
 -- the keys that words may give, and the prefix that each may have
 pub record KeyTable : Type 0 where

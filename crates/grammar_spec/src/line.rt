@@ -1,8 +1,5 @@
 // The lines of a script.
-ghost use Rattle.std.specs.Prelude.{◌≡◌};
-
 use box_io::Bytes;
-use std::marker::Model;
 use zone_spec::{Time, ZoneName};
 
 /// A line of a script. The bool of a dump is true where it is compressed.
@@ -31,33 +28,4 @@ pub enum Line {
     KDump(u64, u32, bool, u32, Bytes),
     /// So many bytes more that reach the store.
     CutAfter(u32),
-}
-
-/// The lines of a script, in order.
-#[derive(Drop)]
-pub struct Lines {
-    items: Vec<Line>,
-}
-
-impl Model for Lines {
-    ghost use Rattle.std.specs.Prelude.{List};
-    ghost use Rattle.box_script.specs.declared.line.Line.{Line};
-
-    ghost Value = { List Line };
-
-    ghost view = { λ l. l.items.items };
-}
-
-impl Lines {
-    pub fn as_slice(&self) -> &[Line]
-        ensures { result.now ≡ self.now }
-    {
-        &self.items
-    }
-
-    pub fn from_vec(v: Vec<Line>) -> Lines
-        ensures { result ≡ v.items }
-    {
-        Lines { items: v }
-    }
 }

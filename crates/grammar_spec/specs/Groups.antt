@@ -2,7 +2,7 @@
 use Rattle.std.specs.Prelude.{ℕ, Bool, List, [], ◌∷◌, Option, Some, None}
 use Rattle.zone_spec.specs.declared.ZoneName.{ZoneName}
 use Rattle.zone_spec.specs.declared.Time.{Time}
-use Rattle.box_script.specs.Fields.{Text, ◌>>=◌, number, secs, micros, ring, zone, payload, flag, name}
+use Rattle.grammar_spec.specs.Fields.{Text, ◌>>=◌, number, secs, micros, ring, zone, payload, flag, name}
 
 -- exactly so many fields
 abbrev pub one : List Text → Option Text

@@ -3,8 +3,8 @@ use Rattle.std.specs.Prelude.{ℕ, List, [], ◌∷◌, codes, unwrap_or, Option
 use Rattle.std.specs.declared.string.String.{String}
 use Rattle.std.specs.declared.alloc.Global.{Global}
 use Rattle.zone_spec.specs.declared.params.Params.{Params}
-use Rattle.param_words.specs.declared.faults.ParamFault.{ParamFault}
-use Rattle.param_words.specs.Words.{KeyTable, ok_unless, texts, first_fault as first_fault_by, given as given_by}
+use Rattle.grammar_spec.specs.declared.faults.ParamFault.{ParamFault}
+use Rattle.grammar_spec.specs.Words.{KeyTable, ok_unless, texts, first_fault as first_fault_by, given as given_by}
 
 -- the keys, with the prefix of a kernel's command line
 abbrev pub keys : KeyTable

@@ -1,10 +1,10 @@
 -- A line's text, and the script as a list of lines
 use Rattle.std.specs.Prelude.{ℕ, ◌+◌, ◌==◌, Bool, ◌&&◌, ◌||◌, if◌then◌else◌, nat_le, List, [], ◌∷◌, length, slice_index, Option, Some, None, Result, Ok, Err}
 use Rattle.std.specs.List.{slice_split, list_all}
-use Rattle.box_script.specs.declared.line.Line.{Line}
-use Rattle.box_script.specs.declared.line.Line.TheVariants.{Blank}
-use Rattle.box_script.specs.Fields.{Text}
-use Rattle.box_script.specs.Rows.{line_of_fields}
+use Rattle.grammar_spec.specs.declared.line.Line.{Line}
+use Rattle.grammar_spec.specs.declared.line.Line.TheVariants.{Blank}
+use Rattle.grammar_spec.specs.Fields.{Text}
+use Rattle.grammar_spec.specs.Rows.{line_of_fields}
 
 -- an empty line, or a comment: `#` first, and no byte below 20 hexadecimal
 abbrev pub is_blank : Text → Bool

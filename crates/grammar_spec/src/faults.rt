@@ -1,6 +1,6 @@
 // What is wrong with words.
 ghost use Rattle.std.specs.Prelude.{◌≡◌};
-ghost use Rattle.param_words.specs.Faults.{fault_number};
+ghost use Rattle.grammar_spec.specs.Faults.{fault_number};
 
 use thiserror::Error;
 

@@ -1,9 +1,9 @@
 -- The lines of the table, each by its word and the fields behind it
 use Rattle.std.specs.Prelude.{if◌then◌else◌, List, [], ◌∷◌, codes, bytes_eq, Option, Some, None}
-use Rattle.box_script.specs.declared.line.Line.{Line}
-use Rattle.box_script.specs.declared.line.Line.TheVariants.{Write, Dump, BeginWrite, BeginErase, BeginDump, Step, Finish, Stop, Flip, Boot, BootPart, List as ListLine, Extract, Erase, KDump, CutAfter}
-use Rattle.box_script.specs.Fields.{Text, ◌>>=◌, number, mask, secs, nanos, zone, payload, flag, reason}
-use Rattle.box_script.specs.Groups.{two, five, ring_hex, time_flag_hex, one_zone, one_number, one_name}
+use Rattle.grammar_spec.specs.declared.line.Line.{Line}
+use Rattle.grammar_spec.specs.declared.line.Line.TheVariants.{Write, Dump, BeginWrite, BeginErase, BeginDump, Step, Finish, Stop, Flip, Boot, BootPart, List as ListLine, Extract, Erase, KDump, CutAfter}
+use Rattle.grammar_spec.specs.Fields.{Text, ◌>>=◌, number, mask, secs, nanos, zone, payload, flag, reason}
+use Rattle.grammar_spec.specs.Groups.{two, five, ring_hex, time_flag_hex, one_zone, one_number, one_name}
 
 -- `step ZONE K`
 unfoldable pub step_line : List Text → Option Line

@@ -6,10 +6,10 @@ use Rattle.zone_spec.specs.declared.ZoneName.{ZoneName}
 use Rattle.zone_spec.specs.declared.Kind.{Kind}
 use Rattle.zone_spec.specs.declared.Kind.TheVariants.{Dump as DumpZone, Console, Ftrace, Pmsg}
 use Rattle.zone_spec.specs.declared.Time.{Time}
-use Rattle.box_script.specs.declared.line.Line.{Line}
-use Rattle.box_script.specs.declared.line.Line.TheVariants.{Blank, Write, Dump, BeginWrite, BeginErase, BeginDump, Step, Finish, Stop, Flip, Boot, BootPart, List as ListLine, Extract, Erase, KDump, CutAfter}
-use Rattle.box_script.specs.Fields.{Text, is_name}
-use Rattle.box_script.specs.Lines.{script_of}
+use Rattle.grammar_spec.specs.declared.line.Line.{Line}
+use Rattle.grammar_spec.specs.declared.line.Line.TheVariants.{Blank, Write, Dump, BeginWrite, BeginErase, BeginDump, Step, Finish, Stop, Flip, Boot, BootPart, List as ListLine, Extract, Erase, KDump, CutAfter}
+use Rattle.grammar_spec.specs.Fields.{Text, is_name}
+use Rattle.grammar_spec.specs.Lines.{script_of}
 
 -- ---- which fields a line can have
 

@@ -3,8 +3,8 @@ use Rattle.std.specs.Prelude.{ℕ, List, [], ◌∷◌, codes, unwrap_or, Option
 use Rattle.std.specs.declared.string.String.{String}
 use Rattle.std.specs.declared.alloc.Global.{Global}
 use Rattle.blk_spec.specs.declared.BlkParams.{BlkParams}
-use Rattle.param_words.specs.declared.faults.ParamFault.{ParamFault}
-use Rattle.param_words.specs.Words.{KeyTable, ok_unless, texts, first_fault as first_fault_by, given as given_by}
+use Rattle.grammar_spec.specs.declared.faults.ParamFault.{ParamFault}
+use Rattle.grammar_spec.specs.Words.{KeyTable, ok_unless, texts, first_fault as first_fault_by, given as given_by}
 
 -- the keys, which have no prefix
 abbrev pub keys : KeyTable
