@@ -20,6 +20,10 @@ mod blk_tests;
 #[cfg(test)]
 mod fault_tests;
 #[cfg(test)]
+mod generator_tests;
+#[cfg(test)]
 mod record_tests;
+#[cfg(test)]
+mod session_tests;
 #[cfg(test)]
 mod tests;
