@@ -105,8 +105,7 @@ fn word_at(bytes: &[u8]) -> u32
 }
 
 /// The encoder of a zone's parts, none where the zone has no parity. It holds some 4 KiB; a caller with many parts
-/// keeps
-/// one.
+/// keeps one.
 #[derive(Drop)]
 pub struct Coder(Option<Parity>);
 

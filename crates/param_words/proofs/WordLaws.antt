@@ -166,7 +166,8 @@ unfolding value_text
 value_end table words i key h = rw (drop_of_length-le words h) refl
 
 pub given_some : (table : KeyTable) (words : List (List ℕ)) (key : List ℕ) (r : Option (Bor (List ℕ)))
-    (x : Bor (List ℕ)) → option_copied r ≡ value_text table words key → r ≡ Some x → number_of x.now ≡ given table words key
+    (x : Bor (List ℕ)) → option_copied r ≡ value_text table words key → r ≡ Some x → number_of x.now ≡ given table words
+    key
 unfolding given
 given_some table words key r x v e = ap (option_and_then number_of) (sym (ap option_copied e) ∙ v)
 

@@ -96,9 +96,8 @@ pub(crate) fn prepare(
     Ok(prepared)
 }
 
-/// A zone that a boot came to: how many of the boot's stores were then left to be made, the words that it read, and
-/// how many
-/// stores it has there.
+/// A zone that a boot came to: how many of the boot's stores were then left to be made, the words that it read, and how
+/// many stores it has there.
 #[derive(Clone, Copy)]
 pub struct Passed {
     pub(crate) left: u64,
@@ -152,8 +151,7 @@ pub struct Progress {
 }
 
 /// Makes the first `limit` stores of a boot, or all, by the zones' readings, and notes how it passed each zone where
-/// there is
-/// room for it. Takes no memory.
+/// there is room for it. Takes no memory.
 pub(crate) fn settle_part(
     spans: &mut Spans,
     layout: &Layout,

@@ -224,8 +224,7 @@ impl Live {
     }
 
     /// Begins a call, and makes no store. An append of no bytes is finished at once. A refusal changes nothing, and
-    /// hands
-    /// back what was asked. Takes no memory.
+    /// hands back what was asked. Takes no memory.
     pub fn begin(&mut self, ask: Ask) -> Result<ZoneName, Refused>
         requires { CanBeAsked ask }
         ensures begun { IfOk result (λ name. (layout : List Zone) (mem : ℕ) (s : LiveState)
@@ -275,8 +274,7 @@ impl Live {
     }
 
     /// Makes the next store of a zone's flight. It is done with the last one: then no flight stands there, the told
-    /// list is
-    /// what the call means, and a dump's moves the cursor. Takes no memory.
+    /// list is what the call means, and a dump's moves the cursor. Takes no memory.
     pub fn step(&mut self, zone: ZoneName) -> Result<Step, Refusal>
         ensures stepped { IfOk result (λ step. (layout : List Zone) (mem : ℕ) (s : LiveState)
             → StandsLive layout mem self.old s → Leaves layout mem (steps layout s zone 1) self.new) }

@@ -241,9 +241,8 @@ impl Off {
         }
     }
 
-    /// Boots: each zone is read, its log saved and told against its told list, and its boot stores are made. All
-    /// memory is
-    /// taken before the first store; on a refusal the machine is as it was.
+    /// Boots: each zone is read, its log saved and told against its told list, and its boot stores are made. All memory
+    /// is taken before the first store; on a refusal the machine is as it was.
     pub fn boot(self) -> Result<(Live, Logs, Report), (Off, AllocError)>
         ensures booted { IfOk result (λ r. (layout : List AZone) (mem : ℕ) (s : OffState)
             → StandsOff layout mem self s → Booted layout mem s r.0 (saved r.1) (map told_report r.2)) }
@@ -267,8 +266,7 @@ impl Off {
 
     /// Makes the first `limit` stores of a boot, or all, and tells how many. Zones in front of the last store made are
     /// finished, and its own zone where that was its last; a zone within its erasure has that for its cut. All memory
-    /// is
-    /// taken before the first store; on a refusal the machine is as it was.
+    /// is taken before the first store; on a refusal the machine is as it was.
     pub fn boot_part(self, limit: u64) -> Result<(Off, u64), (Off, AllocError)>
         ensures parted { IfOk result (λ r. (layout : List AZone) (mem : ℕ) (s : OffState)
             → StandsOff layout mem self s → BootedInPart layout mem s limit r.0 r.1) }

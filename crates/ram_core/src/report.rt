@@ -16,8 +16,7 @@ use std::marker::Model;
 use zone_spec::{CallKind, HeaderSeen, Pair, Verdict, Words, Zone, ZoneName};
 
 /// A call, or a boot's own erasure, that was cut: how many of its stores were made, which of its pairs the header
-/// reads,
-/// and the first and the last of each run of blocks that the whole call touches, rising.
+/// reads, and the first and the last of each run of blocks that the whole call touches, rising.
 #[derive(Drop)]
 pub struct Cut {
     pub kind: CallKind,

@@ -79,8 +79,7 @@ pub enum Stored {
 }
 
 /// Makes the next store of the flight of a zone, whose bytes are span `i`. With the last one the flight is gone, and
-/// the
-/// list is told what the call means.
+/// the list is told what the call means.
 pub(crate) fn store_next(spans: &mut Spans, i: u32, held: &mut HeldZone) -> Option<Stored>
     requires has { i < length spans.old.spans }
     requires can { CanStore (span spans.old i) held.old.flight }

@@ -406,7 +406,8 @@ cut_boot_leaves_rest layout mem off k lies memory =
     let e : ℕ = zones_end layout in
     let whole : AllByRecursion (Below (0 + e)) (image_boot_stores layout image) =
     stores_below image layout 0 (λ j y h. (lies.valid j y h).1 ∙ omega arith)
-    (λ j y h. stores_in y (lies.valid j y h).0 (zone_bytes y image) (memory_bytes layout mem lies image memory j y h)) in
+    (λ j y h. stores_in y (lies.valid j y h).0 (zone_bytes y image) (memory_bytes layout mem lies image memory j y h))
+    in
     let n : 0 + e ≡ e = omega arith in
     let below : AllByRecursion (Below e) ss = all-take (Below e) k (image_boot_stores layout image)
     (subst (λ m. AllByRecursion (Below m) (image_boot_stores layout image)) n whole) in

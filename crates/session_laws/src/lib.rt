@@ -25,8 +25,7 @@ pub fn operations_keep_states_sound()
 {}
 
 /// Every state that a session reaches is sound: live zones hold what they were told or a flight's image, and so did
-/// each
-/// zone at its stop.
+/// each zone at its stop.
 pub fn states_are_sound()
     ensures { StatesAreSound }
 {}

@@ -192,7 +192,8 @@ still_done : (layout : List Zone) (lines : List Line) (r : Ran) → (fold (next_
     → r.refused ≡ None
 still_done layout [] r h = h
 still_done layout (line ∷ lines) r h =
-    refused_stays r (line_done layout r.session line) r.refused refl (still_done layout lines (next_line layout r line) h)
+    refused_stays r (line_done layout r.session line) r.refused refl
+    (still_done layout lines (next_line layout r line) h)
 
 take_done : (layout : List Zone) (lines : List Line) (k : ℕ) (r : Ran)
     → (fold (next_line layout) r lines).refused ≡ None → (fold (next_line layout) r (take k lines)).refused ≡ None

@@ -52,7 +52,8 @@ module _ (a m b : Outside) (on : GoesOn a m b) (status : ℕ) where
 
   -- text that was put by the end of the work, and the last line; or the output failed
   put_after : (s : Stop) (n : ℕ) → status_of (Err s) ≡ n → n ≢ 7 → m.given ≡ a.given
-      → LastPut s m.given b.given m.sink_faults b.sink_faults status → status ≡ n → Appends a.given b.given (last_line s)
+      → LastPut s m.given b.given m.sink_faults b.sink_faults status → status ≡ n → Appends a.given b.given
+      (last_line s)
   put_after s n is seven quiet f here = elim f.shown [
     | inl h ↦ rw quiet at h.1
     | inr h ↦ absurd (seven (sym here ∙ h.0))
