@@ -1,3 +1,4 @@
+-- Words of the code: sums, values and places of symbols
 use Rattle.std.proofs.Common.{◌≡◌, ◌≢◌, ℕ, zero, suc, ◌+◌, ◌*◌, ◌≤◌, ◌<◌, eqb, true, false, cond, refl, sym, ap, ap₂, ◌∙◌, arith, List, [], ◌∷◌, ◌++◌, length, length-append, ◌⊎◌, inl, inr, mul-suc, mul-zero, mul_comm as nat_mul_comm, get_or, take, drop, take-append-drop, ext_get_or, length-take-le, get_or-take, get_or-drop, length-drop}
 use Rattle.std.proofs.lemmas.Bool.Decides.{eqb_tells}
 use Rattle.code_spec.specs.Field.{gf_add, gf_mul, gf_pow}

@@ -39,7 +39,7 @@ use Rattle.damage_laws.proofs.CutNumbers.{boot_cut_report_is_exact}
 use Rattle.ring_laws.proofs.Images.{length-after_stores}
 use Rattle.ram_region.specs.CutRegion.{CutRegion, span, cut_at}
 use Rattle.ram_core.specs.declared.booting.Passed.{Passed}
-use Rattle.ram_core.specs.declared.booting.Progress.{Progress}
+use Rattle.ram_core.specs.declared.booting.BootProgress.{BootProgress}
 use Rattle.ram_core.specs.declared.zones.HeldZone.{HeldZone}
 use Rattle.ram_core.specs.declared.known.KnownZone.{KnownZone}
 use Rattle.ram_core.specs.SeenCut.{cut_of_erasure}
@@ -226,7 +226,7 @@ module _ (layout : List Zone) (mem : ℕ) (image : List ℕ) (lies : IsLayout la
       (let a = (lies.valid i z ez).1 in let b = zone_within layout i z ez in let c = lies.within in
       omega (arith, a, b, c, size)) bytes
 
-  module _ (new : CutRegion) (limit : ℕ) (progress : Progress) (passed : List Passed)
+  module _ (new : CutRegion) (limit : ℕ) (progress : BootProgress) (passed : List Passed)
       (parts : PartsTo layout (cut_at layout image) new limit (length layout) progress passed) where
     abbrev after_image : List ℕ
     after_image = (boot_parted layout limit (fresh layout image)).image
@@ -363,7 +363,7 @@ module _ (v : OffSeen) (o : OpenOff) (is : IsOpen v o) where
   abbrev M : ℕ
   M = rounded (params_of o.layout).mem
 
-  module _ (new : CutRegion) (limit : ℕ) (progress : Progress) (passed : List Passed)
+  module _ (new : CutRegion) (limit : ℕ) (progress : BootProgress) (passed : List Passed)
       (parts : PartsTo L o.spans new limit (length L) progress passed) where
     own_parts : PartsTo L (cut_at L v.image) new limit (length L) progress passed
     own_parts = subst (λ (c : CutRegion). PartsTo L c new limit (length L) progress passed) is.spans parts

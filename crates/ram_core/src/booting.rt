@@ -145,7 +145,7 @@ pub(crate) fn settle_all(spans: &mut Spans, layout: &Layout, logs: &Logs)
 
 /// How far a boot has come: how many stores it may still make, and whether it made all that it came to.
 #[derive(Clone, Copy)]
-pub struct Progress {
+pub struct BootProgress {
     pub(crate) left: u64,
     pub(crate) is_whole: bool,
 }
@@ -158,7 +158,7 @@ pub(crate) fn settle_part(
     logs: &Logs,
     limit: u64,
     passed: &mut Vec<Passed>,
-) -> Progress
+) -> BootProgress
     requires spans { SpansFit (zones_of layout.now) spans.old.spans }
     requires logs { AreLogs (zones_of layout.now) spans.old.spans logs.now }
     requires none { passed.old.items ≡ [] }
@@ -167,7 +167,7 @@ pub(crate) fn settle_part(
         result passed.new.items }
 {
     let zones = layout.zones();
-    let mut progress = Progress {
+    let mut progress = BootProgress {
         left: limit,
         is_whole: true,
     };

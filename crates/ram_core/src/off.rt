@@ -12,7 +12,7 @@ ghost use Rattle.old_log.specs.Saving.{saved};
 ghost use Rattle.ram_core.specs.Stopped.{HasRoom};
 ghost use Rattle.ram_core.specs.Running.{IsRunning};
 ghost use Rattle.ram_core.specs.Resting.{IsResting};
-ghost use Rattle.ram_core.specs.Reports.{told_report};
+ghost use Rattle.ram_core.specs.Reports.{report_seen};
 ghost use Rattle.ram_core.specs.Booted.{Booted, BootedInPart};
 ghost use Rattle.std.specs.Vec.{vec_capacity};
 
@@ -245,7 +245,7 @@ impl Off {
     /// is taken before the first store; on a refusal the machine is as it was.
     pub fn boot(self) -> Result<(Live, Logs, Report), (Off, AllocError)>
         ensures booted { IfOk result (λ r. (layout : List AZone) (mem : ℕ) (s : OffState)
-            → StandsOff layout mem self s → Booted layout mem s r.0 (saved r.1) (map told_report r.2)) }
+            → StandsOff layout mem self s → Booted layout mem s r.0 (saved r.1) (map report_seen r.2)) }
         ensures sound { IsResting self }
         ensures refused { IfErr result (λ e. e.0 ≡ self) }
     {

@@ -8,7 +8,7 @@ use Rattle.session_spec.specs.LiveCalls.{Ask, Append, Dump}
 use Rattle.tool_spec.specs.Generated.{CutAppend, draw, draws, rings, cut_in, dump_of, drawn_append, drawn_dump, drawn_turn, drawn_cut, draw_each, joined}
 use Rattle.std.specs.List.{range_with_len}
 use Rattle.ram_core.specs.declared.ask.Ask.{Ask as RustAsk}
-use Rattle.ram_core.specs.Asks.{told_ask}
+use Rattle.ram_core.specs.Asks.{ask_seen}
 use Rattle.ram_generator.specs.Turns.{turn_of}
 use Rattle.ram_generator.proofs.Each.{IsJoined, joined_more, joined_all, range_next, range_end}
 
@@ -97,19 +97,19 @@ TurnsLeft layout q i x = draw_each (λ (i : ℕ). drawn_turn layout q) (range_wi
 
 pub turns_more : (layout : List Zone) (q i x y : ℕ) (turns now : List RustAsk) (turn : Option RustAsk)
     (all : List (List Ask) × ℕ) → i < 24 → turn_of turn ≡ (drawn_turn layout q x).0 → y ≡ (drawn_turn layout q x).1
-    → map told_ask now ≡ map told_ask turns ++ turn_of turn
-    → IsJoined (map told_ask turns) (TurnsLeft layout q i x) all
-    → IsJoined (map told_ask now) (TurnsLeft layout q (i + 1) y) all
+    → map ask_seen now ≡ map ask_seen turns ++ turn_of turn
+    → IsJoined (map ask_seen turns) (TurnsLeft layout q i x) all
+    → IsJoined (map ask_seen now) (TurnsLeft layout q (i + 1) y) all
 turns_more layout q i x y turns now turn all lt e1 e2 same h =
-    let g : IsJoined (map told_ask turns) (draw_each (λ (i : ℕ). drawn_turn layout q)
+    let g : IsJoined (map ask_seen turns) (draw_each (λ (i : ℕ). drawn_turn layout q)
     (i ∷ range_with_len (i + 1) (24 - (i + 1))) x) all = rw (range_next i 24 lt) at h in
     joined_more (λ (i : ℕ). drawn_turn layout q) i (range_with_len (i + 1) (24 - (i + 1))) x y (turn_of turn)
-    (map told_ask turns) (map told_ask now) all e1 e2 same g
+    (map ask_seen turns) (map ask_seen now) all e1 e2 same g
 
 pub turns_all : (layout : List Zone) (q i x : ℕ) (turns : List RustAsk) (all : List (List Ask) × ℕ) → i ≡ 24
-    → IsJoined (map told_ask turns) (TurnsLeft layout q i x) all → (map told_ask turns ≡ joined all.0) × (x ≡ all.1)
+    → IsJoined (map ask_seen turns) (TurnsLeft layout q i x) all → (map ask_seen turns ≡ joined all.0) × (x ≡ all.1)
 turns_all layout q i x turns all end h = joined_all (λ (i : ℕ). drawn_turn layout q) (range_with_len i (24 - i)) x
-    (map told_ask turns) all (range_end i 24 end) h
+    (map ask_seen turns) all (range_end i 24 end) h
 
 pub found_at : {A : Type 0} (xs : List A) (i : ℕ) (x : A) → i < length xs → x ≡ get_or xs i x → slice_get xs i ≡ Some x
 found_at [] i x lt same = absurd (omega (arith, lt))

@@ -19,7 +19,7 @@ use Rattle.ram_core.specs.LiveSeen.{LiveSeen, StandsLive}
 use Rattle.ram_core.specs.OffSeen.{OffSeen, StandsOff}
 use Rattle.tool_spec.specs.Generated.{Generated, CutAppend, after, stores_of, uncut, zones_uncut}
 use Rattle.ram_generator.specs.declared.counts.Counts.{Counts}
-use Rattle.ram_generator.specs.declared.rounds.Plan.{Plan}
+use Rattle.ram_generator.specs.declared.rounds.RoundPlan.{RoundPlan}
 use Rattle.ram_generator.specs.Counting.{counted}
 use Rattle.ram_generator.specs.Damage.{IsWithin}
 use Rattle.ram_generator.specs.Turns.{AreTargets}
@@ -111,7 +111,7 @@ pub record IsUp (layout : List Zone) (mem : ℕ) (s : OffState) (v : LiveSeen) (
   pub reports : told ≡ report layout s
 
 -- the zones of a plan are few and lie within 32 bits, and its calls are drawn for them
-pub record IsPlan (plan : Plan) : Type 0 where
+pub record IsPlan (plan : RoundPlan) : Type 0 where
   pub targets : AreTargets plan.zones.items plan.targets
   pub few : length plan.targets.rings.items < 2 ^ 31
   pub within : All IsWithin plan.zones.items

@@ -3,7 +3,7 @@ use Rattle.std.specs.Prelude.{◌≡◌, ◌==◌, not, List, [], ◌∷◌, Opt
 use Rattle.zone_spec.specs.declared.Zone.{Zone}
 use Rattle.session_spec.specs.Zones.{dump_zones}
 use Rattle.session_spec.specs.LiveCalls.{Ask as Asked}
-use Rattle.ram_core.specs.Asks.{told_ask, CanBeAsked}
+use Rattle.ram_core.specs.Asks.{ask_seen, CanBeAsked}
 use Rattle.ram_core.specs.declared.ask.Ask.{Ask}
 use Rattle.tool_spec.specs.Generated.{CutAppend as CutDrawn, rings}
 use Rattle.ram_generator.specs.declared.turns.CutAppend.{CutAppend}
@@ -12,7 +12,7 @@ use Rattle.ram_generator.specs.declared.turns.Targets.{Targets}
 -- a turn's call, where it has one
 abbrev pub turn_of : Option Ask → List Asked
 turn_of None = []
-turn_of (Some ask) = told_ask ask ∷ []
+turn_of (Some ask) = ask_seen ask ∷ []
 
 abbrev pub TurnCanBeAsked : Option Ask → Type 0
 TurnCanBeAsked None = Unit {0}

@@ -7,7 +7,7 @@ ghost use Rattle.session_spec.specs.States.{LiveState, Live as LiveOf};
 ghost use Rattle.session_spec.specs.LiveZones.{target};
 ghost use Rattle.session_spec.specs.Operations.{Step};
 ghost use Rattle.session_spec.specs.Sound.{IsState, IsAsk};
-ghost use Rattle.ram_core.specs.Asks.{told_ask, CanBeAsked};
+ghost use Rattle.ram_core.specs.Asks.{ask_seen, CanBeAsked};
 ghost use Rattle.ram_core.specs.LiveSeen.{StandsLive};
 ghost use Rattle.tool_spec.specs.Generated.{Generated, with_call, with_cut};
 ghost use Rattle.ram_generator.specs.Turns.{cut_of};
@@ -24,7 +24,7 @@ use zone_spec::ZoneName;
 // Tells that the payload is of bytes.
 fn check(ask: &Ask)
     requires { CanBeAsked ask.now }
-    ensures { IsAsk (told_ask ask.now) }
+    ensures { IsAsk (ask_seen ask.now) }
 {
     match ask {
         Ask::Append(_, payload) | Ask::Dump(_, _, payload) => {
@@ -48,10 +48,10 @@ fn left(live: &Live, zone: ZoneName) -> u64
 // Makes a call in an idle store, and tells how many stores it has, none where there is no such zone.
 fn make_stores(live: &mut Live, ask: Ask) -> u64
     requires can { CanBeAsked ask }
-    requires ring { IsForRing (told_ask ask) }
+    requires ring { IsForRing (ask_seen ask) }
     ensures { (layout : List Zone) (mem : ℕ) (s : LiveState) → IsLayout layout mem
         → StandsLive layout mem live.old s → IsState layout mem (LiveOf s) → AreIdle s.zones
-        → IsMade layout mem s (told_ask ask) live.new result }
+        → IsMade layout mem s (ask_seen ask) live.new result }
 {
     check(&ask);
     let zone = match begin(live, ask) {
@@ -68,11 +68,11 @@ fn make_stores(live: &mut Live, ask: Ask) -> u64
 /// Makes a call in an idle store, and counts it with its stores.
 pub fn make_call(live: &mut Live, counts: &mut Counts, ask: Ask)
     requires can { CanBeAsked ask }
-    requires ring { IsForRing (told_ask ask) }
+    requires ring { IsForRing (ask_seen ask) }
     requires room { AreBelow counts.old (2 ^ 32) }
     ensures made { (layout : List Zone) (mem : ℕ) (g : Generated) → IsLayout layout mem
         → RunsIdle layout mem live.old counts.old g
-        → RunsIdle layout mem live.new counts.new (with_call layout g (told_ask ask)) }
+        → RunsIdle layout mem live.new counts.new (with_call layout g (ask_seen ask)) }
     ensures grows { Grows counts.old counts.new 1 }
 {
     let stores = make_stores(live, ask);
@@ -82,12 +82,12 @@ pub fn make_call(live: &mut Live, counts: &mut Counts, ask: Ask)
 /// Makes calls in their order.
 pub fn make_calls(live: &mut Live, counts: &mut Counts, asks: Vec<Ask>)
     requires can { All CanBeAsked asks.items }
-    requires rings { AllByRecursion IsForRing (map told_ask asks.items) }
+    requires rings { AllByRecursion IsForRing (map ask_seen asks.items) }
     requires few { length asks.items ≤ 24 }
     requires room { AreBelow counts.old (2 ^ 31) }
     ensures made { (layout : List Zone) (mem : ℕ) (g : Generated) → IsLayout layout mem
         → RunsIdle layout mem live.old counts.old g
-        → RunsIdle layout mem live.new counts.new (fold (with_call layout) g (map told_ask asks.items)) }
+        → RunsIdle layout mem live.new counts.new (fold (with_call layout) g (map ask_seen asks.items)) }
     ensures grows { Grows counts.old counts.new 24 }
 {
     for ask in asks {
@@ -98,10 +98,10 @@ pub fn make_calls(live: &mut Live, counts: &mut Counts, asks: Vec<Ask>)
 // Begins a call in an idle store, and tells how many stores it has, none where there is no such zone.
 fn begin_stores(live: &mut Live, ask: Ask) -> u64
     requires can { CanBeAsked ask }
-    requires ring { IsForRing (told_ask ask) }
+    requires ring { IsForRing (ask_seen ask) }
     ensures { (layout : List Zone) (mem : ℕ) (s : LiveState) → IsLayout layout mem
         → StandsLive layout mem live.old s → IsState layout mem (LiveOf s) → AreIdle s.zones
-        → IsBegun layout mem s (told_ask ask) live.new result }
+        → IsBegun layout mem s (ask_seen ask) live.new result }
 {
     check(&ask);
     match begin(live, ask) {

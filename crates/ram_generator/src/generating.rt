@@ -9,7 +9,7 @@ ghost use Rattle.tool_spec.specs.Generated.{generated, summary as summary_of};
 ghost use Rattle.ram_generator.specs.Counting.{counted, counts_text};
 
 use crate::counts::Counts;
-use crate::rounds::{Plan, boot_up, rounds};
+use crate::rounds::{RoundPlan, boot_up, rounds};
 use crate::{Draws, Targets};
 use box_io::Bytes;
 use itoa::Buffer;
@@ -67,7 +67,7 @@ pub fn generate(alloc: Global, layout: Layout, n: u32) -> Result<(Bytes, Vec<u8>
         (generated (zones_of layout) (rounded (params_of layout).mem) n)) }
 {
     Targets::check(&layout);
-    let plan = Plan::new(alloc, layout.zones())?;
+    let plan = RoundPlan::new(alloc, layout.zones())?;
     let zones = layout.zones().len();
     let image = zeros(alloc, layout.mem())?;
     let off = Off::fresh(alloc, layout, image)?;

@@ -7,7 +7,7 @@ ghost use Rattle.zone_spec.specs.Layouts.{IsLayout, is_zone, zone_place};
 ghost use Rattle.session_spec.specs.States.{OffState};
 ghost use Rattle.session_spec.specs.Report.{ZoneReport as AReport};
 ghost use Rattle.ram_core.specs.OffSeen.{StandsOff};
-ghost use Rattle.ram_core.specs.Reports.{told_report};
+ghost use Rattle.ram_core.specs.Reports.{report_seen};
 ghost use Rattle.tool_spec.specs.Generated.{Generated, is_told, is_other, zones_uncut};
 ghost use Rattle.tool_spec.specs.Generated.{drawn_halt, drawn_boot, round as round_of, rounds as rounds_of};
 ghost use Rattle.ram_generator.specs.Damage.{IsWithin};
@@ -23,19 +23,19 @@ use zone_spec::{Kind, Zone, ZoneName};
 
 /// The zones of a layout, and what calls are drawn for.
 #[derive(Drop)]
-pub struct Plan {
+pub struct RoundPlan {
     zones: Vec<Zone>,
     targets: Targets,
 }
 
-impl Plan {
-    pub fn new(alloc: Global, zones: &[Zone]) -> Result<Plan, AllocError>
+impl RoundPlan {
+    pub fn new(alloc: Global, zones: &[Zone]) -> Result<RoundPlan, AllocError>
         requires few { length zones.now < 2 ^ 31 }
         requires within { All IsWithin zones.now }
         ensures plan { IfOk result IsPlan }
         ensures zones { IfOk result (λ plan. plan.zones.items ≡ zones.now) }
     {
-        Ok(Plan {
+        Ok(RoundPlan {
             zones: Vec::from_slice(alloc, zones)?,
             targets: Targets::new(alloc, zones)?,
         })
@@ -80,7 +80,7 @@ fn leave_out(zones: &mut Vec<Zone>, name: Option<ZoneName>)
 // The calls of round q, an append that is cut, and a stop. Gives the zones that it leaves uncut.
 fn halt(
     alloc: Global,
-    plan: &Plan,
+    plan: &RoundPlan,
     draws: &mut Draws,
     counts: &mut Counts,
     live: Live,
@@ -115,7 +115,7 @@ fn check(image: &[u8])
 /// Boots a store.
 pub fn boot_up(off: Off) -> Result<(Live, Report), AllocError>
     ensures { IfOk result (λ r. (layout : List AZone) (mem : ℕ) (s : OffState) → IsLayout layout mem
-        → StandsOff layout mem off s → length s.image ≡ mem → IsUp layout mem s r.0 (map told_report r.1)) }
+        → StandsOff layout mem off s → length s.image ≡ mem → IsUp layout mem s r.0 (map report_seen r.1)) }
 {
     check(off.image());
     match off.boot() {
@@ -146,8 +146,8 @@ fn differs(report: &ZoneReport) -> bool
 fn count_verdicts(counts: &mut Counts, report: &Report)
     requires { AreBelow counts.old (2 ^ 32) }
     ensures added { counts.new ≡ verdicts_added counts.old (count_by (λ (r : AReport). is_told r.verdict)
-        (map told_report report.now)) (count_by (λ (r : AReport). is_other r.verdict)
-        (map told_report report.now)) }
+        (map report_seen report.now)) (count_by (λ (r : AReport). is_other r.verdict)
+        (map report_seen report.now)) }
     ensures grows { Grows counts.old counts.new 1 }
 {
     let reports = report.as_slice();
@@ -184,7 +184,7 @@ fn boot(
 
 fn round(
     alloc: Global,
-    plan: &Plan,
+    plan: &RoundPlan,
     draws: &mut Draws,
     counts: &mut Counts,
     live: Live,
@@ -208,7 +208,7 @@ fn round(
 /// Eight rounds from a booted store on. Their dumps have the round's number for their seconds.
 pub fn rounds(
     alloc: Global,
-    plan: &Plan,
+    plan: &RoundPlan,
     draws: &mut Draws,
     counts: &mut Counts,
     live: Live,

@@ -2,7 +2,7 @@
 ghost use Rattle.std.specs.Prelude.{◌≡◌, length, IfOk};
 
 use crate::counts::Counts;
-use crate::rounds::{Plan, boot_up, rounds};
+use crate::rounds::{RoundPlan, boot_up, rounds};
 use crate::{Draws, Targets, draw_all, generate, make_damage};
 use box_io::Bytes;
 use ram_core::Off;
@@ -113,7 +113,7 @@ fn small_sessions_are_summed_up(rt: HostRuntime) -> Result<(), Fail> {
 fn counted(alloc: Global, line: &str, n: u32) -> Result<(Counts, u128), Fail> {
     let layout = zones(alloc, line)?;
     Targets::check(&layout);
-    let plan = Plan::new(alloc, layout.zones())?;
+    let plan = RoundPlan::new(alloc, layout.zones())?;
     let count = layout.zones().len() as u128;
     let image = zeros(alloc, layout.mem())?;
     let (live, _) = boot_up(Off::fresh(alloc, layout, image)?)?;

@@ -3,7 +3,7 @@ ghost use Rattle.std.specs.Prelude.{◌≡◌, ℕ, List, ◌<◌, ◌≤◌, �
 ghost use Rattle.std.specs.List.{All, range_with_len};
 ghost use Rattle.zone_spec.specs.Records.{is_of};
 ghost use Rattle.zone_spec.specs.declared.Kind.TheVariants.{Dump as DumpKind};
-ghost use Rattle.ram_core.specs.Asks.{told_ask, CanBeAsked};
+ghost use Rattle.ram_core.specs.Asks.{ask_seen, CanBeAsked};
 ghost use Rattle.tool_spec.specs.Generated.{rings as rings_in, draw_each, joined, drawn_dump, drawn_turn, drawn_cut};
 ghost use Rattle.zone_params.specs.Laid.{zones_of};
 ghost use Rattle.ram_generator.specs.Damage.{IsWithin};
@@ -56,7 +56,7 @@ fn rings(alloc: Global, zones: &[Zone]) -> Result<Vec<ZoneName>, AllocError>
 fn push_turn(turns: &mut Vec<Ask>, turn: Option<Ask>) -> Result<(), AllocError>
     requires before { All CanBeAsked turns.old.items }
     requires can { TurnCanBeAsked turn }
-    ensures turns { OnOk result (map told_ask turns.new.items ≡ map told_ask turns.old.items ++ turn_of turn) }
+    ensures turns { OnOk result (map ask_seen turns.new.items ≡ map ask_seen turns.old.items ++ turn_of turn) }
     ensures all { OnOk result (All CanBeAsked turns.new.items) }
 {
     match turn {
@@ -140,7 +140,7 @@ impl Targets {
         requires few { length self.now.rings.items < 2 ^ 31 }
         requires round { q < 2 ^ 63 }
         ensures turns { IfOk result (λ turns. (layout : List Zone) → AreTargets layout self.now
-            → map told_ask turns.items
+            → map ask_seen turns.items
             ≡ joined (draw_each (λ (i : ℕ). drawn_turn layout q) (range_with_len 0 24) draws.old).0) }
         ensures can { IfOk result (λ turns. All CanBeAsked turns.items) }
         ensures number { OnOk result ((layout : List Zone) → AreTargets layout self.now

@@ -2,7 +2,7 @@
 ghost use Rattle.std.specs.Prelude.{◌≡◌, OnOk, OnErr, IfOk, IfErr};
 ghost use Rattle.session_spec.specs.Sound.{IsAsk};
 ghost use Rattle.session_spec.specs.LiveCalls.{make as makes, step as steps, finish as finishes};
-ghost use Rattle.ram_core.specs.Asks.{told_ask, CanBeAsked};
+ghost use Rattle.ram_core.specs.Asks.{ask_seen, CanBeAsked};
 ghost use Rattle.ram_session.specs.Answers.{Done, IsRefused, Begun, NotBegun};
 
 use ram_core::{Ask, Live, Refusal, Refused};
@@ -48,8 +48,8 @@ fn cause(refused: &Refused) -> Refusal
 /// Begins a call, and makes no store.
 pub fn begin(live: &mut Live, ask: Ask) -> Result<ZoneName, Refusal>
     requires { CanBeAsked ask }
-    ensures begun { IfOk result (Begun live.old live.new (told_ask ask)) }
-    ensures refused { IfErr result (NotBegun live.old (told_ask ask)) }
+    ensures begun { IfOk result (Begun live.old live.new (ask_seen ask)) }
+    ensures refused { IfErr result (NotBegun live.old (ask_seen ask)) }
     ensures unchanged { OnErr result (live.new ≡ live.old) }
 {
     match live.begin(ask) {
@@ -61,7 +61,7 @@ pub fn begin(live: &mut Live, ask: Ask) -> Result<ZoneName, Refusal>
 // Tells that the payload is of bytes.
 fn check(ask: &Ask)
     requires { CanBeAsked ask.now }
-    ensures { IsAsk (told_ask ask.now) }
+    ensures { IsAsk (ask_seen ask.now) }
 {
     match ask {
         Ask::Append(_, payload) | Ask::Dump(_, _, payload) => {
@@ -74,8 +74,8 @@ fn check(ask: &Ask)
 /// Begins a call and makes all its stores.
 pub fn make(live: &mut Live, ask: Ask) -> Result<(), Refusal>
     requires { CanBeAsked ask }
-    ensures made { OnOk result (Done live.old live.new (λ layout s. makes layout s (told_ask ask))) }
-    ensures refused { IfErr result (λ why. IsRefused live.old why (λ layout s. makes layout s (told_ask ask))) }
+    ensures made { OnOk result (Done live.old live.new (λ layout s. makes layout s (ask_seen ask))) }
+    ensures refused { IfErr result (λ why. IsRefused live.old why (λ layout s. makes layout s (ask_seen ask))) }
     ensures unchanged { OnErr result (live.new ≡ live.old) }
 {
     check(&ask);

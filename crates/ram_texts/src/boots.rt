@@ -5,7 +5,7 @@ ghost use Rattle.zone_spec.specs.Reading.{ZoneReading};
 ghost use Rattle.zone_spec.specs.Records.{Saved};
 ghost use Rattle.grammar_spec.specs.Printed.{zone_text};
 ghost use Rattle.old_log.specs.Saving.{saved};
-ghost use Rattle.ram_core.specs.Reports.{told_cut, told_report};
+ghost use Rattle.ram_core.specs.Reports.{cut_seen, report_seen};
 ghost use Rattle.tool_spec.specs.Texts.{newline, state_text, verdict_text, boot_line, call_text, seen_text, run_text, runs_text, cut_line, cut_text, zone_lines, boot_text, part_text};
 
 use old_log::{Logs, Reading, State};
@@ -151,7 +151,7 @@ fn push_stores(text: &mut Vec<u8>, kind: CallKind, made: u64, total: u64) -> Res
 }
 
 fn push_cut(text: &mut Vec<u8>, name: ZoneName, cut: &Cut) -> Result<(), AllocError>
-    ensures { OnOk result (text.new.items ≡ text.old.items ++ cut_line name (told_cut cut.now)) }
+    ensures { OnOk result (text.new.items ≡ text.old.items ++ cut_line name (cut_seen cut.now)) }
 {
     text.extend_from_slice("cut ".as_bytes())?;
     push_zone(text, name)?;
@@ -168,7 +168,7 @@ fn push_cut(text: &mut Vec<u8>, name: ZoneName, cut: &Cut) -> Result<(), AllocEr
 fn push_lines(text: &mut Vec<u8>, reading: &Reading, report: &ZoneReport) -> Result<(), AllocError>
     ensures { OnOk result (text.new.items
         ≡ text.old.items ++ boot_line report.now.name reading.now report.now.verdict
-        ++ cut_text report.now.name (option_map told_cut report.now.cut)) }
+        ++ cut_text report.now.name (option_map cut_seen report.now.cut)) }
 {
     push_boot(text, report.name, reading, report.verdict)?;
     match &report.cut {
@@ -186,7 +186,7 @@ fn push_zone_lines(
 ) -> Result<(), AllocError>
     requires { i < length logs.now.readings }
     ensures { (s : Saved) → slice_get (saved logs.now) i ≡ Some s
-        → OnOk result (text.new.items ≡ text.old.items ++ zone_lines s.1 (told_report report.now)) }
+        → OnOk result (text.new.items ≡ text.old.items ++ zone_lines s.1 (report_seen report.now)) }
 {
     match logs.reading(i) {
         Some(reading) => push_lines(text, reading, report),
@@ -198,7 +198,7 @@ fn push_zone_lines(
 ///
 /// Zones and reports are taken side by side, in the zones' order, as far as there are both.
 pub fn boot_text(alloc: Global, logs: &Logs, report: &Report) -> Result<Vec<u8>, AllocError>
-    ensures { IfOk result (λ text. text.items ≡ boot_text (saved logs.now) (map told_report report.now)) }
+    ensures { IfOk result (λ text. text.items ≡ boot_text (saved logs.now) (map report_seen report.now)) }
 {
     let reports = report.as_slice();
     let mut text = Vec::new(alloc);

@@ -100,10 +100,10 @@ pub record BlkDone : Type 0 where
   pub text : Text
 
 -- the cause of a refused operation in the script's words
-abbrev pub told_cause : SessionCause → Cause
-told_cause IsOffThere = IsOff
-told_cause NoZoneThere = NoZone
-told_cause NoRecordThere = NoRecord
+abbrev pub blk_line_cause : SessionCause → Cause
+blk_line_cause IsOffThere = IsOff
+blk_line_cause NoZoneThere = NoZone
+blk_line_cause NoRecordThere = NoRecord
 
 -- what an operation that was done puts: a listing, or a record
 abbrev pub put_loaded : BlkState → Operation → Text
@@ -117,7 +117,7 @@ put_by (Some b) operation = put_loaded b operation
 
 abbrev pub done_unless : Option SessionCause → BlkDone → Result BlkDone Cause
 done_unless None done = Ok done
-done_unless (Some cause) done = Err (told_cause cause)
+done_unless (Some cause) done = Err (blk_line_cause cause)
 
 -- an operation as a line does it
 abbrev pub performs : BlkLayout → Session → Operation → Result BlkDone Cause

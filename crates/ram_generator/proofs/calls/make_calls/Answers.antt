@@ -2,7 +2,7 @@ use Rattle.std.proofs.Common.{◌≡◌, ◌-◌, ◌≤◌, suc, List, ◌∷�
 use Rattle.std.specs.List.{All, AllByRecursion}
 use Rattle.std_alloc.specs.Vec.Iter.{into_iter_items}
 use Rattle.ram_core.specs.declared.ask.Ask.{Ask}
-use Rattle.ram_core.specs.Asks.{told_ask, CanBeAsked}
+use Rattle.ram_core.specs.Asks.{ask_seen, CanBeAsked}
 use Rattle.ram_generator.specs.Counting.{Grows}
 use Rattle.ram_generator.specs.Sessions.{IsForRing}
 use Rattle.ram_generator.proofs.Calling.{makes_more, grown_both}
@@ -13,7 +13,7 @@ loop-ask-preserved c =
     let rest : List Ask = into_iter_items c.next.new.self in
     let all : into_iter_items c.loop-ask.ask-iterator ≡ c.in-Some.ask ∷ rest = c.in-Some.ensures.steps.0 in
     let can : All CanBeAsked (c.in-Some.ask ∷ rest) = rw all at c.loop-ask.invariant.can in
-    let rings : AllByRecursion IsForRing (map told_ask (c.in-Some.ask ∷ rest)) = rw all at c.loop-ask.invariant.rings in
+    let rings : AllByRecursion IsForRing (map ask_seen (c.in-Some.ask ∷ rest)) = rw all at c.loop-ask.invariant.rings in
     let few : length (c.in-Some.ask ∷ rest) ≤ 24 = rw all at c.loop-ask.invariant.few in
     let grows : Grows c.args.counts.now c.loop-ask.counts (24 - length (c.in-Some.ask ∷ rest)) =
     rw all at c.loop-ask.invariant.grows in

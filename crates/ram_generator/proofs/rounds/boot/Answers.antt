@@ -1,6 +1,6 @@
 use Rattle.std.proofs.Common.{◌≡◌, ℕ, length, map, count_by, sym, ap, ◌∙◌, subst}
 use Rattle.session_spec.specs.Report.{ZoneReport}
-use Rattle.ram_core.specs.Reports.{told_report}
+use Rattle.ram_core.specs.Reports.{report_seen}
 use Rattle.tool_spec.specs.Generated.{Generated, is_told, is_other}
 use Rattle.ram_generator.specs.declared.counts.Counts.{Counts}
 use Rattle.ram_generator.specs.Counting.{flips_added, verdicts_added}
@@ -11,7 +11,7 @@ use Rattle.ram_generator.proofs.rounds.boot.Goals as goal
 pub returns-clause-booted : goal.returns-clause-booted
 returns-clause-booted c layout mem g lies h =
     let flips = c.deref.result.now in
-    let told = map told_report c.in_ok-live.report in
+    let told = map report_seen c.in_ok-live.report in
     let d = c.make_damage.ensures layout mem g h.now (ap (λ (x : Generated). x.session) h.is) h.stands h.size in
     let up = c.in_ok-live.ensures layout mem d.next lies d.stands d.size in
     let len : c.len.result ≡ length flips = c.len.ensures

@@ -3,7 +3,7 @@ use Rattle.std.specs.List.{All, AllByRecursion, range_with_len}
 use Rattle.std.proofs.lemmas.List.{length-map}
 use Rattle.zone_spec.specs.declared.Zone.{Zone}
 use Rattle.zone_spec.specs.declared.ZoneName.{ZoneName}
-use Rattle.ram_core.specs.Asks.{told_ask}
+use Rattle.ram_core.specs.Asks.{ask_seen}
 use Rattle.tool_spec.specs.Generated.{Generated, drawn_cut, with_call, with_cut}
 use Rattle.ram_generator.specs.Damage.{IsWithin}
 use Rattle.ram_generator.specs.Turns.{cut_of}
@@ -23,7 +23,7 @@ make_calls-requires-clause-few c =
     let zones = c.args.plan.now.zones.items in
     let most = (are_turns zones c.args.q (range_with_len 0 24) c.args.draws.now).most in
     let told = ap length (c.in_ok-turns.ensures.turns zones c.requires.plan.targets) in
-    omega (arith, most, told, length-map c.in_ok-turns.turns.items told_ask)
+    omega (arith, most, told, length-map c.in_ok-turns.turns.items ask_seen)
 
 pub make_cut-ring-requires-clause-ring : goal.make_cut-ring-requires-clause-ring
 make_cut-ring-requires-clause-ring c =
@@ -35,12 +35,12 @@ make_cut-ring-requires-clause-ring c =
 pub returns-clause-halted : goal.returns-clause-halted
 returns-clause-halted c mem g lies r =
     let zones = c.args.plan.now.zones.items in
-    let called = fold (with_call zones) g (map told_ask c.in_ok-turns.turns.items) in
+    let called = fold (with_call zones) g (map ask_seen c.in_ok-turns.turns.items) in
     let cut = c.make_cut-ring.ensures.cut zones mem called lies (c.make_calls.ensures.made zones mem g lies r) in
     subst (λ (p : Generated × ℕ). IsHalted zones mem c.stop.result c.make_cut-ring.new.counts
     c.leave_out.new.zones.items p.0)
     (sym (halt_drawn zones g c.args.q c.args.draws.now c.draw_turns.new.draws c.draw_cut.new.draws
-    (map told_ask c.in_ok-turns.turns.items) (cut_of c.in_ok-cut.cut) c.args.plan.now.targets.rings.items
+    (map ask_seen c.in_ok-turns.turns.items) (cut_of c.in_ok-cut.cut) c.args.plan.now.targets.rings.items
     (c.in_ok-turns.ensures.turns zones c.requires.plan.targets)
     (c.in_ok-turns.ensures.number zones c.requires.plan.targets)
     c.requires.plan.targets.rings c.in_ok-cut.ensures.cut c.in_ok-cut.ensures.number))
@@ -60,7 +60,7 @@ pub returns-clause-number : goal.returns-clause-number
 returns-clause-number c g =
     let zones = c.args.plan.now.zones.items in
     ap (λ (p : Generated × ℕ). p.1) (sym (halt_drawn zones g c.args.q c.args.draws.now c.draw_turns.new.draws
-    c.draw_cut.new.draws (map told_ask c.in_ok-turns.turns.items) (cut_of c.in_ok-cut.cut)
+    c.draw_cut.new.draws (map ask_seen c.in_ok-turns.turns.items) (cut_of c.in_ok-cut.cut)
     c.args.plan.now.targets.rings.items
     (c.in_ok-turns.ensures.turns zones c.requires.plan.targets)
     (c.in_ok-turns.ensures.number zones c.requires.plan.targets)
