@@ -30,7 +30,7 @@ use Rattle.session_spec.specs.States.{OffZone, OffState}
 use Rattle.session_spec.specs.Off.{fresh}
 use Rattle.session_spec.specs.BootPart.{moved, image_boot_stores, boot_count, IsWithinErasure, boot_cut, zone_finished, zone_cut, zone_parted, left_at, boot_parted}
 use Rattle.session_spec.specs.Sound.{IsMemory}
-use Rattle.session_laws.proofs.Lists.{length-numbered, get-map, zone_within}
+use Rattle.session_laws.proofs.Lists.{length-parted, get-map, zone_within}
 use Rattle.session_laws.proofs.Zones.{zone_image}
 use Rattle.session_laws.proofs.Sessions.{image_is_zones_and_rest}
 use Rattle.session_laws.proofs.CutBoot.{cut_boot_makes_stores, cut_boot_leaves_rest, cut_boot_reads, cut_boot_holds, cut_boot_keeps_stops, new_zone, count_within}
@@ -302,9 +302,7 @@ module _ (layout : List Zone) (mem : ℕ) (image : List ℕ) (lies : IsLayout la
         same_mem = refl;
         image = parted_image ∙ ap (λ (im : List ℕ). after_stores im (take limit (image_boot_stores layout im))) same;
         kept = is.len ∙ kept;
-        count = length-numbered (λ (at : ℕ × (Zone × OffZone)). zone_parted at.1.0 (zone_bytes at.1.0 s.image)
-            (nat_le (boot_count layout s.image) limit) (left_at layout s.image limit at.0) at.1.1)
-            0 layout s.zones count;
+        count = length-parted s.image (nat_le (boot_count layout s.image) limit) layout limit s.zones count;
         zones = by;
       }
         where

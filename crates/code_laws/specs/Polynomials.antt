@@ -1,6 +1,6 @@
 -- The polynomial of a list of coefficients, that of the highest power first
 use Rattle.std.specs.Prelude.{ℕ, List, [], ◌∷◌}
-use Rattle.code_spec.specs.Series.{cons, none}
+use Rattle.code_laws.specs.Series.{cons, none}
 
 -- the coefficients of w, and behind them those of p
 abbrev pub poly_on : (ℕ → ℕ) → List ℕ → ℕ → ℕ
