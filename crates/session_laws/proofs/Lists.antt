@@ -56,15 +56,21 @@ parted-at image all (u ∷ us) left [] i z w e h = let b : Some w ≡ None = sym
 parted-at image all (u ∷ us) left (v ∷ vs) zero z w e h =
     let a : u ≡ z = cc in
     let b : zone_parted u (zone_bytes u image) all left v ≡ w = cc in
-    let m : left_at (u ∷ us) image left 0 ≡ left = omega arith in
-    (v, refl, ap (λ n. zone_parted z (zone_bytes z image) all n v) m
-    ∙ ap (λ t. zone_parted t (zone_bytes t image) all left v) (sym a) ∙ b)
+    let m : left_at (u ∷ us) image left 0 ≡ left = omega arith in (
+      v,
+      refl,
+      ap (λ n. zone_parted z (zone_bytes z image) all n v) m
+          ∙ ap (λ t. zone_parted t (zone_bytes t image) all left v) (sym a) ∙ b,
+    )
 parted-at image all (u ∷ us) left (v ∷ vs) (suc i) z w e h =
     let own : List Store = boot_stores u (zone_bytes u image) in
     let r = parted-at image all us (left - length own) vs i z w e h in
     let m : left_at (u ∷ us) image left (suc i) ≡ left_at us image (left - length own) i =
-    omega (arith, length-append (map (λ s. moved u.at s) own) (image_boot_stores (take i us) image),
-        length-map own (λ s. moved u.at s)) in
+    omega (
+      arith,
+      length-append (map (λ s. moved u.at s) own) (image_boot_stores (take i us) image),
+      length-map own (λ s. moved u.at s),
+    ) in
     (r.0, r.1, ap (λ n. zone_parted z (zone_bytes z image) all n r.0) m ∙ r.2)
 
 pub length-parted : (image : List ℕ) (all : Bool) (layout : List Zone) (left : ℕ) (zones : List OffZone)
