@@ -49,6 +49,42 @@ fn encode_many(coder: &Parity, r: usize, rounds: u32) -> u8
     sum
 }
 
+/// The same for two blocks a round.
+fn encode_pairs(coder: &Parity, r: usize, rounds: u32) -> u8
+    requires coder { coder.now ≡ r }
+    requires some { 1 ≤ r }
+    requires few { r ≤ 127 }
+{
+    let mut block = ramp();
+    let other = ramp();
+    let mut parity = [0u8; 127];
+    let mut other_parity = [0u8; 127];
+    let mut sum = 0u8;
+    for i in 0..rounds {
+        block[(i % 128) as usize] = (i % 251) as u8;
+        coder.parity_pair(&block, &other, &mut parity[..r], &mut other_parity[..r]);
+        sum ^= parity[0] ^ other_parity[0];
+    }
+    sum
+}
+
+/// Whether two blocks encoded together have the parity that `is_parity` wants.
+fn pair_agrees(coder: &Parity, r: usize) -> bool
+    requires coder { coder.now ≡ r }
+    requires some { 1 ≤ r }
+    requires few { r ≤ 127 }
+{
+    let block = ramp();
+    let mut other = block;
+    damage(&mut other, 3);
+    let mut parity = [0u8; 127];
+    let mut other_parity = [0u8; 127];
+    coder.parity_pair(&block, &other, &mut parity[..r], &mut other_parity[..r]);
+    coder.is_parity(&block, &parity[..r])
+        && coder.is_parity(&other, &other_parity[..r])
+        && !coder.is_parity(&block, &other_parity[..r])
+}
+
 /// How many of the rounds correct a block with so many errors whole.
 fn decode_many(coder: &Parity, r: usize, errors: usize, rounds: u32) -> u32
     requires coder { coder.now ≡ r }
@@ -110,7 +146,8 @@ fn agrees(r: usize) -> bool
     requires few { r ≤ 127 }
 {
     let coder = Parity::new(r);
-    decode_many(&coder, r, 0, 2) == 2
+    pair_agrees(&coder, r)
+        && decode_many(&coder, r, 0, 2) == 2
         && decode_many(&coder, r, r / 2, 2) == 2
         && decode_many_plain(r, 0, 2) == 2
         && decode_many_plain(r, r / 2, 2) == 2
@@ -131,6 +168,10 @@ fn time(rt: &(impl Print + Clock), r: usize, rounds: u32) -> io::Result<()>
     let sum = encode_many(&coder, r, rounds);
     let rate = speed(rounds, start.elapsed(rt)?.as_micros());
     println!(rt; "r {r}: encoding {rate} MB/s (sum {sum})")?;
+    let start = Instant::now(rt)?;
+    let sum = encode_pairs(&coder, r, rounds / 2);
+    let rate = speed(rounds, start.elapsed(rt)?.as_micros());
+    println!(rt; "r {r}: encoding pairs {rate} MB/s (sum {sum})")?;
     for errors in [0, 1, r / 4, r / 2] {
         let start = Instant::now(rt)?;
         let right = decode_many(&coder, r, errors.min(63), rounds);

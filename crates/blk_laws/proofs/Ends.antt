@@ -92,7 +92,12 @@ load-leaves : (r : Result BlkState BlkFault) (l : BlkLayout) (held : Option BlkS
     → IfSome held (λ (b : BlkState). b.layout ≡ l) → Loads r l (Some before) (Some now)
     → Leaves r l (record { store = before; blk = held }) Load (record { store = now; blk = held_after r held })
 unfolding call_after session_after cause_of
-load-leaves (Ok b) l None before now same h = record { outcome = Done; answered = (refl, refl); is = cc (h.1, some-same _ _ h.2) }
+load-leaves (Ok b) l None before now same h = record {
+  outcome = Done;
+  answered = (refl, refl);
+  is = cc
+      (h.1, some-same _ _ h.2);
+}
 load-leaves (Ok b) l (Some c) before now same h = record {
   outcome = Done;
   answered = (refl, refl);

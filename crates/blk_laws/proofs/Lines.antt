@@ -150,7 +150,8 @@ unfolding session_after
 ended-longer l s operation Done = unless-longer (length s.store) (cause_of s.blk operation)
     (done_in l s.store s.blk operation) s (done-longer l s.store s.blk operation) (omega arith)
 ended-longer l s operation (Fails kept tried) = unless-longer (length s.store) (cause_of s.blk operation)
-    (failed_in l s.store s.blk operation kept tried) s (failed-longer l s.store s.blk operation kept tried) (omega arith)
+    (failed_in l s.store s.blk operation kept tried) s (failed-longer l s.store s.blk operation kept tried)
+    (omega arith)
 ended-longer l s operation NoMemory = omega arith
 
 pub calls-longer : (l : BlkLayout) (s : Session) (calls : List Call)

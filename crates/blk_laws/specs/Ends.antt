@@ -59,5 +59,6 @@ FirstWriteFaultsAreHarmless =
     (b new : BlkState) (ring : BlkRing) (payload before now : List ℕ)
     (fault : FailsWithin (append_of b ring payload) b.cut new.cut (Some before) (Some now)) → fault.made ≡ []
     → (ring_of b ring).words.size < capacity (ring_zone b.layout ring) → new ≡ record b { cut = new.cut }
-    → (call_after b.layout (holding before b) (append_call ring payload (Fails fault.kept fault.tried)) ≡ holding now new)
+    → (call_after b.layout (holding before b) (append_call ring payload (Fails fault.kept fault.tried)) ≡ holding now
+    new)
     × IsHarmless (Fails fault.kept fault.tried) (Some b) (Append ring payload)

@@ -145,7 +145,8 @@ IsHarmless outcome blk operation = Unit
 
 unfoldable pub AreHarmless : BlkLayout → Session → List Call → Type 0
 AreHarmless l s [] = Unit
-AreHarmless l s (call ∷ calls) = IsHarmless call.outcome s.blk call.operation × AreHarmless l (call_after l s call) calls
+AreHarmless l s (call ∷ calls) = IsHarmless call.outcome s.blk call.operation × AreHarmless l (call_after l s call)
+    calls
 
 -- what failed without harm tells nothing
 abbrev pub HarmlessFaultsListTold : Type 0

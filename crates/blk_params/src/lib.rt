@@ -5,8 +5,8 @@ mod layout;
 mod words;
 
 pub use blk_spec::{BlkLayout, BlkParams};
+pub use grammar_spec::ParamFault;
 pub use layout::blk_layout;
-pub use param_words::ParamFault;
 pub use words::read_blk_words;
 pub use zone_spec::LayoutFault;
 

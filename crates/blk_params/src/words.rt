@@ -1,10 +1,11 @@
 // Parameters read from words.
 ghost use Rattle.std.specs.Prelude.{◌≡◌, unwrap_or};
-ghost use Rattle.param_words.specs.Words.{texts};
-ghost use Rattle.blk_params.specs.Words.{given, params_of, read_of};
+ghost use Rattle.grammar_spec.specs.Words.{texts};
+ghost use Rattle.grammar_spec.specs.BlkWords.{given, params_of, read_of};
 
 use blk_spec::BlkParams;
-use param_words::{Keys, ParamFault};
+use grammar_spec::ParamFault;
+use param_words::Keys;
 
 const KEYS: Keys = Keys {
     prefix: "",

@@ -13,7 +13,7 @@ use Rattle.blk_spec.specs.Writes.{after_writes, store_after}
 use Rattle.blk_spec.specs.States.{BlkState, loaded, load_writes, cut_after}
 use Rattle.blk_spec.specs.Session.{Append, AppendElsewhere, Dump as DumpNow, Erase as EraseRecord, cause_of, session_after, load_session}
 use Rattle.blk_spec.specs.Answers.{Loads}
-use Rattle.box_script.specs.declared.line.Line.TheVariants.{Write, Boot, Erase, KDump, CutAfter}
+use Rattle.grammar_spec.specs.declared.line.Line.TheVariants.{Write, Boot, Erase, KDump, CutAfter}
 use Rattle.tool_spec.specs.BlkScripts.{blk_line_done, operation_of, append_to, ring_for, reason_of, blk_named, line_writes}
 use Rattle.tool_spec.specs.declared.Cause.TheVariants.{NoZone, NoRecord}
 use Rattle.blk_session.specs.declared.errors.LineError.TheVariants.{Refused}

@@ -14,9 +14,9 @@ use Rattle.blk_spec.specs.Writes.{Write as StoreWrite, after_writes, store_after
 use Rattle.blk_spec.specs.Answers.{Answers}
 use Rattle.blk_spec.specs.States.{BlkState, append_refusal, append_of, appended, dump_refusal, dump_of, dumped, is_listed, erase_refusal, erase_of, erased}
 use Rattle.blk_spec.specs.Session.{Session, Operation, Append, Dump as DumpNow, Erase as EraseRecord, NoRecord as NoRecordSession, cause_for, cause_loaded, cause_of, called, done_loaded, unless_refused, session_after}
-use Rattle.box_script.specs.Fields.{Text}
-use Rattle.box_script.specs.declared.line.Line.{Line}
-use Rattle.box_script.specs.declared.line.Line.TheVariants.{Blank, Write, Dump, BeginWrite, BeginErase, BeginDump, Step, Finish, Stop, Flip, Boot, BootPart, List as ListLine, Extract, Erase, KDump, CutAfter}
+use Rattle.grammar_spec.specs.Fields.{Text}
+use Rattle.grammar_spec.specs.declared.line.Line.{Line}
+use Rattle.grammar_spec.specs.declared.line.Line.TheVariants.{Blank, Write, Dump, BeginWrite, BeginErase, BeginDump, Step, Finish, Stop, Flip, Boot, BootPart, List as ListLine, Extract, Erase, KDump, CutAfter}
 use Rattle.tool_spec.specs.BlkScripts.{blk_line_done, operation_of, performs, performs_if, done_unless, put_loaded, writes_loaded}
 use Rattle.blk_session.specs.declared.errors.LineError.{LineError}
 use Rattle.blk_session.specs.declared.errors.LineError.TheVariants.{Memory, StoreFault, Refused}

@@ -9,9 +9,9 @@ use Rattle.blk_spec.specs.declared.BlkFault.TheVariants.{NoZone as NoZoneThere, 
 use Rattle.blk_spec.specs.States.{BlkState}
 use Rattle.blk_spec.specs.Session.{Operation}
 use Rattle.blk_spec.specs.Answers.{HasFront}
-use Rattle.box_script.specs.Fields.{Text}
-use Rattle.box_script.specs.declared.line.Line.{Line}
-use Rattle.box_script.specs.declared.line.Line.TheVariants.{Write, List as ListLine, Extract, Erase, KDump, CutAfter}
+use Rattle.grammar_spec.specs.Fields.{Text}
+use Rattle.grammar_spec.specs.declared.line.Line.{Line}
+use Rattle.grammar_spec.specs.declared.line.Line.TheVariants.{Write, List as ListLine, Extract, Erase, KDump, CutAfter}
 use Rattle.tool_spec.specs.BlkScripts.{BlkDone, blk_line_done, line_writes, performs, writes_by, blk_named, blk_extract_text}
 use Rattle.tool_spec.specs.declared.Cause.{Cause}
 use Rattle.tool_spec.specs.declared.Cause.TheVariants.{NoZone, NoRecord}

@@ -5,8 +5,8 @@ use Rattle.box_io.specs.Outside.{AppendsFront, Rose}
 use Rattle.blk_spec.specs.declared.BlkLayout.{BlkLayout}
 use Rattle.blk_spec.specs.States.{BlkState}
 use Rattle.blk_spec.specs.Answers.{HasFront}
-use Rattle.box_script.specs.Fields.{Text}
-use Rattle.box_script.specs.declared.line.Line.{Line}
+use Rattle.grammar_spec.specs.Fields.{Text}
+use Rattle.grammar_spec.specs.declared.line.Line.{Line}
 use Rattle.tool_spec.specs.BlkScripts.{blk_ran, line_writes}
 use Rattle.tool_spec.specs.Commands.{script_end}
 use Rattle.tool_spec.specs.Answers.{front, whole}

@@ -4,7 +4,7 @@ ghost use Rattle.blk_spec.specs.Layout.{IsLayout};
 ghost use Rattle.blk_spec.specs.Answers.{HasRoom};
 ghost use Rattle.blk_spec.specs.States.{BlkState};
 ghost use Rattle.blk_spec.specs.Session.{Append, Dump as DumpNow, Erase as EraseRecord};
-ghost use Rattle.box_script.specs.declared.line.Line.TheVariants.{Write, KDump, Boot, Erase};
+ghost use Rattle.grammar_spec.specs.declared.line.Line.TheVariants.{Write, KDump, Boot, Erase};
 ghost use Rattle.tool_spec.specs.BlkScripts.{ring_for as ring_of_kind, reason_of as reason_of_number};
 ghost use Rattle.blk_session.specs.Lines.{LineDone, LineFails, OperationDone, OperationFails};
 

@@ -2,7 +2,7 @@
 ghost use Rattle.std.specs.Prelude.{◌≡◌, ℕ, ◌≤◌, List, [], Option, Some, None, IfOk, IfSome, MatchResult};
 ghost use Rattle.blk_spec.specs.Layout.{IsLayout};
 ghost use Rattle.blk_spec.specs.Answers.{HasRoom};
-ghost use Rattle.box_script.specs.Printed.{HasFields};
+ghost use Rattle.grammar_spec.specs.Printed.{HasFields};
 ghost use Rattle.blk_session.specs.Lines.{LineDone, LineFails, IsCall, IsShown};
 
 use crate::errors::LineError;

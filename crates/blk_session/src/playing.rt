@@ -2,7 +2,7 @@
 ghost use Rattle.std.specs.Prelude.{◌≡◌, ℕ, ◌<◌, ◌^◌, length, IfOk, IfSome, MatchResult};
 ghost use Rattle.blk_spec.specs.Layout.{IsLayout};
 ghost use Rattle.blk_spec.specs.Answers.{HasRoom};
-ghost use Rattle.box_script.specs.Printed.{HasFields, AllHaveFields};
+ghost use Rattle.grammar_spec.specs.Printed.{HasFields, AllHaveFields};
 ghost use Rattle.blk_session.specs.Stops.{stop_of};
 ghost use Rattle.blk_session.specs.Playing.{seen, Puts, LineStops, Plays, IsCaused, Later};
 

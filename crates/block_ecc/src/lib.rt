@@ -30,13 +30,13 @@ pub struct HeaderReading {
 
 /// Where a part's bytes and its parity lie in a zone.
 #[derive(Clone, Copy)]
-struct Place {
+struct PartPlace {
     at: u32,
     len: u32,
     parity_at: u32,
 }
 
-fn header_place(zone: &Zone) -> Place
+fn header_place(zone: &Zone) -> PartPlace
     requires { IsValidZone zone.now }
     ensures at { result.at ≡ part_at zone.now Header }
     ensures len { result.len ≡ part_len zone.now Header }
@@ -44,14 +44,14 @@ fn header_place(zone: &Zone) -> Place
     ensures within { result.at + result.len ≤ zone.now.size }
     ensures parity_within { result.parity_at + zone.now.parity ≤ zone.now.size }
 {
-    Place {
+    PartPlace {
         at: 0,
         len: 12,
         parity_at: 12 + zone.cap + zone.blocks * zone.parity,
     }
 }
 
-fn block_place(zone: &Zone, b: u32) -> Place
+fn block_place(zone: &Zone, b: u32) -> PartPlace
     requires valid { IsValidZone zone.now }
     requires block { zone.now.block * b < zone.now.cap }
     ensures at { result.at ≡ part_at zone.now (Block b) }
@@ -63,7 +63,7 @@ fn block_place(zone: &Zone, b: u32) -> Place
     ensures parity_within { result.parity_at + zone.now.parity ≤ zone.now.size }
 {
     let start = zone.block * b;
-    Place {
+    PartPlace {
         at: 12 + start,
         len: zone.block.min(zone.cap - start),
         parity_at: 12 + zone.cap + b * zone.parity,
@@ -105,8 +105,7 @@ fn word_at(bytes: &[u8]) -> u32
 }
 
 /// The encoder of a zone's parts, none where the zone has no parity. It holds some 4 KiB; a caller with many parts
-/// keeps
-/// one.
+/// keeps one.
 #[derive(Drop)]
 pub struct Coder(Option<Parity>);
 

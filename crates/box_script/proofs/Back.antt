@@ -11,8 +11,8 @@ use Rattle.hex.proofs.HexLemmas.{decode_of-encode_lower, length-encode_with}
 use Rattle.zone_spec.specs.declared.ZoneName.{ZoneName}
 use Rattle.zone_spec.specs.declared.Kind.{Kind}
 use Rattle.zone_spec.specs.declared.Kind.TheVariants.{Dump, Console, Ftrace, Pmsg}
-use Rattle.box_script.specs.Fields.{Text, ◌>>=◌, number_below, mask, zone_at, ring, zone, payload, decoded, flag, reason, name, is_name}
-use Rattle.box_script.specs.Printed.{IsZoneOf, zone_text_of, payload_text, flag_text, reason_text, IsPayload}
+use Rattle.grammar_spec.specs.Fields.{Text, ◌>>=◌, number_below, mask, zone_at, ring, zone, payload, decoded, flag, reason, name, is_name}
+use Rattle.grammar_spec.specs.Printed.{IsZoneOf, zone_text_of, payload_text, flag_text, reason_text, IsPayload}
 use Rattle.box_script.proofs.Numbers.{number_below-decimal}
 use Rattle.box_script.proofs.Solid.{IsSolid, solid_literal, solid_append, solid_decimal, solid_hex}
 

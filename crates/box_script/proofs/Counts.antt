@@ -2,11 +2,11 @@
 use Rattle.std.proofs.Common.{◌≡◌, ℕ, ◌<◌, List, [], ◌∷◌, length, Option, Some, None, refl, ap, ◌∙◌, arith}
 use Rattle.std.proofs.Common.{false, ◌+◌}
 use Rattle.std.specs.Prelude.{if◌then◌else◌}
-use Rattle.box_script.specs.declared.line.Line.TheVariants.{Blank}
-use Rattle.box_script.specs.Fields.{Text}
-use Rattle.box_script.specs.Groups.{one, two, four, five}
-use Rattle.box_script.specs.Rows.{begin_line, begin_row, row, line_of_fields}
-use Rattle.box_script.specs.Lines.{is_blank, fields_of, line_of, lines_from, with_line}
+use Rattle.grammar_spec.specs.declared.line.Line.TheVariants.{Blank}
+use Rattle.grammar_spec.specs.Fields.{Text}
+use Rattle.grammar_spec.specs.Groups.{one, two, four, five}
+use Rattle.grammar_spec.specs.Rows.{begin_line, begin_row, row, line_of_fields}
+use Rattle.grammar_spec.specs.Lines.{is_blank, fields_of, line_of, lines_from, with_line}
 
 -- a field before others is no lone field
 pub one_of_more : (a : Text) (fs : List Text) → 0 < length fs → one (a ∷ fs) ≡ None

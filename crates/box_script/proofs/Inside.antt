@@ -10,13 +10,13 @@ use Rattle.zone_spec.specs.declared.ZoneName.{ZoneName}
 use Rattle.zone_spec.specs.declared.Time.{Time}
 use Rattle.zone_spec.specs.declared.Kind.{Kind}
 use Rattle.zone_spec.specs.declared.Kind.TheVariants.{Dump as DumpZone, Ftrace}
-use Rattle.box_script.specs.declared.line.Line.{Line}
-use Rattle.box_script.specs.declared.line.Line.TheVariants.{Blank, Write, Dump, BeginWrite, BeginErase, BeginDump, Finish, BootPart, Extract, Erase, CutAfter}
-use Rattle.box_script.specs.Fields.{Text, ◌>>=◌, begins_with, number, number_below, mask, zone_at, ring, zone, payload, decoded, flag, reason, name, is_name, secs, micros, nanos}
-use Rattle.box_script.specs.Groups.{one, two, four, five, ring_hex, time_flag_hex, one_zone, one_number, one_name}
-use Rattle.box_script.specs.Rows.{step_line, flip_line, kdump_line, line1, line2, line3, begin_row, begin_line, plain_row, row, lone_word, line_of_fields}
-use Rattle.box_script.specs.Lines.{is_blank, fields_of, line_of, with_line, lines_from, script_of}
-use Rattle.box_script.specs.Printed.{HasFields, AllHaveFields, IsZone, IsRing, IsTime, IsPayload}
+use Rattle.grammar_spec.specs.declared.line.Line.{Line}
+use Rattle.grammar_spec.specs.declared.line.Line.TheVariants.{Blank, Write, Dump, BeginWrite, BeginErase, BeginDump, Finish, BootPart, Extract, Erase, CutAfter}
+use Rattle.grammar_spec.specs.Fields.{Text, ◌>>=◌, begins_with, number, number_below, mask, zone_at, ring, zone, payload, decoded, flag, reason, name, is_name, secs, micros, nanos}
+use Rattle.grammar_spec.specs.Groups.{one, two, four, five, ring_hex, time_flag_hex, one_zone, one_number, one_name}
+use Rattle.grammar_spec.specs.Rows.{step_line, flip_line, kdump_line, line1, line2, line3, begin_row, begin_line, plain_row, row, lone_word, line_of_fields}
+use Rattle.grammar_spec.specs.Lines.{is_blank, fields_of, line_of, with_line, lines_from, script_of}
+use Rattle.grammar_spec.specs.Printed.{HasFields, AllHaveFields, IsZone, IsRing, IsTime, IsPayload}
 use Rattle.box_script.proofs.Back.{payload_of}
 use Rattle.box_script.proofs.Numbers.{number_below-some}
 

@@ -3,10 +3,10 @@ use Rattle.std.proofs.Common.{◌≡◌, List, [], ◌∷◌, ◌++◌, refl, ap
 use Rattle.std.specs.Prelude.{codes, decimal}
 use Rattle.std.specs.List.{join_with_byte}
 use Rattle.std.proofs.lemmas.List.{append-nil}
-use Rattle.box_script.specs.declared.line.Line.{Line}
-use Rattle.box_script.specs.declared.line.Line.TheVariants.{Blank, Write, Dump, BeginWrite, BeginErase, BeginDump, Step, Finish, Stop, Flip, Boot, BootPart, List as ListLine, Extract, Erase, KDump, CutAfter}
-use Rattle.box_script.specs.Fields.{Text}
-use Rattle.box_script.specs.Printed.{line_text, zone_text, payload_text, flag_text, reason_text}
+use Rattle.grammar_spec.specs.declared.line.Line.{Line}
+use Rattle.grammar_spec.specs.declared.line.Line.TheVariants.{Blank, Write, Dump, BeginWrite, BeginErase, BeginDump, Step, Finish, Stop, Flip, Boot, BootPart, List as ListLine, Extract, Erase, KDump, CutAfter}
+use Rattle.grammar_spec.specs.Fields.{Text}
+use Rattle.grammar_spec.specs.Printed.{line_text, zone_text, payload_text, flag_text, reason_text}
 use Rattle.box_script.specs.Writing.{word_text, tail_text, spaced}
 
 joined : (word : Text) (fields : List Text) → word ++ spaced fields ≡ join_with_byte 0x20 (word ∷ fields)

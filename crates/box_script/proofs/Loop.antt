@@ -3,9 +3,9 @@ use Rattle.std.proofs.Common.{◌≡◌, ℕ, ◌+◌, ◌<◌, ◌≤◌, ◌==
 use Rattle.std.specs.Prelude.{if◌then◌else◌}
 use Rattle.std.specs.List.{slice_split}
 use Rattle.std.proofs.lemmas.List.{append-nil}
-use Rattle.box_script.specs.declared.line.Line.{Line}
-use Rattle.box_script.specs.Fields.{Text}
-use Rattle.box_script.specs.Lines.{line_of, lines_from, with_line, script_of}
+use Rattle.grammar_spec.specs.declared.line.Line.{Line}
+use Rattle.grammar_spec.specs.Fields.{Text}
+use Rattle.grammar_spec.specs.Lines.{line_of, lines_from, with_line, script_of}
 use Rattle.box_script.specs.declared.reading.ParseFault.{ParseFault}
 use Rattle.box_script.specs.declared.reading.ParseFault.TheVariants.{BadLine, Memory}
 use Rattle.box_script.specs.Reading.{IsFaultAt, IsFaultOf}

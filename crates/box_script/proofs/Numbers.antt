@@ -8,7 +8,7 @@ use Rattle.std.proofs.lemmas.Str.{IsUtf8-from_ascii}
 use Rattle.std.proofs.lemmas.Slice.Eq.{bytes_eq-Decides}
 use Rattle.std.proofs.lemmas.Bool.{and_parts, and_from}
 use Rattle.std.proofs.lemmas.Bool.Decides.{Decides-ltb}
-use Rattle.box_script.specs.Fields.{number_below}
+use Rattle.grammar_spec.specs.Fields.{number_below}
 use Rattle.box_script.specs.Reading.{IsParsed}
 
 -- what parsing shows, by the outcome

@@ -6,13 +6,13 @@ use Rattle.std.specs.Result.{result_unwrap_or}
 use Rattle.std.proofs.lemmas.List.Elements.{All-nil}
 use Rattle.std.proofs.lemmas.List.Splits.{slice_split_at}
 use Rattle.zone_spec.specs.declared.ZoneName.{ZoneName}
-use Rattle.box_script.specs.declared.line.Line.{Line}
-use Rattle.box_script.specs.declared.line.Line.TheVariants.{Blank, Write, Dump, BeginWrite, BeginErase, BeginDump, Step, Finish, Stop, Flip, Boot, BootPart, List as ListLine, Extract, Erase, KDump, CutAfter}
-use Rattle.box_script.specs.Fields.{Text, ◌>>=◌, number, mask, ring, zone, payload, flag, reason, name, secs, micros, nanos}
-use Rattle.box_script.specs.Groups.{ring_hex, time_flag_hex, one_zone, one_number, one_name}
-use Rattle.box_script.specs.Rows.{step_line, flip_line, kdump_line, line1, line2, line3, begin_row, begin_line, plain_row, row, lone_word, line_of_fields}
-use Rattle.box_script.specs.Lines.{is_blank, fields_of, line_of, with_line, lines_from, script_of}
-use Rattle.box_script.specs.Printed.{HasFields, AllHaveFields, zone_text, payload_text, flag_text, reason_text, printed_fields, line_text, script_text, PrintedIsRead}
+use Rattle.grammar_spec.specs.declared.line.Line.{Line}
+use Rattle.grammar_spec.specs.declared.line.Line.TheVariants.{Blank, Write, Dump, BeginWrite, BeginErase, BeginDump, Step, Finish, Stop, Flip, Boot, BootPart, List as ListLine, Extract, Erase, KDump, CutAfter}
+use Rattle.grammar_spec.specs.Fields.{Text, ◌>>=◌, number, mask, ring, zone, payload, flag, reason, name, secs, micros, nanos}
+use Rattle.grammar_spec.specs.Groups.{ring_hex, time_flag_hex, one_zone, one_number, one_name}
+use Rattle.grammar_spec.specs.Rows.{step_line, flip_line, kdump_line, line1, line2, line3, begin_row, begin_line, plain_row, row, lone_word, line_of_fields}
+use Rattle.grammar_spec.specs.Lines.{is_blank, fields_of, line_of, with_line, lines_from, script_of}
+use Rattle.grammar_spec.specs.Printed.{HasFields, AllHaveFields, zone_text, payload_text, flag_text, reason_text, printed_fields, line_text, script_text, PrintedIsRead}
 use Rattle.box_script.proofs.Back.{number_back, mask_back, ring_back, zone_back, payload_back, flag_back, reason_back, name_back, solid_zone, solid_payload, solid_flag, solid_reason}
 use Rattle.box_script.proofs.Counts.{lines_of_more}
 use Rattle.box_script.proofs.Cuts.{some_part}

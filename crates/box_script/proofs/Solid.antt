@@ -13,7 +13,7 @@ use Rattle.std.proofs.lemmas.List.Sums.{AllPass-from_list_all}
 use Rattle.std.proofs.lemmas.List.Splits.{slice_split_none, slice_split_at}
 use Rattle.hex.specs.Hex.{encode_lower, is_hex_digit, IsBytes}
 use Rattle.hex.proofs.HexLemmas.{decode_of-ok, decode_of-encode_lower}
-use Rattle.box_script.specs.Fields.{Text, is_name}
+use Rattle.grammar_spec.specs.Fields.{Text, is_name}
 
 abbrev pub solid : ℕ → Bool
 solid c = nat_lt 0x20 c

@@ -1,6 +1,6 @@
 -- What a reader answers, next to what the grammar gives
 use Rattle.std.specs.Prelude.{◌≡◌, ℕ, ◌<◌, ◌^◌, List, decimal, MatchOption, Option, Some, None, Result, Ok, Err}
-use Rattle.box_script.specs.declared.line.Line.{Line}
+use Rattle.grammar_spec.specs.declared.line.Line.{Line}
 use Rattle.box_script.specs.declared.reading.ParseFault.{ParseFault}
 use Rattle.box_script.specs.declared.reading.ParseFault.TheVariants.{BadLine, Memory as OutOfMemory}
 use Rattle.box_script.specs.declared.rows.LineFault.{LineFault}

@@ -1,7 +1,7 @@
 // The fields of a line.
 ghost use Rattle.std.specs.Prelude.{◌≡◌, ◌&&◌, nat_le, ◌<◌, ◌≤◌, ◌^◌, IfSome};
 ghost use Rattle.std.specs.List.{list_all};
-ghost use Rattle.box_script.specs.Fields.{number_below, mask, zone_at, ring, zone, payload, flag, reason, is_name, name};
+ghost use Rattle.grammar_spec.specs.Fields.{number_below, mask, zone_at, ring, zone, payload, flag, reason, is_name, name};
 ghost use Rattle.box_script.specs.Reading.{Gives, IsParsed};
 
 use crate::rows::LineFault;
@@ -76,7 +76,7 @@ pub fn nanoseconds(text: &[u8]) -> Option<u32>
     Some(number as u32)
 }
 
-#[tactic(auto, unfolding(crate::specs::Fields::zone_at))]
+#[tactic(auto, unfolding(grammar_spec::specs::Fields::zone_at))]
 fn zone_at(kind: Kind, text: &[u8]) -> Option<ZoneName>
     ensures { result ≡ zone_at kind text.now }
 {
@@ -85,7 +85,7 @@ fn zone_at(kind: Kind, text: &[u8]) -> Option<ZoneName>
 }
 
 /// `console`, `pmsg` or `ftrace-N`.
-#[tactic(auto, unfolding(crate::specs::Fields::ring))]
+#[tactic(auto, unfolding(grammar_spec::specs::Fields::ring))]
 pub fn ring(text: &[u8]) -> Option<ZoneName>
     ensures { result ≡ ring text.now }
 {
@@ -108,7 +108,7 @@ pub fn ring(text: &[u8]) -> Option<ZoneName>
 }
 
 /// `console`, `pmsg`, `ftrace-N` or `dump-N`.
-#[tactic(auto, unfolding(crate::specs::Fields::zone))]
+#[tactic(auto, unfolding(grammar_spec::specs::Fields::zone))]
 pub fn zone(text: &[u8]) -> Option<ZoneName>
     ensures { result ≡ zone text.now }
 {
@@ -119,7 +119,7 @@ pub fn zone(text: &[u8]) -> Option<ZoneName>
 }
 
 /// Bytes in hexadecimal digits, or `-` for none.
-#[tactic(auto, unfolding(crate::specs::Fields::payload))]
+#[tactic(auto, unfolding(grammar_spec::specs::Fields::payload))]
 pub fn payload(alloc: Global, text: &[u8]) -> Result<Bytes, LineFault>
     ensures { Gives (λ bytes. bytes) result (payload text.now) }
 {
@@ -137,7 +137,7 @@ pub fn payload(alloc: Global, text: &[u8]) -> Result<Bytes, LineFault>
 }
 
 /// `D` or `C`, true for `C`.
-#[tactic(auto, unfolding(crate::specs::Fields::flag))]
+#[tactic(auto, unfolding(grammar_spec::specs::Fields::flag))]
 pub fn flag(text: &[u8]) -> Option<bool>
     ensures { result ≡ flag text.now }
 {
@@ -151,7 +151,7 @@ pub fn flag(text: &[u8]) -> Option<bool>
 }
 
 /// The number of a reason.
-#[tactic(auto, unfolding(crate::specs::Fields::reason))]
+#[tactic(auto, unfolding(grammar_spec::specs::Fields::reason))]
 pub fn reason(text: &[u8]) -> Option<u32>
     ensures { result ≡ reason text.now }
 {
@@ -181,7 +181,7 @@ fn is_name(text: &[u8]) -> bool
 }
 
 /// A record's name: one or more bytes from `!` to `~`.
-#[tactic(auto, unfolding(crate::specs::Fields::name))]
+#[tactic(auto, unfolding(grammar_spec::specs::Fields::name))]
 pub fn name(alloc: Global, text: &[u8]) -> Result<Bytes, LineFault>
     ensures { Gives (λ bytes. bytes) result (name text.now) }
 {

@@ -2,13 +2,14 @@
 #![tactic(auto)]
 
 mod fields;
-mod line;
+mod lines;
 mod printing;
 mod reading;
 mod rows;
 
 pub use fields::number;
-pub use line::{Line, Lines};
+pub use grammar_spec::Line;
+pub use lines::Lines;
 pub use printing::{print, printed_is_read};
 pub use reading::{ParseFault, parse};
 

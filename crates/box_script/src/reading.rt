@@ -1,7 +1,7 @@
 // A script's lines, read.
 ghost use Rattle.std.specs.Prelude.{◌≡◌, ◌+◌, ◌≤◌, ◌^◌, MatchResult, IfOk, Ok};
-ghost use Rattle.box_script.specs.Lines.{line_of, script_of};
-ghost use Rattle.box_script.specs.Printed.{AllHaveFields};
+ghost use Rattle.grammar_spec.specs.Lines.{line_of, script_of};
+ghost use Rattle.grammar_spec.specs.Printed.{AllHaveFields};
 ghost use Rattle.box_script.specs.Reading.{ReadsLine, IsFaultOf};
 ghost use Rattle.box_script.specs.declared.reading.ParseFault.TheVariants.{Memory};
 

@@ -1,9 +1,9 @@
 // The lines of the table, by their fields.
 ghost use Rattle.std.specs.Prelude.{◌≡◌, ◌<◌, ◌==◌, ◌∷◌, [], length, position, nat_le, MatchOption, IfSome, IfNone};
 ghost use Rattle.std.specs.List.{slice_split, list_all};
-ghost use Rattle.box_script.specs.Groups.{one, two, four, five, ring_hex, time_flag_hex, one_zone, one_number, one_name};
-ghost use Rattle.box_script.specs.Rows.{step_line, flip_line, kdump_line, begin_row, begin_line, plain_row, row, lone_word};
-ghost use Rattle.box_script.specs.Lines.{fields_of, is_blank, line_of};
+ghost use Rattle.grammar_spec.specs.Groups.{one, two, four, five, ring_hex, time_flag_hex, one_zone, one_number, one_name};
+ghost use Rattle.grammar_spec.specs.Rows.{step_line, flip_line, kdump_line, begin_row, begin_line, plain_row, row, lone_word};
+ghost use Rattle.grammar_spec.specs.Lines.{fields_of, is_blank, line_of};
 ghost use Rattle.box_script.specs.Reading.{Gives};
 ghost use Rattle.box_script.specs.declared.rows.LineFault.TheVariants.{Memory};
 
@@ -84,7 +84,7 @@ fn five(text: &[u8]) -> Option<(&[u8], &[u8], &[u8], &[u8], &[u8])>
     Some((a, b, c, d, e))
 }
 
-#[tactic(auto, unfolding(crate::specs::Groups::ring_hex))]
+#[tactic(auto, unfolding(grammar_spec::specs::Groups::ring_hex))]
 fn ring_hex(alloc: Global, text: &[u8]) -> Result<(ZoneName, Bytes), LineFault>
     ensures { Gives (λ x. (x.0, x.1)) result (ring_hex (fields_of text.now)) }
 {
@@ -94,7 +94,7 @@ fn ring_hex(alloc: Global, text: &[u8]) -> Result<(ZoneName, Bytes), LineFault>
     Ok((zone, bytes))
 }
 
-#[tactic(auto, unfolding(crate::specs::Groups::time_flag_hex))]
+#[tactic(auto, unfolding(grammar_spec::specs::Groups::time_flag_hex))]
 fn time_flag_hex(alloc: Global, text: &[u8]) -> Result<(Time, bool, Bytes), LineFault>
     ensures { Gives (λ x. (x.0, x.1, x.2)) result (time_flag_hex (fields_of text.now)) }
 {
@@ -106,7 +106,7 @@ fn time_flag_hex(alloc: Global, text: &[u8]) -> Result<(Time, bool, Bytes), Line
     Ok((Time { secs, micros }, packed, bytes))
 }
 
-#[tactic(auto, unfolding(crate::specs::Rows::step_line))]
+#[tactic(auto, unfolding(grammar_spec::specs::Rows::step_line))]
 fn step_line(text: &[u8]) -> Option<Line>
     ensures { result ≡ step_line (fields_of text.now) }
 {
@@ -116,7 +116,7 @@ fn step_line(text: &[u8]) -> Option<Line>
     Some(Line::Step(zone, stores))
 }
 
-#[tactic(auto, unfolding(crate::specs::Rows::flip_line))]
+#[tactic(auto, unfolding(grammar_spec::specs::Rows::flip_line))]
 fn flip_line(text: &[u8]) -> Option<Line>
     ensures { result ≡ flip_line (fields_of text.now) }
 {
@@ -126,7 +126,7 @@ fn flip_line(text: &[u8]) -> Option<Line>
     Some(Line::Flip(place, mask))
 }
 
-#[tactic(auto, unfolding(crate::specs::Rows::kdump_line))]
+#[tactic(auto, unfolding(grammar_spec::specs::Rows::kdump_line))]
 fn kdump_line(alloc: Global, text: &[u8]) -> Result<Line, LineFault>
     ensures { Gives (λ x. x) result (kdump_line (fields_of text.now)) }
 {
@@ -139,7 +139,7 @@ fn kdump_line(alloc: Global, text: &[u8]) -> Result<Line, LineFault>
     Ok(Line::KDump(secs, nanos, packed, reason, body))
 }
 
-#[tactic(auto, unfolding(crate::specs::Groups::one_zone))]
+#[tactic(auto, unfolding(grammar_spec::specs::Groups::one_zone))]
 fn one_zone(text: &[u8]) -> Option<ZoneName>
     ensures { result ≡ one_zone (fields_of text.now) }
 {
@@ -147,7 +147,7 @@ fn one_zone(text: &[u8]) -> Option<ZoneName>
     fields::zone(zone)
 }
 
-#[tactic(auto, unfolding(crate::specs::Groups::one_number))]
+#[tactic(auto, unfolding(grammar_spec::specs::Groups::one_number))]
 fn one_number(text: &[u8]) -> Option<u32>
     ensures { result ≡ one_number (fields_of text.now) }
 {
@@ -155,7 +155,7 @@ fn one_number(text: &[u8]) -> Option<u32>
     fields::number(number)
 }
 
-#[tactic(auto, unfolding(crate::specs::Groups::one_name))]
+#[tactic(auto, unfolding(grammar_spec::specs::Groups::one_name))]
 fn one_name(alloc: Global, text: &[u8]) -> Result<Bytes, LineFault>
     ensures { Gives (λ x. x) result (one_name (fields_of text.now)) }
 {
@@ -164,7 +164,7 @@ fn one_name(alloc: Global, text: &[u8]) -> Result<Bytes, LineFault>
 }
 
 // What stands behind `begin`.
-#[tactic(auto, unfolding(crate::specs::Rows::begin_row))]
+#[tactic(auto, unfolding(grammar_spec::specs::Rows::begin_row))]
 fn begin_row(alloc: Global, word: &[u8], text: &[u8]) -> Result<Line, LineFault>
     ensures { Gives (λ x. x) result (begin_row word.now (fields_of text.now)) }
 {
@@ -193,7 +193,7 @@ fn begin_line(alloc: Global, text: &[u8]) -> Result<Line, LineFault>
 }
 
 // A word and the fields behind it, of which none has bytes.
-#[tactic(auto, unfolding(crate::specs::Rows::plain_row))]
+#[tactic(auto, unfolding(grammar_spec::specs::Rows::plain_row))]
 fn plain_row(word: &[u8], text: &[u8]) -> Option<Line>
     ensures { result ≡ plain_row word.now (fields_of text.now) }
 {
@@ -216,7 +216,7 @@ fn plain_row(word: &[u8], text: &[u8]) -> Option<Line>
 }
 
 // A word and the fields behind it.
-#[tactic(auto, unfolding(crate::specs::Rows::row))]
+#[tactic(auto, unfolding(grammar_spec::specs::Rows::row))]
 fn row(alloc: Global, word: &[u8], text: &[u8]) -> Result<Line, LineFault>
     ensures { Gives (λ x. x) result (row word.now (fields_of text.now)) }
 {
@@ -243,7 +243,7 @@ fn row(alloc: Global, word: &[u8], text: &[u8]) -> Result<Line, LineFault>
     plain_row(word, text).ok_or(LineFault::Bad)
 }
 
-#[tactic(auto, unfolding(crate::specs::Rows::lone_word))]
+#[tactic(auto, unfolding(grammar_spec::specs::Rows::lone_word))]
 fn lone_word(word: &[u8]) -> Option<Line>
     ensures { result ≡ lone_word word.now }
 {
@@ -271,7 +271,7 @@ fn is_blank(text: &[u8]) -> bool
 }
 
 /// A line without its newline.
-#[tactic(auto, unfolding(crate::specs::Lines::line_of))]
+#[tactic(auto, unfolding(grammar_spec::specs::Lines::line_of))]
 pub fn line_of(alloc: Global, text: &[u8]) -> Result<Line, LineFault>
     ensures { Gives (λ x. x) result (line_of text.now) }
 {

@@ -1,7 +1,7 @@
 -- the laws without conditions, over all numbers, and those with
 use Rattle.std.proofs.Common.{◌≡◌, ℕ, ◌<◌, refl, sym, ap, ◌∙◌}
 use Rattle.std.proofs.lemmas.Nat.{xor_lt}
-use Rattle.code_spec.specs.Laws.{IsField, TwoHasOrder255}
+use Rattle.code_laws.specs.Laws.{IsField, TwoHasOrder255}
 use Rattle.code_laws.proofs.Powers.{order_least}
 use Rattle.code_spec.specs.Field.{gf_add, gf_mul}
 use Rattle.code_laws.proofs.Xor.{xor_comm, xor_assoc, xor_left_comm, xor_self, xor_cancel, xor_zero_r}

@@ -2,7 +2,7 @@
 #![tactic(auto)]
 
 ghost use Rattle.code_laws.specs.Statements.{LawOfDistance, NearestIs, ParityIs, ProductByShifts, TowardTheNearest};
-ghost use Rattle.code_spec.specs.Laws.{IsField, TwoHasOrder255};
+ghost use Rattle.code_laws.specs.Laws.{IsField, TwoHasOrder255};
 
 /// The bytes are a field.
 pub fn bytes_are_a_field()

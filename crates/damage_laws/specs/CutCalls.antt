@@ -22,12 +22,10 @@ use Rattle.session_spec.specs.Headline.{OldPlacesRead, NoOtherPlaces}
 abbrev pub IsNearHeader : Zone → List ℕ → List ℕ → Type 0
 IsNearHeader z now c = distance (part_word z now Header) c ≤ z.parity / 2
 
--- What a header reads that is not damaged further:
--- what stood at the stop was a pair of the call with the zone's signature, and the header reads now as
--- it did then;
--- near the opening codeword of the current part it reads the opening words, near the closing codeword
--- the closing words,
--- and else the standing words, or those of another codeword near it
+-- What a header reads that is not damaged further: what stood at the stop was a pair of the call with the zone's
+-- signature, and the header reads now as it did then; near the opening codeword of the current part it reads the
+-- opening words, near the closing codeword the closing words, and else the standing words, or those of another codeword
+-- near it
 pub record HeaderReads (z : Zone) (cut : Cut) (stop now : List ℕ) : Type 0 where
   pub stood : ((standing_words stop).sig ≡ z.sig) × Contains (cut_pairs cut) (pair_of (standing_words stop))
   pub as_at_stop : words_read z now ≡ words_read z stop

@@ -36,11 +36,9 @@ abbrev pub CorrectionsKeepReading : Type 0
 CorrectionsKeepReading = (z : Zone) (now : List ℕ) (k : ℕ) → IsValidZone z → IsImage z now
     → k ≤ length (boot_fixes z now) → ReadsAlike z now (after_boot_stores z now k) k
 
--- What a zone reads whose erasure was begun and not finished, later being what stands when the next boot
--- begins: pair 0 is the words that the boot read;
--- the header as of a cut call; and where the boot found a log, and its blocks are within bounds, that
--- log for pair 0,
--- the same data from place 0 on for pair 1, and nothing for pair 2
+-- What a zone reads whose erasure was begun and not finished, later being what stands when the next boot begins: pair 0
+-- is the words that the boot read; the header as of a cut call; and where the boot found a log, and its blocks are
+-- within bounds, that log for pair 0, the same data from place 0 on for pair 1, and nothing for pair 2
 pub record BootCutReads (z : Zone) (now stop later : List ℕ) (cut : Cut) : Type 0 where
   pub before : words_before cut ≡ (zone_reading z now).words
   pub header : IsNotDamagedFurther z stop later → HeaderReads z cut stop later

@@ -3,8 +3,8 @@ use Rattle.std.proofs.Common.{◌≡◌, ◌≢◌, ◌⊎◌, ℕ, List, length
 use Rattle.std.specs.Io.KnownBytes.{Appends}
 use Rattle.box_io.specs.Outside.{AppendsFront}
 use Rattle.blk_spec.specs.declared.BlkLayout.{BlkLayout}
-use Rattle.box_script.specs.Fields.{Text}
-use Rattle.box_script.specs.declared.line.Line.{Line}
+use Rattle.grammar_spec.specs.Fields.{Text}
+use Rattle.grammar_spec.specs.declared.line.Line.{Line}
 use Rattle.tool_spec.specs.Ends.{End, status_of, last_line}
 use Rattle.tool_spec.specs.Commands.{stops, plan_of}
 use Rattle.tool_spec.specs.Answers.{Outside, RoseFor, IsFree}
@@ -77,7 +77,8 @@ module _ (layout : BlkLayout) (bytes : List ℕ) (a m b : Outside) (on : GoesOn 
     -- the last line was put, or the output failed in it
     lines_stopped : (s : Stop) → Caused a m (Err s) → StoppedAt s layout bytes lines a m
         → LastPut s m.given b.given m.sink_faults b.sink_faults status
-        → (status ≡ status_of (Err s) → StoppedFor s layout bytes lines a b → LinesAnswers layout bytes lines a b status)
+        → (status ≡ status_of (Err s) → StoppedFor s layout bytes lines a b → LinesAnswers layout bytes lines a b
+        status)
         → LinesAnswers layout bytes lines a b status
     lines_stopped s c k f shown = elim f.shown [
       | inl h ↦ shown h.0 (put_last s k h.1)
@@ -218,7 +219,8 @@ module _ (a m b : Outside) (status : ℕ) where
   good_words (Err (Layout x)) h is = absurd h
 
 blk_answers : (layout : BlkLayout) (a m b : Outside) (e : End) (status : ℕ) → GoesOn a m b → Caused a m e
-    → BlkEnds layout a m e → Finished e m.given b.given m.sink_faults b.sink_faults status → BlkAnswers layout a b status
+    → BlkEnds layout a m e → Finished e m.given b.given m.sink_faults b.sink_faults status → BlkAnswers layout a b
+    status
 blk_answers layout a m b e status on c h f =
     let s = status_is a m b on status e c f in
     record {

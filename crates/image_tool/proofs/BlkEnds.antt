@@ -1,8 +1,8 @@
 -- How the stages of a script on the block store end its work
 use Rattle.std.proofs.Common.{◌≡◌, ℕ, ◌<◌, ◌≤◌, List, [], length, Option, Some, Result, Ok, Err, IfSome, refl, sym, ◌∙◌, arith, inl, inr, IsOk}
 use Rattle.blk_spec.specs.declared.BlkLayout.{BlkLayout}
-use Rattle.box_script.specs.Lines.{script_of}
-use Rattle.box_script.specs.declared.line.Line.{Line}
+use Rattle.grammar_spec.specs.Lines.{script_of}
+use Rattle.grammar_spec.specs.declared.line.Line.{Line}
 use Rattle.tool_spec.specs.Ends.{End}
 use Rattle.tool_spec.specs.Commands.{script_limit, stops}
 use Rattle.tool_spec.specs.Answers.{Outside, NoScript}

@@ -10,7 +10,7 @@ use Rattle.old_log.specs.Saving.{SavedLogs, saved}
 use Rattle.ram_core.specs.OffSeen.{OffSeen, StandsOff}
 use Rattle.ram_core.specs.LiveSeen.{LiveSeen}
 use Rattle.ram_core.specs.Booted.{Booted}
-use Rattle.store_session.specs.Playing.{StandsFresh}
+use Rattle.ram_session.specs.Playing.{StandsFresh}
 use Rattle.image_tool.specs.Stores.{BootedFrom}
 
 pub booted_from : (layout : List Zone) (mem size : ℕ) (holds : Option (List ℕ)) (image : List ℕ) (off : OffSeen)

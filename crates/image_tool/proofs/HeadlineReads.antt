@@ -23,18 +23,18 @@ use Rattle.session_spec.specs.Report.{ZoneReport, zone_report, report}
 use Rattle.session_spec.specs.Headline.{EachOffZone}
 use Rattle.session_laws.specs.ZoneReads.{ReadsZone}
 use Rattle.session_laws.proofs.ZoneReads.{sound_state_reads_zones}
-use Rattle.param_words.specs.Numbers.{digits_number, number_of, begins}
-use Rattle.param_words.specs.Words.{KeyTable, given, value_text, ok_unless}
-use Rattle.zone_params.specs.Words.{keys, first_fault, params_of}
-use Rattle.param_words.specs.declared.faults.ParamFault.{ParamFault}
+use Rattle.grammar_spec.specs.Numbers.{digits_number, number_of, begins}
+use Rattle.grammar_spec.specs.Words.{KeyTable, given, value_text, ok_unless}
+use Rattle.grammar_spec.specs.ZoneWords.{keys, first_fault, params_of}
+use Rattle.grammar_spec.specs.declared.faults.ParamFault.{ParamFault}
 use Rattle.zone_params.proofs.WholeLayout.{whole_layout}
 use Rattle.ram_region.proofs.Chains.{AreBytes-take}
 use Rattle.old_log.proofs.Saves.{zip-at, zip-length}
 use Rattle.ram_core.proofs.Lists.{get-of-map}
-use Rattle.box_script.specs.Fields.{Text}
-use Rattle.box_script.specs.Lines.{script_of}
-use Rattle.box_script.specs.declared.line.Line.{Line}
-use Rattle.box_script.specs.declared.line.Line.TheVariants.{Boot}
+use Rattle.grammar_spec.specs.Fields.{Text}
+use Rattle.grammar_spec.specs.Lines.{script_of}
+use Rattle.grammar_spec.specs.declared.line.Line.{Line}
+use Rattle.grammar_spec.specs.declared.line.Line.TheVariants.{Boot}
 use Rattle.box_script.proofs.Inside.{read_fields}
 use Rattle.tool_spec.specs.Ends.{End}
 use Rattle.tool_spec.specs.Texts.{boot_text}

@@ -3,7 +3,7 @@ use Rattle.std.proofs.Common.{◌≡◌, ℕ, List, [], ◌∷◌, Ok, Err, refl
 use Rattle.std.specs.Io.KnownBytes.{Appends}
 use Rattle.box_io.specs.Outside.{AppendsFront, Writes, WritesFront}
 use Rattle.session_spec.specs.Stop.{session_image}
-use Rattle.box_script.specs.Fields.{Text}
+use Rattle.grammar_spec.specs.Fields.{Text}
 use Rattle.tool_spec.specs.Generated.{generated, summary}
 use Rattle.tool_spec.specs.Commands.{MakeImage, Plan, wanted, wanted_make, mem_of}
 use Rattle.tool_spec.specs.Answers.{Outside, NoScript, NoImage, PutsAll, whole}

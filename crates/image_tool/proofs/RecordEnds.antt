@@ -14,7 +14,7 @@ use Rattle.session_spec.specs.Stop.{stopped}
 use Rattle.old_log.specs.Saving.{SavedLogs, saved}
 use Rattle.ram_core.specs.LiveSeen.{LiveSeen, StandsLive}
 use Rattle.ram_core.specs.OffSeen.{OffSeen, StandsOff}
-use Rattle.box_script.specs.Fields.{Text}
+use Rattle.grammar_spec.specs.Fields.{Text}
 use Rattle.tool_spec.specs.Ends.{End}
 use Rattle.tool_spec.specs.Texts.{listing}
 use Rattle.tool_spec.specs.Scripts.{named}
@@ -28,10 +28,10 @@ use Rattle.tool_frame.specs.Ended.{Ended, CanEnd, ReadEnds, ImageEnds}
 use Rattle.tool_frame.specs.Stages.{LoadStop}
 use Rattle.tool_frame.proofs.Image.{load_can, image_stopped, image_done}
 use Rattle.tool_frame.proofs.Script.{Quiet, quiet_memory, put_nothing}
-use Rattle.store_session.specs.Records.{IsContent}
-use Rattle.store_session.specs.Erasing.{ErasesNamed, IsBusy, EraseFails}
-use Rattle.store_session.specs.declared.machine.LineError.{LineError}
-use Rattle.store_session.specs.declared.machine.LineError.TheVariants.{Memory, Refused}
+use Rattle.ram_session.specs.Records.{IsContent}
+use Rattle.ram_session.specs.Erasing.{ErasesNamed, IsBusy, EraseFails}
+use Rattle.ram_session.specs.declared.machine.LineError.{LineError}
+use Rattle.ram_session.specs.declared.machine.LineError.TheVariants.{Memory, Refused}
 use Rattle.image_tool.specs.Stores.{BootedFrom}
 use Rattle.image_tool.specs.Records.{stop_for}
 use Rattle.image_tool.proofs.Shown.{put_all, put_front, wrote_all, wrote_front}
@@ -127,7 +127,8 @@ module _ (plan : Plan) (a b : Outside) (live : LiveSeen) (logs : SavedLogs) (nam
         a b bytes extract_wanted same put))
 
     pub extract_front : NoScript a b → AppendsFront a.given b.given bytes → ReadEnds plan a b (Err SinkFault)
-    extract_front none put = reads (rw is refl) none same (image_done plan (ExtractRecord name) a b booted.image (Err SinkFault)
+    extract_front none put = reads (rw is refl) none same (image_done plan (ExtractRecord name) a b booted.image
+        (Err SinkFault)
         is refl booted.read (put_front_of (wanted_of plan.params plan.zones booted.image [] (ExtractRecord name))
         a b bytes extract_wanted same put))
 
@@ -145,7 +146,8 @@ module _ (plan : Plan) (a b : Outside) (live : LiveSeen) (logs : SavedLogs) (nam
       → NoScript a b → Quiet a b → ReadEnds plan a b (Err s)
   extract_stopped Memory s same h none q = rw same (reads (rw is refl) none q.holds
       (memory_ends plan a b live logs booted (ExtractRecord name) is refl q))
-  extract_stopped (Refused cause) s same h none q = rw same (reads (rw is refl) none q.holds (extract_unlisted cause h.0 h.1 q))
+  extract_stopped (Refused cause) s same h none q = rw same (reads (rw is refl) none q.holds
+      (extract_unlisted cause h.0 h.1 q))
 
 -- ---- erased
 
@@ -175,7 +177,8 @@ module _ (plan : Plan) (a b : Outside) (live : LiveSeen) (logs : SavedLogs) (nam
         ap (wanted_erase plan.zones s) e.named ∙ ap (λ (bs : List ℕ). leaves bs) (sym (image ∙ left.image))
 
     pub erase_saved : NoScript a b → Writes a.holds b.holds 0 bytes → ImageEnds plan a b (Ok tt)
-    erase_saved none wrote = leaves_script (rw is refl) none (image_done plan (EraseRecord name) a b booted.image (Ok tt)
+    erase_saved none wrote = leaves_script (rw is refl) none
+        (image_done plan (EraseRecord name) a b booted.image (Ok tt)
         is refl booted.read (rw (erase_wanted, given) (wrote_all bytes a.given a.holds b.holds wrote)))
 
     pub erase_unsaved : NoScript a b → WritesFront a.holds b.holds 0 bytes → ImageEnds plan a b (Err ImageFault)

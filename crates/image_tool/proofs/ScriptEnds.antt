@@ -1,7 +1,7 @@
 -- How a script's lines end its run
 use Rattle.std.proofs.Common.{ℕ, List, Option, Err}
 use Rattle.zone_spec.specs.declared.Zone.{Zone}
-use Rattle.box_script.specs.declared.line.Line.{Line}
+use Rattle.grammar_spec.specs.declared.line.Line.{Line}
 use Rattle.tool_spec.specs.declared.Stop.{Stop}
 use Rattle.tool_spec.specs.declared.Stop.TheVariants.{Memory, Usage, Param, Layout, Short, ScriptFault, ImageFault, SinkFault, TooLong, BadLine, Refused}
 use Rattle.tool_frame.specs.Playing.{PlayStop}

@@ -73,7 +73,8 @@ blank_left plan mem e a b same is script given can ended wrote =
       can = can;
       whole = whole;
       script = script;
-      image_fault = blank_written (leaves (replicate (mem_of plan) 0)) e a b whole refl given (λ f. rw (← same) (wrote f)) refl;
+      image_fault = blank_written (leaves (replicate (mem_of plan) 0)) e a b whole refl given
+          (λ f. rw (← same) (wrote f)) refl;
       text_first = inr ([], rw given (nothing_put a.given));
     })
 

@@ -9,10 +9,10 @@ use Rattle.session_spec.specs.States.{OffZone, OffState, Off}
 use Rattle.session_spec.specs.Report.{ZoneReport, zone_report}
 use Rattle.session_spec.specs.Headline.{EachOffZone}
 use Rattle.session_laws.specs.ZoneReads.{ReadsZone}
-use Rattle.box_script.specs.Fields.{Text}
-use Rattle.box_script.specs.Lines.{script_of}
-use Rattle.box_script.specs.declared.line.Line.{Line}
-use Rattle.box_script.specs.declared.line.Line.TheVariants.{Boot}
+use Rattle.grammar_spec.specs.Fields.{Text}
+use Rattle.grammar_spec.specs.Lines.{script_of}
+use Rattle.grammar_spec.specs.declared.line.Line.{Line}
+use Rattle.grammar_spec.specs.declared.line.Line.TheVariants.{Boot}
 use Rattle.tool_spec.specs.Texts.{boot_text}
 use Rattle.tool_spec.specs.Scripts.{ran}
 use Rattle.tool_spec.specs.Commands.{RunScript, Plan, mem_of}

@@ -11,7 +11,7 @@ mod script;
 mod stores;
 mod work;
 
-pub use store_generator::Draws;
+pub use ram_generator::Draws;
 pub use tool_frame::{Cause, Stop};
 pub use work::run;
 

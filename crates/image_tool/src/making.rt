@@ -6,8 +6,8 @@ ghost use Rattle.tool_frame.specs.Ended.{CausedAt, KeptAt, MakeEnds};
 ghost use Rattle.image_tool.specs.Plans.{plan_for};
 
 use box_io::{Failed, Sink, Store};
+use ram_generator::generate;
 use std::alloc::{AllocError, Global};
-use store_generator::generate;
 use tool_frame::{Stop, save};
 use zone_params::types::Layout;
 

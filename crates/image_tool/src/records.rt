@@ -8,9 +8,9 @@ ghost use Rattle.image_tool.specs.Records.{stop_for};
 
 use crate::stores::boot_store;
 use box_io::{Failed, Sink, Store};
+use ram_session::{LineError, content_of};
+use ram_texts::listing;
 use std::alloc::{AllocError, Global};
-use store_session::{LineError, content_of};
-use store_texts::listing;
 use tool_frame::{Stop, save};
 use zone_params::types::Layout;
 
@@ -100,7 +100,7 @@ pub fn erase<M: Store>(alloc: Global, layout: Layout, name: &str, image: &mut M)
         Ok(booted) => booted,
         Err(stop) => return Err(stop),
     };
-    match store_session::erase(alloc, &mut live, &mut logs, name.as_bytes()) {
+    match ram_session::erase(alloc, &mut live, &mut logs, name.as_bytes()) {
         Ok(()) => {}
         Err(e) => return Err(stop_of(e)),
     }

@@ -7,8 +7,8 @@ ghost use Rattle.image_tool.specs.Plans.{plan_for};
 
 use crate::stores::fresh_store;
 use box_io::{Failed, Sink, Source, Store};
+use ram_session::play;
 use std::alloc::{AllocError, Global};
-use store_session::play;
 use tool_frame::{Stop, lines, load, read_script, save};
 use zone_params::types::Layout;
 

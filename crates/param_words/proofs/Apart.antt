@@ -7,10 +7,10 @@ use Rattle.std.proofs.Math.ListN.{drop_of_length-le}
 use Rattle.std.proofs.lemmas.List.Folds.{list_any-append}
 use Rattle.std.proofs.lemmas.Bool.{and_parts}
 use Rattle.std.proofs.lemmas.Slice.Eq.{bytes_eq-Decides}
-use Rattle.param_words.specs.declared.faults.ParamFault.{ParamFault}
-use Rattle.param_words.specs.declared.faults.ParamFault.TheVariants.{UnknownKey, Twice, NotANumber}
-use Rattle.param_words.specs.Numbers.{number_of}
-use Rattle.param_words.specs.Words.{KeyTable, key_of, has_key, word_fault, first_fault, either, texts}
+use Rattle.grammar_spec.specs.declared.faults.ParamFault.{ParamFault}
+use Rattle.grammar_spec.specs.declared.faults.ParamFault.TheVariants.{UnknownKey, Twice, NotANumber}
+use Rattle.grammar_spec.specs.Numbers.{number_of}
+use Rattle.grammar_spec.specs.Words.{KeyTable, key_of, has_key, word_fault, first_fault, either, texts}
 use Rattle.param_words.specs.declared.words.Keys.{Keys}
 use Rattle.param_words.specs.Keys.{table_of}
 use Rattle.param_words.proofs.WordLaws.{Words, next_word}

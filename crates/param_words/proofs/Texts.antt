@@ -11,7 +11,7 @@ use Rattle.std.proofs.lemmas.Str.Pattern.{starts_text}
 use Rattle.std.proofs.lemmas.Str.Parse.{without_leading_plus_none}
 use Rattle.std.proofs.lemmas.Bool.{and_parts, and_from, and_right, eqb-true, eqb-false, ltb-true, and_left, lt-ltb, le-ltb}
 use Rattle.std.proofs.lemmas.Bool.Decides.{nat_tests}
-use Rattle.param_words.specs.Numbers.{number_of, digits_number, begins}
+use Rattle.grammar_spec.specs.Numbers.{number_of, digits_number, begins}
 
 -- what `strip_prefix` gives at a text
 pub behind_front : (n s : List ℕ) (r : Option (Bor (List ℕ)))

@@ -5,9 +5,9 @@ use Rattle.std.specs.List.{list_any, find, position_or_len, after_first}
 use Rattle.std.proofs.Math.ListN.{drop_of_length-le}
 use Rattle.std.proofs.lemmas.Bool.{and_left, le-ltb}
 use Rattle.std.proofs.lemmas.Str.Pattern.{split_once_first, IsSplitOnceResult}
-use Rattle.param_words.specs.declared.faults.ParamFault.TheVariants.{UnknownKey, Twice, NotANumber}
-use Rattle.param_words.specs.Numbers.{number_of}
-use Rattle.param_words.specs.Words.{KeyTable, key_of, has_key, IsSplit, value_text, given, word_fault, texts}
+use Rattle.grammar_spec.specs.declared.faults.ParamFault.TheVariants.{UnknownKey, Twice, NotANumber}
+use Rattle.grammar_spec.specs.Numbers.{number_of}
+use Rattle.grammar_spec.specs.Words.{KeyTable, key_of, has_key, IsSplit, value_text, given, word_fault, texts}
 use Rattle.param_words.proofs.Texts.{if_true, if_false, any_before_end}
 
 -- a word without a separator
@@ -166,7 +166,8 @@ unfolding value_text
 value_end table words i key h = rw (drop_of_length-le words h) refl
 
 pub given_some : (table : KeyTable) (words : List (List ℕ)) (key : List ℕ) (r : Option (Bor (List ℕ)))
-    (x : Bor (List ℕ)) → option_copied r ≡ value_text table words key → r ≡ Some x → number_of x.now ≡ given table words key
+    (x : Bor (List ℕ)) → option_copied r ≡ value_text table words key → r ≡ Some x → number_of x.now ≡ given table words
+    key
 unfolding given
 given_some table words key r x v e = ap (option_and_then number_of) (sym (ap option_copied e) ∙ v)
 

@@ -1,4 +1,1 @@
-pub mod Faults
-pub mod Numbers
-pub mod Words
 pub mod Keys

@@ -1,7 +1,7 @@
 // The numbers that parameters write.
 ghost use Rattle.std.specs.Prelude.{◌≡◌, ◌≤◌, length, drop, if◌then◌else◌, Some, None};
 ghost use Rattle.std.specs.Option.{option_copied};
-ghost use Rattle.param_words.specs.Numbers.{number_of, digits_number, begins};
+ghost use Rattle.grammar_spec.specs.Numbers.{number_of, digits_number, begins};
 
 // What stands behind this front.
 pub fn behind<'a>(text: &'a str, front: &str) -> Option<&'a str>

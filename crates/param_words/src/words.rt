@@ -2,7 +2,7 @@
 ghost use Rattle.std.specs.Prelude.{◌≡◌, ◌<◌, ◌^◌, ◌==◌, [], Bool, true, false, length, bytes_eq, MatchOption};
 ghost use Rattle.std.specs.Option.{option_copied};
 ghost use Rattle.std.specs.List.{list_any};
-ghost use Rattle.param_words.specs.Words.{value_text, word_fault, first_fault, given, texts, IsSplit};
+ghost use Rattle.grammar_spec.specs.Words.{value_text, word_fault, first_fault, given, texts, IsSplit};
 
 use crate::ParamFault;
 use crate::numbers::{behind, number};

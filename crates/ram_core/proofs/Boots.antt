@@ -35,7 +35,7 @@ use Rattle.ram_core.specs.declared.report.ZoneReport.{ZoneReport as RustZoneRepo
 use Rattle.ram_core.specs.OffSeen.{OffSeen, shown_cut, StandsForKnown, StandsOff}
 use Rattle.ram_core.specs.LiveSeen.{LiveSeen, StandsForZone, StandsLive}
 use Rattle.ram_core.specs.Running.{IsHeld, IsRunning}
-use Rattle.ram_core.specs.Reports.{told_report, report_cut, report_zone}
+use Rattle.ram_core.specs.Reports.{report_seen, report_cut, report_zone}
 use Rattle.zone_spec.specs.Layout.{rounded}
 use Rattle.zone_params.specs.Laid.{params_of, zones_of}
 use Rattle.ram_core.specs.declared.off.OpenOff.{OpenOff}
@@ -162,24 +162,24 @@ module _ (layout : List Zone) (mem : ℕ) (image : List ℕ) (lies : IsLayout la
   pub reports_are : (reports : List RustZoneReport) → length reports ≡ length layout
       → ((i : ℕ) (z : Zone) (b : List ℕ) (k : KnownZone) (r : RustZoneReport) → slice_get layout i ≡ Some z
       → slice_get (cut_at layout image).spans i ≡ Some b → slice_get known i ≡ Some k
-      → slice_get reports i ≡ Some r → told_report r ≡ report_zone z k (zone_reading z b))
-      → map told_report reports ≡ report layout s
+      → slice_get reports i ≡ Some r → report_seen r ≡ report_zone z k (zone_reading z b))
+      → map report_seen reports ≡ report layout s
   reports_are reports len is =
-      same_items (map told_report reports) (report layout s)
-      (length-map reports told_report ∙ len ∙ sym (length-zip-map
+      same_items (map report_seen reports) (report layout s)
+      (length-map reports report_seen ∙ len ∙ sym (length-zip-map
       (λ (p : Zone × OffZone). zone_report p.0 p.1 (zone_bytes p.0 s.image)) layout s.zones count)) by
     where
-      by : (i : ℕ) (x y : ZoneReport) → slice_get (map told_report reports) i ≡ Some x
+      by : (i : ℕ) (x y : ZoneReport) → slice_get (map report_seen reports) i ≡ Some x
           → slice_get (report layout s) i ≡ Some y → x ≡ y
       by i x y ex ey =
-          let below : i < length layout = (let a = slice_get_within (map told_report reports) i x ex in
-          let b = length-map reports told_report in omega (arith, a, b, len)) in
+          let below : i < length layout = (let a = slice_get_within (map report_seen reports) i x ex in
+          let b = length-map reports report_seen in omega (arith, a, b, len)) in
           let z = slice_get-some layout i below in
           let k = slice_get-some known i (omega (arith, below, kept)) in
           let r = slice_get-some reports i (omega (arith, below, len)) in
           let zone = get-zip-map (λ (p : Zone × OffZone). zone_report p.0 p.1 (zone_bytes p.0 s.image))
           layout s.zones i z.0 y z.1 ey in
-          sym (get-map told_report reports i r.0 x r.1 ex) ∙ is i z.0 (zone_bytes z.0 image) k.0 r.0 z.1
+          sym (get-map report_seen reports i r.0 x r.1 ex) ∙ is i z.0 (zone_bytes z.0 image) k.0 r.0 z.1
           (span_got layout mem image lies size bytes i z.0 z.1) k.1 r.1
           ∙ zone_reported z.0 k.0 zone.0 (zone_bytes z.0 image) (stands i z.0 k.0 zone.0 z.1 k.1 zone.1)
           ∙ ap (λ (im : List ℕ). zone_report z.0 zone.0 (zone_bytes z.0 im)) same ∙ zone.2
@@ -259,7 +259,7 @@ module _ (v : OffSeen) (o : OpenOff) (is : IsOpen v o) where
       zones = o.zones.items;
     }) s
         → Booted L M s (record { layout = L; mem = M; spans = new; zones = p.held.items; cursor = 0 }) (saved p.logs)
-        (map told_report p.reports.items)
+        (map report_seen p.reports.items)
     booted_own s stands = record {
       live = booted_stands L M v.image is.lies is.size is.bytes new p.held.items own_settled own_prepared.held_len
           own_held s stands.image;
@@ -273,13 +273,13 @@ module _ (v : OffSeen) (o : OpenOff) (is : IsOpen v o) where
 
     pub boot_is : (layout : List Zone) (mem : ℕ) (s : OffState) → StandsOff layout mem v s
         → Booted layout mem s (record { layout = L; mem = M; spans = new; zones = p.held.items; cursor = 0 })
-        (saved p.logs) (map told_report p.reports.items)
+        (saved p.logs) (map report_seen p.reports.items)
     boot_is layout mem s stands =
         let st : StandsOff layout mem (record { layout = L; mem = M; image = v.image; zones = o.zones.items }) s =
         subst (λ (x : OffSeen). StandsOff layout mem x s) is.seen stands in
         let after : LiveSeen = record { layout = L; mem = M; spans = new; zones = p.held.items; cursor = 0 } in
-        subst (λ (l : List Zone). Booted l mem s after (saved p.logs) (map told_report p.reports.items)) st.same_layout
-        (subst (λ (m : ℕ). Booted L m s after (saved p.logs) (map told_report p.reports.items)) st.same_mem
+        subst (λ (l : List Zone). Booted l mem s after (saved p.logs) (map report_seen p.reports.items)) st.same_layout
+        (subst (λ (m : ℕ). Booted L m s after (saved p.logs) (map report_seen p.reports.items)) st.same_mem
         (booted_own s (subst (λ (l : List Zone). StandsOff l M
         (record { layout = L; mem = M; image = v.image; zones = o.zones.items }) s) (sym st.same_layout)
         (subst (λ (m : ℕ). StandsOff layout m (record { layout = L; mem = M; image = v.image; zones = o.zones.items })

@@ -30,7 +30,7 @@ use Rattle.session_spec.specs.States.{OffZone, OffState}
 use Rattle.session_spec.specs.Off.{fresh}
 use Rattle.session_spec.specs.BootPart.{moved, image_boot_stores, boot_count, IsWithinErasure, boot_cut, zone_finished, zone_cut, zone_parted, left_at, boot_parted}
 use Rattle.session_spec.specs.Sound.{IsMemory}
-use Rattle.session_laws.proofs.Lists.{length-numbered, get-map, zone_within}
+use Rattle.session_laws.proofs.Lists.{length-parted, get-map, zone_within}
 use Rattle.session_laws.proofs.Zones.{zone_image}
 use Rattle.session_laws.proofs.Sessions.{image_is_zones_and_rest}
 use Rattle.session_laws.proofs.CutBoot.{cut_boot_makes_stores, cut_boot_leaves_rest, cut_boot_reads, cut_boot_holds, cut_boot_keeps_stops, new_zone, count_within}
@@ -39,7 +39,7 @@ use Rattle.damage_laws.proofs.CutNumbers.{boot_cut_report_is_exact}
 use Rattle.ring_laws.proofs.Images.{length-after_stores}
 use Rattle.ram_region.specs.CutRegion.{CutRegion, span, cut_at}
 use Rattle.ram_core.specs.declared.booting.Passed.{Passed}
-use Rattle.ram_core.specs.declared.booting.Progress.{Progress}
+use Rattle.ram_core.specs.declared.booting.BootProgress.{BootProgress}
 use Rattle.ram_core.specs.declared.zones.HeldZone.{HeldZone}
 use Rattle.ram_core.specs.declared.known.KnownZone.{KnownZone}
 use Rattle.ram_core.specs.SeenCut.{cut_of_erasure}
@@ -226,7 +226,7 @@ module _ (layout : List Zone) (mem : ℕ) (image : List ℕ) (lies : IsLayout la
       (let a = (lies.valid i z ez).1 in let b = zone_within layout i z ez in let c = lies.within in
       omega (arith, a, b, c, size)) bytes
 
-  module _ (new : CutRegion) (limit : ℕ) (progress : Progress) (passed : List Passed)
+  module _ (new : CutRegion) (limit : ℕ) (progress : BootProgress) (passed : List Passed)
       (parts : PartsTo layout (cut_at layout image) new limit (length layout) progress passed) where
     abbrev after_image : List ℕ
     after_image = (boot_parted layout limit (fresh layout image)).image
@@ -302,9 +302,7 @@ module _ (layout : List Zone) (mem : ℕ) (image : List ℕ) (lies : IsLayout la
         same_mem = refl;
         image = parted_image ∙ ap (λ (im : List ℕ). after_stores im (take limit (image_boot_stores layout im))) same;
         kept = is.len ∙ kept;
-        count = length-numbered (λ (at : ℕ × (Zone × OffZone)). zone_parted at.1.0 (zone_bytes at.1.0 s.image)
-            (nat_le (boot_count layout s.image) limit) (left_at layout s.image limit at.0) at.1.1)
-            0 layout s.zones count;
+        count = length-parted s.image (nat_le (boot_count layout s.image) limit) layout limit s.zones count;
         zones = by;
       }
         where
@@ -363,7 +361,7 @@ module _ (v : OffSeen) (o : OpenOff) (is : IsOpen v o) where
   abbrev M : ℕ
   M = rounded (params_of o.layout).mem
 
-  module _ (new : CutRegion) (limit : ℕ) (progress : Progress) (passed : List Passed)
+  module _ (new : CutRegion) (limit : ℕ) (progress : BootProgress) (passed : List Passed)
       (parts : PartsTo L o.spans new limit (length L) progress passed) where
     own_parts : PartsTo L (cut_at L v.image) new limit (length L) progress passed
     own_parts = subst (λ (c : CutRegion). PartsTo L c new limit (length L) progress passed) is.spans parts

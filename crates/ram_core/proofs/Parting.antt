@@ -9,7 +9,7 @@ use Rattle.zone_spec.specs.Stores.{after_stores}
 use Rattle.zone_spec.specs.Boot.{boot_stores, boot_fixes}
 use Rattle.ram_region.specs.CutRegion.{CutRegion, span, with_span}
 use Rattle.ram_core.specs.declared.booting.Passed.{Passed}
-use Rattle.ram_core.specs.declared.booting.Progress.{Progress}
+use Rattle.ram_core.specs.declared.booting.BootProgress.{BootProgress}
 use Rattle.ram_core.specs.Parting.{stores_in, stores_before, left_for, Passes, PartsTo}
 use Rattle.ram_core.proofs.Lists.{get-pushed}
 use Rattle.ram_core.proofs.Settling.{span-set, span-other}
@@ -54,7 +54,7 @@ whole_next whole before next own all left limit w a s l = ap (λ (t : Bool). t &
     by false y false ex ey et = refl
 
 -- one zone more
-pub parts_next : (layout : List Zone) (old mid new : CutRegion) (limit n : ℕ) (progress : Progress)
+pub parts_next : (layout : List Zone) (old mid new : CutRegion) (limit n : ℕ) (progress : BootProgress)
     (passed after : List Passed) (z : Zone) (p : Passed) → PartsTo layout old mid limit n progress passed
     → length old.spans ≡ length layout → slice_get layout n ≡ Some z
     → new ≡ with_span mid n (after_stores (span mid n) (take progress.left (boot_stores z (span mid n))))

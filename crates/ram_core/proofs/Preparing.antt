@@ -15,7 +15,7 @@ use Rattle.ring_laws.proofs.RingBytes.{length-log_places}
 use Rattle.old_log.proofs.Fronts.{ring-found}
 use Rattle.ram_core.specs.declared.booting.Prepared.{Prepared}
 use Rattle.ram_core.specs.declared.known.KnownZone.{KnownZone}
-use Rattle.ram_core.specs.Reports.{told_report, report_zone}
+use Rattle.ram_core.specs.Reports.{report_seen, report_zone}
 use Rattle.ram_core.specs.Booting.{SpansFit, held_after, Adds, PreparesTo}
 use Rattle.ram_core.proofs.Lists.{get-pushed}
 
@@ -71,7 +71,7 @@ prepares_next layout spans known n p q z bytes k to ez eb ek adds = record {
             let sz : z ≡ y = (let s : Some z ≡ Some y = sym ez ∙ ap (slice_get layout) (sym at) ∙ ey in cc) in
             let sb : bytes ≡ b = (let s : Some bytes ≡ Some b = sym eb ∙ ap (slice_get spans) (sym at) ∙ eb' in cc) in
             let sk : k ≡ kn = (let s : Some k ≡ Some kn = sym ek ∙ ap (slice_get known) (sym at) ∙ ekn in cc) in
-            ap told_report (sym a.1) ∙ adds.told ∙ ap (λ (y' : Zone). report_zone y' k (zone_reading y' bytes)) sz
+            ap report_seen (sym a.1) ∙ adds.told ∙ ap (λ (y' : Zone). report_zone y' k (zone_reading y' bytes)) sz
             ∙ ap (λ (b' : List ℕ). report_zone y k (zone_reading y b')) sb
             ∙ ap (λ (k' : KnownZone). report_zone y k' (zone_reading y b)) sk)
       ];

@@ -147,7 +147,8 @@ module _ (z : Zone) (f g : Flying) (old new : List ℕ) (steps : Steps f g old n
             flight = None;
           }))))) ≡ false
       by true k = none (is_dump h.call)
-      by false k = absurd (some (let m = steps.made in let l = steps.left in let a = s.made in let b = flight_total z old f h s in
+      by false k = absurd (some (let m = steps.made in let l = steps.left in let a = s.made in let b = flight_total z
+          old f h s in
           let n = total_same steps.same in grind (arith, nat_tests)))
 
   pub no_last : (live : LiveZone) → StandsForSome z old (Some f) live.flight → g.made ≢ total_of g
@@ -175,7 +176,8 @@ module _ (z : Zone) (f g : Flying) (old new : List ℕ) (steps : Steps f g old n
             told = told_after z.cap h.call live.told;
             flight = None;
           }))))) ≡ is_dump_kind kind
-      by true k = absurd (let m = steps.made in let l = steps.left in let a = s.made in let b = flight_total z old f h s in
+      by true k = absurd (let m = steps.made in let l = steps.left in let a = s.made in let b = flight_total z old f h s
+          in
           let n = total_same steps.same in grind (arith, nat_tests))
       by false k = whole (is_dump h.call) ∙ dump_kind h.call
           ∙ ap (λ (c : Call). is_dump_kind (kind_of c)) (sym s.call ∙ sym steps.same.call) ∙ ap is_dump_kind (sym e)

@@ -4,10 +4,10 @@ use Rattle.session_spec.specs.Sound.{IsTime}
 use Rattle.ram_core.specs.declared.ask.Ask.{Ask as RustAsk}
 use Rattle.ram_core.specs.declared.ask.Ask.TheVariants.{Append as RustAppend, Erase as RustErase, Dump as RustDump}
 
-abbrev pub told_ask : RustAsk → Ask
-told_ask (RustAppend zone payload) = Append zone payload
-told_ask (RustErase zone) = Erase zone
-told_ask (RustDump time packed body) = Dump time packed body
+abbrev pub ask_seen : RustAsk → Ask
+ask_seen (RustAppend zone payload) = Append zone payload
+ask_seen (RustErase zone) = Erase zone
+ask_seen (RustDump time packed body) = Dump time packed body
 
 -- a dump's time can be written
 abbrev pub CanBeAsked : RustAsk → Type 0

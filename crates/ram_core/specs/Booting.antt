@@ -20,7 +20,7 @@ use Rattle.ram_core.specs.declared.booting.Prepared.{Prepared}
 use Rattle.ram_core.specs.declared.known.KnownZone.{KnownZone}
 use Rattle.ram_core.specs.declared.zones.HeldZone.{HeldZone}
 use Rattle.ram_core.specs.declared.report.ZoneReport.{ZoneReport}
-use Rattle.ram_core.specs.Reports.{told_report, report_zone}
+use Rattle.ram_core.specs.Reports.{report_seen, report_zone}
 
 -- each span has its zone's size
 pub record SpansFit (layout : List Zone) (spans : List (List ℕ)) : Type 0 where
@@ -38,7 +38,7 @@ pub record Adds (old new : Prepared) (z : Zone) (bytes : List ℕ) (known : Know
   pub readings : new.logs.readings ≡ old.logs.readings ++ Some (zone_reading z bytes) ∷ []
   pub report : ZoneReport
   pub reports : new.reports.items ≡ old.reports.items ++ report ∷ []
-  pub told : told_report report ≡ report_zone z known (zone_reading z bytes)
+  pub told : report_seen report ≡ report_zone z known (zone_reading z bytes)
   pub held : new.held.items ≡ old.held.items ++ held_after z bytes ∷ []
 
 -- of the first n zones the readings, the reports and the told lists
@@ -52,7 +52,7 @@ pub record PreparesTo (layout : List Zone) (spans : List (List ℕ)) (known : Li
       → slice_get spans i ≡ Some bytes → slice_get p.logs.readings i ≡ Some (Some (zone_reading z bytes))
   pub reports : (i : ℕ) (z : Zone) (bytes : List ℕ) (k : KnownZone) (r : ZoneReport) → i < n
       → slice_get layout i ≡ Some z → slice_get spans i ≡ Some bytes → slice_get known i ≡ Some k
-      → slice_get p.reports.items i ≡ Some r → told_report r ≡ report_zone z k (zone_reading z bytes)
+      → slice_get p.reports.items i ≡ Some r → report_seen r ≡ report_zone z k (zone_reading z bytes)
   pub held : (i : ℕ) (z : Zone) (bytes : List ℕ) (h : HeldZone) → i < n → slice_get layout i ≡ Some z
       → slice_get spans i ≡ Some bytes → slice_get p.held.items i ≡ Some h → h ≡ held_after z bytes
 

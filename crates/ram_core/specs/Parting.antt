@@ -6,7 +6,7 @@ use Rattle.zone_spec.specs.Stores.{after_stores}
 use Rattle.zone_spec.specs.Boot.{boot_stores, boot_fixes}
 use Rattle.ram_region.specs.CutRegion.{CutRegion, span}
 use Rattle.ram_core.specs.declared.booting.Passed.{Passed}
-use Rattle.ram_core.specs.declared.booting.Progress.{Progress}
+use Rattle.ram_core.specs.declared.booting.BootProgress.{BootProgress}
 
 -- how many stores a boot has in a zone, if there is one
 abbrev pub stores_in : Option Zone → List ℕ → ℕ
@@ -30,7 +30,7 @@ pub record Passes (z : Zone) (bytes : List ℕ) (left : ℕ) (p : Passed) : Type
   pub erase_at : p.settled.erase_at ≡ length (boot_fixes z bytes)
 
 -- of the first n zones as many boot stores are made as the limit leaves, and no other store
-pub record PartsTo (layout : List Zone) (old new : CutRegion) (limit n : ℕ) (progress : Progress)
+pub record PartsTo (layout : List Zone) (old new : CutRegion) (limit n : ℕ) (progress : BootProgress)
     (passed : List Passed) : Type 0 where
   pub count : length new.spans ≡ length old.spans
   pub rest : new.rest ≡ old.rest

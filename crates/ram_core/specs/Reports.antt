@@ -13,11 +13,11 @@ use Rattle.ram_core.specs.declared.report.ZoneReport.{ZoneReport as RustZoneRepo
 use Rattle.ram_core.specs.declared.known.KnownZone.{KnownZone}
 use Rattle.ram_core.specs.SeenCut.{SeenCut}
 
-abbrev pub told_cut : RustCut → CutReport
-told_cut c = record { kind = c.kind; made = c.made; total = c.total; header = c.header; runs = c.runs.items }
+abbrev pub cut_seen : RustCut → CutReport
+cut_seen c = record { kind = c.kind; made = c.made; total = c.total; header = c.header; runs = c.runs.items }
 
-abbrev pub told_report : RustZoneReport → ZoneReport
-told_report r = record { name = r.name; verdict = r.verdict; cut = option_map told_cut r.cut }
+abbrev pub report_seen : RustZoneReport → ZoneReport
+report_seen r = record { name = r.name; verdict = r.verdict; cut = option_map cut_seen r.cut }
 
 -- by the zone's reading and what was known of it
 abbrev pub report_cut : Zone → ZoneReading → SeenCut → CutReport

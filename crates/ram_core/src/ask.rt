@@ -1,9 +1,9 @@
 // What may be asked of a live machine.
 ghost use Rattle.std.specs.Prelude.{◌≡◌, ◌≤◌, ◌<◌, length};
-ghost use Rattle.zone_flight.specs.Calls.{told_call};
+ghost use Rattle.zone_flight.specs.Calls.{call_seen};
 ghost use Rattle.session_spec.specs.LiveCalls.{call_of as call_asked};
 ghost use Rattle.session_spec.specs.Sound.{IsAsk};
-ghost use Rattle.ram_core.specs.Asks.{told_ask, CanBeAsked};
+ghost use Rattle.ram_core.specs.Asks.{ask_seen, CanBeAsked};
 
 use arrayvec::ArrayString;
 use box_io::Bytes;
@@ -32,7 +32,7 @@ impl Ask {
     /// Tells that the payload is of bytes.
     pub(crate) fn check(&self)
         requires { CanBeAsked self.now }
-        ensures { IsAsk (told_ask self.now) }
+        ensures { IsAsk (ask_seen self.now) }
     {
         match self {
             Ask::Append(_, payload) | Ask::Dump(_, _, payload) => {
@@ -45,7 +45,7 @@ impl Ask {
     /// The call that it is, a dump with its time line.
     pub(crate) fn into_call(self) -> Call
         requires { CanBeAsked self }
-        ensures { told_call result ≡ call_asked (told_ask self) }
+        ensures { call_seen result ≡ call_asked (ask_seen self) }
     {
         match self {
             Ask::Append(_, payload) => Call::Append(payload),

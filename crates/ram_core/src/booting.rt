@@ -96,9 +96,8 @@ pub(crate) fn prepare(
     Ok(prepared)
 }
 
-/// A zone that a boot came to: how many of the boot's stores were then left to be made, the words that it read, and
-/// how many
-/// stores it has there.
+/// A zone that a boot came to: how many of the boot's stores were then left to be made, the words that it read, and how
+/// many stores it has there.
 #[derive(Clone, Copy)]
 pub struct Passed {
     pub(crate) left: u64,
@@ -146,21 +145,20 @@ pub(crate) fn settle_all(spans: &mut Spans, layout: &Layout, logs: &Logs)
 
 /// How far a boot has come: how many stores it may still make, and whether it made all that it came to.
 #[derive(Clone, Copy)]
-pub struct Progress {
+pub struct BootProgress {
     pub(crate) left: u64,
     pub(crate) is_whole: bool,
 }
 
 /// Makes the first `limit` stores of a boot, or all, by the zones' readings, and notes how it passed each zone where
-/// there is
-/// room for it. Takes no memory.
+/// there is room for it. Takes no memory.
 pub(crate) fn settle_part(
     spans: &mut Spans,
     layout: &Layout,
     logs: &Logs,
     limit: u64,
     passed: &mut Vec<Passed>,
-) -> Progress
+) -> BootProgress
     requires spans { SpansFit (zones_of layout.now) spans.old.spans }
     requires logs { AreLogs (zones_of layout.now) spans.old.spans logs.now }
     requires none { passed.old.items ≡ [] }
@@ -169,7 +167,7 @@ pub(crate) fn settle_part(
         result passed.new.items }
 {
     let zones = layout.zones();
-    let mut progress = Progress {
+    let mut progress = BootProgress {
         left: limit,
         is_whole: true,
     };

@@ -83,9 +83,8 @@ pub struct KnownZone {
 impl KnownZone {
     ghost use Rattle.ram_core.specs.Parted.{parted};
 
-    /// What is known of the zone after a boot that passed it so: what the boot kept, where it has finished the zone
-    /// or made
-    /// all its stores; its erasure, where it is within that; else what was known.
+    /// What is known of the zone after a boot that passed it so: what the boot kept, where it has finished the zone or
+    /// made all its stores; its erasure, where it is within that; else what was known.
     fn pass(&mut self, told: Told, passed: &Passed, is_whole: bool)
         requires { passed.now.settled.erase_at ≤ passed.now.settled.all }
         ensures { self.new ≡ parted passed.now is_whole told self.old }

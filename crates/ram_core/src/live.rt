@@ -4,7 +4,7 @@ ghost use Rattle.zone_spec.specs.Layouts.{zone_place};
 ghost use Rattle.zone_params.specs.Laid.{zones_of, NamesDiffer};
 ghost use Rattle.session_spec.specs.States.{LiveState};
 ghost use Rattle.session_spec.specs.LiveCalls.{asked_name, begin as begins, step as steps};
-ghost use Rattle.ram_core.specs.Asks.{told_ask, CanBeAsked};
+ghost use Rattle.ram_core.specs.Asks.{ask_seen, CanBeAsked};
 ghost use Rattle.zone_spec.specs.Records.{is_of};
 ghost use Rattle.zone_spec.specs.declared.Kind.TheVariants.{Dump as DumpKind};
 ghost use Rattle.ram_core.specs.Places.{ring_at, name_of, place_asked, dump_flies, barred, flies_at, flies_in};
@@ -162,7 +162,7 @@ fn stores_left(held: &HeldZone) -> u64
 impl Live {
     // The name of the zone that the call goes to.
     fn name_asked(&self, ask: &Ask) -> ZoneName
-        ensures { result ≡ name_of self.now.cursor (told_ask ask.now) }
+        ensures { result ≡ name_of self.now.cursor (ask_seen ask.now) }
     {
         match ask {
             Ask::Append(name, _) | Ask::Erase(name) => *name,
@@ -175,7 +175,7 @@ impl Live {
 
     // Its place.
     fn place_asked(&self, ask: &Ask) -> Option<u32>
-        ensures place { result ≡ place_asked self.now.layout self.now.cursor (told_ask ask.now) }
+        ensures place { result ≡ place_asked self.now.layout self.now.cursor (ask_seen ask.now) }
         ensures within { IfSome result (λ i. (i < length self.now.layout) × (i < length self.now.zones)) }
     {
         let name = self.name_asked(ask);
@@ -188,7 +188,7 @@ impl Live {
     // Tells whether a flight is in the call's way, in zone `i` or, for a dump, in a dump zone.
     fn is_busy(&self, i: u32, ask: &Ask) -> bool
         requires { i < length self.now.zones }
-        ensures { result ≡ (barred self.now.layout self.now.zones (told_ask ask.now)
+        ensures { result ≡ (barred self.now.layout self.now.zones (ask_seen ask.now)
             || flies_at (slice_get self.now.zones i)) }
     {
         let is_barred = match ask {
@@ -201,12 +201,12 @@ impl Live {
     // Begins the call in zone `i`, where nothing is in its way.
     fn start(&mut self, i: u32, ask: Ask)
         requires asked { CanBeAsked ask }
-        requires place { place_asked self.old.layout self.old.cursor (told_ask ask) ≡ Some i }
+        requires place { place_asked self.old.layout self.old.cursor (ask_seen ask) ≡ Some i }
         requires within { i < length self.old.layout }
-        requires free { (barred self.old.layout self.old.zones (told_ask ask)
+        requires free { (barred self.old.layout self.old.zones (ask_seen ask)
             || flies_at (slice_get self.old.zones i)) ≡ false }
         ensures { (layout : List Zone) (mem : ℕ) (s : LiveState) → StandsLive layout mem self.old s
-            → Leaves layout mem (begins layout s (told_ask ask)) self.new }
+            → Leaves layout mem (begins layout s (ask_seen ask)) self.new }
     {
         ask.check();
         let zone = self.layout.zones()[i as usize];
@@ -224,15 +224,14 @@ impl Live {
     }
 
     /// Begins a call, and makes no store. An append of no bytes is finished at once. A refusal changes nothing, and
-    /// hands
-    /// back what was asked. Takes no memory.
+    /// hands back what was asked. Takes no memory.
     pub fn begin(&mut self, ask: Ask) -> Result<ZoneName, Refused>
         requires { CanBeAsked ask }
         ensures begun { IfOk result (λ name. (layout : List Zone) (mem : ℕ) (s : LiveState)
             → StandsLive layout mem self.old s
-            → (name ≡ asked_name s (told_ask ask)) × Leaves layout mem (begins layout s (told_ask ask)) self.new) }
+            → (name ≡ asked_name s (ask_seen ask)) × Leaves layout mem (begins layout s (ask_seen ask)) self.new) }
         ensures refused { IfErr result (λ r. (layout : List Zone) (mem : ℕ) (s : LiveState)
-            → StandsLive layout mem self.old s → begins layout s (told_ask ask) ≡ Err r.why) }
+            → StandsLive layout mem self.old s → begins layout s (ask_seen ask) ≡ Err r.why) }
         ensures unchanged { IfErr result (λ r. (r.ask ≡ ask) × (self.new ≡ self.old)) }
     {
         let Some(i) = self.place_asked(&ask) else {
@@ -275,8 +274,7 @@ impl Live {
     }
 
     /// Makes the next store of a zone's flight. It is done with the last one: then no flight stands there, the told
-    /// list is
-    /// what the call means, and a dump's moves the cursor. Takes no memory.
+    /// list is what the call means, and a dump's moves the cursor. Takes no memory.
     pub fn step(&mut self, zone: ZoneName) -> Result<Step, Refusal>
         ensures stepped { IfOk result (λ step. (layout : List Zone) (mem : ℕ) (s : LiveState)
             → StandsLive layout mem self.old s → Leaves layout mem (steps layout s zone 1) self.new) }

@@ -12,7 +12,7 @@ ghost use Rattle.old_log.specs.Saving.{saved};
 ghost use Rattle.ram_core.specs.Stopped.{HasRoom};
 ghost use Rattle.ram_core.specs.Running.{IsRunning};
 ghost use Rattle.ram_core.specs.Resting.{IsResting};
-ghost use Rattle.ram_core.specs.Reports.{told_report};
+ghost use Rattle.ram_core.specs.Reports.{report_seen};
 ghost use Rattle.ram_core.specs.Booted.{Booted, BootedInPart};
 ghost use Rattle.std.specs.Vec.{vec_capacity};
 
@@ -241,12 +241,11 @@ impl Off {
         }
     }
 
-    /// Boots: each zone is read, its log saved and told against its told list, and its boot stores are made. All
-    /// memory is
-    /// taken before the first store; on a refusal the machine is as it was.
+    /// Boots: each zone is read, its log saved and told against its told list, and its boot stores are made. All memory
+    /// is taken before the first store; on a refusal the machine is as it was.
     pub fn boot(self) -> Result<(Live, Logs, Report), (Off, AllocError)>
         ensures booted { IfOk result (λ r. (layout : List AZone) (mem : ℕ) (s : OffState)
-            → StandsOff layout mem self s → Booted layout mem s r.0 (saved r.1) (map told_report r.2)) }
+            → StandsOff layout mem self s → Booted layout mem s r.0 (saved r.1) (map report_seen r.2)) }
         ensures sound { IsResting self }
         ensures refused { IfErr result (λ e. e.0 ≡ self) }
     {
@@ -267,8 +266,7 @@ impl Off {
 
     /// Makes the first `limit` stores of a boot, or all, and tells how many. Zones in front of the last store made are
     /// finished, and its own zone where that was its last; a zone within its erasure has that for its cut. All memory
-    /// is
-    /// taken before the first store; on a refusal the machine is as it was.
+    /// is taken before the first store; on a refusal the machine is as it was.
     pub fn boot_part(self, limit: u64) -> Result<(Off, u64), (Off, AllocError)>
         ensures parted { IfOk result (λ r. (layout : List AZone) (mem : ℕ) (s : OffState)
             → StandsOff layout mem self s → BootedInPart layout mem s limit r.0 r.1) }

@@ -6,7 +6,7 @@ ghost use Rattle.circular_buffer.specs.Buffer.{Buffer};
 ghost use Rattle.zone_spec.specs.declared.Pair.{Pair as APair};
 ghost use Rattle.zone_spec.specs.Verdicts.{verdict_of};
 ghost use Rattle.zone_spec.specs.Pairs.{header_seen as header_seen_in};
-ghost use Rattle.ram_core.specs.Reports.{told_cut, told_report, report_cut, report_zone};
+ghost use Rattle.ram_core.specs.Reports.{cut_seen, report_seen, report_cut, report_zone};
 
 use crate::Told;
 use crate::known::{HeldCut, KnownZone};
@@ -16,8 +16,7 @@ use std::marker::Model;
 use zone_spec::{CallKind, HeaderSeen, Pair, Verdict, Words, Zone, ZoneName};
 
 /// A call, or a boot's own erasure, that was cut: how many of its stores were made, which of its pairs the header
-/// reads,
-/// and the first and the last of each run of blocks that the whole call touches, rising.
+/// reads, and the first and the last of each run of blocks that the whole call touches, rising.
 #[derive(Drop)]
 pub struct Cut {
     pub kind: CallKind,
@@ -146,7 +145,7 @@ fn copy_runs(runs: &ArrayVec<(u32, u32), 2>) -> ArrayVec<(u32, u32), 2>
 }
 
 fn cut_of(zone: &Zone, reading: &Reading, cut: &HeldCut) -> Cut
-    ensures { told_cut result ≡ report_cut zone.now reading.now cut.now }
+    ensures { cut_seen result ≡ report_cut zone.now reading.now cut.now }
 {
     let words = reading.words;
     Cut {
@@ -161,7 +160,7 @@ fn cut_of(zone: &Zone, reading: &Reading, cut: &HeldCut) -> Cut
 /// What a boot tells of a zone, by its reading and by what was known of it.
 pub(crate) fn report_of(zone: &Zone, known: &KnownZone, reading: &Reading) -> ZoneReport
     requires { length reading.now.log < 2 ^ 32 }
-    ensures { told_report result ≡ report_zone zone.now known.now reading.now }
+    ensures { report_seen result ≡ report_zone zone.now known.now reading.now }
 {
     ZoneReport {
         name: zone.name,

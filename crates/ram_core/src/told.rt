@@ -2,7 +2,7 @@
 ghost use Rattle.std.specs.Prelude.{◌≡◌, ◌<◌, ◌≤◌, ◌-◌, [], ◌++◌, length, take, slice_index, IfOk};
 ghost use Rattle.circular_buffer.specs.Buffer.{buffer};
 ghost use Rattle.zone_spec.specs.Told.{last_items, told_after};
-ghost use Rattle.zone_flight.specs.Calls.{told_call};
+ghost use Rattle.zone_flight.specs.Calls.{call_seen};
 
 use circular_buffer::HeapCircularBuffer;
 use std::alloc::{AllocError, Global};
@@ -90,7 +90,7 @@ impl Told {
     /// What the call means for the list. Takes no memory.
     pub(crate) fn tell(&mut self, call: &Call)
         requires { 36 ≤ self.old.capacity }
-        ensures { self.new ≡ buffer (told_after self.old.capacity (told_call call.now) self.old.items)
+        ensures { self.new ≡ buffer (told_after self.old.capacity (call_seen call.now) self.old.items)
             self.old.capacity }
     {
         match call {

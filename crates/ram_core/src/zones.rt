@@ -5,7 +5,7 @@ ghost use Rattle.zone_spec.specs.Parts.{IsImage};
 ghost use Rattle.zone_spec.specs.Ring.{IsRingForm};
 ghost use Rattle.zone_spec.specs.Calls.{CanBegin};
 ghost use Rattle.zone_spec.specs.Told.{kind_of, told_after};
-ghost use Rattle.zone_flight.specs.Calls.{told_call};
+ghost use Rattle.zone_flight.specs.Calls.{call_seen};
 ghost use Rattle.zone_flight.specs.Flying.{Flying};
 ghost use Rattle.ram_region.specs.CutRegion.{span, with_span};
 ghost use Rattle.session_spec.specs.States.{LiveZone};
@@ -57,11 +57,11 @@ pub(crate) fn start(zone: Zone, span: &Span, held: &mut HeldZone, call: Call)
     requires image { IsImage zone span.now }
     requires ring { IsRingForm zone span.now held.old.told.items }
     requires idle { held.old.flight ≡ None }
-    requires can { CanBegin zone span.now (told_call call) }
+    requires can { CanBegin zone span.now (call_seen call) }
     ensures told { held.new.told ≡ held.old.told }
-    ensures flies { (f : Flying) → held.new.flight ≡ Some f → f.call ≡ told_call call }
+    ensures flies { (f : Flying) → held.new.flight ≡ Some f → f.call ≡ call_seen call }
     ensures begun { (live : LiveZone) → StandsForZone zone span.now held.old live
-        → StandsForZone zone span.now held.new (begun zone (told_call call) live) }
+        → StandsForZone zone span.now held.new (begun zone (call_seen call) live) }
 {
     let flight = Flight::begin(zone, span, call);
     if flight.left() > 0 {
@@ -79,8 +79,7 @@ pub enum Stored {
 }
 
 /// Makes the next store of the flight of a zone, whose bytes are span `i`. With the last one the flight is gone, and
-/// the
-/// list is told what the call means.
+/// the list is told what the call means.
 pub(crate) fn store_next(spans: &mut Spans, i: u32, held: &mut HeldZone) -> Option<Stored>
     requires has { i < length spans.old.spans }
     requires can { CanStore (span spans.old i) held.old.flight }

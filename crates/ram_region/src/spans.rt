@@ -159,8 +159,7 @@ impl Region {
     }
 
     /// Cuts the region, which has the layout's `mem` bytes, into a span for each zone. On a refusal the unchanged
-    /// region
-    /// comes back. The list of spans is the only memory taken.
+    /// region comes back. The list of spans is the only memory taken.
     pub fn cut(self, layout: &Layout) -> Result<Spans, (Region, AllocError)>
         requires { length self ≡ rounded (params_of layout.now).mem }
         ensures { MatchResult result (λ s. s ≡ cut_at (zones_of layout.now) self) (λ e. e.0 ≡ self) }

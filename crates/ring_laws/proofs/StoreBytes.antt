@@ -46,13 +46,13 @@ unfolding byte_stores
 byte_stores-all place [] h = tt
 byte_stores-all place (b ∷ bs) h = (one-byte b (h 0), byte_stores-all (place + 1) bs (λ i. h (suc i)))
 
--- a run of bytes
 -- what a call appends is of bytes
 abbrev pub HasCallBytes : Call → Type 0
 HasCallBytes (Append payload) = AreBytes payload
 HasCallBytes Erase = Unit {0}
 HasCallBytes (Dump line body) = AreBytes line × AreBytes body
 
+-- a run of bytes is of bytes
 abbrev pub HasBytes : Stage → Type 0
 HasBytes (Run place bytes) = AreBytes bytes
 HasBytes (ParityOf part) = Unit {0}

@@ -5,8 +5,8 @@
 ghost use Rattle.std.specs.Prelude.{◌≡◌, ◌≢◌, ◌+◌, ◌-◌, ◌/◌, ◌≤◌, ◌<◌, ◌↔◌, ℕ, ◌++◌, ◌∷◌, length, slice_index, take, drop, reverse, List, true, false, IsTrue, IfSome, IfNone, unwrap_or};
 ghost use Rattle.code_spec.specs.Field.{gf_add, gf_mul, gf_pow};
 ghost use Rattle.code_spec.specs.Code.{value_of, distance, nearest, parity_of};
-ghost use Rattle.code_spec.specs.Polynomials.{poly};
-ghost use Rattle.code_spec.specs.Series.{shift, one, Bytes};
+ghost use Rattle.code_laws.specs.Polynomials.{poly};
+ghost use Rattle.code_laws.specs.Series.{shift, one, Bytes};
 ghost use Rattle.code_laws.proofs.Symbols.{HasRoots, IsAdded};
 ghost use Rattle.rs_errors.specs.Decoding.{decoded_by, fixes_by};
 ghost use Rattle.rs_errors.specs.Places.{roots_of, gap_ratio};

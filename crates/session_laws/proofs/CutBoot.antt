@@ -26,7 +26,7 @@ use Rattle.damage_laws.proofs.Touched.{parity_length}
 use Rattle.ring_laws.proofs.PartWords.{part_word-IsWord, length-part_word}
 use Rattle.damage_laws.proofs.Within.{near_is}
 use Rattle.damage_laws.proofs.CutHeader.{header_toward, take-left}
-use Rattle.session_laws.proofs.Lists.{get-numbered}
+use Rattle.session_laws.proofs.Lists.{parted-at}
 use Rattle.ring_laws.specs.Laws.{ReadsTold}
 use Rattle.ring_laws.proofs.Laws.{finished_zone_reads_told}
 use Rattle.damage_laws.proofs.Corrections.{corrections_keep_reading}
@@ -406,7 +406,8 @@ cut_boot_leaves_rest layout mem off k lies memory =
     let e : ℕ = zones_end layout in
     let whole : AllByRecursion (Below (0 + e)) (image_boot_stores layout image) =
     stores_below image layout 0 (λ j y h. (lies.valid j y h).1 ∙ omega arith)
-    (λ j y h. stores_in y (lies.valid j y h).0 (zone_bytes y image) (memory_bytes layout mem lies image memory j y h)) in
+    (λ j y h. stores_in y (lies.valid j y h).0 (zone_bytes y image) (memory_bytes layout mem lies image memory j y h))
+    in
     let n : 0 + e ≡ e = omega arith in
     let below : AllByRecursion (Below e) ss = all-take (Below e) k (image_boot_stores layout image)
     (subst (λ m. AllByRecursion (Below m) (image_boot_stores layout image)) n whole) in
@@ -457,12 +458,10 @@ pub new_zone : (layout : List Zone) (off : OffState) (k i : ℕ) (z : Zone) (old
     old ≡ new
 new_zone layout off k i z old new hz ho hv =
     let image : List ℕ = off.image in
-    let r = get-numbered (λ (at : ℕ × (Zone × OffZone)). zone_parted at.1.0 (zone_bytes at.1.0 image)
-    (nat_le (boot_count layout image) k) (left_at layout image k at.0) at.1.1) 0 layout off.zones i z new hz hv in
+    let r = parted-at image (nat_le (boot_count layout image) k) layout k off.zones i z new hz hv in
     let same : r.0 ≡ old = (let e : Some r.0 ≡ Some old = sym r.1 ∙ ho in cc) in
-    let n_is : 0 + i ≡ i = omega arith in
-    ap₂ (λ n v. zone_parted z (zone_bytes z image) (nat_le (boot_count layout image) k) (left_at layout image k n) v)
-    (sym n_is) (sym same) ∙ r.2
+    ap (zone_parted z (zone_bytes z image) (nat_le (boot_count layout image) k) (left_at layout image k i)) (sym same)
+    ∙ r.2
 
 -- the tests of zone_parted
 done_is : (z : Zone) (now : List ℕ) (all : Bool) (n : ℕ) (old : OffZone)

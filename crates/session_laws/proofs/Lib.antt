@@ -10,5 +10,5 @@ pub mod Sessions
 pub mod Logs
 pub mod CutBoot
 pub mod Boots
-pub mod Headline
+pub mod LastWritten
 pub mod ZoneReads

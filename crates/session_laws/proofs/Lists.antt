@@ -3,13 +3,15 @@ use Rattle.std.proofs.Common.{◌≡◌, ◌≢◌, ℕ, zero, suc, ◌+◌, ◌
 use Rattle.std.specs.Prelude.{zip}
 use Rattle.std.specs.List.{list_any}
 use Rattle.std.proofs.lemmas.Bool.{cases_lt}
-use Rattle.std.proofs.lemmas.List.{get_or_append_left, get_or-append_right}
+use Rattle.std.proofs.lemmas.List.{get_or_append_left, get_or-append_right, length-map}
 use Rattle.std.proofs.lemmas.List.Sums.{sum_by-cons}
 use Rattle.zone_spec.specs.declared.Zone.{Zone}
-use Rattle.session_spec.specs.States.{LiveZone}
+use Rattle.zone_spec.specs.Stores.{Store}
+use Rattle.zone_spec.specs.Boot.{boot_stores}
+use Rattle.session_spec.specs.States.{LiveZone, OffZone}
 use Rattle.zone_spec.specs.Layouts.{zones_end}
-use Rattle.session_spec.specs.Zones.{EachZone}
-use Rattle.session_spec.specs.BootPart.{numbered_from}
+use Rattle.session_spec.specs.Zones.{EachZone, zone_bytes}
+use Rattle.session_spec.specs.BootPart.{moved, image_boot_stores, zone_parted, left_at, zones_parted}
 use Rattle.zone_spec.specs.Parts.{AreBytes, IsImage}
 
 pub get-set : {X : Type 0} (xs : List X) (i j : ℕ) (x y : X) → slice_get (set xs i x) j ≡ Some y
@@ -42,25 +44,42 @@ length-zip-map f [] ys e = refl
 length-zip-map f (u ∷ us) [] e = absurd (omega arith)
 length-zip-map f (u ∷ us) (v ∷ vs) e = ap suc (length-zip-map f us vs (omega arith))
 
-pub get-numbered : {X Y W : Type 0} (f : ℕ × (X × Y) → W) (n : ℕ) (xs : List X) (ys : List Y) (i : ℕ) (x : X) (w : W)
-    → slice_get xs i ≡ Some x → slice_get (map f (numbered_from n (zip xs ys))) i ≡ Some w
-    → (y : Y) × (slice_get ys i ≡ Some y) × (f (n + i, (x, y)) ≡ w)
-unfolding numbered_from
-get-numbered f n [] ys i x w e h = let b : Some x ≡ None = sym e in cc
-get-numbered f n (u ∷ us) [] i x w e h = let b : Some w ≡ None = sym h in cc
-get-numbered f n (u ∷ us) (v ∷ vs) zero x w e h =
-    let a : u ≡ x = cc in let b : f (n, (u, v)) ≡ w = cc in
-    (v, refl, (let m : n + 0 ≡ n = omega arith in ap (λ k. f (k, (x, v))) m) ∙ ap (λ t. f (n, (t, v))) (sym a) ∙ b)
-get-numbered f n (u ∷ us) (v ∷ vs) (suc i) x w e h =
-    let r = get-numbered f (suc n) us vs i x w e h in
-    (r.0, r.1, (let m : n + suc i ≡ suc n + i = omega arith in ap (λ k. f (k, (x, r.0))) m) ∙ r.2)
+-- of the zones that a cut boot leaves the i-th has what is left of the stores after those of the zones before it
+pub parted-at : (image : List ℕ) (all : Bool) (layout : List Zone) (left : ℕ) (zones : List OffZone) (i : ℕ)
+    (z : Zone) (w : OffZone) → slice_get layout i ≡ Some z
+    → slice_get (zones_parted layout image all left zones) i ≡ Some w
+    → (y : OffZone) × (slice_get zones i ≡ Some y)
+    × (zone_parted z (zone_bytes z image) all (left_at layout image left i) y ≡ w)
+unfolding zones_parted
+parted-at image all [] left ys i z w e h = let b : Some z ≡ None = sym e in cc
+parted-at image all (u ∷ us) left [] i z w e h = let b : Some w ≡ None = sym h in cc
+parted-at image all (u ∷ us) left (v ∷ vs) zero z w e h =
+    let a : u ≡ z = cc in
+    let b : zone_parted u (zone_bytes u image) all left v ≡ w = cc in
+    let m : left_at (u ∷ us) image left 0 ≡ left = omega arith in (
+      v,
+      refl,
+      ap (λ n. zone_parted z (zone_bytes z image) all n v) m
+          ∙ ap (λ t. zone_parted t (zone_bytes t image) all left v) (sym a) ∙ b,
+    )
+parted-at image all (u ∷ us) left (v ∷ vs) (suc i) z w e h =
+    let own : List Store = boot_stores u (zone_bytes u image) in
+    let r = parted-at image all us (left - length own) vs i z w e h in
+    let m : left_at (u ∷ us) image left (suc i) ≡ left_at us image (left - length own) i =
+    omega (
+      arith,
+      length-append (map (λ s. moved u.at s) own) (image_boot_stores (take i us) image),
+      length-map own (λ s. moved u.at s),
+    ) in
+    (r.0, r.1, ap (λ n. zone_parted z (zone_bytes z image) all n r.0) m ∙ r.2)
 
-pub length-numbered : {X Y W : Type 0} (f : ℕ × (X × Y) → W) (n : ℕ) (xs : List X) (ys : List Y)
-    → length ys ≡ length xs → length (map f (numbered_from n (zip xs ys))) ≡ length xs
-unfolding numbered_from
-length-numbered f n [] ys e = refl
-length-numbered f n (u ∷ us) [] e = absurd (omega arith)
-length-numbered f n (u ∷ us) (v ∷ vs) e = ap suc (length-numbered f (suc n) us vs (omega arith))
+pub length-parted : (image : List ℕ) (all : Bool) (layout : List Zone) (left : ℕ) (zones : List OffZone)
+    → length zones ≡ length layout → length (zones_parted layout image all left zones) ≡ length layout
+unfolding zones_parted
+length-parted image all [] left zones e = refl
+length-parted image all (u ∷ us) left [] e = absurd (omega arith)
+length-parted image all (u ∷ us) left (v ∷ vs) e = ap suc
+    (length-parted image all us (left - length (boot_stores u (zone_bytes u image))) vs (omega arith))
 
 -- what is of each zone of a list and of what a function makes of it
 pub each-zip-map : {X Y : Type 0} (layout : List Zone) (xs : List X) (P : Zone → X → Type 0) (Q : Zone → Y → Type 0)

@@ -16,7 +16,7 @@ use Rattle.session_spec.specs.Zones.{zone_bytes}
 use Rattle.session_spec.specs.States.{OffZone, OffState, Off}
 use Rattle.session_spec.specs.BootPart.{moved, image_boot_stores, boot_count, boot_cut, zone_finished, zone_cut, zone_parted, left_at, boot_parted}
 use Rattle.session_spec.specs.Sound.{IsOffZone, IsState}
-use Rattle.session_laws.proofs.Lists.{get-numbered, length-numbered}
+use Rattle.session_laws.proofs.Lists.{parted-at, length-parted}
 use Rattle.session_laws.proofs.OffStates.{off_bytes}
 
 module _ (layout : List Zone) (mem : ℕ) (lies : IsLayout layout mem) where
@@ -82,16 +82,12 @@ module _ (layout : List Zone) (mem : ℕ) (lies : IsLayout layout mem) where
       → IsState layout mem (Off (boot_parted layout count off))
   parted-state count off state = record {
     zones = (
-      length-numbered (λ (at : ℕ × (Zone × OffZone)). zone_parted at.1.0 (zone_bytes at.1.0 off.image)
-          (nat_le (boot_count layout off.image) count) (left_at layout off.image count at.0) at.1.1)
-          0 layout off.zones state.zones.0,
+      length-parted off.image (nat_le (boot_count layout off.image) count) layout count off.zones state.zones.0,
       λ i z v hz hv.
-          let r = get-numbered (λ (at : ℕ × (Zone × OffZone)). zone_parted at.1.0 (zone_bytes at.1.0 off.image)
-          (nat_le (boot_count layout off.image) count) (left_at layout off.image count at.0) at.1.1)
-          0 layout off.zones i z v hz hv in
+          let r = parted-at off.image (nat_le (boot_count layout off.image) count) layout count off.zones i z v hz hv in
           subst (IsOffZone z) r.2 (zone_parted-sound z (lies.valid i z hz).0 (zone_bytes z off.image)
           (off_bytes layout mem lies off state i z hz) (nat_le (boot_count layout off.image) count)
-          (left_at layout off.image count (0 + i)) r.0 (state.zones.1 i z r.0 hz r.1)),
+          (left_at layout off.image count i) r.0 (state.zones.1 i z r.0 hz r.1)),
     );
     image = (
       length-after_stores off.image (take count (image_boot_stores layout off.image)) ∙ state.image.0,

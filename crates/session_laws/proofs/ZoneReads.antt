@@ -9,7 +9,7 @@ use Rattle.session_spec.specs.Sound.{IsOffZone}
 use Rattle.damage_laws.proofs.Within.{part_reads, idle_zone_reads_told}
 use Rattle.session_laws.specs.ZoneReads.{ReadsZone, SoundStateReadsZones}
 use Rattle.session_laws.proofs.OffStates.{off_bytes}
-use Rattle.session_laws.proofs.Headline.{zone_reads}
+use Rattle.session_laws.proofs.LastWritten.{zone_reads}
 use Rattle.session_laws.proofs.Sessions.{zone_undamaged}
 use Rattle.session_laws.proofs.Boots.{zone_cuts, zone_reports}
 

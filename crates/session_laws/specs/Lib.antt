@@ -3,3 +3,4 @@ pub mod Logs
 pub mod Boots
 pub mod ZoneReads
 pub mod CutBoots
+pub mod Headline

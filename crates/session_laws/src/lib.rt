@@ -1,5 +1,5 @@
-//! The laws of sessions: what holds of every state, what logs and records are made of, and what a cut boot leaves. Each
-//! law is a function whose contract it is.
+//! The laws of sessions: what holds of every state, what logs and records are made of, what a cut boot leaves, and the
+//! headline. Each law is a function whose contract it is.
 #![tactic(auto)]
 
 ghost use Rattle.session_laws.specs.Sessions.{ImageIsZonesAndRest, FreshIsSound, OperationsKeepStatesSound, StatesAreSound, AppendsTellLastBytes, UndamagedReadsTold, FlipChangesOneByte};
@@ -7,6 +7,7 @@ ghost use Rattle.session_laws.specs.Logs.{LogBytesCome, UnsignedAddsNothing, Not
 ghost use Rattle.session_laws.specs.Boots.{VerdictIsExact, ReportIsExact, CutZonesRead};
 ghost use Rattle.session_laws.specs.ZoneReads.{SoundStateReadsZones};
 ghost use Rattle.session_laws.specs.CutBoots.{CutBootMakesStores, CutBootLeavesRest, CutBootHolds, CutBootReads, CutBootKeepsStops};
+ghost use Rattle.session_laws.specs.Headline.{Headline, SoundStateReadsLastWritten};
 
 /// An image is its zones' bytes end to end, and the bytes behind them.
 pub fn image_is_zones_and_rest()
@@ -24,8 +25,7 @@ pub fn operations_keep_states_sound()
 {}
 
 /// Every state that a session reaches is sound: live zones hold what they were told or a flight's image, and so did
-/// each
-/// zone at its stop.
+/// each zone at its stop.
 pub fn states_are_sound()
     ensures { StatesAreSound }
 {}
@@ -103,4 +103,15 @@ pub fn cut_boot_reads()
 /// A cut boot leaves what is held of a zone, or its end becomes the zone's stop.
 pub fn cut_boot_keeps_stops()
     ensures { CutBootKeepsStops }
+{}
+
+/// When a session's machine is off, each idle zone within bounds reads the last bytes written since its erasure that
+/// fit, and in a zone whose call a stop cut only touched blocks and the header, both reported, make a difference.
+pub fn headline()
+    ensures { Headline }
+{}
+
+/// The same of every sound state.
+pub fn sound_state_reads_last_written()
+    ensures { SoundStateReadsLastWritten }
 {}

@@ -1,5 +1,5 @@
 -- A boot that is cut after some of its stores: told lists, cuts and stops of each zone
-use Rattle.std.specs.Prelude.{ℕ, suc, ◌+◌, ◌-◌, ◌<◌, min, Bool, true, ◌&&◌, ◌||◌, if◌then◌else◌, nat_lt, nat_le, List, [], ◌∷◌, length, take, map, flat_map, zip, Some, None}
+use Rattle.std.specs.Prelude.{ℕ, ◌+◌, ◌-◌, ◌<◌, min, Bool, true, ◌&&◌, ◌||◌, if◌then◌else◌, nat_lt, nat_le, List, [], ◌∷◌, length, take, map, flat_map, Some, None}
 use Rattle.zone_spec.specs.declared.Zone.{Zone}
 use Rattle.zone_spec.specs.declared.CallKind.TheVariants.{Erase}
 use Rattle.zone_spec.specs.Parts.{Header, part_word}
@@ -66,10 +66,14 @@ zone_parted z bytes all count zone =
 abbrev pub left_at : List Zone → List ℕ → ℕ → ℕ → ℕ
 left_at layout image count i = count - boot_count (take i layout) image
 
--- the items from the i-th on, each with its place
-unfoldable pub numbered_from : {A : Type 0} → ℕ → List A → List (ℕ × A)
-numbered_from i [] = []
-numbered_from i (x ∷ xs) = (i, x) ∷ numbered_from (suc i) xs
+-- the zones in layout order, where so many of the stores made are left for them: each has its own, and what
+-- is then left is for those after it
+unfoldable pub zones_parted : List Zone → List ℕ → Bool → ℕ → List OffZone → List OffZone
+zones_parted [] image all left zones = []
+zones_parted (z ∷ layout) image all left [] = []
+zones_parted (z ∷ layout) image all left (zone ∷ zones) =
+    zone_parted z (zone_bytes z image) all left zone
+    ∷ zones_parted layout image all (left - length (boot_stores z (zone_bytes z image))) zones
 
 -- how many stores a boot makes that is cut after count of them
 abbrev pub boot_made : List Zone → ℕ → OffState → ℕ
@@ -79,7 +83,5 @@ boot_made layout count off = min count (boot_count layout off.image)
 abbrev pub boot_parted : List Zone → ℕ → OffState → OffState
 boot_parted layout count off = record {
   image = after_stores off.image (take count (image_boot_stores layout off.image));
-  zones = map (λ (at : ℕ × (Zone × OffZone)). zone_parted at.1.0 (zone_bytes at.1.0 off.image)
-      (nat_le (boot_count layout off.image) count) (left_at layout off.image count at.0) at.1.1)
-      (numbered_from 0 (zip layout off.zones));
+  zones = zones_parted layout off.image (nat_le (boot_count layout off.image) count) count off.zones;
 }

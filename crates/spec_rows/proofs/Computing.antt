@@ -15,7 +15,7 @@ use Rattle.zone_spec.specs.Boot.{fix_stores, boot_fixes, boot_erasure, boot_stor
 use Rattle.zone_spec.specs.Pairs.{pairs_from}
 use Rattle.zone_spec.specs.Touched.{touched_by, runs_of}
 use Rattle.zone_spec.specs.Windows.{words_after, windows_from, window_at}
-use Rattle.session_spec.specs.BootPart.{numbered_from}
+use Rattle.session_spec.specs.BootPart.{zones_parted}
 use Rattle.session_spec.specs.Operations.{session_after, causes}
 use Rattle.spec_rows.specs.Shown.{answers}
 
@@ -23,7 +23,7 @@ use Rattle.spec_rows.specs.Shown.{answers}
 unfoldable pub computing : ℕ
 unfolding digits power_within rounded zones_from layout_of zone_reading part_reading part_word part_bytes nearest
     is_codeword distance call_stores stores_in_turn stage_stores byte_stores after_stores put boot_fixes boot_erasure
-    boot_stores fix_stores read_line pairs_from touched_by runs_of words_after windows_from window_at numbered_from
+    boot_stores fix_stores read_line pairs_from touched_by runs_of words_after windows_from window_at zones_parted
     session_after causes answers value_of gf_add gf_mul gf_pow
 computing = 0
 

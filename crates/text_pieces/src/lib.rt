@@ -2,7 +2,7 @@
 #![tactic(auto)]
 
 ghost use Rattle.std.specs.Prelude.{◌≡◌, ◌++◌, decimal, OnOk};
-ghost use Rattle.box_script.specs.Printed.{zone_text};
+ghost use Rattle.grammar_spec.specs.Printed.{zone_text};
 
 use itoa::Buffer;
 use std::alloc::AllocError;

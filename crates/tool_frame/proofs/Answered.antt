@@ -4,7 +4,7 @@ use Rattle.std.proofs.lemmas.Grind.{common_steps}
 use Rattle.std.proofs.Math.Seq.{take-append-add}
 use Rattle.std.specs.Io.KnownBytes.{Appends}
 use Rattle.box_io.specs.Outside.{AppendsFront}
-use Rattle.box_script.specs.Fields.{Text}
+use Rattle.grammar_spec.specs.Fields.{Text}
 use Rattle.tool_spec.specs.Ends.{End, status_of, last_line}
 use Rattle.tool_spec.specs.Commands.{Wanted}
 use Rattle.tool_spec.specs.Answers.{Outside, Later, NoScript, NoImage, RoseFor, front, whole, WritesAll, WritesSome, IsFree, PutFront, SavedInPart, CanStop, Answers}
@@ -185,7 +185,8 @@ module _ (a m b : Outside) (on : GoesOn a m b) where
     answers_unread : Caused a m (Err ImageFault) → m.given ≡ a.given → m.holds ≡ a.holds
         → LastPut ImageFault m.given b.given m.sink_faults b.sink_faults status → Answers w a b status
     answers_unread caused quiet kept last =
-        let free : status ≡ 6 → IsFree a b status = λ six. inr (inr (inl (six, rose_on ImageFault caused last.later))) in
+        let free : status ≡ 6 → IsFree a b status = λ six. inr (inr (inl (six, rose_on ImageFault caused last.later)))
+        in
         last_front ImageFault 0 tt caused (none_put quiet) kept last (λ six put. record {
           exact = inr (free six);
           done = λ z. absurd (omega arith);
@@ -212,7 +213,8 @@ module _ (a m b : Outside) (on : GoesOn a m b) where
         → WritesSome w.writes a.holds m.holds → LastPut ImageFault m.given b.given m.sink_faults b.sink_faults status
         → Answers w a b status
     answers_unwritten caused e puts wrote last =
-        let free : status ≡ 6 → IsFree a b status = λ six. inr (inr (inl (six, rose_on ImageFault caused last.later))) in
+        let free : status ≡ 6 → IsFree a b status = λ six. inr (inr (inl (six, rose_on ImageFault caused last.later)))
+        in
         elim last.shown [
           | inl h ↦ record {
             exact = inr (free h.0);

@@ -3,9 +3,9 @@ use Rattle.std.proofs.Common.{◌≡◌, ℕ, ◌+◌, ◌≤◌, Bool, true, fa
 use Rattle.std.specs.List.{slice_split}
 use Rattle.std.proofs.lemmas.List.Splits.{length-slice_split}
 use Rattle.std.proofs.lemmas.List.Sums.{count_by-le-length}
-use Rattle.box_script.specs.Fields.{Text}
-use Rattle.box_script.specs.Lines.{script_of, lines_from, with_line, line_of}
-use Rattle.box_script.specs.declared.line.Line.{Line}
+use Rattle.grammar_spec.specs.Fields.{Text}
+use Rattle.grammar_spec.specs.Lines.{script_of, lines_from, with_line, line_of}
+use Rattle.grammar_spec.specs.declared.line.Line.{Line}
 
 -- a line in front of others, where both were read
 read_both : (o : Option Line) (n : ℕ) (others : Result (List Line) ℕ) (lines : List Line)

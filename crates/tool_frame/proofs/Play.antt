@@ -8,8 +8,8 @@ use Rattle.std.specs.Io.KnownBytes.{Appends}
 use Rattle.box_io.specs.Outside.{AppendsFront}
 use Rattle.zone_spec.specs.declared.Zone.{Zone}
 use Rattle.session_spec.specs.States.{Session}
-use Rattle.box_script.specs.Fields.{Text}
-use Rattle.box_script.specs.declared.line.Line.{Line}
+use Rattle.grammar_spec.specs.Fields.{Text}
+use Rattle.grammar_spec.specs.declared.line.Line.{Line}
 use Rattle.tool_spec.specs.Scripts.{Done, Ran, ran, ran_on, next_line, started, line_done}
 use Rattle.tool_spec.specs.Commands.{script_end}
 use Rattle.tool_spec.specs.Answers.{front, whole}
@@ -192,7 +192,8 @@ still_done : (layout : List Zone) (lines : List Line) (r : Ran) → (fold (next_
     → r.refused ≡ None
 still_done layout [] r h = h
 still_done layout (line ∷ lines) r h =
-    refused_stays r (line_done layout r.session line) r.refused refl (still_done layout lines (next_line layout r line) h)
+    refused_stays r (line_done layout r.session line) r.refused refl
+    (still_done layout lines (next_line layout r line) h)
 
 take_done : (layout : List Zone) (lines : List Line) (k : ℕ) (r : Ran)
     → (fold (next_line layout) r lines).refused ≡ None → (fold (next_line layout) r (take k lines)).refused ≡ None

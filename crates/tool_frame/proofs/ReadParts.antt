@@ -1,8 +1,8 @@
 -- How the stages of a command that reads an image of a size and then a script end, as far as each is told alone
 use Rattle.std.proofs.Common.{◌≡◌, ℕ, ◌<◌, ◌≤◌, List, length, Option, Some, Ok, Err, IfSome, refl, sym, arith, inl, inr, IsOk}
 use Rattle.std.specs.Io.KnownBytes.{IsAtEnd}
-use Rattle.box_script.specs.Lines.{script_of}
-use Rattle.box_script.specs.declared.line.Line.{Line}
+use Rattle.grammar_spec.specs.Lines.{script_of}
+use Rattle.grammar_spec.specs.declared.line.Line.{Line}
 use Rattle.tool_spec.specs.Commands.{script_limit}
 use Rattle.tool_spec.specs.Answers.{Outside, IfHolds, NoScript}
 use Rattle.tool_spec.specs.declared.Cause.{Cause}

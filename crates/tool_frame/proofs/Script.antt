@@ -6,8 +6,8 @@ use Rattle.box_io.specs.Outside.{Writes, WritesFront}
 use Rattle.zone_spec.specs.declared.Zone.{Zone}
 use Rattle.session_spec.specs.States.{Session}
 use Rattle.session_spec.specs.Stop.{session_image}
-use Rattle.box_script.specs.Lines.{script_of}
-use Rattle.box_script.specs.declared.line.Line.{Line}
+use Rattle.grammar_spec.specs.Lines.{script_of}
+use Rattle.grammar_spec.specs.declared.line.Line.{Line}
 use Rattle.tool_spec.specs.Ends.{End}
 use Rattle.tool_spec.specs.Scripts.{ran}
 use Rattle.tool_spec.specs.Commands.{RunScript, Plan, Wanted, wanted, wanted_run, wanted_script, wanted_lines, mem_of, stops, script_limit}

@@ -1,8 +1,8 @@
 -- What the tool answers for each command, from how its work ended and what the last line left
 use Rattle.std.proofs.Common.{◌≡◌, ◌≢◌, ◌⊎◌, true, false, ℕ, ◌<◌, ◌≤◌, List, [], ◌++◌, length, take, Option, Result, Ok, Err, refl, sym, ap, ◌∙◌, arith, inl, inr, append_assoc, IsOk}
 use Rattle.std.specs.Io.KnownBytes.{Appends, IsAtEnd}
-use Rattle.box_script.specs.Lines.{script_of}
-use Rattle.box_script.specs.Fields.{Text}
+use Rattle.grammar_spec.specs.Lines.{script_of}
+use Rattle.grammar_spec.specs.Fields.{Text}
 use Rattle.tool_spec.specs.Ends.{End, status_of, last_line}
 use Rattle.tool_spec.specs.Commands.{Command, RunScript, ListRecords, ExtractRecord, EraseRecord, ShowLayout, BlankImage, MakeImage, Plan, Wanted, wanted, mem_of, script_limit}
 use Rattle.tool_spec.specs.Answers.{Outside, NoScript, NoImage, RoseFor, PutsAll, IsFree, SavedInPart, ShortAnswers, ScriptAnswers, ScriptUse, ScriptRead, RunAnswers, MakeAnswers, PlanAnswers, FaultAnswers, ToolAnswers, whole, statuses, IsAmong}
@@ -52,7 +52,8 @@ module _ (a m b : Outside) (on : GoesOn a m b) (status : ℕ) where
 
   -- text that was put by the end of the work, and the last line; or the output failed
   put_after : (s : Stop) (n : ℕ) → status_of (Err s) ≡ n → n ≢ 7 → m.given ≡ a.given
-      → LastPut s m.given b.given m.sink_faults b.sink_faults status → status ≡ n → Appends a.given b.given (last_line s)
+      → LastPut s m.given b.given m.sink_faults b.sink_faults status → status ≡ n → Appends a.given b.given
+      (last_line s)
   put_after s n is seven quiet f here = elim f.shown [
     | inl h ↦ rw quiet at h.1
     | inr h ↦ absurd (seven (sym here ∙ h.0))

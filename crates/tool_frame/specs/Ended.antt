@@ -2,8 +2,8 @@
 use Rattle.std.specs.Prelude.{◌≡◌, ◌⊎◌, ⊤, ℕ, ◌≤◌, ◌<◌, List, [], length, Option, Result, Ok, Err, IsOk}
 use Rattle.std.specs.Io.KnownBytes.{Appends, IsAtEnd}
 use Rattle.box_io.specs.Outside.{Rose, AppendsFront}
-use Rattle.box_script.specs.Fields.{Text}
-use Rattle.box_script.specs.Lines.{script_of}
+use Rattle.grammar_spec.specs.Fields.{Text}
+use Rattle.grammar_spec.specs.Lines.{script_of}
 use Rattle.tool_spec.specs.Ends.{End, status_of}
 use Rattle.tool_spec.specs.Commands.{Command, RunScript, ListRecords, ExtractRecord, EraseRecord, ShowLayout, BlankImage, MakeImage, Plan, Wanted, wanted, mem_of, script_limit}
 use Rattle.tool_spec.specs.Answers.{Outside, IfHolds, IfLeft, IfTold, NoScript, NoImage, front, whole, WritesAll, WritesSome, PutsAll, statuses, IsAmong}

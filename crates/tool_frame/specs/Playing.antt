@@ -4,7 +4,7 @@ use Rattle.std.specs.Io.KnownBytes.{Appends}
 use Rattle.box_io.specs.Outside.{Rose}
 use Rattle.zone_spec.specs.declared.Zone.{Zone}
 use Rattle.session_spec.specs.States.{Session}
-use Rattle.box_script.specs.declared.line.Line.{Line}
+use Rattle.grammar_spec.specs.declared.line.Line.{Line}
 use Rattle.tool_spec.specs.Scripts.{ran}
 use Rattle.tool_spec.specs.Commands.{script_end}
 use Rattle.tool_spec.specs.Answers.{whole}

@@ -2,8 +2,8 @@
 ghost use Rattle.std.specs.Prelude.{◌≡◌, replicate, ℕ, ◌+◌, ◌-◌, ◌<◌, ◌≤◌, ◌^◌, List, [], ◌++◌, length, take, vec_len, None, Ok, IfOk, IfErr, OnOk, IfSome, MatchResult, MatchOption};
 ghost use Rattle.std.specs.Io.KnownBytes.{IsAtEnd, Appends};
 ghost use Rattle.box_io.specs.Outside.{HasCause, Writes, WritesFront};
-ghost use Rattle.box_script.specs.Lines.{script_of};
-ghost use Rattle.box_script.specs.Printed.{AllHaveFields};
+ghost use Rattle.grammar_spec.specs.Lines.{script_of};
+ghost use Rattle.grammar_spec.specs.Printed.{AllHaveFields};
 ghost use Rattle.tool_spec.specs.Commands.{script_limit};
 ghost use Rattle.tool_frame.specs.Stages.{ScriptStop, SizeStop, LoadStop, ParseStop};
 

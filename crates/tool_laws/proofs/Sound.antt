@@ -13,10 +13,10 @@ use Rattle.session_spec.specs.Sound.{IsState, IsOperation}
 use Rattle.session_spec.specs.Erasures.{saved_logs}
 use Rattle.session_spec.specs.Operations.{Operation, operated, left_by, EraseRecord, Cause as SessionCause}
 use Rattle.session_laws.proofs.Operations.{fresh_is_sound, operations_keep_states_sound}
-use Rattle.box_script.specs.declared.line.Line.{Line}
-use Rattle.box_script.specs.declared.line.Line.TheVariants.{Blank, Write, Dump, BeginWrite, BeginErase, BeginDump, Step, Finish, Stop, Flip, Boot, BootPart, List as ListLine, Extract, Erase, KDump, CutAfter}
-use Rattle.box_script.specs.Fields.{Text}
-use Rattle.box_script.specs.Printed.{HasFields, AllHaveFields, IsPayload}
+use Rattle.grammar_spec.specs.declared.line.Line.{Line}
+use Rattle.grammar_spec.specs.declared.line.Line.TheVariants.{Blank, Write, Dump, BeginWrite, BeginErase, BeginDump, Step, Finish, Stop, Flip, Boot, BootPart, List as ListLine, Extract, Erase, KDump, CutAfter}
+use Rattle.grammar_spec.specs.Fields.{Text}
+use Rattle.grammar_spec.specs.Printed.{HasFields, AllHaveFields, IsPayload}
 use Rattle.tool_spec.specs.Scripts.{Done, Ran, ran, ran_on, next_line, started, line_done, does, done_or_refused, named, lists, extracts, extracts_of, erases, erases_of, put_by}
 use Rattle.tool_spec.specs.declared.Cause.{Cause}
 

@@ -4,8 +4,8 @@ use Rattle.zone_spec.specs.declared.Zone.{Zone}
 use Rattle.zone_spec.specs.Parts.{AreBytes}
 use Rattle.zone_spec.specs.Layouts.{IsLayout}
 use Rattle.session_spec.specs.Sound.{IsState}
-use Rattle.box_script.specs.declared.line.Line.{Line}
-use Rattle.box_script.specs.Printed.{AllHaveFields}
+use Rattle.grammar_spec.specs.declared.line.Line.{Line}
+use Rattle.grammar_spec.specs.Printed.{AllHaveFields}
 use Rattle.tool_spec.specs.Scripts.{ran}
 use Rattle.tool_spec.specs.Headline.{ScriptReadsLastWritten}
 

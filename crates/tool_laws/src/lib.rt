@@ -1,8 +1,9 @@
-//! The laws of scripts. Each law is a function whose contract it is.
+//! The laws of scripts, of either store. Each law is a function whose contract it is.
 #![tactic(auto)]
 
 ghost use Rattle.tool_laws.specs.Steps.{StepsAddUp, StepsEnd, CallsKeepLogs, NoStepsLeaveState, FinishIsSteps, MakeIsBeginAndSteps};
 ghost use Rattle.tool_laws.specs.Scripts.{ScriptStatesAreSound, ScriptsReadLastWritten};
+ghost use Rattle.tool_laws.specs.BlkScripts.{ScriptsAreSessions, EveryBootListsReading, WholeScriptListsTold, EarlyCutScriptListsBefore};
 
 /// Every state that a script leads to is sound.
 pub fn script_states_are_sound()
@@ -10,8 +11,7 @@ pub fn script_states_are_sound()
 {}
 
 /// At each boot of a script each idle zone within bounds reads the last bytes written since its erasure that fit, and
-/// in a
-/// zone whose call a stop cut only touched blocks and the header, both reported, make a difference.
+/// in a zone whose call a stop cut only touched blocks and the header, both reported, make a difference.
 pub fn scripts_read_last_written()
     ensures { ScriptsReadLastWritten }
 {}
@@ -44,4 +44,27 @@ pub fn finish_is_steps()
 /// A call is made by its begin and the steps that are left.
 pub fn make_is_begin_and_steps()
     ensures { MakeIsBeginAndSteps }
+{}
+
+/// A script on the block store is the session of its lines' operations.
+pub fn scripts_are_sessions()
+    ensures { ScriptsAreSessions }
+{}
+
+/// After any lines of a script on the block store, a boot lists the reading of the store's bytes as they then stand.
+pub fn every_boot_lists_reading()
+    ensures { EveryBootListsReading }
+{}
+
+/// Where no byte was dropped since the last boot, the next one lists of each ring the last bytes that the script's
+/// lines told it since then, or since its erasure where that came later, as many as the ring holds.
+pub fn whole_script_lists_told()
+    ensures { WholeScriptListsTold }
+{}
+
+/// Where the first line that is cut since the last boot is a `write` to a ring that is not full, and the cut falls
+/// among its data bytes before its first header, the next boot lists of that ring what it would have listed before that
+/// line.
+pub fn early_cut_script_lists_before()
+    ensures { EarlyCutScriptListsBefore }
 {}

@@ -1,12 +1,12 @@
 -- A word whose unfolding unfolds what a row computes with
 use Rattle.std.specs.Prelude.{ℕ}
 use Rattle.hex.specs.Hex.{decode_pairs}
-use Rattle.param_words.specs.Numbers.{number_of}
-use Rattle.param_words.specs.Words.{first_fault, value_text, given}
-use Rattle.box_script.specs.Fields.{number_below, zone_at, ring, zone, payload, flag, reason, name}
-use Rattle.box_script.specs.Groups.{ring_hex, time_flag_hex, one_zone, one_number, one_name}
-use Rattle.box_script.specs.Rows.{step_line, flip_line, kdump_line, begin_row, begin_line, plain_row, row, lone_word}
-use Rattle.box_script.specs.Lines.{line_of, lines_from, script_of}
+use Rattle.grammar_spec.specs.Numbers.{number_of}
+use Rattle.grammar_spec.specs.Words.{first_fault, value_text, given}
+use Rattle.grammar_spec.specs.Fields.{number_below, zone_at, ring, zone, payload, flag, reason, name}
+use Rattle.grammar_spec.specs.Groups.{ring_hex, time_flag_hex, one_zone, one_number, one_name}
+use Rattle.grammar_spec.specs.Rows.{step_line, flip_line, kdump_line, begin_row, begin_line, plain_row, row, lone_word}
+use Rattle.grammar_spec.specs.Lines.{line_of, lines_from, script_of}
 use Rattle.spec_rows.proofs.Computing.{computing_all}
 use Rattle.tool_spec.specs.Scripts.{line_done}
 use Rattle.tool_spec.specs.Generated.{draw, draws}

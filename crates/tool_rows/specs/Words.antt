@@ -2,9 +2,9 @@
 use Rattle.std.specs.Prelude.{ℕ, List, [], ◌++◌, ◌==◌, length, codes, flat_map, Result, Ok, Err}
 use Rattle.std.specs.List.{slice_split}
 use Rattle.blk_spec.specs.declared.BlkLayout.{BlkLayout}
-use Rattle.box_script.specs.Fields.{Text}
-use Rattle.box_script.specs.declared.line.Line.{Line}
-use Rattle.box_script.specs.Lines.{script_of}
+use Rattle.grammar_spec.specs.Fields.{Text}
+use Rattle.grammar_spec.specs.declared.line.Line.{Line}
+use Rattle.grammar_spec.specs.Lines.{script_of}
 use Rattle.tool_spec.specs.Ends.{End, status_of, last_line}
 use Rattle.tool_spec.specs.Commands.{Plan, plan_of, Wanted, wanted, script_end}
 use Rattle.tool_spec.specs.BlkScripts.{BlkRan, blk_ran}

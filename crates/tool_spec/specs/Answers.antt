@@ -3,8 +3,8 @@ use Rattle.std.specs.Prelude.{◌≡◌, ◌≢◌, ◌⊎◌, ⊤, ℕ, ◌≤�
 use Rattle.std.specs.List.{list_any}
 use Rattle.std.specs.Io.KnownBytes.{Appends, IsAtEnd}
 use Rattle.box_io.specs.Outside.{Rose, AppendsFront, Writes, WritesFront}
-use Rattle.box_script.specs.Fields.{Text}
-use Rattle.box_script.specs.Lines.{script_of}
+use Rattle.grammar_spec.specs.Fields.{Text}
+use Rattle.grammar_spec.specs.Lines.{script_of}
 use Rattle.tool_spec.specs.Ends.{End, status_of, last_line}
 use Rattle.tool_spec.specs.Commands.{Command, RunScript, ListRecords, ExtractRecord, EraseRecord, ShowLayout, BlankImage, MakeImage, Plan, Wanted, wanted, mem_of, script_limit}
 use Rattle.tool_spec.specs.declared.Stop.{Stop}

@@ -1,15 +1,15 @@
 -- The words of a script on the block store, and the lines that it is to do
 use Rattle.std.specs.Prelude.{ℕ, if◌then◌else◌, nat_lt, List, [], ◌∷◌, length, codes, bytes_eq, Option, Some, None, Result, Ok, Err}
 use Rattle.zone_spec.specs.declared.params.LayoutFault.{LayoutFault}
-use Rattle.param_words.specs.declared.faults.ParamFault.{ParamFault}
+use Rattle.grammar_spec.specs.declared.faults.ParamFault.{ParamFault}
 use Rattle.blk_spec.specs.declared.BlkParams.{BlkParams}
 use Rattle.blk_spec.specs.declared.BlkLayout.{BlkLayout}
 use Rattle.blk_spec.specs.Layout.{layout_of}
-use Rattle.param_words.specs.Words.{ok_unless}
-use Rattle.blk_params.specs.Words.{first_fault, params_of}
-use Rattle.box_script.specs.Fields.{Text}
-use Rattle.box_script.specs.Lines.{script_of}
-use Rattle.box_script.specs.declared.line.Line.{Line}
+use Rattle.grammar_spec.specs.Words.{ok_unless}
+use Rattle.grammar_spec.specs.BlkWords.{first_fault, params_of}
+use Rattle.grammar_spec.specs.Fields.{Text}
+use Rattle.grammar_spec.specs.Lines.{script_of}
+use Rattle.grammar_spec.specs.declared.line.Line.{Line}
 use Rattle.tool_spec.specs.Commands.{script_limit}
 use Rattle.tool_spec.specs.declared.Stop.{Stop}
 use Rattle.tool_spec.specs.declared.Stop.TheVariants.{Param, Layout as LayoutStop, Short, TooLong, BadLine}

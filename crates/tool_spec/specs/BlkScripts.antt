@@ -15,9 +15,9 @@ use Rattle.blk_spec.specs.Writes.{Write as StoreWrite, reaching}
 use Rattle.blk_spec.specs.Names.{name_text}
 use Rattle.blk_spec.specs.States.{BlkState, load_writes, append_of, dump_of, erase_of, names_of, content_of, time_of}
 use Rattle.blk_spec.specs.Session.{Session, Operation, Load, Append, AppendElsewhere, Dump as DumpNow, CutAfter as CutNow, ListAll, Extract as ExtractRecord, Erase as EraseRecord, Cause as SessionCause, IsOff as IsOffThere, NoZone as NoZoneThere, NoRecord as NoRecordThere, cause_of, session_after, begun}
-use Rattle.box_script.specs.Fields.{Text}
-use Rattle.box_script.specs.declared.line.Line.{Line}
-use Rattle.box_script.specs.declared.line.Line.TheVariants.{Blank, Write, Boot, List as ListLine, Extract, Erase, KDump, CutAfter}
+use Rattle.grammar_spec.specs.Fields.{Text}
+use Rattle.grammar_spec.specs.declared.line.Line.{Line}
+use Rattle.grammar_spec.specs.declared.line.Line.TheVariants.{Blank, Write, Boot, List as ListLine, Extract, Erase, KDump, CutAfter}
 use Rattle.tool_spec.specs.Texts.{newline}
 use Rattle.tool_spec.specs.declared.Cause.{Cause}
 use Rattle.tool_spec.specs.declared.Cause.TheVariants.{IsOff, NoZone, NoRecord, NotHere}
@@ -100,10 +100,10 @@ pub record BlkDone : Type 0 where
   pub text : Text
 
 -- the cause of a refused operation in the script's words
-abbrev pub told_cause : SessionCause → Cause
-told_cause IsOffThere = IsOff
-told_cause NoZoneThere = NoZone
-told_cause NoRecordThere = NoRecord
+abbrev pub blk_line_cause : SessionCause → Cause
+blk_line_cause IsOffThere = IsOff
+blk_line_cause NoZoneThere = NoZone
+blk_line_cause NoRecordThere = NoRecord
 
 -- what an operation that was done puts: a listing, or a record
 abbrev pub put_loaded : BlkState → Operation → Text
@@ -117,7 +117,7 @@ put_by (Some b) operation = put_loaded b operation
 
 abbrev pub done_unless : Option SessionCause → BlkDone → Result BlkDone Cause
 done_unless None done = Ok done
-done_unless (Some cause) done = Err (told_cause cause)
+done_unless (Some cause) done = Err (blk_line_cause cause)
 
 -- an operation as a line does it
 abbrev pub performs : BlkLayout → Session → Operation → Result BlkDone Cause

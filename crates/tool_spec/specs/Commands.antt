@@ -11,12 +11,12 @@ use Rattle.session_spec.specs.Off.{fresh}
 use Rattle.session_spec.specs.Boot.{booted}
 use Rattle.session_spec.specs.Stop.{stopped, session_image}
 use Rattle.session_spec.specs.Erasures.{saved_logs, erased}
-use Rattle.param_words.specs.declared.faults.ParamFault.{ParamFault}
-use Rattle.param_words.specs.Words.{ok_unless}
-use Rattle.zone_params.specs.Words.{first_fault, params_of}
-use Rattle.box_script.specs.Fields.{Text, number}
-use Rattle.box_script.specs.Lines.{script_of}
-use Rattle.box_script.specs.declared.line.Line.{Line}
+use Rattle.grammar_spec.specs.declared.faults.ParamFault.{ParamFault}
+use Rattle.grammar_spec.specs.Words.{ok_unless}
+use Rattle.grammar_spec.specs.ZoneWords.{first_fault, params_of}
+use Rattle.grammar_spec.specs.Fields.{Text, number}
+use Rattle.grammar_spec.specs.Lines.{script_of}
+use Rattle.grammar_spec.specs.declared.line.Line.{Line}
 use Rattle.tool_spec.specs.Texts.{layout_text, listing}
 use Rattle.tool_spec.specs.Scripts.{Ran, ran, named}
 use Rattle.tool_spec.specs.Generated.{Generated, generated, summary}

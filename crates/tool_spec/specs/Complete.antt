@@ -1,8 +1,8 @@
 -- How the work of any words ends if no fault and no want of memory comes in its way, and that it does end so
 use Rattle.std.specs.Prelude.{◌≡◌, ◌⊎◌, ⊤, ℕ, List, Option, Some, None, Result, Ok, Err}
 use Rattle.blk_spec.specs.declared.BlkLayout.{BlkLayout}
-use Rattle.box_script.specs.Fields.{Text}
-use Rattle.box_script.specs.declared.line.Line.{Line}
+use Rattle.grammar_spec.specs.Fields.{Text}
+use Rattle.grammar_spec.specs.declared.line.Line.{Line}
 use Rattle.tool_spec.specs.Ends.{End}
 use Rattle.tool_spec.specs.Commands.{Command, RunScript, ShowLayout, BlankImage, MakeImage, Plan, wanted, plan_of}
 use Rattle.tool_spec.specs.BlkScripts.{blk_ran}

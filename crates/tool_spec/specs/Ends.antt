@@ -1,9 +1,9 @@
 -- How a run ends: its status and its last line
 use Rattle.std.specs.Prelude.{ℕ, ◌+◌, [], ◌++◌, codes, decimal, Result, Ok, Err}
 use Rattle.zone_spec.specs.LayoutFaults.{fault_number}
-use Rattle.param_words.specs.declared.faults.ParamFault.{ParamFault}
-use Rattle.param_words.specs.declared.faults.ParamFault.TheVariants.{UnknownKey, Twice, NotANumber}
-use Rattle.box_script.specs.Fields.{Text}
+use Rattle.grammar_spec.specs.declared.faults.ParamFault.{ParamFault}
+use Rattle.grammar_spec.specs.declared.faults.ParamFault.TheVariants.{UnknownKey, Twice, NotANumber}
+use Rattle.grammar_spec.specs.Fields.{Text}
 use Rattle.tool_spec.specs.Texts.{newline}
 use Rattle.tool_spec.specs.declared.Stop.{Stop}
 use Rattle.tool_spec.specs.declared.Stop.TheVariants.{Memory, Usage, Param, Layout, Short, ScriptFault, ImageFault, SinkFault, TooLong, BadLine, Refused}

@@ -17,7 +17,7 @@ use Rattle.session_spec.specs.LiveCalls.{Ask, Append, Dump, call_of, asked_name}
 use Rattle.session_spec.specs.Off.{fresh}
 use Rattle.session_spec.specs.Report.{ZoneReport, report}
 use Rattle.session_spec.specs.Operations.{Operation, Make, Begin, Step, Stop, Flip, Boot, operated, left_by}
-use Rattle.box_script.specs.Fields.{Text}
+use Rattle.grammar_spec.specs.Fields.{Text}
 use Rattle.tool_spec.specs.Texts.{newline}
 
 -- ---- draws

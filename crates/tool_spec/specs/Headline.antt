@@ -3,7 +3,7 @@ use Rattle.std.specs.Prelude.{◌≡◌, ℕ, List, take}
 use Rattle.zone_spec.specs.declared.Zone.{Zone}
 use Rattle.session_spec.specs.States.{OffState, Off}
 use Rattle.session_spec.specs.Headline.{EachOffZone, ReadsLastWritten}
-use Rattle.box_script.specs.declared.line.Line.{Line}
+use Rattle.grammar_spec.specs.declared.line.Line.{Line}
 use Rattle.tool_spec.specs.Scripts.{ran}
 
 -- behind each line of a script, where the machine is then off, the next boot reads the last bytes written of

@@ -22,8 +22,8 @@ use Rattle.zone_spec.specs.Records.{Saved, Listed, listed_of}
 use Rattle.zone_spec.specs.Notices.{content}
 use Rattle.zone_spec.specs.Cut.{CutReport}
 use Rattle.session_spec.specs.Report.{ZoneReport}
-use Rattle.box_script.specs.Fields.{Text}
-use Rattle.box_script.specs.Printed.{zone_text}
+use Rattle.grammar_spec.specs.Fields.{Text}
+use Rattle.grammar_spec.specs.Printed.{zone_text}
 
 abbrev pub newline : Text
 newline = 10 ∷ []

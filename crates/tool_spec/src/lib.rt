@@ -2,8 +2,9 @@
 //! put. Plain types that definitions and code share, and in `specs/` the definitions that contracts cite.
 #![tactic(auto)]
 
+use grammar_spec::ParamFault;
 use std::alloc::AllocError;
-use zone_params::{LayoutFault, ParamFault};
+use zone_spec::LayoutFault;
 
 /// Why a line of a script was refused.
 #[derive(Clone, Copy, Debug, PartialEq, Eq)]

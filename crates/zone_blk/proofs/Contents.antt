@@ -50,7 +50,8 @@ some-map f (Some x) = refl
 pub listed-content : (b : BlkState) (name : BlkName) → is_listed b name ≡ is_some (content_of b name)
 unfolding content_of
 listed-content b (Dump index packed) =
-    listed-parts (Dump index packed) b ∙ or-false (list_any (is_name (Dump index packed)) (map dump_name b.dumps) || false)
+    listed-parts (Dump index packed) b ∙ or-false (list_any (is_name (Dump index packed)) (map dump_name b.dumps) ||
+    false)
     ∙ or-false (list_any (is_name (Dump index packed)) (map dump_name b.dumps))
     ∙ any-dump (Dump index packed) b.dumps ∙ sym (some-map dump_content
     (find (λ (d : BlkDump). is_name (Dump index packed) (dump_name d)) b.dumps))

@@ -10,8 +10,7 @@ use Rattle.zone_blk.specs.Fits.{IsWithin}
 use Rattle.zone_blk.specs.Loading.{IsIn}
 
 -- its layout is one, its rings' words lie within their zones, of which one without a byte has no saved log, and its
--- dumps
--- and its cursor are among the dump zones
+-- dumps and its cursor are among the dump zones
 pub record IsLoaded (l : BlkLayout) (console_ring pmsg_ring : RingState) (listed : List BlkDump) (at : ℕ) : Type 0 where
   pub layout : IsLayout l
   pub console : IsWithin (ring_zone l Console) console_ring.words

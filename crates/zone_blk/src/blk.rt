@@ -253,10 +253,8 @@ impl Blk {
     }
 
     /// Of all bytes that are written from now on only the first `bytes` reach the store; the rest is dropped and
-    /// answered
-    /// as written, and so is every byte behind a dropped one. The bytes of a write that failed count as written. A
-    /// later
-    /// limit replaces an earlier one as long as no byte was dropped.
+    /// answered as written, and so is every byte behind a dropped one. The bytes of a write that failed count as
+    /// written. A later limit replaces an earlier one as long as no byte was dropped.
     pub fn cut_after(&mut self, bytes: u64)
         ensures { self.new ≡ cut_state self.old bytes }
     {

@@ -201,8 +201,7 @@ fn dump_named(behind: &str) -> Option<BlkName>
 }
 
 /// The name with this text, or `None` exactly where no name of a record has it. A dump's number is below 2^32 and has
-/// no
-/// leading zeros.
+/// no leading zeros.
 pub fn blk_find(text: &str) -> Option<BlkName>
     ensures { IsNameOf text.now result }
 {

@@ -12,10 +12,10 @@ use Rattle.zone_flight.specs.declared.call.Call.TheVariants.{Append as RustAppen
 use Rattle.zone_flight.specs.declared.progress.Leg.{Leg}
 use Rattle.zone_flight.specs.declared.progress.Leg.TheVariants.{Erasure, Payload, Line, Body}
 
-abbrev pub told_call : RustCall → Call
-told_call (RustAppend payload) = Append payload
-told_call RustErase = Erase
-told_call (RustDump line body) = Dump line body
+abbrev pub call_seen : RustCall → Call
+call_seen (RustAppend payload) = Append payload
+call_seen RustErase = Erase
+call_seen (RustDump line body) = Dump line body
 
 -- an append is to a ring that can be appended to
 abbrev pub IsOpenFor : Call → Words → ℕ → Type 0

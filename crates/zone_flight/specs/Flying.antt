@@ -6,7 +6,7 @@ use Rattle.zone_spec.specs.Told.{Call}
 use Rattle.zone_spec.specs.Stages.{Stage}
 use Rattle.zone_flight.specs.declared.progress.Place.{Place}
 use Rattle.zone_flight.specs.declared.progress.Progress.{Progress}
-use Rattle.zone_flight.specs.Calls.{told_call, leg_bytes, later_stages}
+use Rattle.zone_flight.specs.Calls.{call_seen, leg_bytes, later_stages}
 
 -- a call on a zone whose words were these, the number of stores made, where it is, and the parity of the part that is
 -- being stored
@@ -22,7 +22,7 @@ abbrev pub seen : Progress → Flying
 seen p = record {
   zone = p.zone;
   words = p.words;
-  call = told_call p.call;
+  call = call_seen p.call;
   made = p.made;
   place = p.place;
   parity = p.parity.items;

@@ -2,7 +2,7 @@
 ghost use Rattle.std.specs.Prelude.{◌≡◌, ◌≤◌, List, ℕ, length};
 ghost use Rattle.zone_spec.specs.Told.{kind_of};
 ghost use Rattle.zone_spec.specs.Parts.{AreBytes};
-ghost use Rattle.zone_flight.specs.Calls.{told_call, AreCallBytes};
+ghost use Rattle.zone_flight.specs.Calls.{call_seen, AreCallBytes};
 
 use arrayvec::ArrayString;
 use box_io::Bytes;
@@ -57,7 +57,7 @@ fn check_line(line: &[u8])
 impl Call {
     /// Tells that what it stores is of bytes.
     pub(crate) fn check(&self)
-        ensures { AreCallBytes (told_call self.now) }
+        ensures { AreCallBytes (call_seen self.now) }
     {
         match self {
             Call::Append(payload) => {
@@ -72,7 +72,7 @@ impl Call {
     }
 
     pub fn kind(&self) -> CallKind
-        ensures { result ≡ kind_of (told_call self.now) }
+        ensures { result ≡ kind_of (call_seen self.now) }
     {
         match self {
             Call::Append(_) => CallKind::Append,

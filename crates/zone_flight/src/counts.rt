@@ -7,7 +7,7 @@ ghost use Rattle.zone_spec.specs.Calls.{append_stages, call_stages, erase_stages
 ghost use Rattle.zone_spec.specs.Pairs.{pairs_from, pair_of};
 ghost use Rattle.zone_spec.specs.Touched.{runs_of, touched_by};
 ghost use Rattle.zone_spec.specs.Reading.{IsRing};
-ghost use Rattle.zone_flight.specs.Calls.{told_call, line_of, front_of, last_of, IsOpenFor};
+ghost use Rattle.zone_flight.specs.Calls.{call_seen, line_of, front_of, last_of, IsOpenFor};
 ghost use Rattle.zone_flight.specs.Counts.{runs_between};
 ghost use Rattle.zone_flight.specs.PairSteps.{AppendsPairs, pair_after};
 
@@ -18,14 +18,14 @@ use zone_spec::{Pair, Words, Zone};
 
 /// The number of bytes that an append stores.
 fn last_len(call: &Call, cap: u32) -> u32
-    ensures value { result ≡ length (last_of cap (told_call call.now)) }
+    ensures value { result ≡ length (last_of cap (call_seen call.now)) }
     ensures short { result ≤ cap }
 {
     last_bytes(call, cap).len() as u32
 }
 
 fn line_len(call: &Call) -> u32
-    ensures value { result ≡ length (line_of (told_call call.now)) }
+    ensures value { result ≡ length (line_of (call_seen call.now)) }
     ensures short { result ≤ 36 }
 {
     line_bytes(call).len() as u32
@@ -34,7 +34,7 @@ fn line_len(call: &Call) -> u32
 /// The number of bytes of a dump's body that fit behind its line.
 fn front_len(call: &Call, cap: u32) -> u32
     requires { 36 ≤ cap }
-    ensures value { result ≡ length (front_of cap (told_call call.now)) }
+    ensures value { result ≡ length (front_of cap (call_seen call.now)) }
     ensures short { result ≤ cap }
 {
     front_bytes(call, cap).len() as u32
@@ -79,10 +79,10 @@ fn append_stores(zone: &Zone, start: u32, size: u32, len: u32) -> u64
 /// The stores of a call on a zone with these words.
 pub fn call_total(zone: &Zone, words: &Words, call: &Call) -> u64
     requires valid { IsValidZone zone.now }
-    requires is_open { IsOpenFor (told_call call.now) words.now zone.now.cap }
-    ensures value { result ≡ sum_by (stage_count zone.now) (call_stages zone.now words.now (told_call call.now)) }
+    requires is_open { IsOpenFor (call_seen call.now) words.now zone.now.cap }
+    ensures value { result ≡ sum_by (stage_count zone.now) (call_stages zone.now words.now (call_seen call.now)) }
     ensures small { result < 2 ^ 32 }
-    ensures line { length (line_of (told_call call.now)) ≤ 36 }
+    ensures line { length (line_of (call_seen call.now)) ≤ 36 }
 {
     let _line = line_len(call);
     match call {
@@ -145,9 +145,9 @@ fn add_pairs(pairs: &mut ArrayVec<Pair, 8>, zone: &Zone, words: &Words, call: &C
     requires empty { pairs.old.items ≡ [] }
     requires valid { IsValidZone zone.now }
     requires ring { IsRing words.now zone.now.cap }
-    requires is_open { IsOpenFor (told_call call.now) words.now zone.now.cap }
+    requires is_open { IsOpenFor (call_seen call.now) words.now zone.now.cap }
     ensures pairs { pairs.new.items ++ result ∷ [] ≡ pairs_from (pair_of words.now)
-        (call_stages zone.now words.now (told_call call.now)) }
+        (call_stages zone.now words.now (call_seen call.now)) }
     ensures room { length pairs.new.items ≤ 6 }
 {
     let before = Pair {
@@ -171,8 +171,8 @@ fn add_pairs(pairs: &mut ArrayVec<Pair, 8>, zone: &Zone, words: &Words, call: &C
 pub fn call_pairs(zone: &Zone, words: &Words, call: &Call) -> ArrayVec<Pair, 8>
     requires valid { IsValidZone zone.now }
     requires ring { IsRing words.now zone.now.cap }
-    requires is_open { IsOpenFor (told_call call.now) words.now zone.now.cap }
-    ensures { result.items ≡ pairs_from (pair_of words.now) (call_stages zone.now words.now (told_call call.now)) }
+    requires is_open { IsOpenFor (call_seen call.now) words.now zone.now.cap }
+    ensures { result.items ≡ pairs_from (pair_of words.now) (call_stages zone.now words.now (call_seen call.now)) }
 {
     let mut pairs = ArrayVec::new();
     let last = add_pairs(&mut pairs, zone, words, call);
@@ -213,9 +213,9 @@ fn block_behind(zone: &Zone, place: u32) -> u32
 /// The touched blocks of a call, as the first and last of each run.
 pub fn call_runs(zone: &Zone, words: &Words, call: &Call) -> ArrayVec<(u32, u32), 2>
     requires valid { IsValidZone zone.now }
-    requires is_open { IsOpenFor (told_call call.now) words.now zone.now.cap }
+    requires is_open { IsOpenFor (call_seen call.now) words.now zone.now.cap }
     ensures { result.items ≡ runs_of (filter (λ b. list_any (λ c. c == b)
-        (touched_by zone.now (call_stages zone.now words.now (told_call call.now))))
+        (touched_by zone.now (call_stages zone.now words.now (call_seen call.now))))
         (range_with_len 0 zone.now.blocks)) }
 {
     match call {

@@ -6,7 +6,7 @@ ghost use Rattle.zone_spec.specs.Reading.{IsRing};
 ghost use Rattle.zone_spec.specs.Told.{kind_of};
 ghost use Rattle.zone_spec.specs.Calls.{call_stores, image_after};
 ghost use Rattle.ram_region.specs.CutRegion.{span, with_span};
-ghost use Rattle.zone_flight.specs.Calls.{told_call, IsOpenFor};
+ghost use Rattle.zone_flight.specs.Calls.{call_seen, IsOpenFor};
 ghost use Rattle.zone_flight.specs.Counts.{pairs_of, touched_runs, total_of};
 ghost use Rattle.zone_flight.specs.Machine.{StandsFor};
 ghost use Rattle.zone_flight.specs.Flying.{IsSameCall};
@@ -43,10 +43,10 @@ impl Flight {
         requires valid { IsValidZone zone }
         requires len { length span.now ≡ zone.size }
         requires ring { IsRing (standing_words span.now) zone.cap }
-        requires is_open { IsOpenFor (told_call call) (standing_words span.now) zone.cap }
+        requires is_open { IsOpenFor (call_seen call) (standing_words span.now) zone.cap }
         ensures zone { result.zone ≡ zone }
         ensures words { result.words ≡ standing_words span.now }
-        ensures call { result.call ≡ told_call call }
+        ensures call { result.call ≡ call_seen call }
         ensures made { result.made ≡ 0 }
         ensures stands { StandsFor result span.now span.now }
     {
@@ -138,7 +138,7 @@ impl Flight {
 
     /// The call that was begun.
     pub fn call(&self) -> &Call
-        ensures { told_call result.now ≡ self.now.call }
+        ensures { call_seen result.now ≡ self.now.call }
     {
         &self.progress.call
     }

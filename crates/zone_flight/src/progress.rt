@@ -6,7 +6,7 @@ ghost use Rattle.zone_spec.specs.Zones.{IsValidZone};
 ghost use Rattle.zone_spec.specs.Stores.{put};
 ghost use Rattle.ram_region.specs.CutRegion.{span, with_span};
 ghost use Rattle.zone_spec.specs.Reading.{IsRing};
-ghost use Rattle.zone_flight.specs.Calls.{told_call, line_of, front_of, last_of, IsOpenFor};
+ghost use Rattle.zone_flight.specs.Calls.{call_seen, line_of, front_of, last_of, IsOpenFor};
 ghost use Rattle.zone_flight.specs.First.{first_place, append_phase, erasure};
 
 use crate::call::Call;
@@ -67,7 +67,7 @@ pub struct Progress {
 
 impl Progress {
     ghost use Rattle.zone_flight.specs.Flying.{Flying, seen, at_place, payload, later, IsSameCall};
-    ghost use Rattle.zone_flight.specs.Calls.{told_call, body_stages};
+    ghost use Rattle.zone_flight.specs.Calls.{call_seen, body_stages};
     ghost use Rattle.zone_flight.specs.Phases.{IsSound, IsFinished, IsDone, first_len, second_len, first_end, second_end, phase_len};
     ghost use Rattle.zone_flight.specs.Machine.{Enters, Stores, IsKept, StandsFor, IsSettled};
     ghost use Rattle.zone_flight.specs.Counts.{total_of};
@@ -77,11 +77,11 @@ impl Progress {
         requires valid { IsValidZone zone }
         requires len { length span.now ≡ zone.size }
         requires ring { IsRing (standing_words span.now) zone.cap }
-        requires is_open { IsOpenFor (told_call call) (standing_words span.now) zone.cap }
+        requires is_open { IsOpenFor (call_seen call) (standing_words span.now) zone.cap }
         ensures kept { IsKept (seen result) }
         ensures zone { result.zone ≡ zone }
         ensures words { result.words ≡ standing_words span.now }
-        ensures call { told_call result.call ≡ told_call call }
+        ensures call { call_seen result.call ≡ call_seen call }
         ensures made { result.made ≡ 0 }
         ensures stands { StandsFor (seen result) span.now span.now }
     {
@@ -235,7 +235,7 @@ impl Progress {
         requires sound { IsSound (seen self.old) }
         requires done { IsDone (seen self.old) }
         requires header { self.old.place.phase ≡ Phase.Header }
-        requires behind { later (seen self.old) ≡ body_stages self.old.zone (told_call self.old.call) }
+        requires behind { later (seen self.old) ≡ body_stages self.old.zone (call_seen self.old.call) }
         ensures sound { IsSound (seen self.new) }
         ensures enters { (image : List ℕ) → Enters (seen self.old) (seen self.new) image }
     {
@@ -422,7 +422,7 @@ fn byte_of(bytes: &[u8], at: u32) -> u8
 
 /// Where the call begins.
 fn first_place(zone: &Zone, words: &Words, call: &Call) -> Place
-    ensures { result ≡ first_place zone.now words.now (told_call call.now) }
+    ensures { result ≡ first_place zone.now words.now (call_seen call.now) }
 {
     match call {
         Call::Append(_) => Place {
@@ -465,7 +465,7 @@ fn erasure() -> Place
 
 /// The last `cap` bytes of an append; nothing where the call is another.
 pub fn last_bytes(call: &Call, cap: u32) -> &[u8]
-    ensures { result.now ≡ last_of cap (told_call call.now) }
+    ensures { result.now ≡ last_of cap (call_seen call.now) }
 {
     match call {
         Call::Append(bytes) => {
@@ -479,7 +479,7 @@ pub fn last_bytes(call: &Call, cap: u32) -> &[u8]
 
 /// The line of a dump; nothing where the call is another.
 pub fn line_bytes(call: &Call) -> &[u8]
-    ensures value { result.now ≡ line_of (told_call call.now) }
+    ensures value { result.now ≡ line_of (call_seen call.now) }
     ensures fits { length result.now ≤ 36 }
 {
     match call {
@@ -492,7 +492,7 @@ pub fn line_bytes(call: &Call) -> &[u8]
 /// The front of a dump's body that fits behind its line; nothing where the call is another.
 pub fn front_bytes(call: &Call, cap: u32) -> &[u8]
     requires { 36 ≤ cap }
-    ensures { result.now ≡ front_of cap (told_call call.now) }
+    ensures { result.now ≡ front_of cap (call_seen call.now) }
 {
     match call {
         Call::Append(_) => &[],

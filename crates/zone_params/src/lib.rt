@@ -9,8 +9,8 @@ mod rows;
 pub mod types;
 
 pub use faults::LayoutError;
+pub use grammar_spec::ParamFault;
 pub use laying::layout;
-pub use param_words::ParamFault;
 pub use params::read_words;
 pub use zone_spec::{Kind, LayoutFault, Params, Zone, ZoneName};
 

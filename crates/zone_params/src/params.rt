@@ -1,9 +1,10 @@
 // Parameters read from words.
 ghost use Rattle.std.specs.Prelude.{◌≡◌, unwrap_or};
-ghost use Rattle.param_words.specs.Words.{texts};
-ghost use Rattle.zone_params.specs.Words.{given, params_of, read_of};
+ghost use Rattle.grammar_spec.specs.Words.{texts};
+ghost use Rattle.grammar_spec.specs.ZoneWords.{given, params_of, read_of};
 
-use param_words::{Keys, ParamFault};
+use grammar_spec::ParamFault;
+use param_words::Keys;
 use zone_spec::Params;
 
 const KEYS: Keys = Keys {

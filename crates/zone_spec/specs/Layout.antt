@@ -71,7 +71,7 @@ zone_at p kind size index at =
       cap = size - 12 - (blocks + 1) * r;
       blocks = blocks;
       parity = r;
-      sig = bit_xor 1128743492 (tag_of p kind);
+      sig = bit_xor 0x43474244 (tag_of p kind);
       block = p.block;
     }
 

@@ -6,7 +6,8 @@ use Rattle.gf_poly.proofs.values_at.Goals as goal
 
 pub returns : goal.returns
 returns c = λ k l.
-    values_alone (get_or c.fill.new.self k 0) (gf_pow 2 (get_or c.args.logs.now k 0)) (get_or c.values_on.new.values k 0)
+    values_alone (get_or c.fill.new.self k 0) (gf_pow 2 (get_or c.args.logs.now k 0))
+    (get_or c.values_on.new.values k 0)
     c.args.word.now
     (ap (λ (w : List ℕ). get_or w k 0) (c.fill.ensures.after (λ y e. e))
     ∙ get_or-replicate (length c.args.out.now) k 0 0 (omega arith))

@@ -1,5 +1,5 @@
 use Rattle.std.proofs.Common.{◌≡◌}
-use Rattle.store_laws.proofs.Laws.{sound_state_reads_last_written}
+use Rattle.session_laws.proofs.LastWritten.{sound_state_reads_last_written}
 use Rattle.tool_laws.proofs.Sound.{states_sound}
 use Rattle.tool_laws.proofs.scripts_read_last_written.Goals as goal
 

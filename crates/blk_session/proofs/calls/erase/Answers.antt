@@ -1,6 +1,6 @@
 use Rattle.std.proofs.Common.{Some, ◌∙◌, sym}
 use Rattle.blk_spec.specs.Session.{Erase as EraseRecord}
-use Rattle.box_script.specs.declared.line.Line.TheVariants.{Erase}
+use Rattle.grammar_spec.specs.declared.line.Line.TheVariants.{Erase}
 use Rattle.blk_session.proofs.Operations.{line_ends}
 use Rattle.blk_session.proofs.CallLines.{erase_is, erase_refused}
 use Rattle.blk_session.proofs.calls.erase.Goals as goal

@@ -1,6 +1,6 @@
 use Rattle.std.proofs.Common.{Some}
 use Rattle.blk_spec.specs.Session.{Dump as DumpNow}
-use Rattle.box_script.specs.declared.line.Line.TheVariants.{KDump}
+use Rattle.grammar_spec.specs.declared.line.Line.TheVariants.{KDump}
 use Rattle.blk_session.proofs.Operations.{line_ends}
 use Rattle.blk_session.proofs.CallLines.{kdump_is}
 use Rattle.blk_session.proofs.calls.kdump.Goals as goal

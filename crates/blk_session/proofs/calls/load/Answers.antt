@@ -1,5 +1,5 @@
 use Rattle.std.proofs.Common.{Err, subst, sym, ap}
-use Rattle.box_script.specs.declared.line.Line.TheVariants.{Boot}
+use Rattle.grammar_spec.specs.declared.line.Line.TheVariants.{Boot}
 use Rattle.blk_session.specs.declared.errors.LineError.{LineError}
 use Rattle.blk_session.specs.Lines.{LineFails}
 use Rattle.blk_session.proofs.CallLines.{load_done, load_fails}

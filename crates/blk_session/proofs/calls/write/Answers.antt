@@ -1,6 +1,6 @@
 use Rattle.std.proofs.Common.{Some, ◌∙◌, sym}
 use Rattle.blk_spec.specs.Session.{Append}
-use Rattle.box_script.specs.declared.line.Line.TheVariants.{Write}
+use Rattle.grammar_spec.specs.declared.line.Line.TheVariants.{Write}
 use Rattle.blk_session.proofs.Operations.{line_ends}
 use Rattle.blk_session.proofs.CallLines.{write_is, write_refused}
 use Rattle.blk_session.proofs.calls.write.Goals as goal

@@ -1,6 +1,6 @@
 use Rattle.std.proofs.Common.{[], Some, sym, subst}
-use Rattle.box_script.specs.Printed.{HasFields}
-use Rattle.box_script.specs.declared.line.Line.{Line}
+use Rattle.grammar_spec.specs.Printed.{HasFields}
+use Rattle.grammar_spec.specs.declared.line.Line.{Line}
 use Rattle.blk_session.specs.Lines.{LineDone}
 use Rattle.blk_session.proofs.CallLines.{cut_done}
 use Rattle.blk_session.proofs.OtherLines.{kdump_fields}

@@ -1,6 +1,6 @@
 use Rattle.std.proofs.Common.{Some, sym, subst}
 use Rattle.std.specs.Prelude.{MatchResult}
-use Rattle.box_script.specs.declared.line.Line.{Line}
+use Rattle.grammar_spec.specs.declared.line.Line.{Line}
 use Rattle.blk_session.specs.Lines.{LineDone, LineFails}
 use Rattle.blk_session.proofs.OtherLines.{extract_ends}
 use Rattle.blk_session.proofs.lines.show.Goals as goal

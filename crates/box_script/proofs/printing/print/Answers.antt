@@ -1,7 +1,7 @@
 use Rattle.std.proofs.Common.{ap, ◌∙◌}
 use Rattle.std.proofs.lemmas.List.{take_all}
-use Rattle.box_script.specs.Lines.{script_of}
-use Rattle.box_script.specs.Printed.{script_text}
+use Rattle.grammar_spec.specs.Lines.{script_of}
+use Rattle.grammar_spec.specs.Printed.{script_text}
 use Rattle.box_script.proofs.Round.{script_back}
 use Rattle.box_script.proofs.printing.print.Goals as goal
 

@@ -1,5 +1,5 @@
 use Rattle.std.proofs.Common.{◌≡◌, take}
-use Rattle.box_script.specs.Printed.{script_text}
+use Rattle.grammar_spec.specs.Printed.{script_text}
 use Rattle.box_script.proofs.printing.print.Given as goal
 
 abbrev pub invariant-loop-line : goal.invariant-loop-line

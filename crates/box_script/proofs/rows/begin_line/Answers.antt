@@ -1,5 +1,5 @@
 use Rattle.std.proofs.Common.{◌==◌, ap, ◌∙◌}
-use Rattle.box_script.specs.Rows.{begin_line}
+use Rattle.grammar_spec.specs.Rows.{begin_line}
 use Rattle.box_script.proofs.Cuts.{some_part}
 use Rattle.box_script.proofs.Counts.{begin_of_more, begin_of_one}
 use Rattle.box_script.proofs.rows.begin_line.Goals as goal

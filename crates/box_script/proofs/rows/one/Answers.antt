@@ -1,5 +1,5 @@
 use Rattle.std.proofs.Common.{◌==◌, ap, ◌∙◌}
-use Rattle.box_script.specs.Groups.{one}
+use Rattle.grammar_spec.specs.Groups.{one}
 use Rattle.box_script.proofs.Cuts.{some_part}
 use Rattle.box_script.proofs.Counts.{one_of_more}
 use Rattle.box_script.proofs.rows.one.Goals as goal

@@ -1,6 +1,6 @@
 use Rattle.std.proofs.Common.{refl, subst, List, ℕ, Err}
 use Rattle.old_log.specs.Saving.{saved}
-use Rattle.store_session.specs.Records.{IsContent}
+use Rattle.ram_session.specs.Records.{IsContent}
 use Rattle.tool_spec.specs.Commands.{ExtractRecord}
 use Rattle.image_tool.specs.Plans.{plan_for}
 use Rattle.image_tool.proofs.RecordEnds.{extract_put, extract_front, extract_stopped}

@@ -33,4 +33,5 @@ returns-clause-complete g c = λ bytes script tells done script_ok image_ok sink
 
 pub returns-clause-reads : goal.returns-clause-reads
 returns-clause-reads g c = λ none. run_reads (asked (texts c.args.words.now)) _ _ _ _ refl
-    (g.met.M.Store.held_bytes c.args.image.now) (answered_by (blk_asked (texts c.args.words.now)) (texts c.args.words.now) _ _ _ none (returns-clause-answers g c))
+    (g.met.M.Store.held_bytes c.args.image.now) (answered_by (blk_asked (texts c.args.words.now))
+    (texts c.args.words.now) _ _ _ none (returns-clause-answers g c))

@@ -3,7 +3,7 @@ use Rattle.zone_spec.specs.declared.Pair.{Pair}
 use Rattle.zone_spec.specs.Told.{Append, Erase, Dump}
 use Rattle.zone_spec.specs.Calls.{append_stages, call_stages}
 use Rattle.zone_spec.specs.Pairs.{pairs_from, pair_of}
-use Rattle.zone_flight.specs.Calls.{told_call, last_of, line_of, front_of}
+use Rattle.zone_flight.specs.Calls.{call_seen, last_of, line_of, front_of}
 use Rattle.zone_flight.specs.PairSteps.{pair_after}
 use Rattle.zone_flight.proofs.Totals.{stages_append}
 use Rattle.zone_flight.proofs.PairLists.{pairs_end, pairs_erased, pairs_dump}
@@ -13,7 +13,7 @@ pub returns-in-Append-clause-pairs : goal.returns-in-Append-clause-pairs
 returns-in-Append-clause-pairs c =
     let z = c.args.zone.now in
     let w = c.args.words.now in
-    let is : told_call c.args.call.now ≡ Append c.in-Append.field-0 = ap told_call c.in-Append.is in
+    let is : call_seen c.args.call.now ≡ Append c.in-Append.field-0 = ap call_seen c.in-Append.is in
     let bytes : List ℕ = last_of z.cap (Append c.in-Append.field-0) in
     ap (λ ps. c.append_pairs.new.pairs.items ++ ps) (sym (pairs_end c.append_pairs.result))
     ∙ c.append_pairs.ensures.pairs z refl bytes (ap (λ k. length (last_of z.cap k)) (sym is)
@@ -27,7 +27,7 @@ pub returns-in-Erase-clause-pairs : goal.returns-in-Erase-clause-pairs
 returns-in-Erase-clause-pairs c =
     let z = c.args.zone.now in
     let w = c.args.words.now in
-    let is : told_call c.args.call.now ≡ Erase = ap told_call c.in-Erase.is in
+    let is : call_seen c.args.call.now ≡ Erase = ap call_seen c.in-Erase.is in
     let zero : Pair = record { start = 0; size = 0 } in
     ap (λ ps. ps ++ c.erase_pairs.result ∷ []) (c.erase_pairs.ensures.pairs
     ∙ ap (λ ps. ps ++ pair_of w ∷ (record { start = 0; size = w.size } ∷ [])) c.requires.empty)
@@ -43,7 +43,7 @@ returns-in-Dump-clause-pairs c =
     let w = c.args.words.now in
     let line : List ℕ = c.in-Dump.field-0 in
     let body : List ℕ = c.in-Dump.field-1 in
-    let is : told_call c.args.call.now ≡ Dump line body = ap told_call c.in-Dump.is in
+    let is : call_seen c.args.call.now ≡ Dump line body = ap call_seen c.in-Dump.is in
     let h : c.line_len-line.result ≡ length line = c.line_len-line.ensures.value ∙ ap (λ k. length (line_of k)) is in
     let n : c.front_len-front.result ≡ length (front_of z.cap (Dump line body)) =
     c.front_len-front.ensures.value ∙ ap (λ k. length (front_of z.cap k)) is in

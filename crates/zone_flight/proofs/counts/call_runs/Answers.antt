@@ -4,7 +4,7 @@ use Rattle.std.specs.List.{range_with_len}
 use Rattle.zone_spec.specs.Told.{Append, Erase, Dump}
 use Rattle.zone_spec.specs.Calls.{call_stages}
 use Rattle.zone_spec.specs.Touched.{touched_by, runs_of}
-use Rattle.zone_flight.specs.Calls.{told_call, last_of, line_of, front_of, IsOpenFor}
+use Rattle.zone_flight.specs.Calls.{call_seen, last_of, line_of, front_of, IsOpenFor}
 use Rattle.zone_flight.specs.Counts.{runs_between}
 use Rattle.zone_flight.proofs.Runs.{has}
 use Rattle.zone_flight.proofs.TouchedBlocks.{runs_append, runs_dump, runs_none, runs_erase, dump_fits, behind_run}
@@ -14,7 +14,7 @@ pub returns-then-len-eq0 : goal.returns-then-len-eq0
 returns-then-len-eq0 c =
     let z = c.args.zone.now in
     let w = c.args.words.now in
-    let is : told_call c.args.call.now ≡ Append c.in-Append.field-0 = ap told_call c.in-Append.is in
+    let is : call_seen c.args.call.now ≡ Append c.in-Append.field-0 = ap call_seen c.in-Append.is in
     let none : length (last_of z.cap (Append c.in-Append.field-0)) ≡ 0 = ap (λ k. length (last_of z.cap k)) (sym is)
     ∙ sym c.last_len-len.ensures.value ∙ (let e : c.last_len-len.result ≡ 0 = grind (arith, common_steps) in e) in
     c.new.ensures ∙ sym (ap (λ k. runs_of (filter (has (touched_by z (call_stages z w k)))
@@ -24,7 +24,7 @@ pub block_behind-requires-in-Dump-clause-fits : goal.block_behind-requires-in-Du
 unfolding line_of
 block_behind-requires-in-Dump-clause-fits c =
     let z = c.args.zone.now in
-    let is : told_call c.args.call.now ≡ Dump c.in-Dump.field-0 c.in-Dump.field-1 = ap told_call c.in-Dump.is in
+    let is : call_seen c.args.call.now ≡ Dump c.in-Dump.field-0 c.in-Dump.field-1 = ap call_seen c.in-Dump.is in
     let h : c.line_len.result ≡ length c.in-Dump.field-0 = c.line_len.ensures.value ∙ ap (λ k. length (line_of k)) is in
     let n : c.front_len.result ≡ length (front_of z.cap (Dump c.in-Dump.field-0 c.in-Dump.field-1)) =
     c.front_len.ensures.value ∙ ap (λ k. length (front_of z.cap k)) is in
@@ -41,7 +41,7 @@ returns-else-len-eq0 c =
     let z = c.args.zone.now in
     let w = c.args.words.now in
     let bytes : List ℕ = c.in-Append.field-0 in
-    let is : told_call c.args.call.now ≡ Append bytes = ap told_call c.in-Append.is in
+    let is : call_seen c.args.call.now ≡ Append bytes = ap call_seen c.in-Append.is in
     let len : c.last_len-len.result ≡ length (last_of z.cap (Append bytes)) =
     c.last_len-len.ensures.value ∙ ap (λ k. length (last_of z.cap k)) is in
     let some : 0 < c.last_len-len.result = grind (arith, common_steps) in
@@ -60,7 +60,7 @@ pub returns-in-Erase : goal.returns-in-Erase
 returns-in-Erase c =
     let z = c.args.zone.now in
     let w = c.args.words.now in
-    let is : told_call c.args.call.now ≡ Erase = ap told_call c.in-Erase.is in
+    let is : call_seen c.args.call.now ≡ Erase = ap call_seen c.in-Erase.is in
     c.new-in-Erase.ensures ∙ sym (ap (λ k. runs_of (filter (has (touched_by z (call_stages z w k)))
     (range_with_len 0 z.blocks))) is ∙ runs_erase z w)
 
@@ -69,7 +69,7 @@ unfolding line_of
 returns-in-Dump c =
     let z = c.args.zone.now in
     let w = c.args.words.now in
-    let is : told_call c.args.call.now ≡ Dump c.in-Dump.field-0 c.in-Dump.field-1 = ap told_call c.in-Dump.is in
+    let is : call_seen c.args.call.now ≡ Dump c.in-Dump.field-0 c.in-Dump.field-1 = ap call_seen c.in-Dump.is in
     let h : c.line_len.result ≡ length c.in-Dump.field-0 = c.line_len.ensures.value ∙ ap (λ k. length (line_of k)) is in
     let n : c.front_len.result ≡ length (front_of z.cap (Dump c.in-Dump.field-0 c.in-Dump.field-1)) =
     c.front_len.ensures.value ∙ ap (λ k. length (front_of z.cap k)) is in

@@ -1,6 +1,6 @@
 use Rattle.std.proofs.Common.{◌∙◌, ap, sym, Ok}
-use Rattle.param_words.specs.Words.{ok_unless, texts}
-use Rattle.zone_params.specs.Words.{params_of}
+use Rattle.grammar_spec.specs.Words.{ok_unless, texts}
+use Rattle.grammar_spec.specs.ZoneWords.{params_of}
 use Rattle.zone_params.proofs.params.read_words.Goals as goal
 
 pub returns-in-Some : goal.returns-in-Some

@@ -1,6 +1,6 @@
 use Rattle.std.proofs.Common.{◌∙◌, ap, sym, take, List, ℕ, arith}
 use Rattle.param_words.specs.Keys.{table_of}
-use Rattle.param_words.specs.Words.{word_fault, texts}
+use Rattle.grammar_spec.specs.Words.{word_fault, texts}
 use Rattle.param_words.proofs.Apart.{apart, few, fault_step, found_fault, faultless}
 use Rattle.param_words.proofs.words.Keys.first_fault.Goals as goal
 

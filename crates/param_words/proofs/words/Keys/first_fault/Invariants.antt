@@ -1,6 +1,6 @@
 use Rattle.std.proofs.Common.{◌≡◌, ◌≤◌, take, drop, []}
 use Rattle.param_words.specs.Keys.{table_of}
-use Rattle.param_words.specs.Words.{first_fault, texts}
+use Rattle.grammar_spec.specs.Words.{first_fault, texts}
 use Rattle.param_words.proofs.Apart.{keys_in}
 use Rattle.param_words.proofs.words.Keys.first_fault.Given as goal
 

@@ -1,6 +1,6 @@
 use Rattle.std.proofs.Common.{◌∙◌}
 use Rattle.param_words.specs.Keys.{table_of}
-use Rattle.param_words.specs.Words.{texts}
+use Rattle.grammar_spec.specs.Words.{texts}
 use Rattle.param_words.proofs.WordLaws.{given_some, given_none}
 use Rattle.param_words.proofs.words.Keys.given.Goals as goal
 

@@ -1,7 +1,7 @@
 use Rattle.std.proofs.Common.{◌≡◌, ◌∙◌, ◌==◌, false, sym}
 use Rattle.std.specs.List.{list_any}
 use Rattle.param_words.specs.Keys.{table_of}
-use Rattle.param_words.specs.Words.{IsSplit}
+use Rattle.grammar_spec.specs.Words.{IsSplit}
 use Rattle.param_words.proofs.WordLaws.{value_here, value_past, value_none, value_end}
 use Rattle.param_words.proofs.words.Keys.value.Goals as goal
 use Rattle.param_words.proofs.words.Keys.value.Goals.{in-Some+else-eq, in_default}

@@ -1,6 +1,6 @@
 use Rattle.std.proofs.Common.{◌≡◌, drop}
 use Rattle.param_words.specs.Keys.{table_of}
-use Rattle.param_words.specs.Words.{value_text, texts}
+use Rattle.grammar_spec.specs.Words.{value_text, texts}
 use Rattle.param_words.proofs.words.Keys.value.Given as goal
 
 -- the words passed over don't give the key

@@ -1,6 +1,6 @@
 use Rattle.std.proofs.Common.{◌∙◌, sym, ap, not}
 use Rattle.param_words.specs.Keys.{table_of}
-use Rattle.param_words.specs.Words.{texts}
+use Rattle.grammar_spec.specs.Words.{texts}
 use Rattle.param_words.proofs.WordLaws.{bare_fault, twice_fault, number_fault, no_fault}
 use Rattle.param_words.proofs.words.Keys.word_fault.Goals as goal
 

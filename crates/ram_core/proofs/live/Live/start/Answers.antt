@@ -2,7 +2,7 @@ use Rattle.std.proofs.Common.{get_or, sym, subst}
 use Rattle.zone_spec.specs.declared.Zone.{Zone}
 use Rattle.zone_spec.specs.declared.Kind.TheVariants.{Dump}
 use Rattle.zone_spec.specs.Calls.{CanBegin}
-use Rattle.ram_core.specs.Asks.{told_ask}
+use Rattle.ram_core.specs.Asks.{ask_seen}
 use Rattle.ram_core.proofs.Running.{free_here, started}
 use Rattle.ram_core.proofs.live.Live.start.Goals as goal
 
@@ -21,7 +21,7 @@ no_zone = record {
 
 pub start-requires-clause-valid : goal.start-requires-clause-valid
 start-requires-clause-valid c =
-    (free_here _ c.args.self.now c.args.i (told_ask c.args.ask)
+    (free_here _ c.args.self.now c.args.i (ask_seen c.args.ask)
     c.zones.result.now no_zone c.all.result.now c.index-all-i.result c.index_mut.result.now c.self.view_is
     c.self.invariant.0 c.check.ensures
     c.requires.place c.requires.within c.requires.free c.zones.ensures.value c.all.ensures c.index-all-i.is
@@ -29,7 +29,7 @@ start-requires-clause-valid c =
 
 pub start-requires-clause-image : goal.start-requires-clause-image
 start-requires-clause-image c =
-    (free_here _ c.args.self.now c.args.i (told_ask c.args.ask)
+    (free_here _ c.args.self.now c.args.i (ask_seen c.args.ask)
     c.zones.result.now no_zone c.all.result.now c.index-all-i.result c.index_mut.result.now c.self.view_is
     c.self.invariant.0 c.check.ensures
     c.requires.place c.requires.within c.requires.free c.zones.ensures.value c.all.ensures c.index-all-i.is
@@ -37,7 +37,7 @@ start-requires-clause-image c =
 
 pub start-requires-clause-ring : goal.start-requires-clause-ring
 start-requires-clause-ring c =
-    (free_here _ c.args.self.now c.args.i (told_ask c.args.ask)
+    (free_here _ c.args.self.now c.args.i (ask_seen c.args.ask)
     c.zones.result.now no_zone c.all.result.now c.index-all-i.result c.index_mut.result.now c.self.view_is
     c.self.invariant.0 c.check.ensures
     c.requires.place c.requires.within c.requires.free c.zones.ensures.value c.all.ensures c.index-all-i.is
@@ -45,7 +45,7 @@ start-requires-clause-ring c =
 
 pub start-requires-clause-idle : goal.start-requires-clause-idle
 start-requires-clause-idle c =
-    (free_here _ c.args.self.now c.args.i (told_ask c.args.ask)
+    (free_here _ c.args.self.now c.args.i (ask_seen c.args.ask)
     c.zones.result.now no_zone c.all.result.now c.index-all-i.result c.index_mut.result.now c.self.view_is
     c.self.invariant.0 c.check.ensures
     c.requires.place c.requires.within c.requires.free c.zones.ensures.value c.all.ensures c.index-all-i.is
@@ -54,7 +54,7 @@ start-requires-clause-idle c =
 pub start-requires-clause-can : goal.start-requires-clause-can
 start-requires-clause-can c =
     subst (CanBegin (get_or c.zones.result.now c.args.i no_zone) c.index-all-i.result) (sym c.into_call.ensures)
-    (free_here _ c.args.self.now c.args.i (told_ask c.args.ask)
+    (free_here _ c.args.self.now c.args.i (ask_seen c.args.ask)
     c.zones.result.now no_zone c.all.result.now c.index-all-i.result c.index_mut.result.now c.self.view_is
     c.self.invariant.0 c.check.ensures
     c.requires.place c.requires.within c.requires.free c.zones.ensures.value c.all.ensures c.index-all-i.is
@@ -62,7 +62,7 @@ start-requires-clause-can c =
 
 pub invariant_of-self : goal.invariant_of-self
 invariant_of-self c = (
-  (started _ c.args.self.now c.args.i (told_ask c.args.ask)
+  (started _ c.args.self.now c.args.i (ask_seen c.args.ask)
       _ c.zones.result.now no_zone c.all.result.now c.index-all-i.result c.index_mut.result.now c.start.new.held
       c.self.view_is
       c.self.invariant.0 c.check.ensures c.requires.place c.requires.within c.requires.free c.zones.ensures.value
@@ -74,7 +74,7 @@ invariant_of-self c = (
 
 pub returns : goal.returns
 returns c layout mem s stands =
-    (started _ c.args.self.now c.args.i (told_ask c.args.ask)
+    (started _ c.args.self.now c.args.i (ask_seen c.args.ask)
     _ c.zones.result.now no_zone c.all.result.now c.index-all-i.result c.index_mut.result.now c.start.new.held
     c.self.view_is
     c.self.invariant.0 c.check.ensures c.requires.place c.requires.within c.requires.free c.zones.ensures.value

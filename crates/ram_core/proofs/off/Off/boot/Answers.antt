@@ -3,7 +3,7 @@ use Rattle.zone_params.specs.Laid.{params_of, zones_of}
 use Rattle.zone_spec.specs.Layout.{rounded}
 use Rattle.old_log.specs.Saving.{saved}
 use Rattle.ram_core.specs.declared.report.ZoneReport.{ZoneReport}
-use Rattle.ram_core.specs.Reports.{told_report}
+use Rattle.ram_core.specs.Reports.{report_seen}
 use Rattle.ram_core.specs.LiveSeen.{LiveSeen}
 use Rattle.ram_core.specs.Booted.{Booted}
 use Rattle.ram_core.proofs.Boots.{open_fits, open_whole, open_closed, open_rests, logs_from, boot_runs, boot_is}
@@ -36,7 +36,7 @@ live-requires-clause-running c = boot_runs c.args.self c.in_ok-open.open c.in_ok
 
 pub returns-in-Ok-clause-booted : goal.returns-in-Ok-clause-booted
 returns-in-Ok-clause-booted c layout mem s stands =
-    subst (λ (v : LiveSeen). Booted layout mem s v (saved c.in-Ok.prepared.logs) (map told_report c.from_vec.result))
+    subst (λ (v : LiveSeen). Booted layout mem s v (saved c.in-Ok.prepared.logs) (map report_seen c.from_vec.result))
     (sym c.live.ensures)
     (subst (λ (rs : List ZoneReport). Booted layout mem s
     (record {
@@ -46,6 +46,6 @@ returns-in-Ok-clause-booted c layout mem s stands =
       zones = c.in-Ok.prepared.held.items;
       cursor = 0;
     })
-    (saved c.in-Ok.prepared.logs) (map told_report rs)) (sym c.from_vec.ensures)
+    (saved c.in-Ok.prepared.logs) (map report_seen rs)) (sym c.from_vec.ensures)
     (boot_is c.args.self c.in_ok-open.open c.in_ok-open.ensures.«open» c.in-Ok.prepared c.in-Ok.ensures.prepared
     c.settle_all.new.spans c.settle_all.ensures layout mem s stands))

@@ -3,7 +3,7 @@ use Rattle.zone_spec.specs.declared.Words.{Words}
 use Rattle.zone_spec.specs.declared.Zone.{Zone}
 use Rattle.zone_spec.specs.Reading.{IsRing}
 use Rattle.zone_spec.specs.Told.{Call}
-use Rattle.zone_flight.specs.Calls.{told_call, IsOpenFor}
+use Rattle.zone_flight.specs.Calls.{call_seen, IsOpenFor}
 use Rattle.zone_flight.specs.First.{first_place}
 use Rattle.zone_flight.specs.declared.progress.Place.{Place}
 use Rattle.zone_flight.specs.Machine.{IsKept, StandsFor}
@@ -27,7 +27,7 @@ pub returns-clause-kept : goal.returns-clause-kept
 returns-clause-kept c =
     let z : Zone = c.args.zone in
     let w : Words = c.read-words.result in
-    let call : Call = told_call c.args.call in
+    let call : Call = call_seen c.args.call in
     let ring : IsRing w z.cap = subst (λ v. IsRing v z.cap) (sym c.read-words.ensures) c.requires.ring in
     let open_for : IsOpenFor call w z.cap = subst (λ v. IsOpenFor call v z.cap) (sym c.read-words.ensures)
     c.requires.is_open in
@@ -40,7 +40,7 @@ pub returns-clause-stands : goal.returns-clause-stands
 returns-clause-stands c =
     let z : Zone = c.args.zone in
     let w : Words = c.read-words.result in
-    let call : Call = told_call c.args.call in
+    let call : Call = call_seen c.args.call in
     let ring : IsRing w z.cap = subst (λ v. IsRing v z.cap) (sym c.read-words.ensures) c.requires.ring in
     let open_for : IsOpenFor call w z.cap = subst (λ v. IsOpenFor call v z.cap) (sym c.read-words.ensures)
     c.requires.is_open in

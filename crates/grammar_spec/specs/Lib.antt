@@ -1,0 +1,10 @@
+pub mod Faults
+pub mod Numbers
+pub mod Words
+pub mod ZoneWords
+pub mod BlkWords
+pub mod Fields
+pub mod Groups
+pub mod Rows
+pub mod Lines
+pub mod Printed

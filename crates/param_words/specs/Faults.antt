@@ -1,9 +1,0 @@
--- The numbers of the faults of words
-use Rattle.std.specs.Prelude.{ℕ}
-use Rattle.param_words.specs.declared.faults.ParamFault.{ParamFault}
-use Rattle.param_words.specs.declared.faults.ParamFault.TheVariants.{UnknownKey, Twice, NotANumber}
-
-abbrev pub fault_number : ParamFault → ℕ
-fault_number (UnknownKey place) = 1
-fault_number (Twice place) = 2
-fault_number (NotANumber place) = 3

@@ -1,0 +1,8 @@
+use Rattle.ram_generator.proofs.Making.{left_there, left_nowhere}
+use Rattle.ram_generator.proofs.calls.left.Goals as goal
+
+pub returns-in-Ok : goal.returns-in-Ok
+returns-in-Ok c = left_there c.args.live.now c.args.zone c.in-Ok.left c.in-Ok.ensures.left
+
+pub returns-in-Err : goal.returns-in-Err
+returns-in-Err c = left_nowhere c.args.live.now c.args.zone _ c.in-Err.ensures.refused

@@ -1,0 +1,12 @@
+use Rattle.std.proofs.Common.{◌≤◌}
+use Rattle.tool_spec.specs.Generated.{draw_each, drawn_flips}
+use Rattle.ram_generator.specs.Damage.{blocks_of}
+use Rattle.ram_generator.proofs.Each.{IsAdded}
+use Rattle.ram_generator.proofs.Damaging.{blocks_left}
+use Rattle.ram_generator.proofs.damage.draw_blocks.Given as goal
+
+-- the flips so far, and then those of the blocks that are left
+abbrev pub invariant-parts : goal.invariant-parts
+invariant-parts l = (l.b ≤ l.blocks) × IsAdded l.initial.flips.items l.flips.items
+    (draw_each (drawn_flips l.most l.zone) (blocks_left l.b l.blocks) l.draws)
+    (draw_each (drawn_flips l.most l.zone) (blocks_of l.zone) l.initial.draws)

@@ -1,0 +1,5 @@
+use Rattle.ram_generator.proofs.Flips.{AreUnderWay}
+use Rattle.ram_generator.proofs.damage.make_damage.Given as goal
+
+abbrev pub invariant-flips : goal.invariant-flips
+invariant-flips l = AreUnderWay l.initial.off l.flips l.flip-index l.off

@@ -1,0 +1,5 @@
+use Rattle.std.proofs.Common.{arith}
+use Rattle.ram_generator.proofs.rounds.check.Goals as goal
+
+pub returns : goal.returns
+returns c i = omega (arith, c.type_inv.image i)

@@ -1,0 +1,165 @@
+-- Lines of the other state, and lines that are not of this store
+use Rattle.std.specs.Bool.{⊤}
+use Rattle.std.proofs.Common.{◌≡◌, ℕ, Bool, List, [], Result, Ok, Err, refl}
+use Rattle.zone_spec.specs.declared.Zone.{Zone}
+use Rattle.session_spec.specs.States.{OffState, LiveState, Session, Off as OffOf, Live as LiveOf}
+use Rattle.old_log.specs.Saving.{SavedLogs}
+use Rattle.ram_core.specs.OffSeen.{OffSeen}
+use Rattle.ram_core.specs.LiveSeen.{LiveSeen}
+use Rattle.grammar_spec.specs.declared.line.Line.{Line}
+use Rattle.grammar_spec.specs.declared.line.Line.TheVariants.{Blank, Write, Dump, BeginWrite, BeginErase, BeginDump, Step, Finish, Stop, Flip, Boot, BootPart, List as ListLine, Extract, Erase, KDump, CutAfter}
+use Rattle.zone_spec.specs.declared.Time.{Time}
+use Rattle.session_spec.specs.Sound.{IsTime}
+use Rattle.grammar_spec.specs.Printed.{HasFields}
+use Rattle.tool_spec.specs.Scripts.{line_done}
+use Rattle.tool_spec.specs.declared.Cause.{Cause}
+use Rattle.tool_spec.specs.declared.Cause.TheVariants.{IsOff, IsLive, NotHere}
+use Rattle.ram_session.specs.Sessions.{Stands, LineRefused}
+use Rattle.ram_session.specs.declared.machine.Machine.{Machine}
+use Rattle.ram_session.specs.declared.machine.Machine.TheVariants.{Off, Live}
+
+-- a refusal whatever state the machine stands for
+refused_off : (off : OffSeen) (line : Line) (cause : Cause)
+    → ((layout : List Zone) (s : OffState) → line_done layout (OffOf s) line ≡ Err cause)
+    → LineRefused (Off off) line cause
+refused_off off line cause is layout mem (OffOf s) lies stands state = is layout s
+refused_off off line cause is layout mem (LiveOf s) lies stands state = absurd stands
+
+refused_live : (live : LiveSeen) (logs : SavedLogs) (line : Line) (cause : Cause)
+    → ((layout : List Zone) (s : LiveState) → line_done layout (LiveOf s) line ≡ Err cause)
+    → LineRefused (Live live logs) line cause
+refused_live live logs line cause is layout mem (OffOf s) lies stands state = absurd stands
+refused_live live logs line cause is layout mem (LiveOf s) lies stands state = is layout s
+
+-- the lines that are refused off, live, and in each state
+abbrev pub WaitsForBoot : Line → Type 0
+WaitsForBoot (Write z b) = ⊤
+WaitsForBoot (Dump t k b) = ⊤
+WaitsForBoot (BeginWrite z b) = ⊤
+WaitsForBoot (BeginErase z) = ⊤
+WaitsForBoot (BeginDump t k b) = ⊤
+WaitsForBoot (Step z n) = ⊤
+WaitsForBoot (Finish z) = ⊤
+WaitsForBoot Stop = ⊤
+WaitsForBoot ListLine = ⊤
+WaitsForBoot (Extract b) = ⊤
+WaitsForBoot (Erase b) = ⊤
+WaitsForBoot other = ⊥
+
+abbrev pub WaitsForStop : Line → Type 0
+WaitsForStop (Flip a m) = ⊤
+WaitsForStop Boot = ⊤
+WaitsForStop (BootPart n) = ⊤
+WaitsForStop other = ⊥
+
+abbrev pub IsElsewhere : Line → Type 0
+IsElsewhere (KDump a n k r b) = ⊤
+IsElsewhere (CutAfter n) = ⊤
+IsElsewhere other = ⊥
+
+waits_for_boot_line : (layout : List Zone) (s : OffState) (line : Line) → WaitsForBoot line
+    → line_done layout (OffOf s) line ≡ Err IsOff
+unfolding line_done
+waits_for_boot_line layout s (Write z b) h = refl
+waits_for_boot_line layout s (Dump t k b) h = refl
+waits_for_boot_line layout s (BeginWrite z b) h = refl
+waits_for_boot_line layout s (BeginErase z) h = refl
+waits_for_boot_line layout s (BeginDump t k b) h = refl
+waits_for_boot_line layout s (Step z n) h = refl
+waits_for_boot_line layout s (Finish z) h = refl
+waits_for_boot_line layout s Stop h = refl
+waits_for_boot_line layout s ListLine h = refl
+waits_for_boot_line layout s (Extract b) h = refl
+waits_for_boot_line layout s (Erase b) h = refl
+waits_for_boot_line layout s (Flip a m) h = absurd h
+waits_for_boot_line layout s Boot h = absurd h
+waits_for_boot_line layout s (BootPart n) h = absurd h
+waits_for_boot_line layout s (KDump a n k r b) h = absurd h
+waits_for_boot_line layout s (CutAfter n) h = absurd h
+waits_for_boot_line layout s Blank h = absurd h
+
+waits_for_stop_line : (layout : List Zone) (s : LiveState) (line : Line) → WaitsForStop line
+    → line_done layout (LiveOf s) line ≡ Err IsLive
+unfolding line_done
+waits_for_stop_line layout s (Write z b) h = absurd h
+waits_for_stop_line layout s (Dump t k b) h = absurd h
+waits_for_stop_line layout s (BeginWrite z b) h = absurd h
+waits_for_stop_line layout s (BeginErase z) h = absurd h
+waits_for_stop_line layout s (BeginDump t k b) h = absurd h
+waits_for_stop_line layout s (Step z n) h = absurd h
+waits_for_stop_line layout s (Finish z) h = absurd h
+waits_for_stop_line layout s Stop h = absurd h
+waits_for_stop_line layout s ListLine h = absurd h
+waits_for_stop_line layout s (Extract b) h = absurd h
+waits_for_stop_line layout s (Erase b) h = absurd h
+waits_for_stop_line layout s (Flip a m) h = refl
+waits_for_stop_line layout s Boot h = refl
+waits_for_stop_line layout s (BootPart n) h = refl
+waits_for_stop_line layout s (KDump a n k r b) h = absurd h
+waits_for_stop_line layout s (CutAfter n) h = absurd h
+waits_for_stop_line layout s Blank h = absurd h
+
+elsewhere_off_line : (layout : List Zone) (s : OffState) (line : Line) → IsElsewhere line
+    → line_done layout (OffOf s) line ≡ Err NotHere
+unfolding line_done
+elsewhere_off_line layout s (Write z b) h = absurd h
+elsewhere_off_line layout s (Dump t k b) h = absurd h
+elsewhere_off_line layout s (BeginWrite z b) h = absurd h
+elsewhere_off_line layout s (BeginErase z) h = absurd h
+elsewhere_off_line layout s (BeginDump t k b) h = absurd h
+elsewhere_off_line layout s (Step z n) h = absurd h
+elsewhere_off_line layout s (Finish z) h = absurd h
+elsewhere_off_line layout s Stop h = absurd h
+elsewhere_off_line layout s ListLine h = absurd h
+elsewhere_off_line layout s (Extract b) h = absurd h
+elsewhere_off_line layout s (Erase b) h = absurd h
+elsewhere_off_line layout s (Flip a m) h = absurd h
+elsewhere_off_line layout s Boot h = absurd h
+elsewhere_off_line layout s (BootPart n) h = absurd h
+elsewhere_off_line layout s (KDump a n k r b) h = refl
+elsewhere_off_line layout s (CutAfter n) h = refl
+elsewhere_off_line layout s Blank h = absurd h
+
+elsewhere_live_line : (layout : List Zone) (s : LiveState) (line : Line) → IsElsewhere line
+    → line_done layout (LiveOf s) line ≡ Err NotHere
+unfolding line_done
+elsewhere_live_line layout s (Write z b) h = absurd h
+elsewhere_live_line layout s (Dump t k b) h = absurd h
+elsewhere_live_line layout s (BeginWrite z b) h = absurd h
+elsewhere_live_line layout s (BeginErase z) h = absurd h
+elsewhere_live_line layout s (BeginDump t k b) h = absurd h
+elsewhere_live_line layout s (Step z n) h = absurd h
+elsewhere_live_line layout s (Finish z) h = absurd h
+elsewhere_live_line layout s Stop h = absurd h
+elsewhere_live_line layout s ListLine h = absurd h
+elsewhere_live_line layout s (Extract b) h = absurd h
+elsewhere_live_line layout s (Erase b) h = absurd h
+elsewhere_live_line layout s (Flip a m) h = absurd h
+elsewhere_live_line layout s Boot h = absurd h
+elsewhere_live_line layout s (BootPart n) h = absurd h
+elsewhere_live_line layout s (KDump a n k r b) h = refl
+elsewhere_live_line layout s (CutAfter n) h = refl
+elsewhere_live_line layout s Blank h = absurd h
+
+pub waits_for_boot : (off : OffSeen) (line : Line) → WaitsForBoot line → LineRefused (Off off) line IsOff
+waits_for_boot off line h = refused_off off line IsOff (λ layout s. waits_for_boot_line layout s line h)
+
+pub waits_for_stop : (live : LiveSeen) (logs : SavedLogs) (line : Line) → WaitsForStop line
+    → LineRefused (Live live logs) line IsLive
+waits_for_stop live logs line h = refused_live live logs line IsLive (λ layout s. waits_for_stop_line layout s line h)
+
+pub elsewhere_off : (off : OffSeen) (line : Line) → IsElsewhere line → LineRefused (Off off) line NotHere
+elsewhere_off off line h = refused_off off line NotHere (λ layout s. elsewhere_off_line layout s line h)
+
+pub elsewhere_live : (live : LiveSeen) (logs : SavedLogs) (line : Line) → IsElsewhere line
+    → LineRefused (Live live logs) line NotHere
+elsewhere_live live logs line h = refused_live live logs line NotHere (λ layout s. elsewhere_live_line layout s line h)
+
+-- a line's time can be written
+pub dump_time : (t : Time) (packed : Bool) (bytes : List ℕ) → HasFields (Dump t packed bytes) → IsTime t
+unfolding HasFields
+dump_time t packed bytes h = h.0
+
+pub begin_dump_time : (t : Time) (packed : Bool) (bytes : List ℕ) → HasFields (BeginDump t packed bytes) → IsTime t
+unfolding HasFields
+begin_dump_time t packed bytes h = h.0

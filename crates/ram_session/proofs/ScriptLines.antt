@@ -1,0 +1,103 @@
+-- A script's lines, done one by one by the machine
+use Rattle.std.proofs.Common.{◌≡◌, ℕ, zero, ◌+◌, ◌<◌, ◌≤◌, List, [], length, take, get_or, Option, Some, None, Ok, Err, refl, sym, ap, ◌∙◌, subst, arith}
+use Rattle.std.specs.Io.KnownBytes.{Appends}
+use Rattle.box_io.specs.Outside.{Rose}
+use Rattle.zone_spec.specs.declared.Zone.{Zone}
+use Rattle.session_spec.specs.States.{Session, Off as OffOf}
+use Rattle.session_spec.specs.Off.{fresh}
+use Rattle.session_spec.specs.Sound.{IsState}
+use Rattle.ram_core.specs.OffSeen.{OffSeen}
+use Rattle.grammar_spec.specs.declared.line.Line.{Line}
+use Rattle.grammar_spec.specs.Printed.{AllHaveFields}
+use Rattle.tool_spec.specs.Scripts.{ran, started}
+use Rattle.tool_spec.specs.declared.Stop.{Stop}
+use Rattle.tool_spec.specs.declared.Stop.TheVariants.{Memory, Usage, Param, Layout, Short, ScriptFault, ImageFault, SinkFault, TooLong, BadLine, Refused}
+use Rattle.tool_laws.specs.Scripts.{ScriptStatesAreSound}
+use Rattle.tool_frame.specs.Playing.{Played, PlayedTo, PlayStop}
+use Rattle.tool_frame.proofs.Play.{played_none, played_on, played_all, stopped_memory, stopped_refused, stopped_put}
+use Rattle.ram_session.specs.Sessions.{Stands, Leaves, LineDone, LineRefused}
+use Rattle.ram_session.specs.Playing.{Puts, PutsPart, LineStops, StandsFresh, PlaysAll}
+use Rattle.ram_session.specs.declared.machine.Machine.{Machine}
+use Rattle.ram_session.specs.declared.machine.Machine.TheVariants.{Off, Live}
+
+-- the machine stands for the state behind the first i lines
+pub record PlaysTo (layout : List Zone) (mem : ℕ) (image : List ℕ) (lines : List Line) (i : ℕ) (machine : Machine)
+    (given given' : Option (List ℕ)) : Type 0 where
+  pub session : Session
+  pub stands : Stands layout mem machine session
+  pub played : PlayedTo layout image lines i session given given'
+
+abbrev pub PlaysSoFar : Machine → List Line → ℕ → Machine → Option (List ℕ) → Option (List ℕ) → Type 0
+PlaysSoFar first lines i machine given given' = (off : OffSeen) → first ≡ Off off
+    → (layout : List Zone) (mem : ℕ) (image : List ℕ) → StandsFresh layout mem image off
+    → PlaysTo layout mem image lines i machine given given'
+
+pub plays_none : (off : OffSeen) (lines : List Line) (given : Option (List ℕ))
+    → PlaysSoFar (Off off) lines 0 (Off off) given given
+plays_none off lines given other is layout mem image f =
+    record {
+      session = OffOf (fresh layout image);
+      stands = subst
+          (λ (m : Machine). Stands layout mem m (OffOf (fresh layout image))) (sym is) f.stands;
+      played =
+          played_none layout image lines given;
+    }
+
+module _ (sound : ScriptStatesAreSound) (first : Machine) (lines : List Line) (fields : AllHaveFields lines) (i : ℕ)
+    (line : Line) (below : i < length lines) (is : line ≡ get_or lines i line) (machine : Machine)
+    (a b : Option (List ℕ)) (so_far : PlaysSoFar first lines i machine a b) where
+  state : (off : OffSeen) (layout : List Zone) (mem : ℕ) (image : List ℕ) → StandsFresh layout mem image off
+      → (p : PlaysTo layout mem image lines i machine a b) → IsState layout mem p.session
+  state off layout mem image f p = subst (λ (s : Session). IsState layout mem s) p.played.so_far.state
+      (sound layout mem image lines f.lies f.size f.bytes fields i)
+
+  pub plays_next : (next : Machine) (c : Option (List ℕ)) → Puts machine line next b c
+      → PlaysSoFar first lines (i + 1) next a c
+  plays_next next c puts off start layout mem image f =
+      let p = so_far off start layout mem image f in
+      let l = puts.done layout mem p.session f.lies p.stands (state off layout mem image f p) in
+      record {
+        session = l.next;
+        stands = l.stands;
+        played = played_on layout image lines i line p.session l.next
+            puts.text puts.text a b c below is p.played l.done refl puts.put;
+      }
+
+  pub plays_stop : (stop : Stop) (c : Option (List ℕ)) (g g0 h : ℕ) → g0 ≤ g
+      → LineStops stop machine line (i + 1) b c g h → (off : OffSeen) → first ≡ Off off
+      → (layout : List Zone) (mem : ℕ) (image : List ℕ) → StandsFresh layout mem image off
+      → PlayStop stop layout image lines a c g0 h
+  plays_stop Memory c g g0 h le same off start layout mem image f =
+      let p = so_far off start layout mem image f in
+      rw same (stopped_memory layout image lines i p.session a b p.played)
+  plays_stop SinkFault c g g0 h le put off start layout mem image f =
+      let p = so_far off start layout mem image f in
+      let l = put.1.done layout mem p.session f.lies p.stands (state off layout mem image f p) in (
+        omega (arith, le, put.0),
+        stopped_put layout image lines i line p.session l.next put.1.text put.1.text a b c
+            below is p.played l.done refl put.1.put,
+      )
+  plays_stop (Refused n cause) c g g0 h le stop off start layout mem image f =
+      let p = so_far off start layout mem image f in
+      rw (stop.0, stop.1) (stopped_refused layout image lines i line cause p.session a b below is p.played
+      (stop.2 layout mem p.session f.lies p.stands (state off layout mem image f p)))
+  plays_stop Usage c g g0 h le stop off start layout mem image f = absurd stop
+  plays_stop (Param x y) c g g0 h le stop off start layout mem image f = absurd stop
+  plays_stop (Layout x) c g g0 h le stop off start layout mem image f = absurd stop
+  plays_stop (Short x y) c g g0 h le stop off start layout mem image f = absurd stop
+  plays_stop ScriptFault c g g0 h le stop off start layout mem image f = absurd stop
+  plays_stop ImageFault c g g0 h le stop off start layout mem image f = absurd stop
+  plays_stop TooLong c g g0 h le stop off start layout mem image f = absurd stop
+  plays_stop (BadLine x) c g g0 h le stop off start layout mem image f = absurd stop
+
+pub plays_all : (off : OffSeen) (lines : List Line) (i : ℕ) (machine : Machine) (a b : Option (List ℕ))
+    → length lines ≤ i → PlaysSoFar (Off off) lines i machine a b → (layout : List Zone) (mem : ℕ) (image : List ℕ)
+    → StandsFresh layout mem image off → PlaysAll layout mem image lines machine a b
+plays_all off lines i machine a b all so_far layout mem image f =
+    let p = so_far off refl layout mem image f in
+    record {
+      session = p.session;
+      stands = p.stands;
+      played = played_all layout image lines i p.session a b all
+          p.played;
+    }

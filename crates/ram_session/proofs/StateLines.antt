@@ -1,0 +1,90 @@
+-- Lines that boot, stop, list, or do nothing
+use Rattle.std.proofs.Common.{◌≡◌, ℕ, List, [], Option, Result, Ok, Err, refl, sym, ap, ◌∙◌}
+use Rattle.zone_spec.specs.declared.Zone.{Zone}
+use Rattle.zone_spec.specs.Layouts.{IsLayout}
+use Rattle.session_spec.specs.States.{OffState, LiveState, Session, Off as OffOf, Live as LiveOf}
+use Rattle.session_spec.specs.Boot.{booted}
+use Rattle.session_spec.specs.Stop.{stopped}
+use Rattle.session_spec.specs.Report.{ZoneReport, report}
+use Rattle.session_spec.specs.Erasures.{saved_logs}
+use Rattle.session_spec.specs.Sound.{IsState}
+use Rattle.old_log.specs.Saving.{SavedLogs, saved}
+use Rattle.ram_core.specs.OffSeen.{OffSeen, StandsOff}
+use Rattle.ram_core.specs.LiveSeen.{LiveSeen, StandsLive}
+use Rattle.ram_core.specs.Booted.{Booted, BootedInPart}
+use Rattle.session_spec.specs.BootPart.{boot_parted, boot_made}
+use Rattle.grammar_spec.specs.declared.line.Line.TheVariants.{Blank, Boot, BootPart, Stop, List as ListLine}
+use Rattle.tool_spec.specs.Texts.{boot_text, part_text, listing}
+use Rattle.tool_spec.specs.Scripts.{line_done}
+use Rattle.ram_session.specs.Sessions.{Stands, LineDone}
+use Rattle.ram_session.specs.declared.machine.Machine.{Machine}
+use Rattle.ram_session.specs.declared.machine.Machine.TheVariants.{Off, Live}
+
+boot_line : (layout : List Zone) (s : OffState) → line_done layout (OffOf s) Boot
+    ≡ Ok (record {
+      session = LiveOf (booted layout s);
+      text = boot_text (saved_logs layout (booted layout s))
+          (report layout s);
+    })
+unfolding line_done
+boot_line layout s = refl
+
+pub boot_done : (old : OffSeen) (live : LiveSeen) (logs : SavedLogs) (reports : List ZoneReport) (text : List ℕ)
+    → ((layout : List Zone) (mem : ℕ) (s : OffState) → StandsOff layout mem old s
+    → Booted layout mem s live (saved logs) reports) → text ≡ boot_text (saved logs) reports
+    → LineDone (Off old) Boot (Live live logs) text
+boot_done old live logs reports text boots same layout mem (OffOf s) lies stands state =
+    let b = boots layout mem s stands in
+    let told : text ≡ boot_text (saved_logs layout (booted layout s)) (report layout s) =
+    same ∙ rw (b.logs, b.reports) refl in
+    record { next = LiveOf (booted layout s); done = rw told (boot_line layout s); stands = (b.live, b.logs) }
+boot_done old live logs reports text boots same layout mem (LiveOf s) lies stands state = absurd stands
+
+stop_line : (layout : List Zone) (s : LiveState) → line_done layout (LiveOf s) Stop
+    ≡ Ok (record { session = OffOf (stopped layout s); text = [] })
+unfolding line_done
+stop_line layout s = refl
+
+pub stop_done : (old : LiveSeen) (logs : SavedLogs) (new : OffSeen)
+    → ((layout : List Zone) (mem : ℕ) (s : LiveState) → StandsLive layout mem old s
+    → StandsOff layout mem new (stopped layout s)) → LineDone (Live old logs) Stop (Off new) []
+stop_done old logs new stops layout mem (OffOf s) lies stands state = absurd stands
+stop_done old logs new stops layout mem (LiveOf s) lies stands state =
+    record { next = OffOf (stopped layout s); done = stop_line layout s; stands = stops layout mem s stands.0 }
+
+list_line : (layout : List Zone) (s : LiveState) → line_done layout (LiveOf s) ListLine
+    ≡ Ok (record { session = LiveOf s; text = listing (saved_logs layout s) })
+unfolding line_done
+list_line layout s = refl
+
+pub list_done : (live : LiveSeen) (logs : SavedLogs) (text : List ℕ) → text ≡ listing (saved logs)
+    → LineDone (Live live logs) ListLine (Live live logs) text
+list_done live logs text same layout mem (OffOf s) lies stands state = absurd stands
+list_done live logs text same layout mem (LiveOf s) lies stands state =
+    let told : text ≡ listing (saved_logs layout s) = same ∙ rw stands.1 refl in
+    record { next = LiveOf s; done = rw told (list_line layout s); stands = stands }
+
+blank_line : (layout : List Zone) (s : Session) → line_done layout s Blank ≡ Ok (record { session = s; text = [] })
+unfolding line_done
+blank_line layout s = refl
+
+pub blank_done : (machine : Machine) → LineDone machine Blank machine []
+blank_done machine layout mem s lies stands state = record { next = s; done = blank_line layout s; stands = stands }
+
+part_line : (layout : List Zone) (s : OffState) (limit : ℕ)
+    → line_done layout (OffOf s) (BootPart limit) ≡ Ok (record {
+      session = OffOf (boot_parted layout limit s);
+      text = part_text (boot_made layout limit s);
+    })
+unfolding line_done
+part_line layout s limit = refl
+
+pub part_done : (old new : OffSeen) (limit given made : ℕ) (text : List ℕ) → given ≡ limit
+    → ((layout : List Zone) (mem : ℕ) (s : OffState) → StandsOff layout mem old s
+    → BootedInPart layout mem s given new made) → text ≡ part_text made
+    → LineDone (Off old) (BootPart limit) (Off new) text
+part_done old new limit given made text same parts put layout mem (OffOf s) lies stands state =
+    let b : BootedInPart layout mem s limit new made = rw same at (parts layout mem s stands) in
+    let told : text ≡ part_text (boot_made layout limit s) = put ∙ rw b.count refl in
+    record { next = OffOf (boot_parted layout limit s); done = rw told (part_line layout s limit); stands = b.off }
+part_done old new limit given made text same parts put layout mem (LiveOf s) lies stands state = absurd stands

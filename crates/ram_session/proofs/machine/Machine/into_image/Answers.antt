@@ -1,0 +1,9 @@
+use Rattle.std.proofs.Common.{subst, sym, ◌≡◌, ℕ, List}
+use Rattle.ram_session.proofs.Images.{IsImageOf, live_image}
+use Rattle.ram_session.specs.declared.machine.Machine.{Machine}
+use Rattle.ram_session.proofs.machine.Machine.into_image.Goals as goal
+
+pub returns : goal.returns
+returns c = subst (λ (m : Machine). IsImageOf m c.into_image-in-Live.result) (sym c.in-Live.is)
+    (live_image c.in-Live.live c.in-Live.field-1 c.stop.result c.into_image-in-Live.result c.stop.ensures
+    c.into_image-in-Live.ensures)

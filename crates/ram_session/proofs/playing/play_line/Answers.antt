@@ -1,0 +1,14 @@
+use Rattle.std.proofs.Common.{◌≡◌, subst}
+use Rattle.box_io.specs.Outside.{AppendsFront}
+use Rattle.ram_session.proofs.playing.play_line.Goals as goal
+
+pub returns-in-Err-clause-played : goal.returns-in-Err-clause-played
+returns-in-Err-clause-played g c = (
+  c.in-Err.ensures.cause.failed,
+  record {
+    new = c.in-Ok.done.0;
+    text = c.in-Ok.done.1.items;
+    done = c.in-Ok.ensures;
+    put = rw c.deref.ensures.value at c.in-Err.ensures.bytes;
+  },
+)

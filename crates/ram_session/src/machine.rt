@@ -1,0 +1,50 @@
+// A script's machine.
+ghost use Rattle.std.specs.Prelude.{◌≡◌, ℕ, List};
+ghost use Rattle.zone_spec.specs.declared.Zone.{Zone};
+ghost use Rattle.session_spec.specs.States.{Session};
+ghost use Rattle.session_spec.specs.Stop.{session_image};
+ghost use Rattle.ram_session.specs.Sessions.{Stands};
+
+use box_io::Bytes;
+use old_log::Logs;
+use ram_core::{Live, Off};
+use std::alloc::AllocError;
+use tool_spec::Cause;
+
+/// The store of a script: off, or live beside the logs that its last boot saved.
+#[derive(Drop)]
+pub enum Machine {
+    Off(Off),
+    Live(Live, Logs),
+}
+
+impl Machine {
+    /// The bytes of the image; a live store is stopped for it.
+    #[tactic(auto, using(crate::proofs::Images::off_image, crate::proofs::Images::live_image))]
+    pub fn into_image(self) -> Bytes
+        ensures { (layout : List Zone) (mem : ℕ) (s : Session) → Stands layout mem self s → result ≡ session_image s }
+    {
+        match self {
+            Machine::Off(off) => off.into_image(),
+            Machine::Live(live, _) => live.stop().into_image(),
+        }
+    }
+}
+
+/// Why a line was not done.
+#[derive(Clone, Copy, Debug, PartialEq, Eq)]
+pub enum LineError {
+    Memory,
+    Refused(Cause),
+}
+
+impl From<AllocError> for LineError {
+    ghost use Rattle.std.specs.Prelude.{◌≡◌};
+    ghost use Rattle.ram_session.specs.declared.machine.LineError.TheVariants.{Memory};
+
+    ghost from_gives = { λ _ e. e ≡ Memory };
+
+    fn from(_e: AllocError) -> LineError {
+        LineError::Memory
+    }
+}

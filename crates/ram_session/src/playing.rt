@@ -1,0 +1,60 @@
+// The lines of a script, in order.
+ghost use Rattle.std.specs.Prelude.{◌≡◌, ◌≤◌, ◌<◌, ◌^◌, length, MatchResult};
+ghost use Rattle.grammar_spec.specs.Printed.{HasFields, AllHaveFields};
+ghost use Rattle.ram_session.specs.Playing.{Puts, LineStops, Plays};
+
+use crate::lines::do_line;
+use crate::machine::{LineError, Machine};
+use box_io::{Failed, Sink};
+use box_script::Line;
+use ram_core::Off;
+use std::alloc::Global;
+use tool_spec::Stop;
+
+// Does the line of this number, and puts its text.
+fn play_line<O: Sink>(
+    alloc: Global,
+    machine: Machine,
+    line: &Line,
+    number: u32,
+    out: &mut O,
+) -> Result<Machine, Stop>
+    requires fields { HasFields line.now }
+    ensures later { O.faults out.old ≤ O.faults out.new }
+    ensures played { MatchResult result (λ next. Puts machine line.now next (O.given out.old) (O.given out.new))
+        (λ stop. LineStops stop machine line.now number (O.given out.old) (O.given out.new) (O.faults out.old)
+        (O.faults out.new)) }
+{
+    let (next, text) = match do_line(alloc, machine, line) {
+        Ok(done) => done,
+        Err(LineError::Memory) => return Err(Stop::Memory),
+        Err(LineError::Refused(cause)) => {
+            return Err(Stop::Refused {
+                line: number,
+                cause,
+            });
+        }
+    };
+    match out.put(&text) {
+        Ok(()) => Ok(next),
+        Err(Failed) => Err(Stop::SinkFault),
+    }
+}
+
+/// Does the lines in order on a store that is off, and puts the text of each as it is done.
+pub fn play<O: Sink>(alloc: Global, off: Off, lines: &[Line], out: &mut O) -> Result<Machine, Stop>
+    requires fields { AllHaveFields lines.now }
+    requires few { length lines.now < 2 ^ 32 }
+    ensures later { O.faults out.old ≤ O.faults out.new }
+    ensures played { Plays off lines.now (O.given out.old) (O.given out.new) (O.faults out.old) (O.faults out.new)
+        result }
+{
+    let mut machine = Machine::Off(off);
+    for (i, line) in lines.iter().enumerate() {
+        machine = match play_line(alloc, machine, line, i as u32 + 1, out) {
+            Ok(next) => next,
+            Err(stop) => return Err(stop),
+        };
+    }
+    Ok(machine)
+}

@@ -1,0 +1,57 @@
+// Lines that boot, stop or list.
+ghost use Rattle.std.specs.Prelude.{◌≡◌, [], IfOk, MatchResult, map};
+ghost use Rattle.ram_session.specs.Sessions.{LineDone, LineFails};
+ghost use Rattle.grammar_spec.specs.declared.line.Line.TheVariants.{Boot, BootPart, Stop, List as ListLine};
+ghost use Rattle.ram_session.specs.declared.machine.Machine.TheVariants.{Off as OffMachine, Live as LiveMachine};
+ghost use Rattle.ram_core.specs.LiveSeen.{LiveSeen};
+
+use crate::machine::{LineError, Machine};
+use old_log::Logs;
+use ram_core::{Live, Off};
+use ram_texts::{boot_text, listing, part_text};
+use std::alloc::{AllocError, Global};
+
+/// A boot, with the text of what it reads.
+#[tactic(auto, using(crate::proofs::StateLines::boot_done))]
+pub fn boot(alloc: Global, off: Off) -> Result<(Machine, Vec<u8>), LineError>
+    ensures { MatchResult result (λ r. LineDone (OffMachine off) Boot r.0 r.1.items) (LineFails (OffMachine off) Boot) }
+{
+    let (live, logs, report) = match off.boot() {
+        Ok(booted) => booted,
+        Err(_) => return Err(LineError::Memory),
+    };
+    let text = boot_text(alloc, &logs, &report)?;
+    Ok((Machine::Live(live, logs), text))
+}
+
+/// A boot that is stopped after so many stores, or behind its last.
+#[tactic(auto, using(crate::proofs::StateLines::part_done))]
+pub fn boot_part(alloc: Global, off: Off, limit: u32) -> Result<(Machine, Vec<u8>), LineError>
+    ensures { MatchResult result (λ r. LineDone (OffMachine off) (BootPart limit) r.0 r.1.items)
+        (LineFails (OffMachine off) (BootPart limit)) }
+{
+    let (off, made) = match off.boot_part(u64::from(limit)) {
+        Ok(parted) => parted,
+        Err(_) => return Err(LineError::Memory),
+    };
+    let text = part_text(alloc, made)?;
+    Ok((Machine::Off(off), text))
+}
+
+/// A stop.
+#[tactic(auto, using(crate::proofs::StateLines::stop_done))]
+pub fn stop(live: Live, logs: Logs) -> Machine
+    ensures { LineDone (LiveMachine live logs) Stop result [] }
+{
+    let _ = logs.len();
+    Machine::Off(live.stop())
+}
+
+/// The listing of the last boot's records.
+#[tactic(auto, using(crate::proofs::StateLines::list_done))]
+pub fn list(alloc: Global, logs: &Logs) -> Result<Vec<u8>, AllocError>
+    ensures { IfOk result (λ text. (live : LiveSeen) → LineDone (LiveMachine live logs.now) ListLine
+        (LiveMachine live logs.now) text.items) }
+{
+    listing(alloc, logs)
+}

@@ -1,9 +1,0 @@
-use Rattle.ram_core.specs.Asks.{told_ask}
-use Rattle.store_generator.proofs.Making.{call_counted}
-use Rattle.store_generator.proofs.calls.make_call.Goals as goal
-
-pub returns-clause-made : goal.returns-clause-made
-returns-clause-made c layout mem g lies r =
-    call_counted layout mem c.args.live.now c.make_stores-stores.new.live c.args.counts.now c.add_calls.new.self g
-    (told_ask c.args.ask) c.make_stores-stores.result r
-    (c.make_stores-stores.ensures layout mem r.now lies r.stands r.sound r.idle) c.add_calls.ensures.added

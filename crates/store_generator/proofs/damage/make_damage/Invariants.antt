@@ -1,5 +1,0 @@
-use Rattle.store_generator.proofs.Flips.{AreUnderWay}
-use Rattle.store_generator.proofs.damage.make_damage.Given as goal
-
-abbrev pub invariant-flips : goal.invariant-flips
-invariant-flips l = AreUnderWay l.initial.off l.flips l.flip-index l.off

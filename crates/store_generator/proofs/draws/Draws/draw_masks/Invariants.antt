@@ -1,9 +1,0 @@
-use Rattle.std.proofs.Common.{◌≤◌, ◌-◌}
-use Rattle.tool_spec.specs.Generated.{draws}
-use Rattle.store_generator.proofs.Drawing.{IsMasked}
-use Rattle.store_generator.proofs.draws.Draws.draw_masks.Given as goal
-
--- the flips so far, and then those that are left
-abbrev pub invariant-masks : goal.invariant-masks
-invariant-masks l = (l.i ≤ l.count) × IsMasked l.initial.flips.items l.flips.items l.place l.i
-    (draws (l.count - l.i) 255 l.self) (draws l.count 255 l.initial.self)

@@ -1,5 +1,0 @@
-use Rattle.std.proofs.Common.{◌≡◌, ◌≤◌, replicate}
-use Rattle.store_generator.proofs.generating.zeros.Given as goal
-
-abbrev pub invariant-bytes : goal.invariant-bytes
-invariant-bytes l = record { many : l.counter ≤ l.count; items : l.bytes.items ≡ replicate l.counter 0 }

@@ -1,9 +1,0 @@
-use Rattle.std.proofs.Common.{map}
-use Rattle.ram_core.specs.Reports.{told_report}
-use Rattle.store_generator.proofs.Rounding.{is_up}
-use Rattle.store_generator.proofs.rounds.boot_up.Goals as goal
-
-pub returns-in-Ok : goal.returns-in-Ok
-returns-in-Ok c layout mem s lies stands size =
-    is_up layout mem s c.args.off c.in-Ok.live _ (map told_report c.in-Ok.report)
-    (rw c.image.ensures at c.check.ensures) lies stands size (c.in-Ok.ensures.booted layout mem s stands)

@@ -1,5 +1,0 @@
-use Rattle.std.proofs.Common.{arith}
-use Rattle.store_generator.proofs.rounds.check.Goals as goal
-
-pub returns : goal.returns
-returns c i = omega (arith, c.type_inv.image i)

@@ -1,6 +1,0 @@
-use Rattle.std.proofs.Common.{◌≡◌, take}
-use Rattle.tool_spec.specs.Generated.{rings}
-use Rattle.store_generator.proofs.turns.rings.Given as goal
-
-abbrev pub invariant-zones : goal.invariant-zones
-invariant-zones l = l.names.items ≡ rings (take l.zone-index l.zones)

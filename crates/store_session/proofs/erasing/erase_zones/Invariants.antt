@@ -1,6 +1,0 @@
-use Rattle.store_session.proofs.ErasedZones.{ErasesTo}
-use Rattle.store_session.proofs.erasing.erase_zones.Given as goal
-
--- the zones that were passed were erased where they belong to the record
-abbrev pub invariant-loop-i : goal.invariant-loop-i
-invariant-loop-i l = ErasesTo l.name l.i l.initial.live l.live

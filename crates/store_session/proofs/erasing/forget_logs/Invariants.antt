@@ -1,6 +1,0 @@
-use Rattle.store_session.proofs.EraseLines.{ForgetsTo}
-use Rattle.store_session.proofs.erasing.forget_logs.Given as goal
-
--- the readings that were passed were forgotten where their zones belong to the record
-abbrev pub invariant-loop-i : goal.invariant-loop-i
-invariant-loop-i l = ForgetsTo l.name l.i l.initial.logs l.logs

@@ -1,7 +1,0 @@
-use Rattle.std.proofs.Common.{◌≤◌}
-use Rattle.store_session.proofs.ScriptLines.{PlaysSoFar}
-use Rattle.store_session.proofs.playing.play.Given as goal
-
-abbrev pub invariant-loop-i : goal.invariant-loop-i
-invariant-loop-i g l = (g.O.Sink.faults l.initial.out ≤ g.O.Sink.faults l.out)
-    × PlaysSoFar l.initial.machine l.lines l.i l.machine (g.O.Sink.given l.initial.out) (g.O.Sink.given l.out)

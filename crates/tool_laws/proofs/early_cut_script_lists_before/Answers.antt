@@ -1,0 +1,5 @@
+use Rattle.tool_laws.proofs.BlkScripts.{script_lists_before}
+use Rattle.tool_laws.proofs.early_cut_script_lists_before.Goals as goal
+
+pub returns : goal.returns
+returns c = script_lists_before

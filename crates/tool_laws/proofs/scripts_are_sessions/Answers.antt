@@ -1,0 +1,5 @@
+use Rattle.tool_laws.proofs.BlkScripts.{scripts_are}
+use Rattle.tool_laws.proofs.scripts_are_sessions.Goals as goal
+
+pub returns : goal.returns
+returns c = scripts_are
