@@ -22,13 +22,13 @@ fn ramp() -> [u8; 128] {
     block
 }
 
-/// Damages the first byte, the third and so on.
+/// Damages so many bytes, from the first on, evenly over the block.
 fn damage(block: &mut [u8], errors: usize)
     requires few { errors ≤ 63 }
     requires len { length block.old ≡ 128 }
 {
     for i in 0..errors {
-        block[2 * i] ^= 1 + i as u8;
+        block[i * 127 / errors] ^= 1 + i as u8;
     }
 }
 

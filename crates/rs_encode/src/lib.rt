@@ -347,6 +347,26 @@ impl Parity {
             has_lanes(&self.rest_in_lanes(msg), par)
         }
     }
+
+    /// Whether `par_a` is the parity of `a`, and `par_b` that of `b`. Up to 16 parity symbols this is faster than two
+    /// calls of [`Parity::is_parity`].
+    pub fn are_parity_pair(&self, a: &[u8], par_a: &[u8], b: &[u8], par_b: &[u8]) -> (bool, bool)
+        requires len_a { length par_a.now ≡ self.now }
+        requires len_b { length par_b.now ≡ self.now }
+        requires same { length b.now ≡ length a.now }
+        requires fits { length a.now + self.now ≤ 255 }
+        ensures a { IsTrue result.0 ↔ IsCodeword self.now (a.now ++ par_a.now) }
+        ensures b { IsTrue result.1 ↔ IsCodeword self.now (b.now ++ par_b.now) }
+    {
+        if self.r <= 16 {
+            let rests = self.rest_pair(a, b);
+            let is_a = has_lanes(&[rests.0], par_a);
+            let is_b = has_lanes(&[rests.1], par_b);
+            (is_a, is_b)
+        } else {
+            (self.is_parity(a, par_a), self.is_parity(b, par_b))
+        }
+    }
 }
 
 #[cfg(test)]
@@ -369,6 +389,10 @@ mod tests {
         assert_eq!(rt; &other[..r], want, "second of two at {r}");
         other[r - 1] ^= 1;
         assert!(rt; !coder.is_parity(msg, &other[..r]), "other parity at {r}");
+        let pair = coder.are_parity_pair(msg, &out[..r], msg, &other[..r]);
+        assert!(rt; pair.0 && !pair.1, "the second is other at {r}");
+        let pair = coder.are_parity_pair(msg, &other[..r], msg, &out[..r]);
+        assert!(rt; !pair.0 && pair.1, "the first is other at {r}");
     }
 
     /// 11, 48, 85 and so on, each 37 more than the last.

@@ -2,7 +2,7 @@
 //! syndromes, a search of the word's own places, and Forney's masks.
 #![tactic(auto)]
 
-ghost use Rattle.std.specs.Prelude.{◌≡◌, ◌≢◌, ◌+◌, ◌-◌, ◌/◌, ◌≤◌, ◌<◌, ◌↔◌, ℕ, ◌++◌, ◌∷◌, length, slice_index, take, drop, reverse, List, true, false, IsTrue, IfSome, IfNone, unwrap_or};
+ghost use Rattle.std.specs.Prelude.{◌≡◌, ◌≢◌, ◌+◌, ◌-◌, ◌/◌, ◌≤◌, ◌<◌, ◌↔◌, ℕ, ◌++◌, length, slice_index, slice_set, take, drop, reverse, List, true, false, IsTrue, unwrap_or};
 ghost use Rattle.code_spec.specs.Field.{gf_add, gf_mul, gf_pow};
 ghost use Rattle.code_spec.specs.Code.{value_of, distance, nearest, parity_of};
 ghost use Rattle.code_laws.specs.Polynomials.{poly};
@@ -10,12 +10,12 @@ ghost use Rattle.code_laws.specs.Series.{shift, one, Bytes};
 ghost use Rattle.code_laws.proofs.Symbols.{HasRoots, IsAdded};
 ghost use Rattle.rs_errors.specs.Decoding.{decoded_by, fixes_by};
 ghost use Rattle.rs_errors.specs.Places.{roots_of, gap_ratio};
-ghost use Rattle.rs_errors.specs.Fixes.{Below255, IsFix, AreFixes, AllInside, fixes_from, PowersBelow, IsDamage, applied, IsWithin, fixes_between};
+ghost use Rattle.rs_errors.specs.Fixes.{Below255, IsFix, AreFixes, AllInside, fixes_from, PowersBelow, IsDamage, applied, IsWithin, fixes_between, fix_sum};
 ghost use Rattle.rs_errors.specs.Euclid.{IsStep, IsSolution, LeadingZeros};
 
 use arrayvec::ArrayVec;
 use gf_poly::{rising_values, syndromes, values_at};
-use gf256::{add, antilog, inv, log, mul, mul_pow_by_bits, pow_ratio};
+use gf256::{add, alpha_pow, antilog, inv, log, mul, mul_pow_by_bits, pow_ratio};
 use rs_encode::Parity;
 
 /// A place of a word, from 0 at its first symbol on, and the mask that corrects it by exclusive-or, which is not 0.
@@ -418,14 +418,6 @@ fn excess(coder: &Parity, msg: &[u8], par: &[u8], out: &mut [u8])
     add_symbols(out, par);
 }
 
-fn is_codeword(coder: &Parity, msg: &[u8], par: &[u8]) -> bool
-    requires coder { coder.now ≡ length par.now }
-    requires fits { length msg.now + length par.now ≤ 255 }
-    ensures { IsTrue result ↔ HasRoots (length par.now) (msg.now ++ par.now) }
-{
-    coder.is_parity(msg, par)
-}
-
 /// Tells whether the word is no codeword, and then makes `values` its syndromes, which are those of the excess alone.
 fn is_damaged(coder: &Parity, msg: &[u8], par: &[u8], values: &mut [u8]) -> bool
     requires coder { coder.now ≡ length par.now }
@@ -447,75 +439,106 @@ fn is_damaged(coder: &Parity, msg: &[u8], par: &[u8], values: &mut [u8]) -> bool
     true
 }
 
-fn apply(word: &mut [u8], fixes: &[Fix])
-    requires { AllInside (length word.old) fixes.now }
-    ensures { word.new ≡ applied fixes.now word.old }
+/// The logarithm of a product, by those of its factors.
+fn log_product(a: u8, b: u8) -> u8
+    requires a { a < 255 }
+    requires b { b < 255 }
+    ensures below { result < 255 }
+    ensures value { gf_pow 2 result ≡ gf_mul (gf_pow 2 a) (gf_pow 2 b) }
+{
+    let sum = a as u16 + b as u16;
+    if sum < 255 {
+        sum as u8
+    } else {
+        (sum - 255) as u8
+    }
+}
+
+/// Adds to the values those of a mask at one power: the mask has the logarithm `mask_log`.
+fn add_terms(values: &mut [u8], mask_log: u8, power: u8)
+    requires mask_log { mask_log < 255 }
+    requires power { power < 255 }
+    ensures { (k : ℕ) → k < length values.new → slice_index values.new k
+        ≡ gf_add (slice_index values.old k) (gf_mul (gf_pow 2 mask_log) (gf_pow (gf_pow 2 power) k)) }
+{
+    let mut term = mask_log;
+    for k in 0..values.len() {
+        values[k] = add(values[k], alpha_pow(term));
+        term = log_product(term, power);
+    }
+}
+
+/// Adds to the values those of the mask at one power.
+fn add_fix(values: &mut [u8], mask: u8, power: u8)
+    requires { power < 255 }
+    ensures { (k : ℕ) → k < length values.new → slice_index values.new k
+        ≡ gf_add (slice_index values.old k) (gf_mul mask (gf_pow (gf_pow 2 power) k)) }
+{
+    if mask == 0 {
+        return;
+    }
+    add_terms(values, log(mask), power);
+}
+
+/// Adds to the values of a word, at 2 to the 0, 1 and so on, those of its fixes: they become those of the fixed word.
+fn add_fixes(values: &mut [u8], fixes: &[Fix], places: usize)
+    requires places { places ≤ 255 }
+    requires inside { AllInside places fixes.now }
+    ensures { (k : ℕ) → k < length values.new → slice_index values.new k
+        ≡ gf_add (slice_index values.old k) (fix_sum places fixes.now (gf_pow 2 k)) }
 {
     for fix in fixes {
-        let place = fix.place as usize;
-        word[place] = add(word[place], fix.mask);
+        add_fix(values, fix.mask, (places - 1 - fix.place as usize) as u8);
     }
 }
 
-fn extend(word: &mut ArrayVec<u8, 255>, more: &[u8])
-    requires { length word.old.items + length more.now ≤ 255 }
-    ensures { word.new.items ≡ word.old.items ++ more.now }
-{
-    match word.try_extend_from_slice(more) {
-        Ok(()) => {}
-        Err(_) => unreachable!(),
-    }
-}
-
-fn joined(msg: &[u8], par: &[u8]) -> ArrayVec<u8, 255>
-    requires { length msg.now + length par.now ≤ 255 }
-    ensures { result.items ≡ msg.now ++ par.now }
-{
-    let mut word: ArrayVec<u8, 255> = ArrayVec::new();
-    extend(&mut word, msg);
-    extend(&mut word, par);
-    word
-}
-
-/// The word corrected, where a codeword is near.
-fn corrected(
-    coder: &Parity,
-    msg: &[u8],
-    par: &[u8],
-    values: &[u8],
-    fixes: &mut ArrayVec<Fix, 63>,
-) -> Option<ArrayVec<u8, 255>>
-    requires coder { coder.now ≡ length par.now }
+/// Finds the fixes that make the nearest codeword of the word with these values, where there is one.
+fn corrected(msg: &[u8], par: &[u8], values: &mut [u8], fixes: &mut ArrayVec<Fix, 63>) -> bool
     requires some { 1 ≤ length par.now }
     requires few { length par.now ≤ 127 }
     requires fits { length msg.now + length par.now ≤ 255 }
-    requires len { length values.now ≡ length par.now }
-    requires values { (k : ℕ) → k < length par.now → slice_index values.now k
+    requires len { length values.old ≡ length par.now }
+    requires values { (k : ℕ) → k < length par.now → slice_index values.old k
         ≡ value_of (msg.now ++ par.now) (gf_pow 2 k) }
     requires wrong { ¬ HasRoots (length par.now) (msg.now ++ par.now) }
-    ensures near { IfSome result (λ w. IsWithin (length par.now / 2) (length par.now) (msg.now ++ par.now) w.items) }
-    ensures fixes { IfSome result (λ w. fixes.new.items ≡ fixes_between (msg.now ++ par.now) w.items) }
-    ensures some { IfSome result (λ w. 0 < distance (msg.now ++ par.now) w.items) }
-    ensures none { IfNone result ((c : List ℕ) → IsWithin (length par.now / 2) (length par.now) (msg.now ++ par.now) c
-        → ⊥) }
-    ensures nearest { IfSome result (λ w. nearest (length par.now) (msg.now ++ par.now) ≡ Some w.items) }
-    ensures nowhere { IfNone result (nearest (length par.now) (msg.now ++ par.now) ≡ None) }
+    ensures near { result ≡ true → let word = msg.now ++ par.now in
+        IsWithin (length par.now / 2) (length par.now) word (applied fixes.new.items word) }
+    ensures fixes { result ≡ true → let word = msg.now ++ par.now in
+        fixes.new.items ≡ fixes_between word (applied fixes.new.items word) }
+    ensures some { result ≡ true → let word = msg.now ++ par.now in 0 < distance word (applied fixes.new.items word) }
+    ensures nearest { result ≡ true → let word = msg.now ++ par.now in
+        nearest (length par.now) word ≡ Some (applied fixes.new.items word) }
+    ensures nowhere { result ≡ false → nearest (length par.now) (msg.now ++ par.now) ≡ None }
 {
     let t = par.len() / 2;
     if t == 0 {
-        return None;
+        return false;
     }
-    let found = candidate(t, &values[..t + t], msg.len() + par.len(), fixes);
+    let places = msg.len() + par.len();
+    let found = candidate(t, &values[..t + t], places, fixes);
     if !found {
-        return None;
+        return false;
     }
-    let mut word = joined(msg, par);
-    apply(word.as_mut_slice(), fixes.as_slice());
-    let (front, back) = word.as_slice().split_at(msg.len());
-    if is_codeword(coder, front, back) {
-        Some(word)
-    } else {
-        None
+    add_fixes(values, fixes.as_slice(), places);
+    all_zero(values)
+}
+
+/// Adds the mask to its place, where the word has it.
+fn apply_fix(word: &mut [u8], place: u8, mask: u8)
+    ensures { word.new ≡ slice_set word.old place (gf_add (slice_index word.old place) mask) }
+{
+    let place = place as usize;
+    if place < word.len() {
+        word[place] = add(word[place], mask);
+    }
+}
+
+/// Adds the masks of the places that the word has.
+fn apply(word: &mut [u8], fixes: &[Fix])
+    ensures { word.new ≡ applied fixes.now word.old }
+{
+    for fix in fixes {
+        apply_fix(word, fix.place, fix.mask);
     }
 }
 
@@ -552,22 +575,18 @@ pub fn decode_with(
     ensures fixes { let word = msg.old ++ par.now in fixes.new.items ≡ fixes_by word (nearest (length par.now) word) }
 {
     fixes.clear();
-    let mut values = [0u8; 127];
-    let r = par.len();
-    if !is_damaged(coder, msg, par, &mut values[..r]) {
+    let mut buffer = [0u8; 127];
+    let values = &mut buffer[..par.len()];
+    if !is_damaged(coder, msg, par, values) {
         return Decoded::Clean;
     }
-    match corrected(coder, msg, par, &values[..r], fixes) {
-        Some(word) => {
-            let count = fixes.len() as u8;
-            let len = msg.len();
-            msg.copy_from_slice(&word.as_slice()[..len]);
-            Decoded::Fixed(count)
-        }
-        None => {
-            fixes.clear();
-            Decoded::Bad
-        }
+    if corrected(msg, par, values, fixes) {
+        apply(msg, fixes.as_slice());
+        let count = fixes.len() as u8;
+        Decoded::Fixed(count)
+    } else {
+        fixes.clear();
+        Decoded::Bad
     }
 }
 
@@ -663,6 +682,26 @@ mod tests {
             next = next.wrapping_add(37);
         }
         msg
+    }
+
+    fn extend(word: &mut ArrayVec<u8, 255>, more: &[u8])
+        requires { length word.old.items + length more.now ≤ 255 }
+        ensures { word.new.items ≡ word.old.items ++ more.now }
+    {
+        match word.try_extend_from_slice(more) {
+            Ok(()) => {}
+            Err(_) => unreachable!(),
+        }
+    }
+
+    fn joined(msg: &[u8], par: &[u8]) -> ArrayVec<u8, 255>
+        requires { length msg.now + length par.now ≤ 255 }
+        ensures { result.items ≡ msg.now ++ par.now }
+    {
+        let mut word: ArrayVec<u8, 255> = ArrayVec::new();
+        extend(&mut word, msg);
+        extend(&mut word, par);
+        word
     }
 
     /// Adds the masks of `places` to the word, and wants them found again where there are at most half as many as
