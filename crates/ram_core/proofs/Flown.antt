@@ -1,4 +1,4 @@
--- The next store of a flight in the machine is that of the state for which it stands
+-- The next stores of a flight in the machine are those of the state for which it stands
 use Rattle.std.proofs.Common.{◌≡◌, ℕ, zero, suc, ◌+◌, ◌%◌, ◌<◌, ◌≤◌, Bool, true, false, cond, ◌&&◌, not, is_some, List, [], ◌∷◌, length, slice_get, get_or, set, filter, refl, sym, ap, ◌∙◌, subst, arith, Option, Some, None, true≢false}
 use Rattle.std.proofs.lemmas.List.Sums.{length-filter}
 use Rattle.std.proofs.lemmas.Option.{slice_get-get_or, slice_get_read, slice_get_within}
@@ -20,7 +20,7 @@ use Rattle.ram_core.specs.declared.zones.HeldZone.{HeldZone}
 use Rattle.ram_core.specs.declared.zones.Stored.{Stored}
 use Rattle.ram_core.specs.LiveSeen.{LiveSeen, StandsForSome, StandsForZone, StandsLive, StoresNext}
 use Rattle.ram_core.specs.Running.{IsHeld, IsRunning}
-use Rattle.ram_core.specs.Storing.{CanStore, is_next, is_last_of_dump}
+use Rattle.ram_core.specs.Storing.{CanStore, HasParity, is_next, is_last_of_dump}
 use Rattle.ram_core.specs.Cursors.{cursor_after}
 use Rattle.ram_core.proofs.Changes.{Changes, changed_stands}
 use Rattle.ram_core.proofs.Begun.{here}
@@ -36,6 +36,12 @@ can_by z live (Some f) (Some g) bytes sound image stands s = (
   ap length (sym image)
       ∙ sound.size.0 ∙ ap (λ (y : Zone). y.size) (sym s.zone),
 )
+
+parity_by : (z : Zone) (bytes : List ℕ) (o : Option Flying) (p : Option Flight) (n : ℕ) → StandsForSome z bytes o p
+    → n ≡ z.parity → HasParity n o
+parity_by z bytes None p n s e = tt
+parity_by z bytes (Some f) None n s e = absurd s
+parity_by z bytes (Some f) (Some g) n s e = e ∙ ap (λ (y : Zone). y.parity) (sym s.zone)
 
 -- a layout with a dump zone has some
 filter_some : (p : Zone → Bool) (zs : List Zone) (i : ℕ) (z : Zone) → slice_get zs i ≡ Some z → p z ≡ true
@@ -95,67 +101,75 @@ module _ (v : LiveSeen) (running : IsRunning v) (i : ℕ) (z : Zone) (h : HeldZo
         (let a = (running.lies.valid i z ez).0.room in let b = (running.held i z h ez eh).room in omega (arith, a, b)),
       )
 
-  -- the machine after a store
-  pub record Stores (w : LiveSeen) (bytes : List ℕ) (g : HeldZone) (r : Option Stored) : Type 0 where
+  -- an encoder for the zone is one for its flight
+  pub has_parity : (n : ℕ) → n ≡ z.parity → HasParity n h.flight
+  has_parity n e =
+      let at = here v.layout v.mem v running.state running.stands i (slice_get_within v.layout i z ez) in
+      let stands = zone_here running.state at.live running.stands at.of_state in
+      parity_by z (span v.spans i) h.flight at.live.flight n stands.flight e
+
+  -- the machine after k stores
+  pub record Stores (k : ℕ) (w : LiveSeen) (bytes : List ℕ) (g : HeldZone) (r : Option Stored) : Type 0 where
     pub changes : Changes v w i bytes g
     pub flies : is_some h.flight ≡ is_some r
     pub goes_on : is_some g.flight ≡ is_next r
-    pub same_call : (f k : Flying) → h.flight ≡ Some f → g.flight ≡ Some k → k.call ≡ f.call
+    pub same_call : (f e : Flying) → h.flight ≡ Some f → g.flight ≡ Some e → e.call ≡ f.call
     pub capacity : g.told.capacity ≡ h.told.capacity
     pub stored : (y : Zone) (live : LiveZone) → h.told.capacity ≡ y.cap → StandsForZone y (span v.spans i) h live
-        → StandsForZone y bytes g (stepped y 1 live)
+        → StandsForZone y bytes g (stepped y k live)
     pub last : (y : Zone) (live : LiveZone) → StandsForZone y (span v.spans i) h live
-        → (flies_dump live.flight && not (is_some (stepped y 1 live).flight)) ≡ is_last_of_dump r
+        → (flies_dump live.flight && not (is_some (stepped y k live).flight)) ≡ is_last_of_dump r
     pub turned : w.cursor ≡ cursor_after v.layout r v.cursor
 
   -- a dump's last store is in a layout with dump zones
-  pub dumps : (r : Option Stored) → ((y : Zone) (live : LiveZone) → StandsForZone y (span v.spans i) h live
-      → (flies_dump live.flight && not (is_some (stepped y 1 live).flight)) ≡ is_last_of_dump r)
+  pub dumps : (k : ℕ) (r : Option Stored) → ((y : Zone) (live : LiveZone) → StandsForZone y (span v.spans i) h live
+      → (flies_dump live.flight && not (is_some (stepped y k live).flight)) ≡ is_last_of_dump r)
       → is_last_of_dump r ≡ true → 0 < dump_zones v.layout
-  dumps r last e =
+  dumps k r last e =
       let at = here v.layout v.mem v running.state running.stands i (slice_get_within v.layout i z ez) in
       let stands = zone_here running.state at.live running.stands at.of_state in
-      let f = dump_of z (span v.spans i) h.flight at.live.flight (not (is_some (stepped z 1 at.live).flight))
+      let f = dump_of z (span v.spans i) h.flight at.live.flight (not (is_some (stepped z k at.live).flight))
       stands.flight (last z at.live stands ∙ e) in
       some_dump v.layout i z ez ((running.held i z h ez eh).dump f.0 f.1 f.2)
 
-  module _ (w : LiveSeen) (bytes : List ℕ) (g : HeldZone) (r : Option Stored) (st : Stores w bytes g r) where
-    stored_own : (s : LiveState) (live : LiveZone) → StandsLive v.layout v.mem v s → slice_get s.zones i ≡ Some live
-        → StandsLive v.layout v.mem w (with_zone v.layout s i live (stepped z 1 live))
-    stored_own s live stands el =
-        let zone = zone_here s live stands el in
-        changed_stands v.layout v.mem v w s i z bytes g live (stepped z 1 live) stands ez el st.changes
-        (st.stored z live (running.held i z h ez eh).room zone)
-        (st.turned ∙ ap (λ (t : Bool). cond t ((v.cursor + 1) % dump_zones v.layout) v.cursor)
-        (sym (st.last z live zone)))
+  module _ (k : ℕ) (w : LiveSeen) (bytes : List ℕ) (g : HeldZone) (r : Option Stored) (st : Stores k w bytes g r)
+    where
+      stored_own : (s : LiveState) (live : LiveZone) → StandsLive v.layout v.mem v s → slice_get s.zones i ≡ Some live
+          → StandsLive v.layout v.mem w (with_zone v.layout s i live (stepped z k live))
+      stored_own s live stands el =
+          let zone = zone_here s live stands el in
+          changed_stands v.layout v.mem v w s i z bytes g live (stepped z k live) stands ez el st.changes
+          (st.stored z live (running.held i z h ez eh).room zone)
+          (st.turned ∙ ap (λ (t : Bool). cond t ((v.cursor + 1) % dump_zones v.layout) v.cursor)
+          (sym (st.last z live zone)))
 
-    pub stores_next : StoresNext i v w
-    stores_next layout mem s y live stands ey el =
-        let same : z ≡ y = (let k : Some z ≡ Some y = sym ez
-        ∙ ap (λ (l : List Zone). slice_get l i) stands.same_layout ∙ ey in cc) in
-        subst (λ (x : Zone). StandsLive layout mem w (with_zone layout s i live (stepped x 1 live))) same
-        (over layout mem v s (λ l m. StandsLive l m w (with_zone l s i live (stepped z 1 live))) stands
-        (stored_own s live (own layout mem v s stands) el))
+      pub stores_next : StoresNext k i v w
+      stores_next layout mem s y live stands ey el =
+          let same : z ≡ y = (let both : Some z ≡ Some y = sym ez
+          ∙ ap (λ (l : List Zone). slice_get l i) stands.same_layout ∙ ey in cc) in
+          subst (λ (x : Zone). StandsLive layout mem w (with_zone layout s i live (stepped x k live))) same
+          (over layout mem v s (λ l m. StandsLive l m w (with_zone l s i live (stepped z k live))) stands
+          (stored_own s live (own layout mem v s stands) el))
 
-    held_after : IsHeld z g
-    held_after = record {
-      room = st.capacity ∙ (running.held i z h ez eh).room;
-      dump = λ k e d.
-          let n : is_some h.flight ≡ true = st.flies ∙ next_some r (sym st.goes_on ∙ ap is_some e) in
-          let f = some_is h.flight n in
-          (running.held i z h ez eh).dump f.0 f.1 (ap is_dump (sym (st.same_call f.0 k f.1 e)) ∙ d);
-    }
+      held_after : IsHeld z g
+      held_after = record {
+        room = st.capacity ∙ (running.held i z h ez eh).room;
+        dump = λ m e d.
+            let n : is_some h.flight ≡ true = st.flies ∙ next_some r (sym st.goes_on ∙ ap is_some e) in
+            let f = some_is h.flight n in
+            (running.held i z h ez eh).dump f.0 f.1 (ap is_dump (sym (st.same_call f.0 m f.1 e)) ∙ d);
+      }
 
-    pub store_runs : IsRunning w
-    store_runs =
-        let at = here v.layout v.mem v running.state running.stands i (slice_get_within v.layout i z ez) in
-        let zone = running.sound.zones.1 i z at.live ez at.of_state in
-        runs_after v w i z bytes g running ez st.changes held_after
-        (with_zone v.layout running.state i at.live (stepped z 1 at.live))
-        (stored_own running.state at.live running.stands at.of_state)
-        (with_zone-sound v.layout v.mem running.lies running.state (record { place = i; zone = z; live = at.live })
-        (stepped z 1 at.live) running.sound (ez, at.of_state)
-        (stepped-sound z (running.lies.valid i z ez).0 1 at.live zone))
+      pub store_runs : IsRunning w
+      store_runs =
+          let at = here v.layout v.mem v running.state running.stands i (slice_get_within v.layout i z ez) in
+          let zone = running.sound.zones.1 i z at.live ez at.of_state in
+          runs_after v w i z bytes g running ez st.changes held_after
+          (with_zone v.layout running.state i at.live (stepped z k at.live))
+          (stored_own running.state at.live running.stands at.of_state)
+          (with_zone-sound v.layout v.mem running.lies running.state (record { place = i; zone = z; live = at.live })
+          (stepped z k at.live) running.sound (ez, at.of_state)
+          (stepped-sound z (running.lies.valid i z ez).0 k at.live zone))
 
 -- the same by what a store reads of the machine's fields
 pub zone_at : (v x : LiveSeen) (i : ℕ) (h : HeldZone) → v ≡ x → IsRunning v → i < length x.layout
@@ -194,22 +208,22 @@ idle_same v spans i h g cursor es eg eh ec =
     ∙ ap (λ (n : ℕ). record v { cursor = n }) ec
 
 -- a store by what it reads and writes of the machine's fields
-pub stored_by : (v x : LiveSeen) (i : ℕ) (h g : HeldZone) (new : CutRegion) (r : Option Stored) (cursor : ℕ) → v ≡ x
+pub stored_by : (k : ℕ) (v x : LiveSeen) (i : ℕ) (h g : HeldZone) (new : CutRegion) (r : Option Stored) (cursor : ℕ) → v ≡ x
     → IsRunning v → i < length x.layout → h ≡ get_or v.zones i h
     → new ≡ with_span v.spans i (span new i) → is_some h.flight ≡ is_some r → is_some g.flight ≡ is_next r
-    → ((f k : Flying) → h.flight ≡ Some f → g.flight ≡ Some k → k.call ≡ f.call)
+    → ((f m : Flying) → h.flight ≡ Some f → g.flight ≡ Some m → m.call ≡ f.call)
     → g.told.capacity ≡ h.told.capacity
     → ((y : Zone) (live : LiveZone) → h.told.capacity ≡ y.cap → StandsForZone y (span v.spans i) h live
-    → StandsForZone y (span new i) g (stepped y 1 live))
+    → StandsForZone y (span new i) g (stepped y k live))
     → ((y : Zone) (live : LiveZone) → StandsForZone y (span v.spans i) h live
-    → (flies_dump live.flight && not (is_some (stepped y 1 live).flight)) ≡ is_last_of_dump r)
+    → (flies_dump live.flight && not (is_some (stepped y k live).flight)) ≡ is_last_of_dump r)
     → cursor ≡ cursor_after v.layout r v.cursor
     → let w : LiveSeen = record v { spans = new; zones = set v.zones i g; cursor = cursor } in
-    IsRunning w × StoresNext i x w
-stored_by v x i h g new r cursor e running below eh others flies goes_on same_call capacity stored last turned =
+    IsRunning w × StoresNext k i x w
+stored_by k v x i h g new r cursor e running below eh others flies goes_on same_call capacity stored last turned =
     let z = zone_at v x i h e running below eh in
     let w : LiveSeen = record v { spans = new; zones = set v.zones i g; cursor = cursor } in
-    let st : Stores v running i z.0 h z.1 z.2 w (span new i) g r = record {
+    let st : Stores v running i z.0 h z.1 z.2 k w (span new i) g r = record {
       changes = record { layout = refl; mem = refl; spans = others; zones = refl };
       flies = flies;
       goes_on = goes_on;
@@ -219,6 +233,16 @@ stored_by v x i h g new r cursor e running below eh others flies goes_on same_ca
       last = last;
       turned = turned;
     } in (
-      store_runs v running i z.0 h z.1 z.2 w (span new i) g r st,
-      subst (λ (y : LiveSeen). StoresNext i y w) e (stores_next v running i z.0 h z.1 z.2 w (span new i) g r st),
+      store_runs v running i z.0 h z.1 z.2 k w (span new i) g r st,
+      subst (λ (y : LiveSeen). StoresNext k i y w) e
+          (stores_next v running i z.0 h z.1 z.2 k w (span new i) g r st),
     )
+
+-- a zone that is read of the layout
+pub zone_read : (layout zs : List Zone) (i : ℕ) (d z : Zone) → zs ≡ layout → slice_get layout i ≡ Some z
+    → get_or zs i d ≡ z
+zone_read layout zs i d z e ez =
+    let at : slice_get layout i ≡ Some (get_or layout i d) =
+    slice_get-get_or layout i d (slice_get_within layout i z ez) in
+    let same : Some (get_or layout i d) ≡ Some z = sym at ∙ ez in
+    ap (λ (l : List Zone). get_or l i d) e ∙ (let both : get_or layout i d ≡ z = cc in both)

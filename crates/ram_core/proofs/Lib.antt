@@ -7,6 +7,8 @@ pub mod Begun
 pub mod Running
 pub mod Flown
 pub mod Stepped
+pub mod DumpFlights
+pub mod Finishing
 pub mod Stopping
 pub mod Preparing
 pub mod Settling

@@ -13,7 +13,7 @@ use Rattle.session_spec.specs.LiveCalls.{goes_on, step}
 use Rattle.ram_core.specs.Storing.{stores_left_of}
 use Rattle.ram_core.specs.declared.zones.HeldZone.{HeldZone}
 use Rattle.ram_core.proofs.Storing.{flight_total}
-use Rattle.ram_core.specs.LiveSeen.{LiveSeen, StandsLive, StandsForSome, Leaves, StoresNext}
+use Rattle.ram_core.specs.LiveSeen.{LiveSeen, StandsLive, StandsForSome, Leaves, ChangesZone}
 use Rattle.ram_core.specs.Places.{flies_at, held_at, flies_in}
 use Rattle.ram_core.specs.Running.{IsRunning}
 use Rattle.ram_region.specs.CutRegion.{span}
@@ -53,25 +53,33 @@ module _ (v : LiveSeen) (i : ℕ) (name : ZoneName) (place : zone_place v.layout
       ∙ ap (λ (t : Bool). cond t (Ok (with_zone v.layout s i at.live (change at.zone at.live))) (Err Idle)) same
 
   -- a flight that stands goes on
-  pub step_leaves : (w : LiveSeen) → flies_at (slice_get v.zones i) ≡ true → StoresNext i v w
-      → (layout : List Zone) (mem : ℕ) (s : LiveState) → StandsLive layout mem v s
-      → Leaves layout mem (step layout s name 1) w
-  step_leaves w flies next layout mem s stands =
-      over layout mem v s (λ l m. Leaves l m (step l s name 1) w) stands
+  pub goes_leaves : (change : Zone → LiveZone → LiveZone) (w : LiveSeen) → flies_at (slice_get v.zones i) ≡ true
+      → ChangesZone change i v w → (layout : List Zone) (mem : ℕ) (s : LiveState) → StandsLive layout mem v s
+      → Leaves layout mem (goes_on layout s change (target layout s name)) w
+  goes_leaves change w flies next layout mem s stands =
+      over layout mem v s (λ l m. Leaves l m (goes_on l s change (target l s name)) w) stands
       (let o = own layout mem v s stands in
       let at = here v.layout v.mem v s o i below in
       record {
-        next = with_zone v.layout s i at.live (stepped at.zone 1 at.live);
-        done = goes s o (λ z zone. stepped z 1 zone) true flies;
+        next = with_zone v.layout s i at.live (change at.zone at.live);
+        done = goes s o change true flies;
         stands = next v.layout v.mem s at.zone at.live o at.of_layout at.of_state;
       })
 
   -- where none stands there is none to go on
-  pub step_idle : (k : ℕ) → flies_at (slice_get v.zones i) ≡ false → (layout : List Zone) (mem : ℕ) (s : LiveState)
-      → StandsLive layout mem v s → step layout s name k ≡ Err Idle
-  step_idle k flies layout mem s stands =
-      over layout mem v s (λ l m. step l s name k ≡ Err Idle) stands
-      (goes s (own layout mem v s stands) (λ z zone. stepped z k zone) false flies)
+  pub goes_idle : (change : Zone → LiveZone → LiveZone) → flies_at (slice_get v.zones i) ≡ false
+      → (layout : List Zone) (mem : ℕ) (s : LiveState) → StandsLive layout mem v s
+      → goes_on layout s change (target layout s name) ≡ Err Idle
+  goes_idle change flies layout mem s stands =
+      over layout mem v s (λ l m. goes_on l s change (target l s name) ≡ Err Idle) stands
+      (goes s (own layout mem v s stands) change false flies)
+
+pub goes_nowhere : (v : LiveSeen) (name : ZoneName) (change : Zone → LiveZone → LiveZone)
+    → zone_place v.layout name ≡ None → (layout : List Zone) (mem : ℕ) (s : LiveState) → StandsLive layout mem v s
+    → goes_on layout s change (target layout s name) ≡ Err NoZone
+goes_nowhere v name change place layout mem s stands =
+    over layout mem v s (λ l m. goes_on l s change (target l s name) ≡ Err NoZone) stands
+    (ap (λ (o : Option ℕ). goes_on v.layout s change (target_at v.layout s o)) place)
 
 pub step_nowhere : (v : LiveSeen) (name : ZoneName) (k : ℕ) → zone_place v.layout name ≡ None
     → (layout : List Zone) (mem : ℕ) (s : LiveState) → StandsLive layout mem v s → step layout s name k ≡ Err NoZone

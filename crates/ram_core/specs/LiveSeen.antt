@@ -10,7 +10,7 @@ use Rattle.zone_flight.specs.Flying.{Flying}
 use Rattle.zone_flight.specs.Machine.{StandsFor}
 use Rattle.ram_region.specs.CutRegion.{CutRegion, span}
 use Rattle.session_spec.specs.States.{Flight, LiveZone, LiveState}
-use Rattle.session_spec.specs.ZoneCalls.{stepped}
+use Rattle.session_spec.specs.ZoneCalls.{stepped, stores_left}
 use Rattle.session_spec.specs.LiveZones.{with_zone}
 use Rattle.ram_core.specs.declared.zones.HeldZone.{HeldZone}
 
@@ -63,12 +63,22 @@ pub record Leaves (layout : List Zone) (mem : ℕ) (answer : Result LiveState Re
   pub done : answer ≡ Ok next
   pub stands : StandsLive layout mem v next
 
--- the next store of the i-th zone's flight, if one stands there, in every state for which the machine stood
-abbrev pub StoresNext : ℕ → LiveSeen → LiveSeen → Type 0
-StoresNext i old new =
+-- the i-th zone changed so, in every state for which the machine stood
+abbrev pub ChangesZone : (Zone → LiveZone → LiveZone) → ℕ → LiveSeen → LiveSeen → Type 0
+ChangesZone change i old new =
     (layout : List Zone) (mem : ℕ) (s : LiveState) (z : Zone) (live : LiveZone) → StandsLive layout mem old s
     → slice_get layout i ≡ Some z → slice_get s.zones i ≡ Some live
-    → StandsLive layout mem new (with_zone layout s i live (stepped z 1 live))
+    → StandsLive layout mem new (with_zone layout s i live (change z live))
+
+-- the next k stores of the i-th zone's flight, or all that are left, if one stands there
+abbrev pub StoresNext : ℕ → ℕ → LiveSeen → LiveSeen → Type 0
+StoresNext k i old new = ChangesZone (λ z live. stepped z k live) i old new
+
+-- how many are left of it, in every state for which the machine stands
+abbrev pub IsLeftAt : ℕ → LiveSeen → ℕ → Type 0
+IsLeftAt i v n =
+    (layout : List Zone) (mem : ℕ) (s : LiveState) (z : Zone) (live : LiveZone) → StandsLive layout mem v s
+    → slice_get layout i ≡ Some z → slice_get s.zones i ≡ Some live → stores_left live.flight z ≡ n
 
 -- a zone's told list is kept in a ring of the zone's capacity; where no flight stands, the zone's bytes are in ring
 -- form with it

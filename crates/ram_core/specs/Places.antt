@@ -1,6 +1,6 @@
 -- Where a call that is asked for goes, by what is seen of the machine
 use Rattle.std.specs.Prelude.{ℕ, Bool, false, ◌&&◌, if◌then◌else◌, is_some, List, zip, slice_get, Option, Some, None}
-use Rattle.std.specs.List.{list_any}
+use Rattle.std.specs.List.{list_any, count_by}
 use Rattle.zone_spec.specs.declared.Zone.{Zone}
 use Rattle.zone_spec.specs.declared.ZoneName.{ZoneName}
 use Rattle.zone_spec.specs.declared.Kind.TheVariants.{Dump as DumpKind}
@@ -35,6 +35,15 @@ place_asked layout cursor (Dump time packed body) = zone_place layout (name_of c
 abbrev pub dump_flies : List Zone → List HeldZone → Bool
 dump_flies layout zones = list_any (λ (pair : Zone × HeldZone). is_of DumpKind pair.0.name.kind && is_some
     pair.1.flight) (zip layout zones)
+
+-- how many dump zones have one
+abbrev pub dump_flights : List Zone → List HeldZone → ℕ
+dump_flights layout zones = count_by (λ (pair : Zone × HeldZone). is_of DumpKind pair.0.name.kind && is_some
+    pair.1.flight) (zip layout zones)
+
+-- one, if a zone is a dump zone and has a flight
+abbrev pub dump_flight : Zone → Bool → ℕ
+dump_flight z flies = if is_of DumpKind z.name.kind && flies then 1 else 0
 
 -- whether that is in the call's way
 abbrev pub barred : List Zone → List HeldZone → Ask → Bool

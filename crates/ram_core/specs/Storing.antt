@@ -1,4 +1,4 @@
--- The next store of a zone's flight
+-- The next stores of a zone's flight
 use Rattle.std.specs.Prelude.{◌≡◌, ℕ, ◌-◌, ◌<◌, Bool, true, false, List, length, Option, Some, None}
 use Rattle.zone_spec.specs.declared.CallKind.{CallKind}
 use Rattle.zone_spec.specs.declared.CallKind.TheVariants.{Append, Erase, Dump}
@@ -11,6 +11,11 @@ use Rattle.ram_core.specs.declared.zones.Stored.TheVariants.{Next, Last}
 abbrev pub CanStore : List ℕ → Option Flying → Type 0
 CanStore bytes None = Unit {0}
 CanStore bytes (Some f) = (f.made < total_of f) × (length bytes ≡ f.zone.size)
+
+-- the parts of the flight's zone have so many parity bytes
+abbrev pub HasParity : ℕ → Option Flying → Type 0
+HasParity n None = Unit {0}
+HasParity n (Some f) = n ≡ f.zone.parity
 
 abbrev pub is_dump_kind : CallKind → Bool
 is_dump_kind Dump = true

@@ -15,6 +15,7 @@ ghost use Rattle.ram_core.specs.Parting.{PartsTo};
 ghost use Rattle.std.specs.Vec.{vec_capacity};
 
 use crate::Told;
+use crate::coders::Coders;
 use crate::known::KnownZone;
 use crate::report::{ZoneReport, report_of};
 use crate::zones::HeldZone;
@@ -24,12 +25,14 @@ use std::alloc::{AllocError, Global};
 use zone_params::types::Layout;
 use zone_spec::{Words, Zone};
 
-/// All that a boot reads and takes before its first store: the logs, the reports, and the told lists of the zones.
+/// All that a boot reads and takes before its first store: the logs, the reports, the told lists of the zones, and
+/// their encoders.
 #[derive(Drop)]
 pub struct Prepared {
     pub(crate) logs: Logs,
     pub(crate) reports: Vec<ZoneReport>,
     pub(crate) held: Vec<HeldZone>,
+    pub(crate) coders: Coders,
 }
 
 // What is kept of a zone with this reading.
@@ -68,6 +71,7 @@ impl Prepared {
         let reading = read_zone(alloc, span, zone)?;
         self.reports.push(report_of(zone, known, &reading))?;
         self.held.push(hold(alloc, zone, &reading)?)?;
+        self.coders.add(zone)?;
         self.logs.push(reading);
         Ok(())
     }
@@ -89,6 +93,7 @@ pub(crate) fn prepare(
         logs: Logs::new(alloc, layout)?,
         reports: Vec::with_capacity(alloc, zones.len())?,
         held: Vec::with_capacity(alloc, zones.len())?,
+        coders: Coders::new(alloc),
     };
     for (i, zone) in zones.iter().enumerate() {
         prepared.add(alloc, zone, &spans.all()[i], &known[i])?;

@@ -7,6 +7,7 @@
 
 mod ask;
 mod booting;
+mod coders;
 mod known;
 mod live;
 mod off;

@@ -1,28 +1,29 @@
 // The machine while it is live.
-ghost use Rattle.std.specs.Prelude.{◌≡◌, ◌<◌, ℕ, true, false, List, [], map, ◌≤◌, ◌^◌, Some, None, length, slice_get, is_some, ◌||◌, Ok, Err, IfOk, IfErr, IfSome, OnErr, ◌↔◌};
+ghost use Rattle.std.specs.Prelude.{◌≡◌, ◌<◌, ℕ, true, false, List, [], map, ◌≤◌, ◌^◌, Some, None, length, slice_get, is_some, ◌||◌, ◌+◌, Ok, Err, IfOk, IfErr, IfSome, OnOk, OnErr, ◌↔◌};
 ghost use Rattle.zone_spec.specs.Layouts.{zone_place};
 ghost use Rattle.zone_params.specs.Laid.{zones_of, NamesDiffer};
 ghost use Rattle.session_spec.specs.States.{LiveState};
-ghost use Rattle.session_spec.specs.LiveCalls.{asked_name, begin as begins, step as steps};
+ghost use Rattle.session_spec.specs.LiveCalls.{asked_name, begin as begins, step as steps, finish as finishes, make as makes};
 ghost use Rattle.ram_core.specs.Asks.{ask_seen, CanBeAsked};
 ghost use Rattle.zone_spec.specs.Records.{is_of};
 ghost use Rattle.zone_spec.specs.declared.Kind.TheVariants.{Dump as DumpKind};
-ghost use Rattle.ram_core.specs.Places.{ring_at, name_of, place_asked, dump_flies, barred, flies_at, flies_in};
+ghost use Rattle.ram_core.specs.Places.{ring_at, name_of, place_asked, dump_flies, dump_flight, dump_flights, barred, flies_at, flies_in};
 ghost use Rattle.std.specs.Option.{option_map};
 ghost use Rattle.session_spec.specs.Zones.{dump_zones};
 ghost use Rattle.session_spec.specs.LiveZones.{Target, target};
 ghost use Rattle.ram_core.specs.Storing.{is_next, is_last_of_dump, stores_left_of};
-ghost use Rattle.session_spec.specs.ZoneCalls.{stores_left};
+ghost use Rattle.session_spec.specs.ZoneCalls.{stores_left, finished};
 ghost use Rattle.ram_core.specs.Cursors.{cursor_at, cursor_after, IsTurning};
 ghost use Rattle.zone_spec.specs.declared.Zone.{Zone as AZone};
 ghost use Rattle.session_spec.specs.Stop.{stopped as stopped_state};
 ghost use Rattle.std.specs.Vec.{vec_capacity};
 ghost use Rattle.ram_core.specs.Stopped.{stop_zone};
 ghost use Rattle.ram_core.specs.OffSeen.{StandsOff};
-ghost use Rattle.ram_core.specs.LiveSeen.{StandsLive, Leaves, StoresNext, RingOf};
+ghost use Rattle.ram_core.specs.LiveSeen.{StandsLive, Leaves, ChangesZone, StoresNext, IsLeftAt, RingOf};
 
+use crate::coders::Coders;
 use crate::known::KnownZone;
-use crate::zones::{HeldZone, Stored, start, store_next};
+use crate::zones::{HeldZone, Stored, advance, start};
 use crate::{Ask, Off, Refused, Told};
 use dump_records::Cursor;
 use ram_region::Spans;
@@ -40,6 +41,9 @@ pub struct Live {
     pub(crate) spans: Spans,
     pub(crate) zones: Vec<HeldZone>,
     pub(crate) cursor: Option<Cursor>,
+    // How many dump zones have a flight.
+    pub(crate) flying_dumps: usize,
+    pub(crate) coders: Coders,
     // Room for what a stop tells of the zones, so that a stop takes no memory.
     pub(crate) stopped: Vec<KnownZone>,
 }
@@ -54,6 +58,8 @@ impl Model for Live {
     ghost use Rattle.ram_core.specs.Cursors.{cursor_at, IsTurning};
     ghost use Rattle.ram_core.specs.Running.{IsRunning};
     ghost use Rattle.ram_core.specs.Stopped.{HasRoom};
+    ghost use Rattle.ram_core.specs.Places.{dump_flights};
+    ghost use Rattle.std.specs.Prelude.{◌≡◌};
 
     ghost view = { λ l. record {
       layout = zones_of l.layout;
@@ -70,7 +76,8 @@ impl Model for Live {
       zones = l.zones.items;
       cursor = cursor_at l.cursor;
     })
-        × IsTurning (zones_of l.layout) l.cursor × HasRoom (zones_of l.layout) l.stopped };
+        × IsTurning (zones_of l.layout) l.cursor × HasRoom (zones_of l.layout) l.stopped
+        × (l.flying_dumps ≡ dump_flights (zones_of l.layout) l.zones.items) };
 }
 
 // The place of a console, ftrace or pmsg zone.
@@ -84,14 +91,15 @@ fn ring_place(layout: &Layout, name: ZoneName) -> Option<u32>
     }
 }
 
-// Tells whether a flight stands in a dump zone.
-fn flies_in_dump_zone(zones: &[Zone], held: &[HeldZone]) -> bool
-    ensures { result ≡ dump_flies zones.now held.now }
+// How many dump zones have a flight.
+pub(crate) fn count_dump_flights(zones: &[Zone], held: &[HeldZone]) -> usize
+    ensures { result ≡ dump_flights zones.now held.now }
 {
     zones
         .iter()
         .zip(held)
-        .any(|(zone, held)| is_of_dump(zone) && held.flight.is_some())
+        .filter(|(zone, held)| is_of_dump(zone) && held.flight.is_some())
+        .count()
 }
 
 fn is_of_dump(zone: &Zone) -> bool
@@ -135,6 +143,25 @@ fn turn(cursor: &mut Option<Cursor>, stored: Option<Stored>)
         if let Some(cursor) = cursor {
             cursor.advance();
         }
+    }
+}
+
+// One dump zone, if the zone is one and has a flight.
+fn dump_flight(zone: &Zone, flies: bool) -> usize
+    ensures { result ≡ dump_flight zone.now flies }
+{
+    if is_of_dump(zone) && flies { 1 } else { 0 }
+}
+
+// How many dump zones have a flight after a store in the zone, with `flying` before it.
+fn still_flying(flying: usize, zone: &Zone, stored: Option<Stored>) -> usize
+    requires { dump_flight zone.now (is_some stored) ≤ flying }
+    ensures { result + dump_flight zone.now (is_some stored) ≡ flying + dump_flight zone.now (is_next stored) }
+{
+    match stored {
+        Some(Stored::Last(_)) => flying - dump_flight(zone, true),
+        Some(Stored::Next) => flying,
+        None => flying,
     }
 }
 
@@ -185,6 +212,13 @@ impl Live {
         }
     }
 
+    // Tells whether a flight stands in a dump zone.
+    fn dump_flies(&self) -> bool
+        ensures { result ≡ dump_flies self.now.layout self.now.zones }
+    {
+        self.flying_dumps > 0
+    }
+
     // Tells whether a flight is in the call's way, in zone `i` or, for a dump, in a dump zone.
     fn is_busy(&self, i: u32, ask: &Ask) -> bool
         requires { i < length self.now.zones }
@@ -192,7 +226,7 @@ impl Live {
             || flies_at (slice_get self.now.zones i)) }
     {
         let is_barred = match ask {
-            Ask::Dump(_, _, _) => flies_in_dump_zone(self.layout.zones(), &self.zones),
+            Ask::Dump(_, _, _) => self.dump_flies(),
             Ask::Append(_, _) | Ask::Erase(_) => false,
         };
         is_barred || self.zones[i as usize].flight.is_some()
@@ -205,14 +239,16 @@ impl Live {
         requires within { i < length self.old.layout }
         requires free { (barred self.old.layout self.old.zones (ask_seen ask)
             || flies_at (slice_get self.old.zones i)) ≡ false }
-        ensures { (layout : List Zone) (mem : ℕ) (s : LiveState) → StandsLive layout mem self.old s
+        ensures layout { self.new.layout ≡ self.old.layout }
+        ensures begun { (layout : List Zone) (mem : ℕ) (s : LiveState) → StandsLive layout mem self.old s
             → Leaves layout mem (begins layout s (ask_seen ask)) self.new }
     {
         ask.check();
         let zone = self.layout.zones()[i as usize];
         let span = &self.spans.all()[i as usize];
         let _len = span.len();
-        start(zone, span, &mut self.zones[i as usize], ask.into_call());
+        let flies = start(zone, span, &mut self.zones[i as usize], ask.into_call());
+        self.flying_dumps += dump_flight(&zone, flies);
     }
 
     /// The zones of the layout, in the order in which they lie.
@@ -223,13 +259,14 @@ impl Live {
         self.layout.zones()
     }
 
-    /// Begins a call, and makes no store. An append of no bytes is finished at once. A refusal changes nothing, and
-    /// hands back what was asked. Takes no memory.
-    pub fn begin(&mut self, ask: Ask) -> Result<ZoneName, Refused>
+    // Begins a call, and tells the place of its zone.
+    fn begin_at(&mut self, ask: Ask) -> Result<u32, Refused>
         requires { CanBeAsked ask }
-        ensures begun { IfOk result (λ name. (layout : List Zone) (mem : ℕ) (s : LiveState)
-            → StandsLive layout mem self.old s
-            → (name ≡ asked_name s (ask_seen ask)) × Leaves layout mem (begins layout s (ask_seen ask)) self.new) }
+        ensures place { IfOk result (λ i. (place_asked self.old.layout self.old.cursor (ask_seen ask) ≡ Some i)
+            × (i < length self.old.layout)) }
+        ensures layout { self.new.layout ≡ self.old.layout }
+        ensures begun { OnOk result ((layout : List Zone) (mem : ℕ) (s : LiveState)
+            → StandsLive layout mem self.old s → Leaves layout mem (begins layout s (ask_seen ask)) self.new) }
         ensures refused { IfErr result (λ r. (layout : List Zone) (mem : ℕ) (s : LiveState)
             → StandsLive layout mem self.old s → begins layout s (ask_seen ask) ≡ Err r.why) }
         ensures unchanged { IfErr result (λ r. (r.ask ≡ ask) × (self.new ≡ self.old)) }
@@ -246,23 +283,87 @@ impl Live {
                 ask,
             });
         }
-        let name = self.name_asked(&ask);
         self.start(i, ask);
-        Ok(name)
+        Ok(i)
     }
 
-    // Makes the next store of the flight in zone `i`, if one stands there.
-    fn store(&mut self, i: u32) -> Option<Stored>
+    /// Begins a call, and makes no store. An append of no bytes is finished at once. A refusal changes nothing, and
+    /// hands back what was asked. Takes no memory.
+    pub fn begin(&mut self, ask: Ask) -> Result<ZoneName, Refused>
+        requires { CanBeAsked ask }
+        ensures begun { IfOk result (λ name. (layout : List Zone) (mem : ℕ) (s : LiveState)
+            → StandsLive layout mem self.old s
+            → (name ≡ asked_name s (ask_seen ask)) × Leaves layout mem (begins layout s (ask_seen ask)) self.new) }
+        ensures refused { IfErr result (λ r. (layout : List Zone) (mem : ℕ) (s : LiveState)
+            → StandsLive layout mem self.old s → begins layout s (ask_seen ask) ≡ Err r.why) }
+        ensures unchanged { IfErr result (λ r. (r.ask ≡ ask) × (self.new ≡ self.old)) }
+    {
+        let name = self.name_asked(&ask);
+        match self.begin_at(ask) {
+            Ok(_) => Ok(name),
+            Err(refused) => Err(refused),
+        }
+    }
+
+    /// Begins a call, and makes all its stores. A refusal changes nothing, and hands back what was asked. Takes no
+    /// memory.
+    pub fn make(&mut self, ask: Ask) -> Result<(), Refused>
+        requires { CanBeAsked ask }
+        ensures made { OnOk result ((layout : List Zone) (mem : ℕ) (s : LiveState)
+            → StandsLive layout mem self.old s → Leaves layout mem (makes layout s (ask_seen ask)) self.new) }
+        ensures refused { IfErr result (λ r. (layout : List Zone) (mem : ℕ) (s : LiveState)
+            → StandsLive layout mem self.old s → makes layout s (ask_seen ask) ≡ Err r.why) }
+        ensures unchanged { IfErr result (λ r. (r.ask ≡ ask) × (self.new ≡ self.old)) }
+    {
+        match self.begin_at(ask) {
+            Ok(i) => {
+                let _stored = self.store_all(i);
+                Ok(())
+            }
+            Err(refused) => Err(refused),
+        }
+    }
+
+    // Makes the next `count` stores of the flight in zone `i`, or all that are left, if one stands there.
+    fn store(&mut self, i: u32, count: u64) -> Option<Stored>
         requires { i < length self.old.layout }
         ensures layout { self.new.layout ≡ self.old.layout }
         ensures idle { result ≡ None → self.new ≡ self.old }
         ensures flies { flies_at (slice_get self.old.zones i) ≡ is_some result }
         ensures goes_on { flies_at (slice_get self.new.zones i) ≡ is_next result }
-        ensures stored { StoresNext i self.old self.new }
+        ensures stored { StoresNext count i self.old self.new }
     {
-        let stored = store_next(&mut self.spans, i, &mut self.zones[i as usize]);
+        let zone = self.layout.zones()[i as usize];
+        let coder = self.coders.for_zone(&zone);
+        let stored = advance(
+            &mut self.spans,
+            i,
+            &mut self.zones[i as usize],
+            count,
+            coder,
+        );
         turn(&mut self.cursor, stored);
+        self.flying_dumps = still_flying(self.flying_dumps, &zone, stored);
         stored
+    }
+
+    // Makes all stores that are left of the flight in zone `i`, if one stands there.
+    fn store_all(&mut self, i: u32) -> Option<Stored>
+        requires { i < length self.old.layout }
+        ensures idle { result ≡ None → self.new ≡ self.old }
+        ensures flies { flies_at (slice_get self.old.zones i) ≡ is_some result }
+        ensures stored { ChangesZone (λ z live. finished z live) i self.old self.new }
+    {
+        let left = self.left_at(i);
+        self.store(i, left)
+    }
+
+    // How many stores are left of the flight in zone `i`.
+    fn left_at(&self, i: u32) -> u64
+        requires { i < length self.now.layout }
+        ensures { IsLeftAt i self.now result }
+    {
+        stores_left(&self.zones[i as usize])
     }
 
     // The place of the zone of this name.
@@ -286,10 +387,44 @@ impl Live {
         let Some(i) = self.place(zone) else {
             return Err(Refusal::NoZone);
         };
-        match self.store(i) {
+        match self.store(i, 1) {
             None => Err(Refusal::Idle),
             Some(Stored::Next) => Ok(Step::Stored),
             Some(Stored::Last(_)) => Ok(Step::Done),
+        }
+    }
+
+    /// Makes the next `count` stores of a zone's flight, or all that are left. Takes no memory.
+    pub fn advance(&mut self, zone: ZoneName, count: u64) -> Result<(), Refusal>
+        ensures advanced { OnOk result ((layout : List Zone) (mem : ℕ) (s : LiveState)
+            → StandsLive layout mem self.old s → Leaves layout mem (steps layout s zone count) self.new) }
+        ensures refused { IfErr result (λ why. (layout : List Zone) (mem : ℕ) (s : LiveState)
+            → StandsLive layout mem self.old s → steps layout s zone count ≡ Err why) }
+        ensures unchanged { OnErr result (self.new ≡ self.old) }
+    {
+        let Some(i) = self.place(zone) else {
+            return Err(Refusal::NoZone);
+        };
+        match self.store(i, count) {
+            None => Err(Refusal::Idle),
+            Some(_) => Ok(()),
+        }
+    }
+
+    /// Makes all stores that are left of a zone's flight. Takes no memory.
+    pub fn finish(&mut self, zone: ZoneName) -> Result<(), Refusal>
+        ensures finished { OnOk result ((layout : List Zone) (mem : ℕ) (s : LiveState)
+            → StandsLive layout mem self.old s → Leaves layout mem (finishes layout s zone) self.new) }
+        ensures refused { IfErr result (λ why. (layout : List Zone) (mem : ℕ) (s : LiveState)
+            → StandsLive layout mem self.old s → finishes layout s zone ≡ Err why) }
+        ensures unchanged { OnErr result (self.new ≡ self.old) }
+    {
+        let Some(i) = self.place(zone) else {
+            return Err(Refusal::NoZone);
+        };
+        match self.store_all(i) {
+            None => Err(Refusal::Idle),
+            Some(_) => Ok(()),
         }
     }
 
@@ -350,6 +485,8 @@ impl Live {
             spans,
             zones,
             cursor: _,
+            flying_dumps: _,
+            coders: _,
             stopped,
         } = self;
         Off {

@@ -17,8 +17,9 @@ ghost use Rattle.ram_core.specs.Booted.{Booted, BootedInPart};
 ghost use Rattle.std.specs.Vec.{vec_capacity};
 
 use crate::booting::{Passed, Prepared, prepare, settle_all, settle_part};
+use crate::coders::Coders;
 use crate::known::{KnownZone, pass_all};
-use crate::live::first_dump;
+use crate::live::{count_dump_flights, first_dump};
 use crate::zones::HeldZone;
 use crate::{Live, Report};
 use box_io::Bytes;
@@ -123,13 +124,14 @@ impl OpenOff {
     }
 
     // The machine after a boot that has made all its stores.
-    fn live(self, zones: Vec<HeldZone>, stopped: Vec<KnownZone>) -> Live
+    fn live(self, zones: Vec<HeldZone>, coders: Coders, stopped: Vec<KnownZone>) -> Live
         requires running { IsRunning (seen_booted self zones.items) }
         requires room { HasRoom (zones_of self.layout) stopped }
         requires few { length (zones_of self.layout) < 2 ^ 32 }
         ensures { result ≡ seen_booted self zones.items }
     {
         let cursor = first_dump(self.layout.zones());
+        let flying_dumps = count_dump_flights(self.layout.zones(), &zones);
         let OpenOff {
             alloc,
             layout,
@@ -142,6 +144,8 @@ impl OpenOff {
             spans,
             zones,
             cursor,
+            flying_dumps,
+            coders,
             stopped,
         }
     }
@@ -257,8 +261,13 @@ impl Off {
                     logs,
                     reports,
                     held,
+                    coders,
                 } = prepared;
-                Ok((open.live(held, stopped), logs, Report::from_vec(reports)))
+                Ok((
+                    open.live(held, coders, stopped),
+                    logs,
+                    Report::from_vec(reports),
+                ))
             }
             Err(refused) => Err((open.close(), refused)),
         }
@@ -280,6 +289,7 @@ impl Off {
                     logs,
                     reports: _,
                     held,
+                    coders: _,
                 } = prepared;
                 let progress = settle_part(
                     &mut open.spans,

@@ -12,10 +12,12 @@ ghost use Rattle.session_spec.specs.States.{LiveZone};
 ghost use Rattle.session_spec.specs.ZoneCalls.{begun, stepped};
 ghost use Rattle.session_spec.specs.LiveZones.{flies_dump};
 ghost use Rattle.ram_core.specs.LiveSeen.{StandsForZone};
-ghost use Rattle.ram_core.specs.Storing.{CanStore, is_next, is_last_of_dump};
+ghost use Rattle.ram_core.specs.Storing.{CanStore, HasParity, is_next, is_last_of_dump};
+ghost use Rattle.std.specs.Option.{ForSome};
 
 use crate::Told;
 use crate::known::{HeldCut, KnownZone};
+use block_ecc::Coder;
 use ram_region::{Span, Spans};
 use zone_flight::{Call, Flight, Step};
 use zone_spec::{CallKind, Zone};
@@ -51,14 +53,15 @@ impl HeldZone {
     }
 }
 
-/// Begins a call in a zone without a flight. One that has no store is finished at once.
-pub(crate) fn start(zone: Zone, span: &Span, held: &mut HeldZone, call: Call)
+/// Begins a call in a zone without a flight, and tells whether it flies. One that has no store is finished at once.
+pub(crate) fn start(zone: Zone, span: &Span, held: &mut HeldZone, call: Call) -> bool
     requires valid { IsValidZone zone }
     requires image { IsImage zone span.now }
     requires ring { IsRingForm zone span.now held.old.told.items }
     requires idle { held.old.flight ≡ None }
     requires can { CanBegin zone span.now (call_seen call) }
     ensures told { held.new.told ≡ held.old.told }
+    ensures started { result ≡ is_some held.new.flight }
     ensures flies { (f : Flying) → held.new.flight ≡ Some f → f.call ≡ call_seen call }
     ensures begun { (live : LiveZone) → StandsForZone zone span.now held.old live
         → StandsForZone zone span.now held.new (begun zone (call_seen call) live) }
@@ -66,10 +69,13 @@ pub(crate) fn start(zone: Zone, span: &Span, held: &mut HeldZone, call: Call)
     let flight = Flight::begin(zone, span, call);
     if flight.left() > 0 {
         held.flight = Some(flight);
+        true
+    } else {
+        false
     }
 }
 
-/// What the next store of a flight was.
+/// What the last of some stores of a flight was.
 #[derive(Clone, Copy)]
 pub enum Stored {
     /// A store, behind which others come.
@@ -78,12 +84,19 @@ pub enum Stored {
     Last(CallKind),
 }
 
-/// Makes the next store of the flight of a zone, whose bytes are span `i`. With the last one the flight is gone, and
-/// the list is told what the call means.
-pub(crate) fn store_next(spans: &mut Spans, i: u32, held: &mut HeldZone) -> Option<Stored>
+/// Makes the next `count` stores of the flight of a zone, whose bytes are span `i`, or all that are left. With the last
+/// one the flight is gone, and the list is told what the call means.
+pub(crate) fn advance(
+    spans: &mut Spans,
+    i: u32,
+    held: &mut HeldZone,
+    count: u64,
+    coder: Option<&Coder>,
+) -> Option<Stored>
     requires has { i < length spans.old.spans }
     requires can { CanStore (span spans.old i) held.old.flight }
     requires room { 36 ≤ held.old.told.capacity }
+    requires coder { ForSome coder (λ k. HasParity k.now held.old.flight) }
     ensures idle { result ≡ None → (spans.new ≡ spans.old) × (held.new ≡ held.old) }
     ensures flies { is_some held.old.flight ≡ is_some result }
     ensures goes_on { is_some held.new.flight ≡ is_next result }
@@ -93,14 +106,14 @@ pub(crate) fn store_next(spans: &mut Spans, i: u32, held: &mut HeldZone) -> Opti
     ensures len { length (span spans.new i) ≡ length (span spans.old i) }
     ensures stored { (zone : Zone) (live : LiveZone) → held.old.told.capacity ≡ zone.cap
         → StandsForZone zone (span spans.old i) held.old live
-        → StandsForZone zone (span spans.new i) held.new (stepped zone 1 live) }
+        → StandsForZone zone (span spans.new i) held.new (stepped zone count live) }
     ensures last { (zone : Zone) (live : LiveZone) → StandsForZone zone (span spans.old i) held.old live
-        → (flies_dump live.flight && not (is_some (stepped zone 1 live).flight)) ≡ is_last_of_dump result }
+        → (flies_dump live.flight && not (is_some (stepped zone count live).flight)) ≡ is_last_of_dump result }
 {
     let Some(flight) = &mut held.flight else {
         return None;
     };
-    let Step::Done = flight.step(spans, i) else {
+    let Step::Done = flight.advance(spans, i, count, coder) else {
         return Some(Stored::Next);
     };
     let kind = flight.kind();

@@ -93,12 +93,12 @@ impl Piece {
         self.slots.put(at as usize, b);
     }
 
-    fn store_word(&mut self, at: u32, w: u32)
-        requires { at + 4 ≤ length (piece_bytes self.old) }
-        ensures bytes { piece_bytes self.new ≡ put (piece_bytes self.old) at (to_le_bytes w32 w) }
+    fn store_bytes(&mut self, at: u32, bytes: &[u8])
+        requires { at + length bytes.now ≤ length (piece_bytes self.old) }
+        ensures bytes { piece_bytes self.new ≡ put (piece_bytes self.old) at bytes.now }
         ensures place { SamePlace self.old self.new }
     {
-        self.slots.copy_in(at as usize, &w.to_le_bytes());
+        self.slots.copy_in(at as usize, bytes);
     }
 }
 
@@ -214,7 +214,16 @@ impl Spans {
         requires place { at + 4 ≤ length (span self.old i) }
         ensures { self.new ≡ with_span self.old i (put (span self.old i) at (to_le_bytes w32 w)) }
     {
-        self.list[i as usize].store_word(at, w);
+        self.store_bytes(i, at, &w.to_le_bytes());
+    }
+
+    /// Stores bytes from `at` of span `i` on, rising.
+    pub fn store_bytes(&mut self, i: u32, at: u32, bytes: &[u8])
+        requires span { i < length self.old.spans }
+        requires place { at + length bytes.now ≤ length (span self.old i) }
+        ensures { self.new ≡ with_span self.old i (put (span self.old i) at bytes.now) }
+    {
+        self.list[i as usize].store_bytes(at, bytes);
     }
 
     /// The whole region again. Takes no memory.

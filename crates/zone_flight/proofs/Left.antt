@@ -18,7 +18,7 @@ use Rattle.zone_flight.specs.Machine.{stores_of, behind, stores_left, count_left
 abbrev pub AllStored : Flying → Type 0
 AllStored f = f.place.number ≡ length (stores_of f f.place.phase)
 
-length-stores_of : (f : Flying) (p : Phase) → IsWithin f p → length (stores_of f p) ≡ phase_len f p
+pub length-stores_of : (f : Flying) (p : Phase) → IsWithin f p → length (stores_of f p) ≡ phase_len f p
 length-stores_of f ZeroStart w = refl
 length-stores_of f ZeroSize w = refl
 length-stores_of f Size w = refl

@@ -1,18 +1,20 @@
--- A store of a flight, and the stores that are then left
-use Rattle.std.proofs.Common.{◌≡◌, ℕ, zero, suc, ◌+◌, ◌<◌, List, [], ◌∷◌, ◌++◌, length, drop, slice_get, refl, sym, ap, ◌∙◌, subst, arith, Some, inl, inr, ◌↔◌}
+-- Stores of a flight, and the stores that are then left
+use Rattle.std.proofs.Common.{◌≡◌, ℕ, ◌+◌, ◌<◌, ◌≤◌, List, [], ◌++◌, length, take, drop, refl, sym, ap, ◌∙◌, subst, arith, inl, inr, ◌↔◌, append_assoc, length-append, length-drop}
 use Rattle.std.specs.List.{sum_by}
 use Rattle.zone_spec.specs.declared.Zone.{Zone}
 use Rattle.zone_spec.specs.Told.{Call}
-use Rattle.zone_spec.specs.Stores.{Store, put, after_stores}
+use Rattle.zone_spec.specs.Stores.{Store, after_stores}
 use Rattle.zone_spec.specs.Stages.{stores_in_turn, stage_count}
 use Rattle.zone_spec.specs.Reading.{IsRing}
 use Rattle.zone_spec.specs.Calls.{call_stores, call_stages, IsUnderway}
-use Rattle.ring_laws.proofs.Images.{IsUnderway-step}
+use Rattle.ring_laws.proofs.Images.{after_stores-append}
+use Rattle.std.proofs.lemmas.List.{take-append-drop, drop-drop, length-take-le}
+use Rattle.zone_flight.proofs.Left.{length-stores_of}
 use Rattle.zone_flight.specs.declared.progress.Phase.{Phase}
 use Rattle.zone_flight.specs.declared.progress.Phase.TheVariants.{ZeroStart, ZeroSize, Size, Start, First, FirstParity, Second, SecondParity, Header as HeaderPhase, Finished}
 use Rattle.zone_flight.specs.Flying.{Flying, IsSameCall}
 use Rattle.zone_flight.specs.Phases.{phase_len, IsFinished, IsSound, IsWithin}
-use Rattle.zone_flight.specs.Machine.{stores_of, behind, stores_left, count_left, StandsFor, IsSettled, IsKept}
+use Rattle.zone_flight.specs.Machine.{stores_of, next_stores, behind, stores_left, count_left, StandsFor, IsSettled, IsKept}
 use Rattle.zone_flight.specs.Calls.{IsOpenFor}
 use Rattle.zone_flight.specs.Counts.{total_of}
 
@@ -21,72 +23,91 @@ pub underway_begins : (z : Zone) (call : Call) (image : List ℕ) (left : List S
 unfolding after_stores
 underway_begins z call image left e = record { done = []; whole = sym e; image = refl; count = refl }
 
--- the flight one store later in its phase
-abbrev pub later_by_one : Flying → Flying
-later_by_one f = record f { place = record f.place { number = f.place.number + 1 }; made = f.made + 1 }
+-- the flight n stores later in its phase
+abbrev pub later_by : ℕ → Flying → Flying
+later_by n f = record f { place = record f.place { number = f.place.number + n }; made = f.made + n }
 
-moved_stores : (f : Flying) (p : Phase) → stores_of (later_by_one f) p ≡ stores_of f p
-moved_stores f ZeroStart = refl
-moved_stores f ZeroSize = refl
-moved_stores f Size = refl
-moved_stores f Start = refl
-moved_stores f First = refl
-moved_stores f FirstParity = refl
-moved_stores f Second = refl
-moved_stores f SecondParity = refl
-moved_stores f HeaderPhase = refl
-moved_stores f Finished = refl
+moved_stores : (n : ℕ) (f : Flying) (p : Phase) → stores_of (later_by n f) p ≡ stores_of f p
+moved_stores n f ZeroStart = refl
+moved_stores n f ZeroSize = refl
+moved_stores n f Size = refl
+moved_stores n f Start = refl
+moved_stores n f First = refl
+moved_stores n f FirstParity = refl
+moved_stores n f Second = refl
+moved_stores n f SecondParity = refl
+moved_stores n f HeaderPhase = refl
+moved_stores n f Finished = refl
 
-moved_behind : (f : Flying) (p : Phase) → behind (later_by_one f) p ≡ behind f p
-moved_behind f ZeroStart = refl
-moved_behind f ZeroSize = refl
-moved_behind f Size = refl
-moved_behind f Start = refl
-moved_behind f First = refl
-moved_behind f FirstParity = refl
-moved_behind f Second = refl
-moved_behind f SecondParity = refl
-moved_behind f HeaderPhase = refl
-moved_behind f Finished = refl
+moved_behind : (n : ℕ) (f : Flying) (p : Phase) → behind (later_by n f) p ≡ behind f p
+moved_behind n f ZeroStart = refl
+moved_behind n f ZeroSize = refl
+moved_behind n f Size = refl
+moved_behind n f Start = refl
+moved_behind n f First = refl
+moved_behind n f FirstParity = refl
+moved_behind n f Second = refl
+moved_behind n f SecondParity = refl
+moved_behind n f HeaderPhase = refl
+moved_behind n f Finished = refl
 
-moved_len : (f : Flying) (p : Phase) → phase_len (later_by_one f) p ≡ phase_len f p
-moved_len f ZeroStart = refl
-moved_len f ZeroSize = refl
-moved_len f Size = refl
-moved_len f Start = refl
-moved_len f First = refl
-moved_len f FirstParity = refl
-moved_len f Second = refl
-moved_len f SecondParity = refl
-moved_len f HeaderPhase = refl
-moved_len f Finished = refl
+moved_len : (n : ℕ) (f : Flying) (p : Phase) → phase_len (later_by n f) p ≡ phase_len f p
+moved_len n f ZeroStart = refl
+moved_len n f ZeroSize = refl
+moved_len n f Size = refl
+moved_len n f Start = refl
+moved_len n f First = refl
+moved_len n f FirstParity = refl
+moved_len n f Second = refl
+moved_len n f SecondParity = refl
+moved_len n f HeaderPhase = refl
+moved_len n f Finished = refl
 
-drop-get : (xs : List Store) (k : ℕ) (s : Store) → slice_get xs k ≡ Some s → drop k xs ≡ s ∷ drop (k + 1) xs
-drop-get [] k s e = let n : ◌≡◌ {A = ℕ} 0 1 = cc in absurd (omega (arith, n))
-drop-get (x ∷ xs) zero s e = let same : x ≡ s = cc in ap (λ y. y ∷ xs) same
-drop-get (x ∷ xs) (suc k) s e = drop-get xs k s e ∙ ap (λ n. s ∷ drop n (x ∷ xs))
-    (let m : suc (k + 1) ≡ suc k + 1 = omega arith in m)
+-- so many stores are those of the phase
+pub next_length : (f : Flying) (n : ℕ) → IsSound f → f.place.number + n ≤ phase_len f f.place.phase
+    → length (next_stores f n) ≡ n
+next_length f n sound h =
+    let all : List Store = stores_of f f.place.phase in
+    length-take-le n (drop f.place.number all)
+    (omega (arith, length-drop f.place.number all, length-stores_of f f.place.phase sound.within))
 
-left_next : (f : Flying) (s : Store) (image : List ℕ) → slice_get (stores_of f f.place.phase) f.place.number ≡ Some s
-    → stores_left f image ≡ s ∷ stores_left (later_by_one f) (put image s.place s.bytes)
-unfolding stores_left after_stores
-left_next f s image e =
+left_later : (n : ℕ) (f : Flying) (image : List ℕ)
+    → stores_left f image ≡ next_stores f n ++ stores_left (later_by n f) (after_stores image (next_stores f n))
+unfolding stores_left
+left_later n f image =
     let k : ℕ = f.place.number in
     let p : Phase = f.place.phase in
-    ap (λ ss. ss ++ stores_in_turn f.zone (behind f p) (after_stores image ss)) (drop-get (stores_of f p) k s e)
-    ∙ ap (λ gs. s ∷ (drop (k + 1) (stores_of f p) ++ stores_in_turn f.zone gs
-    (after_stores (put image s.place s.bytes) (drop (k + 1) (stores_of f p))))) (sym (moved_behind f p))
-    ∙ ap (λ ss. s ∷ (drop (k + 1) ss ++ stores_in_turn f.zone (behind (later_by_one f) p)
-    (after_stores (put image s.place s.bytes) (drop (k + 1) ss)))) (sym (moved_stores f p))
+    let all : List Store = stores_of f p in
+    let next : List Store = take n (drop k all) in
+    let rest : List Store = drop (k + n) all in
+    let split : drop k all ≡ next ++ rest =
+    sym (take-append-drop n (drop k all)) ∙ ap (λ ss. next ++ ss) (drop-drop n k all) in
+    ap (λ ss. ss ++ stores_in_turn f.zone (behind f p) (after_stores image ss)) split
+    ∙ append_assoc next rest (stores_in_turn f.zone (behind f p) (after_stores image (next ++ rest)))
+    ∙ ap (λ x. next ++ (rest ++ stores_in_turn f.zone (behind f p) x)) (after_stores-append image next rest)
+    ∙ ap (λ gs. next ++ (rest ++ stores_in_turn f.zone gs (after_stores (after_stores image next) rest)))
+    (sym (moved_behind n f p))
+    ∙ ap (λ ss. next ++ (drop (k + n) ss ++ stores_in_turn f.zone (behind (later_by n f) p)
+    (after_stores (after_stores image next) (drop (k + n) ss)))) (sym (moved_stores n f p))
 
--- one store fewer is left
-pub count_next : (f : Flying) → f.place.number < phase_len f f.place.phase
-    → count_left (later_by_one f) + 1 ≡ count_left f
-count_next f h =
+underway_later : (z : Zone) (call : Call) (before now : List ℕ) (made : ℕ) (ss left : List Store)
+    → IsUnderway z call before now made (ss ++ left)
+    → IsUnderway z call before (after_stores now ss) (made + length ss) left
+underway_later z call before now made ss left u = record {
+  done = u.done ++ ss;
+  whole = u.whole ∙ sym (append_assoc u.done ss left);
+  image = ap (λ x. after_stores x ss) u.image ∙ sym (after_stores-append before u.done ss);
+  count = omega (arith, u.count, length-append u.done ss);
+}
+
+-- n stores fewer are left
+pub count_later : (n : ℕ) (f : Flying) → f.place.number + n ≤ phase_len f f.place.phase
+    → count_left (later_by n f) + n ≡ count_left f
+count_later n f h =
     let p : Phase = f.place.phase in
-    let n : phase_len (later_by_one f) p ≡ phase_len f p = moved_len f p in
-    let b : behind (later_by_one f) p ≡ behind f p = moved_behind f p in
-    rw b (omega (arith, n))
+    let l : phase_len (later_by n f) p ≡ phase_len f p = moved_len n f p in
+    let b : behind (later_by n f) p ≡ behind f p = moved_behind n f p in
+    rw b (omega (arith, l))
 
 pub total_same : {f g : Flying} → IsSameCall f g → total_of g ≡ total_of f
 total_same {f} {g} same =
@@ -94,43 +115,46 @@ total_same {f} {g} same =
     ∙ ap (λ w. sum_by (stage_count f.zone) (call_stages f.zone w g.call)) same.words
     ∙ ap (λ c. sum_by (stage_count f.zone) (call_stages f.zone f.words c)) same.call
 
--- after the store, whatever phase was then entered
-pub stands_next : (f h : Flying) (s : Store) (old new before : List ℕ)
-    → slice_get (stores_of f f.place.phase) f.place.number ≡ Some s → new ≡ put old s.place s.bytes
-    → IsSettled (later_by_one f) h new
+-- after the stores, whatever phase was then entered
+pub stands_later : (f h : Flying) (n : ℕ) (old new before : List ℕ) → length (next_stores f n) ≡ n
+    → new ≡ after_stores old (next_stores f n) → IsSettled (later_by n f) h new
     → StandsFor f old before → StandsFor h new before
-stands_next f h s old new before get put_is settled stands =
-    let g : Flying = later_by_one f in
-    let u : IsUnderway f.zone f.call before (put old s.place s.bytes) (f.made + 1)
-    (stores_left g (put old s.place s.bytes)) =
-    IsUnderway-step (subst (IsUnderway f.zone f.call before old f.made) (left_next f s old get) stands.underway) in
-    let v : IsUnderway f.zone f.call before new (f.made + 1) (stores_left g new) =
-    subst (λ x. IsUnderway f.zone f.call before x (f.made + 1) (stores_left g x)) (sym put_is) u in
-    let w : IsUnderway f.zone f.call before new (f.made + 1) (stores_left h new) =
-    subst (IsUnderway f.zone f.call before new (f.made + 1)) (sym settled.left) v in
+stands_later f h n old new before count new_is settled stands =
+    let g : Flying = later_by n f in
+    let u : IsUnderway f.zone f.call before (after_stores old (next_stores f n)) (f.made + length (next_stores f n))
+    (stores_left g (after_stores old (next_stores f n))) =
+    underway_later f.zone f.call before old f.made (next_stores f n) (stores_left g (after_stores old (next_stores f n)))
+    (subst (IsUnderway f.zone f.call before old f.made) (left_later n f old) stands.underway) in
+    let v : IsUnderway f.zone f.call before new (f.made + length (next_stores f n)) (stores_left g new) =
+    subst (λ x. IsUnderway f.zone f.call before x (f.made + length (next_stores f n)) (stores_left g x))
+    (sym new_is) u in
+    let c : IsUnderway f.zone f.call before new (f.made + n) (stores_left g new) =
+    subst (λ m. IsUnderway f.zone f.call before new (f.made + m) (stores_left g new)) count v in
+    let w : IsUnderway f.zone f.call before new (f.made + n) (stores_left h new) =
+    subst (IsUnderway f.zone f.call before new (f.made + n)) (sym settled.left) c in
     record {
       words = stands.words ∙ sym settled.same.words;
       underway =
-          subst (λ n. IsUnderway h.zone h.call before new n (stores_left h new)) (sym settled.made)
-          (subst (λ z. IsUnderway z h.call before new (f.made + 1) (stores_left h new)) (sym settled.same.zone)
-          (subst (λ c. IsUnderway f.zone c before new (f.made + 1) (stores_left h new)) (sym settled.same.call) w));
+          subst (λ m. IsUnderway h.zone h.call before new m (stores_left h new)) (sym settled.made)
+          (subst (λ z. IsUnderway z h.call before new (f.made + n) (stores_left h new)) (sym settled.same.zone)
+          (subst (λ k. IsUnderway f.zone k before new (f.made + n) (stores_left h new)) (sym settled.same.call) w));
       total =
           total_same settled.same ∙ stands.total
           ∙ ap (λ z. length (call_stores z f.call before)) (sym settled.same.zone)
-          ∙ ap (λ c. length (call_stores h.zone c before)) (sym settled.same.call);
+          ∙ ap (λ k. length (call_stores h.zone k before)) (sym settled.same.call);
     }
 
-within_next : (f : Flying) (p : Phase) → IsWithin f p → IsWithin (later_by_one f) p
-within_next f ZeroStart w = w
-within_next f ZeroSize w = w
-within_next f Size w = w
-within_next f Start w = w
-within_next f First w = w
-within_next f FirstParity w = w
-within_next f Second w = w
-within_next f SecondParity w = w
-within_next f HeaderPhase w = w
-within_next f Finished w = w
+within_next : (n : ℕ) (f : Flying) (p : Phase) → IsWithin f p → IsWithin (later_by n f) p
+within_next n f ZeroStart w = w
+within_next n f ZeroSize w = w
+within_next n f Size w = w
+within_next n f Start w = w
+within_next n f First w = w
+within_next n f FirstParity w = w
+within_next n f Second w = w
+within_next n f SecondParity w = w
+within_next n f HeaderPhase w = w
+within_next n f Finished w = w
 
 none_left : (f : Flying) → IsFinished f → count_left f ≡ 0
 none_left f e =
@@ -155,9 +179,9 @@ is_ready f kept h = elim kept.ready [
   | inr l ↦ l
 ]
 
-pub kept_next : (f g : Flying) (image : List ℕ) → IsKept f → f.place.number < phase_len f f.place.phase → IsSound g
-    → IsSettled (later_by_one f) g image → IsKept g
-kept_next f g image kept h sound settled =
+pub kept_later : (f g : Flying) (n : ℕ) (image : List ℕ) → IsKept f
+    → f.place.number + n ≤ phase_len f f.place.phase → IsSound g → IsSettled (later_by n f) g image → IsKept g
+kept_later f g n image kept h sound settled =
     let same : IsSameCall f g = record {
       zone = settled.same.zone;
       words = settled.same.words;
@@ -171,6 +195,6 @@ kept_next f g image kept h sound settled =
           (subst (λ w. IsOpenFor f.call w g.zone.cap) (sym same.words)
           (subst (λ z. IsOpenFor f.call f.words z.cap) (sym same.zone) kept.is_open));
       ready = settled.ready;
-      counted = omega (arith, settled.made, settled.count, count_next f h, kept.counted, total_same same);
+      counted = omega (arith, settled.made, settled.count, count_later n f h, kept.counted, total_same same);
       small = omega (arith, kept.small, total_same same);
     }

@@ -1,15 +1,16 @@
--- The store that a phase makes next
-use Rattle.std.proofs.Common.{◌≡◌, ℕ, zero, suc, ◌+◌, ◌-◌, ◌*◌, ◌/◌, ◌%◌, ◌<◌, ◌≤◌, ◌⊎◌, min, List, [], ◌∷◌, length, get_or, slice_get, slice_index, sym, ap, ◌∙◌, subst, arith, length-take, length-drop, get_or-take, get_or-drop, Some, w32, mul-le-mul_right}
+-- The stores that a phase makes next
+use Rattle.std.proofs.Common.{◌≡◌, ℕ, zero, suc, ◌+◌, ◌-◌, ◌*◌, ◌/◌, ◌<◌, ◌≤◌, ◌⊎◌, List, [], ◌∷◌, take, drop, refl, sym, ap, ◌∙◌, subst, arith, w32, mul-le-mul_right}
+use Rattle.std.proofs.lemmas.List.{take-take, drop-drop, drop-take}
 use Rattle.std.specs.Int.{to_le_bytes}
 use Rattle.std.proofs.Math.Nat.{div-lt_iff_lt-mul, le-div_iff_mul-le}
 use Rattle.zone_spec.specs.Zones.{IsValidZone}
 use Rattle.zone_spec.specs.declared.Zone.{Zone}
 use Rattle.ring_laws.proofs.RunLaw.{cap_within}
-use Rattle.zone_spec.specs.Parts.{Header, Block, part_parity_at}
-use Rattle.zone_spec.specs.Stores.{Store, put, byte_stores}
+use Rattle.ring_laws.proofs.Images.{after_stores-byte_stores}
+use Rattle.zone_spec.specs.Stores.{Store, put, after_stores, byte_stores, word_store}
 use Rattle.ram_region.specs.CutRegion.{CutRegion, span, with_span}
 use Rattle.zone_flight.specs.declared.progress.Phase.{Phase}
-use Rattle.zone_flight.specs.declared.progress.Phase.TheVariants.{ZeroStart, ZeroSize, Size, Start, First, FirstParity, Second, SecondParity, Header as HeaderPhase}
+use Rattle.zone_flight.specs.declared.progress.Phase.TheVariants.{First, Second}
 use Rattle.zone_flight.specs.Flying.{Flying, payload}
 use Rattle.zone_flight.specs.Phases.{phase_len, first_run, second_run, first_len, second_len}
 use Rattle.zone_flight.specs.Machine.{stores_of, Stores}
@@ -17,85 +18,76 @@ use Rattle.zone_flight.specs.Machine.{stores_of, Stores}
 pub block_some : (k : ℕ) → (k ≡ 32) ⊎ (k ≡ 64) ⊎ (k ≡ 128) → (0 < k) × (k ≤ 128)
 block_some k h = (grind (arith, h), grind (arith, h))
 
-get-byte_stores : (place k : ℕ) (xs : List ℕ) → k < length xs
-    → slice_get (byte_stores place xs) k ≡ Some (record { place = place + k; bytes = get_or xs k 0 ∷ [] })
+drop-byte_stores : (k place : ℕ) (xs : List ℕ) → drop k (byte_stores place xs) ≡ byte_stores (place + k) (drop k xs)
 unfolding byte_stores
-get-byte_stores place k [] h = absurd (omega arith)
-get-byte_stores place zero (x ∷ xs) h = ap (λ p. Some (record { place = p; bytes = x ∷ [] }))
-    (let e : place ≡ place + 0 = omega arith in e)
-get-byte_stores place (suc k) (x ∷ xs) h = get-byte_stores (place + 1) k xs (omega arith)
-    ∙ ap (λ p. Some (record { place = p; bytes = get_or xs k 0 ∷ [] }))
-    (let e : (place + 1) + k ≡ place + suc k = omega arith in e)
+drop-byte_stores zero place xs = let e : place ≡ place + 0 = omega arith in ap (λ p. byte_stores p xs) e
+drop-byte_stores (suc k) place [] = refl
+drop-byte_stores (suc k) place (x ∷ xs) =
+    drop-byte_stores k (place + 1) xs
+    ∙ (let e : (place + 1) + k ≡ place + suc k = omega arith in ap (λ p. byte_stores p (drop k xs)) e)
 
-pub ready_in : (f : Flying) (p : Phase) → f.place.phase ≡ p → f.place.number < phase_len f f.place.phase
-    → f.place.number < phase_len f p
-ready_in f p e h = subst (λ q. f.place.number < phase_len f q) e h
+take-byte_stores : (n place : ℕ) (xs : List ℕ) → take n (byte_stores place xs) ≡ byte_stores place (take n xs)
+unfolding byte_stores
+take-byte_stores zero place xs = refl
+take-byte_stores (suc n) place [] = refl
+take-byte_stores (suc n) place (x ∷ xs) =
+    ap (λ ss. record { place = place; bytes = x ∷ [] } ∷ ss) (take-byte_stores n (place + 1) xs)
 
-module _ (f : Flying) (old : CutRegion) (i : ℕ) (new : CutRegion) where
-  pub stored : (p : Phase) (s : Store) → f.place.phase ≡ p → slice_get (stores_of f p) f.place.number ≡ Some s
-      → new ≡ with_span old i (put (span old i) s.place s.bytes) → Stores f old i new
-  stored p s e h k = (s, ap (λ q. slice_get (stores_of f q) f.place.number) e ∙ h, k)
+-- the next stores of a run are those of its next bytes
+part-byte_stores : (n k place : ℕ) (xs : List ℕ)
+    → take n (drop k (byte_stores place xs)) ≡ byte_stores (place + k) (take n (drop k xs))
+part-byte_stores n k place xs = ap (take n) (drop-byte_stores k place xs) ∙ take-byte_stores n (place + k) (drop k xs)
 
-  pub stored_size : f.place.phase ≡ Size → f.place.number < 1
-      → new ≡ with_span old i (put (span old i) 8 (to_le_bytes w32
-      (min f.zone.cap (f.place.size + length (payload f))))) → Stores f old i new
-  stored_size e h k = let n : f.place.number ≡ 0 = omega arith in
-      stored Size _ e (ap (slice_get (stores_of f Size)) n) k
+-- bytes of a front
+pub part-take : (n k m : ℕ) (xs : List ℕ) → k + n ≤ m → take n (drop k (take m xs)) ≡ take n (drop k xs)
+part-take n k m xs h =
+    (let e : m ≡ k + (m - k) = omega arith in ap (λ j. take n (drop k (take j xs))) e)
+    ∙ ap (take n) (drop-take k (m - k) xs) ∙ take-take n (m - k) (drop k xs) (omega arith)
 
-  pub stored_start : f.place.phase ≡ Start → f.place.number < 1
-      → new ≡ with_span old i (put (span old i) 4 (to_le_bytes w32
-      ((f.place.start + length (payload f)) % f.zone.cap))) → Stores f old i new
-  stored_start e h k = let n : f.place.number ≡ 0 = omega arith in
-      stored Start _ e (ap (slice_get (stores_of f Start)) n) k
+pub ready_in : (f : Flying) (n : ℕ) (p : Phase) → f.place.phase ≡ p
+    → f.place.number + n ≤ phase_len f f.place.phase → f.place.number + n ≤ phase_len f p
+ready_in f n p e h = subst (λ q. f.place.number + n ≤ phase_len f q) e h
 
-  pub stored_first : f.place.phase ≡ First → f.place.number < first_len f
+module _ (f : Flying) (n : ℕ) (old : CutRegion) (i : ℕ) (new : CutRegion) where
+  stored : (p : Phase) (ss : List Store) → f.place.phase ≡ p → take n (drop f.place.number (stores_of f p)) ≡ ss
+      → new ≡ with_span old i (after_stores (span old i) ss) → Stores f n old i new
+  stored p ss e h k = k ∙ ap (λ xs. with_span old i (after_stores (span old i) xs))
+      (sym (ap (λ q. take n (drop f.place.number (stores_of f q))) e ∙ h))
+
+  -- a word is the one store of its phase
+  pub stored_word : (p : Phase) (at w : ℕ) → f.place.phase ≡ p → stores_of f p ≡ word_store at w → 0 < n
+      → f.place.number + n ≤ 1 → new ≡ with_span old i (put (span old i) at (to_le_bytes w32 w)) → Stores f n old i new
+  unfolding after_stores
+  stored_word p at w e all some ready k =
+      let first : f.place.number ≡ 0 = omega arith in
+      let one : n ≡ 1 = omega arith in
+      stored p (word_store at w) e (ap (λ ss. take n (drop f.place.number ss)) all
+      ∙ ap (λ m. take n (drop m (word_store at w))) first ∙ ap (λ m. take m (drop 0 (word_store at w))) one) k
+
+  -- of a run the next bytes
+  pub stored_bytes : (p : Phase) (at : ℕ) (xs ys : List ℕ) → f.place.phase ≡ p → stores_of f p ≡ byte_stores at xs
+      → take n (drop f.place.number xs) ≡ ys
+      → new ≡ with_span old i (put (span old i) (at + f.place.number) ys) → Stores f n old i new
+  stored_bytes p at xs ys e all part k =
+      stored p (byte_stores (at + f.place.number) ys) e
+      (ap (λ ss. take n (drop f.place.number ss)) all ∙ part-byte_stores n f.place.number at xs
+      ∙ ap (byte_stores (at + f.place.number)) part)
+      (k ∙ ap (with_span old i) (sym (after_stores-byte_stores (span old i) (at + f.place.number) ys)))
+
+  pub stored_first : f.place.phase ≡ First → f.place.number + n ≤ first_len f
       → new ≡ with_span old i (put (span old i) (12 + f.place.start + f.place.number)
-      (slice_index (payload f) f.place.number ∷ [])) → Stores f old i new
-  stored_first e h k =
-      stored First _ e (get-byte_stores (12 + f.place.start) f.place.number (first_run f)
-      (omega (arith, length-take (f.zone.cap - f.place.start) (payload f))))
-      (k ∙ ap (λ b. with_span old i (put (span old i) (12 + f.place.start + f.place.number) (b ∷ [])))
-      (sym (get_or-take (f.zone.cap - f.place.start) (payload f) f.place.number 0 (omega arith))))
+      (take n (drop f.place.number (payload f)))) → Stores f n old i new
+  stored_first e h = stored_bytes First (12 + f.place.start) (first_run f) (take n (drop f.place.number (payload f))) e
+      refl (part-take n f.place.number (f.zone.cap - f.place.start) (payload f) (omega arith))
 
-  pub stored_second : f.place.phase ≡ Second → f.place.number < second_len f
+  pub stored_second : f.place.phase ≡ Second → f.place.number + n ≤ second_len f → 0 < n
       → new ≡ with_span old i (put (span old i) (12 + f.place.number)
-      (slice_index (payload f) (first_len f + f.place.number) ∷ [])) → Stores f old i new
-  stored_second e h k =
-      let room : first_len f ≡ f.zone.cap - f.place.start = omega arith in
-      stored Second _ e (get-byte_stores 12 f.place.number (second_run f)
-      (omega (arith, length-drop (f.zone.cap - f.place.start) (payload f))))
-      (k ∙ ap (λ j. with_span old i (put (span old i) (12 + f.place.number)
-      (get_or (payload f) (j + f.place.number) 0 ∷ []))) room
-      ∙ ap (λ b. with_span old i (put (span old i) (12 + f.place.number) (b ∷ [])))
-      (sym (get_or-drop (f.zone.cap - f.place.start) (payload f) f.place.number 0)))
-
-  pub stored_parity_first : f.place.phase ≡ FirstParity → f.place.number < length f.parity
-      → new ≡ with_span old i (put (span old i) (part_parity_at f.zone (Block f.place.block) + f.place.number)
-      (slice_index f.parity f.place.number ∷ [])) → Stores f old i new
-  stored_parity_first e h k = stored FirstParity _ e (get-byte_stores (part_parity_at f.zone (Block f.place.block))
-      f.place.number f.parity h) k
-
-  pub stored_parity_second : f.place.phase ≡ SecondParity → f.place.number < length f.parity
-      → new ≡ with_span old i (put (span old i) (part_parity_at f.zone (Block f.place.block) + f.place.number)
-      (slice_index f.parity f.place.number ∷ [])) → Stores f old i new
-  stored_parity_second e h k = stored SecondParity _ e (get-byte_stores (part_parity_at f.zone (Block f.place.block))
-      f.place.number f.parity h) k
-
-  pub stored_header : f.place.phase ≡ HeaderPhase → f.place.number < length f.parity
-      → new ≡ with_span old i (put (span old i) (part_parity_at f.zone Header + f.place.number)
-      (slice_index f.parity f.place.number ∷ [])) → Stores f old i new
-  stored_header e h k = stored HeaderPhase _ e (get-byte_stores (part_parity_at f.zone Header)
-      f.place.number f.parity h) k
-
-  pub stored_zero_start : f.place.phase ≡ ZeroStart → f.place.number < 1
-      → new ≡ with_span old i (put (span old i) 4 (to_le_bytes w32 0)) → Stores f old i new
-  stored_zero_start e h k = let n : f.place.number ≡ 0 = omega arith in
-      stored ZeroStart _ e (ap (slice_get (stores_of f ZeroStart)) n) k
-
-  pub stored_zero_size : f.place.phase ≡ ZeroSize → f.place.number < 1
-      → new ≡ with_span old i (put (span old i) 8 (to_le_bytes w32 0)) → Stores f old i new
-  stored_zero_size e h k = let n : f.place.number ≡ 0 = omega arith in
-      stored ZeroSize _ e (ap (slice_get (stores_of f ZeroSize)) n) k
+      (take n (drop (first_len f + f.place.number) (payload f)))) → Stores f n old i new
+  stored_second e h some =
+      let room : f.zone.cap - f.place.start ≡ first_len f = omega arith in
+      stored_bytes Second 12 (second_run f) (take n (drop (first_len f + f.place.number) (payload f))) e refl
+      (ap (take n) (drop-drop f.place.number (f.zone.cap - f.place.start) (payload f)
+      ∙ ap (λ m. drop (m + f.place.number) (payload f)) room))
 
 -- a block that a run ends behind is one of the zone's
 pub block_in : (z : Zone) (n b : ℕ) → IsValidZone z → n ≤ z.cap → b < ((n + z.block) - 1) / z.block → b < z.blocks

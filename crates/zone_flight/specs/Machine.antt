@@ -1,9 +1,9 @@
 -- The stores that a flight has still to make, and what it stands for
-use Rattle.std.specs.Prelude.{◌≡◌, ℕ, ◌+◌, ◌-◌, ◌/◌, ◌%◌, ◌^◌, ◌<◌, min, ◌⊎◌, List, [], ◌∷◌, ◌++◌, length, drop, map, sum_by, slice_get, Some}
+use Rattle.std.specs.Prelude.{◌≡◌, ℕ, ◌+◌, ◌-◌, ◌/◌, ◌%◌, ◌^◌, ◌<◌, min, ◌⊎◌, List, [], ◌∷◌, ◌++◌, length, take, drop, map, sum_by}
 use Rattle.std.specs.List.{range_with_len}
 use Rattle.zone_spec.specs.Parts.{Header, Block, part_parity_at, standing_words}
 use Rattle.zone_spec.specs.Reading.{IsRing}
-use Rattle.zone_spec.specs.Stores.{Store, after_stores, byte_stores, put, word_store}
+use Rattle.zone_spec.specs.Stores.{Store, after_stores, byte_stores, word_store}
 use Rattle.zone_spec.specs.Stages.{Stage, StartWord, SizeWord, ParityOf, stage_count, stores_in_turn}
 use Rattle.zone_spec.specs.Calls.{call_stores, run_stages, IsUnderway}
 use Rattle.ram_region.specs.CutRegion.{CutRegion, span, with_span}
@@ -100,7 +100,10 @@ pub record IsSettled (f g : Flying) (image : List ℕ) : Type 0 where
   pub same : IsSameCall f g
   pub made : g.made ≡ f.made
 
--- span i has the next store of the flight's phase, and no other span has changed
-abbrev pub Stores : Flying → CutRegion → ℕ → CutRegion → Type 0
-Stores f old i new = (s : Store) × (slice_get (stores_of f f.place.phase) f.place.number ≡ Some s)
-    × (new ≡ with_span old i (put (span old i) s.place s.bytes))
+-- the next n stores of the flight's phase
+abbrev pub next_stores : Flying → ℕ → List Store
+next_stores f n = take n (drop f.place.number (stores_of f f.place.phase))
+
+-- span i has them, and no other span has changed
+abbrev pub Stores : Flying → ℕ → CutRegion → ℕ → CutRegion → Type 0
+Stores f n old i new = new ≡ with_span old i (after_stores (span old i) (next_stores f n))

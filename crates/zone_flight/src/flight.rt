@@ -1,5 +1,6 @@
 // One call on one zone.
-ghost use Rattle.std.specs.Prelude.{◌≡◌, ◌+◌, ◌-◌, ◌<◌, ◌≤◌, List, ℕ, length, ◌↔◌};
+ghost use Rattle.std.specs.Prelude.{◌≡◌, ◌+◌, ◌-◌, ◌<◌, ◌≤◌, List, ℕ, length, min, ◌↔◌};
+ghost use Rattle.std.specs.Option.{ForSome};
 ghost use Rattle.zone_spec.specs.Zones.{IsValidZone};
 ghost use Rattle.zone_spec.specs.Parts.{standing_words};
 ghost use Rattle.zone_spec.specs.Reading.{IsRing};
@@ -15,6 +16,7 @@ use crate::call::{Call, Step};
 use crate::counts::{call_pairs, call_runs, call_total};
 use crate::progress::Progress;
 use arrayvec::ArrayVec;
+use block_ecc::Coder;
 use ram_region::{Span, Spans};
 use std::marker::Model;
 use zone_spec::{CallKind, Pair, Zone};
@@ -68,7 +70,25 @@ impl Flight {
         ensures len { length (span spans.new i) ≡ length (span spans.old i) }
         ensures done { (result ≡ Step.Done) ↔ (self.new.made ≡ total_of self.new) }
     {
-        if self.progress.step(spans, i) {
+        self.advance(spans, i, 1, None)
+    }
+
+    /// Makes the next `count` stores of the call in span `i`, or all that are left. They are made with this encoder of
+    /// as many parity bytes as the zone's parts have, else with one made for each part.
+    pub fn advance(&mut self, spans: &mut Spans, i: u32, count: u64, coder: Option<&Coder>) -> Step
+        requires has { i < length spans.old.spans }
+        requires len { length (span spans.old i) ≡ self.old.zone.size }
+        requires coder { ForSome coder (λ c. c.now ≡ self.old.zone.parity) }
+        ensures same { IsSameCall self.old self.new }
+        ensures made { self.new.made ≡ min (self.old.made + count) (total_of self.old) }
+        ensures stands { (before : List ℕ) → StandsFor self.old (span spans.old i) before
+            → StandsFor self.new (span spans.new i) before }
+        ensures others { spans.new ≡ with_span spans.old i (span spans.new i) }
+        ensures len { length (span spans.new i) ≡ length (span spans.old i) }
+        ensures done { (result ≡ Step.Done) ↔ (self.new.made ≡ total_of self.new) }
+    {
+        self.progress.advance(coder, spans, i, count);
+        if self.progress.is_finished() {
             Step::Done
         } else {
             Step::Stored

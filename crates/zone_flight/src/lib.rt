@@ -5,6 +5,7 @@
 mod call;
 mod counts;
 mod flight;
+mod parity;
 mod progress;
 
 pub use call::{Call, Line36, Step};

@@ -1,5 +1,6 @@
 // The machine of phases: what the next store of a call is.
-ghost use Rattle.std.specs.Prelude.{◌≡◌, ◌+◌, ◌-◌, ◌*◌, ◌/◌, ◌%◌, ◌<◌, ◌≤◌, ◌^◌, ◌∷◌, [], ◌⊎◌, false, slice_index, List, ℕ, length, IsTrue, ◌↔◌, min};
+ghost use Rattle.std.specs.Prelude.{◌≡◌, ◌+◌, ◌-◌, ◌*◌, ◌/◌, ◌%◌, ◌<◌, ◌≤◌, ◌^◌, ◌⊎◌, false, List, ℕ, length, take, drop, IsTrue, ◌↔◌, min};
+ghost use Rattle.std.specs.Option.{ForSome};
 ghost use Rattle.code_spec.specs.Code.{parity_of};
 ghost use Rattle.zone_spec.specs.Parts.{Header, Block, part_bytes, part_parity_at, standing_words};
 ghost use Rattle.zone_spec.specs.Zones.{IsValidZone};
@@ -11,8 +12,9 @@ ghost use Rattle.zone_flight.specs.First.{first_place, append_phase, erasure};
 
 use crate::call::Call;
 use crate::counts::call_total;
+use crate::parity::{block_parity, header_parity};
 use arrayvec::ArrayVec;
-use block_ecc::{block_parity, header_parity};
+use block_ecc::Coder;
 use ram_region::{Span, Spans};
 use ring_header::RingWords;
 use zone_spec::{Words, Zone};
@@ -176,8 +178,9 @@ impl Progress {
         }
     }
 
-    fn enter_header(&mut self, span: &Span)
+    fn enter_header(&mut self, span: &Span, coder: Option<&Coder>)
         requires sound { IsSound (seen self.old) }
+        requires coder { ForSome coder (λ c. c.now ≡ self.old.zone.parity) }
         requires len { length span.now ≡ self.old.zone.size }
         ensures same { seen self.new ≡ record (at_place (seen self.old)
             (record self.old.place { phase = Phase.Header; number = 0 })) { parity = self.new.parity.items } }
@@ -186,13 +189,14 @@ impl Progress {
         ensures len { length self.new.parity.items ≡ self.old.zone.parity }
     {
         let _bytes = span.len();
-        header_parity(span, &self.zone, &mut self.parity);
+        header_parity(coder, span, &self.zone, &mut self.parity);
         self.place.phase = Phase::Header;
         self.place.number = 0;
     }
 
-    fn enter_block(&mut self, span: &Span, phase: Phase, block: u32)
+    fn enter_block(&mut self, span: &Span, coder: Option<&Coder>, phase: Phase, block: u32)
         requires sound { IsSound (seen self.old) }
+        requires coder { ForSome coder (λ c. c.now ≡ self.old.zone.parity) }
         requires len { length span.now ≡ self.old.zone.size }
         requires block { self.old.zone.block * block < self.old.zone.cap }
         ensures same { seen self.new ≡ record (at_place (seen self.old)
@@ -202,7 +206,7 @@ impl Progress {
         ensures len { length self.new.parity.items ≡ self.old.zone.parity }
     {
         let _bytes = span.len();
-        block_parity(span, &self.zone, block, &mut self.parity);
+        block_parity(coder, span, &self.zone, block, &mut self.parity);
         self.place.phase = phase;
         self.place.block = block;
         self.place.number = 0;
@@ -270,8 +274,9 @@ impl Progress {
     }
 
     /// Goes on to the next phase.
-    fn enter(&mut self, span: &Span)
+    fn enter(&mut self, span: &Span, coder: Option<&Coder>)
         requires sound { IsSound (seen self.old) }
+        requires coder { ForSome coder (λ c. c.now ≡ self.old.zone.parity) }
         requires len { length span.now ≡ self.old.zone.size }
         requires done { IsDone (seen self.old) }
         requires more { IsFinished (seen self.old) → ⊥ }
@@ -280,30 +285,30 @@ impl Progress {
     {
         match self.place.phase {
             Phase::ZeroStart => self.enter_phase(Phase::ZeroSize),
-            Phase::ZeroSize => self.enter_header(span),
+            Phase::ZeroSize => self.enter_header(span, coder),
             Phase::Size => self.enter_phase(Phase::Start),
             Phase::Start => self.enter_phase(Phase::First),
             Phase::First => {
                 let block = self.place.start / self.zone.block;
-                self.enter_block(span, Phase::FirstParity, block);
+                self.enter_block(span, coder, Phase::FirstParity, block);
             }
             Phase::FirstParity => {
                 let block = self.place.block + 1;
                 if block < self.first_end() {
-                    self.enter_block(span, Phase::FirstParity, block);
+                    self.enter_block(span, coder, Phase::FirstParity, block);
                 } else if self.second_len() > 0 {
                     self.enter_phase(Phase::Second);
                 } else {
-                    self.enter_header(span);
+                    self.enter_header(span, coder);
                 }
             }
-            Phase::Second => self.enter_block(span, Phase::SecondParity, 0),
+            Phase::Second => self.enter_block(span, coder, Phase::SecondParity, 0),
             Phase::SecondParity => {
                 let block = self.place.block + 1;
                 if block < self.second_end() {
-                    self.enter_block(span, Phase::SecondParity, block);
+                    self.enter_block(span, coder, Phase::SecondParity, block);
                 } else {
-                    self.enter_header(span);
+                    self.enter_header(span, coder);
                 }
             }
             Phase::Header => self.enter_next_leg(),
@@ -311,13 +316,14 @@ impl Progress {
         }
     }
 
-    /// Makes the next store of the phase.
-    fn store(&self, spans: &mut Spans, i: u32)
+    /// Makes the next `count` stores of the phase.
+    fn store(&self, spans: &mut Spans, i: u32, count: u32)
         requires sound { IsSound (seen self.now) }
         requires has { i < length spans.old.spans }
         requires len { length (span spans.old i) ≡ self.now.zone.size }
-        requires ready { self.now.place.number < phase_len (seen self.now) self.now.place.phase }
-        ensures { Stores (seen self.now) spans.old i spans.new }
+        requires some { 0 < count }
+        requires ready { self.now.place.number + count ≤ phase_len (seen self.now) self.now.place.phase }
+        ensures { Stores (seen self.now) count spans.old i spans.new }
     {
         let number = self.place.number;
         match self.place.phase {
@@ -331,14 +337,30 @@ impl Progress {
                 let start = (self.place.start + self.payload_len()) % self.zone.cap;
                 spans.store_word(i, 4, start)
             }
-            Phase::First => self.store_byte(spans, i, 12 + self.place.start + number, number),
-            Phase::FirstParity => self.store_parity(spans, i, self.parity_at(self.place.block)),
+            Phase::First => self.store_payload(
+                spans,
+                i,
+                12 + self.place.start + number,
+                number,
+                count,
+            ),
+            Phase::FirstParity => self.store_parity(
+                spans,
+                i,
+                self.parity_at(self.place.block),
+                count,
+            ),
             Phase::Second => {
                 let first = self.first_len();
-                self.store_byte(spans, i, 12 + number, first + number)
+                self.store_payload(spans, i, 12 + number, first + number, count)
             }
-            Phase::SecondParity => self.store_parity(spans, i, self.parity_at(self.place.block)),
-            Phase::Header => self.store_parity(spans, i, self.parity_at(self.zone.blocks)),
+            Phase::SecondParity => self.store_parity(
+                spans,
+                i,
+                self.parity_at(self.place.block),
+                count,
+            ),
+            Phase::Header => self.store_parity(spans, i, self.parity_at(self.zone.blocks), count),
             Phase::Finished => {}
         }
     }
@@ -352,72 +374,109 @@ impl Progress {
         12 + self.zone.cap + block * self.zone.parity
     }
 
-    /// Stores a byte of the payload.
-    fn store_byte(&self, spans: &mut Spans, i: u32, at: u32, from: u32)
+    /// Stores `count` bytes of the payload, those from `from` on.
+    fn store_payload(&self, spans: &mut Spans, i: u32, at: u32, from: u32, count: u32)
         requires has { i < length spans.old.spans }
-        requires at { at < length (span spans.old i) }
-        requires from { from < length (payload (seen self.now)) }
+        requires at { at + count ≤ length (span spans.old i) }
+        requires from { from + count ≤ length (payload (seen self.now)) }
         requires room { 36 ≤ self.now.zone.cap }
         ensures { spans.new ≡ with_span spans.old i (put (span spans.old i) at
-            (slice_index (payload (seen self.now)) from ∷ [])) }
+            (take count (drop from (payload (seen self.now))))) }
     {
-        let byte = self.payload()[from as usize];
-        spans.store(i, at, byte);
+        spans.store_bytes(i, at, part_of(self.payload(), from, count));
     }
 
-    /// Stores a byte of the parity that is kept.
-    fn store_parity(&self, spans: &mut Spans, i: u32, at: u32)
+    /// Stores the next `count` bytes of the parity that is kept.
+    fn store_parity(&self, spans: &mut Spans, i: u32, at: u32, count: u32)
         requires has { i < length spans.old.spans }
-        requires number { self.now.place.number < length self.now.parity.items }
-        requires at { at + self.now.place.number < length (span spans.old i) }
+        requires number { self.now.place.number + count ≤ length self.now.parity.items }
+        requires at { at + self.now.place.number + count ≤ length (span spans.old i) }
         requires small { length (span spans.old i) < 2 ^ 25 }
         ensures { spans.new ≡ with_span spans.old i (put (span spans.old i) (at + self.now.place.number)
-            (slice_index self.now.parity.items self.now.place.number ∷ [])) }
+            (take count (drop self.now.place.number self.now.parity.items))) }
     {
-        let byte = byte_of(self.parity.as_slice(), self.place.number);
-        spans.store(i, at + self.place.number, byte);
+        let bytes = part_of(self.parity.as_slice(), self.place.number, count);
+        spans.store_bytes(i, at + self.place.number, bytes);
     }
 
     /// Goes on to the phase of the next store.
-    fn settle(&mut self, span: &Span)
+    fn settle(&mut self, span: &Span, coder: Option<&Coder>)
         requires sound { IsSound (seen self.old) }
         requires len { length span.now ≡ self.old.zone.size }
+        requires coder { ForSome coder (λ c. c.now ≡ self.old.zone.parity) }
         ensures sound { IsSound (seen self.new) }
         ensures settled { IsSettled (seen self.old) (seen self.new) span.now }
     {
         while !self.is_finished() && self.place.number == self.phase_len() {
-            self.enter(span);
+            self.enter(span, coder);
         }
     }
 
-    /// Makes the next store, and tells whether it was the last.
-    pub fn step(&mut self, spans: &mut Spans, i: u32) -> bool
+    /// How many of the next stores are of this phase, at most `most`.
+    fn next_count(&self, most: u64) -> u32
+        requires sound { IsSound (seen self.now) }
+        requires some { 0 < most }
+        requires ready { self.now.place.number < phase_len (seen self.now) self.now.place.phase }
+        ensures some { 0 < result }
+        ensures most { result ≤ most }
+        ensures ready { self.now.place.number + result ≤ phase_len (seen self.now) self.now.place.phase }
+    {
+        most.min((self.phase_len() - self.place.number) as u64) as u32
+    }
+
+    /// Makes the next stores of the phase, at most `most`, and tells how many.
+    fn store_phase(&mut self, coder: Option<&Coder>, spans: &mut Spans, i: u32, most: u64) -> u64
         requires kept { IsKept (seen self.old) }
         requires left { self.old.made < total_of (seen self.old) }
+        requires some { 0 < most }
+        requires coder { ForSome coder (λ c. c.now ≡ self.old.zone.parity) }
         requires has { i < length spans.old.spans }
         requires len { length (span spans.old i) ≡ self.old.zone.size }
+        ensures some { 0 < result }
+        ensures most { result ≤ most }
         ensures kept { IsKept (seen self.new) }
         ensures same { IsSameCall (seen self.old) (seen self.new) }
-        ensures made { self.new.made ≡ self.old.made + 1 }
+        ensures made { self.new.made ≡ self.old.made + result }
         ensures stands { (before : List ℕ) → StandsFor (seen self.old) (span spans.old i) before
             → StandsFor (seen self.new) (span spans.new i) before }
         ensures others { spans.new ≡ with_span spans.old i (span spans.new i) }
         ensures len { length (span spans.new i) ≡ length (span spans.old i) }
-        ensures done { IsTrue result ↔ (self.new.made ≡ total_of (seen self.new)) }
     {
-        self.store(spans, i);
-        self.place.number += 1;
-        self.made += 1;
-        self.settle(&spans.all()[i as usize]);
-        self.is_finished()
+        let count = self.next_count(most);
+        self.store(spans, i, count);
+        self.place.number += count;
+        self.made += count as u64;
+        self.settle(&spans.all()[i as usize], coder);
+        count as u64
+    }
+
+    /// Makes the next `count` stores, or all that are left.
+    pub fn advance(&mut self, coder: Option<&Coder>, spans: &mut Spans, i: u32, count: u64)
+        requires kept { IsKept (seen self.old) }
+        requires coder { ForSome coder (λ c. c.now ≡ self.old.zone.parity) }
+        requires has { i < length spans.old.spans }
+        requires len { length (span spans.old i) ≡ self.old.zone.size }
+        ensures kept { IsKept (seen self.new) }
+        ensures same { IsSameCall (seen self.old) (seen self.new) }
+        ensures made { self.new.made ≡ min (self.old.made + count) (total_of (seen self.old)) }
+        ensures stands { (before : List ℕ) → StandsFor (seen self.old) (span spans.old i) before
+            → StandsFor (seen self.new) (span spans.new i) before }
+        ensures others { spans.new ≡ with_span spans.old i (span spans.new i) }
+        ensures len { length (span spans.new i) ≡ length (span spans.old i) }
+    {
+        let mut left = count;
+        'phases: while left > 0 && !self.is_finished() {
+            left -= self.store_phase(coder, spans, i, left);
+        }
     }
 }
 
-fn byte_of(bytes: &[u8], at: u32) -> u8
-    requires { at < length bytes.now }
-    ensures { result ≡ slice_index bytes.now at }
+/// The `count` bytes from `from` on.
+fn part_of(bytes: &[u8], from: u32, count: u32) -> &[u8]
+    requires { from + count ≤ length bytes.now }
+    ensures { result.now ≡ take count (drop from bytes.now) }
 {
-    bytes[at as usize]
+    &bytes[from as usize..from as usize + count as usize]
 }
 
 /// Where the call begins.

@@ -1,9 +1,11 @@
-use Rattle.std.proofs.Common.{get_or, sym, subst}
+use Rattle.std.proofs.Common.{get_or, set, sym, subst, arith}
 use Rattle.zone_spec.specs.declared.Zone.{Zone}
 use Rattle.zone_spec.specs.declared.Kind.TheVariants.{Dump}
 use Rattle.zone_spec.specs.Calls.{CanBegin}
 use Rattle.ram_core.specs.Asks.{ask_seen}
 use Rattle.ram_core.proofs.Running.{free_here, started}
+use Rattle.zone_params.specs.Laid.{zones_of}
+use Rattle.ram_core.proofs.DumpFlights.{flights_begun, flights_bound}
 use Rattle.ram_core.proofs.live.Live.start.Goals as goal
 
 -- what a slice gives outside its length
@@ -19,40 +21,40 @@ no_zone = record {
   block = 0;
 }
 
-pub start-requires-clause-valid : goal.start-requires-clause-valid
-start-requires-clause-valid c =
+pub start-flies-requires-clause-valid : goal.start-flies-requires-clause-valid
+start-flies-requires-clause-valid c =
     (free_here _ c.args.self.now c.args.i (ask_seen c.args.ask)
     c.zones.result.now no_zone c.all.result.now c.index-all-i.result c.index_mut.result.now c.self.view_is
     c.self.invariant.0 c.check.ensures
     c.requires.place c.requires.within c.requires.free c.zones.ensures.value c.all.ensures c.index-all-i.is
     c.index_mut.ensures.value).0.valid
 
-pub start-requires-clause-image : goal.start-requires-clause-image
-start-requires-clause-image c =
+pub start-flies-requires-clause-image : goal.start-flies-requires-clause-image
+start-flies-requires-clause-image c =
     (free_here _ c.args.self.now c.args.i (ask_seen c.args.ask)
     c.zones.result.now no_zone c.all.result.now c.index-all-i.result c.index_mut.result.now c.self.view_is
     c.self.invariant.0 c.check.ensures
     c.requires.place c.requires.within c.requires.free c.zones.ensures.value c.all.ensures c.index-all-i.is
     c.index_mut.ensures.value).0.image
 
-pub start-requires-clause-ring : goal.start-requires-clause-ring
-start-requires-clause-ring c =
+pub start-flies-requires-clause-ring : goal.start-flies-requires-clause-ring
+start-flies-requires-clause-ring c =
     (free_here _ c.args.self.now c.args.i (ask_seen c.args.ask)
     c.zones.result.now no_zone c.all.result.now c.index-all-i.result c.index_mut.result.now c.self.view_is
     c.self.invariant.0 c.check.ensures
     c.requires.place c.requires.within c.requires.free c.zones.ensures.value c.all.ensures c.index-all-i.is
     c.index_mut.ensures.value).0.ring
 
-pub start-requires-clause-idle : goal.start-requires-clause-idle
-start-requires-clause-idle c =
+pub start-flies-requires-clause-idle : goal.start-flies-requires-clause-idle
+start-flies-requires-clause-idle c =
     (free_here _ c.args.self.now c.args.i (ask_seen c.args.ask)
     c.zones.result.now no_zone c.all.result.now c.index-all-i.result c.index_mut.result.now c.self.view_is
     c.self.invariant.0 c.check.ensures
     c.requires.place c.requires.within c.requires.free c.zones.ensures.value c.all.ensures c.index-all-i.is
     c.index_mut.ensures.value).0.idle
 
-pub start-requires-clause-can : goal.start-requires-clause-can
-start-requires-clause-can c =
+pub start-flies-requires-clause-can : goal.start-flies-requires-clause-can
+start-flies-requires-clause-can c =
     subst (CanBegin (get_or c.zones.result.now c.args.i no_zone) c.index-all-i.result) (sym c.into_call.ensures)
     (free_here _ c.args.self.now c.args.i (ask_seen c.args.ask)
     c.zones.result.now no_zone c.all.result.now c.index-all-i.result c.index_mut.result.now c.self.view_is
@@ -63,21 +65,43 @@ start-requires-clause-can c =
 pub invariant_of-self : goal.invariant_of-self
 invariant_of-self c = (
   (started _ c.args.self.now c.args.i (ask_seen c.args.ask)
-      _ c.zones.result.now no_zone c.all.result.now c.index-all-i.result c.index_mut.result.now c.start.new.held
+      _ c.zones.result.now no_zone c.all.result.now c.index-all-i.result c.index_mut.result.now c.start-flies.new.held
       c.self.view_is
       c.self.invariant.0 c.check.ensures c.requires.place c.requires.within c.requires.free c.zones.ensures.value
       c.all.ensures c.index-all-i.is c.index_mut.ensures.value c.into_call.ensures
-      c.start.ensures.told c.start.ensures.flies c.start.ensures.begun).0,
+      c.start-flies.ensures.told c.start-flies.ensures.flies c.start-flies.ensures.begun).0,
   c.self.invariant.1,
   c.self.invariant.2,
+  (let f = free_here _ c.args.self.now c.args.i (ask_seen c.args.ask)
+      c.zones.result.now no_zone c.all.result.now c.index-all-i.result c.index_mut.result.now c.self.view_is
+      c.self.invariant.0 c.check.ensures
+      c.requires.place c.requires.within c.requires.free c.zones.ensures.value c.all.ensures c.index-all-i.is
+      c.index_mut.ensures.value in
+      flights_begun _ c.self.inside.zones.items c.args.i (get_or c.zones.result.now c.args.i no_zone)
+      c.index_mut.result.now c.start-flies.new.held _ _ _ f.1 f.2 f.0.idle c.self.invariant.3
+      c.start-flies.ensures.started c.dump_flight.ensures),
 )
 
-pub returns : goal.returns
-returns c layout mem s stands =
+pub overflow_add-self : goal.overflow_add-self
+overflow_add-self c =
+    let f = free_here _ c.args.self.now c.args.i (ask_seen c.args.ask)
+    c.zones.result.now no_zone c.all.result.now c.index-all-i.result c.index_mut.result.now c.self.view_is
+    c.self.invariant.0 c.check.ensures
+    c.requires.place c.requires.within c.requires.free c.zones.ensures.value c.all.ensures c.index-all-i.is
+    c.index_mut.ensures.value in
+    let sum = flights_begun _ c.self.inside.zones.items c.args.i (get_or c.zones.result.now c.args.i no_zone)
+    c.index_mut.result.now c.start-flies.new.held _ _ _ f.1 f.2 f.0.idle c.self.invariant.3
+    c.start-flies.ensures.started c.dump_flight.ensures in
+    let bound = flights_bound (zones_of c.self.inside.layout)
+    (set c.self.inside.zones.items c.args.i c.start-flies.new.held) in
+    omega (arith, sum, bound, c.self.inside.layout.zones.small)
+
+pub returns-clause-begun : goal.returns-clause-begun
+returns-clause-begun c layout mem s stands =
     (started _ c.args.self.now c.args.i (ask_seen c.args.ask)
-    _ c.zones.result.now no_zone c.all.result.now c.index-all-i.result c.index_mut.result.now c.start.new.held
+    _ c.zones.result.now no_zone c.all.result.now c.index-all-i.result c.index_mut.result.now c.start-flies.new.held
     c.self.view_is
     c.self.invariant.0 c.check.ensures c.requires.place c.requires.within c.requires.free c.zones.ensures.value
     c.all.ensures c.index-all-i.is c.index_mut.ensures.value c.into_call.ensures
-    c.start.ensures.told c.start.ensures.flies c.start.ensures.begun).1
+    c.start-flies.ensures.told c.start-flies.ensures.flies c.start-flies.ensures.begun).1
     layout mem s stands

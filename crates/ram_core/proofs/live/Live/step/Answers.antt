@@ -1,17 +1,19 @@
 use Rattle.std.proofs.Common.{Some, true, false, is_some, sym, ap, ◌∙◌, true≢false, refl}
+use Rattle.session_spec.specs.ZoneCalls.{stepped}
 use Rattle.ram_core.specs.Storing.{is_next}
-use Rattle.ram_core.proofs.Stepped.{step_leaves, step_idle, flies_after}
+use Rattle.ram_core.proofs.Stepped.{goes_leaves, goes_idle, flies_after}
 use Rattle.ram_core.proofs.live.Live.step.Goals as goal
 
 pub returns-in-None-clause-refused : goal.returns-in-None-clause-refused
 returns-in-None-clause-refused c layout mem s stands =
-    step_idle c.args.self.now c.in-Some.i c.args.zone (sym c.in-Some.ensures.place) c.in-Some.ensures.within.0 1
+    goes_idle c.args.self.now c.in-Some.i c.args.zone (sym c.in-Some.ensures.place) c.in-Some.ensures.within.0
+    (λ z live. stepped z 1 live)
     (c.store.ensures.flies ∙ ap is_some c.in-None.is) layout mem s stands
 
 pub returns-in-Some-Next-clause-stepped : goal.returns-in-Some-Next-clause-stepped
 returns-in-Some-Next-clause-stepped c layout mem s stands =
-    step_leaves c.args.self.now c.in-Some.i c.args.zone (sym c.in-Some.ensures.place)
-    c.in-Some.ensures.within.0 c.store.new.self (c.store.ensures.flies ∙ ap is_some c.in-Some-Next.is)
+    goes_leaves c.args.self.now c.in-Some.i c.args.zone (sym c.in-Some.ensures.place)
+    c.in-Some.ensures.within.0 (λ z live. stepped z 1 live) c.store.new.self (c.store.ensures.flies ∙ ap is_some c.in-Some-Next.is)
     c.store.ensures.stored
     layout mem s stands
 
@@ -24,8 +26,8 @@ returns-in-Some-Next-clause-done c =
 
 pub returns-in-Some-Last-clause-stepped : goal.returns-in-Some-Last-clause-stepped
 returns-in-Some-Last-clause-stepped c layout mem s stands =
-    step_leaves c.args.self.now c.in-Some.i c.args.zone (sym c.in-Some.ensures.place)
-    c.in-Some.ensures.within.0 c.store.new.self (c.store.ensures.flies ∙ ap is_some c.in-Some-Last.is)
+    goes_leaves c.args.self.now c.in-Some.i c.args.zone (sym c.in-Some.ensures.place)
+    c.in-Some.ensures.within.0 (λ z live. stepped z 1 live) c.store.new.self (c.store.ensures.flies ∙ ap is_some c.in-Some-Last.is)
     c.store.ensures.stored
     layout mem s stands
 

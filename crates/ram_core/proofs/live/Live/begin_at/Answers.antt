@@ -1,7 +1,7 @@
 use Rattle.std.proofs.Common.{sym, ◌∙◌}
 use Rattle.ram_core.specs.Asks.{ask_seen}
 use Rattle.ram_core.proofs.Running.{begun_busy}
-use Rattle.ram_core.proofs.live.Live.begin.Goals as goal
+use Rattle.ram_core.proofs.live.Live.begin_at.Goals as goal
 
 pub returns-then-is_busy-clause-refused : goal.returns-then-is_busy-clause-refused
 returns-then-is_busy-clause-refused c layout mem s stands =

@@ -2,9 +2,9 @@ use Rattle.std.proofs.Common.{sym, subst}
 use Rattle.ram_region.specs.CutRegion.{span}
 use Rattle.zone_flight.specs.Machine.{StandsFor}
 use Rattle.zone_flight.specs.Flying.{Flying}
-use Rattle.zone_flight.proofs.flight.Flight.step.Goals as goal
+use Rattle.zone_flight.proofs.flight.Flight.advance.Goals as goal
 
 pub returns-clause-stands : goal.returns-clause-stands
 returns-clause-stands c = λ before stands.
-    c.step.ensures.stands before (subst (λ (f : Flying). StandsFor f (span c.args.spans.now c.args.i) before)
+    c.advance.ensures.stands before (subst (λ (f : Flying). StandsFor f (span c.args.spans.now c.args.i) before)
     (sym c.self.view_is) stands)
