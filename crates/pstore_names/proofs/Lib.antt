@@ -7,3 +7,4 @@ pub mod Named
 pub mod Finding
 pub mod Given
 pub mod Tabled
+pub mod Alone

@@ -1,10 +1,10 @@
 -- What the zones of a record count
-use Rattle.std.specs.Prelude.{ℕ, Bool, nat_lt, List, filter, flat_map, sum_by}
+use Rattle.std.specs.Prelude.{ℕ, Bool, nat_lt, if◌then◌else◌, List, [], filter, flat_map, sum_by}
 use Rattle.std.specs.List.{list_any}
 use Rattle.zone_spec.specs.declared.Name.{Name}
 use Rattle.zone_spec.specs.Reading.{ZoneReading}
 use Rattle.zone_spec.specs.Records.{Saved, found}
-use Rattle.zone_spec.specs.Notices.{is_in}
+use Rattle.zone_spec.specs.Notices.{is_in, notice_text}
 
 -- the zones of a record
 abbrev pub zones_of : Name → List Saved → List Saved
@@ -23,3 +23,7 @@ corrected_in name zones = sum_by (λ (r : ZoneReading). r.corrected) (readings_o
 
 abbrev pub bad_in : Name → List Saved → ℕ
 bad_in name zones = sum_by (λ (r : ZoneReading). r.bad) (readings_of name zones)
+
+-- the notice with these counts
+abbrev pub notice_with : Bool → ℕ → ℕ → List ℕ
+notice_with has_parity corrected bad = if has_parity then notice_text corrected bad else []

@@ -1,10 +1,10 @@
 // The notices of records whose zones have parity.
-ghost use Rattle.std.specs.Prelude.{◌≡◌, ◌<◌, ◌^◌, [], ◌∷◌, length, slice_get, Some};
+ghost use Rattle.std.specs.Prelude.{◌≡◌, ◌<◌, ◌≤◌, ◌^◌, [], ◌∷◌, length, decimal, slice_get, Some};
 ghost use Rattle.zone_spec.specs.declared.Zone.{Zone};
 ghost use Rattle.zone_spec.specs.Records.{Saved};
 ghost use Rattle.zone_spec.specs.Notices.{is_in, notice, notice_text};
 ghost use Rattle.old_log.specs.Saving.{saved};
-ghost use Rattle.pstore_names.specs.Counts.{has_parity, corrected_in, bad_in};
+ghost use Rattle.pstore_names.specs.Counts.{has_parity, corrected_in, bad_in, notice_with};
 
 use crate::zones::{found_at, is_kind};
 use arrayvec::ArrayString;
@@ -14,10 +14,10 @@ use zone_spec::{Kind, Name, ZoneName};
 
 /// What the zones of a record count, and whether one of them has parity.
 #[derive(Clone, Copy)]
-struct Counts {
-    has_parity: bool,
-    corrected: u64,
-    bad: u64,
+pub struct Counts {
+    pub has_parity: bool,
+    pub corrected: u64,
+    pub bad: u64,
 }
 
 const NOTHING: Counts = Counts {
@@ -39,7 +39,7 @@ pub fn is_in(name: Name, zone: ZoneName) -> bool
 }
 
 /// What zone `i` adds to the counts of a record.
-fn counts_at(logs: &Logs, i: u32, name: Name) -> Counts
+pub fn counts_at(logs: &Logs, i: u32, name: Name) -> Counts
     requires { i < length logs.now.readings }
     ensures has_parity { (s : Saved) → slice_get (saved logs.now) i ≡ Some s
         → result.has_parity ≡ has_parity name (s ∷ []) }
@@ -66,7 +66,8 @@ fn counts_at(logs: &Logs, i: u32, name: Name) -> Counts
     }
 }
 
-fn counts_of(logs: &Logs, name: Name) -> Counts
+/// What all zones of a record count.
+pub fn counts_of(logs: &Logs, name: Name) -> Counts
     ensures has_parity { result.has_parity ≡ has_parity name (saved logs.now) }
     ensures corrected { result.corrected ≡ corrected_in name (saved logs.now) }
     ensures bad { result.bad ≡ bad_in name (saved logs.now) }
@@ -108,4 +109,36 @@ pub fn write_notice(logs: &Logs, name: Name, out: &mut ArrayString<86>)
     } else {
         out.clear();
     }
+}
+
+fn digits_in(n: u64) -> u64
+    ensures len { result ≡ length (decimal n) }
+    ensures small { result ≤ 20 }
+{
+    let mut digits = Buffer::new();
+    digits.format(n).len() as u64
+}
+
+#[tactic(auto, using(crate::proofs::Texts::no_errors_length))]
+fn counts_len(corrected: u64, bad: u64) -> u64
+    ensures len { result ≡ length (notice_text corrected bad) }
+    ensures small { result ≤ 86 }
+{
+    if corrected == 0 && bad == 0 {
+        return 25;
+    }
+    let corrected_len = digits_in(corrected);
+    let bad_len = digits_in(bad);
+    46 + corrected_len + bad_len
+}
+
+/// The length in bytes of the notice with these counts.
+pub fn notice_len(counts: Counts) -> u64
+    ensures len { result ≡ length (notice_with counts.has_parity counts.corrected counts.bad) }
+    ensures small { result ≤ 86 }
+{
+    if !counts.has_parity {
+        return 0;
+    }
+    counts_len(counts.corrected, counts.bad)
 }

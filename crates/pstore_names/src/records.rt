@@ -7,7 +7,7 @@ ghost use Rattle.old_log.specs.Saving.{saved};
 ghost use Rattle.pstore_names.specs.Contents.{IsGiven, alone, parts_of, parts_in};
 
 use crate::merging::{merged_entries, merged_len};
-use crate::notices::write_notice;
+use crate::notices::{counts_of, notice_len, write_notice};
 use crate::zones::{first_log, log_at};
 use arrayvec::ArrayString;
 use box_io::Bytes;
@@ -175,9 +175,9 @@ pub fn length(logs: &Logs, name: Name) -> Option<u128>
         ≡ option_map (λ (r : Listed). length (content_of (saved logs.now) r)) (record_of (saved logs.now) name) }
 {
     let len = bare_len(logs, name)?;
-    let mut notice = ArrayString::new();
-    write_notice(logs, name, &mut notice);
-    Some(len + notice.as_str().len() as u128)
+    let counts = counts_of(logs, name);
+    let notice = notice_len(counts);
+    Some(len + u128::from(notice))
 }
 
 /// The time of the listed dump of this name, or `None` where there is no such record or it is no dump.

@@ -3,12 +3,12 @@ ghost use Rattle.std.specs.Prelude.{◌≡◌, ◌+◌, ◌<◌, ◌^◌, [], �
 ghost use Rattle.zone_spec.specs.Notices.{notice};
 ghost use Rattle.zone_spec.specs.Records.{Saved, dumps_of, plain, ftrace_of, logs_of, listed_of};
 ghost use Rattle.old_log.specs.Saving.{saved};
-ghost use Rattle.pstore_names.specs.Tables.{entry_of};
+ghost use Rattle.pstore_names.specs.Counts.{notice_with};
+ghost use Rattle.pstore_names.specs.Tables.{entry_of, numbers_rise, zones_counted};
 
 use crate::merging::merged_len;
-use crate::notices::write_notice;
-use crate::zones::{first_log, log_at};
-use arrayvec::ArrayString;
+use crate::notices::{Counts, counts_at, counts_of, notice_len};
+use crate::zones::{first_log, is_kind, log_at};
 use dump_records::read_line;
 use old_log::Logs;
 use std::alloc::{AllocError, Global};
@@ -22,25 +22,82 @@ pub struct Entry {
     pub time: Option<Time>,
 }
 
+/// Whether the numbers of the dump zones rise, as they do in every layout: each dump's notice then counts its own zone
+/// alone.
+fn numbers_rise(logs: &Logs) -> bool
+    ensures { result ≡ numbers_rise 0 (saved logs.now) }
+{
+    let mut least = 0;
+    for i in 0..logs.len() {
+        let name = logs.name(i);
+        if is_kind(Kind::Dump, name.kind) {
+            if u64::from(name.index) < least {
+                return false;
+            }
+            least = u64::from(name.index) + 1;
+        }
+    }
+    true
+}
+
+/// The entry of a record whose content has so many bytes before a notice with these counts.
+fn with_counts(name: Name, len: u128, time: Option<Time>, counts: Counts) -> Entry
+    requires { len < 2 ^ 96 }
+    ensures { result ≡ record {
+      name = name;
+      len = len + length (notice_with counts.has_parity counts.corrected counts.bad);
+      time = time;
+    } }
+{
+    Entry {
+        name,
+        len: len + u128::from(notice_len(counts)),
+        time,
+    }
+}
+
 /// The entry of a record whose content has so many bytes before its notice.
 fn counted(logs: &Logs, name: Name, len: u128, time: Option<Time>) -> Entry
     requires { len < 2 ^ 96 }
     ensures { result ≡ record { name = name; len = len + length (notice (saved logs.now) name); time = time } }
 {
-    let mut notice = ArrayString::new();
-    write_notice(logs, name, &mut notice);
-    Entry {
-        name,
-        len: len + notice.as_str().len() as u128,
-        time,
+    let counts = counts_of(logs, name);
+    with_counts(name, len, time, counts)
+}
+
+/// What the zones of the record of zone `i` count: the zone alone, or all of them.
+fn dump_counts(logs: &Logs, i: u32, name: Name, is_alone: bool) -> Counts
+    requires { i < length logs.now.readings }
+    ensures { (s : Saved) → slice_get (saved logs.now) i ≡ Some s
+        → notice_with result.has_parity result.corrected result.bad
+        ≡ notice (zones_counted is_alone s (saved logs.now)) name }
+{
+    if is_alone {
+        counts_at(logs, i, name)
+    } else {
+        counts_of(logs, name)
     }
 }
 
-/// The entry of zone `i`, where it makes a dump's record.
-fn dump_entry(logs: &Logs, i: u32) -> Option<Entry>
+/// The entry of a dump of zone `i`, whose content has so many bytes before its notice.
+fn dump_counted(logs: &Logs, i: u32, name: Name, len: u128, time: Time, is_alone: bool) -> Entry
+    requires zone { i < length logs.now.readings }
+    requires len { len < 2 ^ 96 }
+    ensures { (s : Saved) → slice_get (saved logs.now) i ≡ Some s → result ≡ record {
+      name = name;
+      len = len + length (notice (zones_counted is_alone s (saved logs.now)) name);
+      time = Some time;
+    } }
+{
+    let counts = dump_counts(logs, i, name, is_alone);
+    with_counts(name, len, Some(time), counts)
+}
+
+/// The entry of zone `i`, where it makes a dump's record, by the counts of the zone alone or of all zones.
+fn dump_entry(logs: &Logs, i: u32, is_alone: bool) -> Option<Entry>
     requires { i < length logs.now.readings }
     ensures { (s : Saved) → slice_get (saved logs.now) i ≡ Some s
-        → option_to_list result ≡ map (entry_of (saved logs.now)) (dumps_of (s ∷ [])) }
+        → option_to_list result ≡ map (entry_of (zones_counted is_alone s (saved logs.now))) (dumps_of (s ∷ [])) }
 {
     let log = log_at(logs, i, Kind::Dump)?;
     let line = read_line(log)?;
@@ -49,7 +106,7 @@ fn dump_entry(logs: &Logs, i: u32) -> Option<Entry>
         packed: line.packed,
     };
     let content = &log[line.len as usize..];
-    Some(counted(logs, name, content.len() as u128, Some(line.time)))
+    Some(dump_counted(logs, i, name, content.len() as u128, line.time, is_alone))
 }
 
 /// The entry of zone `i`, where its log is a record of this kind.
@@ -66,8 +123,9 @@ fn add_dumps(logs: &Logs, entries: &mut Vec<Entry>) -> Result<(), AllocError>
     ensures { OnOk result (entries.new.items
         ≡ entries.old.items ++ map (entry_of (saved logs.now)) (dumps_of (saved logs.now))) }
 {
+    let is_alone = numbers_rise(logs);
     for i in 0..logs.len() {
-        if let Some(entry) = dump_entry(logs, i) {
+        if let Some(entry) = dump_entry(logs, i, is_alone) {
             entries.push(entry)?;
         }
     }

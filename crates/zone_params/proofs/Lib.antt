@@ -3,3 +3,4 @@ pub mod Faultless
 pub mod LaidOut
 pub mod WholeLayout
 pub mod NamesDiffer
+pub mod RowPlaces

@@ -1,8 +1,8 @@
 -- The zones of a layout are valid, lie in order, and end within the memory
-use Rattle.std.proofs.Common.{◌≡◌, ℕ, zero, suc, ◌+◌, ◌-◌, ◌*◌, ◌^◌, ◌<◌, ◌≤◌, Bool, true, false, not, ◌&&◌, ◌||◌, if◌then◌else◌, nat_lt, nat_le, bit_xor, List, [], ◌∷◌, ◌++◌, map, length, take, drop, get_or, Option, Some, None, Ok, refl, sym, ap, ◌∙◌, arith, slice_get}
+use Rattle.std.proofs.Common.{◌≡◌, ℕ, zero, suc, ◌+◌, ◌-◌, ◌*◌, ◌^◌, ◌<◌, ◌≤◌, Bool, true, false, ◌&&◌, ◌||◌, nat_lt, nat_le, bit_xor, List, [], ◌∷◌, ◌++◌, map, length, take, Option, Some, None, Ok, refl, sym, ap, ◌∙◌, arith, slice_get}
 use Rattle.std.specs.Option.{option_or}
-use Rattle.std.specs.List.{AllByRecursion, list_any, range_with_len, position, position_or_len}
-use Rattle.std.proofs.lemmas.Bool.{ltb-false, leb-false, lt-ltb, le-ltb}
+use Rattle.std.specs.List.{AllByRecursion, list_any, range_with_len}
+use Rattle.std.proofs.lemmas.Bool.{ltb-false, leb-false}
 use Rattle.std.proofs.lemmas.Nat.{xor_of_32}
 use Rattle.std.proofs.lemmas.Option.{slice_get_within}
 use Rattle.std.proofs.lemmas.List.{length-append}
@@ -18,8 +18,7 @@ use Rattle.zone_spec.specs.Zones.{IsValidZone}
 use Rattle.zone_spec.specs.Layouts.{zones_end, IsLayout}
 use Rattle.zone_spec.specs.Layout.{rounded, rows, zone_at, zones_from, parameter_faults, zone_faults, first_fault, ok_unless, layout_of, parity_bytes, ecc_of, tag_of}
 use Rattle.zone_params.proofs.Faultless.{IsFaultless, faultless, rows_total, mem_small, rows_within, taken, all_taken, parity_at_most, parity_within, block_at_most, each_clear, or_clear, small_rows, any_in_rows}
-use Rattle.zone_params.proofs.LaidOut.{by_faults, of_row, drop_next}
-use Rattle.param_words.proofs.Texts.{if_true, if_false}
+use Rattle.zone_params.proofs.LaidOut.{by_faults, of_row}
 
 -- what an answer of zones says of the faults
 pub record NoFault (p : Params) (zones : List Zone) : Type 0 where
@@ -52,11 +51,11 @@ layout_kind_small p zones kind h = parity_within p kind (faultless p (no_fault p
 pub layout_block_small : (p : Params) (zones : List Zone) → layout_of p ≡ Ok zones → p.block ≤ 128
 layout_block_small p zones h = block_at_most p (faultless p (no_fault p zones h).of_parameters)
 
-abbrev all_count : List Row → ℕ
+abbrev pub all_count : List Row → ℕ
 all_count [] = 0
 all_count (row ∷ rows) = row.count + all_count rows
 
-length_zones : (p : Params) (at : ℕ) (rows : List Row) → length (zones_from p at rows) ≡ all_count rows
+pub length_zones : (p : Params) (at : ℕ) (rows : List Row) → length (zones_from p at rows) ≡ all_count rows
 unfolding zones_from
 length_zones p at [] = refl
 length_zones p at (row ∷ rows) =
@@ -80,33 +79,6 @@ layout_short p zones h =
       w.1.1.0.count,
       w.1.1.1.0.count,
     )
-
--- ---- a place in a list
-
-pub place_passed : {X : Type 0} (test : X → Bool) (xs : List X) (i : ℕ) (d : X) → i < length xs
-    → test (get_or xs i d) ≡ false → position_or_len test xs ≡ i + position_or_len test (drop i xs)
-    → position_or_len test xs ≡ i + 1 + position_or_len test (drop (i + 1) xs)
-place_passed test xs i d h t e =
-    let next : position_or_len test (drop i xs) ≡ 1 + position_or_len test (drop (i + 1) xs) =
-    ap (position_or_len test) (drop_next xs i d h) ∙ ap (λ (b : Bool). if not b then 1 + position_or_len test
-    (drop (i + 1) xs) else 0) t in
-    omega (arith, e, next)
-
-pub place_found : {X : Type 0} (test : X → Bool) (xs : List X) (i : ℕ) (d : X) → i < length xs
-    → test (get_or xs i d) ≡ true → position_or_len test xs ≡ i + position_or_len test (drop i xs)
-    → Some i ≡ position test xs
-place_found test xs i d h t e =
-    let here : position_or_len test (drop i xs) ≡ 0 =
-    ap (position_or_len test) (drop_next xs i d h) ∙ ap (λ (b : Bool). if not b then 1 + position_or_len test
-    (drop (i + 1) xs) else 0) t in
-    let at : position_or_len test xs ≡ i = omega (arith, e, here) in
-    sym (if_true (nat_lt (position_or_len test xs) (length xs)) (Some (position_or_len test xs)) None
-    (lt-ltb _ _ (omega (arith, at))) ∙ ap Some at)
-
-pub place_none : {X : Type 0} (test : X → Bool) (xs : List X) (i : ℕ) → length xs ≤ i
-    → position_or_len test xs ≡ i + position_or_len test (drop i xs) → None ≡ position test xs
-place_none test xs i h e = sym (if_false (nat_lt (position_or_len test xs) (length xs))
-    (Some (position_or_len test xs)) None (le-ltb _ _ (omega (arith, e))))
 
 -- ---- valid zones in order
 

@@ -55,7 +55,7 @@ pub fn layout(alloc: Global, p: &Params) -> Result<Layout, LayoutError>
         return Err(LayoutError::Fault(fault));
     }
     match list_zones(alloc, p, &rows) {
-        Ok(zones) => Ok(Layout::new(*p, zones)),
+        Ok(zones) => Ok(Layout::new(*p, rows, zones)),
         Err(_) => Err(LayoutError::Memory),
     }
 }

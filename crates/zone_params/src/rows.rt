@@ -1,8 +1,11 @@
 // The zones of each kind, and what is wrong with them.
-ghost use Rattle.std.specs.Prelude.{◌≡◌, ◌≤◌, ◌<◌, ◌^◌, ◌==◌, ◌&&◌, ◌+◌, ◌*◌, ◌||◌, not, List, [], ◌∷◌, ◌++◌, nat_lt, IsTrue, map, OnOk, None};
+ghost use Rattle.std.specs.Prelude.{◌≡◌, ℕ, ◌≤◌, ◌<◌, ◌^◌, ◌==◌, ◌&&◌, ◌+◌, ◌*◌, ◌||◌, not, List, [], ◌∷◌, ◌++◌, nat_lt, IsTrue, map, sum_by, OnOk, None};
 ghost use Rattle.std.specs.List.{All, list_any, list_all};
 ghost use Rattle.zone_spec.specs.Layout.{rounded as rounded_of, parity_bytes, ecc_of, rows as rows_of, zone_at as zone_of, parameter_faults, first_fault, zone_faults, zones_from, dump_memory, tag_of};
+ghost use Rattle.zone_spec.specs.Layouts.{zone_place};
+ghost use Rattle.zone_spec.specs.Records.{is_of};
 ghost use Rattle.zone_spec.specs.Zones.{blocks_in as blocks_of};
+ghost use Rattle.zone_spec.specs.declared.params.Params.{Params as ParamsValue};
 
 use zone_spec::{Kind, LayoutFault, Params, Row, Zone, ZoneName};
 
@@ -231,4 +234,25 @@ pub fn zone_fault(p: &Params, rows: &[Row]) -> Option<LayoutFault>
         (has_small(rows), LayoutFault::ZoneTooSmall),
         (has_tight(p, rows), LayoutFault::EccInvalid),
     ])
+}
+
+fn holds(row: Row, name: ZoneName) -> bool
+    ensures { result ≡ (is_of name.kind row.kind && nat_lt name.index row.count) }
+{
+    row.kind == name.kind && u64::from(name.index) < row.count
+}
+
+// The place of the zone of this name among those of these rows.
+pub fn place(rows: &[Row], name: ZoneName) -> Option<u32>
+    requires { sum_by (λ row. row.count) rows.now < 2 ^ 32 }
+    ensures { (p : ParamsValue) (at : ℕ) → result ≡ zone_place (zones_from p at rows.now) name }
+{
+    let mut first = 0;
+    for row in rows {
+        if holds(*row, name) {
+            return Some((first + u64::from(name.index)) as u32);
+        }
+        first += row.count;
+    }
+    None
 }

@@ -1,7 +1,8 @@
-use Rattle.std.proofs.Common.{◌≡◌, ◌++◌, ◌<◌, length, arith}
+use Rattle.std.proofs.Common.{◌≡◌, ◌++◌, ◌<◌, ◌∙◌, length, arith}
 use Rattle.std.specs.Prelude.{option_to_list}
 use Rattle.std.proofs.lemmas.Grind.{common_steps}
 use Rattle.old_log.specs.Saving.{saved}
+use Rattle.pstore_names.proofs.Alone.{counted-entries}
 use Rattle.pstore_names.proofs.Tabled.{dump_entries, dump_entries-append}
 use Rattle.pstore_names.proofs.Steps.{collected-more, collected-all}
 use Rattle.pstore_names.proofs.table.add_dumps.Goals as goal
@@ -19,7 +20,8 @@ loop-i-preserved c =
     collected-more (dump_entries zones) (dump_entries-append zones)
     zones c.loop-i.i c.args.entries.now.items c.loop-i.entries.items c.match-dump_entry.entries.items
     (option_to_list c.dump_entry.result)
-    within c.dump_entry.ensures c.loop-i.invariant pushed
+    within (λ s at. c.dump_entry.ensures s at ∙ counted-entries zones c.loop-i.i s c.numbers_rise-is_alone.result
+    c.numbers_rise-is_alone.ensures at) c.loop-i.invariant pushed
 
 pub returns : goal.returns
 returns c =

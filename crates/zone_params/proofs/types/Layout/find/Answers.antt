@@ -1,10 +1,10 @@
-use Rattle.std.proofs.Common.{arith}
-use Rattle.zone_params.proofs.WholeLayout.{layout_short}
+use Rattle.zone_params.proofs.RowPlaces.{rows_few, place_in_layout}
 use Rattle.zone_params.proofs.types.Layout.find.Goals as goal
 
-pub overflow_cast-result : goal.overflow_cast-result
-overflow_cast-result c = omega (
-  arith,
-  layout_short c.args.self.now.params c.args.self.now.zones.items
-      c.args.self.now.laid,
-)
+pub place-requires : goal.place-requires
+place-requires c = rw c.args.self.now.by_kind (rows_few c.args.self.now.params c.args.self.now.zones.items
+    c.args.self.now.laid)
+
+pub returns : goal.returns
+returns c = place_in_layout c.args.self.now.params c.args.self.now.zones.items c.args.name c.place.result
+    c.args.self.now.laid (rw c.args.self.now.by_kind at c.place.ensures)

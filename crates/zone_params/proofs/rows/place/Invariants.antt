@@ -1,0 +1,13 @@
+use Rattle.std.proofs.Common.{◌≡◌, ◌+◌, drop}
+use Rattle.std.specs.List.{sum_by}
+use Rattle.zone_spec.specs.declared.params.Row.{Row}
+use Rattle.zone_params.proofs.RowPlaces.{rows_place}
+use Rattle.zone_params.proofs.rows.place.Given as goal
+
+-- the zones of the rows so far, and then those of the rows that are left
+abbrev pub invariant-loop-row : goal.invariant-loop-row
+invariant-loop-row l = record {
+  place : rows_place l.name l.rows ≡ l.first + rows_place l.name (drop l.row-index l.rows);
+  counts : l.first + sum_by (λ (row : Row). row.count) (drop l.row-index l.rows)
+      ≡ sum_by (λ (row : Row). row.count) l.rows;
+}
