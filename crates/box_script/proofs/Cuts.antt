@@ -1,36 +1,46 @@
--- A list that is cut at each element that passes a test
-use Rattle.std.proofs.Common.{◌≡◌, ℕ, ◌+◌, ◌<◌, Bool, true, false, List, [], ◌∷◌, length, take, drop, Some, None, cond, nat_lt, refl, ap, arith}
-use Rattle.std.specs.Prelude.{unwrap_or, position}
+-- A list that is cut at each byte that is a mark
+use Rattle.std.proofs.Common.{◌≡◌, ℕ, ◌+◌, ◌<◌, ◌==◌, Bool, true, false, List, [], ◌∷◌, length, take, drop, get_or, refl, sym, ap, ◌∙◌, arith, inl, inr}
 use Rattle.std.specs.List.{slice_split, position_or_len}
 use Rattle.std.proofs.lemmas.List.Splits.{slice_split_first, slice_split_none, length-slice_split}
 use Rattle.std.proofs.lemmas.List.Elements.{All-from_get_or}
-use Rattle.std.proofs.lemmas.List.Sums.{fails_before_first}
-use Rattle.std.proofs.lemmas.Bool.{ltb-true, ltb-false}
+use Rattle.std.proofs.lemmas.List.Sums.{fails_before_first, passes_at_first}
+use Rattle.std.proofs.lemmas.Bool.{cases_order}
+use Rattle.memchr.specs.Find.{Nowhere, NoneBefore, Passes, is_byte}
 
--- a chosen option
-some_of : {X : Type 0} (b : Bool) (x y : X) → cond b (Some x) None ≡ Some y → (b ≡ true) × (x ≡ y)
-some_of true x y h = (refl, ap (λ o. unwrap_or o x) h)
-some_of false x y h = cc h
+not_true : (b : Bool) → (b ≡ true → ⊥) → b ≡ false
+not_true true h = absurd (h refl)
+not_true false h = refl
 
-none_of : {X : Type 0} (b : Bool) (x : X) → cond b (Some x) None ≡ None → b ≡ false
-none_of true x h = cc h
-none_of false x h = refl
+-- the first place of a mark is where the first part ends
+first_place : (c : ℕ) (xs : List ℕ) (k : ℕ) → NoneBefore (Passes (is_byte c) xs) 0 (length xs) k
+    → Passes (is_byte c) xs k → position_or_len (λ b. b == c) xs ≡ k
+first_place c xs k h is =
+    let p : ℕ → Bool = λ b. b == c in
+    let inside = h.high in
+    elim (cases_order (position_or_len p xs) k) [
+      | inl same ↦ same
+      | inr (inl low) ↦ absurd (h.before (position_or_len p xs) (omega arith) low
+          (passes_at_first p xs 0 (omega (arith, low, inside))))
+      | inr (inr high) ↦ cc (sym is ∙ fails_before_first p xs k 0 high)
+    ]
 
--- where an element passes, what stands before the first one is the first part
-pub cut_some : (p : ℕ → Bool) (xs : List ℕ) (i : ℕ) → position p xs ≡ Some i
-    → (slice_split p xs ≡ take i xs ∷ slice_split p (drop (i + 1) xs)) × (i < length xs)
-cut_some p xs i h =
-    let e = some_of (nat_lt (position_or_len p xs) (length xs)) (position_or_len p xs) i h in
-    let below : position_or_len p xs < length xs = ltb-true (position_or_len p xs) (length xs) e.0 in
-    rw (← e.1) (slice_split_first p xs 0 below, below)
+-- where a mark stands first at k, the bytes before it are the first part
+pub cut_at : (c : ℕ) (xs : List ℕ) (k : ℕ) → NoneBefore (Passes (is_byte c) xs) 0 (length xs) k
+    → Passes (is_byte c) xs k
+    → slice_split (λ b. b == c) xs ≡ take k xs ∷ slice_split (λ b. b == c) (drop (k + 1) xs)
+cut_at c xs k h is =
+    let p : ℕ → Bool = λ b. b == c in
+    let inside = h.high in
+    let e : position_or_len p xs ≡ k = first_place c xs k h is in
+    slice_split_first p xs 0 (omega (arith, e, inside))
+    ∙ ap (λ (n : ℕ). take n xs ∷ slice_split p (drop (n + 1) xs)) e
 
--- and where none does, the list is the one part
-pub cut_none : (p : ℕ → Bool) (xs : List ℕ) → position p xs ≡ None → slice_split p xs ≡ xs ∷ []
-cut_none p xs h =
-    let above = ltb-false (position_or_len p xs) (length xs)
-    (none_of (nat_lt (position_or_len p xs) (length xs)) (position_or_len p xs) h) in
-    slice_split_none p xs (All-from_get_or (λ x. p x ≡ false) xs 0
-    (λ k below. fails_before_first p xs k 0 (omega (arith, above, below))))
+-- and where none stands, the list is the one part
+pub cut_nowhere : (c : ℕ) (xs : List ℕ) → Nowhere (Passes (is_byte c) xs) 0 (length xs)
+    → slice_split (λ b. b == c) xs ≡ xs ∷ []
+cut_nowhere c xs h =
+    slice_split_none (λ b. b == c) xs (All-from_get_or (λ x. (x == c) ≡ false) xs 0
+    (λ k below. not_true (get_or xs k 0 == c) (h k (omega arith) below)))
 
 -- there is always a part
 pub some_part : (p : ℕ → Bool) (xs : List ℕ) → 0 < length (slice_split p xs)

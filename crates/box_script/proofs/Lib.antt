@@ -1,6 +1,7 @@
 pub mod Back
 pub mod Counts
 pub mod Cuts
+pub mod HexDigits
 pub mod Inside
 pub mod Joined
 pub mod Loop

@@ -4,9 +4,9 @@ ghost use Rattle.std.specs.List.{list_all};
 ghost use Rattle.grammar_spec.specs.Fields.{number_below, mask, zone_at, ring, zone, payload, flag, reason, is_name, name};
 ghost use Rattle.box_script.specs.Reading.{Gives, IsParsed};
 
+use crate::digits;
 use crate::rows::LineFault;
 use box_io::Bytes;
-use hex::FromHexError;
 use itoa::Buffer;
 use std::alloc::Global;
 use std::str;
@@ -129,11 +129,7 @@ pub fn payload(alloc: Global, text: &[u8]) -> Result<Bytes, LineFault>
     if text.is_empty() {
         return Err(LineFault::Bad);
     }
-    match hex::decode(alloc, text) {
-        Ok(bytes) => Ok(Bytes::from_vec(bytes)),
-        Err(FromHexError::OutOfMemory) => Err(LineFault::Memory),
-        Err(_) => Err(LineFault::Bad),
-    }
+    digits::decoded(alloc, text)
 }
 
 /// `D` or `C`, true for `C`.

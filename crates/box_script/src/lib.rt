@@ -1,6 +1,7 @@
 //! Scripts: the lines that a session is made of, read from text and printed.
 #![tactic(auto)]
 
+mod digits;
 mod fields;
 mod lines;
 mod printing;

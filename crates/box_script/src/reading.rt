@@ -1,5 +1,6 @@
 // A script's lines, read.
-ghost use Rattle.std.specs.Prelude.{◌≡◌, ◌+◌, ◌≤◌, ◌^◌, MatchResult, IfOk, Ok};
+ghost use Rattle.std.specs.Prelude.{◌≡◌, ◌==◌, ◌+◌, ◌≤◌, ◌^◌, MatchResult, IfOk, Ok};
+ghost use Rattle.std.specs.List.{count_by};
 ghost use Rattle.grammar_spec.specs.Lines.{line_of, script_of};
 ghost use Rattle.grammar_spec.specs.Printed.{AllHaveFields};
 ghost use Rattle.box_script.specs.Reading.{ReadsLine, IsFaultOf};
@@ -57,6 +58,12 @@ fn number_after(count: usize) -> Result<u32, ParseFault>
     }
 }
 
+fn newlines(script: &[u8]) -> usize
+    ensures { result ≡ count_by (λ b. b == 0x0a) script.now }
+{
+    script.iter().filter(|b| **b == b'\n').count()
+}
+
 /// The lines of a script, each ended by a newline. Where 32 bits do not count its lines, the answer is want of memory.
 pub fn parse(alloc: Global, script: &[u8]) -> Result<Lines, ParseFault>
     ensures read { MatchResult result
@@ -64,7 +71,7 @@ pub fn parse(alloc: Global, script: &[u8]) -> Result<Lines, ParseFault>
         (λ fault. IsFaultOf fault (script_of script.now)) }
     ensures fields { IfOk result AllHaveFields }
 {
-    let mut lines = Vec::new(alloc);
+    let mut lines = Vec::with_capacity(alloc, newlines(script))?;
     let mut rest = script;
     while let Some((text, after)) = rows::cut(rest, b'\n') {
         let number = number_after(lines.len())?;

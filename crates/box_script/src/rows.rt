@@ -1,5 +1,5 @@
 // The lines of the table, by their fields.
-ghost use Rattle.std.specs.Prelude.{◌≡◌, ◌<◌, ◌==◌, ◌∷◌, [], length, position, nat_le, MatchOption, IfSome, IfNone};
+ghost use Rattle.std.specs.Prelude.{◌≡◌, ◌<◌, ◌==◌, ◌∷◌, [], length, nat_le, MatchOption, IfSome, IfNone};
 ghost use Rattle.std.specs.List.{slice_split, list_all};
 ghost use Rattle.grammar_spec.specs.Groups.{one, two, four, five, ring_hex, time_flag_hex, one_zone, one_number, one_name};
 ghost use Rattle.grammar_spec.specs.Rows.{step_line, flip_line, kdump_line, begin_row, begin_line, plain_row, row, lone_word};
@@ -9,6 +9,7 @@ ghost use Rattle.box_script.specs.declared.rows.LineFault.TheVariants.{Memory};
 
 use crate::{Line, fields};
 use box_io::Bytes;
+use memchr::memchr;
 use std::alloc::{AllocError, Global};
 use zone_spec::{Time, ZoneName};
 
@@ -27,21 +28,14 @@ impl From<AllocError> for LineFault {
     }
 }
 
-fn position_of(text: &[u8], mark: u8) -> Option<usize>
-    ensures { result ≡ position (λ b. b == mark) text.now }
-{
-    text.iter().position(|b| *b == mark)
-}
-
 /// What stands before the first mark, and what stands behind it.
-#[tactic(auto, using(crate::proofs::Cuts::cut_none))]
 pub fn cut(text: &[u8], mark: u8) -> Option<(&[u8], &[u8])>
     ensures none { IfNone result (slice_split (λ b. b == mark) text.now ≡ text.now ∷ []) }
     ensures parts { IfSome result (λ parts. slice_split (λ b. b == mark) text.now
         ≡ parts.0.now ∷ slice_split (λ b. b == mark) parts.1.now) }
     ensures shorter { IfSome result (λ parts. length parts.1.now < length text.now) }
 {
-    let at = position_of(text, mark)?;
+    let at = memchr(mark, text)?;
     let (front, _) = text.split_at(at);
     let (_, back) = text.split_at(at + 1);
     Some((front, back))

@@ -4,7 +4,7 @@ use Rattle.box_script.proofs.Inside.{read_fields}
 use Rattle.box_script.proofs.reading.parse.Goals as goal
 
 pub loop-text-init : goal.loop-text-init
-loop-text-init c = rw c.new-lines.ensures.items (at_start c.args.script.now)
+loop-text-init c = rw c.in_ok-lines.ensures.items (at_start c.args.script.now)
 
 pub returns-in-Err-clause-read : goal.returns-in-Err-clause-read
 returns-in-Err-clause-read c =

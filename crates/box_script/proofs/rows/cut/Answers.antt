@@ -1,9 +1,12 @@
-use Rattle.std.proofs.Common.{sym, ◌∙◌, ◌==◌}
-use Rattle.box_script.proofs.Cuts.{cut_some}
+use Rattle.box_script.proofs.Cuts.{cut_at, cut_nowhere}
 use Rattle.box_script.proofs.rows.cut.Goals as goal
+
+pub returns-in_err-at-clause-none : goal.returns-in_err-at-clause-none
+returns-in_err-at-clause-none c =
+    rw c.from_residual.ensures (cut_nowhere c.args.mark c.args.text.now c.in_err-at.ensures)
 
 pub returns-clause-parts : goal.returns-clause-parts
 returns-clause-parts c =
-    let p = cut_some (λ b. b == c.args.mark) c.args.text.now c.in_ok-at.at
-    (sym c.position_of.ensures ∙ c.in_ok-at.was) in
-    rw (c.split_at.ensures.front, c.split_at-2.ensures.back) p.0
+    let first = c.in_ok-at.ensures in
+    rw (c.split_at.ensures.front, c.split_at-2.ensures.back)
+    (cut_at c.args.mark c.args.text.now c.in_ok-at.at first.0 first.1)
