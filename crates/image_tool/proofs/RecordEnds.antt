@@ -33,7 +33,7 @@ use Rattle.ram_session.specs.Erasing.{ErasesNamed, IsBusy, EraseFails}
 use Rattle.ram_session.specs.declared.machine.LineError.{LineError}
 use Rattle.ram_session.specs.declared.machine.LineError.TheVariants.{Memory, Refused}
 use Rattle.image_tool.specs.Stores.{BootedFrom}
-use Rattle.image_tool.specs.Records.{stop_for}
+use Rattle.image_tool.specs.Records.{SavedFrom, stop_for}
 use Rattle.image_tool.proofs.Shown.{put_all, put_front, wrote_all, wrote_front}
 
 -- ---- a text that is put, and an image that is written
@@ -73,34 +73,36 @@ unread_image plan c a b s f g is image none q h =
     leaves_script (load_can plan c s (mem_of plan) a.holds f g is image h) none
     (image_stopped plan c a b s f g is image q h)
 
-module _ (plan : Plan) (a b : Outside) (live : LiveSeen) (logs : SavedLogs)
-    (booted : BootedFrom plan.zones (mem_of plan) a.holds live logs) where
+-- ---- an image that was read
+
+saved_from : {layout : List Zone} {mem : ℕ} {holds : Option (List ℕ)} {live : LiveSeen} {logs : SavedLogs}
+    → BootedFrom layout mem holds live logs → SavedFrom layout mem holds logs
+saved_from booted = record { image = booted.image; read = booted.read; logs_are = booted.logs_are }
+
+module _ (plan : Plan) (a b : Outside) (logs : SavedLogs) (read : SavedFrom plan.zones (mem_of plan) a.holds logs) where
   -- what a command wants of the image that was read
   done : (c : Command) (e : End) → plan.command ≡ c → reads_image c ≡ true
-      → Ended (wanted_of plan.params plan.zones booted.image [] c) a b e
+      → Ended (wanted_of plan.params plan.zones read.image [] c) a b e
       → IfHolds a (λ bytes. Ended (wanted plan bytes []) a b e)
-  done c e is reads ended = image_done plan c a b booted.image e is reads booted.read ended
-
-  behind : LiveState
-  behind = after_boot plan.zones booted.image
+  done c e is reads ended = image_done plan c a b read.image e is reads read.read ended
 
   pub memory_ends : (c : Command) → plan.command ≡ c → reads_image c ≡ true → Quiet a b
       → IfHolds a (λ bytes. Ended (wanted plan bytes []) a b (Err MemoryStop))
   memory_ends c is reads q = done c (Err MemoryStop) is reads
-      (quiet_memory (wanted_of plan.params plan.zones booted.image [] c) a b q)
+      (quiet_memory (wanted_of plan.params plan.zones read.image [] c) a b q)
 
   module _ (is : plan.command ≡ ListRecords) (text : Text) (e : text ≡ listing (saved logs))
       (same : b.holds ≡ a.holds) where
-    list_wanted : wanted_of plan.params plan.zones booted.image [] ListRecords ≡ shows (text ∷ [])
-    list_wanted = ap (λ (t : Text). shows (t ∷ [])) (sym (e ∙ ap listing booted.logs_are))
+    list_wanted : wanted_of plan.params plan.zones read.image [] ListRecords ≡ shows (text ∷ [])
+    list_wanted = ap (λ (t : Text). shows (t ∷ [])) (sym (e ∙ ap listing read.logs_are))
 
     pub list_put : NoScript a b → Appends a.given b.given text → ReadEnds plan a b (Ok tt)
     list_put none put = reads (rw is refl) none same (done ListRecords (Ok tt) is refl
-        (put_all_of (wanted_of plan.params plan.zones booted.image [] ListRecords) a b text list_wanted same put))
+        (put_all_of (wanted_of plan.params plan.zones read.image [] ListRecords) a b text list_wanted same put))
 
     pub list_front : NoScript a b → AppendsFront a.given b.given text → ReadEnds plan a b (Err SinkFault)
     list_front none put = reads (rw is refl) none same (done ListRecords (Err SinkFault) is refl
-        (put_front_of (wanted_of plan.params plan.zones booted.image [] ListRecords) a b text list_wanted same put))
+        (put_front_of (wanted_of plan.params plan.zones read.image [] ListRecords) a b text list_wanted same put))
 
 -- ---- extracted
 
@@ -110,42 +112,42 @@ extract_found layout s None bytes e = absurd (cc)
 extract_found layout s (Some r) bytes e = let same : content (saved_logs layout s) r ≡ bytes = cc in
     ap (λ (t : Text). shows (t ∷ [])) same
 
-module _ (plan : Plan) (a b : Outside) (live : LiveSeen) (logs : SavedLogs) (name : Text)
-    (is : plan.command ≡ ExtractRecord name) (booted : BootedFrom plan.zones (mem_of plan) a.holds live logs) where
+module _ (plan : Plan) (a b : Outside) (logs : SavedLogs) (name : Text) (is : plan.command ≡ ExtractRecord name)
+    (read : SavedFrom plan.zones (mem_of plan) a.holds logs) where
   module _ (bytes : List ℕ) (found : IsContent (saved logs) name (Ok bytes)) (same : b.holds ≡ a.holds) where
-    extract_wanted : wanted_of plan.params plan.zones booted.image [] (ExtractRecord name) ≡ shows (bytes ∷ [])
+    extract_wanted : wanted_of plan.params plan.zones read.image [] (ExtractRecord name) ≡ shows (bytes ∷ [])
     extract_wanted =
-        let here : option_map (content (saved_logs plan.zones (after_boot plan.zones booted.image)))
-        (named (saved_logs plan.zones (after_boot plan.zones booted.image)) name) ≡ Some bytes =
-        ap (λ (zones : List Saved). option_map (content zones) (named zones name)) (sym booted.logs_are) ∙ found in
-        extract_found plan.zones (after_boot plan.zones booted.image)
-        (named (saved_logs plan.zones (after_boot plan.zones booted.image)) name) bytes here
+        let here : option_map (content (saved_logs plan.zones (after_boot plan.zones read.image)))
+        (named (saved_logs plan.zones (after_boot plan.zones read.image)) name) ≡ Some bytes =
+        ap (λ (zones : List Saved). option_map (content zones) (named zones name)) (sym read.logs_are) ∙ found in
+        extract_found plan.zones (after_boot plan.zones read.image)
+        (named (saved_logs plan.zones (after_boot plan.zones read.image)) name) bytes here
 
     pub extract_put : NoScript a b → Appends a.given b.given bytes → ReadEnds plan a b (Ok tt)
-    extract_put none put = reads (rw is refl) none same (image_done plan (ExtractRecord name) a b booted.image (Ok tt)
-        is refl booted.read (put_all_of (wanted_of plan.params plan.zones booted.image [] (ExtractRecord name))
+    extract_put none put = reads (rw is refl) none same (image_done plan (ExtractRecord name) a b read.image (Ok tt)
+        is refl read.read (put_all_of (wanted_of plan.params plan.zones read.image [] (ExtractRecord name))
         a b bytes extract_wanted same put))
 
     pub extract_front : NoScript a b → AppendsFront a.given b.given bytes → ReadEnds plan a b (Err SinkFault)
-    extract_front none put = reads (rw is refl) none same (image_done plan (ExtractRecord name) a b booted.image
+    extract_front none put = reads (rw is refl) none same (image_done plan (ExtractRecord name) a b read.image
         (Err SinkFault)
-        is refl booted.read (put_front_of (wanted_of plan.params plan.zones booted.image [] (ExtractRecord name))
+        is refl read.read (put_front_of (wanted_of plan.params plan.zones read.image [] (ExtractRecord name))
         a b bytes extract_wanted same put))
 
   extract_unlisted : (cause : Cause) → cause ≡ NoRecord → named (saved logs) name ≡ None → Quiet a b
       → IfHolds a (λ bytes. Ended (wanted plan bytes []) a b (Err (RefusedStop 2 cause)))
   extract_unlisted cause why none q =
-      let here : named (saved_logs plan.zones (after_boot plan.zones booted.image)) name ≡ None =
-      ap (λ (zones : List Saved). named zones name) (sym booted.logs_are) ∙ none in
-      let w : wanted_of plan.params plan.zones booted.image [] (ExtractRecord name) ≡ unlisted =
-      ap (wanted_extract plan.zones (after_boot plan.zones booted.image)) here in
-      rw why (image_done plan (ExtractRecord name) a b booted.image (Err (RefusedStop 2 NoRecord)) is refl booted.read
-      (unlisted_ends (wanted_of plan.params plan.zones booted.image [] (ExtractRecord name)) a b w q))
+      let here : named (saved_logs plan.zones (after_boot plan.zones read.image)) name ≡ None =
+      ap (λ (zones : List Saved). named zones name) (sym read.logs_are) ∙ none in
+      let w : wanted_of plan.params plan.zones read.image [] (ExtractRecord name) ≡ unlisted =
+      ap (wanted_extract plan.zones (after_boot plan.zones read.image)) here in
+      rw why (image_done plan (ExtractRecord name) a b read.image (Err (RefusedStop 2 NoRecord)) is refl read.read
+      (unlisted_ends (wanted_of plan.params plan.zones read.image [] (ExtractRecord name)) a b w q))
 
   pub extract_stopped : (e : LineError) (s : Stop) → s ≡ stop_for e → IsContent (saved logs) name (Err e)
       → NoScript a b → Quiet a b → ReadEnds plan a b (Err s)
   extract_stopped Memory s same h none q = rw same (reads (rw is refl) none q.holds
-      (memory_ends plan a b live logs booted (ExtractRecord name) is refl q))
+      (memory_ends plan a b logs read (ExtractRecord name) is refl q))
   extract_stopped (Refused cause) s same h none q = rw same (reads (rw is refl) none q.holds
       (extract_unlisted cause h.0 h.1 q))
 
@@ -204,7 +206,7 @@ module _ (plan : Plan) (a b : Outside) (live : LiveSeen) (logs : SavedLogs) (nam
 
   refused : (e : LineError) → EraseFails live logs name e → Quiet a b
       → IfHolds a (λ bytes. Ended (wanted plan bytes []) a b (Err (stop_for e)))
-  refused Memory h q = memory_ends plan a b live logs booted (EraseRecord name) is refl q
+  refused Memory h q = memory_ends plan a b logs (saved_from booted) (EraseRecord name) is refl q
   refused (Refused NoRecord) h q = erase_unlisted h q
   refused (Refused Busy) h q = absurd (not_busy h)
   refused (Refused IsOff) h q = absurd h

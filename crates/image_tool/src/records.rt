@@ -1,17 +1,21 @@
 // The records of an image: all of them listed, and one extracted or erased.
-ghost use Rattle.std.specs.Prelude.{◌≡◌, ◌≤◌, ℕ, List, Option};
+ghost use Rattle.std.specs.Prelude.{◌≡◌, ◌≤◌, ℕ, List, Option, IfOk, IfErr};
+ghost use Rattle.zone_spec.specs.Layout.{rounded};
+ghost use Rattle.zone_params.specs.Laid.{params_of, zones_of};
 ghost use Rattle.tool_spec.specs.Commands.{ListRecords, ExtractRecord, EraseRecord};
 ghost use Rattle.tool_spec.specs.Answers.{outside};
 ghost use Rattle.tool_frame.specs.Ended.{CausedAt, KeptAt, ReadEnds, ImageEnds};
 ghost use Rattle.image_tool.specs.Plans.{plan_for};
-ghost use Rattle.image_tool.specs.Records.{stop_for};
+ghost use Rattle.tool_frame.specs.Stages.{LoadStop};
+ghost use Rattle.image_tool.specs.Records.{SavedFrom, stop_for};
 
-use crate::stores::boot_store;
+use crate::stores::{boot_store, fresh_store};
 use box_io::{Failed, Sink, Store};
+use old_log::Logs;
 use ram_session::{LineError, content_of};
 use ram_texts::listing;
 use std::alloc::{AllocError, Global};
-use tool_frame::{Stop, save};
+use tool_frame::{Stop, load, save};
 use zone_params::types::Layout;
 
 // The line that a command's refusal names: the one behind the boot.
@@ -24,6 +28,29 @@ fn stop_of(e: LineError) -> Stop
     match e {
         LineError::Memory => Stop::Memory,
         LineError::Refused(cause) => Stop::Refused { line: LINE, cause },
+    }
+}
+
+/// Reads an image, and gives the logs that a boot of it would save.
+fn read_logs<M: Store>(alloc: Global, layout: Layout, image: &mut M) -> Result<Logs, Stop>
+    ensures read { IfOk result (λ logs. SavedFrom (zones_of layout) (rounded (params_of layout).mem)
+        (M.holds image.old) logs) }
+    ensures stopped { IfErr result (λ s. LoadStop s (rounded (params_of layout).mem) (M.holds image.old)
+        (M.faults image.old) (M.faults image.new)) }
+    ensures same { M.holds image.new ≡ M.holds image.old }
+    ensures later { M.faults image.old ≤ M.faults image.new }
+{
+    let bytes = match load(alloc, image, layout.mem()) {
+        Ok(bytes) => bytes,
+        Err(stop) => return Err(stop),
+    };
+    let off = match fresh_store(alloc, layout, bytes) {
+        Ok(off) => off,
+        Err(AllocError) => return Err(Stop::Memory),
+    };
+    match off.logs() {
+        Ok((_, logs)) => Ok(logs),
+        Err(_) => Err(Stop::Memory),
     }
 }
 
@@ -42,8 +69,8 @@ pub fn list<M: Store, O: Sink>(
         (outside left f (M.holds image.old) (M.faults image.old) (O.given out.old) (O.faults out.old))
         (outside left f (M.holds image.new) (M.faults image.new) (O.given out.new) (O.faults out.new)) result }
 {
-    let (_, logs) = match boot_store(alloc, layout, image) {
-        Ok(booted) => booted,
+    let logs = match read_logs(alloc, layout, image) {
+        Ok(logs) => logs,
         Err(stop) => return Err(stop),
     };
     let text = match listing(alloc, &logs) {
@@ -72,8 +99,8 @@ pub fn extract<M: Store, O: Sink>(
         (outside left f (M.holds image.old) (M.faults image.old) (O.given out.old) (O.faults out.old))
         (outside left f (M.holds image.new) (M.faults image.new) (O.given out.new) (O.faults out.new)) result }
 {
-    let (_, logs) = match boot_store(alloc, layout, image) {
-        Ok(booted) => booted,
+    let logs = match read_logs(alloc, layout, image) {
+        Ok(logs) => logs,
         Err(stop) => return Err(stop),
     };
     let content = match content_of(alloc, &logs, name.as_bytes()) {

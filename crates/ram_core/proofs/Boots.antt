@@ -184,6 +184,8 @@ module _ (layout : List Zone) (mem : ℕ) (image : List ℕ) (lies : IsLayout la
           ∙ zone_reported z.0 k.0 zone.0 (zone_bytes z.0 image) (stands i z.0 k.0 zone.0 z.1 k.1 zone.1)
           ∙ ap (λ (im : List ℕ). zone_report z.0 zone.0 (zone_bytes z.0 im)) same ∙ zone.2
 
+module _ (layout : List Zone) (mem : ℕ) (image : List ℕ) (lies : IsLayout layout mem) (size : length image ≡ mem)
+    (bytes : AreBytes image) (s : OffState) (same : image ≡ s.image) where
   pub logs_are : (logs : SavedLogs) → AreLogs layout (cut_at layout image).spans logs
       → saved logs ≡ saved_logs layout (booted layout s)
   logs_are logs are =
@@ -236,6 +238,15 @@ module _ (v : OffSeen) (o : OpenOff) (is : IsOpen v o) where
     readings = λ i z b ez eb. prepared.readings i z b (slice_get_within L i z ez) ez eb;
   }
 
+  -- the logs are those of a boot of each state for which the machine stood
+  pub logs_saved : (logs : SavedLogs) → AreLogs L o.spans.spans logs → (layout : List Zone) (mem : ℕ) (s : OffState)
+      → StandsOff layout mem v s → saved logs ≡ saved_logs layout (booted layout s)
+  logs_saved logs are layout mem s stands =
+      let same : layout ≡ L = sym stands.same_layout ∙ ap (λ (x : OffSeen). x.layout) is.seen in
+      subst (λ (l : List Zone). saved logs ≡ saved_logs l (booted l s)) (sym same)
+      (logs_are L M v.image is.lies is.size is.bytes s stands.image logs
+      (subst (λ (c : CutRegion). AreLogs L c.spans logs) is.spans are))
+
   module _ (p : Prepared) (prepared : PreparesTo L o.spans.spans o.zones.items (length L) p) (new : CutRegion)
       (settled : SettlesTo L o.spans new (length L)) where
     own_prepared : PreparesTo L (cut_at L v.image).spans o.zones.items (length L) p
@@ -263,8 +274,8 @@ module _ (v : OffSeen) (o : OpenOff) (is : IsOpen v o) where
     booted_own s stands = record {
       live = booted_stands L M v.image is.lies is.size is.bytes new p.held.items own_settled own_prepared.held_len
           own_held s stands.image;
-      logs = logs_are L M v.image is.lies is.size is.bytes o.zones.items s stands.image is.known stands.count
-          stands.zones p.logs (subst (λ (c : CutRegion). AreLogs L c.spans p.logs) is.spans (logs_from p prepared));
+      logs = logs_are L M v.image is.lies is.size is.bytes s stands.image p.logs
+          (subst (λ (c : CutRegion). AreLogs L c.spans p.logs) is.spans (logs_from p prepared));
       reports = reports_are L M v.image is.lies is.size is.bytes o.zones.items s stands.image is.known stands.count
           stands.zones p.reports.items own_prepared.reports_len
           (λ i z b k r ez eb ek er. own_prepared.reports i z b k r (slice_get_within L i z ez) ez eb ek er);

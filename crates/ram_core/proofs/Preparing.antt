@@ -1,22 +1,24 @@
 -- What a boot reads zone by zone
-use Rattle.std.proofs.Common.{◌≡◌, ℕ, ◌+◌, ◌<◌, ◌≤◌, ◌^◌, List, [], ◌∷◌, length, slice_get, get_or, refl, sym, ap, ◌∙◌, subst, arith, inl, inr, Some, length-append}
+use Rattle.std.proofs.Common.{◌≡◌, ℕ, ◌+◌, ◌<◌, ◌≤◌, ◌^◌, List, [], ◌∷◌, ◌++◌, length, slice_get, get_or, refl, sym, ap, ◌∙◌, subst, arith, inl, inr, Some, length-append}
 use Rattle.std.proofs.lemmas.Bool.{cases_lt}
 use Rattle.std.proofs.lemmas.List.{length-map}
-use Rattle.std.proofs.lemmas.Option.{slice_get-get_or, slice_get_read}
+use Rattle.std.proofs.lemmas.Option.{slice_get-get_or, slice_get_read, slice_get_within}
 use Rattle.circular_buffer.proofs.Places.{slice_get-append_left, slice_get-last}
 use Rattle.zone_spec.specs.declared.Zone.{Zone}
+use Rattle.zone_spec.specs.declared.Kind.TheVariants.{Dump}
 use Rattle.zone_spec.specs.declared.Words.{Words}
 use Rattle.zone_spec.specs.declared.State.{State}
 use Rattle.zone_spec.specs.declared.State.TheVariants.{Unsigned, Empty, Invalid, Found}
 use Rattle.zone_spec.specs.Zones.{IsValidZone}
 use Rattle.zone_spec.specs.PartReadings.{words_read}
-use Rattle.zone_spec.specs.Reading.{zone_reading, reading_in, state_of, log_places, byte_read}
+use Rattle.zone_spec.specs.Reading.{ZoneReading, zone_reading, reading_in, state_of, log_places, byte_read}
 use Rattle.ring_laws.proofs.RingBytes.{length-log_places}
 use Rattle.old_log.proofs.Fronts.{ring-found}
 use Rattle.ram_core.specs.declared.booting.Prepared.{Prepared}
 use Rattle.ram_core.specs.declared.known.KnownZone.{KnownZone}
 use Rattle.ram_core.specs.Reports.{report_seen, report_zone}
-use Rattle.ram_core.specs.Booting.{SpansFit, held_after, Adds, PreparesTo}
+use Rattle.old_log.specs.Saving.{SavedLogs}
+use Rattle.ram_core.specs.Booting.{SpansFit, held_after, Adds, PreparesTo, AreLogs}
 use Rattle.ram_core.proofs.Lists.{get-pushed}
 
 -- a log fits its zone
@@ -85,6 +87,37 @@ prepares_next layout spans known n p q z bytes k to ez eb ek adds = record {
       ];
 }
 
+-- what a slice gives outside its length
+abbrev pub no_zone : Zone
+no_zone = record {
+  name = record { kind = Dump; index = 0 };
+  at = 0;
+  size = 0;
+  cap = 0;
+  blocks = 0;
+  parity = 0;
+  sig = 0;
+  block = 0;
+}
+
+-- the zone and the span at a place
+pub record SpanAt (layout : List Zone) (spans : List (List ℕ)) (i : ℕ) (z : Zone) (bytes : List ℕ) : Type 0 where
+  pub zone : slice_get layout i ≡ Some z
+  pub span : slice_get spans i ≡ Some bytes
+  pub size : length bytes ≡ z.size
+
+pub span_at : (layout zs : List Zone) (d : Zone) (spans all : List (List ℕ)) (i : ℕ) (bytes : List ℕ)
+    → SpansFit layout spans → zs ≡ layout → all ≡ spans → i < length zs → bytes ≡ get_or all i bytes
+    → SpanAt layout spans i (get_or zs i d) bytes
+span_at layout zs d spans all i bytes fit ezs eall below eb =
+    let below' : i < length layout = subst (λ (l : List Zone). i < length l) ezs below in
+    let ez : slice_get layout i ≡ Some (get_or zs i d) = ap (λ (l : List Zone). slice_get l i) (sym ezs)
+    ∙ slice_get-get_or zs i d below in
+    let gb : slice_get spans i ≡ Some bytes = ap (λ (l : List (List ℕ)). slice_get l i) (sym eall)
+    ∙ slice_get_read all (length all) i bytes refl (let a = ap length eall in let b = fit.count in
+    omega (arith, a, b, below')) eb in
+    record { zone = ez; span = gb; size = fit.sizes i (get_or zs i d) bytes ez gb }
+
 -- the zone, the span and what is known at a place, by what a boot reads
 pub record At (layout : List Zone) (spans : List (List ℕ)) (known : List KnownZone) (i : ℕ) (z : Zone)
     (bytes : List ℕ) (k : KnownZone) : Type 0 where
@@ -99,14 +132,57 @@ pub at_place : (layout zs : List Zone) (d : Zone) (spans all : List (List ℕ)) 
     → At layout spans known i (get_or zs i d) bytes k
 at_place layout zs d spans all known i bytes k fit len ezs eall below eb ek =
     let below' : i < length layout = subst (λ (l : List Zone). i < length l) ezs below in
-    let ez : slice_get layout i ≡ Some (get_or zs i d) = ap (λ (l : List Zone). slice_get l i) (sym ezs)
-    ∙ slice_get-get_or zs i d below in
-    let gb : slice_get spans i ≡ Some bytes = ap (λ (l : List (List ℕ)). slice_get l i) (sym eall)
-    ∙ slice_get_read all (length all) i bytes refl (let a = ap length eall in let b = fit.count in
-    omega (arith, a, b, below')) eb in
+    let at = span_at layout zs d spans all i bytes fit ezs eall below eb in
     record {
-      zone = ez;
-      span = gb;
+      zone = at.zone;
+      span = at.span;
       known_zone = slice_get_read known (length known) i k refl (omega (arith, len, below')) ek;
-      size = fit.sizes i (get_or zs i d) bytes ez gb;
+      size = at.size;
     }
+
+-- ---- the logs alone
+
+-- of the first n zones the readings
+pub record LogsTo (layout : List Zone) (spans : List (List ℕ)) (n : ℕ) (logs : SavedLogs) : Type 0 where
+  pub zones : logs.zones ≡ layout
+  pub len : length logs.readings ≡ n
+  pub readings : (i : ℕ) (z : Zone) (bytes : List ℕ) → i < n → slice_get layout i ≡ Some z
+      → slice_get spans i ≡ Some bytes → slice_get logs.readings i ≡ Some (Some (zone_reading z bytes))
+
+pub logs_none : (layout : List Zone) (spans : List (List ℕ)) (logs : SavedLogs)
+    → logs ≡ record { zones = layout; readings = [] } → LogsTo layout spans 0 logs
+logs_none layout spans logs e = record {
+  zones = ap (λ (l : SavedLogs). l.zones) e;
+  len = ap (λ (l : SavedLogs). length l.readings) e;
+  readings = λ i z bytes below ez eb. absurd (omega (arith, below));
+}
+
+pub logs_next : (layout : List Zone) (spans : List (List ℕ)) (n : ℕ) (old new : SavedLogs) (z : Zone)
+    (bytes : List ℕ) (r : ZoneReading) → LogsTo layout spans n old → slice_get layout n ≡ Some z
+    → slice_get spans n ≡ Some bytes → r ≡ zone_reading z bytes
+    → new ≡ record old { readings = old.readings ++ Some r ∷ [] } → LogsTo layout spans (n + 1) new
+logs_next layout spans n old new z bytes r to ez eb er e = record {
+  zones = ap (λ (l : SavedLogs). l.zones) e ∙ to.zones;
+  len = (let a = ap (λ (l : SavedLogs). length l.readings) e in let b = length-append old.readings (Some r ∷ []) in
+      let c = to.len in omega (arith, a, b, c));
+  readings = λ i y b below ey eb'. elim (cases_lt i n) [
+    | inl l ↦ ap (λ (k : SavedLogs). slice_get k.readings i) e
+        ∙ slice_get-append_left old.readings _ i (let c = to.len in omega (arith, l, c)) ∙ to.readings i y b l ey eb'
+    | inr g ↦ (let at : i ≡ n = omega (arith, below, g) in
+        let sz : z ≡ y = (let s : Some z ≡ Some y = sym ez ∙ ap (slice_get layout) (sym at) ∙ ey in cc) in
+        let sb : bytes ≡ b = (let s : Some bytes ≡ Some b = sym eb ∙ ap (slice_get spans) (sym at) ∙ eb' in cc) in
+        ap (λ (k : SavedLogs). slice_get k.readings i) e
+        ∙ slice_get-last old.readings (Some r) i (at ∙ sym to.len)
+        ∙ ap (λ (q : ZoneReading). Some (Some q)) er
+        ∙ ap (λ (y' : Zone). Some (Some (zone_reading y' bytes))) sz
+        ∙ ap (λ (b' : List ℕ). Some (Some (zone_reading y b'))) sb)
+  ];
+}
+
+pub logs_whole : (layout : List Zone) (spans : List (List ℕ)) (logs : SavedLogs)
+    → LogsTo layout spans (length layout) logs → AreLogs layout spans logs
+logs_whole layout spans logs to = record {
+  zones = to.zones;
+  len = to.len;
+  readings = λ i z bytes ez eb. to.readings i z bytes (slice_get_within layout i z ez) ez eb;
+}

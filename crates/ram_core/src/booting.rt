@@ -77,7 +77,21 @@ impl Prepared {
     }
 }
 
-/// Reads all zones, and stores nothing.
+/// Reads all zones, and stores nothing. The logs are the only memory taken.
+pub(crate) fn read_logs(alloc: Global, layout: &Layout, spans: &Spans) -> Result<Logs, AllocError>
+    requires { SpansFit (zones_of layout.now) spans.now.spans }
+    ensures { IfOk result (λ logs. AreLogs (zones_of layout.now) spans.now.spans logs) }
+{
+    let mut logs = Logs::new(alloc, layout)?;
+    let zones = layout.zones();
+    for (i, zone) in zones.iter().enumerate() {
+        let reading = read_zone(alloc, &spans.all()[i], zone)?;
+        logs.push(reading);
+    }
+    Ok(logs)
+}
+
+/// Reads all zones, and takes what a boot keeps of them. Stores nothing.
 pub(crate) fn prepare(
     alloc: Global,
     layout: &Layout,

@@ -5,8 +5,10 @@ ghost use Rattle.zone_spec.specs.Layout.{rounded};
 ghost use Rattle.zone_params.specs.Laid.{params_of, zones_of};
 ghost use Rattle.session_spec.specs.States.{OffState};
 ghost use Rattle.session_spec.specs.Off.{fresh as fresh_state, flipped};
+ghost use Rattle.session_spec.specs.Boot.{booted};
+ghost use Rattle.session_spec.specs.Erasures.{saved_logs};
 ghost use Rattle.ram_core.specs.OffSeen.{OffSeen, StandsOff, AreUnknown};
-ghost use Rattle.ram_core.specs.Booting.{IsOpen, SpansFit, Prepares, seen_off, seen_booted};
+ghost use Rattle.ram_core.specs.Booting.{IsOpen, SpansFit, Prepares, AreLogs, seen_off, seen_booted};
 ghost use Rattle.std.specs.List.{concat};
 ghost use Rattle.old_log.specs.Saving.{saved};
 ghost use Rattle.ram_core.specs.Stopped.{HasRoom};
@@ -16,7 +18,7 @@ ghost use Rattle.ram_core.specs.Reports.{report_seen};
 ghost use Rattle.ram_core.specs.Booted.{Booted, BootedInPart};
 ghost use Rattle.std.specs.Vec.{vec_capacity};
 
-use crate::booting::{Passed, Prepared, prepare, settle_all, settle_part};
+use crate::booting::{Passed, Prepared, prepare, read_logs, settle_all, settle_part};
 use crate::coders::Coders;
 use crate::known::{KnownZone, pass_all};
 use crate::live::{count_dump_flights, first_dump};
@@ -94,6 +96,14 @@ impl OpenOff {
             image: spans.join().into_bytes(),
             zones,
         }
+    }
+
+    // The logs of all zones.
+    fn logs(&self) -> Result<Logs, AllocError>
+        requires { SpansFit (zones_of self.now.layout) self.now.spans.spans }
+        ensures { IfOk result (λ logs. AreLogs (zones_of self.now.layout) self.now.spans.spans logs) }
+    {
+        read_logs(self.alloc, &self.layout, &self.spans)
     }
 
     // All that a boot reads and takes before its first store, with room for what the next stop tells of the zones.
@@ -242,6 +252,21 @@ impl Off {
                 },
                 refused,
             )),
+        }
+    }
+
+    /// The logs that a boot would save. Each zone is read, and nothing is stored: the machine comes back as it was.
+    /// The logs and the list of spans are the only memory taken.
+    pub fn logs(self) -> Result<(Off, Logs), (Off, AllocError)>
+        ensures logs { IfOk result (λ r. (layout : List AZone) (mem : ℕ) (s : OffState)
+            → StandsOff layout mem self s → saved r.1 ≡ saved_logs layout (booted layout s)) }
+        ensures unchanged { IfOk result (λ r. r.0 ≡ self) }
+        ensures refused { IfErr result (λ e. e.0 ≡ self) }
+    {
+        let open = self.open()?;
+        match open.logs() {
+            Ok(logs) => Ok((open.close(), logs)),
+            Err(refused) => Err((open.close(), refused)),
         }
     }
 

@@ -6,10 +6,10 @@ use Rattle.image_tool.proofs.records.list.Goals as goal
 
 pub returns-in-Ok-put-clause-ended : goal.returns-in-Ok-put-clause-ended
 returns-in-Ok-put-clause-ended g c = λ left f. list_put (plan_for ListRecords c.args.layout)
-    _ _ _ _ c.in-Ok.ensures.booted refl c.in-Ok-listing.text.items c.in-Ok-listing.ensures c.in-Ok.ensures.same
+    _ _ _ c.in-Ok.ensures.read refl c.in-Ok-listing.text.items c.in-Ok-listing.ensures c.in-Ok.ensures.same
     (record { left = refl; source = refl }) (rw c.deref.ensures.value at c.in-Ok-put.ensures.bytes)
 
 pub returns-clause-ended : goal.returns-clause-ended
 returns-clause-ended g c = λ left f. list_front (plan_for ListRecords c.args.layout)
-    _ _ _ _ c.in-Ok.ensures.booted refl c.in-Ok-listing.text.items c.in-Ok-listing.ensures c.in-Ok.ensures.same
+    _ _ _ c.in-Ok.ensures.read refl c.in-Ok-listing.text.items c.in-Ok-listing.ensures c.in-Ok.ensures.same
     (record { left = refl; source = refl }) (rw c.deref.ensures.value at c.in-Err-put.ensures.bytes)

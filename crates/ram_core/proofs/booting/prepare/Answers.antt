@@ -1,22 +1,8 @@
 use Rattle.std.proofs.Common.{List, get_or, slice_get, ap, ◌∙◌}
 use Rattle.zone_spec.specs.declared.Zone.{Zone}
-use Rattle.zone_spec.specs.declared.Kind.TheVariants.{Dump}
 use Rattle.zone_params.specs.Laid.{zones_of}
-use Rattle.ram_core.proofs.Preparing.{at_place, prepares_next}
+use Rattle.ram_core.proofs.Preparing.{no_zone, at_place, prepares_next}
 use Rattle.ram_core.proofs.booting.prepare.Goals as goal
-
--- what a slice gives outside its length
-abbrev no_zone : Zone
-no_zone = record {
-  name = record { kind = Dump; index = 0 };
-  at = 0;
-  size = 0;
-  cap = 0;
-  blocks = 0;
-  parity = 0;
-  sig = 0;
-  block = 0;
-}
 
 pub add-requires-clause-valid : goal.add-requires-clause-valid
 add-requires-clause-valid c =
