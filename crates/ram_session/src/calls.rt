@@ -1,6 +1,5 @@
-// Calls in a live store, made by their stores.
+// Calls in a live store, as a session's lines ask for them.
 ghost use Rattle.std.specs.Prelude.{◌≡◌, OnOk, OnErr, IfOk, IfErr};
-ghost use Rattle.session_spec.specs.Sound.{IsAsk};
 ghost use Rattle.session_spec.specs.LiveCalls.{make as makes, step as steps, finish as finishes};
 ghost use Rattle.ram_core.specs.Asks.{ask_seen, CanBeAsked};
 ghost use Rattle.ram_session.specs.Answers.{Done, IsRefused, Begun, NotBegun};
@@ -14,16 +13,10 @@ pub fn step(live: &mut Live, zone: ZoneName, count: u64) -> Result<(), Refusal>
     ensures refused { IfErr result (λ why. IsRefused live.old why (λ layout s. steps layout s zone count)) }
     ensures unchanged { OnErr result (live.new ≡ live.old) }
 {
-    if !live.flies(zone)? {
-        return Err(Refusal::Idle);
+    match live.advance(zone, count) {
+        Ok(()) => Ok(()),
+        Err(why) => Err(why),
     }
-    'steps: for _ in 0..count {
-        match live.step(zone) {
-            Ok(_) => {}
-            Err(_) => return Ok(()),
-        }
-    }
-    Ok(())
 }
 
 /// Makes all stores that are left of a zone's flight.
@@ -32,8 +25,7 @@ pub fn finish(live: &mut Live, zone: ZoneName) -> Result<(), Refusal>
     ensures refused { IfErr result (λ why. IsRefused live.old why (λ layout s. finishes layout s zone)) }
     ensures unchanged { OnErr result (live.new ≡ live.old) }
 {
-    let left = live.left(zone)?;
-    match step(live, zone, left) {
+    match live.finish(zone) {
         Ok(()) => Ok(()),
         Err(why) => Err(why),
     }
@@ -58,19 +50,6 @@ pub fn begin(live: &mut Live, ask: Ask) -> Result<ZoneName, Refusal>
     }
 }
 
-// Tells that the payload is of bytes.
-fn check(ask: &Ask)
-    requires { CanBeAsked ask.now }
-    ensures { IsAsk (ask_seen ask.now) }
-{
-    match ask {
-        Ask::Append(_, payload) | Ask::Dump(_, _, payload) => {
-            let _len = payload.len();
-        }
-        Ask::Erase(_) => {}
-    }
-}
-
 /// Begins a call and makes all its stores.
 pub fn make(live: &mut Live, ask: Ask) -> Result<(), Refusal>
     requires { CanBeAsked ask }
@@ -78,13 +57,8 @@ pub fn make(live: &mut Live, ask: Ask) -> Result<(), Refusal>
     ensures refused { IfErr result (λ why. IsRefused live.old why (λ layout s. makes layout s (ask_seen ask))) }
     ensures unchanged { OnErr result (live.new ≡ live.old) }
 {
-    check(&ask);
-    let zone = match begin(live, ask) {
-        Ok(zone) => zone,
-        Err(why) => return Err(why),
-    };
-    match finish(live, zone) {
+    match live.make(ask) {
         Ok(()) => Ok(()),
-        Err(_) => Ok(()),
+        Err(refused) => Err(cause(&refused)),
     }
 }
