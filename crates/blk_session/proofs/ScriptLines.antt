@@ -11,15 +11,19 @@ use Rattle.blk_spec.specs.States.{BlkState}
 use Rattle.blk_spec.specs.Session.{Session}
 use Rattle.grammar_spec.specs.Fields.{Text}
 use Rattle.grammar_spec.specs.declared.line.Line.{Line}
-use Rattle.tool_spec.specs.BlkScripts.{BlkDone, BlkRan, blk_ran, blk_ran_on, blk_next_line, blk_started, blk_line_done}
+use Rattle.blk_spec.specs.Answers.{HasFront}
+use Rattle.tool_spec.specs.BlkScripts.{BlkDone, BlkRan, blk_ran, blk_ran_on, blk_next_line, blk_started, blk_line_done, line_writes}
 use Rattle.tool_spec.specs.Answers.{front, whole}
+use Rattle.tool_spec.specs.BlkAnswers.{StopsAt, LinesEnd}
+use Rattle.tool_spec.specs.Ends.{End}
+use Rattle.tool_frame.specs.Playing.{BlkPlayCaused}
 use Rattle.tool_spec.specs.declared.Cause.{Cause}
 use Rattle.tool_spec.specs.declared.Stop.{Stop}
 use Rattle.tool_spec.specs.declared.Stop.TheVariants.{Memory, Usage, Param, Layout, Short, ScriptFault, ImageFault, SinkFault, TooLong, BadLine, Refused}
 use Rattle.tool_frame.proofs.Answered.{appends_on}
 use Rattle.tool_frame.proofs.Answered.{nothing_put}
 use Rattle.tool_frame.proofs.Play.{Extends, extends_self, extends_on, front_of, whole_more}
-use Rattle.blk_session.specs.Playing.{Seen, Puts, LineStops, PlayStop, Plays, IsCaused}
+use Rattle.blk_session.specs.Playing.{Seen, Puts, LineStops}
 
 -- ---- texts only grow
 
@@ -90,6 +94,11 @@ pub record PlaysTo (layout : BlkLayout) (bytes : List ℕ) (lines : List Line) (
 abbrev pub PlaysSoFar : BlkLayout → List Line → ℕ → Option BlkState → Seen → Seen → Type 0
 PlaysSoFar layout lines i blk a b = (bytes : List ℕ) → a.holds ≡ Some bytes → PlaysTo layout bytes lines i blk a b
 
+-- how the lines end from one moment to another, where the store tells its bytes
+abbrev pub Plays : End → BlkLayout → List Line → Seen → Seen → Type 0
+Plays e layout lines a b = (bytes : List ℕ) → a.holds ≡ Some bytes
+    → LinesEnd e layout bytes lines a.given b.given b.holds
+
 pub plays_none : (layout : BlkLayout) (lines : List Line) (a : Seen) → PlaysSoFar layout lines 0 None a a
 plays_none layout lines a bytes told = record {
   store = bytes;
@@ -156,50 +165,70 @@ module _ (layout : BlkLayout) (bytes : List ℕ) (lines : List Line) (i : ℕ) (
     line_at = slice_get_read lines (length lines) i line refl below is
 
     pub on_stop : (stop : Stop) (c : Seen) → LineStops stop layout blk line (i + 1) b c
-        → PlayStop stop layout bytes lines a c
+        → StopsAt stop layout bytes lines a.given c.given c.holds
     on_stop Memory c h =
         record {
-          count = i;
-          texts = rw (h.0, ← p.count, prefix_front layout bytes lines i) p.texts;
-          holds = h.1 ∙ p.holds ∙ ap (λ (s : Session). Some s.store) (sym p.session);
+          text = front (blk_ran layout bytes lines).texts i;
+          stops = record {
+            count = i;
+            texts = refl;
+            holds = h.1 ∙ p.holds ∙ ap (λ (s : Session). Some s.store) (sym p.session);
+          };
+          put = rw (h.0, ← p.count, prefix_front layout bytes lines i) p.texts;
         }
     on_stop ImageFault c h =
         let w = h.1.2 p.store in
+        let f : HasFront (line_writes layout (blk_ran layout bytes (take i lines)).session.blk line)
+        (Some (blk_ran layout bytes (take i lines)).session.store) c.holds = rw (p.session, ← p.holds) h.1.1 in
         record {
-          count = i;
-          line = line;
-          next = line_at;
-          wanted = omega (
-            arith,
-            one_more w.wants w.is,
-            no_more (blk_ran layout bytes (take (i + 1) lines)).texts
-                (blk_ran layout bytes lines).texts (extends_ran layout bytes lines (i + 1)),
-          );
-          texts = rw (h.0, ← p.count, prefix_front layout bytes lines i) p.texts;
-          holds = rw (p.session, ← p.holds) h.1.1;
+          text = front (blk_ran layout bytes lines).texts i;
+          stops = record {
+            count = i;
+            line = line;
+            next = line_at;
+            wanted = omega (
+              arith,
+              one_more w.wants w.is,
+              no_more (blk_ran layout bytes (take (i + 1) lines)).texts
+                  (blk_ran layout bytes lines).texts (extends_ran layout bytes lines (i + 1)),
+            );
+            texts = refl;
+            kept = f.kept;
+            within = f.within;
+            holds = f.store;
+          };
+          put = rw (h.0, ← p.count, prefix_front layout bytes lines i) p.texts;
         }
     on_stop SinkFault c h =
         let l = h.1.done p.store p.holds in
         let d : BlkDone = record { session = record { store = l.after; blk = h.1.new }; text = h.1.text } in
         let e = done_at d l.done in
         record {
-          count = i;
-          text = h.1.text;
-          next = text_at so_far.texts h.1.text (blk_ran layout bytes lines).texts i p.count
-              (rw (ap (λ (r : BlkRan). r.texts) e) at (extends_ran layout bytes lines (i + 1)));
-          part = h.1.put.count;
-          texts = rw (← p.count, prefix_front layout bytes lines i)
+          text = front (blk_ran layout bytes lines).texts i ++ take h.1.put.count h.1.text;
+          stops = record {
+            count = i;
+            next = h.1.text;
+            last = text_at so_far.texts h.1.text (blk_ran layout bytes lines).texts i p.count
+                (rw (ap (λ (r : BlkRan). r.texts) e) at (extends_ran layout bytes lines (i + 1)));
+            part = h.1.put.count;
+            texts = refl;
+            holds = l.holds ∙ ap (λ (r : BlkRan). Some r.session.store) (sym e);
+          };
+          put = rw (← p.count, prefix_front layout bytes lines i)
               (appends_on a.given b.given c.given (whole so_far.texts) (take h.1.put.count h.1.text)
               p.texts h.1.put.bytes);
-          holds = l.holds ∙ ap (λ (r : BlkRan). Some r.session.store) (sym e);
         }
     on_stop (Refused n cause) c h =
         let e = refused_at cause (h.2.1 p.store) in
         record {
-          end = rw (e, h.0, p.count) refl;
-          texts = rw (e, h.1) p.texts;
-          holds = h.2.0 ∙ p.holds ∙ ap (λ (s : Session). Some s.store) (sym p.session)
-              ∙ ap (λ (r : BlkRan). Some r.session.store) (sym e);
+          text = whole (blk_ran layout bytes lines).texts;
+          stops = record {
+            end = rw (e, h.0, p.count) refl;
+            texts = refl;
+            holds = h.2.0 ∙ p.holds ∙ ap (λ (s : Session). Some s.store) (sym p.session)
+                ∙ ap (λ (r : BlkRan). Some r.session.store) (sym e);
+          };
+          put = rw (e, h.1) p.texts;
         }
     on_stop Usage c h = absurd h
     on_stop (Param x y) c h = absurd h
@@ -234,7 +263,7 @@ plays_all layout lines i blk a b all so_far bytes told =
 -- a stop's cause, whether the store tells its bytes or not
 pub stop_caused : (stop : Stop) (layout : BlkLayout) (blk : Option BlkState) (line : Line) (number : ℕ) (a b c : Seen)
     → a.store_faults ≤ b.store_faults → a.sink_faults ≤ b.sink_faults → LineStops stop layout blk line number b c
-    → IsCaused (Err stop) a c
+    → BlkPlayCaused (Err stop) a.store_faults c.store_faults a.sink_faults c.sink_faults
 stop_caused Memory layout blk line number a b c s o h = tt
 stop_caused ImageFault layout blk line number a b c s o h = omega (arith, s, h.1.0)
 stop_caused SinkFault layout blk line number a b c s o h = omega (arith, o, h.0)

@@ -1,10 +1,12 @@
 // The lines of a script, in order.
-ghost use Rattle.std.specs.Prelude.{◌≡◌, ℕ, ◌<◌, ◌^◌, length, IfOk, IfSome, MatchResult};
+ghost use Rattle.std.specs.Prelude.{◌≡◌, ℕ, ◌<◌, ◌≤◌, ◌^◌, List, length, IfOk, IfSome, MatchResult};
 ghost use Rattle.blk_spec.specs.Layout.{IsLayout};
 ghost use Rattle.blk_spec.specs.Answers.{HasRoom};
 ghost use Rattle.grammar_spec.specs.Printed.{HasFields, AllHaveFields};
+ghost use Rattle.tool_spec.specs.BlkAnswers.{LinesEnd};
+ghost use Rattle.tool_frame.specs.Playing.{BlkPlayCaused};
 ghost use Rattle.blk_session.specs.Stops.{stop_of};
-ghost use Rattle.blk_session.specs.Playing.{seen, Puts, LineStops, Plays, IsCaused, Later};
+ghost use Rattle.blk_session.specs.Playing.{seen, Puts, LineStops, Later};
 
 use crate::errors::LineError;
 use crate::lines::do_line;
@@ -75,15 +77,11 @@ pub fn play<S: Store, O: Sink>(
     requires fields { AllHaveFields lines.now }
     requires few { length lines.now < 2 ^ 32 }
     requires room { HasRoom layout.total (S.holds store.old) }
-    ensures later { Later
-        (seen (S.holds store.old) (S.faults store.old) (O.given out.old) (O.faults out.old))
-        (seen (S.holds store.new) (S.faults store.new) (O.given out.new) (O.faults out.new)) }
-    ensures caused { IsCaused result
-        (seen (S.holds store.old) (S.faults store.old) (O.given out.old) (O.faults out.old))
-        (seen (S.holds store.new) (S.faults store.new) (O.given out.new) (O.faults out.new)) }
-    ensures played { Plays result layout lines.now
-        (seen (S.holds store.old) (S.faults store.old) (O.given out.old) (O.faults out.old))
-        (seen (S.holds store.new) (S.faults store.new) (O.given out.new) (O.faults out.new)) }
+    ensures later { (S.faults store.old ≤ S.faults store.new) × (O.faults out.old ≤ O.faults out.new) }
+    ensures caused { BlkPlayCaused result (S.faults store.old) (S.faults store.new) (O.faults out.old)
+        (O.faults out.new) }
+    ensures played { (bytes : List ℕ) → S.holds store.old ≡ Some bytes
+        → LinesEnd result layout bytes lines.now (O.given out.old) (O.given out.new) (S.holds store.new) }
 {
     let mut blk: Option<Blk> = None;
     for (i, line) in lines.iter().enumerate() {

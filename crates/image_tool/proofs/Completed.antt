@@ -4,11 +4,11 @@ use Rattle.blk_spec.specs.declared.BlkLayout.{BlkLayout}
 use Rattle.grammar_spec.specs.Fields.{Text}
 use Rattle.grammar_spec.specs.declared.line.Line.{Line}
 use Rattle.tool_spec.specs.Ends.{End, status_of}
-use Rattle.tool_spec.specs.Commands.{Command, RunScript, ListRecords, ExtractRecord, EraseRecord, ShowLayout, BlankImage, MakeImage, Plan, Wanted, wanted, plan_of}
-use Rattle.tool_spec.specs.BlkCommands.{blk_plan_of, blk_lines}
-use Rattle.tool_spec.specs.Answers.{Outside, RoseFor, IsFree, Answers, PlanAnswers, ToolAnswers}
-use Rattle.tool_spec.specs.BlkAnswers.{LinesOrStopAnswers, BlkPlanAnswers, AskedAnswers}
-use Rattle.tool_spec.specs.Complete.{lines_end, blk_plan_end, plan_end, asked_end, CommandTells, PlanTells, AskedTells}
+use Rattle.tool_spec.specs.Commands.{RamCommand, RunScript, ListRecords, ExtractRecord, EraseRecord, ShowLayout, BlankImage, MakeImage, OnRam, RamPlan, Plan, OfRam, OfBlk, Wanted, wanted, plan_of}
+use Rattle.tool_spec.specs.Answers.{Outside, RoseFor, IsFree, Answers}
+use Rattle.tool_spec.specs.BlkAnswers.{blk_lines, LinesOrStopAnswers}
+use Rattle.tool_spec.specs.PlanAnswers.{RamAnswers, ToolAnswers}
+use Rattle.tool_spec.specs.Complete.{lines_end, plan_end, CommandTells, PlanTells, Completes}
 use Rattle.tool_spec.specs.declared.Stop.{Stop}
 use Rattle.tool_spec.specs.declared.Stop.TheVariants.{ScriptFault, ImageFault, SinkFault}
 
@@ -28,50 +28,45 @@ module _ (a b : Outside) (status : ℕ) (script_ok : RoseFor ScriptFault a b →
   exact_done e (inr free) done = free_done free
 
   -- what a command wants does not stand on what it does not read
-  plan_done : (c : Command) (plan : Plan) → plan.command ≡ c → PlanAnswers c plan a b status → (bytes script : List ℕ)
-      → CommandTells c a bytes script → (wanted plan bytes script).end ≡ Ok tt → Done
-  plan_done RunScript plan is h bytes script tells done =
+  ram_done : (c : RamCommand) (plan : RamPlan) → plan.command ≡ c → RamAnswers c plan a b status → (bytes script : List ℕ)
+      → CommandTells (OnRam c) a bytes script → (wanted plan bytes script).end ≡ Ok tt → Done
+  ram_done RunScript plan is h bytes script tells done =
       exact_done (wanted plan bytes script).end (h.whole.told bytes script tells.0 tells.1).exact done
-  plan_done ListRecords plan is h bytes script tells done =
+  ram_done ListRecords plan is h bytes script tells done =
       let same : wanted plan bytes script ≡ wanted plan bytes [] = rw is refl in
       exact_done (wanted plan bytes []).end (h.whole.told bytes tells).exact (rw same at done)
-  plan_done (ExtractRecord name) plan is h bytes script tells done =
+  ram_done (ExtractRecord name) plan is h bytes script tells done =
       let same : wanted plan bytes script ≡ wanted plan bytes [] = rw is refl in
       exact_done (wanted plan bytes []).end (h.whole.told bytes tells).exact (rw same at done)
-  plan_done (EraseRecord name) plan is h bytes script tells done =
+  ram_done (EraseRecord name) plan is h bytes script tells done =
       let same : wanted plan bytes script ≡ wanted plan bytes [] = rw is refl in
       exact_done (wanted plan bytes []).end (h.whole.told bytes tells).exact (rw same at done)
-  plan_done ShowLayout plan is h bytes script tells done =
+  ram_done ShowLayout plan is h bytes script tells done =
       let same : wanted plan bytes script ≡ wanted plan [] [] = rw is refl in
       exact_done (wanted plan [] []).end h.whole.exact (rw same at done)
-  plan_done BlankImage plan is h bytes script tells done =
+  ram_done BlankImage plan is h bytes script tells done =
       let same : wanted plan bytes script ≡ wanted plan [] [] = rw is refl in
       exact_done (wanted plan [] []).end h.whole.exact (rw same at done)
-  plan_done (MakeImage n) plan is h bytes script tells done =
+  ram_done (MakeImage n) plan is h bytes script tells done =
       let same : wanted plan bytes script ≡ wanted plan [] [] = rw is refl in
       exact_done (wanted plan [] []).end h.whole.exact (rw same at done)
 
   no_stop : (s : Stop) → (let e : End = Err s in e) ≡ Ok tt → Done
   no_stop s e = absurd (cc)
 
-  tool_done : (r : Result Plan Stop) → ToolAnswers r a b status → (bytes script : List ℕ) → PlanTells r a bytes script
-      → plan_end r bytes script ≡ Ok tt → Done
-  tool_done (Ok plan) h bytes script tells done = plan_done plan.command plan refl h.0 bytes script tells done
-  tool_done (Err s) h bytes script tells done = no_stop s done
-
   lines_done : (layout : BlkLayout) (bytes : List ℕ) (r : Result (List Line) Stop)
       → LinesOrStopAnswers layout bytes r a b status → lines_end layout bytes r ≡ Ok tt → Done
   lines_done layout bytes (Ok lines) h done = exact_done (lines_end layout bytes (Ok lines)) h.exact done
   lines_done layout bytes (Err s) h done = no_stop s done
 
-  blk_done : (r : Result BlkLayout Stop) → BlkPlanAnswers r a b status → (bytes script : List ℕ)
-      → (a.holds ≡ Some bytes) × (a.left ≡ Some script) → blk_plan_end r bytes script ≡ Ok tt → Done
-  blk_done (Ok layout) h bytes script tells done = lines_done layout bytes (blk_lines layout bytes script)
-      (h.whole.told bytes script tells.0 tells.1) done
-  blk_done (Err s) h bytes script tells done = no_stop s done
+  tool_done : (r : Result Plan Stop) → ToolAnswers r a b status → (bytes script : List ℕ)
+      → PlanTells r a bytes script → plan_end r bytes script ≡ Ok tt → Done
+  tool_done (Ok (OfRam plan)) h bytes script tells done = ram_done plan.command plan refl h.0 bytes script tells done
+  tool_done (Ok (OfBlk layout)) h bytes script tells done = lines_done layout bytes (blk_lines layout bytes script)
+      (h.0.whole.told bytes script tells.0 tells.1) done
+  tool_done (Err s) h bytes script tells done = no_stop s done
 
-  pub asked_done : (asked : Option (List Text)) (words : List Text) → AskedAnswers asked words a b status
-      → (bytes script : List ℕ) → AskedTells asked words a bytes script → asked_end asked words bytes script ≡ Ok tt
-      → Done
-  asked_done None words h bytes script tells done = tool_done (plan_of words) h bytes script tells done
-  asked_done (Some params) words h bytes script tells done = blk_done (blk_plan_of params) h bytes script tells done
+pub completes : (words : List Text) (a b : Outside) (status : ℕ) → ToolAnswers (plan_of words) a b status
+    → Completes words a b status
+completes words a b status h bytes script tells done script_ok image_ok sink_ok =
+    tool_done a b status script_ok image_ok sink_ok (plan_of words) h bytes script tells done

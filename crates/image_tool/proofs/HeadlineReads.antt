@@ -26,6 +26,9 @@ use Rattle.session_laws.proofs.ZoneReads.{sound_state_reads_zones}
 use Rattle.grammar_spec.specs.Numbers.{digits_number, number_of, begins}
 use Rattle.grammar_spec.specs.Words.{KeyTable, given, value_text, ok_unless}
 use Rattle.grammar_spec.specs.ZoneWords.{keys, first_fault, params_of}
+use Rattle.grammar_spec.specs.BlkWords.{first_fault as blk_first_fault, params_of as blk_params_of}
+use Rattle.blk_spec.specs.declared.BlkLayout.{BlkLayout}
+use Rattle.blk_spec.specs.Layout.{layout_of as blk_layout_of}
 use Rattle.grammar_spec.specs.declared.faults.ParamFault.{ParamFault}
 use Rattle.zone_params.proofs.WholeLayout.{whole_layout}
 use Rattle.ram_region.proofs.Chains.{AreBytes-take}
@@ -39,9 +42,9 @@ use Rattle.box_script.proofs.Inside.{read_fields}
 use Rattle.tool_spec.specs.Ends.{End}
 use Rattle.tool_spec.specs.Texts.{boot_text}
 use Rattle.tool_spec.specs.Scripts.{Done, Ran, ran, line_done}
-use Rattle.tool_spec.specs.Commands.{Asked, Command, RunScript, Plan, Wanted, plan_of, planned, with_params, with_layout, mem_of, wanted, wanted_run, wanted_lines, script_limit, script_end, stops}
-use Rattle.tool_spec.specs.Answers.{Outside, whole, RunAnswers, PlanAnswers, ToolAnswers}
-use Rattle.tool_spec.specs.BlkAnswers.{AskedAnswers}
+use Rattle.tool_spec.specs.Commands.{Asked, RamCommand, RunScript, Command, OnRam, RunBlkScript, RamPlan, Plan, OfRam, OfBlk, Wanted, planned, laid_out, with_params, with_layout, with_blk_params, with_blk_layout, mem_of, wanted, wanted_run, wanted_lines, script_limit, script_end, stops}
+use Rattle.tool_spec.specs.Answers.{Outside, whole, RunAnswers}
+use Rattle.tool_spec.specs.PlanAnswers.{RamAnswers, ToolAnswers}
 use Rattle.tool_spec.specs.declared.Cause.{Cause}
 use Rattle.tool_spec.specs.declared.Stop.{Stop}
 use Rattle.tool_spec.specs.declared.Stop.TheVariants.{TooLong}
@@ -90,22 +93,38 @@ given_small table words key = by (value_text table words key)
 
 -- ---- the zones of a plan are a layout
 
-laid : (command : Command) (params : Params) (plan : Plan) (o : Result (List Zone) LayoutFault) → layout_of params ≡ o
-    → with_layout command params o ≡ Ok plan → params.ftrace_sig < 2 ^ 32 → IsLayout plan.zones (mem_of plan)
+laid : (command : RamCommand) (params : Params) (plan : RamPlan) (o : Result (List Zone) LayoutFault)
+    → layout_of params ≡ o → with_layout command params o ≡ Ok (OfRam plan) → params.ftrace_sig < 2 ^ 32
+    → IsLayout plan.zones (mem_of plan)
 laid command params plan (Ok zones) e h small =
     let same : record { command = command; params = params; zones = zones } ≡ plan = cc in
-    subst (λ (p : Plan). IsLayout p.zones (mem_of p)) same (whole_layout params zones small e)
+    subst (λ (p : RamPlan). IsLayout p.zones (mem_of p)) same (whole_layout params zones small e)
 laid command params plan (Err fault) e h small = absurd (cc)
 
-read : (a : Asked) (plan : Plan) (o : Option ParamFault) → with_params a (ok_unless o (params_of a.params)) ≡ Ok plan
-    → IsLayout plan.zones (mem_of plan)
-read a plan None h = laid a.command (params_of a.params) plan (layout_of (params_of a.params)) refl h
-    (given_small keys a.params (codes "ftrace_sig"))
-read a plan (Some fault) h = absurd (cc)
+read : (command : RamCommand) (before : ℕ) (words : List Text) (plan : RamPlan) (o : Option ParamFault)
+    → with_params command before (ok_unless o (params_of words)) ≡ Ok (OfRam plan) → IsLayout plan.zones (mem_of plan)
+read command before words plan None h = laid command (params_of words) plan (layout_of (params_of words)) refl h
+    (given_small keys words (codes "ftrace_sig"))
+read command before words plan (Some fault) h = absurd (cc)
 
-planned_whole : (o : Option Asked) (plan : Plan) → planned o ≡ Ok plan → IsLayout plan.zones (mem_of plan)
+-- a block store's plan is none of an image
+blk_laid : (plan : RamPlan) (o : Result BlkLayout LayoutFault) → with_blk_layout o ≡ Ok (OfRam plan) → ⊥
+blk_laid plan (Ok layout) h = absurd (cc)
+blk_laid plan (Err fault) h = absurd (cc)
+
+blk_read : (before : ℕ) (words : List Text) (plan : RamPlan) (o : Option ParamFault)
+    → with_blk_params before (ok_unless o (blk_params_of words)) ≡ Ok (OfRam plan) → ⊥
+blk_read before words plan None h = blk_laid plan (blk_layout_of (blk_params_of words)) h
+blk_read before words plan (Some fault) h = absurd (cc)
+
+command_whole : (c : Command) (before : ℕ) (words : List Text) (plan : RamPlan)
+    → laid_out c before words ≡ Ok (OfRam plan) → IsLayout plan.zones (mem_of plan)
+command_whole (OnRam command) before words plan h = read command before words plan (first_fault [] words) h
+command_whole RunBlkScript before words plan h = absurd (blk_read before words plan (blk_first_fault [] words) h)
+
+planned_whole : (o : Option Asked) (plan : RamPlan) → planned o ≡ Ok (OfRam plan) → IsLayout plan.zones (mem_of plan)
 planned_whole None plan h = absurd (cc)
-planned_whole (Some a) plan h = read a plan (first_fault [] a.params) h
+planned_whole (Some a) plan h = command_whole a.command a.before a.params plan h
 
 -- ---- the headline
 
@@ -164,7 +183,7 @@ too_long : (w : Wanted) → w ≡ stops TooLong → w.end ≡ Ok tt → ⊥
 too_long w e h = let clash : Err TooLong ≡ Ok tt = sym (ap (λ (x : Wanted). x.end) e) ∙ h in cc
 
 -- what a run that did all puts at a boot
-module _ (plan : Plan) (bytes script : List ℕ) (lines : List Line) (is : plan.command ≡ RunScript)
+module _ (plan : RamPlan) (bytes script : List ℕ) (lines : List Line) (is : plan.command ≡ RunScript)
     (long : mem_of plan ≤ length bytes) (good : script_of script ≡ Ok lines) where
   abbrev image : List ℕ
   image = take (mem_of plan) bytes
@@ -204,7 +223,8 @@ module _ (plan : Plan) (bytes script : List ℕ) (lines : List Line) (is : plan.
 pub run_reads : (o : Option Asked) (r : Result Plan Stop) (a b : Outside) (status : ℕ) → planned o ≡ r
     → IfSome a.holds AreBytes → ToolAnswers r a b status → RunReads r a b status
 run_reads o (Err s) a b status e held answers = tt
-run_reads o (Ok plan) a b status e held answers = λ is. record {
+run_reads o (Ok (OfBlk layout)) a b status e held answers = tt
+run_reads o (Ok (OfRam plan)) a b status e held answers = λ is. record {
   told = λ bytes script holds left lines long good.
       let lies = planned_whole o plan e in
       let all : AreBytes bytes = rw holds at held in
@@ -215,16 +235,10 @@ run_reads o (Ok plan) a b status e held answers = λ is. record {
       let reads : BootsRead plan.zones (take (mem_of plan) bytes) lines =
       λ k off at. sound_state_reads_zones plan.zones (mem_of plan) off lies (rw at at (sound k)) in
       let run : RunAnswers plan a b status =
-      subst (λ (c : Command). PlanAnswers c plan a b status) is answers.0 in
+      subst (λ (c : RamCommand). RamAnswers c plan a b status) is answers.0 in
       record {
         read = reads;
         shown = λ zero. let d = (run.whole.told bytes script holds left).done zero in
             boots_shown plan bytes script lines is long good a b d.0 d.1 reads;
       };
 }
-
--- words that ask for no script on the block store
-pub answered_by : (asked : Option (List Text)) (words : List Text) (a b : Outside) (status : ℕ) → asked ≡ None
-    → AskedAnswers asked words a b status → ToolAnswers (plan_of words) a b status
-answered_by None words a b status none h = h
-answered_by (Some params) words a b status none h = absurd (cc)

@@ -5,6 +5,4 @@ pub mod MakeEnds
 pub mod HeadlineReads
 pub mod ScriptEnds
 pub mod WorkEnds
-pub mod BlkEnds
-pub mod BlkAnswered
 pub mod Completed

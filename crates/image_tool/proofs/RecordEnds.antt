@@ -18,7 +18,7 @@ use Rattle.grammar_spec.specs.Fields.{Text}
 use Rattle.tool_spec.specs.Ends.{End}
 use Rattle.tool_spec.specs.Texts.{listing}
 use Rattle.tool_spec.specs.Scripts.{named}
-use Rattle.tool_spec.specs.Commands.{Command, ListRecords, ExtractRecord, EraseRecord, Plan, reads_image, mem_of, after_boot, shows, leaves, unlisted, Wanted, wanted, wanted_of, wanted_extract, wanted_erase}
+use Rattle.tool_spec.specs.Commands.{RamCommand, ListRecords, ExtractRecord, EraseRecord, RamPlan, reads_image, mem_of, after_boot, shows, leaves, unlisted, Wanted, wanted, wanted_of, wanted_extract, wanted_erase}
 use Rattle.tool_spec.specs.Answers.{Outside, IfHolds, NoScript}
 use Rattle.tool_spec.specs.declared.Cause.{Cause}
 use Rattle.tool_spec.specs.declared.Cause.TheVariants.{IsOff, IsLive, NoZone, Busy, Idle, OutOfImage, NoRecord, NotHere}
@@ -51,22 +51,22 @@ unlisted_ends w a b e q = rw e (refl, put_nothing a b q, q.holds)
 
 -- ---- listed
 
-reads : {plan : Plan} {a b : Outside} {e : End} → CanEnd plan e → NoScript a b → b.holds ≡ a.holds
+reads : {plan : RamPlan} {a b : Outside} {e : End} → CanEnd plan e → NoScript a b → b.holds ≡ a.holds
     → IfHolds a (λ bytes. Ended (wanted plan bytes []) a b e) → ReadEnds plan a b e
 reads can none same whole = record { can = can; whole = whole; script = none; image = same }
 
-leaves_script : {plan : Plan} {a b : Outside} {e : End} → CanEnd plan e → NoScript a b
+leaves_script : {plan : RamPlan} {a b : Outside} {e : End} → CanEnd plan e → NoScript a b
     → IfHolds a (λ bytes. Ended (wanted plan bytes []) a b e) → ImageEnds plan a b e
 leaves_script can none whole = record { can = can; whole = whole; script = none }
 
 -- ---- an image that was not read
 
-pub unread : (plan : Plan) (c : Command) (a b : Outside) (s : Stop) (f g : ℕ) → plan.command ≡ c
+pub unread : (plan : RamPlan) (c : RamCommand) (a b : Outside) (s : Stop) (f g : ℕ) → plan.command ≡ c
     → reads_image c ≡ true → NoScript a b → Quiet a b → LoadStop s (mem_of plan) a.holds f g → ReadEnds plan a b (Err s)
 unread plan c a b s f g is image none q h = reads (load_can plan c s (mem_of plan) a.holds f g is image h) none q.holds
     (image_stopped plan c a b s f g is image q h)
 
-pub unread_image : (plan : Plan) (c : Command) (a b : Outside) (s : Stop) (f g : ℕ) → plan.command ≡ c
+pub unread_image : (plan : RamPlan) (c : RamCommand) (a b : Outside) (s : Stop) (f g : ℕ) → plan.command ≡ c
     → reads_image c ≡ true → NoScript a b → Quiet a b → LoadStop s (mem_of plan) a.holds f g
     → ImageEnds plan a b (Err s)
 unread_image plan c a b s f g is image none q h =
@@ -79,14 +79,14 @@ saved_from : {layout : List Zone} {mem : ℕ} {holds : Option (List ℕ)} {live 
     → BootedFrom layout mem holds live logs → SavedFrom layout mem holds logs
 saved_from booted = record { image = booted.image; read = booted.read; logs_are = booted.logs_are }
 
-module _ (plan : Plan) (a b : Outside) (logs : SavedLogs) (read : SavedFrom plan.zones (mem_of plan) a.holds logs) where
+module _ (plan : RamPlan) (a b : Outside) (logs : SavedLogs) (read : SavedFrom plan.zones (mem_of plan) a.holds logs) where
   -- what a command wants of the image that was read
-  done : (c : Command) (e : End) → plan.command ≡ c → reads_image c ≡ true
+  done : (c : RamCommand) (e : End) → plan.command ≡ c → reads_image c ≡ true
       → Ended (wanted_of plan.params plan.zones read.image [] c) a b e
       → IfHolds a (λ bytes. Ended (wanted plan bytes []) a b e)
   done c e is reads ended = image_done plan c a b read.image e is reads read.read ended
 
-  pub memory_ends : (c : Command) → plan.command ≡ c → reads_image c ≡ true → Quiet a b
+  pub memory_ends : (c : RamCommand) → plan.command ≡ c → reads_image c ≡ true → Quiet a b
       → IfHolds a (λ bytes. Ended (wanted plan bytes []) a b (Err MemoryStop))
   memory_ends c is reads q = done c (Err MemoryStop) is reads
       (quiet_memory (wanted_of plan.params plan.zones read.image [] c) a b q)
@@ -112,7 +112,7 @@ extract_found layout s None bytes e = absurd (cc)
 extract_found layout s (Some r) bytes e = let same : content (saved_logs layout s) r ≡ bytes = cc in
     ap (λ (t : Text). shows (t ∷ [])) same
 
-module _ (plan : Plan) (a b : Outside) (logs : SavedLogs) (name : Text) (is : plan.command ≡ ExtractRecord name)
+module _ (plan : RamPlan) (a b : Outside) (logs : SavedLogs) (name : Text) (is : plan.command ≡ ExtractRecord name)
     (read : SavedFrom plan.zones (mem_of plan) a.holds logs) where
   module _ (bytes : List ℕ) (found : IsContent (saved logs) name (Ok bytes)) (same : b.holds ≡ a.holds) where
     extract_wanted : wanted_of plan.params plan.zones read.image [] (ExtractRecord name) ≡ shows (bytes ∷ [])
@@ -165,7 +165,7 @@ no_flights image (z ∷ layout) test = ap (λ (b : Bool). b
     || list_any (λ (pair : Zone × LiveZone). test pair.0 && is_some pair.1.flight)
     (zip layout (map (booted_zone image) layout))) (idle (test z)) ∙ no_flights image layout test
 
-module _ (plan : Plan) (a b : Outside) (live : LiveSeen) (logs : SavedLogs) (name : Text)
+module _ (plan : RamPlan) (a b : Outside) (live : LiveSeen) (logs : SavedLogs) (name : Text)
     (is : plan.command ≡ EraseRecord name) (booted : BootedFrom plan.zones (mem_of plan) a.holds live logs) where
   module _ (w : LiveSeen) (logs' : SavedLogs) (off : OffSeen) (bytes : List ℕ)
       (erase : ErasesNamed live logs name w logs') (stop : (layout : List Zone) (mem : ℕ) (s : LiveState)

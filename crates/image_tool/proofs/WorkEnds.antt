@@ -1,44 +1,80 @@
 -- How the work of each command ends
-use Rattle.std.proofs.Common.{◌≡◌, ℕ, [], ◌∷◌, Result, Ok, Err, refl, inr, replicate, subst, sym}
+use Rattle.std.proofs.Common.{◌≡◌, ℕ, List, [], ◌∷◌, Option, Result, Ok, Err, refl, inr, replicate, arith}
 use Rattle.box_io.specs.Outside.{WritesFront}
 use Rattle.tool_spec.specs.Ends.{End, status_of}
 use Rattle.tool_spec.specs.Texts.{layout_text}
-use Rattle.tool_spec.specs.Commands.{MakeImage, ShowLayout, BlankImage, Plan, Wanted, mem_of, shows, leaves}
-use Rattle.tool_spec.specs.Answers.{Outside, NoScript, NoImage, WritesSome, statuses, IsAmong}
+use Rattle.tool_spec.specs.Commands.{ShowLayout, BlankImage, OnRam, RamPlan, Plan, OfRam, Wanted, mem_of, shows, leaves}
+use Rattle.tool_spec.specs.Answers.{Outside, NoScript, NoImage, WritesSome}
+use Rattle.tool_spec.specs.PlanAnswers.{statuses, IsAmong}
 use Rattle.tool_spec.specs.declared.Stop.{Stop}
 use Rattle.tool_spec.specs.declared.Stop.TheVariants.{Memory, Usage, Param, Layout, Short, ScriptFault, ImageFault, SinkFault, TooLong, BadLine, Refused}
-use Rattle.tool_frame.specs.Words.{IsNoFault, command_seen}
-use Rattle.tool_frame.specs.declared.words.Command.{Command as ReadCommand}
-use Rattle.tool_frame.specs.declared.words.Command.TheVariants.{Make}
+use Rattle.tool_frame.specs.Words.{PlanStop, IsNoFault, plan_for, ram_command_seen}
+use Rattle.tool_frame.specs.declared.words.RamCommand.{RamCommand as ReadRamCommand}
 use Rattle.zone_params.specs.declared.types.Layout.{Layout as ReadLayout}
-use Rattle.image_tool.specs.Plans.{plan_for}
-use Rattle.tool_frame.specs.Ended.{EndedAt, Ended, CausedAt, WrittenAt, PlanEnds, MakeEnds, WorkEnds}
+use Rattle.tool_frame.specs.Ended.{EndedAt, Ended, CausedAt, KeptAt, WrittenAt, RamEnds, Nothing, WorkDone}
 use Rattle.tool_frame.proofs.Answered.{nothing_put}
+use Rattle.tool_frame.proofs.AnyWords.{plan_stopped}
 
 -- a stop that no fault of the outside makes has its cause
-pub no_fault_caused : (s : Stop) (f g h : ℕ) → IsNoFault s → CausedAt f f g g h h (Err s)
-no_fault_caused Memory f g h n = tt
-no_fault_caused Usage f g h n = tt
-no_fault_caused (Param x y) f g h n = tt
-no_fault_caused (Layout x) f g h n = tt
-no_fault_caused (Short x y) f g h n = tt
-no_fault_caused ScriptFault f g h n = absurd n
-no_fault_caused ImageFault f g h n = absurd n
-no_fault_caused SinkFault f g h n = absurd n
-no_fault_caused TooLong f g h n = tt
-no_fault_caused (BadLine x) f g h n = tt
-no_fault_caused (Refused x y) f g h n = tt
+pub no_fault_caused : (s : Stop) (f f' g g' h h' : ℕ) → IsNoFault s → CausedAt f f' g g' h h' (Err s)
+no_fault_caused Memory f f' g g' h h' n = tt
+no_fault_caused Usage f f' g g' h h' n = tt
+no_fault_caused (Param x y) f f' g g' h h' n = tt
+no_fault_caused (Layout x) f f' g g' h h' n = tt
+no_fault_caused (Short x y) f f' g g' h h' n = tt
+no_fault_caused ScriptFault f f' g g' h h' n = absurd n
+no_fault_caused ImageFault f f' g g' h h' n = absurd n
+no_fault_caused SinkFault f f' g g' h h' n = absurd n
+no_fault_caused TooLong f f' g g' h h' n = tt
+no_fault_caused (BadLine x) f f' g g' h h' n = tt
+no_fault_caused (Refused x y) f f' g g' h h' n = tt
 
--- a command whose work was done
-pub read_done : (r : Result Plan Stop) (plan : Plan) (e : End) (a b : Outside) → r ≡ Ok plan
-    → PlanEnds plan.command plan a b e → WorkEnds r a b e
-read_done r plan e a b h k = rw h k
+-- an image that was not written
+pub kept_same : (e : End) (holds holds' : Option (List ℕ)) → holds' ≡ holds → KeptAt holds holds' e
+kept_same (Ok u) holds holds' h = tt
+kept_same (Err Memory) holds holds' h = h
+kept_same (Err Usage) holds holds' h = h
+kept_same (Err (Param x y)) holds holds' h = h
+kept_same (Err (Layout x)) holds holds' h = h
+kept_same (Err (Short x y)) holds holds' h = h
+kept_same (Err ScriptFault) holds holds' h = h
+kept_same (Err ImageFault) holds holds' h = tt
+kept_same (Err SinkFault) holds holds' h = h
+kept_same (Err TooLong) holds holds' h = h
+kept_same (Err (BadLine x)) holds holds' h = h
+kept_same (Err (Refused x y)) holds holds' h = h
+
+-- the work of the command that was read
+pub arm_done : (c k : ReadRamCommand) (layout : ReadLayout) (a b : Outside) (e : End) → c ≡ k
+    → WorkDone (Ok (OfRam (plan_for (ram_command_seen k) layout))) a b e
+    → WorkDone (Ok (OfRam (plan_for (ram_command_seen c) layout))) a b e
+arm_done c k layout a b e is h = rw is h
+
+-- the work of the plan that was read
+pub plan_done : (r : Result Plan Stop) (plan : Plan) (a b : Outside) (e : End) → r ≡ Ok plan → WorkDone (Ok plan) a b e
+    → WorkDone r a b e
+plan_done r plan a b e is h = rw is h
+
+-- no plan was read
+pub none_done : (r : Result Plan Stop) (s : Stop) (a b : Outside) → PlanStop s r → IsNoFault s → Nothing a b
+    → b.sink_faults ≡ a.sink_faults → WorkDone r a b (Err s)
+none_done r s a b h n same sink = record {
+  later = record {
+    source = omega (arith, same.script.source);
+    store = omega (arith, same.image.store);
+    sink = omega (arith, sink);
+  };
+  caused = no_fault_caused s a.source_faults b.source_faults a.store_faults b.store_faults a.sink_faults
+      b.sink_faults n;
+  kept = λ w. kept_same (Err s) a.holds b.holds same.image.holds;
+  ended = plan_stopped r s a b h same;
+}
 
 -- the layout was shown
-pub layout_shown : (plan : Plan) (e : End) (a b : Outside) → plan.command ≡ ShowLayout → NoScript a b → NoImage a b
-    → IsAmong (statuses ShowLayout) (status_of e)
+pub layout_shown : (plan : RamPlan) (e : End) (a b : Outside) → plan.command ≡ ShowLayout → NoScript a b → NoImage a b
+    → IsAmong (statuses (OnRam ShowLayout)) (status_of e)
     → EndedAt (shows (layout_text plan.params plan.zones ∷ [])) a.given b.given a.holds a.holds e
-    → PlanEnds plan.command plan a b e
+    → RamEnds plan.command plan a b e
 layout_shown plan e a b is script image can ended = rw is (record {
   can = can;
   whole = rw image.holds ended;
@@ -63,10 +99,10 @@ blank_written w (Err TooLong) a b h none same wrote done = tt
 blank_written w (Err (BadLine x)) a b h none same wrote done = tt
 blank_written w (Err (Refused x y)) a b h none same wrote done = tt
 
-pub blank_left : (plan : Plan) (mem : ℕ) (e : End) (a b : Outside) → mem ≡ mem_of plan → plan.command ≡ BlankImage
-    → NoScript a b → b.given ≡ a.given → IsAmong (statuses BlankImage) (status_of e)
+pub blank_left : (plan : RamPlan) (mem : ℕ) (e : End) (a b : Outside) → mem ≡ mem_of plan → plan.command ≡ BlankImage
+    → NoScript a b → b.given ≡ a.given → IsAmong (statuses (OnRam BlankImage)) (status_of e)
     → EndedAt (leaves (replicate mem 0)) a.given a.given a.holds b.holds e
-    → (e ≡ Err ImageFault → WritesFront a.holds b.holds 0 (replicate mem 0)) → PlanEnds plan.command plan a b e
+    → (e ≡ Err ImageFault → WritesFront a.holds b.holds 0 (replicate mem 0)) → RamEnds plan.command plan a b e
 blank_left plan mem e a b same is script given can ended wrote =
     let whole : Ended (leaves (replicate (mem_of plan) 0)) a b e = rw (given, ← same) ended in
     rw is (record {
@@ -77,10 +113,3 @@ blank_left plan mem e a b same is script given can ended wrote =
           (λ f. rw (← same) (wrote f)) refl;
       text_first = inr ([], rw given (nothing_put a.given));
     })
-
--- an image was made
-pub image_made : (c : ReadCommand) (n : ℕ) (layout : ReadLayout) (e : End) (a b : Outside) → c ≡ Make n
-    → MakeEnds (plan_for (MakeImage n) layout) a b e → PlanEnds (command_seen c) (plan_for (command_seen c) layout)
-    a b e
-image_made c n layout e a b is ended = subst (λ (d : ReadCommand). PlanEnds (command_seen d)
-    (plan_for (command_seen d) layout) a b e) (sym is) ended

@@ -2,4 +2,4 @@ pub mod Plans
 pub mod Stores
 pub mod Records
 pub mod Headline
-pub mod BlkEnds
+pub mod Runs

@@ -1,8 +1,9 @@
 // A script on the block store.
+ghost use Rattle.std.specs.Prelude.{Ok};
 ghost use Rattle.blk_spec.specs.Layout.{IsLayout};
-ghost use Rattle.tool_spec.specs.Answers.{outside, Later};
-ghost use Rattle.tool_frame.specs.Ended.{Caused};
-ghost use Rattle.image_tool.specs.BlkEnds.{BlkEnds};
+ghost use Rattle.tool_spec.specs.Commands.{OfBlk};
+ghost use Rattle.tool_spec.specs.Answers.{outside};
+ghost use Rattle.tool_frame.specs.Ended.{WorkDone};
 
 use blk_params::BlkLayout;
 use blk_session::play;
@@ -19,21 +20,11 @@ pub fn run_blk_script<S: Source, M: Store, O: Sink>(
     out: &mut O,
 ) -> Result<(), Stop>
     requires { IsLayout layout }
-    ensures later { Later
-        (outside (S.left script.old) (S.faults script.old)
-        (M.holds image.old) (M.faults image.old) (O.given out.old) (O.faults out.old))
-        (outside (S.left script.new) (S.faults script.new)
-        (M.holds image.new) (M.faults image.new) (O.given out.new) (O.faults out.new)) }
-    ensures caused { Caused
-        (outside (S.left script.old) (S.faults script.old)
-        (M.holds image.old) (M.faults image.old) (O.given out.old) (O.faults out.old))
-        (outside (S.left script.new) (S.faults script.new)
-        (M.holds image.new) (M.faults image.new) (O.given out.new) (O.faults out.new)) result }
-    ensures ended { BlkEnds layout
-        (outside (S.left script.old) (S.faults script.old)
-        (M.holds image.old) (M.faults image.old) (O.given out.old) (O.faults out.old))
-        (outside (S.left script.new) (S.faults script.new)
-        (M.holds image.new) (M.faults image.new) (O.given out.new) (O.faults out.new)) result }
+    ensures { let before = outside (S.left script.old) (S.faults script.old) (M.holds image.old)
+        (M.faults image.old) (O.given out.old) (O.faults out.old) in
+        let after = outside (S.left script.new) (S.faults script.new) (M.holds image.new)
+        (M.faults image.new) (O.given out.new) (O.faults out.new) in
+        WorkDone (Ok (OfBlk layout)) before after result }
 {
     match check_size(image, layout.total) {
         Ok(()) => {}

@@ -2,7 +2,6 @@
 #![tactic(auto)]
 
 mod blk_script;
-mod blk_words;
 mod images;
 mod layout_text;
 mod making;

@@ -1,9 +1,9 @@
 // A script on an image.
-ghost use Rattle.std.specs.Prelude.{◌≡◌};
-ghost use Rattle.tool_spec.specs.Commands.{RunScript};
-ghost use Rattle.tool_spec.specs.Answers.{outside, Later};
-ghost use Rattle.tool_frame.specs.Ended.{Caused, KeptAt, RunEnds};
-ghost use Rattle.image_tool.specs.Plans.{plan_for};
+ghost use Rattle.std.specs.Prelude.{Ok};
+ghost use Rattle.tool_spec.specs.Commands.{RunScript, OfRam};
+ghost use Rattle.tool_spec.specs.Answers.{outside};
+ghost use Rattle.tool_frame.specs.Words.{plan_for};
+ghost use Rattle.tool_frame.specs.Ended.{WorkDone};
 
 use crate::stores::fresh_store;
 use box_io::{Failed, Sink, Source, Store};
@@ -20,19 +20,11 @@ pub fn run_script<S: Source, M: Store, O: Sink>(
     image: &mut M,
     out: &mut O,
 ) -> Result<(), Stop>
-    ensures later { Later (outside (S.left script.old) (S.faults script.old) (M.holds image.old) (M.faults image.old)
-        (O.given out.old) (O.faults out.old))
-        (outside (S.left script.new) (S.faults script.new) (M.holds image.new) (M.faults image.new) (O.given out.new)
-        (O.faults out.new)) }
-    ensures caused { Caused (outside (S.left script.old) (S.faults script.old) (M.holds image.old)
-        (M.faults image.old) (O.given out.old) (O.faults out.old))
-        (outside (S.left script.new) (S.faults script.new) (M.holds image.new) (M.faults image.new) (O.given out.new)
-        (O.faults out.new)) result }
-    ensures kept { KeptAt (M.holds image.old) (M.holds image.new) result }
-    ensures ended { RunEnds (plan_for RunScript layout) (outside (S.left script.old) (S.faults script.old)
-        (M.holds image.old) (M.faults image.old) (O.given out.old) (O.faults out.old))
-        (outside (S.left script.new) (S.faults script.new) (M.holds image.new) (M.faults image.new) (O.given out.new)
-        (O.faults out.new)) result }
+    ensures { let before = outside (S.left script.old) (S.faults script.old) (M.holds image.old)
+        (M.faults image.old) (O.given out.old) (O.faults out.old) in
+        let after = outside (S.left script.new) (S.faults script.new) (M.holds image.new)
+        (M.faults image.new) (O.given out.new) (O.faults out.new) in
+        WorkDone (Ok (OfRam (plan_for RunScript layout))) before after result }
 {
     let bytes = match load(alloc, image, layout.mem()) {
         Ok(bytes) => bytes,

@@ -2,8 +2,9 @@
 use Rattle.std.proofs.Common.{◌≡◌, ℕ, ◌<◌, ◌≤◌, List, [], length, take, Option, Err, IfSome, refl, sym, ◌∙◌, arith, inl, true, false, true≢false, nat_lt}
 use Rattle.std.proofs.lemmas.Bool.Decides.{nat_tests}
 use Rattle.tool_spec.specs.Ends.{End}
-use Rattle.tool_spec.specs.Commands.{Command, RunScript, ListRecords, ExtractRecord, EraseRecord, ShowLayout, BlankImage, MakeImage, Plan, wanted, wanted_of, reads_image, mem_of, stops}
-use Rattle.tool_spec.specs.Answers.{Outside, IfHolds, statuses, IsAmong}
+use Rattle.tool_spec.specs.Commands.{RamCommand, RunScript, ListRecords, ExtractRecord, EraseRecord, ShowLayout, BlankImage, MakeImage, OnRam, RamPlan, wanted, wanted_of, reads_image, mem_of, stops}
+use Rattle.tool_spec.specs.Answers.{Outside, IfHolds}
+use Rattle.tool_spec.specs.PlanAnswers.{statuses, IsAmong}
 use Rattle.tool_spec.specs.declared.Stop.{Stop}
 use Rattle.tool_spec.specs.declared.Stop.TheVariants.{Memory, Usage, Param, Layout, Short, ScriptFault, ImageFault, SinkFault, TooLong, BadLine, Refused}
 use Rattle.tool_frame.specs.Stages.{LoadStop}
@@ -16,16 +17,16 @@ nat_lt-true h = grind (arith, nat_tests)
 nat_lt-false : {a b : ℕ} → b ≤ a → nat_lt a b ≡ false
 nat_lt-false h = grind (arith, nat_tests)
 
-short_wanted : (plan : Plan) (c : Command) (bytes : List ℕ) → plan.command ≡ c → reads_image c ≡ true
+short_wanted : (plan : RamPlan) (c : RamCommand) (bytes : List ℕ) → plan.command ≡ c → reads_image c ≡ true
     → length bytes < mem_of plan → wanted plan bytes [] ≡ stops (Short (length bytes) (mem_of plan))
 short_wanted plan c bytes is reads h = rw (is, reads, nat_lt-true h) refl
 
-image_wanted : (plan : Plan) (c : Command) (bytes : List ℕ) → plan.command ≡ c → reads_image c ≡ true
+image_wanted : (plan : RamPlan) (c : RamCommand) (bytes : List ℕ) → plan.command ≡ c → reads_image c ≡ true
     → mem_of plan ≤ length bytes → wanted plan bytes [] ≡ wanted_of plan.params plan.zones (take (mem_of plan) bytes)
     [] c
 image_wanted plan c bytes is reads h = rw (is, reads, nat_lt-false h) refl
 
-stop_short : (plan : Plan) (c : Command) (a b : Outside) (has needed : ℕ) → plan.command ≡ c → reads_image c ≡ true
+stop_short : (plan : RamPlan) (c : RamCommand) (a b : Outside) (has needed : ℕ) → plan.command ≡ c → reads_image c ≡ true
     → Quiet a b → (needed ≡ mem_of plan) × (has < mem_of plan) × IfSome a.holds (λ bs. has ≡ length bs)
     → IfHolds a (λ bytes. Ended (wanted plan bytes []) a b (Err (Short has needed)))
 stop_short plan c a b has needed is reads q h = record {
@@ -37,7 +38,7 @@ stop_short plan c a b has needed is reads q h = record {
 }
 
 -- the image was not read
-pub image_stopped : (plan : Plan) (c : Command) (a b : Outside) (s : Stop) (f g : ℕ) → plan.command ≡ c
+pub image_stopped : (plan : RamPlan) (c : RamCommand) (a b : Outside) (s : Stop) (f g : ℕ) → plan.command ≡ c
     → reads_image c ≡ true → Quiet a b → LoadStop s (mem_of plan) a.holds f g
     → IfHolds a (λ bytes. Ended (wanted plan bytes []) a b (Err s))
 image_stopped plan c a b Memory f g is reads q h = record
@@ -54,8 +55,8 @@ image_stopped plan c a b (BadLine x) f g is reads q h = absurd h
 image_stopped plan c a b (Refused x y) f g is reads q h = absurd h
 
 -- a command that reads the image can want memory, find it too short, and fail to read it
-can_read : (c : Command) → reads_image c ≡ true
-    → IsAmong (statuses c) 1 × IsAmong (statuses c) 4 × IsAmong (statuses c) 6
+can_read : (c : RamCommand) → reads_image c ≡ true
+    → IsAmong (statuses (OnRam c)) 1 × IsAmong (statuses (OnRam c)) 4 × IsAmong (statuses (OnRam c)) 6
 can_read RunScript reads = (refl, refl, refl)
 can_read ListRecords reads = (refl, refl, refl)
 can_read (ExtractRecord name) reads = (refl, refl, refl)
@@ -64,7 +65,7 @@ can_read ShowLayout reads = absurd (true≢false (sym reads))
 can_read BlankImage reads = absurd (true≢false (sym reads))
 can_read (MakeImage n) reads = absurd (true≢false (sym reads))
 
-pub load_can : (plan : Plan) (c : Command) (s : Stop) (mem : ℕ) (holds : Option (List ℕ)) (f g : ℕ)
+pub load_can : (plan : RamPlan) (c : RamCommand) (s : Stop) (mem : ℕ) (holds : Option (List ℕ)) (f g : ℕ)
     → plan.command ≡ c → reads_image c ≡ true → LoadStop s mem holds f g → CanEnd plan (Err s)
 load_can plan c Memory mem holds f g is reads h = rw is ((can_read c reads).0)
 load_can plan c (Short x y) mem holds f g is reads h = rw is ((can_read c reads).1)
@@ -79,7 +80,7 @@ load_can plan c (BadLine x) mem holds f g is reads h = absurd h
 load_can plan c (Refused x y) mem holds f g is reads h = absurd h
 
 -- the image was read, and what is wanted of it was done
-pub image_done : (plan : Plan) (c : Command) (a b : Outside) (image : List ℕ) (e : End) → plan.command ≡ c
+pub image_done : (plan : RamPlan) (c : RamCommand) (a b : Outside) (image : List ℕ) (e : End) → plan.command ≡ c
     → reads_image c ≡ true → IfSome a.holds (λ bs. (mem_of plan ≤ length bs) × (image ≡ take (mem_of plan) bs))
     → Ended (wanted_of plan.params plan.zones image [] c) a b e
     → IfHolds a (λ bytes. Ended (wanted plan bytes []) a b e)

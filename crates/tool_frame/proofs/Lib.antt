@@ -8,3 +8,6 @@ pub mod ReadParts
 pub mod Tool
 pub mod Few
 pub mod Sizes
+pub mod BlkScript
+pub mod BlkAnswered
+pub mod AnyWords

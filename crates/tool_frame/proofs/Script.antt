@@ -10,7 +10,7 @@ use Rattle.grammar_spec.specs.Lines.{script_of}
 use Rattle.grammar_spec.specs.declared.line.Line.{Line}
 use Rattle.tool_spec.specs.Ends.{End}
 use Rattle.tool_spec.specs.Scripts.{ran}
-use Rattle.tool_spec.specs.Commands.{RunScript, Plan, Wanted, wanted, wanted_run, wanted_script, wanted_lines, mem_of, stops, script_limit}
+use Rattle.tool_spec.specs.Commands.{RunScript, RamPlan, Wanted, wanted, wanted_run, wanted_script, wanted_lines, mem_of, stops, script_limit}
 use Rattle.tool_spec.specs.Answers.{Outside, NoScript}
 use Rattle.tool_spec.specs.declared.Stop.{Stop}
 use Rattle.tool_spec.specs.declared.Stop.TheVariants.{Memory, Usage, Param, Layout, Short, ScriptFault, ImageFault, SinkFault, TooLong, BadLine, Refused}
@@ -29,11 +29,11 @@ nat_lt-false h = grind (arith, nat_tests)
 
 -- ---- what is wanted
 
-short_wanted : (plan : Plan) (bytes script : List ℕ) → plan.command ≡ RunScript → length bytes < mem_of plan
+short_wanted : (plan : RamPlan) (bytes script : List ℕ) → plan.command ≡ RunScript → length bytes < mem_of plan
     → wanted plan bytes script ≡ stops (Short (length bytes) (mem_of plan))
 short_wanted plan bytes script is h = rw (is, nat_lt-true h) refl
 
-pub run_wanted : (plan : Plan) (bytes script : List ℕ) → plan.command ≡ RunScript → mem_of plan ≤ length bytes
+pub run_wanted : (plan : RamPlan) (bytes script : List ℕ) → plan.command ≡ RunScript → mem_of plan ≤ length bytes
     → wanted plan bytes script ≡ wanted_run plan.zones (take (mem_of plan) bytes) script
 run_wanted plan bytes script is h = rw (is, nat_lt-false h) refl
 
@@ -53,16 +53,16 @@ pub record Quiet (a b : Outside) : Type 0 where
   pub holds : b.holds ≡ a.holds
 
 -- an image that was read
-pub record Loaded (plan : Plan) (a : Outside) (image : List ℕ) : Type 0 where
+pub record Loaded (plan : RamPlan) (a : Outside) (image : List ℕ) : Type 0 where
   pub is : plan.command ≡ RunScript
   pub read : IfSome a.holds (λ bs. (mem_of plan ≤ length bs) × (image ≡ take (mem_of plan) bs))
 
-loaded_of : (plan : Plan) (a : Outside) (image bytes : List ℕ) → Loaded plan a image → a.holds ≡ Some bytes
+loaded_of : (plan : RamPlan) (a : Outside) (image bytes : List ℕ) → Loaded plan a image → a.holds ≡ Some bytes
     → (mem_of plan ≤ length bytes) × (image ≡ take (mem_of plan) bytes)
 loaded_of plan a image bytes l t = rw t at l.read
 
 -- the image has room for what is read of it
-room_in : (plan : Plan) (a : Outside) (image : List ℕ) → Loaded plan a image
+room_in : (plan : RamPlan) (a : Outside) (image : List ℕ) → Loaded plan a image
     → IfSome a.holds (λ bs. mem_of plan ≤ length bs)
 room_in plan a image l = by (mem_of plan) a.holds l.read
   where
@@ -72,7 +72,7 @@ room_in plan a image l = by (mem_of plan) a.holds l.read
     by mem (Some bs) h = h.0
 
 -- what is wanted of the lines that were read
-lines_wanted : (plan : Plan) (a b : Outside) (image text bytes script : List ℕ) (lines : List Line)
+lines_wanted : (plan : RamPlan) (a b : Outside) (image text bytes script : List ℕ) (lines : List Line)
     → Loaded plan a image → Read a b text → script_of text ≡ Ok lines → a.holds ≡ Some bytes → a.left ≡ Some script
     → wanted plan bytes script ≡ wanted_lines (ran plan.zones image lines)
 lines_wanted plan a b image text bytes script lines l r e t s =
@@ -93,7 +93,7 @@ ended_as w v a b e same h = rw same h
 
 -- ---- stops
 
-stop_short : (plan : Plan) (a b : Outside) (has needed : ℕ) → plan.command ≡ RunScript → NoScript a b
+stop_short : (plan : RamPlan) (a b : Outside) (has needed : ℕ) → plan.command ≡ RunScript → NoScript a b
     → Quiet a b → (needed ≡ mem_of plan) × (has < mem_of plan) × IfSome a.holds (λ bs. has ≡ length bs)
     → RunEnds plan a b (Err (Short has needed))
 stop_short plan a b has needed is none q h = record {
@@ -108,7 +108,7 @@ stop_short plan a b has needed is none q h = record {
   read = unread_short (mem_of plan) a b has needed none q.given h;
 }
 
-pub load_stopped : (plan : Plan) (a b : Outside) (s : Stop) (f g : ℕ) → plan.command ≡ RunScript → NoScript a b
+pub load_stopped : (plan : RamPlan) (a b : Outside) (s : Stop) (f g : ℕ) → plan.command ≡ RunScript → NoScript a b
     → Quiet a b → LoadStop s (mem_of plan) a.holds f g → RunEnds plan a b (Err s)
 load_stopped plan a b Memory f g is none q h = record {
   can = rw is refl;
@@ -131,7 +131,7 @@ load_stopped plan a b (BadLine x) f g is none q h = absurd h
 load_stopped plan a b (Refused x y) f g is none q h = absurd h
 
 -- what follows was done on an image that was read
-module _ (plan : Plan) (a b : Outside) (image : List ℕ) (l : Loaded plan a image) where
+module _ (plan : RamPlan) (a b : Outside) (image : List ℕ) (l : Loaded plan a image) where
   room : IfSome a.holds (λ bs. mem_of plan ≤ length bs)
   room = room_in plan a image l
 

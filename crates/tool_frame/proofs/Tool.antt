@@ -4,12 +4,11 @@ use Rattle.std.specs.Io.KnownBytes.{Appends, IsAtEnd}
 use Rattle.grammar_spec.specs.Lines.{script_of}
 use Rattle.grammar_spec.specs.Fields.{Text}
 use Rattle.tool_spec.specs.Ends.{End, status_of, last_line}
-use Rattle.tool_spec.specs.Commands.{Command, RunScript, ListRecords, ExtractRecord, EraseRecord, ShowLayout, BlankImage, MakeImage, Plan, Wanted, wanted, mem_of, script_limit}
-use Rattle.tool_spec.specs.Answers.{Outside, NoScript, NoImage, RoseFor, PutsAll, IsFree, SavedInPart, ShortAnswers, ScriptAnswers, ScriptUse, ScriptRead, RunAnswers, MakeAnswers, PlanAnswers, FaultAnswers, ToolAnswers, whole, statuses, IsAmong}
+use Rattle.tool_spec.specs.Commands.{RamCommand, RunScript, ListRecords, ExtractRecord, EraseRecord, ShowLayout, BlankImage, MakeImage, RamPlan, Wanted, wanted, mem_of, script_limit}
+use Rattle.tool_spec.specs.Answers.{Outside, NoScript, NoImage, RoseFor, PutsAll, IsFree, SavedInPart, ShortAnswers, ScriptAnswers, ScriptUse, ScriptRead, RunAnswers, MakeAnswers, whole}
+use Rattle.tool_spec.specs.PlanAnswers.{RamAnswers}
 use Rattle.tool_frame.specs.Ends.{LastPut, Finished}
-use Rattle.tool_frame.specs.Words.{PlanStop}
-use Rattle.tool_frame.specs.Ended.{PutTexts, Ended, Caused, ShortAt, ScriptAt, UseAt, ScriptEnds, CanEnd, RunEnds, WrittenAt, MakeEnds, PlanEnds, Nothing, WorkEnds}
-use Rattle.tool_frame.proofs.ReadParts.{unread_memory}
+use Rattle.tool_frame.specs.Ended.{PutTexts, Ended, Caused, ShortAt, ScriptAt, UseAt, ScriptEnds, RunEnds, WrittenAt, MakeEnds, RamEnds}
 use Rattle.tool_frame.proofs.Answered.{GoesOn, rose_on, sink_rose, saved_in_part, answers, appends_on, nothing_put}
 use Rattle.tool_spec.specs.declared.Stop.{Stop}
 use Rattle.tool_spec.specs.declared.Stop.TheVariants.{Memory, Usage, Param, Layout, Short, ScriptFault, ImageFault, SinkFault, TooLong, BadLine, Refused}
@@ -335,7 +334,7 @@ module _ (a m b : Outside) (on : GoesOn a m b) (status : ℕ) where
     used = use_at e c h.used f;
   }
 
-  run_answers : (plan : Plan) (e : End) → Caused a m e → RunEnds plan a m e
+  run_answers : (plan : RamPlan) (e : End) → Caused a m e → RunEnds plan a m e
       → Finished e m.given b.given m.sink_faults b.sink_faults status → RunAnswers plan a b status
   run_answers plan e c h f = record {
     whole = record { told = λ bytes text t l. answers a m b on _ status e c (h.whole.told bytes text t l) f };
@@ -405,7 +404,7 @@ module _ (a m b : Outside) (on : GoesOn a m b) (status : ℕ) where
   written_at w (Err (BadLine x)) c h f = not_six w 9 (λ z. absurd (omega arith)) (put_status (BadLine x) f)
   written_at w (Err (Refused x y)) c h f = not_six w 10 (λ z. absurd (omega arith)) (put_status (Refused x y) f)
 
-  make_answers : (plan : Plan) (e : End) → Caused a m e → MakeEnds plan a m e
+  make_answers : (plan : RamPlan) (e : End) → Caused a m e → MakeEnds plan a m e
       → Finished e m.given b.given m.sink_faults b.sink_faults status → MakeAnswers plan a b status
   make_answers plan e c h f = record {
     whole = answers a m b on _ status e c h.whole f;
@@ -414,211 +413,32 @@ module _ (a m b : Outside) (on : GoesOn a m b) (status : ℕ) where
     text_first = text_on (wanted plan [] []) h.text_first (last_put e f);
   }
 
-  pub plan_answers : (k : Command) (plan : Plan) (e : End) → Caused a m e → PlanEnds k plan a m e
-      → Finished e m.given b.given m.sink_faults b.sink_faults status → PlanAnswers k plan a b status
-  plan_answers RunScript plan e c h f = run_answers plan e c h f
-  plan_answers ListRecords plan e c h f = record {
+  pub ram_answers : (k : RamCommand) (plan : RamPlan) (e : End) → Caused a m e → RamEnds k plan a m e
+      → Finished e m.given b.given m.sink_faults b.sink_faults status → RamAnswers k plan a b status
+  ram_answers RunScript plan e c h f = run_answers plan e c h f
+  ram_answers ListRecords plan e c h f = record {
     whole = record { told = λ bytes t. answers a m b on _ status e c (h.whole.told bytes t) f };
     script = script_on a m b h.script on.script;
     image = on.image.holds ∙ h.image;
   }
-  plan_answers (ExtractRecord name) plan e c h f = record {
+  ram_answers (ExtractRecord name) plan e c h f = record {
     whole = record { told = λ bytes t. answers a m b on _ status e c (h.whole.told bytes t) f };
     script = script_on a m b h.script on.script;
     image = on.image.holds ∙ h.image;
   }
-  plan_answers (EraseRecord name) plan e c h f = record {
+  ram_answers (EraseRecord name) plan e c h f = record {
     whole = record { told = λ bytes t. answers a m b on _ status e c (h.whole.told bytes t) f };
     script = script_on a m b h.script on.script;
   }
-  plan_answers ShowLayout plan e c h f = record {
+  ram_answers ShowLayout plan e c h f = record {
     whole = answers a m b on _ status e c h.whole f;
     script = script_on a m b h.script on.script;
     image = image_on a m b h.image on.image;
   }
-  plan_answers BlankImage plan e c h f = make_answers plan e c h f
-  plan_answers (MakeImage n) plan e c h f = make_answers plan e c h f
-
--- ---- the statuses of a command
-
--- each can want memory, and fail to put its text
-can_want : (c : Command) → IsAmong (statuses c) 1
-can_want RunScript = refl
-can_want ListRecords = refl
-can_want (ExtractRecord name) = refl
-can_want (EraseRecord name) = refl
-can_want ShowLayout = refl
-can_want BlankImage = refl
-can_want (MakeImage n) = refl
-
-can_fail : (c : Command) → IsAmong (statuses c) 7
-can_fail RunScript = refl
-can_fail ListRecords = refl
-can_fail (ExtractRecord name) = refl
-can_fail (EraseRecord name) = refl
-can_fail ShowLayout = refl
-can_fail BlankImage = refl
-can_fail (MakeImage n) = refl
-
-can_end : (c : Command) (plan : Plan) (a b : Outside) (e : End) → PlanEnds c plan a b e → CanEnd plan e
-can_end RunScript plan a b e h = h.can
-can_end ListRecords plan a b e h = h.can
-can_end (ExtractRecord name) plan a b e h = h.can
-can_end (EraseRecord name) plan a b e h = h.can
-can_end ShowLayout plan a b e h = h.can
-can_end BlankImage plan a b e h = h.can
-can_end (MakeImage n) plan a b e h = h.can
-
--- the status of an end, or 7
-among : {A : Type 0} (all : List ℕ) (n status : ℕ) → IsAmong all n → IsAmong all 7 → (status ≡ n) ⊎ ((status ≡ 7) × A)
-    → IsAmong all status
-among all n status h k (inl is) = rw is h
-among all n status h k (inr is) = rw is.0 k
-
-fault_put : (s : Stop) (a m b : Outside) (status : ℕ) → NoScript a b → NoImage a b → m.given ≡ a.given
-    → LastPut s m.given b.given m.sink_faults b.sink_faults status → status_of (Err s) ≢ 7 → FaultAnswers s a b status
-fault_put s a m b status script image given f seven = elim f.shown [
-  | inl k ↦ record {
-    exact = inl k.0;
-    shown = λ z. rw given at k.1;
-    sink_fault = λ z. absurd (seven (sym k.0 ∙ z));
-    script = script;
-    image = image;
-  }
-  | inr k ↦ record {
-    exact = inr k.0;
-    shown = λ z. absurd (z k.0);
-    sink_fault = λ z. rw given at k.2;
-    script = script;
-    image = image;
-  }
-]
-
-pub fault_answers : (s : Stop) (a m b : Outside) (status : ℕ) → NoScript a b → NoImage a b → m.given ≡ a.given
-    → Finished (Err s) m.given b.given m.sink_faults b.sink_faults status → FaultAnswers s a b status
-fault_answers Memory a m b status script image given f =
-    fault_put Memory a m b status script image given f (λ z. absurd (omega arith))
-fault_answers Usage a m b status script image given f =
-    fault_put Usage a m b status script image given f (λ z. absurd (omega arith))
-fault_answers (Param x y) a m b status script image given f =
-    fault_put (Param x y) a m b status script image given f (λ z. absurd (omega arith))
-fault_answers (Layout x) a m b status script image given f =
-    fault_put (Layout x) a m b status script image given f (λ z. absurd (omega arith))
-fault_answers (Short x y) a m b status script image given f =
-    fault_put (Short x y) a m b status script image given f (λ z. absurd (omega arith))
-fault_answers ScriptFault a m b status script image given f =
-    fault_put ScriptFault a m b status script image given f (λ z. absurd (omega arith))
-fault_answers ImageFault a m b status script image given f =
-    fault_put ImageFault a m b status script image given f (λ z. absurd (omega arith))
-fault_answers TooLong a m b status script image given f =
-    fault_put TooLong a m b status script image given f (λ z. absurd (omega arith))
-fault_answers (BadLine x) a m b status script image given f =
-    fault_put (BadLine x) a m b status script image given f (λ z. absurd (omega arith))
-fault_answers (Refused x y) a m b status script image given f =
-    fault_put (Refused x y) a m b status script image given f (λ z. absurd (omega arith))
-fault_answers SinkFault a m b status script image given f =
-    let same : b.given ≡ a.given = f.same ∙ given in
-    record {
-      exact = inr f.answer;
-      shown = λ z. absurd (z f.answer);
-      sink_fault = λ z. record { count = 0; within = omega arith; bytes = rw same (nothing_put a.given) };
-      script =
-          script;
-      image = image;
-    }
-
-pub tool_answers : (r : Result Plan Stop) (a m b : Outside) (e : End) (status : ℕ) → GoesOn a m b → Caused a m e
-    → WorkEnds r a m e → Finished e m.given b.given m.sink_faults b.sink_faults status → ToolAnswers r a b status
-tool_answers (Ok p) a m b e status on c h f = (
-  plan_answers a m b on status p.command p e c h f,
-  among (statuses p.command) (status_of e) status (can_end p.command p a m e h) (can_fail p.command)
-      (status_is a m b on status e c f),
-)
-tool_answers (Err s) a m b e status on c h f =
-    fault_answers s a m b status (script_on a m b h.1.script on.script) (image_on a m b h.1.image on.image) h.1.given
-    (rw h.0 at f)
+  ram_answers BlankImage plan e c h f = make_answers plan e c h f
+  ram_answers (MakeImage n) plan e c h f = make_answers plan e c h f
 
 -- ---- work that nothing has come of
 
 pub no_texts : (w : Wanted) (given : Option (List ℕ)) → PutTexts w.texts given given
 no_texts w given = record { count = 0; bytes = nothing_put given }
-
-pub out_of_memory : (w : Wanted) (a b : Outside) → Nothing a b → Ended w a b (Err Memory)
-out_of_memory w a b h = (rw h.given (no_texts w a.given), h.image.holds)
-
--- out of memory before anything was touched
-pub memory_ends : (c : Command) (plan : Plan) (a b : Outside) → Nothing a b → PlanEnds c plan a b (Err Memory)
-memory_ends RunScript plan a b h = record {
-  can = can_want plan.command;
-  whole = record { told = λ bytes script t l. out_of_memory (wanted plan bytes script) a b h };
-  read = unread_memory (mem_of plan) a b h.script;
-}
-memory_ends ListRecords plan a b h = record {
-  can = can_want plan.command;
-  whole = record { told = λ bytes t. out_of_memory (wanted plan bytes []) a b h };
-  script = h.script;
-  image = h.image.holds;
-}
-memory_ends (ExtractRecord name) plan a b h = record {
-  can = can_want plan.command;
-  whole = record { told = λ bytes t. out_of_memory (wanted plan bytes []) a b h };
-  script = h.script;
-  image = h.image.holds;
-}
-memory_ends (EraseRecord name) plan a b h = record {
-  can = can_want plan.command;
-  whole = record { told = λ bytes t. out_of_memory (wanted plan bytes []) a b h };
-  script = h.script;
-}
-memory_ends ShowLayout plan a b h = record {
-  can = can_want plan.command;
-  whole = out_of_memory (wanted plan [] []) a b h;
-  script = h.script;
-  image = h.image;
-}
-memory_ends BlankImage plan a b h = record {
-  can = can_want plan.command;
-  whole = out_of_memory (wanted plan [] []) a b h;
-  script = h.script;
-  image_fault = tt;
-  text_first = inl h.image;
-}
-memory_ends (MakeImage n) plan a b h = record {
-  can = can_want plan.command;
-  whole = out_of_memory (wanted plan [] []) a b h;
-  script = h.script;
-  image_fault = tt;
-  text_first = inl h.image;
-}
-
-clash : {A B : Type 0} {x : A} {y : B} → Ok x ≡ Err y → ⊥
-clash e = cc
-
-same_stop : (f s : Stop) → (let r : Result Plan Stop = Err f in r) ≡ Err s → (let e : End = Err s in e) ≡ Err f
-same_stop f s e = let same : s ≡ f = cc in ap (λ x. Err x) same
-
--- words of which no plan was read
-pub plan_stopped : (r : Result Plan Stop) (s : Stop) (a b : Outside) → PlanStop s r → Nothing a b
-    → WorkEnds r a b (Err s)
-plan_stopped (Ok plan) Memory a b h n = memory_ends plan.command plan a b n
-plan_stopped (Ok plan) Usage a b h n = absurd (clash h)
-plan_stopped (Ok plan) (Param x y) a b h n = absurd (clash h)
-plan_stopped (Ok plan) (Layout x) a b h n = absurd (clash h)
-plan_stopped (Ok plan) (Short x y) a b h n = absurd (clash h)
-plan_stopped (Ok plan) ScriptFault a b h n = absurd (clash h)
-plan_stopped (Ok plan) ImageFault a b h n = absurd (clash h)
-plan_stopped (Ok plan) SinkFault a b h n = absurd (clash h)
-plan_stopped (Ok plan) TooLong a b h n = absurd (clash h)
-plan_stopped (Ok plan) (BadLine x) a b h n = absurd (clash h)
-plan_stopped (Ok plan) (Refused x y) a b h n = absurd (clash h)
-plan_stopped (Err f) Memory a b h n = let no_plan : false ≡ true = h in cc
-plan_stopped (Err f) Usage a b h n = (same_stop f _ h, n)
-plan_stopped (Err f) (Param x y) a b h n = (same_stop f _ h, n)
-plan_stopped (Err f) (Layout x) a b h n = (same_stop f _ h, n)
-plan_stopped (Err f) (Short x y) a b h n = (same_stop f _ h, n)
-plan_stopped (Err f) ScriptFault a b h n = (same_stop f _ h, n)
-plan_stopped (Err f) ImageFault a b h n = (same_stop f _ h, n)
-plan_stopped (Err f) SinkFault a b h n = (same_stop f _ h, n)
-plan_stopped (Err f) TooLong a b h n = (same_stop f _ h, n)
-plan_stopped (Err f) (BadLine x) a b h n = (same_stop f _ h, n)
-plan_stopped (Err f) (Refused x y) a b h n = (same_stop f _ h, n)

@@ -2,13 +2,17 @@
 use Rattle.std.specs.Prelude.{◌≡◌, ◌⊎◌, ⊤, ℕ, ◌≤◌, ◌<◌, List, [], length, Option, Result, Ok, Err, IsOk}
 use Rattle.std.specs.Io.KnownBytes.{Appends, IsAtEnd}
 use Rattle.box_io.specs.Outside.{Rose, AppendsFront}
+use Rattle.blk_spec.specs.declared.BlkLayout.{BlkLayout}
 use Rattle.grammar_spec.specs.Fields.{Text}
 use Rattle.grammar_spec.specs.Lines.{script_of}
+use Rattle.grammar_spec.specs.declared.line.Line.{Line}
 use Rattle.tool_spec.specs.Ends.{End, status_of}
-use Rattle.tool_spec.specs.Commands.{Command, RunScript, ListRecords, ExtractRecord, EraseRecord, ShowLayout, BlankImage, MakeImage, Plan, Wanted, wanted, mem_of, script_limit}
-use Rattle.tool_spec.specs.Answers.{Outside, IfHolds, IfLeft, IfTold, NoScript, NoImage, front, whole, WritesAll, WritesSome, PutsAll, statuses, IsAmong}
+use Rattle.tool_spec.specs.Commands.{RamCommand, RunScript, ListRecords, ExtractRecord, EraseRecord, ShowLayout, BlankImage, MakeImage, OnRam, RamPlan, Plan, OfRam, OfBlk, Wanted, wanted, mem_of, stops, script_limit}
+use Rattle.tool_spec.specs.Answers.{Outside, IfHolds, IfLeft, IfTold, NoScript, NoImage, Later, front, whole, WritesAll, WritesSome, PutsAll}
+use Rattle.tool_spec.specs.BlkAnswers.{blk_lines, BlkStop, AllDone}
+use Rattle.tool_spec.specs.PlanAnswers.{statuses, IsAmong, WritesLast}
 use Rattle.tool_spec.specs.declared.Stop.{Stop}
-use Rattle.tool_spec.specs.declared.Stop.TheVariants.{Memory, Short, ScriptFault, ImageFault, SinkFault, TooLong, BadLine, Refused}
+use Rattle.tool_spec.specs.declared.Stop.TheVariants.{Memory, Usage, Param, Layout, Short, ScriptFault, ImageFault, SinkFault, TooLong, BadLine, Refused}
 
 -- some first texts were put
 pub record PutTexts (texts : List Text) (old new : Option (List ℕ)) : Type 0 where
@@ -87,22 +91,22 @@ pub record ScriptEnds (mem : ℕ) (a b : Outside) (e : End) : Type 0 where
   pub script : IfLeft a (λ script. ScriptAt script e)
   pub used : UseAt a b e
 
--- an end whose status the command of a plan can answer
-abbrev pub CanEnd : Plan → End → Type 0
-CanEnd plan e = IsAmong (statuses plan.command) (status_of e)
+-- an end whose status the command can answer
+abbrev pub CanEnd : RamPlan → End → Type 0
+CanEnd plan e = IsAmong (statuses (OnRam plan.command)) (status_of e)
 
 -- how each command's work ends, as far as the outside tells what it uses
-pub record RunEnds (plan : Plan) (a b : Outside) (e : End) : Type 0 where
+pub record RunEnds (plan : RamPlan) (a b : Outside) (e : End) : Type 0 where
   pub can : CanEnd plan e
   pub whole : IfTold a (λ bytes script. Ended (wanted plan bytes script) a b e)
   pub read : ScriptEnds (mem_of plan) a b e
 
-pub record ImageEnds (plan : Plan) (a b : Outside) (e : End) : Type 0 where
+pub record ImageEnds (plan : RamPlan) (a b : Outside) (e : End) : Type 0 where
   pub can : CanEnd plan e
   pub whole : IfHolds a (λ bytes. Ended (wanted plan bytes []) a b e)
   pub script : NoScript a b
 
-pub record ReadEnds (plan : Plan) (a b : Outside) (e : End) : Type 0 where
+pub record ReadEnds (plan : RamPlan) (a b : Outside) (e : End) : Type 0 where
   pub can : CanEnd plan e
   pub whole : IfHolds a (λ bytes. Ended (wanted plan bytes []) a b e)
   pub script : NoScript a b
@@ -114,27 +118,69 @@ WrittenAt w a b (Err ImageFault) = (w.end ≡ Ok tt) × Appends a.given b.given 
     × WritesSome w.writes a.holds b.holds
 WrittenAt w a b e = ⊤
 
-pub record MakeEnds (plan : Plan) (a b : Outside) (e : End) : Type 0 where
+pub record MakeEnds (plan : RamPlan) (a b : Outside) (e : End) : Type 0 where
   pub can : CanEnd plan e
   pub whole : Ended (wanted plan [] []) a b e
   pub script : NoScript a b
   pub image_fault : WrittenAt (wanted plan [] []) a b e
   pub text_first : NoImage a b ⊎ PutsAll (wanted plan [] []) a b
 
-pub record ShowEnds (plan : Plan) (a b : Outside) (e : End) : Type 0 where
+pub record ShowEnds (plan : RamPlan) (a b : Outside) (e : End) : Type 0 where
   pub can : CanEnd plan e
   pub whole : Ended (wanted plan [] []) a b e
   pub script : NoScript a b
   pub image : NoImage a b
 
-abbrev pub PlanEnds : Command → Plan → Outside → Outside → End → Type 0
-PlanEnds RunScript plan a b e = RunEnds plan a b e
-PlanEnds ListRecords plan a b e = ReadEnds plan a b e
-PlanEnds (ExtractRecord name) plan a b e = ReadEnds plan a b e
-PlanEnds (EraseRecord name) plan a b e = ImageEnds plan a b e
-PlanEnds ShowLayout plan a b e = ShowEnds plan a b e
-PlanEnds BlankImage plan a b e = MakeEnds plan a b e
-PlanEnds (MakeImage n) plan a b e = MakeEnds plan a b e
+-- ---- a script on the block store
+
+-- good lines stopped for this cause, and their text was put
+pub record StoppedAt (stop : Stop) (layout : BlkLayout) (bytes : List ℕ) (lines : List Line)
+    (a b : Outside) : Type 0 where
+  pub text : Text
+  pub stops : BlkStop stop layout bytes lines text b.holds
+  pub put : Appends a.given b.given text
+
+abbrev pub LinesEnded : BlkLayout → List ℕ → List Line → Outside → Outside → End → Type 0
+LinesEnded layout bytes lines a b (Ok u) = AllDone layout bytes lines a.given b.given b.holds
+LinesEnded layout bytes lines a b (Err stop) = StoppedAt stop layout bytes lines a b
+
+-- the lines that are wanted, or what comes before the first
+abbrev pub LinesOrStopEnded : BlkLayout → List ℕ → Result (List Line) Stop → Outside → Outside → End → Type 0
+LinesOrStopEnded layout bytes (Ok lines) a b e = LinesEnded layout bytes lines a b e
+LinesOrStopEnded layout bytes (Err stop) a b e = Ended (stops stop) a b e
+
+-- the ends that there are; the store stays, but where lines were begun
+abbrev pub KeptBefore : Option (List ℕ) → Option (List ℕ) → End → Type 0
+KeptBefore holds holds' (Ok u) = ⊤
+KeptBefore holds holds' (Err Memory) = ⊤
+KeptBefore holds holds' (Err ImageFault) = ⊤
+KeptBefore holds holds' (Err SinkFault) = ⊤
+KeptBefore holds holds' (Err (Refused n cause)) = ⊤
+KeptBefore holds holds' (Err Usage) = ⊥
+KeptBefore holds holds' (Err (Param fault before)) = ⊥
+KeptBefore holds holds' (Err (Layout fault)) = ⊥
+KeptBefore holds holds' (Err s) = holds' ≡ holds
+
+-- a script on the block store, as far as the outside tells what it uses
+pub record BlkEnds (layout : BlkLayout) (a b : Outside) (e : End) : Type 0 where
+  pub whole : IfTold a (λ bytes script. LinesOrStopEnded layout bytes (blk_lines layout bytes script) a b e)
+  pub read : ScriptEnds layout.total a b e
+  pub kept : KeptBefore a.holds b.holds e
+
+-- ---- any words
+
+abbrev pub RamEnds : RamCommand → RamPlan → Outside → Outside → End → Type 0
+RamEnds RunScript plan a b e = RunEnds plan a b e
+RamEnds ListRecords plan a b e = ReadEnds plan a b e
+RamEnds (ExtractRecord name) plan a b e = ReadEnds plan a b e
+RamEnds (EraseRecord name) plan a b e = ImageEnds plan a b e
+RamEnds ShowLayout plan a b e = ShowEnds plan a b e
+RamEnds BlankImage plan a b e = MakeEnds plan a b e
+RamEnds (MakeImage n) plan a b e = MakeEnds plan a b e
+
+abbrev pub PlanEnds : Plan → Outside → Outside → End → Type 0
+PlanEnds (OfRam plan) a b e = RamEnds plan.command plan a b e
+PlanEnds (OfBlk layout) a b e = BlkEnds layout a b e
 
 -- nothing was touched or put
 pub record Nothing (a b : Outside) : Type 0 where
@@ -144,5 +190,13 @@ pub record Nothing (a b : Outside) : Type 0 where
 
 -- the work of a plan, or of none
 abbrev pub WorkEnds : Result Plan Stop → Outside → Outside → End → Type 0
-WorkEnds (Ok plan) a b e = PlanEnds plan.command plan a b e
+WorkEnds (Ok plan) a b e = PlanEnds plan a b e
 WorkEnds (Err s) a b e = (e ≡ Err s) × Nothing a b
+
+-- all that holds once the work is done, before the last line: no count of faults falls, a fault has its cause, the image
+-- stays until it is written last, and the work ended so
+pub record WorkDone (r : Result Plan Stop) (a b : Outside) (e : End) : Type 0 where
+  pub later : Later a b
+  pub caused : Caused a b e
+  pub kept : WritesLast r → KeptAt a.holds b.holds e
+  pub ended : WorkEnds r a b e

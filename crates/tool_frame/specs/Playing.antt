@@ -1,16 +1,17 @@
 -- Doing the lines of a script
-use Rattle.std.specs.Prelude.{◌≡◌, ℕ, List, length, take, Option, None, Err}
+use Rattle.std.specs.Prelude.{◌≡◌, ⊤, ℕ, List, length, take, Option, None, Ok, Err}
 use Rattle.std.specs.Io.KnownBytes.{Appends}
 use Rattle.box_io.specs.Outside.{Rose}
 use Rattle.zone_spec.specs.declared.Zone.{Zone}
 use Rattle.session_spec.specs.States.{Session}
 use Rattle.grammar_spec.specs.declared.line.Line.{Line}
+use Rattle.tool_spec.specs.Ends.{End}
 use Rattle.tool_spec.specs.Scripts.{ran}
 use Rattle.tool_spec.specs.Commands.{script_end}
 use Rattle.tool_spec.specs.Answers.{whole}
 use Rattle.tool_frame.specs.Ended.{PutTexts, PutSome}
 use Rattle.tool_spec.specs.declared.Stop.{Stop}
-use Rattle.tool_spec.specs.declared.Stop.TheVariants.{Memory, SinkFault, Refused}
+use Rattle.tool_spec.specs.declared.Stop.TheVariants.{Memory, ImageFault, SinkFault, Refused}
 
 -- a script whose lines were all done
 pub record Played (layout : List Zone) (image : List ℕ) (lines : List Line) (session : Session)
@@ -34,3 +35,12 @@ PlayStop (Refused n cause) layout image lines old new before now =
     (script_end (length (ran layout image lines).texts) (ran layout image lines).refused ≡ Err (Refused n cause))
     × Appends old new (whole (ran layout image lines).texts)
 PlayStop s layout image lines old new before now = ⊥
+
+-- which stops lines on the block store have; a fault is told only where its count rose: of the store, of the output
+abbrev pub BlkPlayCaused : End → ℕ → ℕ → ℕ → ℕ → Type 0
+BlkPlayCaused (Ok u) g g' h h' = ⊤
+BlkPlayCaused (Err Memory) g g' h h' = ⊤
+BlkPlayCaused (Err ImageFault) g g' h h' = Rose g g'
+BlkPlayCaused (Err SinkFault) g g' h h' = Rose h h'
+BlkPlayCaused (Err (Refused n cause)) g g' h h' = ⊤
+BlkPlayCaused (Err other) g g' h h' = ⊥

@@ -2,33 +2,52 @@
 use Rattle.std.specs.Prelude.{◌≡◌, ⊤, List, map, string_bytes, Result, Err, IsOk}
 use Rattle.std.specs.declared.string.String.{String}
 use Rattle.std.specs.declared.alloc.Global.{Global}
+use Rattle.blk_spec.specs.Layout.{IsLayout}
+use Rattle.zone_params.specs.declared.types.Layout.{Layout}
 use Rattle.zone_params.specs.Laid.{params_of, zones_of}
 use Rattle.grammar_spec.specs.Fields.{Text}
-use Rattle.tool_spec.specs.Commands.{Command, RunScript, ListRecords, ExtractRecord, EraseRecord, ShowLayout, BlankImage, MakeImage, Asked, Plan}
+use Rattle.tool_spec.specs.Commands.{RamCommand, RunScript, ListRecords, ExtractRecord, EraseRecord, ShowLayout, BlankImage, MakeImage, Command, OnRam, RunBlkScript, Asked, RamPlan, Plan, OfRam, OfBlk}
 use Rattle.tool_spec.specs.declared.Stop.{Stop}
 use Rattle.tool_spec.specs.declared.Stop.TheVariants.{Memory, ScriptFault, ImageFault, SinkFault}
+use Rattle.tool_frame.specs.declared.words.RamCommand.{RamCommand as ReadRamCommand}
+use Rattle.tool_frame.specs.declared.words.RamCommand.TheVariants.{Run, List as ListCommand, Extract, Erase, Layout as LayoutCommand, Blank, Make}
 use Rattle.tool_frame.specs.declared.words.Command.{Command as ReadCommand}
-use Rattle.tool_frame.specs.declared.words.Command.TheVariants.{Run, List as ListCommand, Extract, Erase, Layout, Blank, Make}
+use Rattle.tool_frame.specs.declared.words.Command.TheVariants.{OnRam as OnRamRead, RunBlk}
 use Rattle.tool_frame.specs.declared.words.Asked.{Asked as ReadAsked}
 use Rattle.tool_frame.specs.declared.words.Plan.{Plan as ReadPlan}
+use Rattle.tool_frame.specs.declared.words.Plan.TheVariants.{Ram, Blk}
 
 abbrev pub texts : List (String Global) → List Text
 texts words = map string_bytes words
 
+abbrev pub ram_command_seen : ReadRamCommand → RamCommand
+ram_command_seen Run = RunScript
+ram_command_seen ListCommand = ListRecords
+ram_command_seen (Extract name) = ExtractRecord name.now
+ram_command_seen (Erase name) = EraseRecord name.now
+ram_command_seen LayoutCommand = ShowLayout
+ram_command_seen Blank = BlankImage
+ram_command_seen (Make n) = MakeImage n
+
 abbrev pub command_seen : ReadCommand → Command
-command_seen Run = RunScript
-command_seen ListCommand = ListRecords
-command_seen (Extract name) = ExtractRecord name.now
-command_seen (Erase name) = EraseRecord name.now
-command_seen Layout = ShowLayout
-command_seen Blank = BlankImage
-command_seen (Make n) = MakeImage n
+command_seen (OnRamRead command) = OnRam (ram_command_seen command)
+command_seen RunBlk = RunBlkScript
 
 abbrev pub asked_seen : ReadAsked → Asked
 asked_seen a = record { command = command_seen a.command; before = a.before; params = texts a.params.now }
 
+-- the plan of a command on an image of this layout
+abbrev pub plan_for : RamCommand → Layout → RamPlan
+plan_for command layout = record { command = command; params = params_of layout; zones = zones_of layout }
+
 abbrev pub plan_seen : ReadPlan → Plan
-plan_seen p = record { command = command_seen p.command; params = params_of p.layout; zones = zones_of p.layout }
+plan_seen (Ram command layout) = OfRam (plan_for (ram_command_seen command) layout)
+plan_seen (Blk layout) = OfBlk layout
+
+-- a block store's layout is one
+abbrev pub IsLaid : ReadPlan → Type 0
+IsLaid (Ram command layout) = ⊤
+IsLaid (Blk layout) = IsLayout layout
 
 -- why no plan was read: the fault of the words, or want of memory where they have none
 abbrev pub PlanStop : Stop → Result Plan Stop → Type 0

@@ -8,4 +8,4 @@ mod words;
 pub use ending::finish;
 pub use stages::{check_size, fill, lines, load, read_script, save};
 pub use tool_spec::{Cause, Stop};
-pub use words::{Command, Plan, read_plan};
+pub use words::{Plan, RamCommand, read_plan};

@@ -51,7 +51,7 @@ fn read_pieces<M: Store>(alloc: Global, image: &mut M, mem: u32) -> Result<Vec<u
     ensures later { M.faults image.old ≤ M.faults image.new }
 {
     let size = mem as usize;
-    let mut bytes = Vec::new(alloc);
+    let mut bytes = Vec::with_capacity(alloc, size)?;
     let mut piece = [0u8; PIECE];
     'pieces: while bytes.len() < size {
         let at = bytes.len();

@@ -1,16 +1,17 @@
 // The words of the command line.
-ghost use Rattle.std.specs.Prelude.{◌≡◌, [], ◌∷◌, MatchResult, MatchOption, None, Some, Ok, IfErr};
-ghost use Rattle.tool_spec.specs.Commands.{asked, asked_by, with_name, with_number, plan_of, ExtractRecord, EraseRecord};
-ghost use Rattle.tool_frame.specs.Words.{asked_seen, plan_seen, command_seen, texts, PlanStop, IsNoFault};
+ghost use Rattle.std.specs.Prelude.{◌≡◌, [], ◌∷◌, MatchResult, MatchOption, None, Some, Ok, IfOk, IfErr};
+ghost use Rattle.tool_spec.specs.Commands.{OnRam, RunBlkScript, asked, asked_by, with_name, with_number, laid_out, plan_of, ExtractRecord, EraseRecord};
+ghost use Rattle.tool_frame.specs.Words.{asked_seen, plan_seen, ram_command_seen, command_seen, texts, PlanStop, IsLaid, IsNoFault};
 
 use crate::Stop;
+use blk_params::{BlkLayout, blk_layout, read_blk_words};
 use std::alloc::Global;
 use zone_params::types::Layout;
 use zone_params::{LayoutError, layout, read_words};
 
-/// What the tool is asked to do.
+/// A command on an image of the ram store.
 #[derive(Clone, Copy, Debug, PartialEq, Eq)]
-pub enum Command<'a> {
+pub enum RamCommand<'a> {
     /// A script on an image.
     Run,
     List,
@@ -24,6 +25,14 @@ pub enum Command<'a> {
     Make(u32),
 }
 
+/// What a word names.
+#[derive(Clone, Copy)]
+enum Command<'a> {
+    OnRam(RamCommand<'a>),
+    /// A script on the block store.
+    RunBlk,
+}
+
 /// A command, how many words stand before its parameters, and these.
 #[derive(Clone, Copy)]
 struct Asked<'a> {
@@ -34,9 +43,11 @@ struct Asked<'a> {
 
 /// What the words ask for.
 #[derive(Drop)]
-pub struct Plan<'a> {
-    pub command: Command<'a>,
-    pub layout: Layout,
+pub enum Plan<'a> {
+    /// A command on an image of this layout.
+    Ram(RamCommand<'a>, Layout),
+    /// A script on a block store of this layout.
+    Blk(BlkLayout),
 }
 
 // A command that only parameters follow.
@@ -70,7 +81,7 @@ fn extract(words: &[String]) -> Option<Asked<'_>>
 {
     let (name, params) = split_name(words)?;
     Some(Asked {
-        command: Command::Extract(name),
+        command: Command::OnRam(RamCommand::Extract(name)),
         before: 3,
         params,
     })
@@ -82,7 +93,7 @@ fn erase(words: &[String]) -> Option<Asked<'_>>
 {
     let (name, params) = split_name(words)?;
     Some(Asked {
-        command: Command::Erase(name),
+        command: Command::OnRam(RamCommand::Erase(name)),
         before: 3,
         params,
     })
@@ -95,7 +106,7 @@ fn make(words: &[String]) -> Option<Asked<'_>>
     let (number, params) = split_name(words)?;
     let number = box_script::number(number.as_bytes())?;
     Some(Asked {
-        command: Command::Make(number),
+        command: Command::OnRam(RamCommand::Make(number)),
         before: 3,
         params,
     })
@@ -107,13 +118,14 @@ fn asked_by<'a>(word: &str, words: &'a [String]) -> Option<Asked<'a>>
         (λ a. asked_by word.now (texts words.now) ≡ Some (asked_seen a)) }
 {
     match word {
-        "run" => Some(plain(Command::Run, words)),
-        "list" => Some(plain(Command::List, words)),
+        "run" => Some(plain(Command::OnRam(RamCommand::Run), words)),
+        "list" => Some(plain(Command::OnRam(RamCommand::List), words)),
         "extract" => extract(words),
         "erase" => erase(words),
-        "layout" => Some(plain(Command::Layout, words)),
-        "blank" => Some(plain(Command::Blank, words)),
+        "layout" => Some(plain(Command::OnRam(RamCommand::Layout), words)),
+        "blank" => Some(plain(Command::OnRam(RamCommand::Blank), words)),
         "make" => make(words),
+        "blk-run" => Some(plain(Command::RunBlk, words)),
         _ => None,
     }
 }
@@ -127,31 +139,59 @@ fn read_command(words: &[String]) -> Option<Asked<'_>>
     }
 }
 
+// A command on an image of these parameters, which stand behind so many words.
+fn lay_image<'a>(
+    alloc: Global,
+    command: RamCommand<'a>,
+    before: u32,
+    params: &[String],
+) -> Result<Plan<'a>, Stop>
+    ensures plan { let wanted = laid_out (OnRam (ram_command_seen command.entry)) before (texts params.now) in
+        MatchResult result (λ plan. wanted ≡ Ok (plan_seen plan)) (λ stop. PlanStop stop wanted) }
+    ensures laid { IfOk result IsLaid }
+    ensures stops { IfErr result IsNoFault }
+{
+    let params = match read_words(params) {
+        Ok(params) => params,
+        Err(fault) => return Err(Stop::Param { fault, before }),
+    };
+    match layout(alloc, &params) {
+        Ok(layout) => Ok(Plan::Ram(command, layout)),
+        Err(LayoutError::Fault(fault)) => Err(Stop::Layout(fault)),
+        Err(LayoutError::Memory) => Err(Stop::Memory),
+    }
+}
+
+// A script on a block store of these parameters, which stand behind so many words.
+fn lay_blk<'a>(before: u32, params: &[String]) -> Result<Plan<'a>, Stop>
+    ensures plan { let wanted = laid_out RunBlkScript before (texts params.now) in
+        MatchResult result (λ plan. wanted ≡ Ok (plan_seen plan)) (λ stop. PlanStop stop wanted) }
+    ensures laid { IfOk result IsLaid }
+    ensures stops { IfErr result IsNoFault }
+{
+    let params = match read_blk_words(params) {
+        Ok(params) => params,
+        Err(fault) => return Err(Stop::Param { fault, before }),
+    };
+    match blk_layout(&params) {
+        Ok(layout) => Ok(Plan::Blk(layout)),
+        Err(fault) => Err(Stop::Layout(fault)),
+    }
+}
+
 /// What the words ask for: a command and the layout of its parameters. Want of memory comes only where they have no
 /// fault.
 pub fn read_plan(alloc: Global, words: &[String]) -> Result<Plan<'_>, Stop>
     ensures plan { MatchResult result (λ plan. plan_of (texts words.now) ≡ Ok (plan_seen plan))
         (λ stop. PlanStop stop (plan_of (texts words.now))) }
+    ensures laid { IfOk result IsLaid }
     ensures stops { IfErr result IsNoFault }
 {
     let Some(asked) = read_command(words) else {
         return Err(Stop::Usage);
     };
-    let params = match read_words(asked.params) {
-        Ok(params) => params,
-        Err(fault) => {
-            return Err(Stop::Param {
-                fault,
-                before: asked.before,
-            });
-        }
-    };
-    match layout(alloc, &params) {
-        Ok(layout) => Ok(Plan {
-            command: asked.command,
-            layout,
-        }),
-        Err(LayoutError::Fault(fault)) => Err(Stop::Layout(fault)),
-        Err(LayoutError::Memory) => Err(Stop::Memory),
+    match asked.command {
+        Command::OnRam(command) => lay_image(alloc, command, asked.before, asked.params),
+        Command::RunBlk => lay_blk(asked.before, asked.params),
     }
 }

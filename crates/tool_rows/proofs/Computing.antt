@@ -10,6 +10,7 @@ use Rattle.grammar_spec.specs.Lines.{line_of, lines_from, script_of}
 use Rattle.spec_rows.proofs.Computing.{computing_all}
 use Rattle.tool_spec.specs.Scripts.{line_done}
 use Rattle.tool_spec.specs.Generated.{draw, draws}
+use Rattle.blk_spec.specs.Layout.{layout_of}
 use Rattle.blk_spec.specs.Writes.{after_writes, bytes_in, first_bytes}
 use Rattle.blk_spec.specs.Rings.{kept_writes, append_writes, words_after}
 use Rattle.blk_spec.specs.Dumps.{dump_writes}
@@ -27,7 +28,7 @@ computing_tool = 0
 
 -- these too: for the block store
 unfoldable pub computing_blk : ℕ
-unfolding computing_tool after_writes bytes_in first_bytes kept_writes append_writes words_after dump_writes
+unfolding computing_tool layout_of after_writes bytes_in first_bytes kept_writes append_writes words_after dump_writes
     saved_ring listed_dump dumps_listed greatest_counter dump_content load_writes names_of content_of time_of cause_of
     session_after operation_of blk_line_done
 computing_blk = 0

@@ -4,12 +4,11 @@ use Rattle.std.specs.List.{slice_split}
 use Rattle.blk_spec.specs.declared.BlkLayout.{BlkLayout}
 use Rattle.grammar_spec.specs.Fields.{Text}
 use Rattle.grammar_spec.specs.declared.line.Line.{Line}
-use Rattle.grammar_spec.specs.Lines.{script_of}
 use Rattle.tool_spec.specs.Ends.{End, status_of, last_line}
-use Rattle.tool_spec.specs.Commands.{Plan, plan_of, Wanted, wanted, script_end}
+use Rattle.tool_spec.specs.Commands.{Plan, OfRam, OfBlk, plan_of, Wanted, wanted, script_end}
 use Rattle.tool_spec.specs.BlkScripts.{BlkRan, blk_ran}
+use Rattle.tool_spec.specs.BlkAnswers.{blk_lines}
 use Rattle.tool_spec.specs.declared.Stop.{Stop}
-use Rattle.tool_spec.specs.declared.Stop.TheVariants.{BadLine}
 
 -- the words of a line, one space between two
 abbrev pub words : Text → List Text
@@ -23,9 +22,22 @@ last_of (Err stop) = last_line stop
 abbrev pub shown : Wanted → Text × ℕ
 shown w = (flat_map (λ text. text) w.texts ++ last_of w.end, status_of w.end)
 
+abbrev pub blk_shown : BlkRan → Text × ℕ
+blk_shown r =
+    let end = script_end (length r.texts) r.refused in
+    (flat_map (λ text. text) r.texts ++ last_of end, status_of end)
+
+abbrev pub stop_shown : Stop → Text × ℕ
+stop_shown stop = (last_line stop, status_of (Err stop))
+
+abbrev pub lines_shown : BlkLayout → List ℕ → Result (List Line) Stop → Text × ℕ
+lines_shown layout store (Ok lines) = blk_shown (blk_ran layout store lines)
+lines_shown layout store (Err stop) = stop_shown stop
+
 abbrev pub planned_shown : Result Plan Stop → List ℕ → List ℕ → Text × ℕ
-planned_shown (Ok plan) image script = shown (wanted plan image script)
-planned_shown (Err stop) image script = (last_line stop, status_of (Err stop))
+planned_shown (Ok (OfRam plan)) image script = shown (wanted plan image script)
+planned_shown (Ok (OfBlk layout)) store script = lines_shown layout store (blk_lines layout store script)
+planned_shown (Err stop) image script = stop_shown stop
 
 -- what the tool shows of these words, on an image and a script
 abbrev pub told : Text → List ℕ → List ℕ → Text × ℕ
@@ -34,19 +46,7 @@ told line image script = planned_shown (plan_of (words line)) image script
 abbrev pub lone : Text
 lone = codes "mem_size=4096 record_size=0 ftrace_size=0 pmsg_size=0"
 
--- 16384 bytes of a block store: both rings, and two dump zones
-abbrev pub blk_layout : BlkLayout
-blk_layout = record { total = 16384; kmsg = 4096; console = 4096; pmsg = 4096; dumps = 2 }
-
-abbrev pub blk_shown : BlkRan → Text × ℕ
-blk_shown r =
-    let end = script_end (length r.texts) r.refused in
-    (flat_map (λ text. text) r.texts ++ last_of end, status_of end)
-
-abbrev pub blk_lines_told : List ℕ → Result (List Line) ℕ → Text × ℕ
-blk_lines_told store (Ok lines) = blk_shown (blk_ran blk_layout store lines)
-blk_lines_told store (Err n) = (last_line (BadLine n), status_of (Err (BadLine n)))
-
--- what a script on a block store of these bytes shows
+-- what a script on a block store of 16384 bytes shows: both rings, and two dump zones
 abbrev pub blk_told : List ℕ → List ℕ → Text × ℕ
-blk_told store script = blk_lines_told store (script_of script)
+blk_told store script =
+    told (codes "store blk-run total_size=16384 kmsg_size=4096 console_size=4096 pmsg_size=4096") store script

@@ -1,12 +1,11 @@
--- What a run answers: its status, the text that it put, and what the image then holds
-use Rattle.std.specs.Prelude.{◌≡◌, ◌≢◌, ◌⊎◌, ⊤, ℕ, ◌≤◌, ◌<◌, ◌==◌, true, List, [], ◌∷◌, ◌++◌, length, take, flat_map, Option, None, Some, Result, Ok, Err}
-use Rattle.std.specs.List.{list_any}
+-- What a command answers: its status, the text that it put, and what the image then holds
+use Rattle.std.specs.Prelude.{◌≡◌, ◌≢◌, ◌⊎◌, ⊤, ℕ, ◌≤◌, ◌<◌, List, [], ◌++◌, length, take, flat_map, Option, None, Some, Ok, Err}
 use Rattle.std.specs.Io.KnownBytes.{Appends, IsAtEnd}
 use Rattle.box_io.specs.Outside.{Rose, AppendsFront, Writes, WritesFront}
 use Rattle.grammar_spec.specs.Fields.{Text}
 use Rattle.grammar_spec.specs.Lines.{script_of}
 use Rattle.tool_spec.specs.Ends.{End, status_of, last_line}
-use Rattle.tool_spec.specs.Commands.{Command, RunScript, ListRecords, ExtractRecord, EraseRecord, ShowLayout, BlankImage, MakeImage, Plan, Wanted, wanted, mem_of, script_limit}
+use Rattle.tool_spec.specs.Commands.{RamPlan, Wanted, wanted, mem_of, script_limit}
 use Rattle.tool_spec.specs.declared.Stop.{Stop}
 use Rattle.tool_spec.specs.declared.Stop.TheVariants.{Memory, Short, ScriptFault, ImageFault, SinkFault, TooLong, BadLine}
 
@@ -192,58 +191,30 @@ pub record ScriptRead (mem : ℕ) (a b : Outside) (status : ℕ) : Type 0 where
   pub used : ScriptUse a b status
 
 -- a command reads a script, and what it wants stands on both the image and the script
-pub record RunAnswers (plan : Plan) (a b : Outside) (status : ℕ) : Type 0 where
+pub record RunAnswers (plan : RamPlan) (a b : Outside) (status : ℕ) : Type 0 where
   pub whole : IfTold a (λ bytes script. Answers (wanted plan bytes script) a b status)
   pub read : ScriptRead (mem_of plan) a b status
 
 -- a command that reads the image and leaves the script
-pub record ImageAnswers (plan : Plan) (a b : Outside) (status : ℕ) : Type 0 where
+pub record ImageAnswers (plan : RamPlan) (a b : Outside) (status : ℕ) : Type 0 where
   pub whole : IfHolds a (λ bytes. Answers (wanted plan bytes []) a b status)
   pub script : NoScript a b
 
 -- the same, and it leaves the image as it is
-pub record ReadAnswers (plan : Plan) (a b : Outside) (status : ℕ) : Type 0 where
+pub record ReadAnswers (plan : RamPlan) (a b : Outside) (status : ℕ) : Type 0 where
   pub whole : IfHolds a (λ bytes. Answers (wanted plan bytes []) a b status)
   pub script : NoScript a b
   pub image : b.holds ≡ a.holds
 
 -- a command that reads nothing: it puts its whole text before it touches the image
-pub record MakeAnswers (plan : Plan) (a b : Outside) (status : ℕ) : Type 0 where
+pub record MakeAnswers (plan : RamPlan) (a b : Outside) (status : ℕ) : Type 0 where
   pub whole : Answers (wanted plan [] []) a b status
   pub script : NoScript a b
   pub image_fault : status ≡ 6 → SavedInPart (wanted plan [] []) a b (last_line ImageFault)
   pub text_first : NoImage a b ⊎ PutsAll (wanted plan [] []) a b
 
 -- and does not look at the image
-pub record ShowAnswers (plan : Plan) (a b : Outside) (status : ℕ) : Type 0 where
+pub record ShowAnswers (plan : RamPlan) (a b : Outside) (status : ℕ) : Type 0 where
   pub whole : Answers (wanted plan [] []) a b status
   pub script : NoScript a b
   pub image : NoImage a b
-
--- what each command answers
-abbrev pub PlanAnswers : Command → Plan → Outside → Outside → ℕ → Type 0
-PlanAnswers RunScript plan a b status = RunAnswers plan a b status
-PlanAnswers ListRecords plan a b status = ReadAnswers plan a b status
-PlanAnswers (ExtractRecord name) plan a b status = ReadAnswers plan a b status
-PlanAnswers (EraseRecord name) plan a b status = ImageAnswers plan a b status
-PlanAnswers ShowLayout plan a b status = ShowAnswers plan a b status
-PlanAnswers BlankImage plan a b status = MakeAnswers plan a b status
-PlanAnswers (MakeImage n) plan a b status = MakeAnswers plan a b status
-
--- the statuses that a command can answer where its words have no fault
-abbrev pub statuses : Command → List ℕ
-statuses RunScript = 0 ∷ 1 ∷ 4 ∷ 5 ∷ 6 ∷ 7 ∷ 8 ∷ 9 ∷ 10 ∷ []
-statuses ListRecords = 0 ∷ 1 ∷ 4 ∷ 6 ∷ 7 ∷ []
-statuses (ExtractRecord name) = 0 ∷ 1 ∷ 4 ∷ 6 ∷ 7 ∷ 10 ∷ []
-statuses (EraseRecord name) = 0 ∷ 1 ∷ 4 ∷ 6 ∷ 7 ∷ 10 ∷ []
-statuses ShowLayout = 0 ∷ 1 ∷ 7 ∷ []
-statuses BlankImage = 0 ∷ 1 ∷ 6 ∷ 7 ∷ []
-statuses (MakeImage n) = 0 ∷ 1 ∷ 6 ∷ 7 ∷ []
-
-abbrev pub IsAmong : List ℕ → ℕ → Type 0
-IsAmong all status = list_any (λ n. n == status) all ≡ true
-
--- what the words answer: a command of its plan, by one of its statuses, or the first fault
-abbrev pub ToolAnswers : Result Plan Stop → Outside → Outside → ℕ → Type 0
-ToolAnswers (Ok plan) a b status = PlanAnswers plan.command plan a b status × IsAmong (statuses plan.command) status
-ToolAnswers (Err s) a b status = FaultAnswers s a b status

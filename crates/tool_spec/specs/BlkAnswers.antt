@@ -1,17 +1,31 @@
--- What a script on the block store answers, and what any words answer
-use Rattle.std.specs.Prelude.{◌≡◌, ◌≢◌, ◌⊎◌, ℕ, ◌+◌, ◌<◌, ◌≤◌, List, [], ◌++◌, length, take, slice_get, Option, None, Some, Result, Ok, Err}
+-- What a script on the block store answers
+use Rattle.std.specs.Prelude.{◌≡◌, ◌≢◌, ◌⊎◌, ℕ, ◌+◌, ◌<◌, ◌≤◌, if◌then◌else◌, nat_lt, List, [], ◌++◌, length, take, slice_get, Option, Some, None, Result, Ok, Err}
 use Rattle.std.specs.Io.KnownBytes.{Appends}
 use Rattle.blk_spec.specs.declared.BlkLayout.{BlkLayout}
 use Rattle.blk_spec.specs.Writes.{after_writes, bytes_in, first_bytes}
 use Rattle.grammar_spec.specs.Fields.{Text}
+use Rattle.grammar_spec.specs.Lines.{script_of}
 use Rattle.grammar_spec.specs.declared.line.Line.{Line}
 use Rattle.tool_spec.specs.Ends.{End, status_of, last_line}
-use Rattle.tool_spec.specs.Commands.{script_end, stops, plan_of}
-use Rattle.tool_spec.specs.Answers.{Outside, IfTold, RoseFor, front, whole, IsFree, Answers, FaultAnswers, ScriptRead, ToolAnswers}
+use Rattle.tool_spec.specs.Commands.{script_end, script_limit, stops}
+use Rattle.tool_spec.specs.Answers.{Outside, IfTold, RoseFor, front, whole, IsFree, Answers, ScriptRead}
 use Rattle.tool_spec.specs.BlkScripts.{BlkRan, blk_ran, line_writes}
-use Rattle.tool_spec.specs.BlkCommands.{blk_asked, blk_plan_of, blk_lines}
 use Rattle.tool_spec.specs.declared.Stop.{Stop}
-use Rattle.tool_spec.specs.declared.Stop.TheVariants.{Memory, ScriptFault, ImageFault, SinkFault, Refused}
+use Rattle.tool_spec.specs.declared.Stop.TheVariants.{Memory, Short, ScriptFault, ImageFault, SinkFault, TooLong, BadLine, Refused}
+
+-- ---- the lines that are to be done
+
+abbrev pub lines_or_bad : Result (List Line) ℕ → Result (List Line) Stop
+lines_or_bad (Ok lines) = Ok lines
+lines_or_bad (Err n) = Err (BadLine n)
+
+-- the lines of a script on a store's bytes, or what comes before the first: a store that is too short, a script that is
+-- too long, a bad line
+abbrev pub blk_lines : BlkLayout → List ℕ → List ℕ → Result (List Line) Stop
+blk_lines layout bytes script =
+    if nat_lt (length bytes) layout.total then Err (Short (length bytes) layout.total)
+    else if nat_lt script_limit (length script) then Err TooLong
+    else lines_or_bad (script_of script)
 
 -- ---- lines that stop
 
@@ -62,28 +76,48 @@ pub record StopsRefused (layout : BlkLayout) (bytes : List ℕ) (lines : List Li
   pub texts : text ≡ whole (blk_ran layout bytes lines).texts
   pub holds : now ≡ Some (blk_ran layout bytes lines).session.store
 
--- why good lines on a store with room can stop, with the text that was put by then, and what the store then holds
+-- why lines that were begun can stop, with the text that was put by then, and what the store then holds
 abbrev pub LinesStop : Stop → BlkLayout → List ℕ → List Line → Text → Option (List ℕ) → Type 0
 LinesStop Memory layout bytes lines text now = StopsBehind layout bytes lines text now
-LinesStop ScriptFault layout bytes lines text now = StopsBefore bytes text now
-LinesStop ImageFault layout bytes lines text now = StopsBefore bytes text now ⊎ StopsWriting layout bytes lines text now
+LinesStop ImageFault layout bytes lines text now = StopsWriting layout bytes lines text now
 LinesStop SinkFault layout bytes lines text now = StopsPutting layout bytes lines text now
 LinesStop (Refused n cause) layout bytes lines text now = StopsRefused layout bytes lines (Refused n cause) text now
 LinesStop other layout bytes lines text now = ⊥
 
--- ---- answers
+-- and good lines on a store with room, begun or not
+abbrev pub BlkStop : Stop → BlkLayout → List ℕ → List Line → Text → Option (List ℕ) → Type 0
+BlkStop ScriptFault layout bytes lines text now = StopsBefore bytes text now
+BlkStop ImageFault layout bytes lines text now =
+    StopsBefore bytes text now ⊎ LinesStop ImageFault layout bytes lines text now
+BlkStop other layout bytes lines text now = LinesStop other layout bytes lines text now
 
 -- all lines were done: their texts were put, and the store holds what they leave
-pub record AllDone (layout : BlkLayout) (bytes : List ℕ) (lines : List Line) (a b : Outside) : Type 0 where
+pub record AllDone (layout : BlkLayout) (bytes : List ℕ) (lines : List Line) (old new now : Option (List ℕ))
+    : Type 0 where
   pub none : (blk_ran layout bytes lines).refused ≡ None
-  pub texts : Appends a.given b.given (whole (blk_ran layout bytes lines).texts)
-  pub holds : b.holds ≡ Some (blk_ran layout bytes lines).session.store
+  pub texts : Appends old new (whole (blk_ran layout bytes lines).texts)
+  pub holds : now ≡ Some (blk_ran layout bytes lines).session.store
+
+-- lines that were begun stopped, and their text was put
+pub record StopsAt (stop : Stop) (layout : BlkLayout) (bytes : List ℕ) (lines : List Line)
+    (old new now : Option (List ℕ)) : Type 0 where
+  pub text : Text
+  pub stops : LinesStop stop layout bytes lines text now
+  pub put : Appends old new text
+
+-- how lines that were begun end, with the output before and after them, and the store after them
+abbrev pub LinesEnd : End → BlkLayout → List ℕ → List Line → Option (List ℕ) → Option (List ℕ) → Option (List ℕ)
+    → Type 0
+LinesEnd (Ok u) layout bytes lines old new now = AllDone layout bytes lines old new now
+LinesEnd (Err stop) layout bytes lines old new now = StopsAt stop layout bytes lines old new now
+
+-- ---- answers
 
 -- lines stopped for this cause, and then the last line was put
 pub record StoppedFor (stop : Stop) (layout : BlkLayout) (bytes : List ℕ) (lines : List Line)
     (a b : Outside) : Type 0 where
   pub text : Text
-  pub stops : LinesStop stop layout bytes lines text b.holds
+  pub stops : BlkStop stop layout bytes lines text b.holds
   pub put : Appends a.given b.given (text ++ last_line stop)
 
 -- lines stopped for some cause, and only a part of the last line was put; if the text of a line was put in part, there
@@ -92,7 +126,7 @@ pub record StoppedUnput (layout : BlkLayout) (bytes : List ℕ) (lines : List Li
   pub stop : Stop
   pub rose : RoseFor stop a b
   pub text : Text
-  pub stops : LinesStop stop layout bytes lines text b.holds
+  pub stops : BlkStop stop layout bytes lines text b.holds
   pub part : ℕ
   pub put : Appends a.given b.given (text ++ take part (last_line stop))
 
@@ -101,7 +135,7 @@ pub record LinesAnswers (layout : BlkLayout) (bytes : List ℕ) (lines : List Li
     (status : ℕ) : Type 0 where
   -- the status that is wanted, but for memory and faults
   pub exact : (status ≡ status_of (blk_end (blk_ran layout bytes lines))) ⊎ IsFree a b status
-  pub done : status ≡ 0 → AllDone layout bytes lines a b
+  pub done : status ≡ 0 → AllDone layout bytes lines a.given b.given b.holds
   pub refused : status ≡ 10 → (stop : Stop) → blk_end (blk_ran layout bytes lines) ≡ Err stop
       → StoppedFor stop layout bytes lines a b
   pub memory : status ≡ 1 → StoppedFor Memory layout bytes lines a b
@@ -118,20 +152,5 @@ LinesOrStopAnswers layout bytes (Err stop) a b status = Answers (stops stop) a b
 pub record BlkAnswers (layout : BlkLayout) (a b : Outside) (status : ℕ) : Type 0 where
   pub whole : IfTold a (λ bytes script. LinesOrStopAnswers layout bytes (blk_lines layout bytes script) a b status)
   pub read : ScriptRead layout.total a b status
-  -- the words have no fault
-  pub words : (status ≢ 2) × (status ≢ 3)
   -- the store is untouched on a status that comes before the lines alone
   pub kept : status ≢ 0 → status ≢ 1 → status ≢ 6 → status ≢ 7 → status ≢ 10 → b.holds ≡ a.holds
-
-abbrev pub BlkPlanAnswers : Result BlkLayout Stop → Outside → Outside → ℕ → Type 0
-BlkPlanAnswers (Ok layout) a b status = BlkAnswers layout a b status
-BlkPlanAnswers (Err stop) a b status = FaultAnswers stop a b status
-
--- the words of a script on the block store, or of another command
-abbrev pub AskedAnswers : Option (List Text) → List Text → Outside → Outside → ℕ → Type 0
-AskedAnswers None words a b status = ToolAnswers (plan_of words) a b status
-AskedAnswers (Some params) words a b status = BlkPlanAnswers (blk_plan_of params) a b status
-
--- what any words answer
-abbrev pub AllAnswers : List Text → Outside → Outside → ℕ → Type 0
-AllAnswers words a b status = AskedAnswers (blk_asked words) words a b status

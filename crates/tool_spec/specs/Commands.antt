@@ -6,6 +6,9 @@ use Rattle.zone_spec.specs.declared.params.LayoutFault.{LayoutFault}
 use Rattle.zone_spec.specs.Layout.{rounded, layout_of}
 use Rattle.zone_spec.specs.Records.{Listed}
 use Rattle.zone_spec.specs.Notices.{content}
+use Rattle.blk_spec.specs.declared.BlkParams.{BlkParams}
+use Rattle.blk_spec.specs.declared.BlkLayout.{BlkLayout}
+use Rattle.blk_spec.specs.Layout.{layout_of as blk_layout_of}
 use Rattle.session_spec.specs.States.{LiveState}
 use Rattle.session_spec.specs.Off.{fresh}
 use Rattle.session_spec.specs.Boot.{booted}
@@ -14,6 +17,7 @@ use Rattle.session_spec.specs.Erasures.{saved_logs, erased}
 use Rattle.grammar_spec.specs.declared.faults.ParamFault.{ParamFault}
 use Rattle.grammar_spec.specs.Words.{ok_unless}
 use Rattle.grammar_spec.specs.ZoneWords.{first_fault, params_of}
+use Rattle.grammar_spec.specs.BlkWords.{first_fault as blk_first_fault, params_of as blk_params_of}
 use Rattle.grammar_spec.specs.Fields.{Text, number}
 use Rattle.grammar_spec.specs.Lines.{script_of}
 use Rattle.grammar_spec.specs.declared.line.Line.{Line}
@@ -28,14 +32,20 @@ use Rattle.tool_spec.specs.declared.Stop.TheVariants.{Usage, Param, Layout as La
 
 -- ---- words
 
+-- a command on an image of the ram store
+pub data RamCommand : Type 0 where
+  RunScript : RamCommand
+  ListRecords : RamCommand
+  ExtractRecord : (name : Text) → RamCommand
+  EraseRecord : (name : Text) → RamCommand
+  ShowLayout : RamCommand
+  BlankImage : RamCommand
+  MakeImage : (n : ℕ) → RamCommand
+
+-- what a word names: such a command, or a script on the block store
 pub data Command : Type 0 where
-  RunScript : Command
-  ListRecords : Command
-  ExtractRecord : (name : Text) → Command
-  EraseRecord : (name : Text) → Command
-  ShowLayout : Command
-  BlankImage : Command
-  MakeImage : (n : ℕ) → Command
+  OnRam : (command : RamCommand) → Command
+  RunBlkScript : Command
 
 -- a command, how many words stand before its parameters, and these
 pub record Asked : Type 0 where
@@ -47,13 +57,13 @@ abbrev pub plain : Command → List Text → Option Asked
 plain command words = Some (record { command = command; before = 2; params = words })
 
 -- a command with a NAME, a word of any form
-abbrev pub with_name : (Text → Command) → List Text → Option Asked
+abbrev pub with_name : (Text → RamCommand) → List Text → Option Asked
 with_name command [] = None
-with_name command (name ∷ words) = Some (record { command = command name; before = 3; params = words })
+with_name command (name ∷ words) = Some (record { command = OnRam (command name); before = 3; params = words })
 
 abbrev pub numbered : Option ℕ → List Text → Option Asked
 numbered None words = None
-numbered (Some n) words = Some (record { command = MakeImage n; before = 3; params = words })
+numbered (Some n) words = Some (record { command = OnRam (MakeImage n); before = 3; params = words })
 
 -- `make` with N, a decimal number below 2^32
 abbrev pub with_number : List Text → Option Asked
@@ -63,45 +73,69 @@ with_number (n ∷ words) = numbered (number n) words
 -- the command that a word names, with the words behind it
 abbrev pub asked_by : Text → List Text → Option Asked
 asked_by word words =
-    if bytes_eq word (codes "run") then plain RunScript words
-    else if bytes_eq word (codes "list") then plain ListRecords words
+    if bytes_eq word (codes "run") then plain (OnRam RunScript) words
+    else if bytes_eq word (codes "list") then plain (OnRam ListRecords) words
     else if bytes_eq word (codes "extract") then with_name ExtractRecord words
     else if bytes_eq word (codes "erase") then with_name EraseRecord words
-    else if bytes_eq word (codes "layout") then plain ShowLayout words
-    else if bytes_eq word (codes "blank") then plain BlankImage words
+    else if bytes_eq word (codes "layout") then plain (OnRam ShowLayout) words
+    else if bytes_eq word (codes "blank") then plain (OnRam BlankImage) words
     else if bytes_eq word (codes "make") then with_number words
+    else if bytes_eq word (codes "blk-run") then plain RunBlkScript words
     else None
 
--- IMAGE COMMAND and what follows it; None for words outside the grammar, and for those of a script on the block store,
--- which are looked at before
+-- IMAGE COMMAND and what follows it; None for words outside the grammar
 abbrev pub asked : List Text → Option Asked
 asked (image ∷ word ∷ words) = asked_by word words
 asked other = None
 
--- a command with its parameters and their layout
-pub record Plan : Type 0 where
-  pub command : Command
+-- a command on an image with its parameters and their layout
+pub record RamPlan : Type 0 where
+  pub command : RamCommand
   pub params : Params
   pub zones : List Zone
 
-abbrev pub with_layout : Command → Params → Result (List Zone) LayoutFault → Result Plan Stop
-with_layout command params (Ok zones) = Ok (record { command = command; params = params; zones = zones })
+-- a command with its layout: the zones of an image, or a block store
+pub data Plan : Type 0 where
+  OfRam : (plan : RamPlan) → Plan
+  OfBlk : (layout : BlkLayout) → Plan
+
+abbrev pub command_of : Plan → Command
+command_of (OfRam plan) = OnRam plan.command
+command_of (OfBlk layout) = RunBlkScript
+
+abbrev pub with_layout : RamCommand → Params → Result (List Zone) LayoutFault → Result Plan Stop
+with_layout command params (Ok zones) = Ok (OfRam (record { command = command; params = params; zones = zones }))
 with_layout command params (Err fault) = Err (LayoutStop fault)
 
-abbrev pub with_params : Asked → Result Params ParamFault → Result Plan Stop
-with_params a (Ok params) = with_layout a.command params (layout_of params)
-with_params a (Err fault) = Err (Param fault a.before)
+abbrev pub with_params : RamCommand → ℕ → Result Params ParamFault → Result Plan Stop
+with_params command before (Ok params) = with_layout command params (layout_of params)
+with_params command before (Err fault) = Err (Param fault before)
+
+abbrev pub with_blk_layout : Result BlkLayout LayoutFault → Result Plan Stop
+with_blk_layout (Ok layout) = Ok (OfBlk layout)
+with_blk_layout (Err fault) = Err (LayoutStop fault)
+
+abbrev pub with_blk_params : ℕ → Result BlkParams ParamFault → Result Plan Stop
+with_blk_params before (Ok params) = with_blk_layout (blk_layout_of params)
+with_blk_params before (Err fault) = Err (Param fault before)
+
+-- a command by its parameters, behind so many words
+abbrev pub laid_out : Command → ℕ → List Text → Result Plan Stop
+laid_out (OnRam command) before params =
+    with_params command before (ok_unless (first_fault [] params) (params_of params))
+laid_out RunBlkScript before params =
+    with_blk_params before (ok_unless (blk_first_fault [] params) (blk_params_of params))
 
 abbrev pub planned : Option Asked → Result Plan Stop
 planned None = Err Usage
-planned (Some a) = with_params a (ok_unless (first_fault [] a.params) (params_of a.params))
+planned (Some a) = laid_out a.command a.before a.params
 
 -- what the words ask for, or the first fault: of the words, of a parameter, of the layout
 abbrev pub plan_of : List Text → Result Plan Stop
 plan_of words = planned (asked words)
 
 -- the bytes of the image
-abbrev pub mem_of : Plan → ℕ
+abbrev pub mem_of : RamPlan → ℕ
 mem_of plan = rounded plan.params.mem
 
 -- ---- what a command wants
@@ -177,7 +211,7 @@ wanted_make n layout made = record {
 }
 
 -- what each command wants of an image of mem bytes and a script
-abbrev pub wanted_of : Params → List Zone → List ℕ → List ℕ → Command → Wanted
+abbrev pub wanted_of : Params → List Zone → List ℕ → List ℕ → RamCommand → Wanted
 wanted_of params layout image script RunScript = wanted_run layout image script
 wanted_of params layout image script ListRecords = shows (listing (saved_logs layout (after_boot layout image)) ∷ [])
 wanted_of params layout image script (ExtractRecord name) =
@@ -189,7 +223,7 @@ wanted_of params layout image script BlankImage = leaves (replicate (rounded par
 wanted_of params layout image script (MakeImage n) = wanted_make n layout (generated layout (rounded params.mem) n)
 
 -- whether a command reads the image
-abbrev pub reads_image : Command → Bool
+abbrev pub reads_image : RamCommand → Bool
 reads_image ShowLayout = false
 reads_image BlankImage = false
 reads_image (MakeImage n) = false
@@ -197,7 +231,7 @@ reads_image other = true
 
 -- and the same of a store's bytes, of which it takes the first mem, and of a script: an image that it reads
 -- and that is too short is refused first
-abbrev pub wanted : Plan → List ℕ → List ℕ → Wanted
+abbrev pub wanted : RamPlan → List ℕ → List ℕ → Wanted
 wanted plan bytes script =
     if (reads_image plan.command && nat_lt (length bytes) (mem_of plan)) then stops (Short (length bytes) (mem_of plan))
     else wanted_of plan.params plan.zones (take (mem_of plan) bytes) script plan.command

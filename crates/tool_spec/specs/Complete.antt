@@ -1,14 +1,13 @@
 -- How the work of any words ends if no fault and no want of memory comes in its way, and that it does end so
-use Rattle.std.specs.Prelude.{◌≡◌, ◌⊎◌, ⊤, ℕ, List, Option, Some, None, Result, Ok, Err}
+use Rattle.std.specs.Prelude.{◌≡◌, ◌⊎◌, ⊤, ℕ, List, Some, Result, Ok, Err}
 use Rattle.blk_spec.specs.declared.BlkLayout.{BlkLayout}
 use Rattle.grammar_spec.specs.Fields.{Text}
 use Rattle.grammar_spec.specs.declared.line.Line.{Line}
 use Rattle.tool_spec.specs.Ends.{End}
-use Rattle.tool_spec.specs.Commands.{Command, RunScript, ShowLayout, BlankImage, MakeImage, Plan, wanted, plan_of}
+use Rattle.tool_spec.specs.Commands.{Command, OnRam, RunBlkScript, RunScript, ShowLayout, BlankImage, MakeImage, Plan, OfRam, OfBlk, command_of, wanted, plan_of}
 use Rattle.tool_spec.specs.BlkScripts.{blk_ran}
-use Rattle.tool_spec.specs.BlkCommands.{blk_asked, blk_plan_of, blk_lines}
 use Rattle.tool_spec.specs.Answers.{Outside, RoseFor}
-use Rattle.tool_spec.specs.BlkAnswers.{blk_end}
+use Rattle.tool_spec.specs.BlkAnswers.{blk_lines, blk_end}
 use Rattle.tool_spec.specs.declared.Stop.{Stop}
 use Rattle.tool_spec.specs.declared.Stop.TheVariants.{ScriptFault, ImageFault, SinkFault}
 
@@ -19,42 +18,32 @@ abbrev pub lines_end : BlkLayout → List ℕ → Result (List Line) Stop → En
 lines_end layout bytes (Ok lines) = blk_end (blk_ran layout bytes lines)
 lines_end layout bytes (Err stop) = Err stop
 
-abbrev pub blk_plan_end : Result BlkLayout Stop → List ℕ → List ℕ → End
-blk_plan_end (Ok layout) bytes script = lines_end layout bytes (blk_lines layout bytes script)
-blk_plan_end (Err stop) bytes script = Err stop
-
 abbrev pub plan_end : Result Plan Stop → List ℕ → List ℕ → End
-plan_end (Ok plan) bytes script = (wanted plan bytes script).end
+plan_end (Ok (OfRam plan)) bytes script = (wanted plan bytes script).end
+plan_end (Ok (OfBlk layout)) bytes script = lines_end layout bytes (blk_lines layout bytes script)
 plan_end (Err stop) bytes script = Err stop
-
-abbrev pub asked_end : Option (List Text) → List Text → List ℕ → List ℕ → End
-asked_end None words bytes script = plan_end (plan_of words) bytes script
-asked_end (Some params) words bytes script = blk_plan_end (blk_plan_of params) bytes script
 
 -- of any words, on these bytes of the image and of the script
 abbrev pub wanted_end : List Text → List ℕ → List ℕ → End
-wanted_end words bytes script = asked_end (blk_asked words) words bytes script
+wanted_end words bytes script = plan_end (plan_of words) bytes script
 
 -- ---- what the outside must tell
 
 -- the image holds these bytes, and these are left of the script, as far as a command reads them
 abbrev pub CommandTells : Command → Outside → List ℕ → List ℕ → Type 0
-CommandTells RunScript a bytes script = (a.holds ≡ Some bytes) × (a.left ≡ Some script)
-CommandTells ShowLayout a bytes script = ⊤
-CommandTells BlankImage a bytes script = ⊤
-CommandTells (MakeImage n) a bytes script = ⊤
-CommandTells other a bytes script = a.holds ≡ Some bytes
+CommandTells (OnRam RunScript) a bytes script = (a.holds ≡ Some bytes) × (a.left ≡ Some script)
+CommandTells (OnRam ShowLayout) a bytes script = ⊤
+CommandTells (OnRam BlankImage) a bytes script = ⊤
+CommandTells (OnRam (MakeImage n)) a bytes script = ⊤
+CommandTells (OnRam other) a bytes script = a.holds ≡ Some bytes
+CommandTells RunBlkScript a bytes script = (a.holds ≡ Some bytes) × (a.left ≡ Some script)
 
 abbrev pub PlanTells : Result Plan Stop → Outside → List ℕ → List ℕ → Type 0
-PlanTells (Ok plan) a bytes script = CommandTells plan.command a bytes script
+PlanTells (Ok plan) a bytes script = CommandTells (command_of plan) a bytes script
 PlanTells (Err stop) a bytes script = ⊤
 
-abbrev pub AskedTells : Option (List Text) → List Text → Outside → List ℕ → List ℕ → Type 0
-AskedTells None words a bytes script = PlanTells (plan_of words) a bytes script
-AskedTells (Some params) words a bytes script = (a.holds ≡ Some bytes) × (a.left ≡ Some script)
-
 abbrev pub Tells : List Text → Outside → List ℕ → List ℕ → Type 0
-Tells words a bytes script = AskedTells (blk_asked words) words a bytes script
+Tells words a bytes script = PlanTells (plan_of words) a bytes script
 
 -- ---- completeness
 

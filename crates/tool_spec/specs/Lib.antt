@@ -6,6 +6,6 @@ pub mod Commands
 pub mod Answers
 pub mod Headline
 pub mod BlkScripts
-pub mod BlkCommands
 pub mod BlkAnswers
+pub mod PlanAnswers
 pub mod Complete

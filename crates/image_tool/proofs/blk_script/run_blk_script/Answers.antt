@@ -1,18 +1,23 @@
 use Rattle.std.proofs.Common.{arith}
-use Rattle.image_tool.proofs.BlkEnds.{play_ended}
+use Rattle.tool_frame.proofs.BlkScript.{play_ended, played_caused}
 use Rattle.image_tool.proofs.blk_script.run_blk_script.Goals as goal
 
-pub returns-clause-ended : goal.returns-clause-ended
-returns-clause-ended g c =
-    play_ended c.args.layout _ _ c.in-Ok-read_script.text.items c.in-Ok-lines.lines c.play.result
-    (g.M.Store.holds c.check_size.new.image) _ _ _ _ c.in-Ok.ensures.ok
-    (record {
-      read = c.in-Ok-read_script.ensures.ok.1;
-      few = omega
-          (arith, c.in-Ok-read_script.ensures.ok.0, c.in-Ok-read_script.text.ok);
-      end = c.in-Ok-read_script.ensures.end;
-    })
-    (rw c.deref.ensures.value at c.in-Ok-lines.ensures.read)
-    c.check_size.ensures.same
-    c.play.ensures.caused
-    (rw c.as_slice.ensures at c.play.ensures.played)
+pub returns : goal.returns
+returns g c = record {
+  later = record {
+    source = omega arith;
+    store = omega (arith, c.play.ensures.later.0);
+    sink = omega (arith, c.play.ensures.later.1);
+  };
+  caused = played_caused c.play.result _ _ _ _ _ _ _ _ c.check_size.ensures.later (omega arith) c.play.ensures.caused;
+  kept = λ w. absurd w;
+  ended = play_ended c.args.layout _ _ c.in-Ok-read_script.text.items c.in-Ok-lines.lines c.play.result
+      (g.M.Store.holds c.check_size.new.image) _ _ _ _ c.in-Ok.ensures.ok
+      (record {
+        read = c.in-Ok-read_script.ensures.ok.1;
+        few = omega (arith, c.in-Ok-read_script.ensures.ok.0, c.in-Ok-read_script.text.ok);
+        end = c.in-Ok-read_script.ensures.end;
+      })
+      (rw c.deref.ensures.value at c.in-Ok-lines.ensures.read) c.check_size.ensures.same c.play.ensures.caused
+      (rw c.as_slice.ensures at c.play.ensures.played);
+}

@@ -1,4 +1,4 @@
--- What any words answer, from how their work ended and what the last line left
+-- What a script on the block store answers, from how its work ended and what the last line left
 use Rattle.std.proofs.Common.{◌≡◌, ◌≢◌, ◌⊎◌, ℕ, List, length, take, Option, Some, None, Result, Ok, Err, refl, sym, ap, ◌∙◌, arith, inl, inr, append-nil}
 use Rattle.std.specs.Io.KnownBytes.{Appends}
 use Rattle.box_io.specs.Outside.{AppendsFront}
@@ -6,19 +6,17 @@ use Rattle.blk_spec.specs.declared.BlkLayout.{BlkLayout}
 use Rattle.grammar_spec.specs.Fields.{Text}
 use Rattle.grammar_spec.specs.declared.line.Line.{Line}
 use Rattle.tool_spec.specs.Ends.{End, status_of, last_line}
-use Rattle.tool_spec.specs.Commands.{stops, plan_of}
+use Rattle.tool_spec.specs.Commands.{stops}
 use Rattle.tool_spec.specs.Answers.{Outside, RoseFor, IsFree}
-use Rattle.tool_spec.specs.BlkCommands.{blk_plan_of, blk_lines}
 use Rattle.tool_spec.specs.BlkScripts.{blk_ran}
-use Rattle.tool_spec.specs.BlkAnswers.{blk_end, AllDone, StoppedFor, StoppedUnput, LinesAnswers, LinesOrStopAnswers, BlkAnswers, BlkPlanAnswers, AskedAnswers}
+use Rattle.tool_spec.specs.BlkAnswers.{blk_lines, blk_end, AllDone, StoppedFor, StoppedUnput, LinesAnswers, LinesOrStopAnswers, BlkAnswers}
 use Rattle.tool_spec.specs.declared.Stop.{Stop}
 use Rattle.tool_spec.specs.declared.Cause.{Cause}
 use Rattle.tool_spec.specs.declared.Stop.TheVariants.{Memory, Usage, Param, Layout, Short, ScriptFault, ImageFault, SinkFault, TooLong, BadLine, Refused}
 use Rattle.tool_frame.specs.Ends.{LastPut, Finished}
-use Rattle.tool_frame.specs.Ended.{Caused, KeptAt}
+use Rattle.tool_frame.specs.Ended.{Caused, StoppedAt, LinesEnded, LinesOrStopEnded, KeptBefore, BlkEnds}
 use Rattle.tool_frame.proofs.Answered.{GoesOn, rose_on, sink_rose, answers, appends_on}
-use Rattle.tool_frame.proofs.Tool.{status_is, script_read, script_on, image_on, fault_answers, tool_answers}
-use Rattle.image_tool.specs.BlkEnds.{StoppedAt, LinesEnded, LinesOrStopEnded, KeptBefore, BlkEnds, BlkPlanEnds, AskedEnds}
+use Rattle.tool_frame.proofs.Tool.{status_is, script_read}
 
 -- ---- good lines
 
@@ -27,7 +25,7 @@ same_stop e s t h k = let same : Err s ≡ Err t = sym h ∙ k in cc
 
 module _ (layout : BlkLayout) (bytes : List ℕ) (a m b : Outside) (on : GoesOn a m b) (status : ℕ) where
   module _ (lines : List Line) where
-    all_done : b.given ≡ m.given → AllDone layout bytes lines a m → AllDone layout bytes lines a b
+    all_done : b.given ≡ m.given → AllDone layout bytes lines a.given m.given m.holds → AllDone layout bytes lines a.given b.given b.holds
     all_done told d = record { none = d.none; texts = rw told d.texts; holds = on.image.holds ∙ d.holds }
 
     -- a last line after lines that stopped
@@ -85,7 +83,7 @@ module _ (layout : BlkLayout) (bytes : List ℕ) (a m b : Outside) (on : GoesOn 
       | inr h ↦ unput h.0 (sink_rose a m b on h.1) (put_part s (rose_on a m b on s c f.later) k h.2)
     ]
 
-    answers_ok : status ≡ 0 → AllDone layout bytes lines a b → LinesAnswers layout bytes lines a b status
+    answers_ok : status ≡ 0 → AllDone layout bytes lines a.given b.given b.holds → LinesAnswers layout bytes lines a b status
     answers_ok zero d = record {
       exact = inl (rw (d.none, zero) refl);
       done = λ z. d;
@@ -171,7 +169,7 @@ module _ (layout : BlkLayout) (bytes : List ℕ) (a m b : Outside) (on : GoesOn 
   lines_or_stop (Ok lines) e c h f = lines_answers lines e c h f
   lines_or_stop (Err s) e c h f = answers a m b on (stops s) status e c h f
 
--- ---- any words
+-- ---- the store that no line has reached
 
 -- the status of an end, or 7
 abbrev IsStatus : End → Outside → Outside → ℕ → Type 0
@@ -198,27 +196,7 @@ module _ (a m b : Outside) (status : ℕ) where
   kept_before (Err TooLong) h is zero one six seven ten = h
   kept_before (Err (BadLine x)) h is zero one six seven ten = h
 
-  -- nor is it one of the words
-  no_words : (n : ℕ) → n ≢ 2 → n ≢ 3 → (status ≡ n) ⊎ ((status ≡ 7) × RoseFor SinkFault a b)
-      → (status ≢ 2) × (status ≢ 3)
-  no_words n two three (inl k) = (λ z. two (sym k ∙ z), λ z. three (sym k ∙ z))
-  no_words n two three (inr k) = (λ z. absurd (omega (arith, k.0, z)), λ z. absurd (omega (arith, k.0, z)))
-
-  good_words : (e : End) → KeptBefore a.holds m.holds e → IsStatus e a b status → (status ≢ 2) × (status ≢ 3)
-  good_words (Ok u) h is = no_words 0 (λ z. absurd (omega arith)) (λ z. absurd (omega arith)) is
-  good_words (Err Memory) h is = no_words 1 (λ z. absurd (omega arith)) (λ z. absurd (omega arith)) is
-  good_words (Err (Short x y)) h is = no_words 4 (λ z. absurd (omega arith)) (λ z. absurd (omega arith)) is
-  good_words (Err ScriptFault) h is = no_words 5 (λ z. absurd (omega arith)) (λ z. absurd (omega arith)) is
-  good_words (Err ImageFault) h is = no_words 6 (λ z. absurd (omega arith)) (λ z. absurd (omega arith)) is
-  good_words (Err SinkFault) h is = no_words 7 (λ z. absurd (omega arith)) (λ z. absurd (omega arith)) is
-  good_words (Err TooLong) h is = no_words 8 (λ z. absurd (omega arith)) (λ z. absurd (omega arith)) is
-  good_words (Err (BadLine x)) h is = no_words 9 (λ z. absurd (omega arith)) (λ z. absurd (omega arith)) is
-  good_words (Err (Refused x y)) h is = no_words 10 (λ z. absurd (omega arith)) (λ z. absurd (omega arith)) is
-  good_words (Err Usage) h is = absurd h
-  good_words (Err (Param x y)) h is = absurd h
-  good_words (Err (Layout x)) h is = absurd h
-
-blk_answers : (layout : BlkLayout) (a m b : Outside) (e : End) (status : ℕ) → GoesOn a m b → Caused a m e
+pub blk_answers : (layout : BlkLayout) (a m b : Outside) (e : End) (status : ℕ) → GoesOn a m b → Caused a m e
     → BlkEnds layout a m e → Finished e m.given b.given m.sink_faults b.sink_faults status → BlkAnswers layout a b
     status
 blk_answers layout a m b e status on c h f =
@@ -229,38 +207,5 @@ blk_answers layout a m b e status on c h f =
             e c (h.whole.told bytes script t l) f;
       };
       read = script_read a m b on status layout.total e c h.read f;
-      words = good_words a m b status e h.kept s;
       kept = λ zero one six seven ten. on.image.holds ∙ kept_before a m b status e h.kept s zero one six seven ten;
     }
-
-blk_plan_answers : (r : Result BlkLayout Stop) (a m b : Outside) (e : End) (status : ℕ) → GoesOn a m b
-    → Caused a m e → BlkPlanEnds r a m e → Finished e m.given b.given m.sink_faults b.sink_faults status
-    → BlkPlanAnswers r a b status
-blk_plan_answers (Ok layout) a m b e status on c h f = blk_answers layout a m b e status on c h f
-blk_plan_answers (Err s) a m b e status on c h f =
-    fault_answers s a m b status (script_on a m b h.1.script on.script) (image_on a m b h.1.image on.image) h.1.given
-    (rw h.0 at f)
-
-pub asked_answers : (asked : Option (List Text)) (words : List Text) (a m b : Outside) (e : End) (status : ℕ)
-    → GoesOn a m b → Caused a m e → AskedEnds asked words a m e
-    → Finished e m.given b.given m.sink_faults b.sink_faults status → AskedAnswers asked words a b status
-asked_answers None words a m b e status on c h f = tool_answers (plan_of words) a m b e status on c h f
-asked_answers (Some params) words a m b e status on c h f =
-    blk_plan_answers (blk_plan_of params) a m b e status on c h f
-
--- the image is untouched but where all was done, or the store failed
-pub untouched_by : (a m b : Outside) (e : End) (status : ℕ) → GoesOn a m b → Caused a m e → KeptAt a.holds m.holds e
-    → Finished e m.given b.given m.sink_faults b.sink_faults status → status ≢ 0
-    → (b.holds ≡ a.holds) ⊎ RoseFor ImageFault a b
-untouched_by a m b (Ok u) status on c h f zero = absurd (zero f.answer)
-untouched_by a m b (Err ImageFault) status on c h f zero = inr (rose_on a m b on ImageFault c f.later)
-untouched_by a m b (Err Memory) status on c h f zero = inl (on.image.holds ∙ h)
-untouched_by a m b (Err Usage) status on c h f zero = inl (on.image.holds ∙ h)
-untouched_by a m b (Err (Param x y)) status on c h f zero = inl (on.image.holds ∙ h)
-untouched_by a m b (Err (Layout x)) status on c h f zero = inl (on.image.holds ∙ h)
-untouched_by a m b (Err (Short x y)) status on c h f zero = inl (on.image.holds ∙ h)
-untouched_by a m b (Err ScriptFault) status on c h f zero = inl (on.image.holds ∙ h)
-untouched_by a m b (Err SinkFault) status on c h f zero = inl (on.image.holds ∙ h)
-untouched_by a m b (Err TooLong) status on c h f zero = inl (on.image.holds ∙ h)
-untouched_by a m b (Err (BadLine x)) status on c h f zero = inl (on.image.holds ∙ h)
-untouched_by a m b (Err (Refused x y)) status on c h f zero = inl (on.image.holds ∙ h)

@@ -6,15 +6,14 @@ use Rattle.grammar_spec.specs.declared.line.Line.{Line}
 use Rattle.tool_spec.specs.Ends.{End}
 use Rattle.tool_spec.specs.Commands.{script_limit, stops}
 use Rattle.tool_spec.specs.Answers.{Outside, NoScript}
-use Rattle.tool_spec.specs.BlkCommands.{blk_lines, lines_or_bad}
+use Rattle.tool_spec.specs.BlkAnswers.{blk_lines, lines_or_bad, LinesEnd}
 use Rattle.tool_spec.specs.declared.Stop.{Stop}
 use Rattle.tool_spec.specs.declared.Stop.TheVariants.{Memory, Usage, Param, Layout, Short, ScriptFault, ImageFault, SinkFault, TooLong, BadLine, Refused}
 use Rattle.tool_frame.specs.Stages.{SizeStop, ScriptStop, ParseStop}
-use Rattle.tool_frame.specs.Ended.{CausedAt, ScriptEnds}
+use Rattle.tool_frame.specs.Ended.{CausedAt, ScriptEnds, LinesEnded, LinesOrStopEnded, KeptBefore, BlkEnds}
 use Rattle.tool_frame.proofs.ReadParts.{Read, read_of, room_of, unread_fault, unread_short, read_memory, read_fault, read_long, read_bad, read_unput, read_unsaved, read_refused, read_done}
 use Rattle.tool_frame.proofs.Script.{Quiet, nat_lt-true, nat_lt-false, quiet_memory, put_nothing}
-use Rattle.blk_session.specs.Playing.{seen, PlaysOn, Plays, IsCaused}
-use Rattle.image_tool.specs.BlkEnds.{LinesEnded, LinesOrStopEnded, KeptBefore, BlkEnds}
+use Rattle.tool_frame.specs.Playing.{BlkPlayCaused}
 
 -- ---- which lines are wanted
 
@@ -33,7 +32,7 @@ read_lines layout bytes script room h = rw (nat_lt-false room, nat_lt-false h) r
 -- ---- stops before the first line
 
 -- want of memory
-memory_lines : (layout : BlkLayout) (bytes : List ℕ) (r : Result (List Line) Stop) (a b : Outside) → Quiet a b
+pub memory_lines : (layout : BlkLayout) (bytes : List ℕ) (r : Result (List Line) Stop) (a b : Outside) → Quiet a b
     → a.holds ≡ Some bytes → LinesOrStopEnded layout bytes r a b (Err Memory)
 memory_lines layout bytes (Ok lines) a b q t = record {
   text = [];
@@ -176,114 +175,83 @@ module _ (layout : BlkLayout) (a b : Outside) (room : IfSome a.holds (λ bs. lay
 
 -- ---- lines
 
--- lines that were played, from the moment before the first
+-- lines that were begun, from the moment before the first
 lines_played : (e : End) (layout : BlkLayout) (bytes : List ℕ) (lines : List Line) (a b : Outside)
-    (holds : Option (List ℕ)) (g g' h h' : ℕ) → IsCaused e (seen holds g a.given h) (seen b.holds g' b.given h')
-    → PlaysOn e layout bytes lines (seen holds g a.given h) (seen b.holds g' b.given h')
-    → LinesEnded layout bytes lines a b e
-lines_played (Ok u) layout bytes lines a b holds g g' h h' c p =
-    record { none = p.none; texts = p.texts; holds = p.holds }
-lines_played (Err Memory) layout bytes lines a b holds g g' h h' c p =
-    record { text = _; stops = record { count = p.count; texts = refl; holds = p.holds }; put = p.texts }
-lines_played (Err ImageFault) layout bytes lines a b holds g g' h h' c p =
-    record {
-      text = _;
-      stops = inr (record {
-        count = p.count;
-        line = p.line;
-        next = p.next;
-        wanted = p.wanted;
-        texts = refl;
-        kept = p.holds.kept;
-        within = p.holds.within;
-        holds = p.holds.store;
-      });
-      put = p.texts;
-    }
-lines_played (Err SinkFault) layout bytes lines a b holds g g' h h' c p =
-    record {
-      text = _;
-      stops = record {
-        count = p.count;
-        next = p.text;
-        last = p.next;
-        part = p.part;
-        texts = refl;
-        holds = p.holds;
-      };
-      put = p.texts;
-    }
-lines_played (Err (Refused n cause)) layout bytes lines a b holds g g' h h' c p =
-    record { text = _; stops = record { end = p.end; texts = refl; holds = p.holds }; put = p.texts }
-lines_played (Err Usage) layout bytes lines a b holds g g' h h' c p = absurd c
-lines_played (Err (Param x y)) layout bytes lines a b holds g g' h h' c p = absurd c
-lines_played (Err (Layout x)) layout bytes lines a b holds g g' h h' c p = absurd c
-lines_played (Err (Short x y)) layout bytes lines a b holds g g' h h' c p = absurd c
-lines_played (Err ScriptFault) layout bytes lines a b holds g g' h h' c p = absurd c
-lines_played (Err TooLong) layout bytes lines a b holds g g' h h' c p = absurd c
-lines_played (Err (BadLine x)) layout bytes lines a b holds g g' h h' c p = absurd c
+    → LinesEnd e layout bytes lines a.given b.given b.holds → LinesEnded layout bytes lines a b e
+lines_played (Ok u) layout bytes lines a b p = p
+lines_played (Err Memory) layout bytes lines a b p = record { text = p.text; stops = p.stops; put = p.put }
+lines_played (Err ImageFault) layout bytes lines a b p = record { text = p.text; stops = inr p.stops; put = p.put }
+lines_played (Err SinkFault) layout bytes lines a b p = record { text = p.text; stops = p.stops; put = p.put }
+lines_played (Err (Refused n cause)) layout bytes lines a b p =
+    record { text = p.text; stops = p.stops; put = p.put }
+lines_played (Err Usage) layout bytes lines a b p = absurd p.stops
+lines_played (Err (Param x y)) layout bytes lines a b p = absurd p.stops
+lines_played (Err (Layout x)) layout bytes lines a b p = absurd p.stops
+lines_played (Err (Short x y)) layout bytes lines a b p = absurd p.stops
+lines_played (Err ScriptFault) layout bytes lines a b p = absurd p.stops
+lines_played (Err TooLong) layout bytes lines a b p = absurd p.stops
+lines_played (Err (BadLine x)) layout bytes lines a b p = absurd p.stops
 
 -- lines end no other way than after their reading
 module _ (mem : ℕ) (a b : Outside) (room : IfSome a.holds (λ bs. mem ≤ length bs)) (text : List ℕ)
     (read : Read a b text) (lines : List Line) (ok : script_of text ≡ Ok lines) where
-  played_read : (e : End) (g g' h h' : ℕ) (holds holds' given given' : Option (List ℕ))
-      → IsCaused e (seen holds g given h) (seen holds' g' given' h') → ScriptEnds mem a b e
-  played_read (Ok u) g g' h h' holds holds' given given' c = read_done mem a b room text read lines ok
-  played_read (Err Memory) g g' h h' holds holds' given given' c = read_memory mem a b room
-  played_read (Err ImageFault) g g' h h' holds holds' given given' c = read_unsaved mem a b room text read
-  played_read (Err SinkFault) g g' h h' holds holds' given given' c = read_unput mem a b room text read
-  played_read (Err (Refused n cause)) g g' h h' holds holds' given given' c =
-      read_refused mem a b room text read lines ok n cause
-  played_read (Err Usage) g g' h h' holds holds' given given' c = absurd c
-  played_read (Err (Param x y)) g g' h h' holds holds' given given' c = absurd c
-  played_read (Err (Layout x)) g g' h h' holds holds' given given' c = absurd c
-  played_read (Err (Short x y)) g g' h h' holds holds' given given' c = absurd c
-  played_read (Err ScriptFault) g g' h h' holds holds' given given' c = absurd c
-  played_read (Err TooLong) g g' h h' holds holds' given given' c = absurd c
-  played_read (Err (BadLine x)) g g' h h' holds holds' given given' c = absurd c
+  played_read : (e : End) (g g' h h' : ℕ) → BlkPlayCaused e g g' h h' → ScriptEnds mem a b e
+  played_read (Ok u) g g' h h' c = read_done mem a b room text read lines ok
+  played_read (Err Memory) g g' h h' c = read_memory mem a b room
+  played_read (Err ImageFault) g g' h h' c = read_unsaved mem a b room text read
+  played_read (Err SinkFault) g g' h h' c = read_unput mem a b room text read
+  played_read (Err (Refused n cause)) g g' h h' c = read_refused mem a b room text read lines ok n cause
+  played_read (Err Usage) g g' h h' c = absurd c
+  played_read (Err (Param x y)) g g' h h' c = absurd c
+  played_read (Err (Layout x)) g g' h h' c = absurd c
+  played_read (Err (Short x y)) g g' h h' c = absurd c
+  played_read (Err ScriptFault) g g' h h' c = absurd c
+  played_read (Err TooLong) g g' h h' c = absurd c
+  played_read (Err (BadLine x)) g g' h h' c = absurd c
 
-played_kept : (e : End) (g g' h h' : ℕ) (holds holds' given given' before now : Option (List ℕ))
-    → IsCaused e (seen holds g given h) (seen holds' g' given' h') → KeptBefore before now e
-played_kept (Ok u) g g' h h' holds holds' given given' before now c = tt
-played_kept (Err Memory) g g' h h' holds holds' given given' before now c = tt
-played_kept (Err ImageFault) g g' h h' holds holds' given given' before now c = tt
-played_kept (Err SinkFault) g g' h h' holds holds' given given' before now c = tt
-played_kept (Err (Refused n cause)) g g' h h' holds holds' given given' before now c = tt
-played_kept (Err Usage) g g' h h' holds holds' given given' before now c = absurd c
-played_kept (Err (Param x y)) g g' h h' holds holds' given given' before now c = absurd c
-played_kept (Err (Layout x)) g g' h h' holds holds' given given' before now c = absurd c
-played_kept (Err (Short x y)) g g' h h' holds holds' given given' before now c = absurd c
-played_kept (Err ScriptFault) g g' h h' holds holds' given given' before now c = absurd c
-played_kept (Err TooLong) g g' h h' holds holds' given given' before now c = absurd c
-played_kept (Err (BadLine x)) g g' h h' holds holds' given given' before now c = absurd c
+played_kept : (e : End) (g g' h h' : ℕ) (before now : Option (List ℕ)) → BlkPlayCaused e g g' h h'
+    → KeptBefore before now e
+played_kept (Ok u) g g' h h' before now c = tt
+played_kept (Err Memory) g g' h h' before now c = tt
+played_kept (Err ImageFault) g g' h h' before now c = tt
+played_kept (Err SinkFault) g g' h h' before now c = tt
+played_kept (Err (Refused n cause)) g g' h h' before now c = tt
+played_kept (Err Usage) g g' h h' before now c = absurd c
+played_kept (Err (Param x y)) g g' h h' before now c = absurd c
+played_kept (Err (Layout x)) g g' h h' before now c = absurd c
+played_kept (Err (Short x y)) g g' h h' before now c = absurd c
+played_kept (Err ScriptFault) g g' h h' before now c = absurd c
+played_kept (Err TooLong) g g' h h' before now c = absurd c
+played_kept (Err (BadLine x)) g g' h h' before now c = absurd c
 
 -- a fault is named only if its count rose since the moment before the lines, at which no count was lower
-pub played_caused : (e : End) (f f' g0 g g' h0 h h' : ℕ) (holds holds' given given' : Option (List ℕ)) → g0 ≤ g
-    → h0 ≤ h → IsCaused e (seen holds g given h) (seen holds' g' given' h') → CausedAt f f' g0 g' h0 h' e
-played_caused (Ok u) f f' g0 g g' h0 h h' holds holds' given given' p q c = tt
-played_caused (Err Memory) f f' g0 g g' h0 h h' holds holds' given given' p q c = tt
-played_caused (Err ImageFault) f f' g0 g g' h0 h h' holds holds' given given' p q c = omega (arith, c)
-played_caused (Err SinkFault) f f' g0 g g' h0 h h' holds holds' given given' p q c = omega (arith, c)
-played_caused (Err (Refused n cause)) f f' g0 g g' h0 h h' holds holds' given given' p q c = tt
-played_caused (Err Usage) f f' g0 g g' h0 h h' holds holds' given given' p q c = absurd c
-played_caused (Err (Param x y)) f f' g0 g g' h0 h h' holds holds' given given' p q c = absurd c
-played_caused (Err (Layout x)) f f' g0 g g' h0 h h' holds holds' given given' p q c = absurd c
-played_caused (Err (Short x y)) f f' g0 g g' h0 h h' holds holds' given given' p q c = absurd c
-played_caused (Err ScriptFault) f f' g0 g g' h0 h h' holds holds' given given' p q c = absurd c
-played_caused (Err TooLong) f f' g0 g g' h0 h h' holds holds' given given' p q c = absurd c
-played_caused (Err (BadLine x)) f f' g0 g g' h0 h h' holds holds' given given' p q c = absurd c
+pub played_caused : (e : End) (f f' g0 g g' h0 h h' : ℕ) → g0 ≤ g → h0 ≤ h → BlkPlayCaused e g g' h h'
+    → CausedAt f f' g0 g' h0 h' e
+played_caused (Ok u) f f' g0 g g' h0 h h' p q c = tt
+played_caused (Err Memory) f f' g0 g g' h0 h h' p q c = tt
+played_caused (Err ImageFault) f f' g0 g g' h0 h h' p q c = omega (arith, c)
+played_caused (Err SinkFault) f f' g0 g g' h0 h h' p q c = omega (arith, c)
+played_caused (Err (Refused n cause)) f f' g0 g g' h0 h h' p q c = tt
+played_caused (Err Usage) f f' g0 g g' h0 h h' p q c = absurd c
+played_caused (Err (Param x y)) f f' g0 g g' h0 h h' p q c = absurd c
+played_caused (Err (Layout x)) f f' g0 g g' h0 h h' p q c = absurd c
+played_caused (Err (Short x y)) f f' g0 g g' h0 h h' p q c = absurd c
+played_caused (Err ScriptFault) f f' g0 g g' h0 h h' p q c = absurd c
+played_caused (Err TooLong) f f' g0 g g' h0 h h' p q c = absurd c
+played_caused (Err (BadLine x)) f f' g0 g g' h0 h h' p q c = absurd c
 
 -- lines were played on a store that holds what it held
 pub play_ended : (layout : BlkLayout) (a b : Outside) (text : List ℕ) (lines : List Line) (e : End)
     (holds : Option (List ℕ)) (g g' h h' : ℕ) → IfSome a.holds (λ bs. layout.total ≤ length bs) → Read a b text
-    → script_of text ≡ Ok lines → holds ≡ a.holds → IsCaused e (seen holds g a.given h) (seen b.holds g' b.given h')
-    → Plays e layout lines (seen holds g a.given h) (seen b.holds g' b.given h') → BlkEnds layout a b e
+    → script_of text ≡ Ok lines → holds ≡ a.holds → BlkPlayCaused e g g' h h'
+    → ((bytes : List ℕ) → holds ≡ Some bytes → LinesEnd e layout bytes lines a.given b.given b.holds)
+    → BlkEnds layout a b e
 play_ended layout a b text lines e holds g g' h h' room read ok same c p = record {
   whole = record {
     told = λ bytes script t s. lines_as layout bytes (blk_lines layout bytes script) (Ok lines) a b e
         (lines_read layout a b room text read bytes script (Ok lines) ok t s)
-        (lines_played e layout bytes lines a b holds g g' h h' c (p bytes (same ∙ t)));
+        (lines_played e layout bytes lines a b (p bytes (same ∙ t)));
   };
-  read = played_read layout.total a b room text read lines ok e g g' h h' holds b.holds a.given b.given c;
-  kept = played_kept e g g' h h' holds b.holds a.given b.given a.holds b.holds c;
+  read = played_read layout.total a b room text read lines ok e g g' h h' c;
+  kept = played_kept e g g' h h' a.holds b.holds c;
 }

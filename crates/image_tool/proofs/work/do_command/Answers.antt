@@ -1,0 +1,60 @@
+use Rattle.std.proofs.Common.{refl, arith}
+use Rattle.tool_spec.specs.Commands.{ShowLayout, BlankImage}
+use Rattle.tool_frame.specs.Words.{plan_for}
+use Rattle.tool_frame.specs.declared.words.RamCommand.TheVariants.{Run, List, Extract, Erase, Layout, Blank, Make}
+use Rattle.image_tool.proofs.WorkEnds.{arm_done, kept_same, layout_shown, blank_left}
+use Rattle.image_tool.proofs.work.do_command.Goals as goal
+
+pub returns-in-Run : goal.returns-in-Run
+returns-in-Run g c = arm_done _ Run c.args.layout _ _ _ c.in-Run.is c.run_script.ensures
+
+pub returns-in-List : goal.returns-in-List
+returns-in-List g c = arm_done _ List c.args.layout _ _ _ c.in-List.is (record {
+  later = record { source = omega arith; store = c.list.ensures.later.0; sink = c.list.ensures.later.1 };
+  caused = c.list.ensures.caused _ _;
+  kept = λ w. kept_same _ _ _ c.list.ensures.same;
+  ended = c.list.ensures.ended _ _;
+})
+
+pub returns-in-Extract : goal.returns-in-Extract
+returns-in-Extract g c = arm_done _ (Extract c.in-Extract.name) c.args.layout _ _ _ c.in-Extract.is (record {
+  later = record { source = omega arith; store = c.extract.ensures.later.0; sink = c.extract.ensures.later.1 };
+  caused = c.extract.ensures.caused _ _;
+  kept = λ w. kept_same _ _ _ c.extract.ensures.same;
+  ended = c.extract.ensures.ended _ _;
+})
+
+pub returns-in-Erase : goal.returns-in-Erase
+returns-in-Erase g c = arm_done _ (Erase c.in-Erase.name) c.args.layout _ _ _ c.in-Erase.is (record {
+  later = record { source = omega arith; store = c.erase.ensures.later; sink = omega arith };
+  caused = c.erase.ensures.caused _ _ _ _;
+  kept = λ w. c.erase.ensures.kept;
+  ended = c.erase.ensures.ended _ _ _ _;
+})
+
+pub returns-in-Layout : goal.returns-in-Layout
+returns-in-Layout g c = arm_done _ Layout c.args.layout _ _ _ c.in-Layout.is (record {
+  later = record { source = omega arith; store = omega arith; sink = c.show_layout.ensures.later };
+  caused = c.show_layout.ensures.caused _ _ _ _;
+  kept = λ w. kept_same _ _ _ refl;
+  ended = layout_shown (plan_for ShowLayout c.args.layout) _ _ _ refl (record { left = refl; source = refl })
+      (record { holds = refl; store = refl }) c.show_layout.ensures.can (c.show_layout.ensures.ended _);
+})
+
+pub returns-in-Blank : goal.returns-in-Blank
+returns-in-Blank g c = arm_done _ Blank c.args.layout _ _ _ c.in-Blank.is (record {
+  later = record { source = omega arith; store = c.blank.ensures.later; sink = omega arith };
+  caused = c.blank.ensures.caused _ _ _ _;
+  kept = λ w. c.blank.ensures.kept;
+  ended = blank_left (plan_for BlankImage c.args.layout) c.mem.result _ _ _ c.mem.ensures refl
+      (record { left = refl; source = refl }) refl c.blank.ensures.can (c.blank.ensures.ended _)
+      c.blank.ensures.written;
+})
+
+pub returns-in-Make : goal.returns-in-Make
+returns-in-Make g c = arm_done _ (Make c.in-Make.n) c.args.layout _ _ _ c.in-Make.is (record {
+  later = record { source = omega arith; store = c.make.ensures.later.0; sink = c.make.ensures.later.1 };
+  caused = c.make.ensures.caused _ _;
+  kept = λ w. c.make.ensures.kept;
+  ended = c.make.ensures.ended _ _;
+})

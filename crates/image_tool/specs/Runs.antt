@@ -1,0 +1,19 @@
+-- What run says of its words
+use Rattle.std.specs.Prelude.{ℕ, List}
+use Rattle.grammar_spec.specs.Fields.{Text}
+use Rattle.tool_spec.specs.Commands.{plan_of}
+use Rattle.tool_spec.specs.Answers.{Outside}
+use Rattle.tool_spec.specs.PlanAnswers.{Untouched, ToolAnswers}
+use Rattle.tool_spec.specs.Complete.{Completes}
+use Rattle.image_tool.specs.Headline.{RunReads}
+
+-- from one moment of the outside to another, with this status
+pub record Runs (words : List Text) (a b : Outside) (status : ℕ) : Type 0 where
+  -- the image is untouched on every status but 0, unless the store failed
+  pub untouched : Untouched (plan_of words) a b status
+  -- the status, the text and the image that are wanted, or why not
+  pub answers : ToolAnswers (plan_of words) a b status
+  -- if nothing is refused and nothing failed, all is done, or memory is out
+  pub complete : Completes words a b status
+  -- what each boot of a script reads, and the text that it puts
+  pub reads : RunReads (plan_of words) a b status

@@ -1,0 +1,272 @@
+-- What run answers to any words, from how their work ended and what the last line left
+use Rattle.std.proofs.Common.{◌≡◌, ◌≢◌, ◌⊎◌, true, false, ℕ, List, [], length, take, Option, Result, Ok, Err, refl, sym, ap, ◌∙◌, arith, inl, inr}
+use Rattle.std.specs.Io.KnownBytes.{Appends}
+use Rattle.blk_spec.specs.declared.BlkLayout.{BlkLayout}
+use Rattle.tool_spec.specs.Ends.{End, status_of, last_line}
+use Rattle.tool_spec.specs.Commands.{RamCommand, RunScript, ListRecords, ExtractRecord, EraseRecord, ShowLayout, BlankImage, MakeImage, Command, OnRam, RunBlkScript, RamPlan, Plan, OfRam, OfBlk, command_of, Wanted, wanted, mem_of}
+use Rattle.tool_spec.specs.Answers.{Outside, NoScript, NoImage, RoseFor, FaultAnswers}
+use Rattle.tool_spec.specs.BlkAnswers.{blk_lines}
+use Rattle.tool_spec.specs.PlanAnswers.{PlanAnswers, ToolAnswers, statuses, IsAmong, Untouched, WritesLast}
+use Rattle.tool_frame.specs.Ends.{LastPut, Finished}
+use Rattle.tool_frame.specs.Words.{PlanStop}
+use Rattle.tool_frame.specs.Ended.{PutTexts, Ended, Caused, KeptAt, KeptBefore, RamEnds, PlanEnds, BlkEnds, Nothing, WorkEnds, WorkDone}
+use Rattle.tool_frame.proofs.ReadParts.{unread_memory}
+use Rattle.tool_frame.proofs.Answered.{GoesOn, rose_on, nothing_put}
+use Rattle.tool_frame.proofs.Tool.{status_is, script_on, image_on, ram_answers, no_texts}
+use Rattle.tool_frame.proofs.BlkScript.{memory_lines}
+use Rattle.tool_frame.proofs.BlkAnswered.{blk_answers}
+use Rattle.tool_frame.proofs.Script.{Quiet}
+use Rattle.tool_spec.specs.declared.Stop.{Stop}
+use Rattle.tool_spec.specs.declared.Stop.TheVariants.{Memory, Usage, Param, Layout, Short, ScriptFault, ImageFault, SinkFault, TooLong, BadLine, Refused}
+
+-- ---- the statuses of a command
+
+-- each can want memory, and fail to put its text
+can_want : (c : Command) → IsAmong (statuses c) 1
+can_want (OnRam RunScript) = refl
+can_want (OnRam ListRecords) = refl
+can_want (OnRam (ExtractRecord name)) = refl
+can_want (OnRam (EraseRecord name)) = refl
+can_want (OnRam ShowLayout) = refl
+can_want (OnRam BlankImage) = refl
+can_want (OnRam (MakeImage n)) = refl
+can_want RunBlkScript = refl
+
+can_fail : (c : Command) → IsAmong (statuses c) 7
+can_fail (OnRam RunScript) = refl
+can_fail (OnRam ListRecords) = refl
+can_fail (OnRam (ExtractRecord name)) = refl
+can_fail (OnRam (EraseRecord name)) = refl
+can_fail (OnRam ShowLayout) = refl
+can_fail (OnRam BlankImage) = refl
+can_fail (OnRam (MakeImage n)) = refl
+can_fail RunBlkScript = refl
+
+can_end : (c : RamCommand) (plan : RamPlan) (a b : Outside) (e : End) → RamEnds c plan a b e
+    → IsAmong (statuses (OnRam plan.command)) (status_of e)
+can_end RunScript plan a b e h = h.can
+can_end ListRecords plan a b e h = h.can
+can_end (ExtractRecord name) plan a b e h = h.can
+can_end (EraseRecord name) plan a b e h = h.can
+can_end ShowLayout plan a b e h = h.can
+can_end BlankImage plan a b e h = h.can
+can_end (MakeImage n) plan a b e h = h.can
+
+blk_can : (e : End) (holds holds' : Option (List ℕ)) → KeptBefore holds holds' e
+    → IsAmong (statuses RunBlkScript) (status_of e)
+blk_can (Ok u) holds holds' h = refl
+blk_can (Err Memory) holds holds' h = refl
+blk_can (Err Usage) holds holds' h = absurd h
+blk_can (Err (Param x y)) holds holds' h = absurd h
+blk_can (Err (Layout x)) holds holds' h = absurd h
+blk_can (Err (Short x y)) holds holds' h = refl
+blk_can (Err ScriptFault) holds holds' h = refl
+blk_can (Err ImageFault) holds holds' h = refl
+blk_can (Err SinkFault) holds holds' h = refl
+blk_can (Err TooLong) holds holds' h = refl
+blk_can (Err (BadLine x)) holds holds' h = refl
+blk_can (Err (Refused x y)) holds holds' h = refl
+
+plan_can : (plan : Plan) (a b : Outside) (e : End) → PlanEnds plan a b e
+    → IsAmong (statuses (command_of plan)) (status_of e)
+plan_can (OfRam plan) a b e h = can_end plan.command plan a b e h
+plan_can (OfBlk layout) a b e h = blk_can e a.holds b.holds h.kept
+
+-- the status of an end, or 7
+among : {A : Type 0} (all : List ℕ) (n status : ℕ) → IsAmong all n → IsAmong all 7 → (status ≡ n) ⊎ ((status ≡ 7) × A)
+    → IsAmong all status
+among all n status h k (inl is) = rw is h
+among all n status h k (inr is) = rw is.0 k
+
+fault_put : (s : Stop) (a m b : Outside) (status : ℕ) → NoScript a b → NoImage a b → m.given ≡ a.given
+    → LastPut s m.given b.given m.sink_faults b.sink_faults status → status_of (Err s) ≢ 7 → FaultAnswers s a b status
+fault_put s a m b status script image given f seven = elim f.shown [
+  | inl k ↦ record {
+    exact = inl k.0;
+    shown = λ z. rw given at k.1;
+    sink_fault = λ z. absurd (seven (sym k.0 ∙ z));
+    script = script;
+    image = image;
+  }
+  | inr k ↦ record {
+    exact = inr k.0;
+    shown = λ z. absurd (z k.0);
+    sink_fault = λ z. rw given at k.2;
+    script = script;
+    image = image;
+  }
+]
+
+fault_answers : (s : Stop) (a m b : Outside) (status : ℕ) → NoScript a b → NoImage a b → m.given ≡ a.given
+    → Finished (Err s) m.given b.given m.sink_faults b.sink_faults status → FaultAnswers s a b status
+fault_answers Memory a m b status script image given f =
+    fault_put Memory a m b status script image given f (λ z. absurd (omega arith))
+fault_answers Usage a m b status script image given f =
+    fault_put Usage a m b status script image given f (λ z. absurd (omega arith))
+fault_answers (Param x y) a m b status script image given f =
+    fault_put (Param x y) a m b status script image given f (λ z. absurd (omega arith))
+fault_answers (Layout x) a m b status script image given f =
+    fault_put (Layout x) a m b status script image given f (λ z. absurd (omega arith))
+fault_answers (Short x y) a m b status script image given f =
+    fault_put (Short x y) a m b status script image given f (λ z. absurd (omega arith))
+fault_answers ScriptFault a m b status script image given f =
+    fault_put ScriptFault a m b status script image given f (λ z. absurd (omega arith))
+fault_answers ImageFault a m b status script image given f =
+    fault_put ImageFault a m b status script image given f (λ z. absurd (omega arith))
+fault_answers TooLong a m b status script image given f =
+    fault_put TooLong a m b status script image given f (λ z. absurd (omega arith))
+fault_answers (BadLine x) a m b status script image given f =
+    fault_put (BadLine x) a m b status script image given f (λ z. absurd (omega arith))
+fault_answers (Refused x y) a m b status script image given f =
+    fault_put (Refused x y) a m b status script image given f (λ z. absurd (omega arith))
+fault_answers SinkFault a m b status script image given f =
+    let same : b.given ≡ a.given = f.same ∙ given in
+    record {
+      exact = inr f.answer;
+      shown = λ z. absurd (z f.answer);
+      sink_fault = λ z. record { count = 0; within = omega arith; bytes = rw same (nothing_put a.given) };
+      script =
+          script;
+      image = image;
+    }
+
+-- ---- any words
+
+plan_answers : (plan : Plan) (a m b : Outside) (e : End) (status : ℕ) → GoesOn a m b → Caused a m e
+    → PlanEnds plan a m e → Finished e m.given b.given m.sink_faults b.sink_faults status
+    → PlanAnswers plan a b status
+plan_answers (OfRam plan) a m b e status on c h f = ram_answers a m b on status plan.command plan e c h f
+plan_answers (OfBlk layout) a m b e status on c h f = blk_answers layout a m b e status on c h f
+
+tool_answers : (r : Result Plan Stop) (a m b : Outside) (e : End) (status : ℕ) → GoesOn a m b → Caused a m e
+    → WorkEnds r a m e → Finished e m.given b.given m.sink_faults b.sink_faults status → ToolAnswers r a b status
+tool_answers (Ok plan) a m b e status on c h f = (
+  plan_answers plan a m b e status on c h f,
+  among (statuses (command_of plan)) (status_of e) status (plan_can plan a m e h) (can_fail (command_of plan))
+      (status_is a m b on status e c f),
+)
+tool_answers (Err s) a m b e status on c h f =
+    fault_answers s a m b status (script_on a m b h.1.script on.script) (image_on a m b h.1.image on.image) h.1.given
+    (rw h.0 at f)
+
+-- ---- work that nothing has come of
+
+out_of_memory : (w : Wanted) (a b : Outside) → Nothing a b → Ended w a b (Err Memory)
+out_of_memory w a b h = (rw h.given (no_texts w a.given), h.image.holds)
+
+-- out of memory before anything was touched
+ram_memory : (c : RamCommand) (plan : RamPlan) (a b : Outside) → Nothing a b → RamEnds c plan a b (Err Memory)
+ram_memory RunScript plan a b h = record {
+  can = can_want (OnRam plan.command);
+  whole = record { told = λ bytes script t l. out_of_memory (wanted plan bytes script) a b h };
+  read = unread_memory (mem_of plan) a b h.script;
+}
+ram_memory ListRecords plan a b h = record {
+  can = can_want (OnRam plan.command);
+  whole = record { told = λ bytes t. out_of_memory (wanted plan bytes []) a b h };
+  script = h.script;
+  image = h.image.holds;
+}
+ram_memory (ExtractRecord name) plan a b h = record {
+  can = can_want (OnRam plan.command);
+  whole = record { told = λ bytes t. out_of_memory (wanted plan bytes []) a b h };
+  script = h.script;
+  image = h.image.holds;
+}
+ram_memory (EraseRecord name) plan a b h = record {
+  can = can_want (OnRam plan.command);
+  whole = record { told = λ bytes t. out_of_memory (wanted plan bytes []) a b h };
+  script = h.script;
+}
+ram_memory ShowLayout plan a b h = record {
+  can = can_want (OnRam plan.command);
+  whole = out_of_memory (wanted plan [] []) a b h;
+  script = h.script;
+  image = h.image;
+}
+ram_memory BlankImage plan a b h = record {
+  can = can_want (OnRam plan.command);
+  whole = out_of_memory (wanted plan [] []) a b h;
+  script = h.script;
+  image_fault = tt;
+  text_first = inl h.image;
+}
+ram_memory (MakeImage n) plan a b h = record {
+  can = can_want (OnRam plan.command);
+  whole = out_of_memory (wanted plan [] []) a b h;
+  script = h.script;
+  image_fault = tt;
+  text_first = inl h.image;
+}
+
+memory_ends : (plan : Plan) (a b : Outside) → Nothing a b → PlanEnds plan a b (Err Memory)
+memory_ends (OfRam plan) a b h = ram_memory plan.command plan a b h
+memory_ends (OfBlk layout) a b h =
+    let q : Quiet a b = record { given = h.given; holds = h.image.holds } in
+    record {
+      whole = record { told = λ bytes script t l. memory_lines layout bytes (blk_lines layout bytes script) a b q t };
+      read = unread_memory layout.total a b h.script;
+      kept = tt;
+    }
+
+clash : {A B : Type 0} {x : A} {y : B} → Ok x ≡ Err y → ⊥
+clash e = cc
+
+same_stop : (f s : Stop) → (let r : Result Plan Stop = Err f in r) ≡ Err s → (let e : End = Err s in e) ≡ Err f
+same_stop f s e = let same : s ≡ f = cc in ap (λ x. Err x) same
+
+-- words of which no plan was read
+pub plan_stopped : (r : Result Plan Stop) (s : Stop) (a b : Outside) → PlanStop s r → Nothing a b
+    → WorkEnds r a b (Err s)
+plan_stopped (Ok plan) Memory a b h n = memory_ends plan a b n
+plan_stopped (Ok plan) Usage a b h n = absurd (clash h)
+plan_stopped (Ok plan) (Param x y) a b h n = absurd (clash h)
+plan_stopped (Ok plan) (Layout x) a b h n = absurd (clash h)
+plan_stopped (Ok plan) (Short x y) a b h n = absurd (clash h)
+plan_stopped (Ok plan) ScriptFault a b h n = absurd (clash h)
+plan_stopped (Ok plan) ImageFault a b h n = absurd (clash h)
+plan_stopped (Ok plan) SinkFault a b h n = absurd (clash h)
+plan_stopped (Ok plan) TooLong a b h n = absurd (clash h)
+plan_stopped (Ok plan) (BadLine x) a b h n = absurd (clash h)
+plan_stopped (Ok plan) (Refused x y) a b h n = absurd (clash h)
+plan_stopped (Err f) Memory a b h n = let no_plan : false ≡ true = h in cc
+plan_stopped (Err f) Usage a b h n = (same_stop f _ h, n)
+plan_stopped (Err f) (Param x y) a b h n = (same_stop f _ h, n)
+plan_stopped (Err f) (Layout x) a b h n = (same_stop f _ h, n)
+plan_stopped (Err f) (Short x y) a b h n = (same_stop f _ h, n)
+plan_stopped (Err f) ScriptFault a b h n = (same_stop f _ h, n)
+plan_stopped (Err f) ImageFault a b h n = (same_stop f _ h, n)
+plan_stopped (Err f) SinkFault a b h n = (same_stop f _ h, n)
+plan_stopped (Err f) TooLong a b h n = (same_stop f _ h, n)
+plan_stopped (Err f) (BadLine x) a b h n = (same_stop f _ h, n)
+plan_stopped (Err f) (Refused x y) a b h n = (same_stop f _ h, n)
+
+-- the image is untouched but where all was done, or the store failed
+untouched_by : (a m b : Outside) (e : End) (status : ℕ) → GoesOn a m b → Caused a m e → KeptAt a.holds m.holds e
+    → Finished e m.given b.given m.sink_faults b.sink_faults status → status ≢ 0
+    → (b.holds ≡ a.holds) ⊎ RoseFor ImageFault a b
+untouched_by a m b (Ok u) status on c h f zero = absurd (zero f.answer)
+untouched_by a m b (Err ImageFault) status on c h f zero = inr (rose_on a m b on ImageFault c f.later)
+untouched_by a m b (Err Memory) status on c h f zero = inl (on.image.holds ∙ h)
+untouched_by a m b (Err Usage) status on c h f zero = inl (on.image.holds ∙ h)
+untouched_by a m b (Err (Param x y)) status on c h f zero = inl (on.image.holds ∙ h)
+untouched_by a m b (Err (Layout x)) status on c h f zero = inl (on.image.holds ∙ h)
+untouched_by a m b (Err (Short x y)) status on c h f zero = inl (on.image.holds ∙ h)
+untouched_by a m b (Err ScriptFault) status on c h f zero = inl (on.image.holds ∙ h)
+untouched_by a m b (Err SinkFault) status on c h f zero = inl (on.image.holds ∙ h)
+untouched_by a m b (Err TooLong) status on c h f zero = inl (on.image.holds ∙ h)
+untouched_by a m b (Err (BadLine x)) status on c h f zero = inl (on.image.holds ∙ h)
+untouched_by a m b (Err (Refused x y)) status on c h f zero = inl (on.image.holds ∙ h)
+
+-- ---- all that is said of words
+
+pub work_answers : (r : Result Plan Stop) (a m b : Outside) (e : End) (status : ℕ) → NoScript m b → NoImage m b
+    → WorkDone r a m e → Finished e m.given b.given m.sink_faults b.sink_faults status → ToolAnswers r a b status
+work_answers r a m b e status script image w f =
+    tool_answers r a m b e status (record { later = w.later; script = script; image = image }) w.caused w.ended f
+
+pub work_untouched : (r : Result Plan Stop) (a m b : Outside) (e : End) (status : ℕ) → NoScript m b → NoImage m b
+    → WorkDone r a m e → Finished e m.given b.given m.sink_faults b.sink_faults status → Untouched r a b status
+work_untouched r a m b e status script image w f last zero =
+    untouched_by a m b e status (record { later = w.later; script = script; image = image }) w.caused (w.kept last) f
+    zero
