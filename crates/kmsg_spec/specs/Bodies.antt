@@ -1,0 +1,45 @@
+-- The body of a crash dump: a heading, and the last lines of the message log that fit
+use Rattle.std.specs.Prelude.{◌≡◌, ℕ, ◌-◌, ◌≤◌, nat_le, if◌then◌else◌, List, [], ◌∷◌, ◌++◌, length, take, flat_map, codes, decimal}
+use Rattle.kmsg_spec.specs.declared.Why.{Why}
+use Rattle.kmsg_spec.specs.declared.Why.TheVariants.{Panic, Oops, Emergency, Shutdown}
+
+abbrev pub newline : ℕ
+newline = 10
+
+-- a line as it is kept
+abbrev pub ended : List ℕ → List ℕ
+ended text = text ++ newline ∷ []
+
+abbrev pub bytes_of : List (List ℕ) → List ℕ
+bytes_of lines = flat_map ended lines
+
+-- these are the last of the lines, as many as fit in the room
+pub record AreLastThatFit (room : ℕ) (lines last : List (List ℕ)) : Type 0 where
+  pub before : List (List ℕ)
+  pub suffix : lines ≡ before ++ last
+  pub fit : length (bytes_of last) ≤ room
+  pub longest : (front back : List (List ℕ)) → lines ≡ front ++ back → length (bytes_of back) ≤ room
+      → length back ≤ length last
+
+-- all lines where they fit, else those of the lines behind the first
+unfoldable pub last_lines : ℕ → List (List ℕ) → List (List ℕ)
+last_lines room [] = []
+last_lines room (line ∷ lines) =
+    if nat_le (length (bytes_of (line ∷ lines))) room then line ∷ lines else last_lines room lines
+
+abbrev pub why_text : Why → List ℕ
+why_text Panic = codes "Panic"
+why_text Oops = codes "Oops"
+why_text Emergency = codes "Emergency"
+why_text Shutdown = codes "Shutdown"
+
+abbrev pub heading : Why → ℕ → List ℕ
+heading why count = why_text why ++ codes "#" ++ decimal count ++ codes " Part1" ++ newline ∷ []
+
+abbrev pub body_below : List ℕ → ℕ → List (List ℕ) → List ℕ
+body_below head room lines =
+    if nat_le (length head) room then head ++ bytes_of (last_lines (room - length head) lines) else take room head
+
+-- the body of the crash of this number, in a room of so many bytes
+abbrev pub body : Why → ℕ → ℕ → List (List ℕ) → List ℕ
+body why count room lines = body_below (heading why count) room lines
