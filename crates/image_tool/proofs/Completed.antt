@@ -28,7 +28,8 @@ module _ (a b : Outside) (status : ℕ) (script_ok : RoseFor ScriptFault a b →
   exact_done e (inr free) done = free_done free
 
   -- what a command wants does not stand on what it does not read
-  ram_done : (c : RamCommand) (plan : RamPlan) → plan.command ≡ c → RamAnswers c plan a b status → (bytes script : List ℕ)
+  ram_done : (c : RamCommand) (plan : RamPlan) → plan.command ≡ c → RamAnswers c plan a b status
+      → (bytes script : List ℕ)
       → CommandTells (OnRam c) a bytes script → (wanted plan bytes script).end ≡ Ok tt → Done
   ram_done RunScript plan is h bytes script tells done =
       exact_done (wanted plan bytes script).end (h.whole.told bytes script tells.0 tells.1).exact done

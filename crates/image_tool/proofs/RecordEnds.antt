@@ -79,7 +79,8 @@ saved_from : {layout : List Zone} {mem : ℕ} {holds : Option (List ℕ)} {live 
     → BootedFrom layout mem holds live logs → SavedFrom layout mem holds logs
 saved_from booted = record { image = booted.image; read = booted.read; logs_are = booted.logs_are }
 
-module _ (plan : RamPlan) (a b : Outside) (logs : SavedLogs) (read : SavedFrom plan.zones (mem_of plan) a.holds logs) where
+module _ (plan : RamPlan) (a b : Outside) (logs : SavedLogs)
+    (read : SavedFrom plan.zones (mem_of plan) a.holds logs) where
   -- what a command wants of the image that was read
   done : (c : RamCommand) (e : End) → plan.command ≡ c → reads_image c ≡ true
       → Ended (wanted_of plan.params plan.zones read.image [] c) a b e
