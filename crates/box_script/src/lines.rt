@@ -26,6 +26,12 @@ impl Lines {
         &self.items
     }
 
+    pub fn into_vec(self) -> Vec<Line>
+        ensures { result.items ≡ self }
+    {
+        self.items
+    }
+
     pub fn from_vec(v: Vec<Line>) -> Lines
         ensures { result ≡ v.items }
     {

@@ -1,6 +1,6 @@
 // A script's lines, read.
-ghost use Rattle.std.specs.Prelude.{◌≡◌, ◌==◌, ◌+◌, ◌≤◌, ◌^◌, MatchResult, IfOk, Ok};
-ghost use Rattle.std.specs.List.{count_by};
+ghost use Rattle.std.specs.Prelude.{◌≡◌, ◌+◌, ◌≤◌, ◌^◌, length, MatchResult, IfOk, Ok};
+ghost use Rattle.memchr.specs.Find.{is_byte, places};
 ghost use Rattle.grammar_spec.specs.Lines.{line_of, script_of};
 ghost use Rattle.grammar_spec.specs.Printed.{AllHaveFields};
 ghost use Rattle.box_script.specs.Reading.{ReadsLine, IsFaultOf};
@@ -8,6 +8,7 @@ ghost use Rattle.box_script.specs.declared.reading.ParseFault.TheVariants.{Memor
 
 use crate::rows::{self, LineFault};
 use crate::{Line, Lines};
+use memchr::memchr_iter;
 use std::alloc::{AllocError, AllocFailed, Global};
 use thiserror::Error;
 
@@ -59,9 +60,9 @@ fn number_after(count: usize) -> Result<u32, ParseFault>
 }
 
 fn newlines(script: &[u8]) -> usize
-    ensures { result ≡ count_by (λ b. b == 0x0a) script.now }
+    ensures { result ≡ length (places (is_byte 0x0a) script.now) }
 {
-    script.iter().filter(|b| **b == b'\n').count()
+    memchr_iter(b'\n', script).count()
 }
 
 /// The lines of a script, each ended by a newline. Where 32 bits do not count its lines, the answer is want of memory.

@@ -42,7 +42,7 @@ pub fn run_script<S: Source, M: Store, O: Sink>(
         Ok(off) => off,
         Err(AllocError) => return Err(Stop::Memory),
     };
-    let machine = match play(alloc, off, lines.as_slice(), out) {
+    let machine = match play(alloc, off, lines, out) {
         Ok(machine) => machine,
         Err(stop) => return Err(stop),
     };

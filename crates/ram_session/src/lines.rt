@@ -16,22 +16,20 @@ use tool_spec::Cause;
 
 // A line of a call.
 #[tactic(auto, using(crate::proofs::AnyLines::dump_time, crate::proofs::AnyLines::begin_dump_time))]
-fn do_call(alloc: Global, live: &mut Live, line: &Line) -> Result<(), LineError>
-    requires fields { HasFields line.now }
-    requires call { IsCall line.now }
-    ensures { (logs : SavedLogs) → MatchResult result (λ _. LineDone (LiveMachine live.old logs) line.now
-        (LiveMachine live.new logs) []) (LineFails (LiveMachine live.old logs) line.now) }
+fn do_call(live: &mut Live, line: Line) -> Result<(), LineError>
+    requires fields { HasFields line }
+    requires call { IsCall line }
+    ensures { (logs : SavedLogs) → MatchResult result (λ _. LineDone (LiveMachine live.old logs) line
+        (LiveMachine live.new logs) []) (LineFails (LiveMachine live.old logs) line) }
 {
     match line {
-        Line::Write(zone, bytes) => live_lines::write(alloc, live, *zone, bytes),
-        Line::Dump(time, packed, bytes) => live_lines::dump(alloc, live, *time, *packed, bytes),
-        Line::BeginWrite(zone, bytes) => live_lines::begin_write(alloc, live, *zone, bytes),
-        Line::BeginErase(zone) => live_lines::begin_erase(live, *zone),
-        Line::BeginDump(time, packed, bytes) => {
-            live_lines::begin_dump(alloc, live, *time, *packed, bytes)
-        }
-        Line::Step(zone, count) => live_lines::step(live, *zone, *count),
-        Line::Finish(zone) => live_lines::finish(live, *zone),
+        Line::Write(zone, payload) => live_lines::write(live, zone, payload),
+        Line::Dump(time, packed, body) => live_lines::dump(live, time, packed, body),
+        Line::BeginWrite(zone, payload) => live_lines::begin_write(live, zone, payload),
+        Line::BeginErase(zone) => live_lines::begin_erase(live, zone),
+        Line::BeginDump(time, packed, body) => live_lines::begin_dump(live, time, packed, body),
+        Line::Step(zone, count) => live_lines::step(live, zone, count),
+        Line::Finish(zone) => live_lines::finish(live, zone),
         _ => unreachable!(),
     }
 }
@@ -41,11 +39,11 @@ fn do_live(
     alloc: Global,
     live: Live,
     logs: Logs,
-    line: &Line,
+    line: Line,
 ) -> Result<(Machine, Vec<u8>), LineError>
-    requires fields { HasFields line.now }
-    ensures { MatchResult result (λ r. LineDone (LiveMachine live logs) line.now r.0 r.1.items)
-        (LineFails (LiveMachine live logs) line.now) }
+    requires fields { HasFields line }
+    ensures { MatchResult result (λ r. LineDone (LiveMachine live logs) line r.0 r.1.items)
+        (LineFails (LiveMachine live logs) line) }
 {
     let (mut live, mut logs) = (live, logs);
     match line {
@@ -59,7 +57,7 @@ fn do_live(
             let text = state_lines::list(alloc, &logs)?;
             Ok((Machine::Live(live, logs), text))
         }
-        Line::Extract(name) => match record_lines::extract(alloc, &logs, name) {
+        Line::Extract(name) => match record_lines::extract(alloc, &logs, &name) {
             Ok(text) => Ok((Machine::Live(live, logs), text)),
             Err(e) => Err(e),
         },
@@ -67,7 +65,7 @@ fn do_live(
             Ok(()) => Ok((Machine::Live(live, logs), Vec::new(alloc))),
             Err(e) => Err(e),
         },
-        _ => match do_call(alloc, &mut live, line) {
+        _ => match do_call(&mut live, line) {
             Ok(()) => Ok((Machine::Live(live, logs), Vec::new(alloc))),
             Err(e) => Err(e),
         },
@@ -75,31 +73,27 @@ fn do_live(
 }
 
 #[tactic(auto, using(crate::proofs::AnyLines::waits_for_boot, crate::proofs::AnyLines::elsewhere_off, crate::proofs::StateLines::blank_done))]
-fn do_off(alloc: Global, off: Off, line: &Line) -> Result<(Machine, Vec<u8>), LineError>
-    ensures { MatchResult result (λ r. LineDone (OffMachine off) line.now r.0 r.1.items)
-        (LineFails (OffMachine off) line.now) }
+fn do_off(alloc: Global, off: Off, line: Line) -> Result<(Machine, Vec<u8>), LineError>
+    ensures { MatchResult result (λ r. LineDone (OffMachine off) line r.0 r.1.items)
+        (LineFails (OffMachine off) line) }
 {
     match line {
         Line::Blank => Ok((Machine::Off(off), Vec::new(alloc))),
-        Line::Flip(place, mask) => match off_lines::flip(off, *place, *mask) {
+        Line::Flip(place, mask) => match off_lines::flip(off, place, mask) {
             Ok(machine) => Ok((machine, Vec::new(alloc))),
             Err(cause) => Err(LineError::Refused(cause)),
         },
         Line::Boot => state_lines::boot(alloc, off),
-        Line::BootPart(limit) => state_lines::boot_part(alloc, off, *limit),
+        Line::BootPart(limit) => state_lines::boot_part(alloc, off, limit),
         Line::KDump(_, _, _, _, _) | Line::CutAfter(_) => Err(LineError::Refused(Cause::NotHere)),
         _ => Err(LineError::Refused(Cause::IsOff)),
     }
 }
 
 /// Does a line, and gives what it puts. A line that is refused ends the session.
-pub fn do_line(
-    alloc: Global,
-    machine: Machine,
-    line: &Line,
-) -> Result<(Machine, Vec<u8>), LineError>
-    requires fields { HasFields line.now }
-    ensures { MatchResult result (λ r. LineDone machine line.now r.0 r.1.items) (LineFails machine line.now) }
+pub fn do_line(alloc: Global, machine: Machine, line: Line) -> Result<(Machine, Vec<u8>), LineError>
+    requires fields { HasFields line }
+    ensures { MatchResult result (λ r. LineDone machine line r.0 r.1.items) (LineFails machine line) }
 {
     match machine {
         Machine::Off(off) => do_off(alloc, off, line),

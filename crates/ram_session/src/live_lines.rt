@@ -11,7 +11,6 @@ use crate::calls;
 use crate::machine::LineError;
 use box_io::Bytes;
 use ram_core::{Ask, Live, Refusal};
-use std::alloc::Global;
 use tool_spec::Cause;
 use zone_spec::{Time, ZoneName};
 
@@ -28,12 +27,11 @@ fn cause(why: Refusal) -> Cause
 
 /// An append, made whole.
 #[tactic(auto, using(crate::proofs::LiveLines::write_done, crate::proofs::LiveLines::write_refused))]
-pub fn write(alloc: Global, live: &mut Live, zone: ZoneName, bytes: &Bytes) -> Result<(), LineError>
+pub fn write(live: &mut Live, zone: ZoneName, payload: Bytes) -> Result<(), LineError>
     ensures { (logs : SavedLogs) → MatchResult result (λ _. LineDone (LiveMachine live.old logs)
-        (Write zone bytes.now) (LiveMachine live.new logs) [])
-        (LineFails (LiveMachine live.old logs) (Write zone bytes.now)) }
+        (Write zone payload) (LiveMachine live.new logs) [])
+        (LineFails (LiveMachine live.old logs) (Write zone payload)) }
 {
-    let payload = Bytes::copy_of(alloc, bytes.as_slice())?;
     match calls::make(live, Ask::Append(zone, payload)) {
         Ok(()) => Ok(()),
         Err(why) => Err(LineError::Refused(cause(why))),
@@ -68,19 +66,12 @@ pub fn finish(live: &mut Live, zone: ZoneName) -> Result<(), LineError>
 
 /// A dump, made whole.
 #[tactic(auto, using(crate::proofs::LiveLines::dump_done, crate::proofs::LiveLines::dump_refused))]
-pub fn dump(
-    alloc: Global,
-    live: &mut Live,
-    time: Time,
-    packed: bool,
-    bytes: &Bytes,
-) -> Result<(), LineError>
+pub fn dump(live: &mut Live, time: Time, packed: bool, body: Bytes) -> Result<(), LineError>
     requires { IsTime time }
     ensures { (logs : SavedLogs) → MatchResult result (λ _. LineDone (LiveMachine live.old logs)
-        (Dump time packed bytes.now) (LiveMachine live.new logs) [])
-        (LineFails (LiveMachine live.old logs) (Dump time packed bytes.now)) }
+        (Dump time packed body) (LiveMachine live.new logs) [])
+        (LineFails (LiveMachine live.old logs) (Dump time packed body)) }
 {
-    let body = Bytes::copy_of(alloc, bytes.as_slice())?;
     match calls::make(live, Ask::Dump(time, packed, body)) {
         Ok(()) => Ok(()),
         Err(why) => Err(LineError::Refused(cause(why))),
@@ -89,17 +80,11 @@ pub fn dump(
 
 /// An append that is begun.
 #[tactic(auto, using(crate::proofs::LiveLines::begin_write_done, crate::proofs::LiveLines::begin_write_refused))]
-pub fn begin_write(
-    alloc: Global,
-    live: &mut Live,
-    zone: ZoneName,
-    bytes: &Bytes,
-) -> Result<(), LineError>
+pub fn begin_write(live: &mut Live, zone: ZoneName, payload: Bytes) -> Result<(), LineError>
     ensures { (logs : SavedLogs) → MatchResult result (λ _. LineDone (LiveMachine live.old logs)
-        (BeginWrite zone bytes.now) (LiveMachine live.new logs) [])
-        (LineFails (LiveMachine live.old logs) (BeginWrite zone bytes.now)) }
+        (BeginWrite zone payload) (LiveMachine live.new logs) [])
+        (LineFails (LiveMachine live.old logs) (BeginWrite zone payload)) }
 {
-    let payload = Bytes::copy_of(alloc, bytes.as_slice())?;
     match calls::begin(live, Ask::Append(zone, payload)) {
         Ok(_) => Ok(()),
         Err(why) => Err(LineError::Refused(cause(why))),
@@ -121,19 +106,12 @@ pub fn begin_erase(live: &mut Live, zone: ZoneName) -> Result<(), LineError>
 
 /// A dump that is begun.
 #[tactic(auto, using(crate::proofs::LiveLines::begin_dump_done, crate::proofs::LiveLines::begin_dump_refused))]
-pub fn begin_dump(
-    alloc: Global,
-    live: &mut Live,
-    time: Time,
-    packed: bool,
-    bytes: &Bytes,
-) -> Result<(), LineError>
+pub fn begin_dump(live: &mut Live, time: Time, packed: bool, body: Bytes) -> Result<(), LineError>
     requires { IsTime time }
     ensures { (logs : SavedLogs) → MatchResult result (λ _. LineDone (LiveMachine live.old logs)
-        (BeginDump time packed bytes.now) (LiveMachine live.new logs) [])
-        (LineFails (LiveMachine live.old logs) (BeginDump time packed bytes.now)) }
+        (BeginDump time packed body) (LiveMachine live.new logs) [])
+        (LineFails (LiveMachine live.old logs) (BeginDump time packed body)) }
 {
-    let body = Bytes::copy_of(alloc, bytes.as_slice())?;
     match calls::begin(live, Ask::Dump(time, packed, body)) {
         Ok(_) => Ok(()),
         Err(why) => Err(LineError::Refused(cause(why))),

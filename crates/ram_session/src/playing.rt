@@ -6,7 +6,7 @@ ghost use Rattle.ram_session.specs.Playing.{Puts, LineStops, Plays};
 use crate::lines::do_line;
 use crate::machine::{LineError, Machine};
 use box_io::{Failed, Sink};
-use box_script::Line;
+use box_script::{Line, Lines};
 use ram_core::Off;
 use std::alloc::Global;
 use tool_spec::Stop;
@@ -15,14 +15,14 @@ use tool_spec::Stop;
 fn play_line<O: Sink>(
     alloc: Global,
     machine: Machine,
-    line: &Line,
+    line: Line,
     number: u32,
     out: &mut O,
 ) -> Result<Machine, Stop>
-    requires fields { HasFields line.now }
+    requires fields { HasFields line }
     ensures later { O.faults out.old ≤ O.faults out.new }
-    ensures played { MatchResult result (λ next. Puts machine line.now next (O.given out.old) (O.given out.new))
-        (λ stop. LineStops stop machine line.now number (O.given out.old) (O.given out.new) (O.faults out.old)
+    ensures played { MatchResult result (λ next. Puts machine line next (O.given out.old) (O.given out.new))
+        (λ stop. LineStops stop machine line number (O.given out.old) (O.given out.new) (O.faults out.old)
         (O.faults out.new)) }
 {
     let (next, text) = match do_line(alloc, machine, line) {
@@ -42,16 +42,18 @@ fn play_line<O: Sink>(
 }
 
 /// Does the lines in order on a store that is off, and puts the text of each as it is done.
-pub fn play<O: Sink>(alloc: Global, off: Off, lines: &[Line], out: &mut O) -> Result<Machine, Stop>
-    requires fields { AllHaveFields lines.now }
-    requires few { length lines.now < 2 ^ 32 }
+pub fn play<O: Sink>(alloc: Global, off: Off, lines: Lines, out: &mut O) -> Result<Machine, Stop>
+    requires fields { AllHaveFields lines }
+    requires few { length lines < 2 ^ 32 }
     ensures later { O.faults out.old ≤ O.faults out.new }
-    ensures played { Plays off lines.now (O.given out.old) (O.given out.new) (O.faults out.old) (O.faults out.new)
+    ensures played { Plays off lines (O.given out.old) (O.given out.new) (O.faults out.old) (O.faults out.new)
         result }
 {
     let mut machine = Machine::Off(off);
-    for (i, line) in lines.iter().enumerate() {
-        machine = match play_line(alloc, machine, line, i as u32 + 1, out) {
+    let mut number = 0u32;
+    for line in lines.into_vec() {
+        number += 1;
+        machine = match play_line(alloc, machine, line, number, out) {
             Ok(next) => next,
             Err(stop) => return Err(stop),
         };

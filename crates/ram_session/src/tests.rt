@@ -106,9 +106,10 @@ fn lines_are_done(rt: HostRuntime) -> Result<(), Fail> {
         b"boot console unsigned start 0 size 0 corrected 0 bad 0 nothing told\n".as_slice()
     );
     let abc = Bytes::copy_of(alloc, b"abc".as_slice())?;
-    assert_eq!(rt; live_lines::write(alloc, &mut live, CONSOLE, &abc), Ok(()));
+    assert_eq!(rt; live_lines::write(&mut live, CONSOLE, abc), Ok(()));
+    let lost = Bytes::copy_of(alloc, b"abc".as_slice())?;
     assert_eq!(rt;
-        live_lines::write(alloc, &mut live, PMSG, &abc),
+        live_lines::write(&mut live, PMSG, lost),
         Err(LineError::Refused(Cause::NoZone))
     );
     let Machine::Off(second) = state_lines::stop(live, logs) else {
@@ -146,7 +147,7 @@ fn a_record_is_found_by_its_name(rt: HostRuntime) -> Result<(), Fail> {
         none
     );
     let abc = Bytes::copy_of(alloc, b"abc".as_slice())?;
-    assert_eq!(rt; live_lines::write(alloc, &mut live, CONSOLE, &abc), Ok(()));
+    assert_eq!(rt; live_lines::write(&mut live, CONSOLE, abc), Ok(()));
     let Machine::Off(second) = state_lines::stop(live, logs) else {
         return Err(Fail::from(AllocError));
     };

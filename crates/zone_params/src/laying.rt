@@ -41,8 +41,8 @@ fn list_zones(alloc: Global, p: &Params, rows: &[Row]) -> Result<Vec<Zone>, Allo
 }
 
 /// The layout of the parameters (`fs/pstore/ram.c`, `ramoops_probe` and `ramoops_init_przs`), or their first fault.
-/// Sizes are rounded down to powers of two; rounding `mem`, laying the zones in this order and rounding the sizes of
-/// dump and ftrace zones down to even are the project's own choices.
+/// Sizes are rounded down to powers of two, and the sizes of dump and ftrace zones down to even. That `mem` is rounded
+/// too is the project's own choice.
 pub fn layout(alloc: Global, p: &Params) -> Result<Layout, LayoutError>
     ensures { MatchResult result (λ l. (params_of l ≡ p.now) × (layout_of p.now ≡ Ok (zones_of l)))
         (IsCause (layout_of p.now)) }
@@ -55,7 +55,7 @@ pub fn layout(alloc: Global, p: &Params) -> Result<Layout, LayoutError>
         return Err(LayoutError::Fault(fault));
     }
     match list_zones(alloc, p, &rows) {
-        Ok(zones) => Ok(Layout::new(*p, rows, zones)),
+        Ok(zones) => Ok(Layout::new(*p, zones)),
         Err(_) => Err(LayoutError::Memory),
     }
 }

@@ -1,18 +1,16 @@
 //! The layout of a store's zones.
 ghost use Rattle.std.specs.Prelude.{◌≡◌, ◌^◌, ◌<◌, Ok};
 ghost use Rattle.zone_spec.specs.Layouts.{zone_place, IsLayout};
-ghost use Rattle.zone_spec.specs.Layout.{layout_of, rows as rows_of, rounded as rounded_of, parity_bytes, ecc_of};
+ghost use Rattle.zone_spec.specs.Layout.{layout_of, rounded as rounded_of, parity_bytes, ecc_of};
 
 use crate::rows;
-use zone_spec::{Kind, Params, Row, Zone, ZoneName};
+use zone_spec::{Kind, Params, Zone, ZoneName};
 
 /// The zones of a parameter list, in their order: dump zones, console, ftrace zones, pmsg.
 #[derive(Drop)]
 pub struct Layout {
     params: Params,
-    rows: [Row; 4],
     zones: Vec<Zone>,
-    ghost by_kind: { rows ≡ rows_of params },
     ghost laid: { layout_of params ≡ Ok zones.items },
     ghost tagged: { params.ftrace_sig < 2 ^ 32 },
 }
@@ -20,17 +18,12 @@ pub struct Layout {
 impl Layout {
     ghost use Rattle.zone_params.specs.Laid.{params_of, zones_of, NamesDiffer};
 
-    pub(crate) fn new(params: Params, rows: [Row; 4], zones: Vec<Zone>) -> Layout
-        requires rows { rows ≡ rows_of params }
-        requires laid { layout_of params ≡ Ok zones.items }
+    pub(crate) fn new(params: Params, zones: Vec<Zone>) -> Layout
+        requires { layout_of params ≡ Ok zones.items }
         ensures params { params_of result ≡ params }
         ensures zones { zones_of result ≡ zones.items }
     {
-        Layout {
-            params,
-            rows,
-            zones,
-        }
+        Layout { params, zones }
     }
 
     /// The bytes of the image.
@@ -74,6 +67,6 @@ impl Layout {
     pub fn find(&self, name: ZoneName) -> Option<u32>
         ensures { result ≡ zone_place (zones_of self.now) name }
     {
-        rows::place(&self.rows, name)
+        rows::place(&rows::rows(&self.params), name)
     }
 }

@@ -22,7 +22,7 @@ returns-in-Err-play g c = record {
         end = c.in-Ok-read_script.ensures.end;
       })
       c.in-Ok-lines.lines (rw c.deref.ensures.value at c.in-Ok-lines.ensures.read) _ _ _ c.in-Ok.ensures.same
-      (rw c.as_slice.ensures at (c.in-Err-play.ensures.played _ _ _ c.in-Ok-fresh_store.ensures));
+      (c.in-Err-play.ensures.played _ _ _ c.in-Ok-fresh_store.ensures);
 }
 
 pub returns-in-Ok-save : goal.returns-in-Ok-save
@@ -42,9 +42,9 @@ returns-in-Ok-save g c =
             end = c.in-Ok-read_script.ensures.end;
           })
           c.in-Ok-lines.lines (rw c.deref.ensures.value at c.in-Ok-lines.ensures.read)
-          c.into_image.result played.session (rw c.as_slice.ensures at played.played)
+          c.into_image.result played.session played.played
           (c.into_image.ensures (zones_of c.args.layout) (rounded (params_of c.args.layout).mem)
-          played.session played.stands) (rw (c.as_slice-3.ensures, c.in-Ok.ensures.same) at c.in-Ok-save.ensures.bytes);
+          played.session played.stands) (rw (c.as_slice-2.ensures, c.in-Ok.ensures.same) at c.in-Ok-save.ensures.bytes);
     }
 
 pub returns : goal.returns
@@ -64,8 +64,8 @@ returns g c =
             end = c.in-Ok-read_script.ensures.end;
           })
           c.in-Ok-lines.lines (rw c.deref.ensures.value at c.in-Ok-lines.ensures.read)
-          c.into_image.result played.session (rw c.as_slice.ensures at played.played)
+          c.into_image.result played.session played.played
           (c.into_image.ensures (zones_of c.args.layout) (rounded (params_of c.args.layout).mem)
           played.session played.stands)
-          (rw (c.as_slice-3.ensures, c.in-Ok.ensures.same) at c.in-Err-save.ensures.bytes);
+          (rw (c.as_slice-2.ensures, c.in-Ok.ensures.same) at c.in-Err-save.ensures.bytes);
     }

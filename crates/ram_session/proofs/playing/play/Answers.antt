@@ -1,37 +1,77 @@
-use Rattle.std.proofs.Common.{◌≡◌, refl, arith}
+use Rattle.std.proofs.Common.{◌≡◌, ◌<◌, ℕ, List, [], ◌∷◌, Option, Some, get_or, length, length-append, refl, rules, arith}
+use Rattle.std.specs.Iterator.{Yields}
+use Rattle.std.specs.Vec.Iter.{into_iter_items, into_iter_len, into_iter_steps}
+use Rattle.std.specs.declared.vec.IntoIter.{IntoIter}
+use Rattle.std.proofs.lemmas.Iterator.Adapters.{YieldsList-from_vec}
+use Rattle.std.proofs.lemmas.Iterator.Consumers.{YieldsList-turn, YieldsList-end}
+use Rattle.grammar_spec.specs.declared.line.Line.{Line}
 use Rattle.tool_laws.proofs.Sound.{states_sound}
 use Rattle.ram_session.proofs.ScriptLines.{plays_none, plays_next, plays_stop, plays_all}
 use Rattle.ram_session.specs.declared.machine.Machine.TheVariants.{Off}
 use Rattle.ram_session.proofs.playing.play.Goals as goal
 
-pub loop-i-init : goal.loop-i-init
-loop-i-init g c = (omega arith, plays_none c.args.off c.args.lines.now (g.O.Sink.given c.args.out.now))
+-- the line that is taken behind so many others is the one at that place
+line_taken : {Z : Type 0} (lines : List Line) (start : IntoIter Line Z) → into_iter_items start ≡ lines
+    → into_iter_len start ≡ length lines → (taken : List Line) (here : IntoIter Line Z)
+    → Yields into_iter_steps start taken here → (given : Option Line) (next : IntoIter Line Z) (line : Line)
+    → given ≡ Some line → into_iter_steps here given next → (number : ℕ) → number ≡ length taken
+    → (number < length lines) × (line ≡ get_or lines number line)
+line_taken lines start items len taken here by given next line is steps number counted =
+    let turn = YieldsList-turn (YieldsList-from_vec {s = start} lines items len) taken here by given next line is
+    steps in
+    rw counted turn
+
+pub loop-line-init : goal.loop-line-init
+loop-line-init g c = record {
+  counted = refl;
+  later = omega arith;
+  played = plays_none c.args.off c.args.lines (g.O.Sink.given c.args.out.now);
+}
+
+pub overflow_add-number : goal.overflow_add-number
+overflow_add-number g c =
+    let turn = line_taken c.args.lines c.into_iter-line-iterator.result (search rules) (search rules)
+    c.loop-line.yielded c.loop-line.line-iterator c.loop-line.yielded_by c.next.result c.next.new.self
+    c.in-Some.line c.in-Some.is c.next.ensures.steps c.loop-line.number c.loop-line.invariant.counted in
+    omega (arith, turn.0, c.requires.few)
 
 pub returns-in-Err-clause-later : goal.returns-in-Err-clause-later
-returns-in-Err-clause-later g c = omega (arith, c.loop-i.invariant.0, c.play_line.ensures.later)
+returns-in-Err-clause-later g c = omega (arith, c.loop-line.invariant.later, c.play_line.ensures.later)
 
 pub returns-in-Err-clause-played : goal.returns-in-Err-clause-played
 returns-in-Err-clause-played g c layout mem image fresh =
-    plays_stop states_sound (Off c.args.off) c.args.lines.now c.requires.fields c.loop-i.i c.index-lines-i.result
-    c.loop-i-test.true c.index-lines-i.is c.loop-i.machine (g.O.Sink.given c.args.out.now)
-    (g.O.Sink.given c.loop-i.out) c.loop-i.invariant.1
-    c.in-Err.stop (g.O.Sink.given c.play_line.new.out) (g.O.Sink.faults c.loop-i.out) (g.O.Sink.faults c.args.out.now)
-    (g.O.Sink.faults c.play_line.new.out) c.loop-i.invariant.0 c.in-Err.ensures.played c.args.off refl layout mem
-    image fresh
+    let turn = line_taken c.args.lines c.into_iter-line-iterator.result (search rules) (search rules)
+    c.loop-line.yielded c.loop-line.line-iterator c.loop-line.yielded_by c.next.result c.next.new.self
+    c.in-Some.line c.in-Some.is c.next.ensures.steps c.loop-line.number c.loop-line.invariant.counted in
+    plays_stop states_sound (Off c.args.off) c.args.lines c.requires.fields c.loop-line.number c.in-Some.line
+    turn.0 turn.1 c.loop-line.machine (g.O.Sink.given c.args.out.now)
+    (g.O.Sink.given c.loop-line.out) c.loop-line.invariant.played
+    c.in-Err.stop (g.O.Sink.given c.play_line.new.out) (g.O.Sink.faults c.loop-line.out)
+    (g.O.Sink.faults c.args.out.now) (g.O.Sink.faults c.play_line.new.out) c.loop-line.invariant.later
+    c.in-Err.ensures.played c.args.off refl layout mem image fresh
 
-pub loop-i-preserved : goal.loop-i-preserved
-loop-i-preserved g c = (
-  omega (arith, c.loop-i.invariant.0, c.play_line.ensures.later),
-  plays_next states_sound (Off c.args.off) c.args.lines.now c.requires.fields c.loop-i.i c.index-lines-i.result
-      c.loop-i-test.true c.index-lines-i.is c.loop-i.machine (g.O.Sink.given c.args.out.now)
-      (g.O.Sink.given c.loop-i.out) c.loop-i.invariant.1
-      c.in-Ok.next (g.O.Sink.given c.play_line.new.out) c.in-Ok.ensures.played,
-)
+pub loop-line-preserved : goal.loop-line-preserved
+loop-line-preserved g c =
+    let turn = line_taken c.args.lines c.into_iter-line-iterator.result (search rules) (search rules)
+    c.loop-line.yielded c.loop-line.line-iterator c.loop-line.yielded_by c.next.result c.next.new.self
+    c.in-Some.line c.in-Some.is c.next.ensures.steps c.loop-line.number c.loop-line.invariant.counted in
+    record {
+      counted = omega (arith, c.loop-line.invariant.counted, length-append c.loop-line.yielded (c.in-Some.line ∷ []));
+      later = omega (arith, c.loop-line.invariant.later, c.play_line.ensures.later);
+      played = plays_next states_sound (Off c.args.off) c.args.lines c.requires.fields c.loop-line.number
+          c.in-Some.line turn.0 turn.1 c.loop-line.machine (g.O.Sink.given c.args.out.now)
+          (g.O.Sink.given c.loop-line.out) c.loop-line.invariant.played
+          c.in-Ok.next (g.O.Sink.given c.play_line.new.out) c.in-Ok.ensures.played;
+    }
 
 pub returns-clause-later : goal.returns-clause-later
-returns-clause-later g c = c.loop-i.invariant.0
+returns-clause-later g c = c.loop-line.invariant.later
 
 pub returns-clause-played : goal.returns-clause-played
-returns-clause-played g c = plays_all c.args.off c.args.lines.now c.loop-i.i c.loop-i.machine
-    (g.O.Sink.given c.args.out.now) (g.O.Sink.given c.loop-i.out) (omega (arith, c.loop-i-test.false))
-    c.loop-i.invariant.1
+returns-clause-played g c =
+    let end = YieldsList-end (YieldsList-from_vec {s = c.into_iter-line-iterator.result} c.args.lines (search rules) (search rules))
+    c.loop-line.yielded c.loop-line.line-iterator c.loop-line.yielded_by c.next.result c.next.new.self
+    c.in-None.is c.next.ensures.steps in
+    plays_all c.args.off c.args.lines c.loop-line.number c.loop-line.machine
+    (g.O.Sink.given c.args.out.now) (g.O.Sink.given c.loop-line.out)
+    (omega (arith, end.1, c.loop-line.invariant.counted)) c.loop-line.invariant.played

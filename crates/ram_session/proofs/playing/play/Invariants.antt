@@ -1,7 +1,12 @@
-use Rattle.std.proofs.Common.{◌≤◌}
+use Rattle.std.proofs.Common.{◌≡◌, ◌≤◌, length}
 use Rattle.ram_session.proofs.ScriptLines.{PlaysSoFar}
 use Rattle.ram_session.proofs.playing.play.Given as goal
 
-abbrev pub invariant-loop-i : goal.invariant-loop-i
-invariant-loop-i g l = (g.O.Sink.faults l.initial.out ≤ g.O.Sink.faults l.out)
-    × PlaysSoFar l.initial.machine l.lines l.i l.machine (g.O.Sink.given l.initial.out) (g.O.Sink.given l.out)
+-- so many lines were done as were taken
+abbrev pub invariant-loop-line : goal.invariant-loop-line
+invariant-loop-line g l = record {
+  counted : l.number ≡ length l.yielded;
+  later : g.O.Sink.faults l.initial.out ≤ g.O.Sink.faults l.out;
+  played : PlaysSoFar l.initial.machine l.fn.lines l.number l.machine (g.O.Sink.given l.initial.out)
+      (g.O.Sink.given l.out);
+}

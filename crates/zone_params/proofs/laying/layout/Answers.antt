@@ -10,8 +10,8 @@ pub returns-in-Some-zone_fault : goal.returns-in-Some-zone_fault
 returns-in-Some-zone_fault c = refused_zones c.args.p.now c.in-Some-zone_fault.fault c.parameter_fault.result
     c.zone_fault.result c.parameter_fault.ensures c.in_default.is c.zone_fault.ensures c.in-Some-zone_fault.is
 
-pub new-requires-clause-laid : goal.new-requires-clause-laid
-new-requires-clause-laid c = laid_out c.args.p.now c.parameter_fault.result c.zone_fault.result c.parameter_fault.ensures
+pub new-requires : goal.new-requires
+new-requires c = laid_out c.args.p.now c.parameter_fault.result c.zone_fault.result c.parameter_fault.ensures
     c.in_default.is c.zone_fault.ensures c.in_default-zone_fault.is
     ∙ sym (ap (λ (zs : List Zone). Ok zs) c.in-Ok.ensures)
 

@@ -1,10 +1,13 @@
+use Rattle.zone_params.proofs.WholeLayout.{no_fault}
 use Rattle.zone_params.proofs.RowPlaces.{rows_few, place_in_layout}
 use Rattle.zone_params.proofs.types.Layout.find.Goals as goal
 
+pub rows-requires : goal.rows-requires
+rows-requires c = (no_fault c.args.self.now.params c.args.self.now.zones.items c.args.self.now.laid).of_parameters
+
 pub place-requires : goal.place-requires
-place-requires c = rw c.args.self.now.by_kind (rows_few c.args.self.now.params c.args.self.now.zones.items
-    c.args.self.now.laid)
+place-requires c = rw c.rows.ensures (rows_few c.args.self.now.params c.args.self.now.zones.items c.args.self.now.laid)
 
 pub returns : goal.returns
 returns c = place_in_layout c.args.self.now.params c.args.self.now.zones.items c.args.name c.place.result
-    c.args.self.now.laid (rw c.args.self.now.by_kind at c.place.ensures)
+    c.args.self.now.laid (rw c.rows.ensures at c.place.ensures)
