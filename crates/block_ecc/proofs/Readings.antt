@@ -1,7 +1,7 @@
 -- A part's reading, by what the decoder answers of its word
-use Rattle.std.proofs.Common.{◌≡◌, ℕ, zero, suc, ◌+◌, ◌-◌, ◌≤◌, List, [], ◌∷◌, ◌++◌, length, take, drop, refl, sym, ap, subst, ◌∙◌, arith, Option, Some, None, unwrap_or, length-drop, length-take}
+use Rattle.std.proofs.Common.{◌≡◌, ℕ, zero, suc, ◌+◌, ◌-◌, ◌≤◌, List, [], ◌∷◌, ◌++◌, length, take, drop, refl, sym, ap, subst, ◌∙◌, arith, Option, Some, None, unwrap_or, length-drop, length-take, Bool, IsTrue}
 use Rattle.std.specs.Prelude.{slice_range}
-use Rattle.code_spec.specs.Code.{nearest, is_codeword, distance, parity_of, the_word, words_of}
+use Rattle.code_spec.specs.Code.{IsCodeword, nearest, is_codeword, distance, parity_of, the_word, words_of}
 use Rattle.zone_spec.specs.declared.Zone.{Zone}
 use Rattle.zone_spec.specs.Parts.{Part, part_at, part_len, part_parity_at, part_bytes, part_word}
 use Rattle.zone_spec.specs.PartReadings.{part_reading, reading_by}
@@ -18,6 +18,10 @@ parity_of-none r m e = ap (λ (k : ℕ). parity_of k m) e
 pub nearest-none : (r : ℕ) (w : List ℕ) → r ≡ 0 → nearest r w ≡ Some w
 unfolding nearest is_codeword
 nearest-none r w e = ap (λ (k : ℕ). nearest k w) e
+
+pub codeword-none : (r : ℕ) (w : List ℕ) → r ≡ 0 → IsCodeword r w
+unfolding is_codeword
+codeword-none r w e = ap (λ (k : ℕ). is_codeword k w) e
 
 -- the front of two lists
 take-front : (xs ys : List ℕ) → take (length xs) (xs ++ ys) ≡ xs
@@ -110,3 +114,19 @@ counts z image p = counts-by (part_bytes z image p) (part_word z image p) (neare
 pub counts_are : (z : Zone) (image : List ℕ) (p : Part) (o : Decoded) → o ≡ outcome z image p
     → CountsAre o (part_reading z image p)
 counts_are z image p o e = subst (λ (d : Decoded). CountsAre d (part_reading z image p)) (sym e) (counts z image p)
+
+-- ---- codewords
+
+-- the test of a word, by another number of parity bytes
+pub codeword_by : (w : List ℕ) (k r : ℕ) (t : Bool) → k ≡ r → (IsTrue t → IsCodeword k w) × (IsCodeword k w → IsTrue t)
+    → (IsTrue t → IsCodeword r w) × (IsCodeword r w → IsTrue t)
+codeword_by w k r t e h = subst (λ (n : ℕ). (IsTrue t → IsCodeword n w) × (IsCodeword n w → IsTrue t)) e h
+
+-- the test of a part's word
+pub codeword_is : (z : Zone) (image : List ℕ) (p : Part) (bytes par : List ℕ) (r : ℕ) (t : Bool)
+    → IsPart z image p bytes par → r ≡ z.parity
+    → (IsTrue t → IsCodeword r (bytes ++ par)) × (IsCodeword r (bytes ++ par) → IsTrue t)
+    → (IsTrue t → IsCodeword z.parity (part_word z image p)) × (IsCodeword z.parity (part_word z image p) → IsTrue t)
+codeword_is z image p bytes par r t h e k =
+    subst (λ (w : List ℕ). (IsTrue t → IsCodeword z.parity w) × (IsCodeword z.parity w → IsTrue t)) h.word
+    (codeword_by (bytes ++ par) r z.parity t e k)

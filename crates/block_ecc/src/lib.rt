@@ -2,11 +2,11 @@
 //! (`fs/pstore/ram_core.c`, `persistent_ram_decode_rs8` and `persistent_ram_encode_rs8`).
 #![tactic(auto)]
 
-ghost use Rattle.std.specs.Prelude.{◌≡◌, ◌+◌, ◌*◌, ◌-◌, ◌^◌, ◌<◌, ◌≤◌, ℕ, List, ◌++◌, length, take, min, slice_range, unwrap_or};
-ghost use Rattle.code_spec.specs.Code.{nearest, parity_of};
+ghost use Rattle.std.specs.Prelude.{◌≡◌, ◌+◌, ◌*◌, ◌-◌, ◌^◌, ◌<◌, ◌≤◌, ◌↔◌, ℕ, List, ◌++◌, length, take, min, slice_range, unwrap_or, IsTrue};
+ghost use Rattle.code_spec.specs.Code.{IsCodeword, nearest, parity_of};
 ghost use Rattle.rs_errors.specs.Decoding.{decoded_by, fixes_by};
 ghost use Rattle.zone_spec.specs.Zones.{IsValidZone};
-ghost use Rattle.zone_spec.specs.Parts.{Header, Block, part_at, part_len, part_parity_at, part_bytes, words_in};
+ghost use Rattle.zone_spec.specs.Parts.{Header, Block, part_at, part_len, part_parity_at, part_bytes, part_word, words_in};
 ghost use Rattle.std.specs.Int.{from_le_bytes};
 ghost use Rattle.std.proofs.Common.{w32};
 ghost use Rattle.zone_spec.specs.PartReadings.{part_reading, words_read};
@@ -174,6 +174,21 @@ impl Coder {
         }
     }
 
+    /// Whether each of two lists of bytes has its parity. Without parity they have.
+    fn is_parity_pair(&self, a: &[u8], par_a: &[u8], b: &[u8], par_b: &[u8]) -> (bool, bool)
+        requires coder_a { self.now ≡ length par_a.now }
+        requires coder_b { self.now ≡ length par_b.now }
+        requires same { length b.now ≡ length a.now }
+        requires fits { length a.now + length par_a.now ≤ 255 }
+        ensures a { IsTrue result.0 ↔ IsCodeword self.now (a.now ++ par_a.now) }
+        ensures b { IsTrue result.1 ↔ IsCodeword self.now (b.now ++ par_b.now) }
+    {
+        match &self.0 {
+            Some(parity) => parity.are_parity_pair(a, par_a, b, par_b),
+            None => (true, true),
+        }
+    }
+
     /// As [`read_header`], with an encoder for as many parity bytes as the zone's parts have.
     pub fn read_header(
         &self,
@@ -224,6 +239,27 @@ impl Coder {
         let place = block_place(zone, b);
         copy(bytes_at(span, place.at, place.len), out);
         self.correct(out, bytes_at(span, place.parity_at, zone.parity), fixes)
+    }
+
+    /// Whether block `b` and the one behind it, two whole blocks, stand as codewords. Such a block reads as it stands.
+    /// Up to 16 parity bytes this is faster than two reads.
+    pub fn are_codewords(&self, span: &Span, zone: &Zone, b: u32) -> (bool, bool)
+        requires coder { self.now ≡ zone.now.parity }
+        requires valid { IsValidZone zone.now }
+        requires size { length span.now ≡ zone.now.size }
+        requires blocks { zone.now.block * (b + 2) ≤ zone.now.cap }
+        ensures first { IsTrue result.0 ↔ IsCodeword zone.now.parity (part_word zone.now span.now (Block b)) }
+        ensures second { IsTrue result.1
+            ↔ IsCodeword zone.now.parity (part_word zone.now span.now (Block (b + 1))) }
+    {
+        let first = block_place(zone, b);
+        let second = block_place(zone, b + 1);
+        self.is_parity_pair(
+            bytes_at(span, first.at, first.len),
+            bytes_at(span, first.parity_at, zone.parity),
+            bytes_at(span, second.at, second.len),
+            bytes_at(span, second.parity_at, zone.parity),
+        )
     }
 
     /// As [`block_parity`], with an encoder for as many parity bytes as the zone's parts have.

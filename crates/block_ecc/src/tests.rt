@@ -3,7 +3,7 @@
 ghost use Rattle.std.specs.Prelude.{◌≡◌, length, IfOk, IfSome};
 ghost use Rattle.zone_spec.specs.Zones.{IsValidZone};
 
-use crate::{Decoded, Fix, block_parity, header_parity, read_block, read_header};
+use crate::{Coder, Decoded, Fix, block_parity, header_parity, read_block, read_header};
 use arrayvec::ArrayVec;
 use box_io::Bytes;
 use ram_region::{Region, Spans};
@@ -96,5 +96,27 @@ fn a_changed_byte_is_read_as_it_was(rt: HostRuntime) -> Result<(), Fail> {
     let reading = read_header(&spans.all()[0], &zone, &mut fixes);
     assert_eq!(rt; reading.outcome, Decoded::Clean);
     assert_eq!(rt; (reading.words.start, reading.words.size), (3, 3));
+    Ok(())
+}
+
+#[test]
+fn a_changed_block_is_no_codeword(rt: HostRuntime) -> Result<(), Fail> {
+    let alloc = rt.alloc();
+    let layout = layout(alloc, &PARAMS).map_err(|_| "no layout")?;
+    let zone = zone_of(&layout).ok_or("no zone")?;
+    let mut image = image(3);
+    image[13] = b'-';
+    let spans = spans_of(alloc, &layout, &image)?.ok_or("no spans")?;
+    assert_eq!(rt; (spans.all().len(), zone.cap, zone.block), (1, 4018, 128));
+    assert_eq!(rt; spans.all()[0].len(), zone.size);
+    let coder = Coder::new(&zone);
+    assert_eq!(rt;
+        coder.are_codewords(&spans.all()[0], &zone, 0),
+        (false, true)
+    );
+    assert_eq!(rt;
+        coder.are_codewords(&spans.all()[0], &zone, 1),
+        (true, true)
+    );
     Ok(())
 }

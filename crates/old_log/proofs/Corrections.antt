@@ -1,20 +1,18 @@
 -- The corrections of a zone's parts, when others were made before
 use Rattle.std.proofs.Common.{◌≡◌, ℕ, zero, suc, ◌+◌, ◌-◌, ◌*◌, ◌<◌, ◌≤◌, min, List, [], ◌∷◌, ◌++◌, length, take, drop, slice_range, flat_map, refl, sym, ap, ap₂, ◌∙◌, arith, length-take, length-drop, take-append-drop, take_all, w32, append_assoc}
 use Rattle.std.specs.Int.{to_le_bytes}
-use Rattle.std.specs.List.{AllByRecursion, range_with_len}
+use Rattle.std.specs.List.{range_with_len}
 use Rattle.std.proofs.Math.Seq.{drop-nil}
-use Rattle.std.proofs.Math.Nat.{mul-le-mul_left}
 use Rattle.std.proofs.lemmas.Nat.{le_bytes_4}
 use Rattle.std.proofs.lemmas.List.{append-nil}
 use Rattle.std.proofs.lemmas.Grind.{flat_map-append}
-use Rattle.code_spec.specs.Code.{nearest}
 use Rattle.zone_spec.specs.declared.Zone.{Zone}
 use Rattle.zone_spec.specs.declared.Words.{Words}
 use Rattle.zone_spec.specs.declared.State.{State}
 use Rattle.zone_spec.specs.declared.State.TheVariants.{Unsigned, Empty, Invalid, Found}
 use Rattle.zone_spec.specs.Zones.{IsValidZone}
-use Rattle.zone_spec.specs.Parts.{AreBytes, Part, Header, Block, part_at, part_parity_at, part_bytes, part_word, words_in}
-use Rattle.zone_spec.specs.PartReadings.{PartReading, part_reading, reading_by, words_read}
+use Rattle.zone_spec.specs.Parts.{AreBytes, Header, Block, part_bytes, words_in}
+use Rattle.zone_spec.specs.PartReadings.{part_reading, words_read}
 use Rattle.zone_spec.specs.Reading.{ZoneReading, zone_reading, reading_in, state_of, blocks_below}
 use Rattle.zone_spec.specs.Stores.{Store}
 use Rattle.zone_spec.specs.Boot.{fix_stores, part_fixes, boot_fixes, blocks_read}
@@ -22,46 +20,21 @@ use Rattle.ring_laws.proofs.PartsLaw.{slice_range-bytes}
 use Rattle.ring_laws.proofs.BootLaw.{length-reading}
 use Rattle.old_log.proofs.Images.{block-length, header-length}
 use Rattle.old_log.proofs.Fronts.{range-front}
-use Rattle.old_log.proofs.Storing.{IsBelow, all-append, fix-below}
 
 -- ---- images that are the same from a place on
-drop-plus : (n k : ℕ) (xs : List ℕ) → drop (n + k) xs ≡ drop k (drop n xs)
+pub drop-plus : (n k : ℕ) (xs : List ℕ) → drop (n + k) xs ≡ drop k (drop n xs)
 drop-plus zero k xs = ap (λ (m : ℕ). drop m xs) (let e : 0 + k ≡ k = omega arith in e)
 drop-plus (suc n) k [] = drop-nil (suc n + k) ∙ sym (ap (λ (l : List ℕ). drop k l) (drop-nil (suc n)) ∙ drop-nil k)
 drop-plus (suc n) k (x ∷ xs) = ap (λ (m : ℕ). drop m (x ∷ xs)) (let e : suc n + k ≡ suc (n + k) = omega arith in e)
     ∙ drop-plus n k xs
 
-slice-same : (x y : List ℕ) (n a b : ℕ) → drop n x ≡ drop n y → n ≤ a → slice_range x a b ≡ slice_range y a b
+pub slice-same : (x y : List ℕ) (n a b : ℕ) → drop n x ≡ drop n y → n ≤ a → slice_range x a b ≡ slice_range y a b
 slice-same x y n a b e le =
     let split : a ≡ n + (a - n) = omega arith in
     let same : drop a x ≡ drop a y =
     ap (λ (m : ℕ). drop m x) split ∙ drop-plus n (a - n) x ∙ ap (λ (l : List ℕ). drop (a - n) l) e
     ∙ sym (drop-plus n (a - n) y) ∙ ap (λ (m : ℕ). drop m y) (sym split) in
     ap (λ (l : List ℕ). take (b - a) l) same
-
-bytes-same : (z : Zone) (x y : List ℕ) (p : Part) (n : ℕ) → drop n x ≡ drop n y → n ≤ part_at z p
-    → part_bytes z x p ≡ part_bytes z y p
-unfolding part_bytes
-bytes-same z x y p n e le = slice-same x y n _ _ e le
-
-word-same : (z : Zone) (x y : List ℕ) (p : Part) (n : ℕ) → drop n x ≡ drop n y → n ≤ part_at z p
-    → n ≤ part_parity_at z p → part_word z x p ≡ part_word z y p
-unfolding part_word
-word-same z x y p n e le par = ap₂ (λ (a b : List ℕ). a ++ b) (bytes-same z x y p n e le) (slice-same x y n _ _ e par)
-
-reading-same : (z : Zone) (x y : List ℕ) (p : Part) (n : ℕ) → drop n x ≡ drop n y → n ≤ part_at z p
-    → n ≤ part_parity_at z p → part_reading z x p ≡ part_reading z y p
-unfolding part_reading
-reading-same z x y p n e le par =
-    ap₂ (λ (bs w : List ℕ). reading_by bs w (nearest z.parity w)) (bytes-same z x y p n e le)
-    (word-same z x y p n e le par)
-
--- corrections depend on nothing before the part
-pub fixes-same : (z : Zone) (x y : List ℕ) (b n : ℕ) → drop n x ≡ drop n y → n ≤ 12 + z.block * b → n ≤ 12 + z.cap
-    → part_fixes z x (Block b) ≡ part_fixes z y (Block b)
-fixes-same z x y b n e le room =
-    ap₂ (λ (bs cs : List ℕ). fix_stores (12 + z.block * b) bs cs) (bytes-same z x y (Block b) n e le)
-    (ap (λ (r : PartReading). r.bytes) (reading-same z x y (Block b) n e le (omega arith)))
 
 -- ---- one block
 -- the bytes that stand in a block's place, and those that it reads, make its corrections
@@ -76,43 +49,8 @@ block-fixes z x b out valid size bytes within e =
     ap (λ (n : ℕ). fix_stores (12 + z.block * b) (slice_range x (12 + z.block * b) (12 + z.block * b + n)) out) long
     ∙ ap (λ (cs : List ℕ). fix_stores (12 + z.block * b) (part_bytes z x (Block b)) cs) e
 
-pub block-most : (z : Zone) (x : List ℕ) (b : ℕ) (out : List ℕ) → IsValidZone z → length x ≡ z.size → AreBytes x
-    → z.block * b < z.cap → out ≡ (part_reading z x (Block b)).bytes
-    → (12 + z.block * b + length out ≤ 12 + z.cap) × (length out ≤ 128)
-block-most z x b out valid size bytes within e =
-    let long : length out ≡ min (z.block * (b + 1)) z.cap - z.block * b =
-    ap length e ∙ (length-reading z x (Block b) bytes).0 ∙ block-length z x b valid size within in
-    let next : z.block * (b + 1) ≡ z.block * b + z.block = grind arith in
-    let most : z.block ≤ 128 = (let k = valid.block in grind (arith, k)) in
-    (omega arith, omega arith)
-
 -- ---- blocks in a row
 module _ (z : Zone) (x : List ℕ) where
-  unfoldable pub fixes_of : ℕ → ℕ → List Store
-  fixes_of a n = flat_map (λ (k : ℕ). part_fixes z x (Block k)) (range_with_len a n)
-
-  one-below : (k b : ℕ) → k < b → AllByRecursion (IsBelow (12 + z.block * b)) (part_fixes z x (Block k))
-  unfolding part_bytes
-  one-below k b h =
-      let next : z.block * (k + 1) ≡ z.block * k + z.block = grind arith in
-      let most : z.block * (k + 1) ≤ z.block * b = mul-le-mul_left z.block (let l : k + 1 ≤ b = omega arith in l) in
-      let at : ℕ = 12 + z.block * k in
-      let len : ℕ = min (z.block * (k + 1)) z.cap - z.block * k in
-      fix-below (12 + z.block * b) at (slice_range x at (at + len)) (part_reading z x (Block k)).bytes
-      (omega (arith, length-take ((at + len) - at) (drop at x)))
-
-  all-below : (a n b : ℕ) → a + n ≤ b → AllByRecursion (IsBelow (12 + z.block * b)) (fixes_of a n)
-  unfolding fixes_of
-  all-below a zero b h = tt
-  all-below a (suc n) b h = all-append (IsBelow (12 + z.block * b)) (part_fixes z x (Block a))
-      (flat_map (λ (k : ℕ). part_fixes z x (Block k)) (range_with_len (a + 1) n)) (one-below a b (omega arith))
-      (all-below (a + 1) n b (omega arith))
-
-  pub fixes-below : (b : ℕ) → AllByRecursion (IsBelow (12 + z.block * b))
-      (flat_map (λ (k : ℕ). part_fixes z x (Block k)) (range_with_len 0 b))
-  unfolding fixes_of
-  fixes-below b = all-below 0 b b (omega arith)
-
   pub fixes-next : (b : ℕ) → flat_map (λ (k : ℕ). part_fixes z x (Block k)) (range_with_len 0 b) ++ part_fixes z x
       (Block b) ≡ flat_map (λ (k : ℕ). part_fixes z x (Block k)) (range_with_len 0 (b + 1))
   fixes-next b =
@@ -120,13 +58,6 @@ module _ (z : Zone) (x : List ℕ) where
       ap (λ (l : List Store). flat_map f (range_with_len 0 b) ++ l) (sym (append-nil (f b)))
       ∙ sym (flat_map-append f (range_with_len 0 b) (b ∷ []))
       ∙ ap (λ (ks : List ℕ). flat_map f ks) (sym (range-front b 1))
-
--- corrections of blocks don't depend on the header
-pub blocks-same : (z : Zone) (x y : List ℕ) (ks : List ℕ) → drop 12 x ≡ drop 12 y
-    → flat_map (λ (k : ℕ). part_fixes z x (Block k)) ks ≡ flat_map (λ (k : ℕ). part_fixes z y (Block k)) ks
-blocks-same z x y [] e = refl
-blocks-same z x y (k ∷ ks) e = ap₂ (λ (a b : List Store). a ++ b)
-    (fixes-same z x y k 12 e (omega arith) (omega arith)) (blocks-same z x y ks e)
 
 -- ---- the header
 header-split : (bs : List ℕ) → length bs ≡ 12 → slice_range bs 0 4 ++ slice_range bs 4 8 ++ slice_range bs 8 12 ≡ bs

@@ -3,5 +3,7 @@ pub mod Fronts
 pub mod Saves
 pub mod Storing
 pub mod Corrections
+pub mod DataFixes
 pub mod Erasures
 pub mod Uncorrected
+pub mod Pushing

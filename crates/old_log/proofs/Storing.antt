@@ -162,7 +162,7 @@ byte-length p [] = refl
 byte-length p (x ∷ xs) = ap (λ (n : ℕ). suc n) (byte-length (p + 1) xs)
 
 -- ---- corrections
-fix-append : (p : ℕ) (xs us ys vs : List ℕ) → length xs ≡ length ys
+pub fix-append : (p : ℕ) (xs us ys vs : List ℕ) → length xs ≡ length ys
     → fix_stores p (xs ++ us) (ys ++ vs) ≡ fix_stores p xs ys ++ fix_stores (p + length xs) us vs
 unfolding fix_stores
 fix-append p [] us [] vs e = ap (λ (n : ℕ). fix_stores n us vs) (let f : p ≡ p + 0 = omega arith in f)

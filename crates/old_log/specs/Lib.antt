@@ -1,3 +1,4 @@
 pub mod Reads
+pub mod Fronts
 pub mod Saving
 pub mod Making

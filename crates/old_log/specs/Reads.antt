@@ -1,5 +1,5 @@
 -- The bytes at the front of a zone's data as their blocks read, and what the blocks count
-use Rattle.std.specs.Prelude.{ℕ, List, map, sum_by}
+use Rattle.std.specs.Prelude.{ℕ, ◌+◌, ◌-◌, ◌*◌, ◌/◌, min, List, map, sum_by}
 use Rattle.std.specs.List.{range_with_len}
 use Rattle.zone_spec.specs.declared.Zone.{Zone}
 use Rattle.zone_spec.specs.Parts.{Block}
@@ -31,3 +31,7 @@ corrected_below z image n = sum_by (λ b. (part_reading z image (Block b)).corre
 -- how many of these blocks could not be read
 abbrev pub bad_below : Zone → List ℕ → ℕ → ℕ
 bad_below z image n = sum_by (λ b. (part_reading z image (Block b)).bad) (blocks_below z n)
+
+-- where the last block ends that begins below n
+unfoldable pub read_end : Zone → ℕ → ℕ
+read_end z n = min (z.block * ((n + z.block - 1) / z.block)) z.cap

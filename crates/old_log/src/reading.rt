@@ -1,5 +1,7 @@
 // The reading of a zone, and whether a boot keeps the zone that has it.
-ghost use Rattle.std.specs.Prelude.{◌≡◌, ◌+◌, ◌*◌, ◌≤◌, ◌<◌, ◌^◌, length, IfOk};
+ghost use Rattle.std.specs.Prelude.{◌≡◌, ◌+◌, ◌*◌, ◌≤◌, ◌<◌, ◌^◌, ◌↔◌, length, IsTrue, IfOk};
+ghost use Rattle.code_spec.specs.Code.{IsCodeword};
+ghost use Rattle.zone_spec.specs.Parts.{Block, part_word};
 ghost use Rattle.zone_spec.specs.Zones.{IsValidZone};
 ghost use Rattle.zone_spec.specs.Reading.{zone_reading, state_of as state_for, log_read, IsRing};
 ghost use Rattle.zone_spec.specs.Boot.{keeps as keeps_zone, is_kept as is_kept_zone};
@@ -83,6 +85,123 @@ fn state_of(zone: &Zone, words: Words) -> State
     }
 }
 
+/// The front of a zone's data as its blocks read, and what these blocks count.
+#[derive(Drop)]
+struct Front {
+    bytes: Vec<u8>,
+    counts: Counts,
+}
+
+impl Front {
+    ghost use Rattle.old_log.specs.Fronts.{ReadsTo};
+
+    /// Puts block `b`, a codeword, as it stands behind the blocks before it, as far as it lies below `size`.
+    fn push_standing(
+        &mut self,
+        span: &Span,
+        zone: &Zone,
+        b: u32,
+        size: u32,
+    ) -> Result<(), AllocError>
+        requires valid { IsValidZone zone.now }
+        requires len { length span.now ≡ zone.now.size }
+        requires within { size ≤ zone.now.cap }
+        requires block { zone.now.block * b < size }
+        requires clean { IsCodeword zone.now.parity (part_word zone.now span.now (Block b)) }
+        requires before { ReadsTo zone.now span.now size b self.old }
+        ensures { IfOk result (λ _. ReadsTo zone.now span.now size (b + 1) self.new) }
+    {
+        let _len = span.len();
+        let at = 12 + zone.block * b;
+        let len = zone.block.min(size - zone.block * b);
+        let bytes = &span.bytes()[at as usize..at as usize + len as usize];
+        self.bytes.extend_from_slice(bytes)?;
+        Ok(())
+    }
+
+    /// Puts block `b` as it reads behind the blocks before it, as far as it lies below `size`.
+    fn push_read(
+        &mut self,
+        coder: &Coder,
+        span: &Span,
+        zone: &Zone,
+        b: u32,
+        size: u32,
+    ) -> Result<(), AllocError>
+        requires coder { coder.now ≡ zone.now.parity }
+        requires valid { IsValidZone zone.now }
+        requires len { length span.now ≡ zone.now.size }
+        requires within { size ≤ zone.now.cap }
+        requires block { zone.now.block * b < size }
+        requires before { ReadsTo zone.now span.now size b self.old }
+        ensures { IfOk result (λ _. ReadsTo zone.now span.now size (b + 1) self.new) }
+    {
+        let _len = span.len();
+        let mut block: ArrayVec<u8, 255> = ArrayVec::new();
+        let mut fixes: ArrayVec<Fix, 63> = ArrayVec::new();
+        let outcome = coder.read_block(span, zone, b, &mut block, &mut fixes);
+        let len = zone.block.min(size - zone.block * b);
+        self.bytes
+            .extend_from_slice(&block.as_slice()[..len as usize])?;
+        let more = counts_of(outcome);
+        self.counts.corrected += more.corrected;
+        self.counts.bad += more.bad;
+        Ok(())
+    }
+
+    /// Puts block `b`, of which `is_clean` tells whether it stands as a codeword.
+    fn push(
+        &mut self,
+        coder: &Coder,
+        span: &Span,
+        zone: &Zone,
+        b: u32,
+        size: u32,
+        is_clean: bool,
+    ) -> Result<(), AllocError>
+        requires coder { coder.now ≡ zone.now.parity }
+        requires valid { IsValidZone zone.now }
+        requires len { length span.now ≡ zone.now.size }
+        requires within { size ≤ zone.now.cap }
+        requires block { zone.now.block * b < size }
+        requires clean { IsTrue is_clean ↔ IsCodeword zone.now.parity (part_word zone.now span.now (Block b)) }
+        requires before { ReadsTo zone.now span.now size b self.old }
+        ensures { IfOk result (λ _. ReadsTo zone.now span.now size (b + 1) self.new) }
+    {
+        if is_clean {
+            self.push_standing(span, zone, b, size)
+        } else {
+            self.push_read(coder, span, zone, b, size)
+        }
+    }
+
+    /// Puts the first `count` pairs of blocks, which lie whole below `size`. Two are tested at once.
+    fn push_pairs(
+        &mut self,
+        coder: &Coder,
+        span: &Span,
+        zone: &Zone,
+        count: u32,
+        size: u32,
+    ) -> Result<(), AllocError>
+        requires coder { coder.now ≡ zone.now.parity }
+        requires valid { IsValidZone zone.now }
+        requires len { length span.now ≡ zone.now.size }
+        requires within { size ≤ zone.now.cap }
+        requires whole { zone.now.block * (2 * count) ≤ size }
+        requires none { ReadsTo zone.now span.now size 0 self.old }
+        ensures { IfOk result (λ _. ReadsTo zone.now span.now size (2 * count) self.new) }
+    {
+        for pair in 0..count {
+            let b = 2 * pair;
+            let (first, second) = coder.are_codewords(span, zone, b);
+            self.push(coder, span, zone, b, size, first)?;
+            self.push(coder, span, zone, b + 1, size, second)?;
+        }
+        Ok(())
+    }
+}
+
 /// The first `size` data bytes as their blocks read, and what these blocks count.
 fn read_bytes(
     alloc: Global,
@@ -100,22 +219,18 @@ fn read_bytes(
     ensures bad { IfOk result (λ r. r.1.bad ≡ bad_below zone.now span.now size) }
     ensures few { IfOk result (λ r. (r.1.corrected ≤ 255 * size) × (r.1.bad ≤ size)) }
 {
-    let _len = span.len();
-    let mut bytes = Vec::with_capacity(alloc, size as usize)?;
-    let mut counts = Counts {
+    let bytes = Vec::with_capacity(alloc, size as usize)?;
+    let counts = Counts {
         corrected: 0,
         bad: 0,
     };
-    let mut block: ArrayVec<u8, 255> = ArrayVec::new();
-    let mut fixes: ArrayVec<Fix, 63> = ArrayVec::new();
-    for b in 0..size.div_ceil(zone.block) {
-        let outcome = coder.read_block(span, zone, b, &mut block, &mut fixes);
-        let len = zone.block.min(size - zone.block * b);
-        bytes.extend_from_slice(&block.as_slice()[..len as usize])?;
-        let more = counts_of(outcome);
-        counts.corrected += more.corrected;
-        counts.bad += more.bad;
+    let mut front = Front { bytes, counts };
+    let pairs = size / zone.block / 2;
+    front.push_pairs(coder, span, zone, pairs, size)?;
+    for b in 2 * pairs..size.div_ceil(zone.block) {
+        front.push_read(coder, span, zone, b, size)?;
     }
+    let Front { bytes, counts } = front;
     Ok((bytes, counts))
 }
 

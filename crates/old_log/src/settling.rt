@@ -1,20 +1,20 @@
 // The stores of a boot in a zone.
-ghost use Rattle.std.specs.Prelude.{◌≡◌, ◌+◌, ◌-◌, ◌*◌, ◌≤◌, ◌<◌, ◌^◌, ◌++◌, ◌∷◌, [], if◌then◌else◌, length, min, take, slice_range, slice_index, flat_map};
+ghost use Rattle.std.specs.Prelude.{◌≡◌, ◌+◌, ◌-◌, ◌*◌, ◌≤◌, ◌<◌, ◌^◌, ◌++◌, ◌∷◌, [], if◌then◌else◌, length, min, take, slice_range, slice_index};
 ghost use Rattle.std.specs.Int.{to_le_bytes};
 ghost use Rattle.std.proofs.Common.{w32};
 ghost use Rattle.zone_spec.specs.Zones.{IsValidZone};
-ghost use Rattle.zone_spec.specs.Parts.{Block};
-ghost use Rattle.zone_spec.specs.Reading.{zone_reading, blocks_below};
+ghost use Rattle.zone_spec.specs.Reading.{zone_reading};
 ghost use Rattle.zone_spec.specs.Stores.{after_stores, byte_stores, word_store};
 ghost use Rattle.zone_spec.specs.Stages.{stores_in_turn};
 ghost use Rattle.zone_spec.specs.Calls.{erase_stages};
-ghost use Rattle.zone_spec.specs.Boot.{fix_stores, part_fixes, boot_fixes, boot_stores, signing, keeps as keeps_zone};
+ghost use Rattle.zone_spec.specs.Boot.{fix_stores, boot_fixes, boot_stores, signing, keeps as keeps_zone};
 ghost use Rattle.ram_region.specs.CutRegion.{span, with_span};
+ghost use Rattle.old_log.specs.Reads.{bytes_read, read_end};
 
 use crate::reading::{Reading, keeps};
 use arrayvec::ArrayVec;
 use block_ecc::{Coder, Fix};
-use ram_region::Spans;
+use ram_region::{Span, Spans};
 use zone_spec::{State, Words, Zone};
 
 /// How many stores a boot has in a zone, and how many of them were made.
@@ -35,7 +35,7 @@ struct Tally {
 }
 
 impl Tally {
-    ghost use Rattle.old_log.specs.Making.{Makes};
+    ghost use Rattle.old_log.specs.Making.{Makes, data_fixes, unturned};
 
     fn store(&mut self, spans: &mut Spans, i: u32, at: u32, b: u8)
         requires span { i < length spans.old.spans }
@@ -103,30 +103,25 @@ impl Tally {
         }
     }
 
-    /// Corrects the blocks that begin below `size`.
-    fn correct_blocks(&mut self, coder: &Coder, spans: &mut Spans, i: u32, zone: &Zone, size: u32)
-        requires coder { coder.now ≡ zone.now.parity }
-        requires valid { IsValidZone zone.now }
+    /// Corrects the data by the log, which is turned to begin at `start`, and by the bytes behind it, `tail`.
+    fn correct_data(&mut self, spans: &mut Spans, i: u32, start: u32, log: &[u8], tail: &[u8])
         requires span { i < length spans.old.spans }
-        requires len { length (span spans.old i) ≡ zone.now.size }
-        requires within { size ≤ zone.now.cap }
+        requires start { start ≤ length log.now }
+        requires place { 12 + length log.now + length tail.now ≤ length (span spans.old i) }
+        requires small { length (span spans.old i) < 2 ^ 32 }
         requires room { self.old.count ≤ 2 ^ 32 }
-        ensures stores { Makes (flat_map (λ b. part_fixes zone.now (span spans.old i) (Block b))
-            (blocks_below zone.now size)) i self.old spans.old self.new spans.new }
-        ensures few { self.new.count ≤ self.old.count + 128 * size }
+        ensures { Makes (data_fixes (span spans.old i) (unturned start log.now ++ tail.now))
+            i self.old spans.old self.new spans.new }
     {
-        let mut block: ArrayVec<u8, 255> = ArrayVec::new();
-        let mut fixes: ArrayVec<Fix, 63> = ArrayVec::new();
-        for b in 0..size.div_ceil(zone.block) {
-            let bytes = &spans.all()[i as usize];
-            let _len = bytes.len();
-            let _outcome = coder.read_block(bytes, zone, b, &mut block, &mut fixes);
-            self.correct(spans, i, 12 + zone.block * b, block.as_slice());
-        }
+        let turn = log.len() - start as usize;
+        let (back, front) = log.split_at(turn);
+        self.correct(spans, i, 12, front);
+        self.correct(spans, i, 12 + start, back);
+        self.correct(spans, i, 12 + log.len() as u32, tail);
     }
 
-    /// Corrects the header, and the blocks that a boot reads. A reading without corrections has none to store, and no
-    /// block is decoded again.
+    /// Corrects the header, and the blocks that a boot reads. A reading without corrections has none to store. Else its
+    /// log has the corrected bytes below `size`, and one block at most is decoded again, for those behind.
     fn correct_zone(
         &mut self,
         coder: &Coder,
@@ -148,9 +143,19 @@ impl Tally {
         if reading.corrected == 0 {
             return;
         }
-        self.correct(spans, i, 0, bytes_of(reading.words).as_slice());
+        let words = reading.words;
         if let State::Found = reading.state {
-            self.correct_blocks(coder, spans, i, zone, reading.words.size);
+            let tail = tail_read(coder, &spans.all()[i as usize], zone, words.size);
+            self.correct(spans, i, 0, bytes_of(words).as_slice());
+            self.correct_data(
+                spans,
+                i,
+                words.start,
+                reading.log.as_slice(),
+                tail.as_slice(),
+            );
+        } else {
+            self.correct(spans, i, 0, bytes_of(words).as_slice());
         }
     }
 
@@ -211,6 +216,39 @@ impl Tally {
             self.erase(coder, spans, i, zone, reading.state);
         }
     }
+}
+
+/// The bytes that the block which `size` cuts reads from there on: none where a block ends there.
+fn tail_read(coder: &Coder, span: &Span, zone: &Zone, size: u32) -> ArrayVec<u8, 255>
+    requires coder { coder.now ≡ zone.now.parity }
+    requires valid { IsValidZone zone.now }
+    requires len { length span.now ≡ zone.now.size }
+    requires within { size ≤ zone.now.cap }
+    ensures { bytes_read zone.now span.now size ++ result.items ≡ bytes_read zone.now span.now (read_end zone.now size) }
+{
+    let _len = span.len();
+    let none: ArrayVec<u8, 255> = ArrayVec::new();
+    if size == zone.cap {
+        return none;
+    }
+    let within = size % zone.block;
+    if within == 0 {
+        return none;
+    }
+    let mut block: ArrayVec<u8, 255> = ArrayVec::new();
+    let mut fixes: ArrayVec<Fix, 63> = ArrayVec::new();
+    let _outcome = coder.read_block(span, zone, size / zone.block, &mut block, &mut fixes);
+    let (_below, tail) = block.as_slice().split_at(within as usize);
+    copy_of(tail)
+}
+
+fn copy_of(bytes: &[u8]) -> ArrayVec<u8, 255>
+    requires { length bytes.now ≤ 255 }
+    ensures { result.items ≡ bytes.now }
+{
+    let mut out: ArrayVec<u8, 255> = ArrayVec::new();
+    let _room = out.try_extend_from_slice(bytes);
+    out
 }
 
 fn bytes_of(words: Words) -> ArrayVec<u8, 12>
