@@ -1,4 +1,4 @@
-//! A script's session on the block store: lines of a script as they are done, and what each puts.
+//! A script's session on the block store: lines of a script as they are done, and what each prints.
 #![tactic(auto)]
 
 mod calls;

@@ -132,7 +132,7 @@ fn do_unloaded<S: Store>(
     }
 }
 
-/// Does a line, and gives what is then loaded and what the line puts. A line that is refused, that finds no memory or
+/// Does a line, and gives what is then loaded and what the line prints. A line that is refused, that finds no memory or
 /// within which the store fails ends the session.
 pub fn do_line<S: Store>(
     alloc: Global,

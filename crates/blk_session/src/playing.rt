@@ -64,7 +64,7 @@ fn play_line<S: Store, O: Sink>(
     }
 }
 
-/// Does the lines in order on a store that isn't loaded yet, and puts the text of each as it is done. The store is
+/// Does the lines in order on a store that isn't loaded yet, and prints the text of each as it is done. The store is
 /// written as the lines are done.
 pub fn play<S: Store, O: Sink>(
     alloc: Global,

@@ -50,7 +50,7 @@ fn record_time(blk: &Blk, name: BlkName) -> Option<BlkTime>
     }
 }
 
-// A name, and a length behind it.
+// A name, and a length after it.
 fn push_record(text: &mut Vec<u8>, name: BlkName, len: u64) -> Result<(), AllocError>
     ensures { OnOk result (text.new.items ≡ text.old.items ++ name_text_of name ++ codes " " ++ decimal len) }
 {

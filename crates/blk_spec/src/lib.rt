@@ -18,7 +18,7 @@ pub struct BlkParams {
     pub pmsg: u64,
 }
 
-/// The zones of a block store: pmsg at 0, the console behind it, then `dumps` dump zones of `kmsg` bytes each. Sizes
+/// The zones of a block store: pmsg at 0, the console after it, then `dumps` dump zones of `kmsg` bytes each. Sizes
 /// are in bytes; 0 is no zone.
 #[derive(Clone, Copy, Debug, PartialEq, Eq)]
 pub struct BlkLayout {

@@ -241,7 +241,7 @@ impl Coder {
         self.correct(out, bytes_at(span, place.parity_at, zone.parity), fixes)
     }
 
-    /// Whether block `b` and the one behind it, two whole blocks, stand as codewords. Such a block reads as it stands.
+    /// Whether block `b` and the one after it, two whole blocks, stand as codewords. Such a block reads as it stands.
     /// Up to 16 parity bytes this is faster than two reads.
     pub fn are_codewords(&self, span: &Span, zone: &Zone, b: u32) -> (bool, bool)
         requires coder { self.now ≡ zone.now.parity }

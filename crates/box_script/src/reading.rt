@@ -48,7 +48,7 @@ fn read_line(alloc: Global, text: &[u8], number: u32) -> Result<Line, ParseFault
     }
 }
 
-/// The number of the line after so many, or want of memory where 32 bits do not count it.
+/// The number of the line after so many, or out of memory if 32 bits do not count it.
 fn number_after(count: usize) -> Result<u32, ParseFault>
     ensures { MatchResult result (λ number. number ≡ count + 1) (λ fault. (fault ≡ Memory) × (2 ^ 32 ≤ count + 1)) }
 {
@@ -65,7 +65,7 @@ fn newlines(script: &[u8]) -> usize
     memchr_iter(b'\n', script).count()
 }
 
-/// The lines of a script, each ended by a newline. Where 32 bits do not count its lines, the answer is want of memory.
+/// The lines of a script, each ended by a newline. Where 32 bits do not count its lines, the answer is out of memory.
 pub fn parse(alloc: Global, script: &[u8]) -> Result<Lines, ParseFault>
     ensures read { MatchResult result
         (λ lines. script_of script.now ≡ Ok lines)

@@ -28,7 +28,7 @@ impl From<AllocError> for LineFault {
     }
 }
 
-/// What stands before the first mark, and what stands behind it.
+/// What stands before the first mark, and what stands after it.
 pub fn cut(text: &[u8], mark: u8) -> Option<(&[u8], &[u8])>
     ensures none { IfNone result (slice_split (λ b. b == mark) text.now ≡ text.now ∷ []) }
     ensures parts { IfSome result (λ parts. slice_split (λ b. b == mark) text.now
@@ -157,7 +157,7 @@ fn one_name(alloc: Global, text: &[u8]) -> Result<Bytes, LineFault>
     fields::name(alloc, name)
 }
 
-// What stands behind `begin`.
+// What stands after `begin`.
 #[tactic(auto, unfolding(grammar_spec::specs::Rows::begin_row))]
 fn begin_row(alloc: Global, word: &[u8], text: &[u8]) -> Result<Line, LineFault>
     ensures { Gives (λ x. x) result (begin_row word.now (fields_of text.now)) }
@@ -186,7 +186,7 @@ fn begin_line(alloc: Global, text: &[u8]) -> Result<Line, LineFault>
     }
 }
 
-// A word and the fields behind it, of which none has bytes.
+// A word and the fields after it, of which none has bytes.
 #[tactic(auto, unfolding(grammar_spec::specs::Rows::plain_row))]
 fn plain_row(word: &[u8], text: &[u8]) -> Option<Line>
     ensures { result ≡ plain_row word.now (fields_of text.now) }
@@ -209,7 +209,7 @@ fn plain_row(word: &[u8], text: &[u8]) -> Option<Line>
     None
 }
 
-// A word and the fields behind it.
+// A word and the fields after it.
 #[tactic(auto, unfolding(grammar_spec::specs::Rows::row))]
 fn row(alloc: Global, word: &[u8], text: &[u8]) -> Result<Line, LineFault>
     ensures { Gives (λ x. x) result (row word.now (fields_of text.now)) }

@@ -84,7 +84,7 @@ fn what_is_printed_otherwise(rt: HostRuntime) {
     }
 }
 
-// Each line stands second, behind `boot`.
+// Each line stands second, after `boot`.
 #[test]
 fn bad_fields(rt: HostRuntime) {
     for line in [

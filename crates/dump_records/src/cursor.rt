@@ -29,7 +29,7 @@ impl Cursor {
         self.place
     }
 
-    /// Goes to the next zone, or to the first behind the last.
+    /// Goes to the next zone, or to the first after the last.
     pub fn advance(&mut self)
         ensures zones { zones_of self.new ≡ zones_of self.old }
         ensures at { place_of self.new ≡ (place_of self.old + 1) % zones_of self.old }

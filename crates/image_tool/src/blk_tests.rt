@@ -19,7 +19,7 @@ fn has_at(image: &[u8], at: usize, bytes: &[u8]) -> bool {
     }
 }
 
-// Sessions with all that they put: a first one, and a write that is cut within its data and behind its header.
+// Sessions with all that they put: a first one, and a write that is cut within its data and after its header.
 #[test]
 fn worked_sessions(rt: HostRuntime) -> Result<(), Fail> {
     let alloc = rt.alloc();
@@ -43,7 +43,7 @@ fn worked_sessions(rt: HostRuntime) -> Result<(), Fail> {
     Ok(())
 }
 
-// An append to a full ring, cut behind its shorter header and behind its last one.
+// An append to a full ring, cut after its shorter header and after its last one.
 #[test]
 fn a_full_ring_is_cut(rt: HostRuntime) -> Result<(), Fail> {
     let alloc = rt.alloc();
@@ -60,7 +60,7 @@ fn a_full_ring_is_cut(rt: HostRuntime) -> Result<(), Fail> {
     Ok(())
 }
 
-// The bytes of each zone over an image of other bytes, and those behind the store's size, which stay.
+// The bytes of each zone over an image of other bytes, and those after the store's size, which stay.
 #[test]
 fn zones_are_written_in_place(rt: HostRuntime) -> Result<(), Fail> {
     let alloc = rt.alloc();
@@ -185,7 +185,7 @@ fn each_call_of_the_image_can_fail(rt: HostRuntime) -> Result<(), Fail> {
     Ok(())
 }
 
-// A script that fails leaves the image, and a put that fails ends the run behind its line.
+// A script that fails leaves the image, and a put that fails ends the run after its line.
 #[test]
 fn faults_of_the_script_and_the_output_are_told(rt: HostRuntime) -> Result<(), Fail> {
     let alloc = rt.alloc();

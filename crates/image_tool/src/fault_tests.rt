@@ -8,7 +8,7 @@ use std::test::Fail;
 enum Begins {
     /// So many bytes of one value.
     All(usize, u8),
-    /// Zeros behind these bytes.
+    /// Zeros after these bytes.
     Headed(&'static [u8]),
 }
 

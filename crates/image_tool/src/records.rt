@@ -18,7 +18,7 @@ use std::alloc::{AllocError, Global};
 use tool_frame::{Stop, load, save};
 use zone_params::types::Layout;
 
-// The line that a command's refusal names: the one behind the boot.
+// The line that a command's refusal names: the one after the boot.
 const LINE: u32 = 2;
 
 // A record's refusal as the end of a command.
@@ -54,7 +54,7 @@ fn read_logs<M: Store>(alloc: Global, layout: Layout, image: &mut M) -> Result<L
     }
 }
 
-/// Puts the records of an image.
+/// Prints the records of an image.
 pub fn list<M: Store, O: Sink>(
     alloc: Global,
     layout: Layout,
@@ -83,7 +83,7 @@ pub fn list<M: Store, O: Sink>(
     }
 }
 
-/// Puts the content of the record of this name.
+/// Prints the content of the record of this name.
 pub fn extract<M: Store, O: Sink>(
     alloc: Global,
     layout: Layout,

@@ -226,7 +226,7 @@ fn layouts_are_shown(rt: HostRuntime) -> Result<(), Fail> {
     Ok(())
 }
 
-// A blank image over another, of which the bytes behind stay; and one whose write fails.
+// A blank image over another, of which the bytes after stay; and one whose write fails.
 #[test]
 fn an_image_is_made_blank(rt: HostRuntime) -> Result<(), Fail> {
     let alloc = rt.alloc();

@@ -64,12 +64,13 @@ fn do_work<S: Source, M: Store, O: Sink>(
     }
 }
 
-/// Does what the words ask for, and answers the status: 0 where all was done, 1 for want of memory, 2 for words outside
-/// the grammar, 3 for a fault of a parameter or of the layout, 4 for an image that is too short, 5, 6 and 7 for a fault
-/// of the script, the image or the output, 8 for a script that is too long, 9 for a bad line, 10 for a refused one.
+/// Does what the arguments ask for, and answers the exit status: 0 if all was done, 1 if out of memory, 2 for arguments
+/// outside the grammar, 3 for a fault of a parameter or of the layout, 4 for an image that is too short, 5, 6 and 7 for
+/// a fault of the script, the image or the output, 8 for a script that is too long, 9 for a bad line, 10 for a refused
+/// line.
 ///
-/// The words are those behind the program's own name. Of an image the first bytes are used, as many as the parameters
-/// name, and written back after the script's last line. Under `blk-run` they are written as the lines are done.
+/// `words` are the arguments after the program's own name. The parameters say how many bytes of the image are used,
+/// from its first on. They are written back after the script's last line; under `blk-run` as the lines are done.
 pub fn run<S: Source, M: Store, O: Sink>(
     alloc: Global,
     words: &[String],

@@ -162,7 +162,7 @@ impl KLog {
         true
     }
 
-    /// The body of crash number `count` in a room of so many bytes: a heading, and the last lines that fit behind it.
+    /// The body of crash number `count` in a room of so many bytes: a heading, and the last lines that fit after it.
     pub fn body(&self, why: Why, count: u32, room: u32) -> Result<Bytes, AllocError>
         ensures { (given : List (List ℕ)) → Keeps self.now given → IfOk result (λ bytes. bytes
             ≡ body_of why count room (last_lines self.now.capacity given)) }

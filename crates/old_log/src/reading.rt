@@ -95,7 +95,7 @@ struct Front {
 impl Front {
     ghost use Rattle.old_log.specs.Fronts.{ReadsTo};
 
-    /// Puts block `b`, a codeword, as it stands behind the blocks before it, as far as it lies below `size`.
+    /// Appends block `b`, a codeword, as it stands after the blocks before it, as far as it lies below `size`.
     fn push_standing(
         &mut self,
         span: &Span,
@@ -119,7 +119,7 @@ impl Front {
         Ok(())
     }
 
-    /// Puts block `b` as it reads behind the blocks before it, as far as it lies below `size`.
+    /// Appends block `b` as it reads after the blocks before it, as far as it lies below `size`.
     fn push_read(
         &mut self,
         coder: &Coder,
@@ -149,7 +149,7 @@ impl Front {
         Ok(())
     }
 
-    /// Puts block `b`, of which `is_clean` tells whether it stands as a codeword.
+    /// Appends block `b`, of which `is_clean` tells whether it stands as a codeword.
     fn push(
         &mut self,
         coder: &Coder,

@@ -103,7 +103,7 @@ impl Tally {
         }
     }
 
-    /// Corrects the data by the log, which is turned to begin at `start`, and by the bytes behind it, `tail`.
+    /// Corrects the data by the log, which is turned to begin at `start`, and by the bytes after it, `tail`.
     fn correct_data(&mut self, spans: &mut Spans, i: u32, start: u32, log: &[u8], tail: &[u8])
         requires span { i < length spans.old.spans }
         requires start { start ≤ length log.now }
@@ -121,7 +121,7 @@ impl Tally {
     }
 
     /// Corrects the header, and the blocks that a boot reads. A reading without corrections has none to store. Else its
-    /// log has the corrected bytes below `size`, and one block at most is decoded again, for those behind.
+    /// log has the corrected bytes below `size`, and one block at most is decoded again, for those after.
     fn correct_zone(
         &mut self,
         coder: &Coder,
@@ -173,7 +173,7 @@ impl Tally {
         }
     }
 
-    /// Erases the zone, one without its signature behind the store of the signature.
+    /// Erases the zone, one without its signature after the store of the signature.
     fn erase(&mut self, coder: &Coder, spans: &mut Spans, i: u32, zone: &Zone, state: State)
         requires coder { coder.now ≡ zone.now.parity }
         requires valid { IsValidZone zone.now }

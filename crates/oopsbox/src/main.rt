@@ -15,7 +15,7 @@ enum NoWords {
     Refused,
 }
 
-// The words behind the program's own name.
+// The words after the program's own name.
 fn words<R: Env + AllocGlobal>(rt: &R) -> Result<Vec<String>, NoWords> {
     let all = match env::args(rt) {
         Ok(all) => all,

@@ -3,7 +3,7 @@ ghost use Rattle.std.specs.Prelude.{◌≡◌, ◌≤◌, length, drop, if◌the
 ghost use Rattle.std.specs.Option.{option_copied};
 ghost use Rattle.grammar_spec.specs.Numbers.{number_of, digits_number, begins};
 
-// What stands behind this front.
+// What stands after this front.
 pub fn behind<'a>(text: &'a str, front: &str) -> Option<&'a str>
     ensures { option_copied result ≡ (if begins front.now text.now then Some (drop (length front.now) text.now)
         else None) }

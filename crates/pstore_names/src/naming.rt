@@ -37,7 +37,7 @@ fn numbered(digits: &str, packed: bool) -> Option<Name>
     }
 }
 
-/// The only dump that the text behind `dmesg-ramoops-` can name.
+/// The only dump that the text after `dmesg-ramoops-` can name.
 fn dump_candidate(rest: &str) -> Option<Name>
     ensures { IsDumpCandidate rest.now result }
 {

@@ -133,7 +133,7 @@ fn next_dump(cursor: &Option<Cursor>) -> u32
     }
 }
 
-// Goes to the next dump zone behind a dump's last store.
+// Goes to the next dump zone after a dump's last store.
 fn turn(cursor: &mut Option<Cursor>, stored: Option<Stored>)
     ensures { (layout : List Zone) → IsTurning layout cursor.old
         → (is_last_of_dump stored ≡ true → 0 < dump_zones layout)

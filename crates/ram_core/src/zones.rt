@@ -78,7 +78,7 @@ pub(crate) fn start(zone: Zone, span: &Span, held: &mut HeldZone, call: Call) ->
 /// What the last of some stores of a flight was.
 #[derive(Clone, Copy)]
 pub enum Stored {
-    /// A store, behind which others come.
+    /// A store that others follow.
     Next,
     /// The last store of a call.
     Last(CallKind),

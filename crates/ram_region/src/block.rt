@@ -12,7 +12,7 @@ use core::slots::Slots;
 use std::alloc::Allocator;
 use std::marker::{Move, Owns};
 
-/// A `Vec` whose elements have gone to a row of slots: its own words, the room behind the elements, and the right to
+/// A `Vec` whose elements have gone to a row of slots: its own words, the room after the elements, and the right to
 /// free the block.
 pub struct Shell<T, A: Allocator> {
     vec: Vec<T, A>,
@@ -58,7 +58,7 @@ pub(crate) fn close<T, A: Allocator>(row: Slots<T>, shell: Shell<T, A>) -> Vec<T
     vec
 }
 
-/// Cuts a row in two, behind its first `count` places.
+/// Cuts a row in two, after its first `count` places.
 pub(crate) fn split<T>(row: Slots<T>, count: usize) -> (Slots<T>, Slots<T>)
     requires { (count ≤ slots_len row) × IsFull row }
     ensures low { (slots_items result.0 ≡ take count (slots_items row)) × IsFull result.0

@@ -90,7 +90,7 @@ fn do_off(alloc: Global, off: Off, line: Line) -> Result<(Machine, Vec<u8>), Lin
     }
 }
 
-/// Does a line, and gives what it puts. A line that is refused ends the session.
+/// Does a line, and gives what it prints. A line that is refused ends the session.
 pub fn do_line(alloc: Global, machine: Machine, line: Line) -> Result<(Machine, Vec<u8>), LineError>
     requires fields { HasFields line }
     ensures { MatchResult result (λ r. LineDone machine line r.0 r.1.items) (LineFails machine line) }

@@ -41,7 +41,7 @@ fn play_line<O: Sink>(
     }
 }
 
-/// Does the lines in order on a store that is off, and puts the text of each as it is done.
+/// Does the lines in order on a store that is off, and prints the text of each as it is done.
 pub fn play<O: Sink>(alloc: Global, off: Off, lines: Lines, out: &mut O) -> Result<Machine, Stop>
     requires fields { AllHaveFields lines }
     requires few { length lines < 2 ^ 32 }

@@ -24,7 +24,7 @@ pub fn boot(alloc: Global, off: Off) -> Result<(Machine, Vec<u8>), LineError>
     Ok((Machine::Live(live, logs), text))
 }
 
-/// A boot that is stopped after so many stores, or behind its last.
+/// A boot that is stopped after so many stores, or after its last.
 #[tactic(auto, using(crate::proofs::StateLines::part_done))]
 pub fn boot_part(alloc: Global, off: Off, limit: u32) -> Result<(Machine, Vec<u8>), LineError>
     ensures { MatchResult result (λ r. LineDone (OffMachine off) (BootPart limit) r.0 r.1.items)

@@ -107,7 +107,7 @@ fn push_seen(text: &mut Vec<u8>, seen: HeaderSeen) -> Result<(), AllocError>
     }
 }
 
-// A run behind a comma, or behind nothing.
+// A run after a comma, or after nothing.
 fn push_run(text: &mut Vec<u8>, comma: &str, run: (u32, u32)) -> Result<(), AllocError>
     ensures { OnOk result (text.new.items ≡ text.old.items ++ comma.now ++ run_text run) }
 {
@@ -118,7 +118,7 @@ fn push_run(text: &mut Vec<u8>, comma: &str, run: (u32, u32)) -> Result<(), Allo
     push_number(text, "-", u64::from(run.1))
 }
 
-// Runs, each behind a comma.
+// Runs, each after a comma.
 fn push_further(text: &mut Vec<u8>, runs: &[(u32, u32)]) -> Result<(), AllocError>
     ensures { OnOk result (text.new.items ≡ text.old.items ++ flat_map (λ run. codes "," ++ run_text run) runs.now) }
 {

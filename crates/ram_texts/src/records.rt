@@ -15,7 +15,7 @@ use pstore_names::{ContentFault, Entry, Name, Time, content, listed, name_text};
 use std::alloc::{AllocError, Global};
 use text_pieces::push_number;
 
-// A name, and a length behind it.
+// A name, and a length after it.
 fn push_record(text: &mut Vec<u8>, name: Name, len: u128) -> Result<(), AllocError>
     ensures { OnOk result (text.new.items ≡ text.old.items ++ name_text_of name ++ codes " " ++ decimal len) }
 {

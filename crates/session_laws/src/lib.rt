@@ -9,7 +9,7 @@ ghost use Rattle.session_laws.specs.ZoneReads.{SoundStateReadsZones};
 ghost use Rattle.session_laws.specs.CutBoots.{CutBootMakesStores, CutBootLeavesRest, CutBootHolds, CutBootReads, CutBootKeepsStops};
 ghost use Rattle.session_laws.specs.Headline.{Headline, SoundStateReadsLastWritten};
 
-/// An image is its zones' bytes end to end, and the bytes behind them.
+/// An image is its zones' bytes end to end, and the bytes after them.
 pub fn image_is_zones_and_rest()
     ensures { ImageIsZonesAndRest }
 {}
@@ -85,7 +85,7 @@ pub fn cut_boot_makes_stores()
     ensures { CutBootMakesStores }
 {}
 
-/// A cut boot leaves the bytes behind the last zone.
+/// A cut boot leaves the bytes after the last zone.
 pub fn cut_boot_leaves_rest()
     ensures { CutBootLeavesRest }
 {}

@@ -7,7 +7,7 @@ pub fn stopped_erasure()
     ensures { StoppedErasure }
 {}
 
-/// A boot cut behind the signature of a zone of zeros.
+/// A boot cut after the signature of a zone of zeros.
 pub fn stopped_first_boot()
     ensures { StoppedFirstBoot }
 {}
@@ -27,12 +27,12 @@ pub fn stopped_within_second_zone()
     ensures { StoppedWithinSecondZone }
 {}
 
-/// A boot cut behind the last store of its second zone.
+/// A boot cut after the last store of its second zone.
 pub fn stopped_behind_second_zone()
     ensures { StoppedBehindSecondZone }
 {}
 
-/// A boot cut behind its last store is whole.
+/// A boot cut after its last store is whole.
 pub fn stopped_behind_last_store()
     ensures { StoppedBehindLastStore }
 {}

@@ -27,7 +27,7 @@ pub fn cut_before_header_parity()
     ensures { CutBeforeHeaderParity }
 {}
 
-/// An append with two parity bytes, cut behind its words.
+/// An append with two parity bytes, cut after its words.
 pub fn cut_between_words()
     ensures { CutBetweenWords }
 {}

@@ -32,7 +32,7 @@ pub fn boot_of_foreign_header()
     ensures { BootOfForeignHeader }
 {}
 
-/// The cut that such a boot leaves behind the signature.
+/// The cut that such a boot leaves after the signature.
 pub fn cut_of_foreign_header()
     ensures { CutOfForeignHeader }
 {}

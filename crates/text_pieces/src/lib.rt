@@ -1,4 +1,4 @@
-//! What the tool's texts are made of: words with a number behind them, and the names of zones.
+//! What the tool's texts are made of: words with a number after them, and the names of zones.
 #![tactic(auto)]
 
 ghost use Rattle.std.specs.Prelude.{◌≡◌, ◌++◌, decimal, OnOk};
@@ -8,7 +8,7 @@ use itoa::Buffer;
 use std::alloc::AllocError;
 use zone_spec::{Kind, ZoneName};
 
-/// Appends words and a number behind them.
+/// Appends words and a number after them.
 pub fn push_number(text: &mut Vec<u8>, words: &str, n: u64) -> Result<(), AllocError>
     ensures { OnOk result (text.new.items ≡ text.old.items ++ words.now ++ decimal n) }
 {

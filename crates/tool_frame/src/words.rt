@@ -65,7 +65,7 @@ fn plain<'a>(command: Command<'a>, params: &'a [String]) -> Asked<'a>
     }
 }
 
-// The name behind a command, and the parameters behind it.
+// The name after a command, and the parameters after it.
 fn split_name(words: &[String]) -> Option<(&str, &[String])>
     ensures { MatchOption result (texts words.now ≡ []) (λ parts. texts words.now ≡ parts.0.now ∷ texts parts.1.now) }
 {
@@ -112,7 +112,7 @@ fn make(words: &[String]) -> Option<Asked<'_>>
     })
 }
 
-// The command that a word names, with the words behind it.
+// The command that a word names, with the words after it.
 fn asked_by<'a>(word: &str, words: &'a [String]) -> Option<Asked<'a>>
     ensures { MatchOption result (asked_by word.now (texts words.now) ≡ None)
         (λ a. asked_by word.now (texts words.now) ≡ Some (asked_seen a)) }
@@ -139,7 +139,7 @@ fn read_command(words: &[String]) -> Option<Asked<'_>>
     }
 }
 
-// A command on an image of these parameters, which stand behind so many words.
+// A command on an image of these parameters, which stand after so many words.
 fn lay_image<'a>(
     alloc: Global,
     command: RamCommand<'a>,
@@ -162,7 +162,7 @@ fn lay_image<'a>(
     }
 }
 
-// A script on a block store of these parameters, which stand behind so many words.
+// A script on a block store of these parameters, which stand after so many words.
 fn lay_blk<'a>(before: u32, params: &[String]) -> Result<Plan<'a>, Stop>
     ensures plan { let wanted = laid_out RunBlkScript before (texts params.now) in
         MatchResult result (λ plan. wanted ≡ Ok (plan_seen plan)) (λ stop. PlanStop stop wanted) }
@@ -179,8 +179,8 @@ fn lay_blk<'a>(before: u32, params: &[String]) -> Result<Plan<'a>, Stop>
     }
 }
 
-/// What the words ask for: a command and the layout of its parameters. Want of memory comes only where they have no
-/// fault.
+/// What the arguments ask for: a command and the layout of its parameters. It allocates only after all checks have
+/// passed.
 pub fn read_plan(alloc: Global, words: &[String]) -> Result<Plan<'_>, Stop>
     ensures plan { MatchResult result (λ plan. plan_of (texts words.now) ≡ Ok (plan_seen plan))
         (λ stop. PlanStop stop (plan_of (texts words.now))) }

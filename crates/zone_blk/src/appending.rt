@@ -11,7 +11,7 @@ use crate::writing::{write_header, write_run};
 use blk_spec::{BlkCut, BlkWords, BlkZone};
 use box_io::{Failed, Store};
 
-/// How an append goes round a ring: how many bytes its first run has, the words behind that run and behind the second
+/// How an append goes round a ring: how many bytes its first run has, the words after that run and after the second
 /// one, whether a further header is written, and the ring's words in the end.
 #[derive(Clone, Copy)]
 struct Turn {
@@ -120,7 +120,7 @@ fn write_further<M: Store>(
     write_header(store, cut, zone, words)
 }
 
-/// Writes at least one byte, and at most as many as the ring holds, with the headers behind them.
+/// Writes at least one byte, and at most as many as the ring holds, with the headers after them.
 fn write_turn<M: Store>(
     store: &mut M,
     cut: &mut BlkCut,
@@ -159,7 +159,7 @@ fn write_turn<M: Store>(
 }
 
 /// Appends to the ring of a zone: its last bytes where the payload has more than the ring holds. Answers the ring's
-/// words behind the append.
+/// words after the append.
 pub fn append_ring<M: Store>(
     store: &mut M,
     cut: &mut BlkCut,

@@ -92,7 +92,7 @@ fn counter_for(reason: Reason, counters: Counters) -> u32
     }
 }
 
-// The counters behind a dump with this reason.
+// The counters after a dump with this reason.
 fn counted(reason: Reason, counters: Counters) -> Counters
     ensures { counters_seen result ≡ counted_of reason (counters_seen counters) }
 {
@@ -253,7 +253,7 @@ impl Blk {
     }
 
     /// Of all bytes that are written from now on only the first `bytes` reach the store; the rest is dropped and
-    /// answered as written, and so is every byte behind a dropped one. The bytes of a write that failed count as
+    /// answered as written, and so is every byte after a dropped one. The bytes of a write that failed count as
     /// written. A later limit replaces an earlier one as long as no byte was dropped.
     pub fn cut_after(&mut self, bytes: u64)
         ensures { self.new ≡ cut_state self.old bytes }

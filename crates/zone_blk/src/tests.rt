@@ -154,7 +154,7 @@ fn first_session(rt: HostRuntime) -> Result<(), Fail> {
     Ok(())
 }
 
-// What a loading lists after a stop behind `from` to `to - 1` bytes.
+// What a loading lists after a stop after `from` to `to - 1` bytes.
 #[derive(Clone, Copy)]
 struct Stopped {
     from: u64,

@@ -15,7 +15,7 @@ use box_io::{Failed, Store};
 // How many zeros are written at once.
 const PIECE: usize = 512;
 
-/// How many of the next bytes reach the store, and the cut behind them.
+/// How many of the next bytes reach the store, and the cut after them.
 #[derive(Clone, Copy)]
 struct Passing {
     count: usize,
@@ -97,7 +97,7 @@ pub fn write_header<M: Store>(
     write(store, cut, zone, zone.at, bytes.as_slice())
 }
 
-/// Writes data from a place of the zone's data on, and behind them the header with these words.
+/// Writes data from a place of the zone's data on, and after them the header with these words.
 pub fn write_run<M: Store>(
     store: &mut M,
     cut: &mut BlkCut,

@@ -85,7 +85,7 @@ impl Call {
 /// What a step did.
 #[derive(Clone, Copy, Debug, PartialEq, Eq)]
 pub enum Step {
-    /// A store, behind which others come.
+    /// A store that others follow.
     Stored,
     /// The last store.
     Done,

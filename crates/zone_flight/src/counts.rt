@@ -31,7 +31,7 @@ fn line_len(call: &Call) -> u32
     line_bytes(call).len() as u32
 }
 
-/// The number of bytes of a dump's body that fit behind its line.
+/// The number of bytes of a dump's body that fit after its line.
 fn front_len(call: &Call, cap: u32) -> u32
     requires { 36 ≤ cap }
     ensures value { result ≡ length (front_of cap (call_seen call.now)) }
@@ -201,7 +201,7 @@ fn runs_between(first: u32, end: u32, below: u32) -> ArrayVec<(u32, u32), 2>
     runs
 }
 
-/// The first block that begins at or behind a place.
+/// The first block that begins at or past a place.
 fn block_behind(zone: &Zone, place: u32) -> u32
     requires valid { IsValidZone zone.now }
     requires fits { place ≤ zone.now.cap }

@@ -136,7 +136,7 @@ impl Progress {
         self.payload_len() - self.first_len()
     }
 
-    /// The first block behind the first run.
+    /// The first block after the first run.
     fn first_end(&self) -> u32
         requires { IsSound (seen self.now) }
         ensures { result ≡ first_end (seen self.now) }
@@ -234,7 +234,7 @@ impl Progress {
         self.place.number = 0;
     }
 
-    /// Goes on behind a dump's line, or behind its erasure where the line is empty.
+    /// Goes on after a dump's line, or after its erasure where the line is empty.
     fn enter_body(&mut self)
         requires sound { IsSound (seen self.old) }
         requires done { IsDone (seen self.old) }
@@ -251,7 +251,7 @@ impl Progress {
         }
     }
 
-    /// Goes on behind the header's parity: to the next part that has bytes, or to the end.
+    /// Goes on after the header's parity: to the next part that has bytes, or to the end.
     fn enter_next_leg(&mut self)
         requires sound { IsSound (seen self.old) }
         requires done { IsDone (seen self.old) }
@@ -365,7 +365,7 @@ impl Progress {
         }
     }
 
-    /// Where the parity of a block begins; that of the header is behind the last block's.
+    /// Where the parity of a block begins; that of the header is after the last block's.
     fn parity_at(&self, block: u32) -> u32
         requires sound { IsSound (seen self.now) }
         requires block { block ≤ self.now.zone.blocks }
@@ -548,7 +548,7 @@ pub fn line_bytes(call: &Call) -> &[u8]
     }
 }
 
-/// The front of a dump's body that fits behind its line; nothing where the call is another.
+/// The front of a dump's body that fits after its line; nothing where the call is another.
 pub fn front_bytes(call: &Call, cap: u32) -> &[u8]
     requires { 36 ≤ cap }
     ensures { result.now ≡ front_of cap (call_seen call.now) }

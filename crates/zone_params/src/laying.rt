@@ -1,4 +1,4 @@
-// The zones laid out, one row behind another.
+// The zones laid out, one row after another.
 ghost use Rattle.std.specs.Prelude.{◌≡◌, ◌≤◌, ◌<◌, ◌+◌, ◌*◌, ◌^◌, ◌++◌, map, None, OnOk, Ok, IfOk, MatchResult};
 ghost use Rattle.std.specs.List.{range_with_len};
 ghost use Rattle.zone_spec.specs.Layout.{layout_of, zones_of as zones_in, rows as rows_of, zone_at as zone_of, first_fault, parameter_faults};
@@ -10,7 +10,7 @@ use crate::{LayoutError, rows};
 use std::alloc::{AllocError, Global};
 use zone_spec::{Params, Row, Zone};
 
-// The zones of a row, from this place on, behind those that stand.
+// The zones of a row, from this place on, after those that stand.
 fn add_row(zones: &mut Vec<Zone>, p: &Params, row: Row, at: u64) -> Result<(), AllocError>
     requires faultless { first_fault (parameter_faults p.now) ≡ None }
     requires within { at + row.count * row.size ≤ 2 ^ 24 }

@@ -131,6 +131,6 @@ pub enum Refusal {
     Busy,
     /// No call is in flight there.
     Idle,
-    /// The place is at or behind the image's end.
+    /// The place is at or past the image's end.
     OutOfImage,
 }

@@ -28,7 +28,7 @@ pub struct Params {
     pub ecc_pmsg: u64,
 }
 
-/// Zones of one kind and size, one behind another: how many, and the bytes of each.
+/// Zones of one kind and size, one after another: how many, and the bytes of each.
 #[derive(Clone, Copy, Debug, PartialEq, Eq)]
 pub struct Row {
     pub kind: Kind,
