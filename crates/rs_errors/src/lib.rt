@@ -669,7 +669,14 @@ mod tests {
     }
 
     /// Decodes the word of `msg` and `par` with a bound, and tells the answer and the data.
-    fn assert_within(rt: &impl Abort, most: usize, par: &[u8], msg: &[u8], want: Decoded, data: &[u8]) {
+    fn assert_within(
+        rt: &impl Abort,
+        most: usize,
+        par: &[u8],
+        msg: &[u8],
+        want: Decoded,
+        data: &[u8],
+    ) {
         assert!(rt;
             1 <= par.len() && par.len() <= 127,
             "at most 127 parity symbols"
@@ -695,9 +702,30 @@ mod tests {
         assert_within(&rt, 0, &[3, 2], &[0], Decoded::Bad, &[0]);
         assert_within(&rt, 1, &[3, 2], &[0], Decoded::Fixed(1), &[1]);
         // eight zeros are a codeword, and four symbols correct two places
-        assert_within(&rt, 1, &[0, 0, 0, 0], &[0, 9, 0, 0, 0, 7, 0, 0], Decoded::Bad, &[0, 9, 0, 0, 0, 7, 0, 0]);
-        assert_within(&rt, 2, &[0, 0, 0, 0], &[0, 9, 0, 0, 0, 7, 0, 0], Decoded::Fixed(2), &[0; 8]);
-        assert_within(&rt, 1, &[0, 0, 0, 0], &[0, 9, 0, 0, 0, 0, 0, 0], Decoded::Fixed(1), &[0; 8]);
+        assert_within(
+            &rt,
+            1,
+            &[0, 0, 0, 0],
+            &[0, 9, 0, 0, 0, 7, 0, 0],
+            Decoded::Bad,
+            &[0, 9, 0, 0, 0, 7, 0, 0],
+        );
+        assert_within(
+            &rt,
+            2,
+            &[0, 0, 0, 0],
+            &[0, 9, 0, 0, 0, 7, 0, 0],
+            Decoded::Fixed(2),
+            &[0; 8],
+        );
+        assert_within(
+            &rt,
+            1,
+            &[0, 0, 0, 0],
+            &[0, 9, 0, 0, 0, 0, 0, 0],
+            Decoded::Fixed(1),
+            &[0; 8],
+        );
     }
 
     /// A header of size 4018 whose start word was changed to 1541: the nearest codeword changes its signature.
