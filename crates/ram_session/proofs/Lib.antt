@@ -9,3 +9,5 @@ pub mod ScriptLines
 pub mod ErasedZones
 pub mod EraseLines
 pub mod Images
+pub mod Listings
+pub mod Sides

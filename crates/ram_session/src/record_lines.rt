@@ -13,11 +13,11 @@ ghost use Rattle.ram_session.specs.declared.machine.Machine.TheVariants.{Live as
 ghost use Rattle.ram_core.specs.LiveSeen.{LiveSeen};
 
 use crate::machine::LineError;
+use crate::texts::extract_text;
 use arrayvec::ArrayString;
 use box_io::Bytes;
 use old_log::Logs;
 use pstore_names::{ContentFault, Name, content, name_text, names};
-use ram_texts::extract_text;
 use std::alloc::{AllocError, Global};
 use tool_spec::Cause;
 

@@ -3,7 +3,7 @@ use super::*;
 use arrayvec::ArrayVec;
 use box_io::Bytes;
 use old_log::{Logs, Reading, State, Words};
-use pstore_names::Name;
+use pstore_names::{ContentFault, Name};
 use ram_core::{CallKind, Cut, HeaderSeen, Report, Verdict, ZoneReport};
 use std::alloc::{AllocError, Global};
 use std::test::Fail;

@@ -11,7 +11,7 @@ use Rattle.pstore_names.specs.declared.table.Entry.{Entry}
 use Rattle.pstore_names.specs.Tables.{entry_of}
 use Rattle.pstore_names.proofs.Given.{record-name}
 use Rattle.tool_spec.specs.Texts.{newline, record_text, time_text, listing, extract_text}
-use Rattle.ram_texts.specs.Entries.{entry_text}
+use Rattle.ram_session.specs.Entries.{entry_text}
 
 pub lines-are : (zones : List Saved) (rs : List Listed)
     → flat_map entry_text (map (entry_of zones) rs) ≡ flat_map

@@ -1,7 +1,7 @@
 use Rattle.std.proofs.Common.{◌≡◌, ◌++◌, ◌∙◌, arith}
 use Rattle.old_log.specs.Saving.{saved}
-use Rattle.ram_texts.proofs.Listings.{listing-is}
-use Rattle.ram_texts.proofs.records.listing.Goals as goal
+use Rattle.ram_session.proofs.Listings.{listing-is}
+use Rattle.ram_session.proofs.texts.records.listing.Goals as goal
 
 pub returns : goal.returns
 returns c =

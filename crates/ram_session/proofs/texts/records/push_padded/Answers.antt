@@ -1,6 +1,6 @@
 use Rattle.std.proofs.Common.{◌+◌, ◌≤◌, arith}
 use Rattle.std.proofs.lemmas.Fmt.{decimal_nonempty}
-use Rattle.ram_texts.proofs.records.push_padded.Goals as goal
+use Rattle.ram_session.proofs.texts.records.push_padded.Goals as goal
 
 pub range_from-requires : goal.range_from-requires
 range_from-requires c = λ _. (

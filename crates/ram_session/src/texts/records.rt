@@ -6,7 +6,7 @@ ghost use Rattle.zone_spec.specs.TimeLines.{six_digits};
 ghost use Rattle.zone_spec.specs.Records.{record_of, listed_of};
 ghost use Rattle.old_log.specs.Saving.{saved};
 ghost use Rattle.tool_spec.specs.Texts.{newline, time_text, listing, extract_text};
-ghost use Rattle.ram_texts.specs.Entries.{entry_text, IsText};
+ghost use Rattle.ram_session.specs.Entries.{entry_text, IsText};
 
 use arrayvec::ArrayString;
 use itoa::Buffer;

@@ -1,7 +1,7 @@
 use Rattle.std.proofs.Common.{◌≡◌, ◌++◌, ap, ◌∙◌}
 use Rattle.old_log.specs.Saving.{saved}
-use Rattle.ram_texts.proofs.Listings.{extract-is}
-use Rattle.ram_texts.proofs.records.extract_text.Goals as goal
+use Rattle.ram_session.proofs.Listings.{extract-is}
+use Rattle.ram_session.proofs.texts.records.extract_text.Goals as goal
 
 pub returns-in-Ok-framed : goal.returns-in-Ok-framed
 returns-in-Ok-framed c = extract-is (saved c.args.logs.now)

@@ -1,6 +1,6 @@
 use Rattle.std.proofs.Common.{◌≡◌, ◌++◌, drop, flat_map, codes}
 use Rattle.tool_spec.specs.Texts.{run_text}
-use Rattle.ram_texts.proofs.boots.push_further.Given as goal
+use Rattle.ram_session.proofs.texts.boots.push_further.Given as goal
 
 -- the text so far, and then the runs that are left
 abbrev pub invariant-loop-run : goal.invariant-loop-run

@@ -2,8 +2,8 @@ use Rattle.std.proofs.Common.{◌≡◌, ◌++◌, ◌<◌, ◌≤◌, min, leng
 use Rattle.std.proofs.lemmas.Option.{slice_get_read}
 use Rattle.std.specs.Prelude.{slice_get}
 use Rattle.old_log.specs.Saving.{saved}
-use Rattle.ram_texts.proofs.Sides.{one-more, all-there}
-use Rattle.ram_texts.proofs.boots.boot_text.Goals as goal
+use Rattle.ram_session.proofs.Sides.{one-more, all-there}
+use Rattle.ram_session.proofs.texts.boots.boot_text.Goals as goal
 
 pub loop-i-preserved : goal.loop-i-preserved
 loop-i-preserved c =

@@ -1,6 +1,6 @@
 use Rattle.std.proofs.Common.{◌≡◌, ◌++◌, drop, flat_map}
-use Rattle.ram_texts.specs.Entries.{entry_text}
-use Rattle.ram_texts.proofs.records.push_entries.Given as goal
+use Rattle.ram_session.specs.Entries.{entry_text}
+use Rattle.ram_session.proofs.texts.records.push_entries.Given as goal
 
 -- the text so far, and then the lines of the records that are left
 abbrev pub invariant-loop-entry : goal.invariant-loop-entry
