@@ -14,7 +14,7 @@ use text_pieces::{extracted, push_number, push_padded, push_record, push_seconds
 use zone_blk::{Blk, BlkFault, BlkName, BlkTime};
 
 /// Writes the text of a name, such as `dmesg-pstore_blk-3.enc.z`, in at most 33 bytes. Takes no memory.
-pub fn name_text(name: BlkName, out: &mut ArrayString<33>)
+fn name_text(name: BlkName, out: &mut ArrayString<33>)
     ensures { out.new.bytes ≡ name_text_of name }
 {
     out.clear();
