@@ -126,7 +126,7 @@ pub fn erase<M: Store>(alloc: Global, layout: Layout, name: &str, image: &mut M)
         Ok(booted) => booted,
         Err(stop) => return Err(stop),
     };
-    match ram_session::erase(alloc, &mut live, &mut logs, name.as_bytes()) {
+    match ram_session::erase(&mut live, &mut logs, name.as_bytes()) {
         Ok(()) => {}
         Err(e) => return Err(stop_of(e)),
     }

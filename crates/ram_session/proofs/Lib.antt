@@ -11,3 +11,4 @@ pub mod EraseLines
 pub mod Images
 pub mod Listings
 pub mod Sides
+pub mod Called
