@@ -66,7 +66,7 @@ fn do_live(
             Ok(text) => Ok((Machine::Live(live, logs), text)),
             Err(e) => Err(e),
         },
-        Line::Erase(name) => match erase(alloc, &mut live, &mut logs, name.as_slice()) {
+        Line::Erase(name) => match erase(&mut live, &mut logs, name.as_slice()) {
             Ok(()) => Ok((Machine::Live(live, logs), Vec::new(alloc))),
             Err(e) => Err(e),
         },
