@@ -12,8 +12,7 @@ ghost use Rattle.image_tool.specs.Records.{SavedFrom, stop_for};
 use crate::stores::{boot_store, fresh_store};
 use box_io::{Failed, Sink, Store};
 use old_log::Logs;
-use ram_session::{LineError, content_of};
-use ram_texts::listing;
+use ram_session::{LineError, content_of, listing};
 use std::alloc::{AllocError, Global};
 use tool_frame::{Stop, load, save};
 use zone_params::types::Layout;
@@ -127,7 +126,7 @@ pub fn erase<M: Store>(alloc: Global, layout: Layout, name: &str, image: &mut M)
         Ok(booted) => booted,
         Err(stop) => return Err(stop),
     };
-    match ram_session::erase(alloc, &mut live, &mut logs, name.as_bytes()) {
+    match ram_session::erase(&mut live, &mut logs, name.as_bytes()) {
         Ok(()) => {}
         Err(e) => return Err(stop_of(e)),
     }

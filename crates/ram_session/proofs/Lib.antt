@@ -9,3 +9,6 @@ pub mod ScriptLines
 pub mod ErasedZones
 pub mod EraseLines
 pub mod Images
+pub mod Listings
+pub mod Sides
+pub mod Called

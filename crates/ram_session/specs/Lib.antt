@@ -3,3 +3,4 @@ pub mod Sessions
 pub mod Records
 pub mod Playing
 pub mod Erasing
+pub mod Entries

@@ -1,4 +1,4 @@
-//! A script's session on the store: calls made by their stores, and lines of a script as they are done.
+//! A script's session on the store: calls made by their stores, lines of a script as they are done, and their texts.
 #![tactic(auto)]
 
 mod calls;
@@ -10,6 +10,7 @@ mod off_lines;
 mod playing;
 mod record_lines;
 mod state_lines;
+mod texts;
 
 pub use calls::{begin, finish, make, step};
 pub use erasing::erase;
@@ -17,6 +18,7 @@ pub use lines::do_line;
 pub use machine::{LineError, Machine};
 pub use playing::play;
 pub use record_lines::content_of;
+pub use texts::listing;
 
 #[cfg(test)]
 mod tests;

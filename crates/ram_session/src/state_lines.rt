@@ -6,9 +6,9 @@ ghost use Rattle.ram_session.specs.declared.machine.Machine.TheVariants.{Off as 
 ghost use Rattle.ram_core.specs.LiveSeen.{LiveSeen};
 
 use crate::machine::{LineError, Machine};
+use crate::texts::{boot_text, listing, part_text};
 use old_log::Logs;
 use ram_core::{Live, Off};
-use ram_texts::{boot_text, listing, part_text};
 use std::alloc::{AllocError, Global};
 
 /// A boot, with the text of what it reads.

@@ -8,3 +8,4 @@ pub mod Texts
 pub mod Clearing
 pub mod Contents
 pub mod DumpWrite
+pub mod Called

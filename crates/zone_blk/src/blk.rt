@@ -1,5 +1,5 @@
 // A loaded block store.
-ghost use Rattle.std.specs.Prelude.{◌≡◌, ℕ, ◌+◌, ◌-◌, ◌^◌, ◌<◌, ◌≤◌, length, IfOk, IfErr, IfSome, Err, Some, None, is_some, IsTrue};
+ghost use Rattle.std.specs.Prelude.{◌≡◌, ℕ, ◌+◌, ◌-◌, ◌^◌, ◌<◌, ◌≤◌, bytes_eq, length, IfOk, IfErr, IfSome, Err, Some, None, is_some, IsTrue};
 ghost use Rattle.std.specs.List.{find};
 ghost use Rattle.std.specs.Option.{option_map};
 ghost use Rattle.box_io.specs.Outside.{HasCause, Rose};
@@ -9,7 +9,7 @@ ghost use Rattle.blk_spec.specs.States.{append_refusal, append_of, appended, dum
 ghost use Rattle.blk_spec.specs.Rings.{empty_words};
 ghost use Rattle.blk_spec.specs.Writes.{limited as limited_to};
 ghost use Rattle.blk_spec.specs.Reading.{BlkDump};
-ghost use Rattle.blk_spec.specs.Names.{is_name as is_same, dump_name as name_of_dump, dump_content as content_of_dump};
+ghost use Rattle.blk_spec.specs.Names.{is_name as is_same, name_text, dump_name as name_of_dump, dump_content as content_of_dump};
 ghost use Rattle.blk_spec.specs.Dumps.{counter_for as counter_of, counted as counted_of};
 ghost use Rattle.zone_blk.specs.Outcomes.{Ends};
 ghost use Rattle.zone_blk.specs.Loading.{IsReadFault};
@@ -21,7 +21,7 @@ ghost use Rattle.zone_blk.specs.Calls.{RingAnswers, counters_seen};
 use crate::appending::append_ring;
 use crate::dumping::{DumpHeader, write_dump};
 use crate::names::{
-    BlkNames, add_name, dump_content, dump_len, dump_names, find_dump, find_time, forget_dump,
+    BlkNames, add_name, dump_content, dump_len, dump_names, find_dump, find_time, forget_dump, named,
 };
 use crate::reading::{Dump, greatest_counter, read_dumps, read_ring};
 use crate::writing::write_header;
@@ -398,6 +398,16 @@ impl Blk {
             BlkName::Console => self.console.saved.is_some(),
             BlkName::Pmsg => self.pmsg.saved.is_some(),
         }
+    }
+
+    /// The listed record whose name has this text. Takes no memory.
+    pub fn find(&self, text: &[u8]) -> Option<BlkName>
+        ensures { result ≡ find (λ name. bytes_eq (name_text name) text.now) (names_of self.now) }
+    {
+        // The invariant of a loaded store bounds the numbers of its dumps.
+        let _loaded = &self.layout;
+        let name = named(text)?;
+        if self.lists(name) { Some(name) } else { None }
     }
 
     fn zone_named(&self, name: BlkName) -> BlkZone

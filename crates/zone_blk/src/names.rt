@@ -14,6 +14,7 @@ use box_io::Bytes;
 use itoa::Buffer;
 use std::alloc::{AllocError, Global};
 use std::marker::Model;
+use std::str;
 
 /// The names of the listed records, in their order.
 #[derive(Drop)]
@@ -242,5 +243,15 @@ pub fn blk_find(text: &str) -> Option<BlkName>
     match text.strip_prefix("dmesg-pstore_blk-") {
         Some(behind) => dump_named(behind),
         None => None,
+    }
+}
+
+/// The name whose text these bytes are, or `None` exactly where no name of a record has it.
+pub fn named(text: &[u8]) -> Option<BlkName>
+    ensures { IsNameOf text.now result }
+{
+    match str::from_utf8(text) {
+        Ok(text) => blk_find(text),
+        Err(_) => None,
     }
 }

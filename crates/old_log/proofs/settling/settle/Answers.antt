@@ -5,7 +5,8 @@ use Rattle.zone_spec.specs.Stages.{stores_in_turn}
 use Rattle.zone_spec.specs.Calls.{erase_stages}
 use Rattle.zone_spec.specs.Boot.{boot_fixes, boot_stores, signing, keeps}
 use Rattle.ram_region.specs.CutRegion.{span, with_span}
-use Rattle.old_log.proofs.Storing.{makes-same, makes-then, makes-length, makes-span, span-is, all-take}
+use Rattle.old_log.proofs.Storing.{makes-same, makes-then, makes-length, makes-span, span-is}
+use Rattle.ring_laws.proofs.StoreBytes.{all-take}
 use Rattle.old_log.proofs.Erasures.{HasBytes, after-bytes, unkept-long, boot_stores-are, fixes-bytes}
 use Rattle.old_log.proofs.settling.settle.Goals as goal
 

@@ -1,7 +1,8 @@
 use Rattle.std.proofs.Common.{◌≡◌, ℕ, List, get_or, slice_get, length, ap, subst, ◌∙◌, arith}
 use Rattle.zone_spec.specs.declared.Zone.{Zone}
 use Rattle.zone_params.specs.Laid.{zones_of}
-use Rattle.ram_core.proofs.Preparing.{LogsTo, no_zone, span_at, logs_none, logs_next, logs_whole}
+use Rattle.ram_region.proofs.Cutting.{no_zone}
+use Rattle.ram_core.proofs.Preparing.{LogsTo, span_at, logs_none, logs_next, logs_whole}
 use Rattle.ram_core.proofs.booting.read_logs.Goals as goal
 
 pub loop-i-init : goal.loop-i-init
