@@ -169,14 +169,7 @@ fn settle_with(
 }
 
 // Makes the first `left` stores of a boot in zone `i`, or all, by its reading.
-fn pass(
-    coders: &Coders,
-    spans: &mut Spans,
-    i: u32,
-    zone: &Zone,
-    logs: &Logs,
-    left: u64,
-) -> Passed
+fn pass(coders: &Coders, spans: &mut Spans, i: u32, zone: &Zone, logs: &Logs, left: u64) -> Passed
     requires valid { IsValidZone zone.now }
     requires span { i < length spans.old.spans }
     requires size { length (span spans.old i) ≡ zone.now.size }

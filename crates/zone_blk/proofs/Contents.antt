@@ -101,5 +101,10 @@ pub plain-length : (d : BlkDump) (n k : ℕ) → d.packed ≡ false
     → n ≡ length (reason_word d.reason ++ codes ": Total " ++ decimal d.counter ++ codes " times" ++ 10 ∷ [])
     → k ≡ length d.body → n + k ≡ length (dump_content d)
 plain-length d n k h e l =
-    omega (arith, e, l, length-append (reason_word d.reason ++ codes ": Total " ++ decimal d.counter ++ codes " times"
-    ++ 10 ∷ []) d.body) ∙ ap length (plain-content d d.body h refl)
+    omega (
+      arith,
+      e,
+      l,
+      length-append (reason_word d.reason ++ codes ": Total " ++ decimal d.counter ++ codes " times"
+          ++ 10 ∷ []) d.body,
+    ) ∙ ap length (plain-content d d.body h refl)

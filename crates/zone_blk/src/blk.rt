@@ -21,7 +21,8 @@ ghost use Rattle.zone_blk.specs.Calls.{RingAnswers, counters_seen};
 use crate::appending::append_ring;
 use crate::dumping::{DumpHeader, write_dump};
 use crate::names::{
-    BlkNames, add_name, dump_content, dump_len, dump_names, find_dump, find_time, forget_dump, named,
+    BlkNames, add_name, dump_content, dump_len, dump_names, find_dump, find_time, forget_dump,
+    named,
 };
 use crate::reading::{Dump, greatest_counter, read_dumps, read_ring};
 use crate::writing::write_header;
