@@ -21,7 +21,7 @@ use Rattle.tool_spec.specs.Scripts.{named}
 use Rattle.tool_spec.specs.Commands.{RamCommand, ListRecords, ExtractRecord, EraseRecord, RamPlan, reads_image, mem_of, after_boot, shows, leaves, unlisted, Wanted, wanted, wanted_of, wanted_extract, wanted_erase}
 use Rattle.tool_spec.specs.Answers.{Outside, IfHolds, NoScript}
 use Rattle.tool_spec.specs.declared.Cause.{Cause}
-use Rattle.tool_spec.specs.declared.Cause.TheVariants.{IsOff, IsLive, NoZone, Busy, Idle, OutOfImage, NoRecord, NotHere}
+use Rattle.tool_spec.specs.declared.Cause.TheVariants.{IsOff, IsLive, NoZone, Busy, Idle, OutOfImage, NoRecord, NotHere, TooLong, NoSeat, Crowded, NoRing}
 use Rattle.tool_spec.specs.declared.Stop.{Stop}
 use Rattle.tool_spec.specs.declared.Stop.TheVariants.{Memory as MemoryStop, ImageFault, SinkFault, Refused as RefusedStop}
 use Rattle.tool_frame.specs.Ended.{Ended, CanEnd, ReadEnds, ImageEnds}
@@ -216,6 +216,10 @@ module _ (plan : RamPlan) (a b : Outside) (live : LiveSeen) (logs : SavedLogs) (
   refused (Refused Idle) h q = absurd h
   refused (Refused OutOfImage) h q = absurd h
   refused (Refused NotHere) h q = absurd h
+  refused (Refused TooLong) h q = absurd h
+  refused (Refused NoSeat) h q = absurd h
+  refused (Refused Crowded) h q = absurd h
+  refused (Refused NoRing) h q = absurd h
 
   erase_can : (e : LineError) → CanEnd plan (Err (stop_for e))
   erase_can Memory = rw is refl

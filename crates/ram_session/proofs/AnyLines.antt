@@ -7,7 +7,7 @@ use Rattle.old_log.specs.Saving.{SavedLogs}
 use Rattle.ram_core.specs.OffSeen.{OffSeen}
 use Rattle.ram_core.specs.LiveSeen.{LiveSeen}
 use Rattle.grammar_spec.specs.declared.line.Line.{Line}
-use Rattle.grammar_spec.specs.declared.line.Line.TheVariants.{Blank, Write, Dump, BeginWrite, BeginErase, BeginDump, Step, Finish, Stop, Flip, Boot, BootPart, List as ListLine, Extract, Erase, KDump, CutAfter}
+use Rattle.grammar_spec.specs.declared.line.Line.TheVariants.{Blank, Write, Dump, BeginWrite, BeginErase, BeginDump, Step, Finish, Stop, Flip, Boot, BootPart, List as ListLine, Extract, Erase, KDump, CutAfter, KMsg, Crash, Reserve, StoreNext}
 use Rattle.zone_spec.specs.declared.Time.{Time}
 use Rattle.session_spec.specs.Sound.{IsTime}
 use Rattle.grammar_spec.specs.Printed.{HasFields}
@@ -55,6 +55,10 @@ WaitsForStop other = ⊥
 abbrev pub IsElsewhere : Line → Type 0
 IsElsewhere (KDump a n k r b) = ⊤
 IsElsewhere (CutAfter n) = ⊤
+IsElsewhere (KMsg b) = ⊤
+IsElsewhere (Crash r t) = ⊤
+IsElsewhere (Reserve b) = ⊤
+IsElsewhere (StoreNext t n) = ⊤
 IsElsewhere other = ⊥
 
 waits_for_boot_line : (layout : List Zone) (s : OffState) (line : Line) → WaitsForBoot line
@@ -76,6 +80,10 @@ waits_for_boot_line layout s Boot h = absurd h
 waits_for_boot_line layout s (BootPart n) h = absurd h
 waits_for_boot_line layout s (KDump a n k r b) h = absurd h
 waits_for_boot_line layout s (CutAfter n) h = absurd h
+waits_for_boot_line layout s (KMsg b) h = absurd h
+waits_for_boot_line layout s (Crash r t) h = absurd h
+waits_for_boot_line layout s (Reserve b) h = absurd h
+waits_for_boot_line layout s (StoreNext t n) h = absurd h
 waits_for_boot_line layout s Blank h = absurd h
 
 waits_for_stop_line : (layout : List Zone) (s : LiveState) (line : Line) → WaitsForStop line
@@ -97,6 +105,10 @@ waits_for_stop_line layout s Boot h = refl
 waits_for_stop_line layout s (BootPart n) h = refl
 waits_for_stop_line layout s (KDump a n k r b) h = absurd h
 waits_for_stop_line layout s (CutAfter n) h = absurd h
+waits_for_stop_line layout s (KMsg b) h = absurd h
+waits_for_stop_line layout s (Crash r t) h = absurd h
+waits_for_stop_line layout s (Reserve b) h = absurd h
+waits_for_stop_line layout s (StoreNext t n) h = absurd h
 waits_for_stop_line layout s Blank h = absurd h
 
 elsewhere_off_line : (layout : List Zone) (s : OffState) (line : Line) → IsElsewhere line
@@ -118,6 +130,10 @@ elsewhere_off_line layout s Boot h = absurd h
 elsewhere_off_line layout s (BootPart n) h = absurd h
 elsewhere_off_line layout s (KDump a n k r b) h = refl
 elsewhere_off_line layout s (CutAfter n) h = refl
+elsewhere_off_line layout s (KMsg b) h = refl
+elsewhere_off_line layout s (Crash r t) h = refl
+elsewhere_off_line layout s (Reserve b) h = refl
+elsewhere_off_line layout s (StoreNext t n) h = refl
 elsewhere_off_line layout s Blank h = absurd h
 
 elsewhere_live_line : (layout : List Zone) (s : LiveState) (line : Line) → IsElsewhere line
@@ -139,6 +155,10 @@ elsewhere_live_line layout s Boot h = absurd h
 elsewhere_live_line layout s (BootPart n) h = absurd h
 elsewhere_live_line layout s (KDump a n k r b) h = refl
 elsewhere_live_line layout s (CutAfter n) h = refl
+elsewhere_live_line layout s (KMsg b) h = refl
+elsewhere_live_line layout s (Crash r t) h = refl
+elsewhere_live_line layout s (Reserve b) h = refl
+elsewhere_live_line layout s (StoreNext t n) h = refl
 elsewhere_live_line layout s Blank h = absurd h
 
 pub waits_for_boot : (off : OffSeen) (line : Line) → WaitsForBoot line → LineRefused (Off off) line IsOff

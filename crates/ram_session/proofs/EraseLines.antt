@@ -16,7 +16,7 @@ use Rattle.old_log.specs.Saving.{SavedLogs, saved}
 use Rattle.ram_core.specs.LiveSeen.{LiveSeen, StandsLive}
 use Rattle.grammar_spec.specs.declared.line.Line.TheVariants.{Erase}
 use Rattle.tool_spec.specs.Scripts.{line_done, named, erases_of}
-use Rattle.tool_spec.specs.declared.Cause.TheVariants.{IsOff, IsLive, NoZone, Busy, Idle, OutOfImage, NoRecord, NotHere}
+use Rattle.tool_spec.specs.declared.Cause.TheVariants.{IsOff, IsLive, NoZone, Busy, Idle, OutOfImage, NoRecord, NotHere, TooLong, NoSeat, Crowded, NoRing}
 use Rattle.ram_session.specs.Erasing.{Erases, Forgets, ErasesNamed, IsBusy, EraseFails}
 use Rattle.ram_session.specs.Sessions.{LineDone, LineRefused, LineFails}
 use Rattle.ram_session.specs.declared.machine.LineError.{LineError}
@@ -238,3 +238,7 @@ erase_refused live logs text (Refused NoZone) h = absurd h
 erase_refused live logs text (Refused Idle) h = absurd h
 erase_refused live logs text (Refused OutOfImage) h = absurd h
 erase_refused live logs text (Refused NotHere) h = absurd h
+erase_refused live logs text (Refused TooLong) h = absurd h
+erase_refused live logs text (Refused NoSeat) h = absurd h
+erase_refused live logs text (Refused Crowded) h = absurd h
+erase_refused live logs text (Refused NoRing) h = absurd h

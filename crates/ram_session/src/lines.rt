@@ -50,7 +50,12 @@ fn do_live(
         Line::Flip(_, _) | Line::Boot | Line::BootPart(_) => {
             Err(LineError::Refused(Cause::IsLive))
         }
-        Line::KDump(_, _, _, _, _) | Line::CutAfter(_) => Err(LineError::Refused(Cause::NotHere)),
+        Line::KDump(_, _, _, _, _)
+        | Line::CutAfter(_)
+        | Line::KMsg(_)
+        | Line::Crash(_, _)
+        | Line::Reserve(_)
+        | Line::StoreNext(_, _) => Err(LineError::Refused(Cause::NotHere)),
         Line::Stop => Ok((state_lines::stop(live, logs), Vec::new(alloc))),
         Line::Blank => Ok((Machine::Live(live, logs), Vec::new(alloc))),
         Line::List => {
@@ -85,7 +90,12 @@ fn do_off(alloc: Global, off: Off, line: Line) -> Result<(Machine, Vec<u8>), Lin
         },
         Line::Boot => state_lines::boot(alloc, off),
         Line::BootPart(limit) => state_lines::boot_part(alloc, off, limit),
-        Line::KDump(_, _, _, _, _) | Line::CutAfter(_) => Err(LineError::Refused(Cause::NotHere)),
+        Line::KDump(_, _, _, _, _)
+        | Line::CutAfter(_)
+        | Line::KMsg(_)
+        | Line::Crash(_, _)
+        | Line::Reserve(_)
+        | Line::StoreNext(_, _) => Err(LineError::Refused(Cause::NotHere)),
         _ => Err(LineError::Refused(Cause::IsOff)),
     }
 }

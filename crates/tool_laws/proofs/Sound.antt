@@ -14,7 +14,7 @@ use Rattle.session_spec.specs.Erasures.{saved_logs}
 use Rattle.session_spec.specs.Operations.{Operation, operated, left_by, EraseRecord, Cause as SessionCause}
 use Rattle.session_laws.proofs.Operations.{fresh_is_sound, operations_keep_states_sound}
 use Rattle.grammar_spec.specs.declared.line.Line.{Line}
-use Rattle.grammar_spec.specs.declared.line.Line.TheVariants.{Blank, Write, Dump, BeginWrite, BeginErase, BeginDump, Step, Finish, Stop, Flip, Boot, BootPart, List as ListLine, Extract, Erase, KDump, CutAfter}
+use Rattle.grammar_spec.specs.declared.line.Line.TheVariants.{Blank, Write, Dump, BeginWrite, BeginErase, BeginDump, Step, Finish, Stop, Flip, Boot, BootPart, List as ListLine, Extract, Erase, KDump, CutAfter, KMsg, Crash, Reserve, StoreNext}
 use Rattle.grammar_spec.specs.Fields.{Text}
 use Rattle.grammar_spec.specs.Printed.{HasFields, AllHaveFields, IsPayload}
 use Rattle.tool_spec.specs.Scripts.{Done, Ran, ran, ran_on, next_line, started, line_done, does, done_or_refused, named, lists, extracts, extracts_of, erases, erases_of, put_by}
@@ -97,6 +97,10 @@ line_sound layout mem session (Extract name) d lies state fit h = extract_sound 
 line_sound layout mem session (Erase name) d lies state fit h = erase_sound layout mem session name d lies state h
 line_sound layout mem session (KDump secs nanos packed reason bytes) d lies state fit h = absurd (cc)
 line_sound layout mem session (CutAfter k) d lies state fit h = absurd (cc)
+line_sound layout mem session (KMsg bytes) d lies state fit h = absurd (cc)
+line_sound layout mem session (Crash reason time) d lies state fit h = absurd (cc)
+line_sound layout mem session (Reserve bytes) d lies state fit h = absurd (cc)
+line_sound layout mem session (StoreNext ticket k) d lies state fit h = absurd (cc)
 
 -- and so does a line of a script, done or not
 on_sound : (layout : List Zone) (mem : ℕ) (r : Ran) (c : Option Cause) (next : Result Done Cause)

@@ -15,7 +15,7 @@ use Rattle.session_spec.specs.LiveCalls.{Append as AppendAsk, Erase as EraseAsk,
 use Rattle.session_spec.specs.Operations.{Operation, operated, Begin as BeginCall, Make as MakeCall, Step as StepFlight, Finish as FinishFlight, Flip as FlipByte, Boot as BootStore, BootPart as BootInPart, EraseRecord, Stop as StopStore, Cause as SessionCause, WrongState, NoRecord as NoSuchRecord, Refused as RefusedThere}
 use Rattle.grammar_spec.specs.Fields.{Text}
 use Rattle.grammar_spec.specs.declared.line.Line.{Line}
-use Rattle.grammar_spec.specs.declared.line.Line.TheVariants.{Blank, Write, Dump, BeginWrite, BeginErase, BeginDump, Step, Finish, Stop, Flip, Boot, BootPart, List as ListLine, Extract, Erase, KDump, CutAfter}
+use Rattle.grammar_spec.specs.declared.line.Line.TheVariants.{Blank, Write, Dump, BeginWrite, BeginErase, BeginDump, Step, Finish, Stop, Flip, Boot, BootPart, List as ListLine, Extract, Erase, KDump, CutAfter, KMsg, Crash, Reserve, StoreNext}
 use Rattle.tool_spec.specs.Texts.{boot_text, part_text, listing, extract_text}
 use Rattle.tool_spec.specs.declared.Cause.{Cause}
 use Rattle.tool_spec.specs.declared.Cause.TheVariants.{IsOff, IsLive, NoZone, Busy, Idle, OutOfImage, NoRecord, NotHere}
@@ -105,6 +105,10 @@ line_done layout session (Extract name) = extracts layout session name
 line_done layout session (Erase name) = erases layout session name
 line_done layout session (KDump secs nanos packed reason bytes) = Err NotHere
 line_done layout session (CutAfter k) = Err NotHere
+line_done layout session (KMsg bytes) = Err NotHere
+line_done layout session (Crash reason time) = Err NotHere
+line_done layout session (Reserve bytes) = Err NotHere
+line_done layout session (StoreNext ticket k) = Err NotHere
 
 -- a script so far: the state, the text of each finished line, and the cause of the line behind them, if it
 -- was refused
