@@ -20,7 +20,6 @@ use Rattle.session_spec.specs.Sound.{IsState, IsTime}
 use Rattle.session_spec.specs.LiveZones.{Target, target_of, target_at, target}
 use Rattle.session_spec.specs.LiveCalls.{Dump as DumpAsk, make}
 use Rattle.old_log.specs.Saving.{SavedLogs}
-use Rattle.circular_buffer.specs.Buffer.{Buffer}
 use Rattle.ram_core.specs.LiveSeen.{LiveSeen, StandsLive}
 use Rattle.kmsg_spec.specs.declared.Why.{Why}
 use Rattle.kmsg_spec.specs.Bodies.{last_lines, body}
@@ -182,6 +181,17 @@ crash_is layout s k reason time = refl
 abbrev pub IsBody : List Zone → Kernel → ℕ → Time → List ℕ → Type 0
 IsBody layout kernel reason time bytes = (given : List (List ℕ)) → Keeps kernel.log given
     → bytes ≡ body (why_of reason) (kernel.crashes + 1) (first_room layout time) (last_lines kernel.log.capacity given)
+
+pub told_body : (layout zones : List Zone) (kernel : Kernel) (reason : ℕ) (time : Time) (bytes : List ℕ) (why : Why)
+    (room : ℕ) → why ≡ why_of reason → room ≡ first_room zones time → zones ≡ layout
+    → ((given : List (List ℕ)) → Keeps kernel.log given
+    → bytes ≡ body why (kernel.crashes + 1) room (last_lines kernel.log.capacity given))
+    → IsBody layout kernel reason time bytes
+told_body layout zones kernel reason time bytes why room e f g is given keeps =
+    let lines = last_lines kernel.log.capacity given in
+    is given keeps ∙ ap (λ (w : Why). body w (kernel.crashes + 1) room lines) e
+    ∙ ap (λ (n : ℕ). body (why_of reason) (kernel.crashes + 1) n lines)
+    (f ∙ ap (λ (l : List Zone). first_room l time) g)
 
 body_same : (layout : List Zone) (kernel : Kernel) (k : KernelOf) (reason : ℕ) (time : Time) (bytes : List ℕ)
     → StandsForKernel kernel k → IsBody layout kernel reason time bytes

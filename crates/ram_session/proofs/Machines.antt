@@ -13,7 +13,7 @@ use Rattle.tool_spec.specs.Scripts.{Kernel as KernelOf, StoreDone, new_kernel, b
 use Rattle.tool_spec.specs.declared.Cause.{Cause}
 use Rattle.tool_spec.specs.declared.Cause.TheVariants.{IsLive}
 use Rattle.ram_session.specs.Kernels.{StandsForKernel}
-use Rattle.ram_session.specs.Sessions.{Off as OffStore, Live as LiveStore, LineDone, LineFails, KeepsKernel}
+use Rattle.ram_session.specs.Sessions.{Off as OffStore, Live as LiveStore, LineDone, LineRefused, LineFails, KeepsKernel}
 use Rattle.ram_session.specs.Machines.{MachineDone, MachineRefused, MachineFails}
 use Rattle.ram_session.specs.declared.kernel.Kernel.{Kernel}
 use Rattle.ram_session.specs.declared.machine.Machine.TheVariants.{Off, Live}
@@ -84,11 +84,15 @@ off_done old new line text keeps done layout mem s k lies alike stands has state
       has = has;
     }
 
+pub off_refused : (old : OffSeen) (line : Line) (cause : Cause) → KeepsKernel line
+    → LineRefused (OffStore old) line cause → MachineRefused (Off old) line cause
+off_refused old line cause keeps fails layout mem s k lies alike stands has state =
+    kept layout s k line keeps ∙ ap (beside k) (fails layout mem s lies stands state)
+
 pub off_fails : (old : OffSeen) (line : Line) (e : LineError) → KeepsKernel line → LineFails (OffStore old) line e
     → MachineFails (Off old) line e
 off_fails old line Memory keeps fails = tt
-off_fails old line (Refused cause) keeps fails = λ layout mem s k lies alike stands has state.
-    kept layout s k line keeps ∙ ap (beside k) (fails layout mem s lies stands state)
+off_fails old line (Refused cause) keeps fails = off_refused old line cause keeps fails
 
 boot_is : (layout : List Zone) (s : Session) (k : KernelOf)
     → line_done layout s k Boot ≡ beside new_kernel (store_line layout s Boot)

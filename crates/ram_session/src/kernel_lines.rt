@@ -1,5 +1,7 @@
 // Lines of the kernel: what it prints, and its crashes.
 ghost use Rattle.std.specs.Prelude.{◌≡◌, ◌+◌, ◌<◌, ◌≤◌, ◌^◌, ℕ, [], MatchResult};
+ghost use Rattle.std.specs.List.{find};
+ghost use Rattle.zone_spec.specs.declared.Zone.{Zone as AZone};
 ghost use Rattle.zone_spec.specs.Records.{is_of};
 ghost use Rattle.zone_spec.specs.declared.Kind.TheVariants.{Dump as DumpKind};
 ghost use Rattle.session_spec.specs.Sound.{IsTime};
@@ -58,6 +60,12 @@ fn is_dump(zone: &Zone) -> bool
     }
 }
 
+fn first_dump(zones: &[Zone]) -> Option<Zone>
+    ensures { result ≡ find (λ (z : AZone). is_of DumpKind z.name.kind) zones.now }
+{
+    zones.iter().copied().find(|zone| is_dump(zone))
+}
+
 // The bytes that a dump zone has after the time line, or 0 if there is none; all dump zones are alike.
 fn body_room(zones: &[Zone], time: Time) -> u32
     requires { IsTime time }
@@ -65,7 +73,7 @@ fn body_room(zones: &[Zone], time: Time) -> u32
 {
     let mut text = ArrayString::new();
     line(time, false, &mut text);
-    match zones.iter().find(|zone| is_dump(zone)) {
+    match first_dump(zones) {
         Some(zone) => zone.cap.saturating_sub(text.len() as u32),
         None => 0,
     }

@@ -69,6 +69,7 @@ fn do_store(
     }
 }
 
+#[tactic(auto, using(crate::proofs::Machines::stop_done, crate::proofs::Machines::booted_refused, crate::proofs::KernelLines::kmsg_line, crate::proofs::KernelLines::crash_time))]
 fn do_live(
     alloc: Global,
     live: Live,
@@ -104,6 +105,7 @@ fn do_live(
 }
 
 // A boot of the store and its kernel.
+#[tactic(auto, using(crate::proofs::Machines::boot_done, crate::proofs::Machines::boot_fails))]
 fn boot(alloc: Global, off: Off) -> Result<(Machine, Vec<u8>), LineError>
     ensures done { MatchResult result (λ r. MachineDone (OffMachine off) Boot r.0 r.1.items)
         (MachineFails (OffMachine off) Boot) }
@@ -116,6 +118,7 @@ fn boot(alloc: Global, off: Off) -> Result<(Machine, Vec<u8>), LineError>
     }
 }
 
+#[tactic(auto, using(crate::proofs::Machines::off_done, crate::proofs::Machines::off_refused, crate::proofs::Machines::off_fails, crate::proofs::AnyLines::waits_for_boot, crate::proofs::AnyLines::elsewhere_off, crate::proofs::StateLines::blank_done))]
 fn do_off(alloc: Global, off: Off, line: Line) -> Result<(Machine, Vec<u8>), LineError>
     ensures done { MatchResult result (λ r. MachineDone (OffMachine off) line r.0 r.1.items)
         (MachineFails (OffMachine off) line) }
