@@ -164,10 +164,10 @@ shows_boot layout off reads =
 -- what a line `boot` does
 boot_done : (layout : List Zone) (off : OffState) (kernel : Kernel) → line_done layout (Off off) kernel Boot
     ≡ Ok (record {
-  session = Live (booted layout off);
-  kernel = new_kernel;
-  text = boot_text (saved_logs layout (booted layout off)) (report layout off);
-})
+      session = Live (booted layout off);
+      kernel = new_kernel;
+      text = boot_text (saved_logs layout (booted layout off)) (report layout off);
+    })
 unfolding line_done store_line
 boot_done layout off kernel = refl
 

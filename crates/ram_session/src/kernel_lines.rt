@@ -80,12 +80,7 @@ fn body_room(zones: &[Zone], time: Time) -> u32
 }
 
 /// A crash: a dump of the message log, made whole. A refused one is not counted.
-pub fn crash(
-    live: &mut Live,
-    kernel: &mut Kernel,
-    reason: u32,
-    time: Time,
-) -> Result<(), LineError>
+pub fn crash(live: &mut Live, kernel: &mut Kernel, reason: u32, time: Time) -> Result<(), LineError>
     requires time { IsTime time }
     requires few { kernel.old.crashes + 1 < 2 ^ 32 }
     ensures done { (logs : SavedLogs) → MatchResult result

@@ -51,10 +51,8 @@ fn do_store(
 {
     match line {
         Line::Flip(_, _) | Line::BootPart(_) => Err(LineError::Refused(Cause::IsLive)),
-        Line::KDump(_, _, _, _, _)
-        | Line::CutAfter(_)
-        | Line::Reserve(_)
-        | Line::StoreNext(_, _) => Err(LineError::Refused(Cause::NotHere)),
+        Line::KDump(_, _, _, _, _) | Line::CutAfter(_) | Line::Reserve(_) | Line::StoreNext(_, _) =>
+            Err(LineError::Refused(Cause::NotHere)),
         Line::Blank => Ok(Vec::new(alloc)),
         Line::List => Ok(state_lines::list(alloc, logs)?),
         Line::Extract(name) => record_lines::extract(alloc, logs, &name),
@@ -135,10 +133,8 @@ fn do_off(alloc: Global, off: Off, line: Line) -> Result<(Machine, Vec<u8>), Lin
             Ok((off, text)) => Ok((Machine::Off(off), text)),
             Err(e) => Err(e),
         },
-        Line::KDump(_, _, _, _, _)
-        | Line::CutAfter(_)
-        | Line::Reserve(_)
-        | Line::StoreNext(_, _) => Err(LineError::Refused(Cause::NotHere)),
+        Line::KDump(_, _, _, _, _) | Line::CutAfter(_) | Line::Reserve(_) | Line::StoreNext(_, _) =>
+            Err(LineError::Refused(Cause::NotHere)),
         _ => Err(LineError::Refused(Cause::IsOff)),
     }
 }
