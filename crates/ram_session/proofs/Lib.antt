@@ -5,6 +5,8 @@ pub mod LiveLines
 pub mod StateLines
 pub mod RecordLines
 pub mod AnyLines
+pub mod Machines
+pub mod KernelLines
 pub mod ScriptLines
 pub mod ErasedZones
 pub mod EraseLines

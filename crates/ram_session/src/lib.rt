@@ -3,6 +3,8 @@
 
 mod calls;
 mod erasing;
+mod kernel;
+mod kernel_lines;
 mod lines;
 mod live_lines;
 mod machine;
@@ -14,6 +16,7 @@ mod texts;
 
 pub use calls::{begin, finish, make, step};
 pub use erasing::erase;
+pub use kernel::Kernel;
 pub use lines::do_line;
 pub use machine::{LineError, Machine};
 pub use playing::play;
