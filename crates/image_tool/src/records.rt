@@ -32,7 +32,7 @@ fn stop_of(e: LineError) -> Stop
 }
 
 /// Reads an image, and gives the logs that a boot of it would save.
-fn read_logs<M: Store>(alloc: Global, layout: Layout, image: &mut M) -> Result<Logs, Stop>
+pub fn read_logs<M: Store>(alloc: Global, layout: Layout, image: &mut M) -> Result<Logs, Stop>
     ensures read { IfOk result (λ logs. SavedFrom (zones_of layout) (rounded (params_of layout).mem)
         (M.holds image.old) logs) }
     ensures stopped { IfErr result (λ s. LoadStop s (rounded (params_of layout).mem) (M.holds image.old)

@@ -2,9 +2,11 @@
 #![tactic(auto)]
 
 mod boots;
+mod moves;
 mod records;
 
 pub use boots::{boot_text, part_text};
+pub use moves::move_text;
 pub use pstore_names::ContentFault;
 pub use records::{extract_text, listing};
 

@@ -16,7 +16,7 @@ use std::alloc::{AllocError, Global};
 use text_pieces::push_number;
 
 // A name, and a length after it.
-fn push_record(text: &mut Vec<u8>, name: Name, len: u128) -> Result<(), AllocError>
+pub fn push_record(text: &mut Vec<u8>, name: Name, len: u128) -> Result<(), AllocError>
     ensures { OnOk result (text.new.items ≡ text.old.items ++ name_text_of name ++ codes " " ++ decimal len) }
 {
     let mut written = ArrayString::new();
