@@ -1,5 +1,5 @@
 // What a move tells of each record.
-ghost use Rattle.std.specs.Prelude.{◌≡◌, ◌++◌, ◌∷◌, [], codes, decimal, flat_map, map, IfOk, OnOk};
+ghost use Rattle.std.specs.Prelude.{◌≡◌, ◌++◌, ◌∷◌, [], if◌then◌else◌, codes, decimal, flat_map, map, IfOk, OnOk};
 ghost use Rattle.zone_params.specs.Laid.{zones_of};
 ghost use Rattle.old_log.specs.Saving.{saved};
 ghost use Rattle.tool_spec.specs.Texts.{move_text};
@@ -12,10 +12,17 @@ use std::alloc::{AllocError, Global};
 use text_pieces::push_number;
 use zone_params::types::Layout;
 
+// What becomes of a record that fits, or does not.
+fn fate(fits: bool) -> &'static str
+    ensures { result.now ≡ (if fits then codes "moved " else codes "left ") }
+{
+    if fits { "moved " } else { "left " }
+}
+
 fn push_move(text: &mut Vec<u8>, told: &Move) -> Result<(), AllocError>
     ensures { OnOk result (text.new.items ≡ text.old.items ++ told_text told.now) }
 {
-    text.extend_from_slice(if told.fits { b"moved " } else { b"left " })?;
+    text.extend_from_slice(fate(told.fits).as_bytes())?;
     push_record(text, told.name, told.len)?;
     push_number(text, " corrected ", told.corrected)?;
     push_number(text, " bad ", told.bad)?;
