@@ -12,5 +12,6 @@ pub mod ErasedZones
 pub mod EraseLines
 pub mod Images
 pub mod Listings
+pub mod MoveTexts
 pub mod Sides
 pub mod Called

@@ -21,7 +21,7 @@ pub use lines::do_line;
 pub use machine::{LineError, Machine};
 pub use playing::play;
 pub use record_lines::content_of;
-pub use texts::listing;
+pub use texts::{listing, move_text};
 
 #[cfg(test)]
 mod tests;
