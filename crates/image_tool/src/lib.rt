@@ -24,6 +24,8 @@ mod generator_tests;
 #[cfg(test)]
 mod record_tests;
 #[cfg(test)]
+mod crash_tests;
+#[cfg(test)]
 mod session_tests;
 #[cfg(test)]
 mod tests;

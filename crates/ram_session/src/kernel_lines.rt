@@ -1,5 +1,5 @@
 // Lines of the kernel: what it prints, and its crashes.
-ghost use Rattle.std.specs.Prelude.{◌≡◌, ◌+◌, ◌<◌, ◌≤◌, ◌^◌, ℕ, [], MatchResult};
+ghost use Rattle.std.specs.Prelude.{◌≡◌, ◌+◌, ◌<◌, ◌≤◌, ◌^◌, ℕ, [], OnErr, MatchResult};
 ghost use Rattle.std.specs.List.{find};
 ghost use Rattle.zone_spec.specs.declared.Zone.{Zone as AZone};
 ghost use Rattle.zone_spec.specs.Records.{is_of};
@@ -32,6 +32,7 @@ pub fn print(kernel: &mut Kernel, text: &[u8]) -> Result<(), LineError>
         (λ _. MachineDone (LiveMachine live logs kernel.old) (KMsg text.now) (LiveMachine live logs kernel.new) [])
         (MachineFails (LiveMachine live logs kernel.old) (KMsg text.now)) }
     ensures count { kernel.new.crashes ≡ kernel.old.crashes }
+    ensures unchanged { OnErr result (kernel.new ≡ kernel.old) }
 {
     if kernel.log.push(text) {
         Ok(())
@@ -88,6 +89,7 @@ pub fn crash(live: &mut Live, kernel: &mut Kernel, reason: u32, time: Time) -> R
         (LiveMachine live.new logs kernel.new) [])
         (MachineFails (LiveMachine live.old logs kernel.old) (Crash reason time)) }
     ensures count { kernel.new.crashes ≤ kernel.old.crashes + 1 }
+    ensures unchanged { OnErr result (kernel.new ≡ kernel.old) }
 {
     let count = kernel.crashes + 1;
     let room = body_room(live.zones(), time);

@@ -8,7 +8,7 @@ use Rattle.grammar_spec.specs.Groups.{ring_hex, time_flag_hex, one_zone, one_num
 use Rattle.grammar_spec.specs.Rows.{step_line, flip_line, kdump_line, crash_line, store_line as store_row, begin_row, begin_line, plain_row, row, lone_word}
 use Rattle.grammar_spec.specs.Lines.{line_of, lines_from, script_of}
 use Rattle.spec_rows.proofs.Computing.{computing_all}
-use Rattle.kmsg_spec.specs.Bodies.{last_lines, why_text}
+use Rattle.kmsg_spec.specs.Bodies.{last_lines}
 use Rattle.tool_spec.specs.Scripts.{store_line, line_done}
 use Rattle.tool_spec.specs.Generated.{draw, draws}
 use Rattle.blk_spec.specs.Layout.{layout_of}
@@ -25,7 +25,7 @@ unfoldable pub computing_tool : ℕ
 unfolding computing_all decode_pairs number_of first_fault value_text given number_below zone_at ring zone payload
     message some_bytes flag reason name ring_hex time_flag_hex one_zone one_number one_name one_message one_some_bytes
     step_line flip_line kdump_line crash_line store_row begin_row begin_line plain_row row lone_word line_of lines_from
-    script_of last_lines why_text store_line line_done draw draws
+    script_of last_lines store_line line_done draw draws
 computing_tool = 0
 
 -- these too: for the block store
