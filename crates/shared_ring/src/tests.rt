@@ -124,7 +124,7 @@ fn two_reservations(rt: HostRuntime) -> Result<(), Fail> {
         0x44, 0x42, 0x47, 0x43, 4, 0, 0, 0, 4, 0, 0, 0, 0x61, 0, 0x62, 0x62,
     ];
     assert!(rt; image.len() == 8192);
-    assert!(rt; image.as_slice()[..16] == begins);
+    assert!(rt; &image.as_slice()[..16] == begins.as_slice());
     Ok(())
 }
 
@@ -186,6 +186,7 @@ fn seats_run_out(rt: HostRuntime) -> Result<(), Fail> {
 
 // One row of the table: after `done` steps of this order, how many bytes each call has stored, and the data places
 // 240 to 243 and 0 to 4. The ring has 244 places and begins at 241; the calls are `abc`, `de` and `fgh`.
+#[derive(Drop)]
 struct Row {
     order: [u64; 8],
     done: usize,
@@ -201,7 +202,7 @@ const BY_BYTES: [u64; 8] = [0, 1, 2, 0, 1, 2, 0, 2];
 
 const MIDDLE_LAST: [u64; 8] = [2, 0, 2, 0, 2, 0, 1, 1];
 
-fn row(order: [u64; 8], done: usize, stored: [u32; 3], places: &[u8; 9]) -> Row {
+fn stopped(order: [u64; 8], done: usize, stored: [u32; 3], places: &[u8; 9]) -> Row {
     Row {
         order,
         done,
@@ -213,38 +214,38 @@ fn row(order: [u64; 8], done: usize, stored: [u32; 3], places: &[u8; 9]) -> Row 
 // The bytes that stand, with `.` for one that no call has stored.
 fn rows() -> [Row; 32] {
     [
-        row(IN_TURN, 1, [1, 0, 0], b".a......."),
-        row(IN_TURN, 2, [2, 0, 0], b".ab......"),
-        row(IN_TURN, 3, [3, 0, 0], b".abc....."),
-        row(IN_TURN, 4, [3, 1, 0], b".abcd...."),
-        row(IN_TURN, 5, [3, 2, 0], b".abcde..."),
-        row(IN_TURN, 6, [3, 2, 1], b".abcdef.."),
-        row(IN_TURN, 7, [3, 2, 2], b".abcdefg."),
-        row(IN_TURN, 8, [3, 2, 3], b".abcdefgh"),
-        row(BACKWARDS, 1, [0, 0, 1], b"......f.."),
-        row(BACKWARDS, 2, [0, 0, 2], b"......fg."),
-        row(BACKWARDS, 3, [0, 0, 3], b"......fgh"),
-        row(BACKWARDS, 4, [0, 1, 3], b"....d.fgh"),
-        row(BACKWARDS, 5, [0, 2, 3], b"....defgh"),
-        row(BACKWARDS, 6, [1, 2, 3], b".a..defgh"),
-        row(BACKWARDS, 7, [2, 2, 3], b".ab.defgh"),
-        row(BACKWARDS, 8, [3, 2, 3], b".abcdefgh"),
-        row(BY_BYTES, 1, [1, 0, 0], b".a......."),
-        row(BY_BYTES, 2, [1, 1, 0], b".a..d...."),
-        row(BY_BYTES, 3, [1, 1, 1], b".a..d.f.."),
-        row(BY_BYTES, 4, [2, 1, 1], b".ab.d.f.."),
-        row(BY_BYTES, 5, [2, 2, 1], b".ab.def.."),
-        row(BY_BYTES, 6, [2, 2, 2], b".ab.defg."),
-        row(BY_BYTES, 7, [3, 2, 2], b".abcdefg."),
-        row(BY_BYTES, 8, [3, 2, 3], b".abcdefgh"),
-        row(MIDDLE_LAST, 1, [0, 0, 1], b"......f.."),
-        row(MIDDLE_LAST, 2, [1, 0, 1], b".a....f.."),
-        row(MIDDLE_LAST, 3, [1, 0, 2], b".a....fg."),
-        row(MIDDLE_LAST, 4, [2, 0, 2], b".ab...fg."),
-        row(MIDDLE_LAST, 5, [2, 0, 3], b".ab...fgh"),
-        row(MIDDLE_LAST, 6, [3, 0, 3], b".abc..fgh"),
-        row(MIDDLE_LAST, 7, [3, 1, 3], b".abcd.fgh"),
-        row(MIDDLE_LAST, 8, [3, 2, 3], b".abcdefgh"),
+        stopped(IN_TURN, 1, [1, 0, 0], b".a......."),
+        stopped(IN_TURN, 2, [2, 0, 0], b".ab......"),
+        stopped(IN_TURN, 3, [3, 0, 0], b".abc....."),
+        stopped(IN_TURN, 4, [3, 1, 0], b".abcd...."),
+        stopped(IN_TURN, 5, [3, 2, 0], b".abcde..."),
+        stopped(IN_TURN, 6, [3, 2, 1], b".abcdef.."),
+        stopped(IN_TURN, 7, [3, 2, 2], b".abcdefg."),
+        stopped(IN_TURN, 8, [3, 2, 3], b".abcdefgh"),
+        stopped(BACKWARDS, 1, [0, 0, 1], b"......f.."),
+        stopped(BACKWARDS, 2, [0, 0, 2], b"......fg."),
+        stopped(BACKWARDS, 3, [0, 0, 3], b"......fgh"),
+        stopped(BACKWARDS, 4, [0, 1, 3], b"....d.fgh"),
+        stopped(BACKWARDS, 5, [0, 2, 3], b"....defgh"),
+        stopped(BACKWARDS, 6, [1, 2, 3], b".a..defgh"),
+        stopped(BACKWARDS, 7, [2, 2, 3], b".ab.defgh"),
+        stopped(BACKWARDS, 8, [3, 2, 3], b".abcdefgh"),
+        stopped(BY_BYTES, 1, [1, 0, 0], b".a......."),
+        stopped(BY_BYTES, 2, [1, 1, 0], b".a..d...."),
+        stopped(BY_BYTES, 3, [1, 1, 1], b".a..d.f.."),
+        stopped(BY_BYTES, 4, [2, 1, 1], b".ab.d.f.."),
+        stopped(BY_BYTES, 5, [2, 2, 1], b".ab.def.."),
+        stopped(BY_BYTES, 6, [2, 2, 2], b".ab.defg."),
+        stopped(BY_BYTES, 7, [3, 2, 2], b".abcdefg."),
+        stopped(BY_BYTES, 8, [3, 2, 3], b".abcdefgh"),
+        stopped(MIDDLE_LAST, 1, [0, 0, 1], b"......f.."),
+        stopped(MIDDLE_LAST, 2, [1, 0, 1], b".a....f.."),
+        stopped(MIDDLE_LAST, 3, [1, 0, 2], b".a....fg."),
+        stopped(MIDDLE_LAST, 4, [2, 0, 2], b".ab...fg."),
+        stopped(MIDDLE_LAST, 5, [2, 0, 3], b".ab...fgh"),
+        stopped(MIDDLE_LAST, 6, [3, 0, 3], b".abc..fgh"),
+        stopped(MIDDLE_LAST, 7, [3, 1, 3], b".abcd.fgh"),
+        stopped(MIDDLE_LAST, 8, [3, 2, 3], b".abcdefgh"),
     ]
 }
 
