@@ -5,8 +5,10 @@
 #![tactic(auto)]
 
 mod block;
+mod probe;
 mod spans;
 
+pub use probe::Probe;
 pub use spans::{Region, Span, Spans};
 
 #[cfg(test)]

@@ -93,12 +93,26 @@ impl Piece {
         self.slots.put(at as usize, b);
     }
 
-    fn store_bytes(&mut self, at: u32, bytes: &[u8])
+    pub(crate) fn store_bytes(&mut self, at: u32, bytes: &[u8])
         requires { at + length bytes.now ≤ length (piece_bytes self.old) }
         ensures bytes { piece_bytes self.new ≡ put (piece_bytes self.old) at bytes.now }
         ensures place { SamePlace self.old self.new }
     {
         self.slots.copy_in(at as usize, bytes);
+    }
+
+    pub(crate) fn over(base: *mut u8, slots: Slots<u8>) -> Piece
+        requires { IsRow base slots }
+        ensures { result.slots ≡ slots }
+    {
+        Piece { base, slots }
+    }
+
+    pub(crate) fn into_slots(self) -> Slots<u8>
+        ensures { (result ≡ self.slots) × IsFull result }
+    {
+        let Piece { base: _, slots } = self;
+        slots
     }
 }
 

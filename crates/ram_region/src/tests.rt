@@ -1,7 +1,7 @@
 ghost use Rattle.std.specs.Prelude.{◌≡◌, length};
 ghost use Rattle.ram_region.specs.CutRegion.{span};
 
-use crate::{Region, Spans};
+use crate::{Probe, Region, Spans};
 use box_io::Bytes;
 use std::test::Fail;
 use zone_params::{Params, layout};
@@ -110,5 +110,16 @@ fn cuts_an_empty_region(rt: HostRuntime) -> Result<(), Fail> {
         }
         Err((region, _refused)) => assert!(rt; region.into_bytes().as_slice().is_empty()),
     }
+    Ok(())
+}
+
+#[test]
+fn fills_a_probe(rt: HostRuntime) -> Result<(), Fail> {
+    let mut probe = Probe::new(rt.alloc(), 8)?;
+    probe.fill(2, b"abc");
+    assert!(rt; probe.span().bytes() == [0, 0, 97, 98, 99, 0, 0, 0].as_slice());
+    assert_eq!(rt; probe.span().word(1), 0x6362_6100);
+    let empty = Probe::new(rt.alloc(), 0)?;
+    assert!(rt; empty.span().bytes().is_empty());
     Ok(())
 }

@@ -2,13 +2,13 @@
 //! syndromes, a search of the word's own places, and Forney's masks.
 #![tactic(auto)]
 
-ghost use Rattle.std.specs.Prelude.{◌≡◌, ◌≢◌, ◌+◌, ◌-◌, ◌/◌, ◌≤◌, ◌<◌, ◌↔◌, ℕ, ◌++◌, length, slice_index, slice_set, take, drop, reverse, List, true, false, IsTrue, unwrap_or};
+ghost use Rattle.std.specs.Prelude.{◌≡◌, ◌≢◌, ◌+◌, ◌-◌, ◌/◌, ◌≤◌, ◌<◌, ◌↔◌, ℕ, ◌++◌, length, slice_index, slice_set, take, drop, reverse, List, true, false, IsTrue, None, unwrap_or};
 ghost use Rattle.code_spec.specs.Field.{gf_add, gf_mul, gf_pow};
 ghost use Rattle.code_spec.specs.Code.{value_of, distance, nearest, parity_of};
 ghost use Rattle.code_laws.specs.Polynomials.{poly};
 ghost use Rattle.code_laws.specs.Series.{shift, one, Bytes};
 ghost use Rattle.code_laws.proofs.Symbols.{HasRoots, IsAdded};
-ghost use Rattle.rs_errors.specs.Decoding.{decoded_by, fixes_by};
+ghost use Rattle.rs_errors.specs.Decoding.{decoded_by, fixes_by, within};
 ghost use Rattle.rs_errors.specs.Places.{roots_of, gap_ratio};
 ghost use Rattle.rs_errors.specs.Fixes.{Below255, IsFix, AreFixes, AllInside, fixes_from, PowersBelow, IsDamage, applied, IsWithin, fixes_between, fix_sum};
 ghost use Rattle.rs_errors.specs.Euclid.{IsStep, IsSolution, LeadingZeros};
@@ -492,30 +492,37 @@ fn add_fixes(values: &mut [u8], fixes: &[Fix], places: usize)
     }
 }
 
-/// Finds the fixes that make the nearest codeword of the word with these values, where there is one.
-fn corrected(msg: &[u8], par: &[u8], values: &mut [u8], fixes: &mut ArrayVec<Fix, 63>) -> bool
+/// Finds the fixes that make the codeword within `most` places of the word with these values, where there is one.
+fn corrected(
+    most: usize,
+    msg: &[u8],
+    par: &[u8],
+    values: &mut [u8],
+    fixes: &mut ArrayVec<Fix, 63>,
+) -> bool
     requires some { 1 ≤ length par.now }
     requires few { length par.now ≤ 127 }
     requires fits { length msg.now + length par.now ≤ 255 }
+    requires most { most + most ≤ length par.now }
     requires len { length values.old ≡ length par.now }
     requires values { (k : ℕ) → k < length par.now → slice_index values.old k
         ≡ value_of (msg.now ++ par.now) (gf_pow 2 k) }
     requires wrong { ¬ HasRoots (length par.now) (msg.now ++ par.now) }
     ensures near { result ≡ true → let word = msg.now ++ par.now in
-        IsWithin (length par.now / 2) (length par.now) word (applied fixes.new.items word) }
+        IsWithin most (length par.now) word (applied fixes.new.items word) }
     ensures fixes { result ≡ true → let word = msg.now ++ par.now in
         fixes.new.items ≡ fixes_between word (applied fixes.new.items word) }
     ensures some { result ≡ true → let word = msg.now ++ par.now in 0 < distance word (applied fixes.new.items word) }
     ensures nearest { result ≡ true → let word = msg.now ++ par.now in
         nearest (length par.now) word ≡ Some (applied fixes.new.items word) }
-    ensures nowhere { result ≡ false → nearest (length par.now) (msg.now ++ par.now) ≡ None }
+    ensures nowhere { result ≡ false → let word = msg.now ++ par.now in
+        within most word (nearest (length par.now) word) ≡ None }
 {
-    let t = par.len() / 2;
-    if t == 0 {
+    if most == 0 {
         return false;
     }
     let places = msg.len() + par.len();
-    let found = candidate(t, &values[..t + t], places, fixes);
+    let found = candidate(most, &values[..most + most], places, fixes);
     if !found {
         return false;
     }
@@ -574,13 +581,38 @@ pub fn decode_with(
         ≡ take (length msg.old) (unwrap_or (nearest (length par.now) word) word) }
     ensures fixes { let word = msg.old ++ par.now in fixes.new.items ≡ fixes_by word (nearest (length par.now) word) }
 {
+    decode_within(coder, par.len() / 2, msg, par, fixes)
+}
+
+/// As [`decode_with`], but no more than `most` places are corrected: `Bad` where the nearest codeword differs in more.
+/// The fewer, the faster.
+pub fn decode_within(
+    coder: &Parity,
+    most: usize,
+    msg: &mut [u8],
+    par: &[u8],
+    fixes: &mut ArrayVec<Fix, 63>,
+) -> Decoded
+    requires coder { coder.now ≡ length par.now }
+    requires some_par { 1 ≤ length par.now }
+    requires few_par { length par.now ≤ 127 }
+    requires some_msg { 1 ≤ length msg.old }
+    requires fits { length msg.old + length par.now ≤ 255 }
+    requires most { most + most ≤ length par.now }
+    ensures answer { let word = msg.old ++ par.now in
+        result ≡ decoded_by word (within most word (nearest (length par.now) word)) }
+    ensures data { let word = msg.old ++ par.now in msg.new
+        ≡ take (length msg.old) (unwrap_or (within most word (nearest (length par.now) word)) word) }
+    ensures fixes { let word = msg.old ++ par.now in
+        fixes.new.items ≡ fixes_by word (within most word (nearest (length par.now) word)) }
+{
     fixes.clear();
     let mut buffer = [0u8; 127];
     let values = &mut buffer[..par.len()];
     if !is_damaged(coder, msg, par, values) {
         return Decoded::Clean;
     }
-    if corrected(msg, par, values, fixes) {
+    if corrected(most, msg, par, values, fixes) {
         apply(msg, fixes.as_slice());
         let count = fixes.len() as u8;
         Decoded::Fixed(count)
@@ -634,6 +666,66 @@ mod tests {
         // the one correction would be at power 3, in the part that is left away
         assert_decoded(&rt, &[0], &[7, 6], Decoded::Bad, &[0], &[]);
         assert_decoded(&rt, &[1], &[3, 3], Decoded::Fixed(1), &[1], &[(2, 1)]);
+    }
+
+    /// Decodes the word of `msg` and `par` with a bound, and tells the answer and the data.
+    fn assert_within(
+        rt: &impl Abort,
+        most: usize,
+        par: &[u8],
+        msg: &[u8],
+        want: Decoded,
+        data: &[u8],
+    ) {
+        assert!(rt;
+            1 <= par.len() && par.len() <= 127,
+            "at most 127 parity symbols"
+        );
+        assert!(rt; most <= par.len() / 2, "at most half the parity");
+        assert!(rt;
+            1 <= msg.len() && msg.len() + par.len() <= 255,
+            "at most 255 symbols"
+        );
+        let mut buffer = [0u8; 255];
+        let word = &mut buffer[..msg.len()];
+        word.copy_from_slice(msg);
+        let mut fixes = ArrayVec::new();
+        let answer = decode_within(&Parity::new(par.len()), most, word, par, &mut fixes);
+        assert!(rt; answer == want, "another answer");
+        assert_eq!(rt; &*word, data);
+    }
+
+    /// The word 0 with the parity 3, 2 is one place from the codeword 1, 3, 2.
+    #[test]
+    fn no_more_than_the_bound(rt: HostRuntime) {
+        assert_within(&rt, 0, &[3, 2], &[1], Decoded::Clean, &[1]);
+        assert_within(&rt, 0, &[3, 2], &[0], Decoded::Bad, &[0]);
+        assert_within(&rt, 1, &[3, 2], &[0], Decoded::Fixed(1), &[1]);
+        // eight zeros are a codeword, and four symbols correct two places
+        assert_within(
+            &rt,
+            1,
+            &[0, 0, 0, 0],
+            &[0, 9, 0, 0, 0, 7, 0, 0],
+            Decoded::Bad,
+            &[0, 9, 0, 0, 0, 7, 0, 0],
+        );
+        assert_within(
+            &rt,
+            2,
+            &[0, 0, 0, 0],
+            &[0, 9, 0, 0, 0, 7, 0, 0],
+            Decoded::Fixed(2),
+            &[0; 8],
+        );
+        assert_within(
+            &rt,
+            1,
+            &[0, 0, 0, 0],
+            &[0, 9, 0, 0, 0, 0, 0, 0],
+            Decoded::Fixed(1),
+            &[0; 8],
+        );
     }
 
     /// A header of size 4018 whose start word was changed to 1541: the nearest codeword changes its signature.
