@@ -33,7 +33,8 @@ shares z image w valid within e plain signed ring = record {
   is_open = (subst (λ (x : Words). IsOpenRing x z.cap) e ring).is_open;
 }
 
-pub open_ring : (z : Zone) (bytes : List ℕ) (w : Words) → w ≡ standing_words bytes → CanShare z bytes → IsOpenRing w z.cap
+pub open_ring : (z : Zone) (bytes : List ℕ) (w : Words) → w ≡ standing_words bytes → CanShare z bytes
+    → IsOpenRing w z.cap
 open_ring z bytes w e can = subst (λ (x : Words). IsOpenRing x z.cap) (sym e)
     (record { ring = can.ring; is_open = can.is_open })
 

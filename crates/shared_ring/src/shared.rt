@@ -70,7 +70,8 @@ impl Model for Shared {
 fn store_words(spans: &mut Spans, i: u32, start: u32, size: u32)
     requires span { i < length spans.old.spans }
     requires place { 12 ≤ length (span spans.old i) }
-    ensures { spans.new ≡ with_span spans.old i (put (span spans.old i) 4 (to_le_bytes w32 start ++ to_le_bytes w32 size)) }
+    ensures { spans.new ≡ with_span spans.old i
+        (put (span spans.old i) 4 (to_le_bytes w32 start ++ to_le_bytes w32 size)) }
 {
     let start = start.to_le_bytes();
     let size = size.to_le_bytes();
