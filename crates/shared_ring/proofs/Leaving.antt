@@ -98,8 +98,10 @@ seats_shown seats os t i x m e f q r =
   where
     front : map shown_seat (take i seats) ≡ take i os
     front = sym (take-map shown_seat i seats) ∙ ap (take i) m
+
     back : map shown_seat (drop (suc i) seats) ≡ drop (suc i) os
     back = sym (drop-map shown_seat (suc i) seats) ∙ ap (drop (suc i)) m
+
     by : (b : Bool) → (x.stored + 1 == length x.payload) ≡ b
         → map shown_seat (cond b (take i seats ++ drop (i + 1) seats) (set seats i (one_more x)))
         ≡ (take i os ++ after_step t (shown_seat x)) ++ drop (suc i) os

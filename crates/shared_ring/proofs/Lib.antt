@@ -4,4 +4,6 @@ pub mod Regions
 pub mod Standing
 pub mod Leaving
 pub mod Wholes
-pub mod Opening
+pub mod Opened
+pub mod Closing
+pub mod Shareable

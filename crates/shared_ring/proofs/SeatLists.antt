@@ -35,7 +35,12 @@ module _ {A : Type 0} where
   left_of (y ∷ ys) zero j x e = (suc j, omega arith, e)
   left_of (y ∷ ys) (suc i) zero x e = (zero, omega arith, e)
   left_of (y ∷ ys) (suc i) (suc j) x e =
-      let r : Left ys i x = left_of ys i j x e in (suc r.0, (let n : suc r.0 ≢ suc i = (λ q. r.1 (omega arith)) in n), r.2)
+      let r : Left ys i x = left_of ys i j x e in (
+        suc r.0,
+        (let n : suc r.0 ≢ suc i =
+            (λ q. r.1 (omega arith)) in n),
+        r.2,
+      )
 
   pub set_got : (xs : List A) (i : ℕ) (y x : A) → slice_get (set xs i y) i ≡ Some x → x ≡ y
   set_got [] i y x e = cc

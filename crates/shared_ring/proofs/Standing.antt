@@ -75,7 +75,8 @@ the_seat t seats i e = by (slice_get seats i) refl
   where
     by : (o : Option Seat) → slice_get seats i ≡ o → (s : Seat) × (slice_get seats i ≡ Some s) × (s.ticket ≡ t)
     by None f =
-        let h : (nat_lt (position_or_len (is_of t) seats) (length seats) ≡ true) × (position_or_len (is_of t) seats ≡ i) =
+        let h : (nat_lt (position_or_len (is_of t) seats) (length seats)
+        ≡ true) × (position_or_len (is_of t) seats ≡ i) =
         is_within (nat_lt (position_or_len (is_of t) seats) (length seats)) (position_or_len (is_of t) seats) i e in
         let l : position_or_len (is_of t) seats < length seats =
         ltb-true (position_or_len (is_of t) seats) (length seats) h.0 in
@@ -98,7 +99,8 @@ module _ (z : Zone) (image : List ℕ) (shared : SharedZone) (v : SharedSeen) (s
   pub seat_place : (i : ℕ) (x : Seat) → slice_get v.seats i ≡ Some x → call_place z shared x.ticket 0 ≡ x.place
   seat_place i x e =
       let g : slice_get (open_calls z shared) i ≡ Some (shown_seat x) = shown_at i x e in
-      let h : (c : SharedCall) × (open_call shared.calls x.ticket ≡ Some c) × (shown_seat x ≡ shown z shared x.ticket c) =
+      let h : (c : SharedCall) × (open_call shared.calls x.ticket ≡ Some c) × (shown_seat x
+      ≡ shown z shared x.ticket c) =
       (open_calls_are_shown z shared (shown_seat x)).0 (
         i,
         slice_get_within (open_calls z shared) i (shown_seat x) g,

@@ -14,14 +14,17 @@ pub record AreFrom (k : ℕ) (xs : List OpenCall) : Type 0 where
 
 -- a later call has a later ticket
 pub record AreRising (xs : List OpenCall) : Type 0 where
-  pub each : (i j : ℕ) (o p : OpenCall) → slice_get xs i ≡ Some o → slice_get xs j ≡ Some p → i < j → o.ticket < p.ticket
+  pub each : (i j : ℕ) (o p : OpenCall) → slice_get xs i ≡ Some o → slice_get xs j ≡ Some p → i < j
+      → o.ticket < p.ticket
 
 from_more : (b : Bool) (x : OpenCall) (xs : List OpenCall) (k : ℕ) → x.ticket ≡ k → AreFrom (k + 1) xs
     → AreFrom k (cond b (x ∷ []) [] ++ xs)
 from_more b x xs k e h = record { each = by b }
   where
     by : (b : Bool) (j : ℕ) (o : OpenCall) → slice_get (cond b (x ∷ []) [] ++ xs) j ≡ Some o → k ≤ o.ticket
-    by true zero o g = let s : x ≡ o = cc in let t : x.ticket ≡ o.ticket = ap (λ (y : OpenCall). y.ticket) s in omega arith
+    by true zero o g =
+        let s : x ≡ o = cc in
+        let t : x.ticket ≡ o.ticket = ap (λ (y : OpenCall). y.ticket) s in omega arith
     by true (suc j) o g = let l : k + 1 ≤ o.ticket = h.each j o g in omega arith
     by false j o g = let l : k + 1 ≤ o.ticket = h.each j o g in omega arith
 

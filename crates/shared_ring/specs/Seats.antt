@@ -1,5 +1,8 @@
 -- The seats of open calls
 use Rattle.std.specs.Prelude.{◌≡◌, ℕ, ◌+◌, ◌-◌, ◌%◌, ◌<◌, ◌≤◌, Bool, if◌then◌else◌, ◌==◌, List, [], ◌∷◌, ◌++◌, length, take, drop, set, slice_get, Some}
+use Rattle.zone_spec.specs.declared.Words.{Words}
+use Rattle.zone_spec.specs.Reading.{IsRing}
+use Rattle.zone_spec.specs.Ring.{IsOpen}
 use Rattle.shared_spec.specs.declared.Next.{Next}
 use Rattle.shared_spec.specs.declared.Next.TheVariants.{Stored, Done}
 use Rattle.shared_spec.specs.declared.OpenCall.{OpenCall}
@@ -51,3 +54,8 @@ seats_stepped seats i s =
 -- and what the step answers
 abbrev pub next_of : Seat → Next
 next_of s = if s.stored + 1 == length s.payload then Done else Stored
+
+-- words that are a ring to which a call can append
+pub record IsOpenRing (w : Words) (cap : ℕ) : Type 0 where
+  pub ring : IsRing w cap
+  pub is_open : IsOpen w cap

@@ -5,9 +5,13 @@
 //! clauses hold of every history that leaves it, and so do the laws of shared zones.
 #![tactic(auto)]
 
+mod opening;
 mod seats;
 mod shared;
 
+pub use opening::can_open;
 pub use shared::Shared;
 pub use shared_spec::{Next, NoCall, OpenCall, SharedRefusal};
 
+#[cfg(test)]
+mod tests;

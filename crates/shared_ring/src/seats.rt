@@ -75,8 +75,10 @@ pub(crate) fn next_byte(seat: &Seat, cap: u32) -> (u32, u8)
 /// Counts a stored byte of the seat at `i`. A seat whose last byte it was is given back.
 pub(crate) fn count_stored(seats: &mut Vec<Seat>, i: usize) -> Next
     requires there { i < length seats.old.items }
-    requires stored { (s : ASeat) → slice_get seats.old.items i ≡ Some s → s.stored < length s.payload × (length s.payload < 2 ^ 32) }
-    ensures seats { (s : ASeat) → slice_get seats.old.items i ≡ Some s → seats.new.items ≡ seats_stepped seats.old.items i s }
+    requires stored { (s : ASeat) → slice_get seats.old.items i ≡ Some s
+        → s.stored < length s.payload × (length s.payload < 2 ^ 32) }
+    ensures seats { (s : ASeat) → slice_get seats.old.items i ≡ Some s
+        → seats.new.items ≡ seats_stepped seats.old.items i s }
     ensures answer { (s : ASeat) → slice_get seats.old.items i ≡ Some s → result ≡ next_of s }
     ensures room { vec_capacity seats.new ≡ vec_capacity seats.old }
 {

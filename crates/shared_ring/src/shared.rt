@@ -7,8 +7,10 @@ ghost use Rattle.zone_spec.specs.Stores.{put};
 ghost use Rattle.ram_region.specs.CutRegion.{span, with_span};
 ghost use Rattle.zone_spec.specs.Parts.{standing_words};
 ghost use Rattle.zone_params.specs.Laid.{params_of, zones_of};
-ghost use Rattle.shared_spec.specs.Calls.{open_call};
-ghost use Rattle.shared_spec.specs.Machine.{refusal as refusal_of, step_answer, open_calls as open_calls_of};
+ghost use Rattle.zone_spec.specs.Reading.{zone_reading};
+ghost use Rattle.session_spec.specs.Zones.{zone_bytes};
+ghost use Rattle.shared_spec.specs.Calls.{open_count, open_call};
+ghost use Rattle.shared_spec.specs.Machine.{refusal as refusal_of, step_answer, full_list, open_calls as open_calls_of};
 ghost use Rattle.shared_spec.specs.Runs.{Reserve, StoreNext};
 ghost use Rattle.shared_spec.specs.Histories.{History, CanOpen, shared_zone, and_then, image_left};
 ghost use Rattle.shared_ring.specs.declared.seats.Seat.{Seat as ASeat};
@@ -68,7 +70,8 @@ impl Model for Shared {
 fn store_words(spans: &mut Spans, i: u32, start: u32, size: u32)
     requires span { i < length spans.old.spans }
     requires place { 12 ≤ length (span spans.old i) }
-    ensures { spans.new ≡ with_span spans.old i (put (span spans.old i) 4 (to_le_bytes w32 start ++ to_le_bytes w32 size)) }
+    ensures { spans.new ≡ with_span spans.old i
+        (put (span spans.old i) 4 (to_le_bytes w32 start ++ to_le_bytes w32 size)) }
 {
     let start = start.to_le_bytes();
     let size = size.to_le_bytes();
@@ -166,7 +169,12 @@ impl Shared {
         let len = payload.len() as u32;
         let cap = self.zone.cap;
         let start = (words.start + len) % cap;
-        store_words(&mut self.spans, self.place, start, cap.min(words.size + len));
+        store_words(
+            &mut self.spans,
+            self.place,
+            start,
+            cap.min(words.size + len),
+        );
         let ticket = self.reserved;
         self.reserved += 1;
         self.seats.push_reserved(Seat {
@@ -221,7 +229,11 @@ impl Shared {
 
     /// The image, with what stands in the zone.
     pub fn close(self) -> Bytes
-        ensures { (h : History) → IsLeftBy h self → result ≡ image_left h }
+        ensures left { (h : History) → IsLeftBy h self → result ≡ image_left h }
+        ensures zone { (h : History) → IsLeftBy h self → zone_bytes h.zone result ≡ (shared_zone h).image }
+        ensures log { (h : History) → IsLeftBy h self → open_count (shared_zone h).calls ≡ 0
+            → (zone_reading h.zone (zone_bytes h.zone result)).log
+            ≡ full_list h.zone (zone_bytes h.zone h.image) (shared_zone h).calls }
     {
         let Shared {
             spans,

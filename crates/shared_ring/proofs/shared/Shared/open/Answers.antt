@@ -7,7 +7,7 @@ use Rattle.zone_params.specs.Laid.{params_of, zones_of}
 use Rattle.ram_region.specs.CutRegion.{CutRegion, cut_at}
 use Rattle.shared_ring.specs.declared.seats.Seat.{Seat}
 use Rattle.shared_ring.specs.Seen.{SharedSeen, IsWhole, IsLeftBy}
-use Rattle.shared_ring.proofs.Opening.{just_opened, opened_whole, opened_left, zone_there, zone_read}
+use Rattle.shared_ring.proofs.Opened.{just_opened, opened_whole, opened_left, zone_there, zone_read}
 use Rattle.shared_ring.proofs.shared.Shared.open.Goals as goal
 
 -- what was made is what stands for a zone that was just opened
@@ -41,16 +41,15 @@ invariant_of-result c =
     let lies : IsLayout zones (rounded (params_of c.args.layout).mem) =
     subst (λ (zs : List Zone). IsLayout zs (rounded (params_of c.args.layout).mem)) c.zones.ensures.value
     c.zones.ensures.laid_out in
-    let some : Unit {0} = tt in
-    (
+    let some : Unit {0} = tt in (
       c.in-Ok.ensures.capacity,
       subst IsWhole
-      (made zones c.args.image c.in-Some.place c.requires.zone.zone _ c.in-Ok-cut.spans c.in-Ok.seats.items
-      c.from_bytes.result there (c.in-Ok-cut.ensures {u = some})
-      (c.from_bytes.ensures ∙ c.from_vec-image.ensures ∙ c.into_vec-bytes.ensures)
-      c.in-Ok.ensures.items c.zones.result.now c.zones.ensures.value)
-      (opened_whole zones (rounded (params_of c.args.layout).mem) c.args.image lies c.in-Some.place
-      c.requires.zone.zone there c.requires.zone.can),
+          (made zones c.args.image c.in-Some.place c.requires.zone.zone _ c.in-Ok-cut.spans c.in-Ok.seats.items
+          c.from_bytes.result there (c.in-Ok-cut.ensures {u = some})
+          (c.from_bytes.ensures ∙ c.from_vec-image.ensures ∙ c.into_vec-bytes.ensures)
+          c.in-Ok.ensures.items c.zones.result.now c.zones.ensures.value)
+          (opened_whole zones (rounded (params_of c.args.layout).mem) c.args.image lies c.in-Some.place
+          c.requires.zone.zone there c.requires.zone.can),
     )
 
 pub returns-in-Ok-cut-clause-ok : goal.returns-in-Ok-cut-clause-ok

@@ -10,14 +10,16 @@ use Rattle.shared_ring.proofs.shared.Shared.refusal.Goals as goal
 pub returns-then-len-eq-SEATS-clause-left : goal.returns-then-len-eq-SEATS-clause-left
 returns-then-len-eq-SEATS-clause-left c = λ h l.
     let v : SharedSeen = c.args.self.now in
-    let seats : length c.self.inside.seats.items ≡ length v.seats = ap (λ (x : SharedSeen). length x.seats) c.self.view_is in
+    let seats : length c.self.inside.seats.items ≡ length v.seats =
+    ap (λ (x : SharedSeen). length x.seats) c.self.view_is in
     no_seat h.zone (zone_bytes h.zone h.image) h.operations l.can h.image v l.stands c.args.len
     (omega (arith, seats, c.len.ensures, c.if-len-eq-SEATS.true, c.self.inside.seats.ok))
 
 pub returns-then-len-cap-clause-left : goal.returns-then-len-cap-clause-left
 returns-then-len-cap-clause-left c = λ h l.
     let v : SharedSeen = c.args.self.now in
-    let seats : length c.self.inside.seats.items ≡ length v.seats = ap (λ (x : SharedSeen). length x.seats) c.self.view_is in
+    let seats : length c.self.inside.seats.items ≡ length v.seats =
+    ap (λ (x : SharedSeen). length x.seats) c.self.view_is in
     let cap : c.self.inside.zone.cap ≡ v.zone.cap = ap (λ (x : SharedSeen). x.zone.cap) c.self.view_is in
     let held : c.held-held.result ≡ held_since v.seats (words_of v).start v.zone.cap =
     c.held-held.ensures.value
@@ -32,7 +34,8 @@ returns-then-len-cap-clause-left c = λ h l.
 pub returns-clause-left : goal.returns-clause-left
 returns-clause-left c = λ h l.
     let v : SharedSeen = c.args.self.now in
-    let seats : length c.self.inside.seats.items ≡ length v.seats = ap (λ (x : SharedSeen). length x.seats) c.self.view_is in
+    let seats : length c.self.inside.seats.items ≡ length v.seats =
+    ap (λ (x : SharedSeen). length x.seats) c.self.view_is in
     let cap : c.self.inside.zone.cap ≡ v.zone.cap = ap (λ (x : SharedSeen). x.zone.cap) c.self.view_is in
     let held : c.held-held.result ≡ held_since v.seats (words_of v).start v.zone.cap =
     c.held-held.ensures.value

@@ -49,14 +49,13 @@ invariant_of-self c =
       seats = c.self.inside.seats.items;
     } in
     let few : length v.seats ≡ length c.args.self.now.seats = ap (λ (x : SharedSeen). length x.seats) c.self.view_is in
-    let cap : v.zone.cap ≡ c.args.self.now.zone.cap = ap (λ (x : SharedSeen). x.zone.cap) c.self.view_is in
-    (
+    let cap : v.zone.cap ≡ c.args.self.now.zone.cap = ap (λ (x : SharedSeen). x.zone.cap) c.self.view_is in (
       omega (arith, c.self.invariant.0, c.push_reserved.ensures.capacity),
       subst IsWhole
-      (left v c.args.payload c.words-words.result c.len-len.result c.min.result c.store_words.new.spans
-      c.push_reserved.new.self.items
-      (c.words-words.ensures.value ∙ ap (λ (x : SharedSeen). words_of x) (sym c.self.view_is))
-      c.len-len.ensures.len c.min.ensures c.store_words.ensures c.push_reserved.ensures.items)
-      (seated_whole v c.args.payload c.self.invariant.1 (omega (arith, few, c.requires.seat)) c.requires.some
-      (omega (arith, cap, c.requires.room))),
+          (left v c.args.payload c.words-words.result c.len-len.result c.min.result c.store_words.new.spans
+          c.push_reserved.new.self.items
+          (c.words-words.ensures.value ∙ ap (λ (x : SharedSeen). words_of x) (sym c.self.view_is))
+          c.len-len.ensures.len c.min.ensures c.store_words.ensures c.push_reserved.ensures.items)
+          (seated_whole v c.args.payload c.self.invariant.1 (omega (arith, few, c.requires.seat)) c.requires.some
+          (omega (arith, cap, c.requires.room))),
     )

@@ -56,14 +56,13 @@ invariant_of-self c =
     let n : length c.self.inside.seats.items ≡ length c.args.self.now.seats =
     ap (λ (x : SharedSeen). length x.seats) c.self.view_is in
     let e : slice_get c.self.inside.seats.items c.args.i ≡ Some c.index.result.now =
-    seat_read c.self.inside.seats.items c.args.i c.index.result.now (omega (arith, n, c.requires)) c.index.ensures in
-    (
+    seat_read c.self.inside.seats.items c.args.i c.index.result.now (omega (arith, n, c.requires)) c.index.ensures in (
       omega (arith, c.self.invariant.0, c.count_stored.ensures.room),
       subst IsWhole
-      (left v c.args.i c.next_byte-place.result.0 c.next_byte-place.result.1 c.index.result.now c.store.new.self
-      c.count_stored.new.seats.items c.next_byte-place.ensures.place c.next_byte-place.ensures.byte c.store.ensures
-      (c.count_stored.ensures.seats c.index.result.now e))
-      (stepped_whole v c.args.i c.index.result.now c.self.invariant.1 e),
+          (left v c.args.i c.next_byte-place.result.0 c.next_byte-place.result.1 c.index.result.now c.store.new.self
+          c.count_stored.new.seats.items c.next_byte-place.ensures.place c.next_byte-place.ensures.byte c.store.ensures
+          (c.count_stored.ensures.seats c.index.result.now e))
+          (stepped_whole v c.args.i c.index.result.now c.self.invariant.1 e),
     )
 
 pub returns-clause-stepped : goal.returns-clause-stepped

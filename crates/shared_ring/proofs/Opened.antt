@@ -99,8 +99,11 @@ module _ (zones : List Zone) (mem : ℕ) (image : List ℕ) (lies : IsLayout zon
       ∙ ap (option_map (λ (y : Zone). slice_range image y.at (y.at + y.size))) there)
 
   inside : place < length (cut_at zones image).spans
-  inside = omega (arith, length-map zones (λ (y : Zone). slice_range image y.at (y.at + y.size)),
-      slice_get_within zones place z there)
+  inside = omega (
+    arith,
+    length-map zones (λ (y : Zone). slice_range image y.at (y.at + y.size)),
+    slice_get_within zones place z there,
+  )
 
   pub opened_stands : StandsFor z image (opened (zone_bytes z image)) just_opened
   unfolding open_calls_from
