@@ -7,15 +7,7 @@ use Rattle.blk_spec.specs.declared.BlkName.TheVariants.{Dump, Console, Pmsg}
 use Rattle.blk_spec.specs.Names.{name_text, is_name}
 use Rattle.blk_spec.specs.States.{BlkState, names_of, is_listed}
 use Rattle.tool_spec.specs.BlkScripts.{blk_named}
-
-flag_same : (packed : Bool) → (if packed then packed else not packed) ≡ true
-flag_same true = refl
-flag_same false = refl
-
-same_name : (name : BlkName) → is_name name name ≡ true
-same_name (Dump index packed) = rw (eq-eqb index index refl, flag_same packed) refl
-same_name Console = refl
-same_name Pmsg = refl
+use Rattle.zone_blk.proofs.Called.{is-itself}
 
 found_any : (text : List ℕ) (names : List BlkName) (name : BlkName)
     → find (λ (n : BlkName). bytes_eq (name_text n) text) names ≡ Some name → list_any (is_name name) names ≡ true
@@ -29,7 +21,7 @@ found_any text (n ∷ names) name e = by-test (bytes_eq (name_text n) text) e (f
     by-test : (b : Bool) → (if b then Some n else find (λ (m : BlkName). bytes_eq (name_text m) text) names) ≡ Some name
         → (find (λ (m : BlkName). bytes_eq (name_text m) text) names ≡ Some name
         → list_any (is_name name) names ≡ true) → (is_name name n || list_any (is_name name) names) ≡ true
-    by-test true f rest = let same : n ≡ name = cc in rw (same, same_name name) refl
+    by-test true f rest = let same : n ≡ name = cc in rw (same, is-itself name) refl
     by-test false f rest = rw (rest f) (or-true (is_name name n))
 
 pub named_listed : (b : BlkState) (text : List ℕ) (name : BlkName) → blk_named (Some b) text ≡ Some name

@@ -16,7 +16,7 @@ use Rattle.blk_spec.specs.States.{BlkState, append_refusal, append_of, appended,
 use Rattle.blk_spec.specs.Session.{Session, Operation, Append, Dump as DumpNow, Erase as EraseRecord, NoRecord as NoRecordSession, cause_for, cause_loaded, cause_of, called, done_loaded, unless_refused, session_after}
 use Rattle.grammar_spec.specs.Fields.{Text}
 use Rattle.grammar_spec.specs.declared.line.Line.{Line}
-use Rattle.grammar_spec.specs.declared.line.Line.TheVariants.{Blank, Write, Dump, BeginWrite, BeginErase, BeginDump, Step, Finish, Stop, Flip, Boot, BootPart, List as ListLine, Extract, Erase, KDump, CutAfter}
+use Rattle.grammar_spec.specs.declared.line.Line.TheVariants.{Blank, Write, Dump, BeginWrite, BeginErase, BeginDump, Step, Finish, Stop, Flip, Boot, BootPart, List as ListLine, Extract, Erase, KDump, CutAfter, KMsg, Crash, Reserve, StoreNext}
 use Rattle.tool_spec.specs.BlkScripts.{blk_line_done, operation_of, performs, performs_if, done_unless, put_loaded, writes_loaded}
 use Rattle.blk_session.specs.declared.errors.LineError.{LineError}
 use Rattle.blk_session.specs.declared.errors.LineError.TheVariants.{Memory, StoreFault, Refused}
@@ -115,6 +115,10 @@ as_operation layout session (Extract name) operation e = ap (performs_if layout 
 as_operation layout session (Erase name) operation e = ap (performs_if layout session) e
 as_operation layout session (KDump secs nanos packed reason bytes) operation e = ap (performs_if layout session) e
 as_operation layout session (CutAfter k) operation e = ap (performs_if layout session) e
+as_operation layout session (KMsg bytes) operation e = cc
+as_operation layout session (Crash reason time) operation e = cc
+as_operation layout session (Reserve bytes) operation e = cc
+as_operation layout session (StoreNext ticket k) operation e = cc
 
 module _ (layout : BlkLayout) (old : Option BlkState) (line : Line) (operation : Operation)
     (is : operation_of old line ≡ Some operation) where

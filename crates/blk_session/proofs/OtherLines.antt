@@ -12,7 +12,7 @@ use Rattle.blk_spec.specs.States.{BlkState, is_listed}
 use Rattle.blk_spec.specs.Session.{Session, Extract as ExtractRecord, cause_of, session_after}
 use Rattle.grammar_spec.specs.Printed.{HasFields}
 use Rattle.grammar_spec.specs.declared.line.Line.{Line}
-use Rattle.grammar_spec.specs.declared.line.Line.TheVariants.{Blank, Write, Dump, BeginWrite, BeginErase, BeginDump, Step, Finish, Stop, Flip, Boot, BootPart, List as ListLine, Extract, Erase, KDump, CutAfter}
+use Rattle.grammar_spec.specs.declared.line.Line.TheVariants.{Blank, Write, Dump, BeginWrite, BeginErase, BeginDump, Step, Finish, Stop, Flip, Boot, BootPart, List as ListLine, Extract, Erase, KDump, CutAfter, KMsg, Crash, Reserve, StoreNext}
 use Rattle.tool_spec.specs.BlkScripts.{blk_line_done, operation_of, performs, append_to, ring_for, blk_listing, blk_named, blk_extract_text}
 use Rattle.tool_spec.specs.declared.Cause.{Cause}
 use Rattle.tool_spec.specs.declared.Cause.TheVariants.{IsOff, NotHere, NoRecord}
@@ -103,6 +103,10 @@ IsElsewhere (Finish z) = ⊤
 IsElsewhere Stop = ⊤
 IsElsewhere (Flip a m) = ⊤
 IsElsewhere (BootPart n) = ⊤
+IsElsewhere (KMsg b) = ⊤
+IsElsewhere (Crash r t) = ⊤
+IsElsewhere (Reserve b) = ⊤
+IsElsewhere (StoreNext t n) = ⊤
 IsElsewhere other = ⊥
 
 append_waits : (layout : BlkLayout) (bytes payload : List ℕ) (ring : Option BlkRing)
@@ -131,6 +135,10 @@ waits_line layout bytes Stop h = absurd h
 waits_line layout bytes (Flip a m) h = absurd h
 waits_line layout bytes Boot h = absurd h
 waits_line layout bytes (BootPart n) h = absurd h
+waits_line layout bytes (KMsg b) h = absurd h
+waits_line layout bytes (Crash r t) h = absurd h
+waits_line layout bytes (Reserve b) h = absurd h
+waits_line layout bytes (StoreNext t n) h = absurd h
 
 elsewhere_line : (layout : BlkLayout) (session : Session) (line : Line) → IsElsewhere line
     → blk_line_done layout session line ≡ Err NotHere
@@ -144,6 +152,10 @@ elsewhere_line layout session (Finish z) h = refl
 elsewhere_line layout session Stop h = refl
 elsewhere_line layout session (Flip a m) h = refl
 elsewhere_line layout session (BootPart n) h = refl
+elsewhere_line layout session (KMsg b) h = refl
+elsewhere_line layout session (Crash r t) h = refl
+elsewhere_line layout session (Reserve b) h = refl
+elsewhere_line layout session (StoreNext t n) h = refl
 elsewhere_line layout session Blank h = absurd h
 elsewhere_line layout session (Write z b) h = absurd h
 elsewhere_line layout session (KDump a n k r b) h = absurd h
@@ -175,6 +187,10 @@ is_elsewhere (Finish z) p q r s t1 t2 t3 t4 = tt
 is_elsewhere Stop p q r s t1 t2 t3 t4 = tt
 is_elsewhere (Flip a m) p q r s t1 t2 t3 t4 = tt
 is_elsewhere (BootPart n) p q r s t1 t2 t3 t4 = tt
+is_elsewhere (KMsg b) p q r s t1 t2 t3 t4 = tt
+is_elsewhere (Crash n u) p q r s t1 t2 t3 t4 = tt
+is_elsewhere (Reserve b) p q r s t1 t2 t3 t4 = tt
+is_elsewhere (StoreNext m n) p q r s t1 t2 t3 t4 = tt
 is_elsewhere Blank p q r s t1 t2 t3 t4 = absurd (p refl)
 is_elsewhere (Write z b) p q r s t1 t2 t3 t4 = absurd (q z b refl)
 is_elsewhere Boot p q r s t1 t2 t3 t4 = absurd (r refl)

@@ -9,7 +9,6 @@ ghost use Rattle.tool_spec.specs.BlkScripts.{ring_for as ring_of_kind, reason_of
 ghost use Rattle.blk_session.specs.Lines.{LineDone, LineFails, OperationDone, OperationFails};
 
 use crate::errors::{LineError, line_error};
-use crate::records::named;
 use box_io::{Bytes, Store};
 use std::alloc::Global;
 use tool_spec::Cause;
@@ -176,9 +175,8 @@ pub fn erase<S: Store>(blk: &mut Blk, store: &mut S, name: &Bytes) -> Result<(),
         (λ e. LineFails e blk.old.layout (Some blk.old) (Erase name.now) before now
         (S.faults store.old) (S.faults store.new)) }
 {
-    match named(blk, name.as_slice()) {
-        Ok(Some(name)) => erase_named(blk, store, name),
-        Ok(None) => Err(LineError::Refused(Cause::NoRecord)),
-        Err(_) => Err(LineError::Memory),
+    match blk.find(name.as_slice()) {
+        Some(name) => erase_named(blk, store, name),
+        None => Err(LineError::Refused(Cause::NoRecord)),
     }
 }

@@ -10,11 +10,11 @@ use arrayvec::ArrayString;
 use box_io::Bytes;
 use itoa::Buffer;
 use std::alloc::{AllocError, Global};
-use text_pieces::push_number;
+use text_pieces::{extracted, push_number, push_padded, push_record, push_seconds};
 use zone_blk::{Blk, BlkFault, BlkName, BlkTime};
 
 /// Writes the text of a name, such as `dmesg-pstore_blk-3.enc.z`, in at most 33 bytes. Takes no memory.
-pub fn name_text(name: BlkName, out: &mut ArrayString<33>)
+fn name_text(name: BlkName, out: &mut ArrayString<33>)
     ensures { out.new.bytes ≡ name_text_of name }
 {
     out.clear();
@@ -50,57 +50,44 @@ fn record_time(blk: &Blk, name: BlkName) -> Option<BlkTime>
     }
 }
 
-// A name, and a length after it.
-fn push_record(text: &mut Vec<u8>, name: BlkName, len: u64) -> Result<(), AllocError>
-    ensures { OnOk result (text.new.items ≡ text.old.items ++ name_text_of name ++ codes " " ++ decimal len) }
-{
-    let mut written = ArrayString::new();
-    name_text(name, &mut written);
-    text.extend_from_slice(written.as_str().as_bytes())?;
-    push_number(text, " ", len)
-}
-
-fn push_nanos(text: &mut Vec<u8>, nanos: u32) -> Result<(), AllocError>
-    ensures { OnOk result (text.new.items ≡ text.old.items ++ nine_digits nanos) }
-{
-    let mut digits = Buffer::new();
-    let number = 1_000_000_000 + u64::from(nanos);
-    text.extend_from_slice(digits.format(number)[1..].as_bytes())
-}
-
 fn push_time(text: &mut Vec<u8>, time: Option<BlkTime>) -> Result<(), AllocError>
     ensures { OnOk result (text.new.items ≡ text.old.items ++ blk_time_text time) }
 {
     match time {
         Some(time) => {
-            push_number(text, " ", time.secs)?;
-            text.push(b'.')?;
-            push_nanos(text, time.nanos)
+            push_seconds(text, time.secs)?;
+            push_padded(text, 1_000_000_000, u64::from(time.nanos))
         }
         None => Ok(()),
     }
 }
 
-fn push_entry(alloc: Global, text: &mut Vec<u8>, blk: &Blk, name: BlkName) -> Result<(), AllocError>
+// The length of a record's content, or 0 where it is not listed.
+fn content_len(blk: &Blk, name: BlkName) -> u64
+    ensures { result ≡ length (content_of_name blk.now name) }
+{
+    match blk.content_len(name) {
+        Some(len) => len,
+        None => 0,
+    }
+}
+
+fn push_entry(text: &mut Vec<u8>, blk: &Blk, name: BlkName) -> Result<(), AllocError>
     ensures { OnOk result (text.new.items ≡ text.old.items ++ entry_text blk.now name) }
 {
-    let content = content_in(alloc, blk, name)?;
-    push_record(text, name, content.len() as u64)?;
+    let mut written = ArrayString::new();
+    name_text(name, &mut written);
+    push_record(text, written.as_str(), u128::from(content_len(blk, name)))?;
     push_time(text, record_time(blk, name))?;
     text.push(b'\n')?;
     Ok(())
 }
 
-fn push_entries(
-    alloc: Global,
-    text: &mut Vec<u8>,
-    blk: &Blk,
-    names: &[BlkName],
-) -> Result<(), AllocError>
+fn push_entries(text: &mut Vec<u8>, blk: &Blk, names: &[BlkName]) -> Result<(), AllocError>
     ensures { OnOk result (text.new.items ≡ text.old.items ++ flat_map (entry_text blk.now) names.now) }
 {
     for name in names {
-        push_entry(alloc, text, blk, *name)?;
+        push_entry(text, blk, *name)?;
     }
     Ok(())
 }
@@ -113,7 +100,7 @@ pub fn listing(alloc: Global, blk: &Blk) -> Result<Vec<u8>, AllocError>
     let mut text = Vec::new(alloc);
     push_number(&mut text, "records ", names.as_slice().len() as u64)?;
     text.push(b'\n')?;
-    push_entries(alloc, &mut text, blk, names.as_slice())?;
+    push_entries(&mut text, blk, names.as_slice())?;
     Ok(text)
 }
 
@@ -122,10 +109,7 @@ pub fn extract_text(alloc: Global, blk: &Blk, name: BlkName) -> Result<Vec<u8>, 
     ensures { IfOk result (λ text. text.items ≡ blk_extract_text blk.now name) }
 {
     let content = content_in(alloc, blk, name)?;
-    let mut text = Vec::new(alloc);
-    push_record(&mut text, name, content.len() as u64)?;
-    text.push(b'\n')?;
-    text.extend_from_slice(content.as_slice())?;
-    text.push(b'\n')?;
-    Ok(text)
+    let mut written = ArrayString::new();
+    name_text(name, &mut written);
+    extracted(alloc, written.as_str(), content.as_slice())
 }

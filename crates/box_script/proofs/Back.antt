@@ -11,7 +11,7 @@ use Rattle.hex.proofs.HexLemmas.{decode_of-encode_lower, length-encode_with}
 use Rattle.zone_spec.specs.declared.ZoneName.{ZoneName}
 use Rattle.zone_spec.specs.declared.Kind.{Kind}
 use Rattle.zone_spec.specs.declared.Kind.TheVariants.{Dump, Console, Ftrace, Pmsg}
-use Rattle.grammar_spec.specs.Fields.{Text, ◌>>=◌, number_below, mask, zone_at, ring, zone, payload, decoded, flag, reason, name, is_name}
+use Rattle.grammar_spec.specs.Fields.{Text, ◌>>=◌, number_below, mask, zone_at, ring, zone, payload, message, is_message, some_bytes, decoded, flag, reason, name, is_name}
 use Rattle.grammar_spec.specs.Printed.{IsZoneOf, zone_text_of, payload_text, flag_text, reason_text, IsPayload}
 use Rattle.box_script.proofs.Numbers.{number_below-decimal}
 use Rattle.box_script.proofs.Solid.{IsSolid, solid_literal, solid_append, solid_decimal, solid_hex}
@@ -84,6 +84,23 @@ payload_back (b ∷ bytes) h =
     ap (λ x. if x then Some [] else (if length text == 0 then None else decoded (decode_of text))) (not_dash text _ len)
     ∙ ap (λ x. if x then None else decoded (decode_of text)) (not_empty text (length bytes) (omega (arith, len)))
     ∙ ap decoded (decode_of-encode_lower (b ∷ bytes) (bytes_of (b ∷ bytes) h))
+
+pub message_back : (bytes : List ℕ) → IsPayload bytes → is_message bytes ≡ true
+    → message (payload_text bytes) ≡ Some bytes
+unfolding message
+message_back bytes h m =
+    ap (λ o. o >>= (λ b. if is_message b then Some b else None)) (payload_back bytes h)
+    ∙ ap (λ x. if x then Some bytes else None) m
+
+some_not_empty : (bytes : List ℕ) → 0 < length bytes → (length bytes == 0) ≡ false
+some_not_empty bytes h = grind (arith, h)
+
+pub some_bytes_back : (bytes : List ℕ) → IsPayload bytes → 0 < length bytes
+    → some_bytes (payload_text bytes) ≡ Some bytes
+unfolding some_bytes
+some_bytes_back bytes h m =
+    ap (λ o. o >>= (λ b. if length b == 0 then None else Some b)) (payload_back bytes h)
+    ∙ ap (λ x. if x then None else Some bytes) (some_not_empty bytes m)
 
 pub flag_back : (packed : Bool) → flag (flag_text packed) ≡ Some packed
 unfolding flag

@@ -4,7 +4,7 @@ use Rattle.std.proofs.Common.{false, ◌+◌}
 use Rattle.std.specs.Prelude.{if◌then◌else◌}
 use Rattle.grammar_spec.specs.declared.line.Line.TheVariants.{Blank}
 use Rattle.grammar_spec.specs.Fields.{Text}
-use Rattle.grammar_spec.specs.Groups.{one, two, four, five}
+use Rattle.grammar_spec.specs.Groups.{one, two, three, four, five}
 use Rattle.grammar_spec.specs.Rows.{begin_line, begin_row, row, line_of_fields}
 use Rattle.grammar_spec.specs.Lines.{is_blank, fields_of, line_of, lines_from, with_line}
 
@@ -12,6 +12,21 @@ use Rattle.grammar_spec.specs.Lines.{is_blank, fields_of, line_of, lines_from, w
 pub one_of_more : (a : Text) (fs : List Text) → 0 < length fs → one (a ∷ fs) ≡ None
 one_of_more a [] h = absurd (omega arith)
 one_of_more a (b ∷ fs) h = refl
+
+abbrev onto_one : Text → Option (Text × Text) → Option (Text × Text × Text)
+onto_one a (Some (b, c)) = Some (a, b, c)
+onto_one a None = None
+
+three_onto : (a : Text) (fs : List Text) → three (a ∷ fs) ≡ onto_one a (two fs)
+three_onto a [] = refl
+three_onto a (b ∷ []) = refl
+three_onto a (b ∷ c ∷ []) = refl
+three_onto a (b ∷ c ∷ d ∷ fs) = refl
+
+-- a field before two
+pub three_of_two : (fs gs : List Text) (a b c : Text) → fs ≡ a ∷ gs → two gs ≡ Some (b, c)
+    → three fs ≡ Some (a, b, c)
+three_of_two fs gs a b c h k = ap three h ∙ three_onto a gs ∙ ap (onto_one a) k
 
 abbrev onto_two : Text → Text → Option (Text × Text) → Option (Text × Text × Text × Text)
 onto_two a b (Some (c, d)) = Some (a, b, c, d)

@@ -11,10 +11,10 @@ use Rattle.zone_spec.specs.declared.Time.{Time}
 use Rattle.zone_spec.specs.declared.Kind.{Kind}
 use Rattle.zone_spec.specs.declared.Kind.TheVariants.{Dump as DumpZone, Ftrace}
 use Rattle.grammar_spec.specs.declared.line.Line.{Line}
-use Rattle.grammar_spec.specs.declared.line.Line.TheVariants.{Blank, Write, Dump, BeginWrite, BeginErase, BeginDump, Finish, BootPart, Extract, Erase, CutAfter}
-use Rattle.grammar_spec.specs.Fields.{Text, ◌>>=◌, begins_with, number, number_below, mask, zone_at, ring, zone, payload, decoded, flag, reason, name, is_name, secs, micros, nanos}
-use Rattle.grammar_spec.specs.Groups.{one, two, four, five, ring_hex, time_flag_hex, one_zone, one_number, one_name}
-use Rattle.grammar_spec.specs.Rows.{step_line, flip_line, kdump_line, line1, line2, line3, begin_row, begin_line, plain_row, row, lone_word, line_of_fields}
+use Rattle.grammar_spec.specs.declared.line.Line.TheVariants.{Blank, Write, Dump, BeginWrite, BeginErase, BeginDump, Finish, BootPart, Extract, Erase, CutAfter, KMsg, Reserve}
+use Rattle.grammar_spec.specs.Fields.{Text, ◌>>=◌, begins_with, number, number_below, mask, zone_at, ring, zone, payload, message, is_message, some_bytes, decoded, flag, reason, name, is_name, secs, micros, nanos}
+use Rattle.grammar_spec.specs.Groups.{one, two, three, four, five, ring_hex, time_flag_hex, one_zone, one_number, one_name, one_message, one_some_bytes}
+use Rattle.grammar_spec.specs.Rows.{step_line, flip_line, kdump_line, crash_line, store_line, line1, line2, line3, begin_row, begin_line, plain_row, row, lone_word, line_of_fields}
 use Rattle.grammar_spec.specs.Lines.{is_blank, fields_of, line_of, with_line, lines_from, script_of}
 use Rattle.grammar_spec.specs.Printed.{HasFields, AllHaveFields, IsZone, IsRing, IsTime, IsPayload}
 use Rattle.box_script.proofs.Back.{payload_of}
@@ -84,6 +84,25 @@ unfolding payload
 payload_if text = if_if (bytes_eq text (codes "-")) _ _ IsPayload (All-nil (λ b. b < 256))
     (if_if (length text == 0) _ _ IsPayload tt (decoded_if text (decode_of text) refl))
 
+message_if : (text : Text) → IfSome (message text) (λ b. IsPayload b × (is_message b ≡ true))
+unfolding message
+message_if text = bind_if (payload text) _ IsPayload _ (payload_if text) (λ b h. kept b h (is_message b) refl)
+  where
+    kept : (b : List ℕ) → IsPayload b → (t : Bool) → is_message b ≡ t
+        → IfSome (if t then Some b else None) (λ c. IsPayload c × (is_message c ≡ true))
+    kept b h true e = (h, e)
+    kept b h false e = tt
+
+some_bytes_if : (text : Text) → IfSome (some_bytes text) (λ b. IsPayload b × (0 < length b))
+unfolding some_bytes
+some_bytes_if text =
+    bind_if (payload text) _ IsPayload _ (payload_if text) (λ b h. kept b h (length b == 0) refl)
+  where
+    kept : (b : List ℕ) → IsPayload b → (t : Bool) → (length b == 0) ≡ t
+        → IfSome (if t then None else Some b) (λ c. IsPayload c × (0 < length c))
+    kept b h true e = tt
+    kept b h false e = (h, grind (arith, e))
+
 reason_if : (text : Text) → IfSome (reason text) (λ r. (1 ≤ r) × (r ≤ 4))
 unfolding reason
 reason_if text =
@@ -145,6 +164,21 @@ kdump_if fields =
     bind_if (reason f.3) _ (λ r. (1 ≤ r) × (r ≤ 4)) HasFields (reason_if f.3) (λ r hr.
     bind_if (payload f.4) _ IsPayload HasFields (payload_if f.4) (λ b hb. (hs, hn, hr.0, hr.1, hb)))))))
 
+crash_if : (fields : List Text) → IfSome (crash_line fields) HasFields
+unfolding crash_line HasFields
+crash_if fields =
+    bind_if (three fields) _ (λ f. ⊤) HasFields (any_if (three fields)) (λ f u.
+    bind_if (reason f.0) _ (λ r. (1 ≤ r) × (r ≤ 4)) HasFields (reason_if f.0) (λ r hr.
+    bind_if (secs f.1) _ (λ n. n < 2 ^ 63) HasFields (number_if (2 ^ 63) f.1) (λ s hs.
+    bind_if (micros f.2) _ (λ n. n < 1000000) HasFields (number_if 1000000 f.2) (λ m hm. (hr.0, hr.1, (hs, hm))))))
+
+store_if : (fields : List Text) → IfSome (store_line fields) HasFields
+unfolding store_line HasFields
+store_if fields =
+    bind_if (two fields) _ (λ f. ⊤) HasFields (any_if (two fields)) (λ f u.
+    bind_if (number f.0) _ (λ n. n < 2 ^ 32) HasFields (number_if (2 ^ 32) f.0) (λ t ht.
+    bind_if (number f.1) _ (λ n. n < 2 ^ 32) HasFields (number_if (2 ^ 32) f.1) (λ k hk. (ht, hk))))
+
 one_zone_if : (fields : List Text) → IfSome (one_zone fields) IsZone
 unfolding one_zone
 one_zone_if fields = bind_if (one fields) _ (λ f. ⊤) IsZone (any_if (one fields)) (λ f u. zone_if f)
@@ -157,6 +191,14 @@ one_number_if fields = bind_if (one fields) _ (λ f. ⊤) (λ n. n < 2 ^ 32) (an
 one_name_if : (fields : List Text) → IfSome (one_name fields) (λ n. is_name n ≡ true)
 unfolding one_name
 one_name_if fields = bind_if (one fields) _ (λ f. ⊤) (λ n. is_name n ≡ true) (any_if (one fields)) (λ f u. name_if f)
+
+one_message_if : (fields : List Text) → IfSome (one_message fields) (λ b. IsPayload b × (is_message b ≡ true))
+unfolding one_message
+one_message_if fields = bind_if (one fields) _ (λ f. ⊤) _ (any_if (one fields)) (λ f u. message_if f)
+
+one_some_bytes_if : (fields : List Text) → IfSome (one_some_bytes fields) (λ b. IsPayload b × (0 < length b))
+unfolding one_some_bytes
+one_some_bytes_if fields = bind_if (one fields) _ (λ f. ⊤) _ (any_if (one fields)) (λ f u. some_bytes_if f)
 
 line1_if : {A : Type 0} (line : A → Line) (o : Option A) (P : A → Type 0) → IfSome o P
     → ((x : A) → P x → HasFields (line x)) → IfSome (line1 line o) HasFields
@@ -199,7 +241,9 @@ plain_row_if word fields =
     (if_if (bytes_eq word (codes "boot")) _ _ HasFields (line1_if BootPart (one_number fields) _
     (one_number_if fields) (λ k h. h))
     (if_if (bytes_eq word (codes "cut")) _ _ HasFields (line1_if CutAfter (one_number fields) _ (one_number_if fields)
-    (λ k h. h)) tt))))
+    (λ k h. h))
+    (if_if (bytes_eq word (codes "crash")) _ _ HasFields (crash_if fields)
+    (if_if (bytes_eq word (codes "store")) _ _ HasFields (store_if fields) tt))))))
 
 row_if : (word : Text) (fields : List Text) → IfSome (row word fields) HasFields
 unfolding row HasFields
@@ -213,7 +257,11 @@ row_if word fields =
     (line1_if Extract (one_name fields) _ (one_name_if fields) (λ n h. h))
     (if_if (bytes_eq word (codes "erase")) _ _ HasFields
     (line1_if Erase (one_name fields) _ (one_name_if fields) (λ n h. h))
-    (if_if (bytes_eq word (codes "kdump")) _ _ HasFields (kdump_if fields) (plain_row_if word fields))))))
+    (if_if (bytes_eq word (codes "kdump")) _ _ HasFields (kdump_if fields)
+    (if_if (bytes_eq word (codes "kmsg")) _ _ HasFields
+    (line1_if KMsg (one_message fields) _ (one_message_if fields) (λ b h. h))
+    (if_if (bytes_eq word (codes "reserve")) _ _ HasFields
+    (line1_if Reserve (one_some_bytes fields) _ (one_some_bytes_if fields) (λ b h. h)) (plain_row_if word fields))))))))
 
 lone_if : (word : Text) → IfSome (lone_word word) HasFields
 unfolding lone_word HasFields

@@ -4,7 +4,7 @@ use Rattle.std.specs.Prelude.{codes, decimal}
 use Rattle.std.specs.List.{join_with_byte}
 use Rattle.std.proofs.lemmas.List.{append-nil}
 use Rattle.grammar_spec.specs.declared.line.Line.{Line}
-use Rattle.grammar_spec.specs.declared.line.Line.TheVariants.{Blank, Write, Dump, BeginWrite, BeginErase, BeginDump, Step, Finish, Stop, Flip, Boot, BootPart, List as ListLine, Extract, Erase, KDump, CutAfter}
+use Rattle.grammar_spec.specs.declared.line.Line.TheVariants.{Blank, Write, Dump, BeginWrite, BeginErase, BeginDump, Step, Finish, Stop, Flip, Boot, BootPart, List as ListLine, Extract, Erase, KDump, CutAfter, KMsg, Crash, Reserve, StoreNext}
 use Rattle.grammar_spec.specs.Fields.{Text}
 use Rattle.grammar_spec.specs.Printed.{line_text, zone_text, payload_text, flag_text, reason_text}
 use Rattle.box_script.specs.Writing.{word_text, tail_text, spaced}
@@ -36,3 +36,7 @@ word_and_tail (KDump secs nanos packed reason bytes) =
     joined (codes "kdump") (decimal secs ∷ decimal nanos ∷ flag_text packed ∷ reason_text reason ∷ payload_text bytes
     ∷ [])
 word_and_tail (CutAfter k) = joined (codes "cut") (decimal k ∷ [])
+word_and_tail (KMsg bytes) = joined (codes "kmsg") (payload_text bytes ∷ [])
+word_and_tail (Crash reason t) = joined (codes "crash") (reason_text reason ∷ decimal t.secs ∷ decimal t.micros ∷ [])
+word_and_tail (Reserve bytes) = joined (codes "reserve") (payload_text bytes ∷ [])
+word_and_tail (StoreNext ticket k) = joined (codes "store") (decimal ticket ∷ decimal k ∷ [])

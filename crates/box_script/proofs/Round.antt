@@ -7,13 +7,13 @@ use Rattle.std.proofs.lemmas.List.Elements.{All-nil}
 use Rattle.std.proofs.lemmas.List.Splits.{slice_split_at}
 use Rattle.zone_spec.specs.declared.ZoneName.{ZoneName}
 use Rattle.grammar_spec.specs.declared.line.Line.{Line}
-use Rattle.grammar_spec.specs.declared.line.Line.TheVariants.{Blank, Write, Dump, BeginWrite, BeginErase, BeginDump, Step, Finish, Stop, Flip, Boot, BootPart, List as ListLine, Extract, Erase, KDump, CutAfter}
-use Rattle.grammar_spec.specs.Fields.{Text, ◌>>=◌, number, mask, ring, zone, payload, flag, reason, name, secs, micros, nanos}
-use Rattle.grammar_spec.specs.Groups.{ring_hex, time_flag_hex, one_zone, one_number, one_name}
-use Rattle.grammar_spec.specs.Rows.{step_line, flip_line, kdump_line, line1, line2, line3, begin_row, begin_line, plain_row, row, lone_word, line_of_fields}
+use Rattle.grammar_spec.specs.declared.line.Line.TheVariants.{Blank, Write, Dump, BeginWrite, BeginErase, BeginDump, Step, Finish, Stop, Flip, Boot, BootPart, List as ListLine, Extract, Erase, KDump, CutAfter, KMsg, Crash, Reserve, StoreNext}
+use Rattle.grammar_spec.specs.Fields.{Text, ◌>>=◌, number, mask, ring, zone, payload, message, some_bytes, flag, reason, name, secs, micros, nanos}
+use Rattle.grammar_spec.specs.Groups.{ring_hex, time_flag_hex, one_zone, one_number, one_name, one_message, one_some_bytes}
+use Rattle.grammar_spec.specs.Rows.{step_line, flip_line, kdump_line, crash_line, store_line, line1, line2, line3, begin_row, begin_line, plain_row, row, lone_word, line_of_fields}
 use Rattle.grammar_spec.specs.Lines.{is_blank, fields_of, line_of, with_line, lines_from, script_of}
 use Rattle.grammar_spec.specs.Printed.{HasFields, AllHaveFields, zone_text, payload_text, flag_text, reason_text, printed_fields, line_text, script_text, PrintedIsRead}
-use Rattle.box_script.proofs.Back.{number_back, mask_back, ring_back, zone_back, payload_back, flag_back, reason_back, name_back, solid_zone, solid_payload, solid_flag, solid_reason}
+use Rattle.box_script.proofs.Back.{number_back, mask_back, ring_back, zone_back, payload_back, message_back, some_bytes_back, flag_back, reason_back, name_back, solid_zone, solid_payload, solid_flag, solid_reason}
 use Rattle.box_script.proofs.Counts.{lines_of_more}
 use Rattle.box_script.proofs.Cuts.{some_part}
 use Rattle.box_script.proofs.Loop.{parts}
@@ -49,6 +49,24 @@ flip_back : (p m : Text) (pn mn : ℕ) → number p ≡ Some pn → mask m ≡ S
     → flip_line (p ∷ m ∷ []) ≡ Some (Flip pn mn)
 unfolding flip_line
 flip_back p m pn mn e f = rw e (ap (λ o. o >>= (λ m. Some (Flip pn m))) f)
+
+crash_back : (r s m : Text) (rn sn mn : ℕ) → reason r ≡ Some rn → secs s ≡ Some sn → micros m ≡ Some mn
+    → crash_line (r ∷ s ∷ m ∷ []) ≡ Some (Crash rn (record { secs = sn; micros = mn }))
+unfolding crash_line
+crash_back r s m rn sn mn a b c = rw (a, b, c) refl
+
+store_back : (t k : Text) (tn kn : ℕ) → number t ≡ Some tn → number k ≡ Some kn
+    → store_line (t ∷ k ∷ []) ≡ Some (StoreNext tn kn)
+unfolding store_line
+store_back t k tn kn e f = rw e (ap (λ o. o >>= (λ n. Some (StoreNext tn n))) f)
+
+one_message_back : (t : Text) (b : List ℕ) → message t ≡ Some b → one_message (t ∷ []) ≡ Some b
+unfolding one_message
+one_message_back t b e = e
+
+one_some_bytes_back : (t : Text) (b : List ℕ) → some_bytes t ≡ Some b → one_some_bytes (t ∷ []) ≡ Some b
+unfolding one_some_bytes
+one_some_bytes_back t b e = e
 
 one_zone_back : (t : Text) (z : ZoneName) → zone t ≡ Some z → one_zone (t ∷ []) ≡ Some z
 unfolding one_zone
@@ -123,6 +141,18 @@ solid_fields (KDump s n packed r bytes) h =
       ),
     )
 solid_fields (CutAfter k) h = (solid_literal _ refl, (solid_decimal k (omega (arith, h)), tt))
+solid_fields (KMsg bytes) h = (solid_literal _ refl, (solid_payload bytes h.0, tt))
+solid_fields (Crash r t) h =
+    let s = h.2.0 in let m = h.2.1 in (
+      solid_literal _ refl,
+      (
+        solid_reason r h.0 h.1,
+        (solid_decimal t.secs (omega (arith, s)), (solid_decimal t.micros (omega (arith, m)), tt)),
+      ),
+    )
+solid_fields (Reserve bytes) h = (solid_literal _ refl, (solid_payload bytes h.0, tt))
+solid_fields (StoreNext t k) h = let n = h.0 in let m = h.1 in
+    (solid_literal _ refl, (solid_decimal t (omega (arith, n)), (solid_decimal k (omega (arith, m)), tt)))
 
 no_newline : (fields : List Text) → AllByRecursion IsSolid fields
     → All (λ b. (b == 0x0a) ≡ false) (join_with_byte 0x20 fields)
@@ -214,6 +244,22 @@ line_back (KDump s n packed r bytes) h =
 line_back (CutAfter k) h =
     line_of_joined 99 (codes "ut") (decimal k ∷ []) (CutAfter k) refl (solid_fields (CutAfter k) h)
     (ap (line1 CutAfter) (one_number_back (decimal k) k (number_back _ k h (omega arith))))
+line_back (KMsg bytes) h =
+    line_of_joined 107 (codes "msg") (payload_text bytes ∷ []) (KMsg bytes) refl (solid_fields (KMsg bytes) h)
+    (ap (line1 KMsg) (one_message_back (payload_text bytes) bytes (message_back bytes h.0 h.1)))
+line_back (Crash r t) h =
+    line_of_joined 99 (codes "rash") (reason_text r ∷ decimal t.secs ∷ decimal t.micros ∷ []) (Crash r t) refl
+    (solid_fields (Crash r t) h)
+    (crash_back (reason_text r) (decimal t.secs) (decimal t.micros) r t.secs t.micros (reason_back r h.0 h.1)
+    (number_back _ t.secs h.2.0 (omega arith)) (number_back _ t.micros h.2.1 (omega arith)))
+line_back (Reserve bytes) h =
+    line_of_joined 114 (codes "eserve") (payload_text bytes ∷ []) (Reserve bytes) refl
+    (solid_fields (Reserve bytes) h)
+    (ap (line1 Reserve) (one_some_bytes_back (payload_text bytes) bytes (some_bytes_back bytes h.0 h.1)))
+line_back (StoreNext t k) h =
+    line_of_joined 115 (codes "tore") (decimal t ∷ decimal k ∷ []) (StoreNext t k) refl
+    (solid_fields (StoreNext t k) h)
+    (store_back (decimal t) (decimal k) t k (number_back _ t h.0 (omega arith)) (number_back _ k h.1 (omega arith)))
 
 -- ---- scripts
 

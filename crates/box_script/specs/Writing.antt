@@ -1,7 +1,7 @@
 -- A line's text as it is written: its word, and then each field behind a space
 use Rattle.std.specs.Prelude.{List, [], ◌∷◌, ◌++◌, codes, decimal}
 use Rattle.grammar_spec.specs.declared.line.Line.{Line}
-use Rattle.grammar_spec.specs.declared.line.Line.TheVariants.{Blank, Write, Dump, BeginWrite, BeginErase, BeginDump, Step, Finish, Stop, Flip, Boot, BootPart, List as ListLine, Extract, Erase, KDump, CutAfter}
+use Rattle.grammar_spec.specs.declared.line.Line.TheVariants.{Blank, Write, Dump, BeginWrite, BeginErase, BeginDump, Step, Finish, Stop, Flip, Boot, BootPart, List as ListLine, Extract, Erase, KDump, CutAfter, KMsg, Crash, Reserve, StoreNext}
 use Rattle.grammar_spec.specs.Fields.{Text}
 use Rattle.grammar_spec.specs.Printed.{zone_text, payload_text, flag_text, reason_text}
 
@@ -23,6 +23,10 @@ word_text (Extract name) = codes "extract"
 word_text (Erase name) = codes "erase"
 word_text (KDump secs nanos packed reason bytes) = codes "kdump"
 word_text (CutAfter k) = codes "cut"
+word_text (KMsg bytes) = codes "kmsg"
+word_text (Crash reason t) = codes "crash"
+word_text (Reserve bytes) = codes "reserve"
+word_text (StoreNext ticket k) = codes "store"
 
 -- fields, each behind a space
 abbrev pub spaced : List Text → Text
@@ -50,3 +54,7 @@ tail_text (Erase name) = spaced (name ∷ [])
 tail_text (KDump secs nanos packed reason bytes) = spaced
     (decimal secs ∷ decimal nanos ∷ flag_text packed ∷ reason_text reason ∷ payload_text bytes ∷ [])
 tail_text (CutAfter k) = spaced (decimal k ∷ [])
+tail_text (KMsg bytes) = spaced (payload_text bytes ∷ [])
+tail_text (Crash reason t) = spaced (reason_text reason ∷ decimal t.secs ∷ decimal t.micros ∷ [])
+tail_text (Reserve bytes) = spaced (payload_text bytes ∷ [])
+tail_text (StoreNext ticket k) = spaced (decimal ticket ∷ decimal k ∷ [])

@@ -1,7 +1,7 @@
 // The fields of a line.
 ghost use Rattle.std.specs.Prelude.{◌≡◌, ◌&&◌, nat_le, ◌<◌, ◌≤◌, ◌^◌, IfSome};
 ghost use Rattle.std.specs.List.{list_all};
-ghost use Rattle.grammar_spec.specs.Fields.{number_below, mask, zone_at, ring, zone, payload, flag, reason, is_name, name};
+ghost use Rattle.grammar_spec.specs.Fields.{number_below, mask, zone_at, ring, zone, payload, is_message, message, some_bytes, flag, reason, is_name, name};
 ghost use Rattle.box_script.specs.Reading.{Gives, IsParsed};
 
 use crate::digits;
@@ -130,6 +130,38 @@ pub fn payload(alloc: Global, text: &[u8]) -> Result<Bytes, LineFault>
         return Err(LineFault::Bad);
     }
     digits::decoded(alloc, text)
+}
+
+fn is_message(bytes: &[u8]) -> bool
+    ensures { result ≡ is_message bytes.now }
+{
+    bytes.iter().all(|b| *b != b'\n')
+}
+
+/// Bytes of which none is a newline.
+#[tactic(auto, unfolding(grammar_spec::specs::Fields::message))]
+pub fn message(alloc: Global, text: &[u8]) -> Result<Bytes, LineFault>
+    ensures { Gives (λ bytes. bytes) result (message text.now) }
+{
+    let bytes = payload(alloc, text)?;
+    if is_message(bytes.as_slice()) {
+        Ok(bytes)
+    } else {
+        Err(LineFault::Bad)
+    }
+}
+
+/// At least one byte.
+#[tactic(auto, unfolding(grammar_spec::specs::Fields::some_bytes))]
+pub fn some_bytes(alloc: Global, text: &[u8]) -> Result<Bytes, LineFault>
+    ensures { Gives (λ bytes. bytes) result (some_bytes text.now) }
+{
+    let bytes = payload(alloc, text)?;
+    if bytes.as_slice().is_empty() {
+        Err(LineFault::Bad)
+    } else {
+        Ok(bytes)
+    }
 }
 
 /// `D` or `C`, true for `C`.

@@ -91,6 +91,10 @@ fn word(line: &Line) -> &'static [u8]
         Line::Erase(..) => b"erase",
         Line::KDump(..) => b"kdump",
         Line::CutAfter(..) => b"cut",
+        Line::KMsg(..) => b"kmsg",
+        Line::Crash(..) => b"crash",
+        Line::Reserve(..) => b"reserve",
+        Line::StoreNext(..) => b"store",
     }
 }
 
@@ -140,6 +144,16 @@ fn put_tail(out: &mut Vec<u8>, alloc: Global, line: &Line) -> Result<(), AllocEr
             put_field(out, flag(*packed))?;
             put_field(out, reason(*number))?;
             put_payload(out, alloc, body.as_slice())
+        }
+        Line::KMsg(bytes) | Line::Reserve(bytes) => put_payload(out, alloc, bytes.as_slice()),
+        Line::Crash(number, time) => {
+            put_field(out, reason(*number))?;
+            put_number(out, time.secs)?;
+            put_number(out, u64::from(time.micros))
+        }
+        Line::StoreNext(ticket, count) => {
+            put_number(out, u64::from(*ticket))?;
+            put_number(out, u64::from(*count))
         }
     }
 }

@@ -1,8 +1,8 @@
 // The lines of the table, by their fields.
 ghost use Rattle.std.specs.Prelude.{◌≡◌, ◌<◌, ◌==◌, ◌∷◌, [], length, nat_le, MatchOption, IfSome, IfNone};
 ghost use Rattle.std.specs.List.{slice_split, list_all};
-ghost use Rattle.grammar_spec.specs.Groups.{one, two, four, five, ring_hex, time_flag_hex, one_zone, one_number, one_name};
-ghost use Rattle.grammar_spec.specs.Rows.{step_line, flip_line, kdump_line, begin_row, begin_line, plain_row, row, lone_word};
+ghost use Rattle.grammar_spec.specs.Groups.{one, two, three, four, five, ring_hex, time_flag_hex, one_zone, one_number, one_name, one_message, one_some_bytes};
+ghost use Rattle.grammar_spec.specs.Rows.{step_line, flip_line, kdump_line, crash_line, store_line, begin_row, begin_line, plain_row, row, lone_word};
 ghost use Rattle.grammar_spec.specs.Lines.{fields_of, is_blank, line_of};
 ghost use Rattle.box_script.specs.Reading.{Gives};
 ghost use Rattle.box_script.specs.declared.rows.LineFault.TheVariants.{Memory};
@@ -57,6 +57,15 @@ fn two(text: &[u8]) -> Option<(&[u8], &[u8])>
     let (a, rest) = cut(text, b' ')?;
     let b = one(rest)?;
     Some((a, b))
+}
+
+fn three(text: &[u8]) -> Option<(&[u8], &[u8], &[u8])>
+    ensures { MatchOption result (three (fields_of text.now) ≡ None)
+        (λ f. three (fields_of text.now) ≡ Some (f.0.now, f.1.now, f.2.now)) }
+{
+    let (a, rest) = cut(text, b' ')?;
+    let (b, c) = two(rest)?;
+    Some((a, b, c))
 }
 
 fn four(text: &[u8]) -> Option<(&[u8], &[u8], &[u8], &[u8])>
@@ -133,6 +142,27 @@ fn kdump_line(alloc: Global, text: &[u8]) -> Result<Line, LineFault>
     Ok(Line::KDump(secs, nanos, packed, reason, body))
 }
 
+#[tactic(auto, unfolding(grammar_spec::specs::Rows::crash_line))]
+fn crash_line(text: &[u8]) -> Option<Line>
+    ensures { result ≡ crash_line (fields_of text.now) }
+{
+    let (reason, secs, micros) = three(text)?;
+    let reason = fields::reason(reason)?;
+    let secs = fields::seconds(secs)?;
+    let micros = fields::microseconds(micros)?;
+    Some(Line::Crash(reason, Time { secs, micros }))
+}
+
+#[tactic(auto, unfolding(grammar_spec::specs::Rows::store_line))]
+fn store_line(text: &[u8]) -> Option<Line>
+    ensures { result ≡ store_line (fields_of text.now) }
+{
+    let (ticket, count) = two(text)?;
+    let ticket = fields::number(ticket)?;
+    let count = fields::number(count)?;
+    Some(Line::StoreNext(ticket, count))
+}
+
 #[tactic(auto, unfolding(grammar_spec::specs::Groups::one_zone))]
 fn one_zone(text: &[u8]) -> Option<ZoneName>
     ensures { result ≡ one_zone (fields_of text.now) }
@@ -155,6 +185,22 @@ fn one_name(alloc: Global, text: &[u8]) -> Result<Bytes, LineFault>
 {
     let name = one(text).ok_or(LineFault::Bad)?;
     fields::name(alloc, name)
+}
+
+#[tactic(auto, unfolding(grammar_spec::specs::Groups::one_message))]
+fn one_message(alloc: Global, text: &[u8]) -> Result<Bytes, LineFault>
+    ensures { Gives (λ x. x) result (one_message (fields_of text.now)) }
+{
+    let digits = one(text).ok_or(LineFault::Bad)?;
+    fields::message(alloc, digits)
+}
+
+#[tactic(auto, unfolding(grammar_spec::specs::Groups::one_some_bytes))]
+fn one_some_bytes(alloc: Global, text: &[u8]) -> Result<Bytes, LineFault>
+    ensures { Gives (λ x. x) result (one_some_bytes (fields_of text.now)) }
+{
+    let digits = one(text).ok_or(LineFault::Bad)?;
+    fields::some_bytes(alloc, digits)
 }
 
 // What stands after `begin`.
@@ -206,6 +252,12 @@ fn plain_row(word: &[u8], text: &[u8]) -> Option<Line>
     if word == b"cut".as_slice() {
         return Some(Line::CutAfter(one_number(text)?));
     }
+    if word == b"crash".as_slice() {
+        return crash_line(text);
+    }
+    if word == b"store".as_slice() {
+        return store_line(text);
+    }
     None
 }
 
@@ -233,6 +285,12 @@ fn row(alloc: Global, word: &[u8], text: &[u8]) -> Result<Line, LineFault>
     }
     if word == b"kdump".as_slice() {
         return kdump_line(alloc, text);
+    }
+    if word == b"kmsg".as_slice() {
+        return Ok(Line::KMsg(one_message(alloc, text)?));
+    }
+    if word == b"reserve".as_slice() {
+        return Ok(Line::Reserve(one_some_bytes(alloc, text)?));
     }
     plain_row(word, text).ok_or(LineFault::Bad)
 }

@@ -63,6 +63,17 @@ fn every_form_is_printed_as_it_stands(rt: HostRuntime) {
         "kdump 9223372036854775807 0 D Shutdown 00",
         "cut 0",
         "cut 4294967295",
+        "kmsg -",
+        "kmsg 6f6e65",
+        "kmsg 00090b0dff",
+        "crash Panic 0 0",
+        "crash Oops 7 1",
+        "crash Emergency 9223372036854775807 999999",
+        "crash Shutdown 1 2",
+        "reserve 00",
+        "reserve 6161",
+        "store 0 0",
+        "store 4294967295 4294967295",
     ] {
         let script = format!(in rt.alloc(); "{line}\n").unwrap_or(String::new(rt.alloc()));
         let text = printed(rt.alloc(), script.as_bytes()).unwrap_or(Vec::new(rt.alloc()));
@@ -78,6 +89,7 @@ fn what_is_printed_otherwise(rt: HostRuntime) {
         ("#write console 6\n", "\n"),
         ("write console 0aFfB0\n", "write console 0affb0\n"),
         ("kdump 1 2 C Oops AB\n", "kdump 1 2 C Oops ab\n"),
+        ("kmsg 0B0d\nreserve 0A\n", "kmsg 0b0d\nreserve 0a\n"),
     ] {
         let text = printed(rt.alloc(), script.as_bytes()).unwrap_or(Vec::new(rt.alloc()));
         assert_eq!(rt; text.as_slice(), want.as_bytes(), "{script}");
@@ -163,9 +175,34 @@ fn bad_fields(rt: HostRuntime) {
         "cut",
         "cut -",
         "cut 4294967296",
-        "kmsg 61",
-        "crash 0 0",
-        "reserve 0 1",
+        "kmsg",
+        "kmsg ",
+        "kmsg 6",
+        "kmsg 0a",
+        "kmsg 610a",
+        "kmsg 0a61",
+        "kmsg 61 62",
+        "crash",
+        "crash Panic",
+        "crash Panic 0",
+        "crash 1 0 0",
+        "crash panic 0 0",
+        "crash Unknown 0 0",
+        "crash Panic 0 1000000",
+        "crash Panic 9223372036854775808 0",
+        "crash Panic 0 00",
+        "crash Panic 0 0 0",
+        "reserve",
+        "reserve -",
+        "reserve 6",
+        "reserve 61 62",
+        "store",
+        "store 0",
+        "store 0 01",
+        "store 00 1",
+        "store 4294967296 0",
+        "store 0 4294967296",
+        "store 0 0 0",
         "boot\r",
     ] {
         let script = format!(in rt.alloc(); "boot\n{line}\nwipe\n").unwrap_or(String::new(
@@ -197,7 +234,7 @@ fn which_line_is_bad(rt: HostRuntime) {
 #[test]
 fn values_of_fields(rt: HostRuntime) {
     let script =
-        b"write ftrace-3 -\ndump 7 8 C 41\nstep dump-2 9\nflip 10 255\nkdump 5 6000 D Emergency 78\ncut 4\n";
+        b"write ftrace-3 -\ndump 7 8 C 41\nstep dump-2 9\nflip 10 255\nkdump 5 6000 D Emergency 78\ncut 4\nkmsg 6f6e65\ncrash Oops 7 8\nreserve 6162\nstore 3 9\n";
     let Ok(lines) = parse(rt.alloc(), script) else {
         assert!(rt; false);
         return;
@@ -210,6 +247,10 @@ fn values_of_fields(rt: HostRuntime) {
             Line::Flip(10, 255),
             Line::KDump(5, 6000, false, 3, _),
             Line::CutAfter(4),
+            Line::KMsg(message),
+            Line::Crash(2, at),
+            Line::Reserve(bytes),
+            Line::StoreNext(3, 9),
         ] => {
             *ring
                 == ZoneName {
@@ -219,6 +260,9 @@ fn values_of_fields(rt: HostRuntime) {
                 && nothing.as_slice().is_empty()
                 && *time == Time { secs: 7, micros: 8 }
                 && body.as_slice() == b"A".as_slice()
+                && message.as_slice() == b"one".as_slice()
+                && *at == Time { secs: 7, micros: 8 }
+                && bytes.as_slice() == b"ab".as_slice()
                 && *zone
                     == ZoneName {
                         kind: Kind::Dump,

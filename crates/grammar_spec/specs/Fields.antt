@@ -1,5 +1,5 @@
 -- The fields of a script line, each as a text of bytes without a space
-use Rattle.std.specs.Prelude.{ℕ, ◌^◌, ◌==◌, Bool, true, false, ◌&&◌, if◌then◌else◌, nat_lt, nat_le, List, [], length, take, drop, codes, decimal, bytes_eq, Option, Some, None, Result, Ok, Err}
+use Rattle.std.specs.Prelude.{ℕ, ◌^◌, ◌==◌, Bool, true, false, ◌&&◌, not, if◌then◌else◌, nat_lt, nat_le, List, [], length, take, drop, codes, decimal, bytes_eq, Option, Some, None, Result, Ok, Err}
 use Rattle.std.specs.List.{list_all}
 use Rattle.std.specs.Str.Parse.{digits_value}
 use Rattle.hex.specs.Hex.{decode_of}
@@ -75,6 +75,22 @@ payload text =
     if bytes_eq text (codes "-") then Some []
     else if length text == 0 then None
     else decoded (decode_of text)
+
+-- a text without a newline
+abbrev pub is_message : List ℕ → Bool
+is_message bytes = list_all (λ b. not (b == 0x0a)) bytes
+
+-- a HEX of which no byte is 0a
+unfoldable pub message : Text → Option (List ℕ)
+message text = do
+  bytes ← payload text
+  if is_message bytes then Some bytes else None
+
+-- a HEX of at least one byte
+unfoldable pub some_bytes : Text → Option (List ℕ)
+some_bytes text = do
+  bytes ← payload text
+  if length bytes == 0 then None else Some bytes
 
 -- FLAG: `D` or `C`, true for `C`
 unfoldable pub flag : Text → Option Bool

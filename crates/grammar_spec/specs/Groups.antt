@@ -2,7 +2,7 @@
 use Rattle.std.specs.Prelude.{ℕ, Bool, List, [], ◌∷◌, Option, Some, None}
 use Rattle.zone_spec.specs.declared.ZoneName.{ZoneName}
 use Rattle.zone_spec.specs.declared.Time.{Time}
-use Rattle.grammar_spec.specs.Fields.{Text, ◌>>=◌, number, secs, micros, ring, zone, payload, flag, name}
+use Rattle.grammar_spec.specs.Fields.{Text, ◌>>=◌, number, secs, micros, ring, zone, payload, message, some_bytes, flag, name}
 
 -- exactly so many fields
 abbrev pub one : List Text → Option Text
@@ -12,6 +12,10 @@ one other = None
 abbrev pub two : List Text → Option (Text × Text)
 two (a ∷ b ∷ []) = Some (a, b)
 two other = None
+
+abbrev pub three : List Text → Option (Text × Text × Text)
+three (a ∷ b ∷ c ∷ []) = Some (a, b, c)
+three other = None
 
 abbrev pub four : List Text → Option (Text × Text × Text × Text)
 four (a ∷ b ∷ c ∷ d ∷ []) = Some (a, b, c, d)
@@ -54,3 +58,14 @@ unfoldable pub one_name : List Text → Option Text
 one_name fields = do
   f ← one fields
   name f
+
+-- a HEX alone, without a newline or with at least one byte
+unfoldable pub one_message : List Text → Option (List ℕ)
+one_message fields = do
+  f ← one fields
+  message f
+
+unfoldable pub one_some_bytes : List Text → Option (List ℕ)
+one_some_bytes fields = do
+  f ← one fields
+  some_bytes f

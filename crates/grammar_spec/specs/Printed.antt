@@ -1,5 +1,5 @@
 -- How lines are printed, and which can be
-use Rattle.std.specs.Prelude.{◌≡◌, ◌≢◌, ⊤, flat_map, ℕ, ◌^◌, ◌<◌, ◌≤◌, Bool, true, false, List, [], ◌∷◌, ◌++◌, codes, decimal, All, Ok, if◌then◌else◌, ◌==◌, IsTrue}
+use Rattle.std.specs.Prelude.{◌≡◌, ◌≢◌, ⊤, flat_map, ℕ, ◌^◌, ◌<◌, ◌≤◌, Bool, true, false, List, [], ◌∷◌, ◌++◌, length, codes, decimal, All, Ok, if◌then◌else◌, ◌==◌, IsTrue}
 use Rattle.std.specs.List.{AllByRecursion, join_with_byte}
 use Rattle.hex.specs.Hex.{encode_lower}
 use Rattle.zone_spec.specs.declared.ZoneName.{ZoneName}
@@ -7,8 +7,8 @@ use Rattle.zone_spec.specs.declared.Kind.{Kind}
 use Rattle.zone_spec.specs.declared.Kind.TheVariants.{Dump as DumpZone, Console, Ftrace, Pmsg}
 use Rattle.zone_spec.specs.declared.Time.{Time}
 use Rattle.grammar_spec.specs.declared.line.Line.{Line}
-use Rattle.grammar_spec.specs.declared.line.Line.TheVariants.{Blank, Write, Dump, BeginWrite, BeginErase, BeginDump, Step, Finish, Stop, Flip, Boot, BootPart, List as ListLine, Extract, Erase, KDump, CutAfter}
-use Rattle.grammar_spec.specs.Fields.{Text, is_name}
+use Rattle.grammar_spec.specs.declared.line.Line.TheVariants.{Blank, Write, Dump, BeginWrite, BeginErase, BeginDump, Step, Finish, Stop, Flip, Boot, BootPart, List as ListLine, Extract, Erase, KDump, CutAfter, KMsg, Crash, Reserve, StoreNext}
+use Rattle.grammar_spec.specs.Fields.{Text, is_name, is_message}
 use Rattle.grammar_spec.specs.Lines.{script_of}
 
 -- ---- which fields a line can have
@@ -55,6 +55,10 @@ HasFields (Erase name) = IsTrue (is_name name)
 HasFields (KDump secs nanos packed reason bytes) = (secs < 2 ^ 63) × (nanos < 1000000000) × (1 ≤ reason)
     × (reason ≤ 4) × IsPayload bytes
 HasFields (CutAfter k) = IsNumber k
+HasFields (KMsg bytes) = IsPayload bytes × IsTrue (is_message bytes)
+HasFields (Crash reason t) = (1 ≤ reason) × (reason ≤ 4) × IsTime t
+HasFields (Reserve bytes) = IsPayload bytes × (0 < length bytes)
+HasFields (StoreNext ticket k) = IsNumber ticket × IsNumber k
 
 abbrev pub AllHaveFields : List Line → Type 0
 AllHaveFields lines = AllByRecursion HasFields lines
@@ -104,6 +108,10 @@ printed_fields (Erase name) = codes "erase" ∷ name ∷ []
 printed_fields (KDump secs nanos packed reason bytes) =
     codes "kdump" ∷ decimal secs ∷ decimal nanos ∷ flag_text packed ∷ reason_text reason ∷ payload_text bytes ∷ []
 printed_fields (CutAfter k) = codes "cut" ∷ decimal k ∷ []
+printed_fields (KMsg bytes) = codes "kmsg" ∷ payload_text bytes ∷ []
+printed_fields (Crash reason t) = codes "crash" ∷ reason_text reason ∷ decimal t.secs ∷ decimal t.micros ∷ []
+printed_fields (Reserve bytes) = codes "reserve" ∷ payload_text bytes ∷ []
+printed_fields (StoreNext ticket k) = codes "store" ∷ decimal ticket ∷ decimal k ∷ []
 
 unfoldable pub line_text : Line → Text
 line_text line = join_with_byte 0x20 (printed_fields line)

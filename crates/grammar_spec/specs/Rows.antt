@@ -1,9 +1,9 @@
 -- The lines of the table, each by its word and the fields behind it
 use Rattle.std.specs.Prelude.{if◌then◌else◌, List, [], ◌∷◌, codes, bytes_eq, Option, Some, None}
 use Rattle.grammar_spec.specs.declared.line.Line.{Line}
-use Rattle.grammar_spec.specs.declared.line.Line.TheVariants.{Write, Dump, BeginWrite, BeginErase, BeginDump, Step, Finish, Stop, Flip, Boot, BootPart, List as ListLine, Extract, Erase, KDump, CutAfter}
-use Rattle.grammar_spec.specs.Fields.{Text, ◌>>=◌, number, mask, secs, nanos, zone, payload, flag, reason}
-use Rattle.grammar_spec.specs.Groups.{two, five, ring_hex, time_flag_hex, one_zone, one_number, one_name}
+use Rattle.grammar_spec.specs.declared.line.Line.TheVariants.{Write, Dump, BeginWrite, BeginErase, BeginDump, Step, Finish, Stop, Flip, Boot, BootPart, List as ListLine, Extract, Erase, KDump, CutAfter, KMsg, Crash, Reserve, StoreNext}
+use Rattle.grammar_spec.specs.Fields.{Text, ◌>>=◌, number, mask, secs, micros, nanos, zone, payload, flag, reason}
+use Rattle.grammar_spec.specs.Groups.{two, three, five, ring_hex, time_flag_hex, one_zone, one_number, one_name, one_message, one_some_bytes}
 
 -- `step ZONE K`
 unfoldable pub step_line : List Text → Option Line
@@ -31,6 +31,23 @@ kdump_line fields = do
   r ← reason f.3
   bytes ← payload f.4
   Some (KDump s n packed r bytes)
+
+-- `crash REASON SECS MICROS`
+unfoldable pub crash_line : List Text → Option Line
+crash_line fields = do
+  f ← three fields
+  r ← reason f.0
+  s ← secs f.1
+  m ← micros f.2
+  Some (Crash r (record { secs = s; micros = m }))
+
+-- `store T K`
+unfoldable pub store_line : List Text → Option Line
+store_line fields = do
+  f ← two fields
+  ticket ← number f.0
+  k ← number f.1
+  Some (StoreNext ticket k)
 
 -- the line of what was read
 abbrev pub line1 : {A : Type 0} → (A → Line) → Option A → Option Line
@@ -65,6 +82,8 @@ plain_row word fields =
     else if bytes_eq word (codes "flip") then flip_line fields
     else if bytes_eq word (codes "boot") then line1 BootPart (one_number fields)
     else if bytes_eq word (codes "cut") then line1 CutAfter (one_number fields)
+    else if bytes_eq word (codes "crash") then crash_line fields
+    else if bytes_eq word (codes "store") then store_line fields
     else None
 
 -- a word and the fields behind it
@@ -76,6 +95,8 @@ row word fields =
     else if bytes_eq word (codes "extract") then line1 Extract (one_name fields)
     else if bytes_eq word (codes "erase") then line1 Erase (one_name fields)
     else if bytes_eq word (codes "kdump") then kdump_line fields
+    else if bytes_eq word (codes "kmsg") then line1 KMsg (one_message fields)
+    else if bytes_eq word (codes "reserve") then line1 Reserve (one_some_bytes fields)
     else plain_row word fields
 
 -- a word alone

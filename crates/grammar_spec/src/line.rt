@@ -28,4 +28,12 @@ pub enum Line {
     KDump(u64, u32, bool, u32, Bytes),
     /// So many bytes more that reach the store.
     CutAfter(u32),
+    /// A line of the message log, without its newline.
+    KMsg(Bytes),
+    /// A crash: the reason by its number, and when.
+    Crash(u32, Time),
+    /// The bytes of an append whose places in a shared zone are reserved.
+    Reserve(Bytes),
+    /// A ticket, and so many bytes of its append.
+    StoreNext(u32, u32),
 }

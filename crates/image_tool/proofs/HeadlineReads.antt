@@ -41,7 +41,7 @@ use Rattle.grammar_spec.specs.declared.line.Line.TheVariants.{Boot}
 use Rattle.box_script.proofs.Inside.{read_fields}
 use Rattle.tool_spec.specs.Ends.{End}
 use Rattle.tool_spec.specs.Texts.{boot_text}
-use Rattle.tool_spec.specs.Scripts.{Done, Ran, ran, line_done}
+use Rattle.tool_spec.specs.Scripts.{Kernel, new_kernel, Done, Ran, ran, store_line, line_done}
 use Rattle.tool_spec.specs.Commands.{Asked, RamCommand, RunScript, Command, OnRam, RunBlkScript, RamPlan, Plan, OfRam, OfBlk, Wanted, planned, laid_out, with_params, with_layout, with_blk_params, with_blk_layout, mem_of, wanted, wanted_run, wanted_lines, script_limit, script_end, stops}
 use Rattle.tool_spec.specs.Answers.{Outside, whole, RunAnswers}
 use Rattle.tool_spec.specs.PlanAnswers.{RamAnswers, ToolAnswers}
@@ -162,12 +162,14 @@ shows_boot layout off reads =
     }
 
 -- what a line `boot` does
-boot_done : (layout : List Zone) (off : OffState) → line_done layout (Off off) Boot ≡ Ok (record {
-  session = Live (booted layout off);
-  text = boot_text (saved_logs layout (booted layout off)) (report layout off);
-})
-unfolding line_done
-boot_done layout off = refl
+boot_done : (layout : List Zone) (off : OffState) (kernel : Kernel) → line_done layout (Off off) kernel Boot
+    ≡ Ok (record {
+      session = Live (booted layout off);
+      kernel = new_kernel;
+      text = boot_text (saved_logs layout (booted layout off)) (report layout off);
+    })
+unfolding line_done store_line
+boot_done layout off kernel = refl
 
 -- a script is too long, or is done line by line
 long_by : (layout : List Zone) (image script : List ℕ) → nat_lt script_limit (length script) ≡ true
@@ -208,9 +210,15 @@ module _ (plan : RamPlan) (bytes script : List ℕ) (lines : List Line) (is : pl
       let ended : script_end (length r.texts) r.refused ≡ Ok tt = rw w at end in
       let all : Appends a.given b.given (whole r.texts) = rw w at put in
       let text = boot_text (saved_logs plan.zones (booted plan.zones off)) (report plan.zones off) in
-      let done : line_done plan.zones (ran plan.zones image (take k lines)).session Boot
-      ≡ Ok (record { session = Live (booted plan.zones off); text = text }) = rw session (boot_done plan.zones off) in
-      let t = text_at plan.zones image lines k Boot (record { session = Live (booted plan.zones off); text = text })
+      let before = ran plan.zones image (take k lines) in
+      let done : line_done plan.zones before.session before.kernel Boot
+      ≡ Ok (record { session = Live (booted plan.zones off); kernel = new_kernel; text = text }) =
+      rw session (boot_done plan.zones off before.kernel) in
+      let t = text_at plan.zones image lines k Boot (record {
+        session = Live (booted plan.zones off);
+        kernel = new_kernel;
+        text = text;
+      })
       (slice_get_within lines k Boot at) (sym (get_or_from_slice_get lines k Boot Boot at))
       (none_refused r.refused (length r.texts) ended) done in
       record {

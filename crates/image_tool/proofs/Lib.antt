@@ -1,3 +1,4 @@
+pub mod Alike
 pub mod Shown
 pub mod Booted
 pub mod RecordEnds

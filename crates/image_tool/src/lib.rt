@@ -5,6 +5,7 @@ mod blk_script;
 mod images;
 mod layout_text;
 mod making;
+mod moving;
 mod records;
 mod script;
 mod stores;

@@ -17,7 +17,8 @@ use Rattle.zone_spec.specs.Boot.{fix_stores, part_fixes, boot_fixes, blocks_read
 use Rattle.ring_laws.proofs.PartsLaw.{slice_range-bytes}
 use Rattle.ring_laws.proofs.PartWords.{bytes-all, bytes-each}
 use Rattle.ring_laws.proofs.BootLaw.{length-reading}
-use Rattle.old_log.proofs.Storing.{all-append, byte-length}
+use Rattle.ring_laws.proofs.StoreBytes.{all-append}
+use Rattle.old_log.proofs.Storing.{byte-length}
 
 -- ---- stores of bytes leave bytes
 abbrev pub HasBytes : Store → Type 0

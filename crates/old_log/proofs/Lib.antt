@@ -7,3 +7,4 @@ pub mod DataFixes
 pub mod Erasures
 pub mod Uncorrected
 pub mod Pushing
+pub mod Numbered

@@ -1,5 +1,5 @@
 -- Saved readings beside their zones
-use Rattle.std.proofs.Common.{◌≡◌, ℕ, zero, suc, ◌<◌, ◌≤◌, get_or, List, [], ◌∷◌, refl, sym, ap, ap₂, ◌∙◌, arith, Option, Some, None}
+use Rattle.std.proofs.Common.{◌≡◌, ℕ, zero, suc, ◌<◌, ◌≤◌, get_or, List, [], ◌∷◌, refl, sym, ap, ap₂, ◌∙◌, subst, arith, Option, Some, None}
 use Rattle.std.specs.Prelude.{slice_get, length}
 use Rattle.std.specs.List.{zip}
 use Rattle.std.specs.Option.{option_map}
@@ -67,3 +67,12 @@ layout-few zones mem laid =
       zones-few zones
           (λ i z e. let v = (laid.valid i z e).0.at_least in omega (arith, v)),
     )
+
+-- a part of the zone beside the i-th reading
+pub zone-part : {A : Type 0} (part : Zone → A) (here logs : SavedLogs) (i : ℕ) (z : Zone) → here ≡ logs
+    → z ≡ get_or here.zones i z → i < length logs.readings → length here.readings ≤ length here.zones
+    → option_map (λ (s : Saved). part s.0) (slice_get (saved logs) i) ≡ Some (part z)
+zone-part part here logs i z seen at below few =
+    let long = ap (λ (l : SavedLogs). length l.readings) seen in
+    subst (λ (l : SavedLogs). option_map (λ (s : Saved). part s.0) (slice_get (saved l) i) ≡ Some (part z)) seen
+    (ap (option_map (λ (s : Saved). part s.0)) (zone-beside here i z at (omega (arith, long, below)) few))

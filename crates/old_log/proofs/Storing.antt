@@ -9,6 +9,7 @@ use Rattle.zone_spec.specs.Boot.{fix_stores}
 use Rattle.ram_region.specs.CutRegion.{CutRegion, span, with_span}
 use Rattle.ram_region.proofs.Cuts.{with_span-again, span-with_span, spans-length, put-length}
 use Rattle.old_log.specs.declared.settling.Tally.{Tally}
+use Rattle.ring_laws.proofs.StoreBytes.{all-append, all-take}
 use Rattle.old_log.specs.Making.{Makes}
 
 -- ---- stores in a row
@@ -219,16 +220,6 @@ fix-length p (x ∷ xs) (y ∷ ys) =
 -- ---- stores of single bytes below a place
 abbrev pub IsBelow : ℕ → Store → Type 0
 IsBelow n s = (b : ℕ) × (s.bytes ≡ b ∷ []) × (s.place < n)
-
-pub all-append : {A : Type 0} (P : A → Type 0) (xs ys : List A) → AllByRecursion P xs → AllByRecursion P ys
-    → AllByRecursion P (xs ++ ys)
-all-append P [] ys h k = k
-all-append P (x ∷ xs) ys h k = (h.0, all-append P xs ys h.1 k)
-
-pub all-take : {A : Type 0} (P : A → Type 0) (n : ℕ) (xs : List A) → AllByRecursion P xs → AllByRecursion P (take n xs)
-all-take P zero xs h = tt
-all-take P (suc n) [] h = tt
-all-take P (suc n) (x ∷ xs) h = (h.0, all-take P n xs h.1)
 
 pub fix-below : (n p : ℕ) (xs ys : List ℕ) → p + length xs ≤ n → AllByRecursion (IsBelow n) (fix_stores p xs ys)
 unfolding fix_stores

@@ -1,5 +1,5 @@
 -- The readings that a boot saves
-use Rattle.std.specs.Prelude.{◌<◌, ◌≤◌, ◌^◌, List, length, Option}
+use Rattle.std.specs.Prelude.{◌≡◌, ℕ, ◌<◌, ◌≤◌, ◌^◌, List, length, slice_get, Option, Some}
 use Rattle.std.specs.List.{zip}
 use Rattle.std.specs.Global.{Vec}
 use Rattle.std.specs.Vec.{vec_capacity}
@@ -16,8 +16,13 @@ pub record SavedLogs : Type 0 where
 abbrev pub saved : SavedLogs → List Saved
 saved logs = zip logs.zones logs.readings
 
--- no more readings than zones, with room for one of each
+-- the number of each zone has 32 bits
+abbrev pub AreNumbered : List Zone → Type 0
+AreNumbered zones = (k : ℕ) (z : Zone) → slice_get zones k ≡ Some z → z.name.index < 2 ^ 32
+
+-- no more readings than zones, with room for one of each, and zones whose numbers have 32 bits
 pub record HasRoom (zones : Vec Zone) (readings : Vec (Option ZoneReading)) : Type 0 where
   pub below : length readings.items ≤ length zones.items
   pub room : length zones.items ≤ vec_capacity readings
   pub few : length zones.items < 2 ^ 32
+  pub numbered : AreNumbered zones.items

@@ -29,6 +29,8 @@ impl Model for Logs {
 }
 
 impl Logs {
+    ghost use Rattle.old_log.specs.Saving.{AreNumbered};
+
     /// No reading yet, with room for those of all zones of the layout.
     pub fn new(alloc: Global, layout: &Layout) -> Result<Logs, AllocError>
         ensures { IfOk result (λ logs. logs ≡ record { zones = zones_of layout.now; readings = [] }) }
@@ -51,6 +53,7 @@ impl Logs {
     pub fn len(&self) -> u32
         ensures readings { result ≡ length self.now.readings }
         ensures saved { result ≡ length (saved self.now) }
+        ensures numbered { AreNumbered self.now.zones }
     {
         self.readings.len() as u32
     }

@@ -67,9 +67,10 @@ fn candidate(text: &str) -> Option<Name>
 }
 
 /// The name with this text, or `None` where no name has it: a dump's number is below 2^32 and has no leading zeros.
-/// Takes no memory.
+/// No two names have one text. Takes no memory.
 pub fn find(text: &str) -> Option<Name>
-    ensures { IsNameOf text.now result }
+    ensures name { IsNameOf text.now result }
+    ensures only { IsCandidate text.now result }
 {
     let name = candidate(text)?;
     let mut written = ArrayString::new();

@@ -5,7 +5,6 @@ use Rattle.std.proofs.lemmas.List.{length-map}
 use Rattle.std.proofs.lemmas.Option.{slice_get-get_or, slice_get_read, slice_get_within}
 use Rattle.circular_buffer.proofs.Places.{slice_get-append_left, slice_get-last}
 use Rattle.zone_spec.specs.declared.Zone.{Zone}
-use Rattle.zone_spec.specs.declared.Kind.TheVariants.{Dump}
 use Rattle.zone_spec.specs.declared.Words.{Words}
 use Rattle.zone_spec.specs.declared.State.{State}
 use Rattle.zone_spec.specs.declared.State.TheVariants.{Unsigned, Empty, Invalid, Found}
@@ -20,6 +19,7 @@ use Rattle.ram_core.specs.Reports.{report_seen, report_zone}
 use Rattle.old_log.specs.Saving.{SavedLogs}
 use Rattle.ram_core.specs.Booting.{SpansFit, held_after, Adds, PreparesTo, AreLogs}
 use Rattle.ram_core.proofs.Lists.{get-pushed}
+use Rattle.ram_region.proofs.Cutting.{no_zone}
 
 -- a log fits its zone
 pub log_fits : (z : Zone) (image : List ℕ) → length (zone_reading z image).log ≤ z.cap
@@ -85,19 +85,6 @@ prepares_next layout spans known n p q z bytes k to ez eb ek adds = record {
             let sb : bytes ≡ b = (let s : Some bytes ≡ Some b = sym eb ∙ ap (slice_get spans) (sym at) ∙ eb' in cc) in
             sym a.1 ∙ ap (λ (y' : Zone). held_after y' bytes) sz ∙ ap (held_after y) sb)
       ];
-}
-
--- what a slice gives outside its length
-abbrev pub no_zone : Zone
-no_zone = record {
-  name = record { kind = Dump; index = 0 };
-  at = 0;
-  size = 0;
-  cap = 0;
-  blocks = 0;
-  parity = 0;
-  sig = 0;
-  block = 0;
 }
 
 -- the zone and the span at a place

@@ -11,6 +11,13 @@ use Rattle.zone_spec.specs.Stores.{after_stores}
 use Rattle.zone_spec.specs.Boot.{boot_stores}
 use Rattle.ram_region.specs.CutRegion.{CutRegion, span, with_span}
 use Rattle.ram_core.specs.Booting.{SpansFit, SettlesTo}
+use Rattle.ram_region.proofs.Cutting.{no_zone}
+
+-- the zone at a place of a loop over the saved readings
+pub zone_is : (zs layout : List Zone) (i end readings : ℕ) → zs ≡ layout → i < end → end ≡ readings
+    → readings ≡ length layout → slice_get layout i ≡ Some (get_or zs i no_zone)
+zone_is zs layout i end readings e below a b = ap (λ (l : List Zone). slice_get l i) (sym e)
+    ∙ slice_get-get_or zs i no_zone (let n = ap length e in omega (arith, n, below, a, b))
 
 -- the second of the pair at a place
 pub second_at : {X Y : Type 0} (xs : List X) (ys : List Y) (i : ℕ) (y : Y) → i < length xs → slice_get ys i ≡ Some y

@@ -18,14 +18,13 @@ use Rattle.ram_core.specs.LiveSeen.{LiveSeen}
 use Rattle.grammar_spec.specs.declared.line.Line.TheVariants.{Extract}
 use Rattle.pstore_names.proofs.Given.{same-name}
 use Rattle.tool_spec.specs.Texts.{extract_text}
-use Rattle.tool_spec.specs.Scripts.{line_done, named, extracts_of}
+use Rattle.tool_spec.specs.Scripts.{store_line, named, extracts_of}
 use Rattle.tool_spec.specs.declared.Cause.TheVariants.{NoRecord}
-use Rattle.ram_session.specs.Sessions.{LineDone, LineRefused}
-use Rattle.ram_session.specs.declared.machine.Machine.TheVariants.{Live}
+use Rattle.ram_session.specs.Sessions.{Live, LineDone, LineRefused}
 
 -- ---- the record whose name has a text
 
-abbrev name_of : Listed → Name
+abbrev pub name_of : Listed → Name
 name_of r = r.name
 
 -- the records whose names have a text
@@ -35,26 +34,6 @@ texted text rs = filter (λ (r : Listed). bytes_eq (name_text r.name) text) rs
 -- the records of a name
 abbrev called : Name → List Listed → List Listed
 called n rs = filter (λ (r : Listed). is_name r.name n) rs
-
--- a record in front of others, where it is taken
-head_named : (b : Bool) (r : Listed) (names : Option Name) (rs : List Listed)
-    → names ≡ option_map name_of (first_listed rs) → cond b (Some r.name) names
-    ≡ option_map name_of (first_listed (cond b (r ∷ rs) rs))
-head_named true r names rs rest = refl
-head_named false r names rs rest = rest
-
--- the first of the names that has a text
-first_named : (text : List ℕ) (rs : List Listed) → find (λ (n : Name). bytes_eq (name_text n) text) (map name_of rs)
-    ≡ option_map name_of (first_listed (texted text rs))
-first_named text [] = refl
-first_named text (r ∷ rs) = head_named (bytes_eq (name_text r.name) text) r
-    (find (λ (n : Name). bytes_eq (name_text n) text) (map name_of rs)) (texted text rs) (first_named text rs)
-
-pub found_named : (zones : List Saved) (text : List ℕ) (names : List Name) (name : Option Name)
-    → names ≡ map name_of (listed_of zones) → name ≡ find (λ (n : Name). bytes_eq (name_text n) text) names
-    → name ≡ option_map name_of (named zones text)
-found_named zones text names name all found = found ∙ ap (find (λ (n : Name). bytes_eq (name_text n) text)) all
-    ∙ first_named text (listed_of zones)
 
 -- it has the text
 head_text : (text : List ℕ) (n : Name) (b : Bool) (r : Listed) (rs : List Listed)
@@ -71,7 +50,7 @@ first_text text n [] h = absurd (cc)
 first_text text n (r ∷ rs) h = head_text text n (bytes_eq (name_text r.name) text) r (texted text rs) refl
     (first_text text n rs) h
 
-itself : (n : Name) → is_name n n ≡ true
+pub itself : (n : Name) → is_name n n ≡ true
 itself (Dump i true) = rw ((Decides-eqb i i).1 refl) refl
 itself (Dump i false) = rw ((Decides-eqb i i).1 refl) refl
 itself Console = refl
@@ -127,8 +106,8 @@ given_content zones text n bytes e given = ap (option_map (content zones)) (reco
 -- ---- the content of a record
 
 extract_line : (layout : List Zone) (s : LiveState) (text : List ℕ)
-    → line_done layout (LiveOf s) (Extract text) ≡ extracts_of layout s (named (saved_logs layout s) text)
-unfolding line_done
+    → store_line layout (LiveOf s) (Extract text) ≡ extracts_of layout s (named (saved_logs layout s) text)
+unfolding store_line
 extract_line layout s text = refl
 
 put : (layout : List Zone) (s : LiveState) (o : Option Listed) (text : List ℕ)

@@ -15,7 +15,6 @@ use crate::record_lines::named;
 use old_log::Logs;
 use pstore_names::{Name, is_in};
 use ram_core::{Ask, Live};
-use std::alloc::Global;
 use tool_spec::Cause;
 use zone_spec::ZoneName;
 
@@ -93,14 +92,13 @@ fn forget_logs(logs: &mut Logs, name: Name)
 
 /// Erases the listed record whose name has this text: all its zones, and their saved logs are forgotten. Refused where
 /// no record has the name, or a flight stands in one of its zones.
-pub fn erase(alloc: Global, live: &mut Live, logs: &mut Logs, name: &[u8]) -> Result<(), LineError>
+pub fn erase(live: &mut Live, logs: &mut Logs, name: &[u8]) -> Result<(), LineError>
     ensures erased { MatchResult result (λ _. ErasesNamed live.old logs.old name.now live.new logs.new)
         (EraseFails live.old logs.old name.now) }
     ensures unchanged { OnErr result ((live.new ≡ live.old) × (logs.new ≡ logs.old)) }
 {
-    let name = match named(alloc, logs, name)? {
-        Some(name) => name,
-        None => return Err(LineError::Refused(Cause::NoRecord)),
+    let Some(name) = named(logs, name) else {
+        return Err(LineError::Refused(Cause::NoRecord));
     };
     if flies_in_record(live, name) {
         return Err(LineError::Refused(Cause::Busy));

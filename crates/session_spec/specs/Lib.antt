@@ -13,3 +13,4 @@ pub mod Operations
 pub mod Sound
 pub mod Exact
 pub mod Headline
+pub mod Moved

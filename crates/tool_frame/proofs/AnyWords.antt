@@ -3,16 +3,16 @@ use Rattle.std.proofs.Common.{◌≡◌, ◌≢◌, ◌⊎◌, true, false, ℕ,
 use Rattle.std.specs.Io.KnownBytes.{Appends}
 use Rattle.blk_spec.specs.declared.BlkLayout.{BlkLayout}
 use Rattle.tool_spec.specs.Ends.{End, status_of, last_line}
-use Rattle.tool_spec.specs.Commands.{RamCommand, RunScript, ListRecords, ExtractRecord, EraseRecord, ShowLayout, BlankImage, MakeImage, Command, OnRam, RunBlkScript, RamPlan, Plan, OfRam, OfBlk, command_of, Wanted, wanted, mem_of}
+use Rattle.tool_spec.specs.Commands.{RamCommand, RunScript, ListRecords, ExtractRecord, EraseRecord, ShowLayout, BlankImage, MakeImage, RamPlan, Plan, OfRam, OfBlk, OfMove, Wanted, wanted, wanted_of_image, wanted_move, mem_of}
 use Rattle.tool_spec.specs.Answers.{Outside, NoScript, NoImage, RoseFor, FaultAnswers}
 use Rattle.tool_spec.specs.BlkAnswers.{blk_lines}
-use Rattle.tool_spec.specs.PlanAnswers.{PlanAnswers, ToolAnswers, statuses, IsAmong, Untouched, WritesLast}
+use Rattle.tool_spec.specs.PlanAnswers.{PlanAnswers, ToolAnswers, ram_statuses, statuses, IsAmong, Untouched, WritesLast}
 use Rattle.tool_frame.specs.Ends.{LastPut, Finished}
 use Rattle.tool_frame.specs.Words.{PlanStop}
-use Rattle.tool_frame.specs.Ended.{PutTexts, Ended, Caused, KeptAt, KeptBefore, RamEnds, PlanEnds, BlkEnds, Nothing, WorkEnds, WorkDone}
+use Rattle.tool_frame.specs.Ended.{PutTexts, Ended, Caused, KeptAt, KeptBefore, ImageEnds, ReadEnds, RamEnds, PlanEnds, BlkEnds, Nothing, WorkEnds, WorkDone}
 use Rattle.tool_frame.proofs.ReadParts.{unread_memory}
 use Rattle.tool_frame.proofs.Answered.{GoesOn, rose_on, nothing_put}
-use Rattle.tool_frame.proofs.Tool.{status_is, script_on, image_on, ram_answers, no_texts}
+use Rattle.tool_frame.proofs.Tool.{status_is, script_on, image_on, image_answers, ram_answers, no_texts}
 use Rattle.tool_frame.proofs.BlkScript.{memory_lines}
 use Rattle.tool_frame.proofs.BlkAnswered.{blk_answers}
 use Rattle.tool_frame.proofs.Script.{Quiet}
@@ -22,28 +22,31 @@ use Rattle.tool_spec.specs.declared.Stop.TheVariants.{Memory, Usage, Param, Layo
 -- ---- the statuses of a command
 
 -- each can want memory, and fail to put its text
-can_want : (c : Command) → IsAmong (statuses c) 1
-can_want (OnRam RunScript) = refl
-can_want (OnRam ListRecords) = refl
-can_want (OnRam (ExtractRecord name)) = refl
-can_want (OnRam (EraseRecord name)) = refl
-can_want (OnRam ShowLayout) = refl
-can_want (OnRam BlankImage) = refl
-can_want (OnRam (MakeImage n)) = refl
-can_want RunBlkScript = refl
+ram_can_want : (c : RamCommand) → IsAmong (ram_statuses c) 1
+ram_can_want RunScript = refl
+ram_can_want ListRecords = refl
+ram_can_want (ExtractRecord name) = refl
+ram_can_want (EraseRecord name) = refl
+ram_can_want ShowLayout = refl
+ram_can_want BlankImage = refl
+ram_can_want (MakeImage n) = refl
 
-can_fail : (c : Command) → IsAmong (statuses c) 7
-can_fail (OnRam RunScript) = refl
-can_fail (OnRam ListRecords) = refl
-can_fail (OnRam (ExtractRecord name)) = refl
-can_fail (OnRam (EraseRecord name)) = refl
-can_fail (OnRam ShowLayout) = refl
-can_fail (OnRam BlankImage) = refl
-can_fail (OnRam (MakeImage n)) = refl
-can_fail RunBlkScript = refl
+ram_can_fail : (c : RamCommand) → IsAmong (ram_statuses c) 7
+ram_can_fail RunScript = refl
+ram_can_fail ListRecords = refl
+ram_can_fail (ExtractRecord name) = refl
+ram_can_fail (EraseRecord name) = refl
+ram_can_fail ShowLayout = refl
+ram_can_fail BlankImage = refl
+ram_can_fail (MakeImage n) = refl
+
+can_fail : (plan : Plan) → IsAmong (statuses plan) 7
+can_fail (OfRam plan) = ram_can_fail plan.command
+can_fail (OfBlk layout) = refl
+can_fail (OfMove plan) = refl
 
 can_end : (c : RamCommand) (plan : RamPlan) (a b : Outside) (e : End) → RamEnds c plan a b e
-    → IsAmong (statuses (OnRam plan.command)) (status_of e)
+    → IsAmong (ram_statuses plan.command) (status_of e)
 can_end RunScript plan a b e h = h.can
 can_end ListRecords plan a b e h = h.can
 can_end (ExtractRecord name) plan a b e h = h.can
@@ -52,25 +55,26 @@ can_end ShowLayout plan a b e h = h.can
 can_end BlankImage plan a b e h = h.can
 can_end (MakeImage n) plan a b e h = h.can
 
-blk_can : (e : End) (holds holds' : Option (List ℕ)) → KeptBefore holds holds' e
-    → IsAmong (statuses RunBlkScript) (status_of e)
-blk_can (Ok u) holds holds' h = refl
-blk_can (Err Memory) holds holds' h = refl
-blk_can (Err Usage) holds holds' h = absurd h
-blk_can (Err (Param x y)) holds holds' h = absurd h
-blk_can (Err (Layout x)) holds holds' h = absurd h
-blk_can (Err (Short x y)) holds holds' h = refl
-blk_can (Err ScriptFault) holds holds' h = refl
-blk_can (Err ImageFault) holds holds' h = refl
-blk_can (Err SinkFault) holds holds' h = refl
-blk_can (Err TooLong) holds holds' h = refl
-blk_can (Err (BadLine x)) holds holds' h = refl
-blk_can (Err (Refused x y)) holds holds' h = refl
+blk_can : (layout : BlkLayout) (e : End) (holds holds' : Option (List ℕ)) → KeptBefore holds holds' e
+    → IsAmong (statuses (OfBlk layout)) (status_of e)
+blk_can layout (Ok u) holds holds' h = refl
+blk_can layout (Err Memory) holds holds' h = refl
+blk_can layout (Err Usage) holds holds' h = absurd h
+blk_can layout (Err (Param x y)) holds holds' h = absurd h
+blk_can layout (Err (Layout x)) holds holds' h = absurd h
+blk_can layout (Err (Short x y)) holds holds' h = refl
+blk_can layout (Err ScriptFault) holds holds' h = refl
+blk_can layout (Err ImageFault) holds holds' h = refl
+blk_can layout (Err SinkFault) holds holds' h = refl
+blk_can layout (Err TooLong) holds holds' h = refl
+blk_can layout (Err (BadLine x)) holds holds' h = refl
+blk_can layout (Err (Refused x y)) holds holds' h = refl
 
 plan_can : (plan : Plan) (a b : Outside) (e : End) → PlanEnds plan a b e
-    → IsAmong (statuses (command_of plan)) (status_of e)
+    → IsAmong (statuses plan) (status_of e)
 plan_can (OfRam plan) a b e h = can_end plan.command plan a b e h
-plan_can (OfBlk layout) a b e h = blk_can e a.holds b.holds h.kept
+plan_can (OfBlk layout) a b e h = blk_can layout e a.holds b.holds h.kept
+plan_can (OfMove plan) a b e h = h.can
 
 -- the status of an end, or 7
 among : {A : Type 0} (all : List ℕ) (n status : ℕ) → IsAmong all n → IsAmong all 7 → (status ≡ n) ⊎ ((status ≡ 7) × A)
@@ -137,12 +141,14 @@ plan_answers : (plan : Plan) (a m b : Outside) (e : End) (status : ℕ) → Goes
     → PlanAnswers plan a b status
 plan_answers (OfRam plan) a m b e status on c h f = ram_answers a m b on status plan.command plan e c h f
 plan_answers (OfBlk layout) a m b e status on c h f = blk_answers layout a m b e status on c h f
+plan_answers (OfMove plan) a m b e status on c h f =
+    image_answers a m b on status (statuses (OfMove plan)) (wanted_move plan) e c h f
 
 tool_answers : (r : Result Plan Stop) (a m b : Outside) (e : End) (status : ℕ) → GoesOn a m b → Caused a m e
     → WorkEnds r a m e → Finished e m.given b.given m.sink_faults b.sink_faults status → ToolAnswers r a b status
 tool_answers (Ok plan) a m b e status on c h f = (
   plan_answers plan a m b e status on c h f,
-  among (statuses (command_of plan)) (status_of e) status (plan_can plan a m e h) (can_fail (command_of plan))
+  among (statuses plan) (status_of e) status (plan_can plan a m e h) (can_fail plan)
       (status_is a m b on status e c f),
 )
 tool_answers (Err s) a m b e status on c h f =
@@ -155,44 +161,47 @@ out_of_memory : (w : Wanted) (a b : Outside) → Nothing a b → Ended w a b (Er
 out_of_memory w a b h = (rw h.given (no_texts w a.given), h.image.holds)
 
 -- out of memory before anything was touched
+image_memory : (all : List ℕ) (want : List ℕ → Wanted) (a b : Outside) → IsAmong all 1 → Nothing a b
+    → ImageEnds all want a b (Err Memory)
+image_memory all want a b can h = record {
+  can = can;
+  whole = record { told = λ bytes t. out_of_memory (want bytes) a b h };
+  script = h.script;
+}
+
+read_memory : (all : List ℕ) (want : List ℕ → Wanted) (a b : Outside) → IsAmong all 1 → Nothing a b
+    → ReadEnds all want a b (Err Memory)
+read_memory all want a b can h = record {
+  can = can;
+  whole = record { told = λ bytes t. out_of_memory (want bytes) a b h };
+  script = h.script;
+  image = h.image.holds;
+}
+
 ram_memory : (c : RamCommand) (plan : RamPlan) (a b : Outside) → Nothing a b → RamEnds c plan a b (Err Memory)
 ram_memory RunScript plan a b h = record {
-  can = can_want (OnRam plan.command);
+  can = ram_can_want plan.command;
   whole = record { told = λ bytes script t l. out_of_memory (wanted plan bytes script) a b h };
   read = unread_memory (mem_of plan) a b h.script;
 }
-ram_memory ListRecords plan a b h = record {
-  can = can_want (OnRam plan.command);
-  whole = record { told = λ bytes t. out_of_memory (wanted plan bytes []) a b h };
-  script = h.script;
-  image = h.image.holds;
-}
-ram_memory (ExtractRecord name) plan a b h = record {
-  can = can_want (OnRam plan.command);
-  whole = record { told = λ bytes t. out_of_memory (wanted plan bytes []) a b h };
-  script = h.script;
-  image = h.image.holds;
-}
-ram_memory (EraseRecord name) plan a b h = record {
-  can = can_want (OnRam plan.command);
-  whole = record { told = λ bytes t. out_of_memory (wanted plan bytes []) a b h };
-  script = h.script;
-}
+ram_memory ListRecords plan a b h = read_memory _ (wanted_of_image plan) a b (ram_can_want plan.command) h
+ram_memory (ExtractRecord name) plan a b h = read_memory _ (wanted_of_image plan) a b (ram_can_want plan.command) h
+ram_memory (EraseRecord name) plan a b h = image_memory _ (wanted_of_image plan) a b (ram_can_want plan.command) h
 ram_memory ShowLayout plan a b h = record {
-  can = can_want (OnRam plan.command);
+  can = ram_can_want plan.command;
   whole = out_of_memory (wanted plan [] []) a b h;
   script = h.script;
   image = h.image;
 }
 ram_memory BlankImage plan a b h = record {
-  can = can_want (OnRam plan.command);
+  can = ram_can_want plan.command;
   whole = out_of_memory (wanted plan [] []) a b h;
   script = h.script;
   image_fault = tt;
   text_first = inl h.image;
 }
 ram_memory (MakeImage n) plan a b h = record {
-  can = can_want (OnRam plan.command);
+  can = ram_can_want plan.command;
   whole = out_of_memory (wanted plan [] []) a b h;
   script = h.script;
   image_fault = tt;
@@ -208,6 +217,7 @@ memory_ends (OfBlk layout) a b h =
       read = unread_memory layout.total a b h.script;
       kept = tt;
     }
+memory_ends (OfMove plan) a b h = image_memory (statuses (OfMove plan)) (wanted_move plan) a b refl h
 
 clash : {A B : Type 0} {x : A} {y : B} → Ok x ≡ Err y → ⊥
 clash e = cc

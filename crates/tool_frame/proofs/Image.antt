@@ -2,9 +2,9 @@
 use Rattle.std.proofs.Common.{◌≡◌, ℕ, ◌<◌, ◌≤◌, List, [], length, take, Option, Err, IfSome, refl, sym, ◌∙◌, arith, inl, true, false, true≢false, nat_lt}
 use Rattle.std.proofs.lemmas.Bool.Decides.{nat_tests}
 use Rattle.tool_spec.specs.Ends.{End}
-use Rattle.tool_spec.specs.Commands.{RamCommand, RunScript, ListRecords, ExtractRecord, EraseRecord, ShowLayout, BlankImage, MakeImage, OnRam, RamPlan, wanted, wanted_of, reads_image, mem_of, stops}
+use Rattle.tool_spec.specs.Commands.{RamCommand, RunScript, ListRecords, ExtractRecord, EraseRecord, ShowLayout, BlankImage, MakeImage, RamPlan, wanted, wanted_of, reads_image, mem_of, stops}
 use Rattle.tool_spec.specs.Answers.{Outside, IfHolds}
-use Rattle.tool_spec.specs.PlanAnswers.{statuses, IsAmong}
+use Rattle.tool_spec.specs.PlanAnswers.{ram_statuses, IsAmong}
 use Rattle.tool_spec.specs.declared.Stop.{Stop}
 use Rattle.tool_spec.specs.declared.Stop.TheVariants.{Memory, Usage, Param, Layout, Short, ScriptFault, ImageFault, SinkFault, TooLong, BadLine, Refused}
 use Rattle.tool_frame.specs.Stages.{LoadStop}
@@ -56,7 +56,7 @@ image_stopped plan c a b (Refused x y) f g is reads q h = absurd h
 
 -- a command that reads the image can want memory, find it too short, and fail to read it
 can_read : (c : RamCommand) → reads_image c ≡ true
-    → IsAmong (statuses (OnRam c)) 1 × IsAmong (statuses (OnRam c)) 4 × IsAmong (statuses (OnRam c)) 6
+    → IsAmong (ram_statuses c) 1 × IsAmong (ram_statuses c) 4 × IsAmong (ram_statuses c) 6
 can_read RunScript reads = (refl, refl, refl)
 can_read ListRecords reads = (refl, refl, refl)
 can_read (ExtractRecord name) reads = (refl, refl, refl)

@@ -1,5 +1,6 @@
 pub mod Consumed
 pub mod Pieces
+pub mod Parted
 pub mod Answered
 pub mod Image
 pub mod Play
@@ -7,6 +8,7 @@ pub mod Script
 pub mod ReadParts
 pub mod Tool
 pub mod Few
+pub mod FewWords
 pub mod Sizes
 pub mod BlkScript
 pub mod BlkAnswered

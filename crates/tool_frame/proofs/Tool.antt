@@ -4,11 +4,11 @@ use Rattle.std.specs.Io.KnownBytes.{Appends, IsAtEnd}
 use Rattle.grammar_spec.specs.Lines.{script_of}
 use Rattle.grammar_spec.specs.Fields.{Text}
 use Rattle.tool_spec.specs.Ends.{End, status_of, last_line}
-use Rattle.tool_spec.specs.Commands.{RamCommand, RunScript, ListRecords, ExtractRecord, EraseRecord, ShowLayout, BlankImage, MakeImage, RamPlan, Wanted, wanted, mem_of, script_limit}
-use Rattle.tool_spec.specs.Answers.{Outside, NoScript, NoImage, RoseFor, PutsAll, IsFree, SavedInPart, ShortAnswers, ScriptAnswers, ScriptUse, ScriptRead, RunAnswers, MakeAnswers, whole}
-use Rattle.tool_spec.specs.PlanAnswers.{RamAnswers}
+use Rattle.tool_spec.specs.Commands.{RamCommand, RunScript, ListRecords, ExtractRecord, EraseRecord, ShowLayout, BlankImage, MakeImage, RamPlan, Wanted, wanted, wanted_of_image, mem_of, script_limit}
+use Rattle.tool_spec.specs.Answers.{Outside, NoScript, NoImage, RoseFor, PutsAll, IsFree, SavedInPart, ShortAnswers, ScriptAnswers, ScriptUse, ScriptRead, RunAnswers, ImageAnswers, ReadAnswers, MakeAnswers, whole}
+use Rattle.tool_spec.specs.PlanAnswers.{ram_statuses, RamAnswers}
 use Rattle.tool_frame.specs.Ends.{LastPut, Finished}
-use Rattle.tool_frame.specs.Ended.{PutTexts, Ended, Caused, ShortAt, ScriptAt, UseAt, ScriptEnds, RunEnds, WrittenAt, MakeEnds, RamEnds}
+use Rattle.tool_frame.specs.Ended.{PutTexts, Ended, Caused, ShortAt, ScriptAt, UseAt, ScriptEnds, RunEnds, ImageEnds, ReadEnds, WrittenAt, MakeEnds, RamEnds}
 use Rattle.tool_frame.proofs.Answered.{GoesOn, rose_on, sink_rose, saved_in_part, answers, appends_on, nothing_put}
 use Rattle.tool_spec.specs.declared.Stop.{Stop}
 use Rattle.tool_spec.specs.declared.Stop.TheVariants.{Memory, Usage, Param, Layout, Short, ScriptFault, ImageFault, SinkFault, TooLong, BadLine, Refused}
@@ -413,23 +413,30 @@ module _ (a m b : Outside) (on : GoesOn a m b) (status : ℕ) where
     text_first = text_on (wanted plan [] []) h.text_first (last_put e f);
   }
 
+  -- a command that reads the image
+  pub image_answers : (all : List ℕ) (want : List ℕ → Wanted) (e : End) → Caused a m e → ImageEnds all want a m e
+      → Finished e m.given b.given m.sink_faults b.sink_faults status → ImageAnswers want a b status
+  image_answers all want e c h f = record {
+    whole = record { told = λ bytes t. answers a m b on (want bytes) status e c (h.whole.told bytes t) f };
+    script = script_on a m b h.script on.script;
+  }
+
+  pub read_answers : (all : List ℕ) (want : List ℕ → Wanted) (e : End) → Caused a m e → ReadEnds all want a m e
+      → Finished e m.given b.given m.sink_faults b.sink_faults status → ReadAnswers want a b status
+  read_answers all want e c h f = record {
+    whole = record { told = λ bytes t. answers a m b on (want bytes) status e c (h.whole.told bytes t) f };
+    script = script_on a m b h.script on.script;
+    image = on.image.holds ∙ h.image;
+  }
+
   pub ram_answers : (k : RamCommand) (plan : RamPlan) (e : End) → Caused a m e → RamEnds k plan a m e
       → Finished e m.given b.given m.sink_faults b.sink_faults status → RamAnswers k plan a b status
   ram_answers RunScript plan e c h f = run_answers plan e c h f
-  ram_answers ListRecords plan e c h f = record {
-    whole = record { told = λ bytes t. answers a m b on _ status e c (h.whole.told bytes t) f };
-    script = script_on a m b h.script on.script;
-    image = on.image.holds ∙ h.image;
-  }
-  ram_answers (ExtractRecord name) plan e c h f = record {
-    whole = record { told = λ bytes t. answers a m b on _ status e c (h.whole.told bytes t) f };
-    script = script_on a m b h.script on.script;
-    image = on.image.holds ∙ h.image;
-  }
-  ram_answers (EraseRecord name) plan e c h f = record {
-    whole = record { told = λ bytes t. answers a m b on _ status e c (h.whole.told bytes t) f };
-    script = script_on a m b h.script on.script;
-  }
+  ram_answers ListRecords plan e c h f = read_answers (ram_statuses plan.command) (wanted_of_image plan) e c h f
+  ram_answers (ExtractRecord name) plan e c h f =
+      read_answers (ram_statuses plan.command) (wanted_of_image plan) e c h f
+  ram_answers (EraseRecord name) plan e c h f =
+      image_answers (ram_statuses plan.command) (wanted_of_image plan) e c h f
   ram_answers ShowLayout plan e c h f = record {
     whole = answers a m b on _ status e c h.whole f;
     script = script_on a m b h.script on.script;

@@ -7,10 +7,10 @@ use Rattle.grammar_spec.specs.Fields.{Text}
 use Rattle.grammar_spec.specs.Lines.{script_of}
 use Rattle.grammar_spec.specs.declared.line.Line.{Line}
 use Rattle.tool_spec.specs.Ends.{End, status_of}
-use Rattle.tool_spec.specs.Commands.{RamCommand, RunScript, ListRecords, ExtractRecord, EraseRecord, ShowLayout, BlankImage, MakeImage, OnRam, RamPlan, Plan, OfRam, OfBlk, Wanted, wanted, mem_of, stops, script_limit}
+use Rattle.tool_spec.specs.Commands.{RamCommand, RunScript, ListRecords, ExtractRecord, EraseRecord, ShowLayout, BlankImage, MakeImage, RamPlan, Plan, OfRam, OfBlk, OfMove, Wanted, wanted, wanted_of_image, wanted_move, mem_of, stops, script_limit}
 use Rattle.tool_spec.specs.Answers.{Outside, IfHolds, IfLeft, IfTold, NoScript, NoImage, Later, front, whole, WritesAll, WritesSome, PutsAll}
 use Rattle.tool_spec.specs.BlkAnswers.{blk_lines, BlkStop, AllDone}
-use Rattle.tool_spec.specs.PlanAnswers.{statuses, IsAmong, WritesLast}
+use Rattle.tool_spec.specs.PlanAnswers.{ram_statuses, statuses, IsAmong, WritesLast}
 use Rattle.tool_spec.specs.declared.Stop.{Stop}
 use Rattle.tool_spec.specs.declared.Stop.TheVariants.{Memory, Usage, Param, Layout, Short, ScriptFault, ImageFault, SinkFault, TooLong, BadLine, Refused}
 
@@ -93,7 +93,7 @@ pub record ScriptEnds (mem : ℕ) (a b : Outside) (e : End) : Type 0 where
 
 -- an end whose status the command can answer
 abbrev pub CanEnd : RamPlan → End → Type 0
-CanEnd plan e = IsAmong (statuses (OnRam plan.command)) (status_of e)
+CanEnd plan e = IsAmong (ram_statuses plan.command) (status_of e)
 
 -- how each command's work ends, as far as the outside tells what it uses
 pub record RunEnds (plan : RamPlan) (a b : Outside) (e : End) : Type 0 where
@@ -101,16 +101,24 @@ pub record RunEnds (plan : RamPlan) (a b : Outside) (e : End) : Type 0 where
   pub whole : IfTold a (λ bytes script. Ended (wanted plan bytes script) a b e)
   pub read : ScriptEnds (mem_of plan) a b e
 
-pub record ImageEnds (plan : RamPlan) (a b : Outside) (e : End) : Type 0 where
-  pub can : CanEnd plan e
-  pub whole : IfHolds a (λ bytes. Ended (wanted plan bytes []) a b e)
+-- with these statuses, where this is wanted of the image
+pub record ImageEnds (all : List ℕ) (want : List ℕ → Wanted) (a b : Outside) (e : End) : Type 0 where
+  pub can : IsAmong all (status_of e)
+  pub whole : IfHolds a (λ bytes. Ended (want bytes) a b e)
   pub script : NoScript a b
 
-pub record ReadEnds (plan : RamPlan) (a b : Outside) (e : End) : Type 0 where
-  pub can : CanEnd plan e
-  pub whole : IfHolds a (λ bytes. Ended (wanted plan bytes []) a b e)
+pub record ReadEnds (all : List ℕ) (want : List ℕ → Wanted) (a b : Outside) (e : End) : Type 0 where
+  pub can : IsAmong all (status_of e)
+  pub whole : IfHolds a (λ bytes. Ended (want bytes) a b e)
   pub script : NoScript a b
   pub image : b.holds ≡ a.holds
+
+-- the same of commands on an image
+abbrev pub RamImageEnds : RamPlan → Outside → Outside → End → Type 0
+RamImageEnds plan a b e = ImageEnds (ram_statuses plan.command) (wanted_of_image plan) a b e
+
+abbrev pub RamReadEnds : RamPlan → Outside → Outside → End → Type 0
+RamReadEnds plan a b e = ReadEnds (ram_statuses plan.command) (wanted_of_image plan) a b e
 
 -- the image fails only as it is written
 abbrev pub WrittenAt : Wanted → Outside → Outside → End → Type 0
@@ -171,9 +179,9 @@ pub record BlkEnds (layout : BlkLayout) (a b : Outside) (e : End) : Type 0 where
 
 abbrev pub RamEnds : RamCommand → RamPlan → Outside → Outside → End → Type 0
 RamEnds RunScript plan a b e = RunEnds plan a b e
-RamEnds ListRecords plan a b e = ReadEnds plan a b e
-RamEnds (ExtractRecord name) plan a b e = ReadEnds plan a b e
-RamEnds (EraseRecord name) plan a b e = ImageEnds plan a b e
+RamEnds ListRecords plan a b e = RamReadEnds plan a b e
+RamEnds (ExtractRecord name) plan a b e = RamReadEnds plan a b e
+RamEnds (EraseRecord name) plan a b e = RamImageEnds plan a b e
 RamEnds ShowLayout plan a b e = ShowEnds plan a b e
 RamEnds BlankImage plan a b e = MakeEnds plan a b e
 RamEnds (MakeImage n) plan a b e = MakeEnds plan a b e
@@ -181,6 +189,7 @@ RamEnds (MakeImage n) plan a b e = MakeEnds plan a b e
 abbrev pub PlanEnds : Plan → Outside → Outside → End → Type 0
 PlanEnds (OfRam plan) a b e = RamEnds plan.command plan a b e
 PlanEnds (OfBlk layout) a b e = BlkEnds layout a b e
+PlanEnds (OfMove plan) a b e = ImageEnds (statuses (OfMove plan)) (wanted_move plan) a b e
 
 -- nothing was touched or put
 pub record Nothing (a b : Outside) : Type 0 where

@@ -6,16 +6,16 @@ use Rattle.blk_spec.specs.Layout.{IsLayout}
 use Rattle.zone_params.specs.declared.types.Layout.{Layout}
 use Rattle.zone_params.specs.Laid.{params_of, zones_of}
 use Rattle.grammar_spec.specs.Fields.{Text}
-use Rattle.tool_spec.specs.Commands.{RamCommand, RunScript, ListRecords, ExtractRecord, EraseRecord, ShowLayout, BlankImage, MakeImage, Command, OnRam, RunBlkScript, Asked, RamPlan, Plan, OfRam, OfBlk}
+use Rattle.tool_spec.specs.Commands.{RamCommand, RunScript, ListRecords, ExtractRecord, EraseRecord, ShowLayout, BlankImage, MakeImage, Command, OnRam, RunBlkScript, MoveImage, Asked, RamPlan, Laid, MovePlan, Plan, OfRam, OfBlk, OfMove}
 use Rattle.tool_spec.specs.declared.Stop.{Stop}
 use Rattle.tool_spec.specs.declared.Stop.TheVariants.{Memory, ScriptFault, ImageFault, SinkFault}
 use Rattle.tool_frame.specs.declared.words.RamCommand.{RamCommand as ReadRamCommand}
 use Rattle.tool_frame.specs.declared.words.RamCommand.TheVariants.{Run, List as ListCommand, Extract, Erase, Layout as LayoutCommand, Blank, Make}
-use Rattle.tool_frame.specs.declared.words.Command.{Command as ReadCommand}
-use Rattle.tool_frame.specs.declared.words.Command.TheVariants.{OnRam as OnRamRead, RunBlk}
-use Rattle.tool_frame.specs.declared.words.Asked.{Asked as ReadAsked}
+use Rattle.tool_frame.specs.declared.asked.Command.{Command as ReadCommand}
+use Rattle.tool_frame.specs.declared.asked.Command.TheVariants.{OnRam as OnRamRead, RunBlk, Move as MoveRead}
+use Rattle.tool_frame.specs.declared.asked.Asked.{Asked as ReadAsked}
 use Rattle.tool_frame.specs.declared.words.Plan.{Plan as ReadPlan}
-use Rattle.tool_frame.specs.declared.words.Plan.TheVariants.{Ram, Blk}
+use Rattle.tool_frame.specs.declared.words.Plan.TheVariants.{Ram, Blk, Move}
 
 abbrev pub texts : List (String Global) → List Text
 texts words = map string_bytes words
@@ -32,6 +32,7 @@ ram_command_seen (Make n) = MakeImage n
 abbrev pub command_seen : ReadCommand → Command
 command_seen (OnRamRead command) = OnRam (ram_command_seen command)
 command_seen RunBlk = RunBlkScript
+command_seen (MoveRead to) = MoveImage (texts to.now)
 
 abbrev pub asked_seen : ReadAsked → Asked
 asked_seen a = record { command = command_seen a.command; before = a.before; params = texts a.params.now }
@@ -40,14 +41,23 @@ asked_seen a = record { command = command_seen a.command; before = a.before; par
 abbrev pub plan_for : RamCommand → Layout → RamPlan
 plan_for command layout = record { command = command; params = params_of layout; zones = zones_of layout }
 
+-- the parameters of a layout, with its zones
+abbrev pub laid_for : Layout → Laid
+laid_for layout = record { params = params_of layout; zones = zones_of layout }
+
+abbrev pub move_for : Layout → Layout → MovePlan
+move_for from to = record { from = laid_for from; to = laid_for to }
+
 abbrev pub plan_seen : ReadPlan → Plan
 plan_seen (Ram command layout) = OfRam (plan_for (ram_command_seen command) layout)
 plan_seen (Blk layout) = OfBlk layout
+plan_seen (Move from to) = OfMove (move_for from to)
 
 -- a block store's layout is one
 abbrev pub IsLaid : ReadPlan → Type 0
 IsLaid (Ram command layout) = ⊤
 IsLaid (Blk layout) = IsLayout layout
+IsLaid (Move from to) = ⊤
 
 -- why no plan was read: the fault of the words, or want of memory where they have none
 abbrev pub PlanStop : Stop → Result Plan Stop → Type 0

@@ -32,6 +32,10 @@ fn cause_name(cause: Cause) -> &'static str
         Cause::OutOfImage => "out of image",
         Cause::NoRecord => "no record",
         Cause::NotHere => "not here",
+        Cause::TooLong => "too long",
+        Cause::NoSeat => "no seat",
+        Cause::Crowded => "crowded",
+        Cause::NoRing => "no ring",
     }
 }
 

@@ -1,6 +1,7 @@
 //! The frame of a run of the image tool: its words, what it reads and writes, and its last line.
 #![tactic(auto)]
 
+mod asked;
 mod ending;
 mod stages;
 mod words;

@@ -1,13 +1,15 @@
 // The words of the command line.
-ghost use Rattle.std.specs.Prelude.{◌≡◌, [], ◌∷◌, MatchResult, MatchOption, None, Some, Ok, IfOk, IfErr};
-ghost use Rattle.tool_spec.specs.Commands.{OnRam, RunBlkScript, asked, asked_by, with_name, with_number, laid_out, plan_of, ExtractRecord, EraseRecord};
+ghost use Rattle.std.specs.Prelude.{◌≡◌, ◌<◌, position, string_bytes, [], ◌∷◌, MatchResult, MatchOption, None, Some, Ok, IfOk, IfErr};
+ghost use Rattle.tool_spec.specs.Commands.{OnRam, RunBlkScript, MoveImage, is_to, with_to, asked, asked_by, with_name, with_number, with_first_layout, laid_out, plan_of, ExtractRecord, EraseRecord};
+ghost use Rattle.zone_spec.specs.Layout.{layout_of};
 ghost use Rattle.tool_frame.specs.Words.{asked_seen, plan_seen, ram_command_seen, command_seen, texts, PlanStop, IsLaid, IsNoFault};
 
 use crate::Stop;
+use crate::asked::{Asked, Command};
 use blk_params::{BlkLayout, blk_layout, read_blk_words};
 use std::alloc::Global;
 use zone_params::types::Layout;
-use zone_params::{LayoutError, layout, read_words};
+use zone_params::{LayoutError, Params, layout, read_words};
 
 /// A command on an image of the ram store.
 #[derive(Clone, Copy, Debug, PartialEq, Eq)]
@@ -25,22 +27,6 @@ pub enum RamCommand<'a> {
     Make(u32),
 }
 
-/// What a word names.
-#[derive(Clone, Copy)]
-enum Command<'a> {
-    OnRam(RamCommand<'a>),
-    /// A script on the block store.
-    RunBlk,
-}
-
-/// A command, how many words stand before its parameters, and these.
-#[derive(Clone, Copy)]
-struct Asked<'a> {
-    command: Command<'a>,
-    before: u32,
-    params: &'a [String],
-}
-
 /// What the words ask for.
 #[derive(Drop)]
 pub enum Plan<'a> {
@@ -48,6 +34,8 @@ pub enum Plan<'a> {
     Ram(RamCommand<'a>, Layout),
     /// A script on a block store of this layout.
     Blk(BlkLayout),
+    /// A move from an image of the first layout to one of the second.
+    Move(Layout, Layout),
 }
 
 // A command that only parameters follow.
@@ -112,6 +100,29 @@ fn make(words: &[String]) -> Option<Asked<'_>>
     })
 }
 
+// The place of the first word `to`.
+fn find_to(words: &[String]) -> Option<usize>
+    ensures { result ≡ position (λ word. is_to (string_bytes word)) words.now }
+{
+    words.iter().position(|word| word.as_str() == "to")
+}
+
+// The parameters before the only word `to`, and those after it.
+fn move_image(words: &[String]) -> Option<Asked<'_>>
+    ensures { MatchOption result (with_to (texts words.now) ≡ None)
+        (λ a. with_to (texts words.now) ≡ Some (asked_seen a)) }
+{
+    let place = match find_to(words) {
+        Some(place) => place,
+        None => return None,
+    };
+    let to = &words[place + 1..];
+    if find_to(to).is_some() {
+        return None;
+    }
+    Some(plain(Command::Move(to), &words[..place]))
+}
+
 // The command that a word names, with the words after it.
 fn asked_by<'a>(word: &str, words: &'a [String]) -> Option<Asked<'a>>
     ensures { MatchOption result (asked_by word.now (texts words.now) ≡ None)
@@ -126,6 +137,7 @@ fn asked_by<'a>(word: &str, words: &'a [String]) -> Option<Asked<'a>>
         "blank" => Some(plain(Command::OnRam(RamCommand::Blank), words)),
         "make" => make(words),
         "blk-run" => Some(plain(Command::RunBlk, words)),
+        "move" => move_image(words),
         _ => None,
     }
 }
@@ -179,6 +191,54 @@ fn lay_blk<'a>(before: u32, params: &[String]) -> Result<Plan<'a>, Stop>
     }
 }
 
+// The layouts of both parameters. The second one's fault comes before want of memory for the first.
+fn lay_both<'a>(alloc: Global, from: &Params, to: &Params) -> Result<Plan<'a>, Stop>
+    ensures plan { let wanted = with_first_layout from.now to.now (layout_of from.now) in
+        MatchResult result (λ plan. wanted ≡ Ok (plan_seen plan)) (λ stop. PlanStop stop wanted) }
+    ensures laid { IfOk result IsLaid }
+    ensures stops { IfErr result IsNoFault }
+{
+    let from = match layout(alloc, from) {
+        Err(LayoutError::Fault(fault)) => return Err(Stop::Layout(fault)),
+        from => from,
+    };
+    let to = match layout(alloc, to) {
+        Err(LayoutError::Fault(fault)) => return Err(Stop::Layout(fault)),
+        to => to,
+    };
+    match (from, to) {
+        (Ok(from), Ok(to)) => Ok(Plan::Move(from, to)),
+        _ => Err(Stop::Memory),
+    }
+}
+
+// A move between images of these parameters, the first of which stand after so many words.
+fn lay_move<'a>(
+    alloc: Global,
+    before: u32,
+    params: &[String],
+    to: &[String],
+) -> Result<Plan<'a>, Stop>
+    requires { before < 4 }
+    ensures plan { let wanted = laid_out (MoveImage (texts to.now)) before (texts params.now) in
+        MatchResult result (λ plan. wanted ≡ Ok (plan_seen plan)) (λ stop. PlanStop stop wanted) }
+    ensures laid { IfOk result IsLaid }
+    ensures stops { IfErr result IsNoFault }
+{
+    let from = match read_words(params) {
+        Ok(from) => from,
+        Err(fault) => return Err(Stop::Param { fault, before }),
+    };
+    let second = before + params.len() as u32 + 1;
+    match read_words(to) {
+        Ok(to) => lay_both(alloc, &from, &to),
+        Err(fault) => Err(Stop::Param {
+            fault,
+            before: second,
+        }),
+    }
+}
+
 /// What the arguments ask for: a command and the layout of its parameters. It allocates only after all checks have
 /// passed.
 pub fn read_plan(alloc: Global, words: &[String]) -> Result<Plan<'_>, Stop>
@@ -193,5 +253,6 @@ pub fn read_plan(alloc: Global, words: &[String]) -> Result<Plan<'_>, Stop>
     match asked.command {
         Command::OnRam(command) => lay_image(alloc, command, asked.before, asked.params),
         Command::RunBlk => lay_blk(asked.before, asked.params),
+        Command::Move(to) => lay_move(alloc, asked.before, asked.params, to),
     }
 }

@@ -14,7 +14,7 @@ use Rattle.blk_laws.proofs.Sessions.{Goes, calls-goes, begun-goes, lists-told}
 use Rattle.blk_laws.proofs.CutSessions.{cut-run}
 use Rattle.zone_spec.specs.declared.ZoneName.{ZoneName}
 use Rattle.grammar_spec.specs.declared.line.Line.{Line}
-use Rattle.grammar_spec.specs.declared.line.Line.TheVariants.{Blank, Write, Dump, BeginWrite, BeginErase, BeginDump, Step, Finish, Stop, Flip, Boot, BootPart, List as ListLine, Extract, Erase, KDump, CutAfter}
+use Rattle.grammar_spec.specs.declared.line.Line.TheVariants.{Blank, Write, Dump, BeginWrite, BeginErase, BeginDump, Step, Finish, Stop, Flip, Boot, BootPart, List as ListLine, Extract, Erase, KDump, CutAfter, KMsg, Crash, Reserve, StoreNext}
 use Rattle.tool_spec.specs.BlkScripts.{BlkRan, blk_ran_on, blk_next_line, blk_ran, blk_started, blk_line_done, operation_of, performs_if, done_unless, put_by, ring_for, append_to}
 use Rattle.tool_spec.specs.declared.Cause.{Cause}
 use Rattle.tool_laws.specs.BlkScripts.{operation_unless, before, operations_from, script_operations, script_calls, is_no_boot, ScriptsAreSessions, EveryBootListsReading, WholeScriptListsTold, EarlyCutScriptListsBefore}
@@ -65,6 +65,10 @@ by_line layout ran (KDump secs nanos packed reason bytes) operations =
     by_operation layout ran (operation_of ran.session.blk (KDump secs nanos packed reason bytes)) operations
 by_line layout ran (CutAfter k) operations = by_operation layout ran (operation_of ran.session.blk (CutAfter k))
     operations
+by_line layout ran (KMsg bytes) operations = by_operation layout ran None operations
+by_line layout ran (Crash reason time) operations = by_operation layout ran None operations
+by_line layout ran (Reserve bytes) operations = by_operation layout ran None operations
+by_line layout ran (StoreNext ticket k) operations = by_operation layout ran None operations
 
 unless_behind : (layout : BlkLayout) (ran : BlkRan) (cause : Option Cause) (line : Line) (operations : List Operation)
     → session_run layout (blk_ran_on ran cause (blk_line_done layout ran.session line)).session operations
@@ -166,6 +170,10 @@ line_no_load blk (Extract name) h = refl
 line_no_load blk (Erase name) h = refl
 line_no_load blk (KDump secs nanos packed reason bytes) h = refl
 line_no_load blk (CutAfter k) h = refl
+line_no_load blk (KMsg bytes) h = tt
+line_no_load blk (Crash reason time) h = tt
+line_no_load blk (Reserve bytes) h = tt
+line_no_load blk (StoreNext ticket k) h = tt
 
 unless_no_load : (cause : Option Cause) (blk : Option BlkState) (line : Line) → is_no_boot line ≡ true
     → IfSome (operation_unless cause blk line) (λ (operation : Operation). is_no_load operation Done ≡ true)

@@ -1,3 +1,4 @@
+mod Kernels
 pub mod Sound
 pub mod Steps
 pub mod BlkScripts

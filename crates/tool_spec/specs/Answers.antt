@@ -195,14 +195,14 @@ pub record RunAnswers (plan : RamPlan) (a b : Outside) (status : ℕ) : Type 0 w
   pub whole : IfTold a (λ bytes script. Answers (wanted plan bytes script) a b status)
   pub read : ScriptRead (mem_of plan) a b status
 
--- a command that reads the image and leaves the script
-pub record ImageAnswers (plan : RamPlan) (a b : Outside) (status : ℕ) : Type 0 where
-  pub whole : IfHolds a (λ bytes. Answers (wanted plan bytes []) a b status)
+-- a command that reads the image, of which it wants this, and leaves the script
+pub record ImageAnswers (want : List ℕ → Wanted) (a b : Outside) (status : ℕ) : Type 0 where
+  pub whole : IfHolds a (λ bytes. Answers (want bytes) a b status)
   pub script : NoScript a b
 
 -- the same, and it leaves the image as it is
-pub record ReadAnswers (plan : RamPlan) (a b : Outside) (status : ℕ) : Type 0 where
-  pub whole : IfHolds a (λ bytes. Answers (wanted plan bytes []) a b status)
+pub record ReadAnswers (want : List ℕ → Wanted) (a b : Outside) (status : ℕ) : Type 0 where
+  pub whole : IfHolds a (λ bytes. Answers (want bytes) a b status)
   pub script : NoScript a b
   pub image : b.holds ≡ a.holds
 

@@ -1,10 +1,10 @@
 -- The words that the tool takes, and what each command wants
-use Rattle.std.specs.Prelude.{ℕ, ◌+◌, Bool, true, false, ◌&&◌, if◌then◌else◌, nat_lt, List, [], ◌∷◌, length, take, replicate, codes, bytes_eq, Option, Some, None, Result, Ok, Err}
+use Rattle.std.specs.Prelude.{ℕ, ◌+◌, Bool, true, false, ◌&&◌, if◌then◌else◌, nat_lt, List, [], ◌∷◌, length, take, drop, position, is_some, replicate, codes, bytes_eq, Option, Some, None, Result, Ok, Err}
 use Rattle.zone_spec.specs.declared.Zone.{Zone}
 use Rattle.zone_spec.specs.declared.params.Params.{Params}
 use Rattle.zone_spec.specs.declared.params.LayoutFault.{LayoutFault}
 use Rattle.zone_spec.specs.Layout.{rounded, layout_of}
-use Rattle.zone_spec.specs.Records.{Listed}
+use Rattle.zone_spec.specs.Records.{Saved, Listed}
 use Rattle.zone_spec.specs.Notices.{content}
 use Rattle.blk_spec.specs.declared.BlkParams.{BlkParams}
 use Rattle.blk_spec.specs.declared.BlkLayout.{BlkLayout}
@@ -14,6 +14,7 @@ use Rattle.session_spec.specs.Off.{fresh}
 use Rattle.session_spec.specs.Boot.{booted}
 use Rattle.session_spec.specs.Stop.{stopped, session_image}
 use Rattle.session_spec.specs.Erasures.{saved_logs, erased}
+use Rattle.session_spec.specs.Moved.{fitting, moved}
 use Rattle.grammar_spec.specs.declared.faults.ParamFault.{ParamFault}
 use Rattle.grammar_spec.specs.Words.{ok_unless}
 use Rattle.grammar_spec.specs.ZoneWords.{first_fault, params_of}
@@ -21,7 +22,7 @@ use Rattle.grammar_spec.specs.BlkWords.{first_fault as blk_first_fault, params_o
 use Rattle.grammar_spec.specs.Fields.{Text, number}
 use Rattle.grammar_spec.specs.Lines.{script_of}
 use Rattle.grammar_spec.specs.declared.line.Line.{Line}
-use Rattle.tool_spec.specs.Texts.{layout_text, listing}
+use Rattle.tool_spec.specs.Texts.{layout_text, listing, move_text}
 use Rattle.tool_spec.specs.Scripts.{Ran, ran, named}
 use Rattle.tool_spec.specs.Generated.{Generated, generated, summary}
 use Rattle.tool_spec.specs.Ends.{End}
@@ -42,10 +43,11 @@ pub data RamCommand : Type 0 where
   BlankImage : RamCommand
   MakeImage : (n : ℕ) → RamCommand
 
--- what a word names: such a command, or a script on the block store
+-- what a word names: such a command, a script on the block store, or a move to these parameters
 pub data Command : Type 0 where
   OnRam : (command : RamCommand) → Command
   RunBlkScript : Command
+  MoveImage : (to : List Text) → Command
 
 -- a command, how many words stand before its parameters, and these
 pub record Asked : Type 0 where
@@ -70,6 +72,20 @@ abbrev pub with_number : List Text → Option Asked
 with_number [] = None
 with_number (n ∷ words) = numbered (number n) words
 
+-- whether a word stands between the two lists of parameters of a move
+abbrev pub is_to : Text → Bool
+is_to word = bytes_eq word (codes "to")
+
+-- `move` with parameters, one `to`, and parameters: where the first `to` is
+abbrev pub parted : Option ℕ → List Text → Option Asked
+parted None words = None
+parted (Some i) words =
+    if is_some (position is_to (drop (i + 1) words)) then None
+    else Some (record { command = MoveImage (drop (i + 1) words); before = 2; params = take i words })
+
+unfoldable pub with_to : List Text → Option Asked
+with_to words = parted (position is_to words) words
+
 -- the command that a word names, with the words behind it
 abbrev pub asked_by : Text → List Text → Option Asked
 asked_by word words =
@@ -81,6 +97,7 @@ asked_by word words =
     else if bytes_eq word (codes "blank") then plain (OnRam BlankImage) words
     else if bytes_eq word (codes "make") then with_number words
     else if bytes_eq word (codes "blk-run") then plain RunBlkScript words
+    else if bytes_eq word (codes "move") then with_to words
     else None
 
 -- IMAGE COMMAND and what follows it; None for words outside the grammar
@@ -94,14 +111,21 @@ pub record RamPlan : Type 0 where
   pub params : Params
   pub zones : List Zone
 
--- a command with its layout: the zones of an image, or a block store
+-- parameters with their layout
+pub record Laid : Type 0 where
+  pub params : Params
+  pub zones : List Zone
+
+-- a move from an image of one layout to one of another
+pub record MovePlan : Type 0 where
+  pub from : Laid
+  pub to : Laid
+
+-- a command with its layout: the zones of an image, a block store, or the zones of two images
 pub data Plan : Type 0 where
   OfRam : (plan : RamPlan) → Plan
   OfBlk : (layout : BlkLayout) → Plan
-
-abbrev pub command_of : Plan → Command
-command_of (OfRam plan) = OnRam plan.command
-command_of (OfBlk layout) = RunBlkScript
+  OfMove : (plan : MovePlan) → Plan
 
 abbrev pub with_layout : RamCommand → Params → Result (List Zone) LayoutFault → Result Plan Stop
 with_layout command params (Ok zones) = Ok (OfRam (record { command = command; params = params; zones = zones }))
@@ -119,12 +143,32 @@ abbrev pub with_blk_params : ℕ → Result BlkParams ParamFault → Result Plan
 with_blk_params before (Ok params) = with_blk_layout (blk_layout_of params)
 with_blk_params before (Err fault) = Err (Param fault before)
 
+-- a move by its two lists of parameters: the first one's fault, the second one's, and those of their layouts
+abbrev pub with_second_layout : Laid → Params → Result (List Zone) LayoutFault → Result Plan Stop
+with_second_layout from to (Ok zones) = Ok (OfMove (record { from = from; to = record { params = to; zones = zones } }))
+with_second_layout from to (Err fault) = Err (LayoutStop fault)
+
+abbrev pub with_first_layout : Params → Params → Result (List Zone) LayoutFault → Result Plan Stop
+with_first_layout from to (Ok zones) = with_second_layout (record { params = from; zones = zones }) to (layout_of to)
+with_first_layout from to (Err fault) = Err (LayoutStop fault)
+
+abbrev pub with_second_params : Params → ℕ → Result Params ParamFault → Result Plan Stop
+with_second_params from before (Ok to) = with_first_layout from to (layout_of from)
+with_second_params from before (Err fault) = Err (Param fault before)
+
+abbrev pub with_first_params : ℕ → List Text → ℕ → Result Params ParamFault → Result Plan Stop
+with_first_params second words before (Ok from) =
+    with_second_params from second (ok_unless (first_fault [] words) (params_of words))
+with_first_params second words before (Err fault) = Err (Param fault before)
+
 -- a command by its parameters, behind so many words
 abbrev pub laid_out : Command → ℕ → List Text → Result Plan Stop
 laid_out (OnRam command) before params =
     with_params command before (ok_unless (first_fault [] params) (params_of params))
 laid_out RunBlkScript before params =
     with_blk_params before (ok_unless (blk_first_fault [] params) (blk_params_of params))
+laid_out (MoveImage to) before params =
+    with_first_params (before + length params + 1) to before (ok_unless (first_fault [] params) (params_of params))
 
 abbrev pub planned : Option Asked → Result Plan Stop
 planned None = Err Usage
@@ -137,6 +181,9 @@ plan_of words = planned (asked words)
 -- the bytes of the image
 abbrev pub mem_of : RamPlan → ℕ
 mem_of plan = rounded plan.params.mem
+
+abbrev pub laid_mem : Laid → ℕ
+laid_mem laid = rounded laid.params.mem
 
 -- ---- what a command wants
 
@@ -235,3 +282,22 @@ abbrev pub wanted : RamPlan → List ℕ → List ℕ → Wanted
 wanted plan bytes script =
     if (reads_image plan.command && nat_lt (length bytes) (mem_of plan)) then stops (Short (length bytes) (mem_of plan))
     else wanted_of plan.params plan.zones (take (mem_of plan) bytes) script plan.command
+
+-- and of those alone, where it reads no script
+abbrev pub wanted_of_image : RamPlan → List ℕ → Wanted
+wanted_of_image plan bytes = wanted plan bytes []
+
+-- a move puts what it does with each record of these logs, and then writes the image of those that fit
+abbrev pub wanted_moved : MovePlan → List Saved → Wanted
+wanted_moved plan logs = record {
+  texts = move_text (laid_mem plan.from) (laid_mem plan.to) plan.to.zones logs ∷ [];
+  end = Ok tt;
+  writes = Some (moved plan.to.zones (laid_mem plan.to) (fitting plan.to.zones logs)).image;
+}
+
+-- of a store's bytes: the logs are those that a boot of the first mem of them saves
+abbrev pub wanted_move : MovePlan → List ℕ → Wanted
+wanted_move plan bytes =
+    if nat_lt (length bytes) (laid_mem plan.from) then stops (Short (length bytes) (laid_mem plan.from))
+    else wanted_moved plan (saved_logs plan.from.zones (after_boot plan.from.zones
+    (take (laid_mem plan.from) bytes)))

@@ -4,7 +4,7 @@ use Rattle.blk_spec.specs.declared.BlkLayout.{BlkLayout}
 use Rattle.grammar_spec.specs.Fields.{Text}
 use Rattle.grammar_spec.specs.declared.line.Line.{Line}
 use Rattle.tool_spec.specs.Ends.{End}
-use Rattle.tool_spec.specs.Commands.{Command, OnRam, RunBlkScript, RunScript, ShowLayout, BlankImage, MakeImage, Plan, OfRam, OfBlk, command_of, wanted, plan_of}
+use Rattle.tool_spec.specs.Commands.{RamCommand, RunScript, ShowLayout, BlankImage, MakeImage, Plan, OfRam, OfBlk, OfMove, wanted, wanted_move, plan_of}
 use Rattle.tool_spec.specs.BlkScripts.{blk_ran}
 use Rattle.tool_spec.specs.Answers.{Outside, RoseFor}
 use Rattle.tool_spec.specs.BlkAnswers.{blk_lines, blk_end}
@@ -21,6 +21,7 @@ lines_end layout bytes (Err stop) = Err stop
 abbrev pub plan_end : Result Plan Stop → List ℕ → List ℕ → End
 plan_end (Ok (OfRam plan)) bytes script = (wanted plan bytes script).end
 plan_end (Ok (OfBlk layout)) bytes script = lines_end layout bytes (blk_lines layout bytes script)
+plan_end (Ok (OfMove plan)) bytes script = (wanted_move plan bytes).end
 plan_end (Err stop) bytes script = Err stop
 
 -- of any words, on these bytes of the image and of the script
@@ -30,16 +31,17 @@ wanted_end words bytes script = plan_end (plan_of words) bytes script
 -- ---- what the outside must tell
 
 -- the image holds these bytes, and these are left of the script, as far as a command reads them
-abbrev pub CommandTells : Command → Outside → List ℕ → List ℕ → Type 0
-CommandTells (OnRam RunScript) a bytes script = (a.holds ≡ Some bytes) × (a.left ≡ Some script)
-CommandTells (OnRam ShowLayout) a bytes script = ⊤
-CommandTells (OnRam BlankImage) a bytes script = ⊤
-CommandTells (OnRam (MakeImage n)) a bytes script = ⊤
-CommandTells (OnRam other) a bytes script = a.holds ≡ Some bytes
-CommandTells RunBlkScript a bytes script = (a.holds ≡ Some bytes) × (a.left ≡ Some script)
+abbrev pub CommandTells : RamCommand → Outside → List ℕ → List ℕ → Type 0
+CommandTells RunScript a bytes script = (a.holds ≡ Some bytes) × (a.left ≡ Some script)
+CommandTells ShowLayout a bytes script = ⊤
+CommandTells BlankImage a bytes script = ⊤
+CommandTells (MakeImage n) a bytes script = ⊤
+CommandTells other a bytes script = a.holds ≡ Some bytes
 
 abbrev pub PlanTells : Result Plan Stop → Outside → List ℕ → List ℕ → Type 0
-PlanTells (Ok plan) a bytes script = CommandTells (command_of plan) a bytes script
+PlanTells (Ok (OfRam plan)) a bytes script = CommandTells plan.command a bytes script
+PlanTells (Ok (OfBlk layout)) a bytes script = (a.holds ≡ Some bytes) × (a.left ≡ Some script)
+PlanTells (Ok (OfMove plan)) a bytes script = a.holds ≡ Some bytes
 PlanTells (Err stop) a bytes script = ⊤
 
 abbrev pub Tells : List Text → Outside → List ℕ → List ℕ → Type 0

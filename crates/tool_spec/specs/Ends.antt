@@ -8,7 +8,7 @@ use Rattle.tool_spec.specs.Texts.{newline}
 use Rattle.tool_spec.specs.declared.Stop.{Stop}
 use Rattle.tool_spec.specs.declared.Stop.TheVariants.{Memory, Usage, Param, Layout, Short, ScriptFault, ImageFault, SinkFault, TooLong, BadLine, Refused}
 use Rattle.tool_spec.specs.declared.Cause.{Cause}
-use Rattle.tool_spec.specs.declared.Cause.TheVariants.{IsOff, IsLive, NoZone, Busy, Idle, OutOfImage, NoRecord, NotHere}
+use Rattle.tool_spec.specs.declared.Cause.TheVariants.{IsOff, IsLive, NoZone, Busy, Idle, OutOfImage, NoRecord, NotHere, TooLong as TooLongLine, NoSeat, Crowded, NoRing}
 
 -- the end of a run: all was done, or why not
 abbrev pub End : Type 0
@@ -37,6 +37,10 @@ cause_text Idle = codes "idle"
 cause_text OutOfImage = codes "out of image"
 cause_text NoRecord = codes "no record"
 cause_text NotHere = codes "not here"
+cause_text TooLongLine = codes "too long"
+cause_text NoSeat = codes "no seat"
+cause_text Crowded = codes "crowded"
+cause_text NoRing = codes "no ring"
 
 -- a parameter's fault and its word, counted from 1 over all words
 abbrev pub param_text : ParamFault → ℕ → Text

@@ -1,7 +1,7 @@
 -- What run answers to any words
 use Rattle.std.specs.Prelude.{◌≡◌, ◌≢◌, ◌⊎◌, ⊤, ℕ, ◌==◌, true, List, [], ◌∷◌, Result, Ok, Err}
 use Rattle.std.specs.List.{list_any}
-use Rattle.tool_spec.specs.Commands.{RamCommand, RunScript, ListRecords, ExtractRecord, EraseRecord, ShowLayout, BlankImage, MakeImage, Command, OnRam, RunBlkScript, RamPlan, Plan, OfRam, OfBlk, command_of}
+use Rattle.tool_spec.specs.Commands.{RamCommand, RunScript, ListRecords, ExtractRecord, EraseRecord, ShowLayout, BlankImage, MakeImage, RamPlan, wanted_of_image, Plan, OfRam, OfBlk, OfMove, wanted_move}
 use Rattle.tool_spec.specs.Answers.{Outside, RoseFor, RunAnswers, ImageAnswers, ReadAnswers, MakeAnswers, ShowAnswers, FaultAnswers}
 use Rattle.tool_spec.specs.BlkAnswers.{BlkAnswers}
 use Rattle.tool_spec.specs.declared.Stop.{Stop}
@@ -10,9 +10,9 @@ use Rattle.tool_spec.specs.declared.Stop.TheVariants.{ImageFault}
 -- what each command on an image answers
 abbrev pub RamAnswers : RamCommand → RamPlan → Outside → Outside → ℕ → Type 0
 RamAnswers RunScript plan a b status = RunAnswers plan a b status
-RamAnswers ListRecords plan a b status = ReadAnswers plan a b status
-RamAnswers (ExtractRecord name) plan a b status = ReadAnswers plan a b status
-RamAnswers (EraseRecord name) plan a b status = ImageAnswers plan a b status
+RamAnswers ListRecords plan a b status = ReadAnswers (wanted_of_image plan) a b status
+RamAnswers (ExtractRecord name) plan a b status = ReadAnswers (wanted_of_image plan) a b status
+RamAnswers (EraseRecord name) plan a b status = ImageAnswers (wanted_of_image plan) a b status
 RamAnswers ShowLayout plan a b status = ShowAnswers plan a b status
 RamAnswers BlankImage plan a b status = MakeAnswers plan a b status
 RamAnswers (MakeImage n) plan a b status = MakeAnswers plan a b status
@@ -21,30 +21,37 @@ RamAnswers (MakeImage n) plan a b status = MakeAnswers plan a b status
 abbrev pub PlanAnswers : Plan → Outside → Outside → ℕ → Type 0
 PlanAnswers (OfRam plan) a b status = RamAnswers plan.command plan a b status
 PlanAnswers (OfBlk layout) a b status = BlkAnswers layout a b status
+PlanAnswers (OfMove plan) a b status = ImageAnswers (wanted_move plan) a b status
 
--- the statuses that a command can answer where its words have no fault
-abbrev pub statuses : Command → List ℕ
-statuses (OnRam RunScript) = 0 ∷ 1 ∷ 4 ∷ 5 ∷ 6 ∷ 7 ∷ 8 ∷ 9 ∷ 10 ∷ []
-statuses (OnRam ListRecords) = 0 ∷ 1 ∷ 4 ∷ 6 ∷ 7 ∷ []
-statuses (OnRam (ExtractRecord name)) = 0 ∷ 1 ∷ 4 ∷ 6 ∷ 7 ∷ 10 ∷ []
-statuses (OnRam (EraseRecord name)) = 0 ∷ 1 ∷ 4 ∷ 6 ∷ 7 ∷ 10 ∷ []
-statuses (OnRam ShowLayout) = 0 ∷ 1 ∷ 7 ∷ []
-statuses (OnRam BlankImage) = 0 ∷ 1 ∷ 6 ∷ 7 ∷ []
-statuses (OnRam (MakeImage n)) = 0 ∷ 1 ∷ 6 ∷ 7 ∷ []
-statuses RunBlkScript = 0 ∷ 1 ∷ 4 ∷ 5 ∷ 6 ∷ 7 ∷ 8 ∷ 9 ∷ 10 ∷ []
+-- the statuses that a command on an image can answer where its words have no fault
+abbrev pub ram_statuses : RamCommand → List ℕ
+ram_statuses RunScript = 0 ∷ 1 ∷ 4 ∷ 5 ∷ 6 ∷ 7 ∷ 8 ∷ 9 ∷ 10 ∷ []
+ram_statuses ListRecords = 0 ∷ 1 ∷ 4 ∷ 6 ∷ 7 ∷ []
+ram_statuses (ExtractRecord name) = 0 ∷ 1 ∷ 4 ∷ 6 ∷ 7 ∷ 10 ∷ []
+ram_statuses (EraseRecord name) = 0 ∷ 1 ∷ 4 ∷ 6 ∷ 7 ∷ 10 ∷ []
+ram_statuses ShowLayout = 0 ∷ 1 ∷ 7 ∷ []
+ram_statuses BlankImage = 0 ∷ 1 ∷ 6 ∷ 7 ∷ []
+ram_statuses (MakeImage n) = 0 ∷ 1 ∷ 6 ∷ 7 ∷ []
+
+-- and every command
+abbrev pub statuses : Plan → List ℕ
+statuses (OfRam plan) = ram_statuses plan.command
+statuses (OfBlk layout) = 0 ∷ 1 ∷ 4 ∷ 5 ∷ 6 ∷ 7 ∷ 8 ∷ 9 ∷ 10 ∷ []
+statuses (OfMove plan) = 0 ∷ 1 ∷ 4 ∷ 6 ∷ 7 ∷ []
 
 abbrev pub IsAmong : List ℕ → ℕ → Type 0
 IsAmong all status = list_any (λ n. n == status) all ≡ true
 
 -- what the words answer: a command of its plan, by one of its statuses, or the first fault
 abbrev pub ToolAnswers : Result Plan Stop → Outside → Outside → ℕ → Type 0
-ToolAnswers (Ok plan) a b status = PlanAnswers plan a b status × IsAmong (statuses (command_of plan)) status
+ToolAnswers (Ok plan) a b status = PlanAnswers plan a b status × IsAmong (statuses plan) status
 ToolAnswers (Err s) a b status = FaultAnswers s a b status
 
 -- a command that writes the image only once all else is done; a script on the block store writes as its lines are done
 abbrev pub WritesLast : Result Plan Stop → Type 0
 WritesLast (Ok (OfRam plan)) = ⊤
 WritesLast (Ok (OfBlk layout)) = ⊥
+WritesLast (Ok (OfMove plan)) = ⊤
 WritesLast (Err s) = ⊤
 
 -- it leaves the image as it is on every status but 0, unless the store failed

@@ -1,5 +1,5 @@
 -- The texts that the tool puts, as bytes; each line ends with a newline
-use Rattle.std.specs.Prelude.{ℕ, Bool, ◌&&◌, ◌==◌, if◌then◌else◌, List, [], ◌∷◌, ◌++◌, length, flat_map, zip, codes, decimal, Option, Some, None}
+use Rattle.std.specs.Prelude.{ℕ, Bool, ◌&&◌, ◌==◌, if◌then◌else◌, List, [], ◌∷◌, ◌++◌, length, filter, flat_map, sum_by, zip, codes, decimal, Option, Some, None}
 use Rattle.std.specs.List.{list_all}
 use Rattle.zone_spec.specs.declared.Kind.TheVariants.{Dump, Console, Ftrace, Pmsg}
 use Rattle.zone_spec.specs.declared.ZoneName.{ZoneName}
@@ -14,14 +14,16 @@ use Rattle.zone_spec.specs.declared.Verdict.{Verdict}
 use Rattle.zone_spec.specs.declared.Verdict.TheVariants.{NothingTold, AsTold, Differs}
 use Rattle.zone_spec.specs.declared.Time.{Time}
 use Rattle.zone_spec.specs.declared.params.Params.{Params}
+use Rattle.zone_spec.specs.declared.Name.{Name}
 use Rattle.zone_spec.specs.Layout.{rounded, parity_bytes, ecc_of}
 use Rattle.zone_spec.specs.Reading.{ZoneReading}
 use Rattle.zone_spec.specs.TimeLines.{six_digits}
 use Rattle.zone_spec.specs.Names.{name_text}
-use Rattle.zone_spec.specs.Records.{Saved, Listed, listed_of}
-use Rattle.zone_spec.specs.Notices.{content}
+use Rattle.zone_spec.specs.Records.{Saved, Listed, listed_of, found}
+use Rattle.zone_spec.specs.Notices.{is_in, content}
 use Rattle.zone_spec.specs.Cut.{CutReport}
 use Rattle.session_spec.specs.Report.{ZoneReport}
+use Rattle.session_spec.specs.Moved.{fits}
 use Rattle.grammar_spec.specs.Fields.{Text}
 use Rattle.grammar_spec.specs.Printed.{zone_text}
 
@@ -138,3 +140,25 @@ listing zones =
 -- a record's name, length and content
 abbrev pub extract_text : List Saved → Listed → Text
 extract_text zones r = record_text zones r ++ newline ++ content zones r ++ newline
+
+-- ---- a move
+
+-- the readings that a record's notice counts over: of its zones that were found
+abbrev pub counted : List Saved → Name → List ZoneReading
+counted zones name = flat_map (λ (zone : Saved). found zone.1)
+    (filter (λ (zone : Saved). is_in name zone.0) zones)
+
+-- `moved NAME L corrected X bad Y`, or `left ..` where the record does not fit: the length is that of the content
+-- without its notice, and the counts are there also where there is none
+abbrev pub move_line : Bool → List Saved → Listed → Text
+move_line fit zones r =
+    (if fit then codes "moved " else codes "left ") ++ name_text r.name ++ codes " " ++ decimal (length r.content)
+    ++ codes " corrected " ++ decimal (sum_by (λ (z : ZoneReading). z.corrected) (counted zones r.name))
+    ++ codes " bad " ++ decimal (sum_by (λ (z : ZoneReading). z.bad) (counted zones r.name)) ++ newline
+
+-- `move M to M2 records N`, and a line for each record
+abbrev pub move_text : ℕ → ℕ → List Zone → List Saved → Text
+move_text from to layout zones =
+    codes "move " ++ decimal from ++ codes " to " ++ decimal to ++ codes " records "
+    ++ decimal (length (listed_of zones)) ++ newline
+    ++ flat_map (λ r. move_line (fits layout zones r.name) zones r) (listed_of zones)

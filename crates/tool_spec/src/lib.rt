@@ -17,6 +17,14 @@ pub enum Cause {
     OutOfImage,
     NoRecord,
     NotHere,
+    /// A line of the message log that does not fit in it.
+    TooLong,
+    /// All seats of a shared zone are taken.
+    NoSeat,
+    /// The open appends of a shared zone leave no place for this one.
+    Crowded,
+    /// No ring stands at the place.
+    NoRing,
 }
 
 /// Why a run ends before its work is done.

@@ -1,9 +1,11 @@
 pub mod Effects
 pub mod Sequences
 pub mod Turns
+pub mod Fronts
 pub mod Readings
 pub mod Finding
 pub mod Texts
 pub mod Clearing
 pub mod Contents
 pub mod DumpWrite
+pub mod Called

@@ -27,10 +27,10 @@ no-stop : (xs ys : List ℕ) → AllDigits 10 (xs ++ 46 ∷ ys) → ⊥
 no-stop [] ys h = omega (arith, h.0)
 no-stop (x ∷ xs) ys h = no-stop xs ys h.1
 
-abbrev ending : List ℕ
+abbrev pub ending : List ℕ
 ending = codes ".enc.z"
 
-plain-not-packed : (n : ℕ) (digits : List ℕ) → n < 2 ^ 32 → decimal n ≡ digits ++ ending → ⊥
+pub plain-not-packed : (n : ℕ) (digits : List ℕ) → n < 2 ^ 32 → decimal n ≡ digits ++ ending → ⊥
 plain-not-packed n digits below e =
     let numeral : IsNumeral 10 (decimal n) = (decimal_is_IsNumeral n (omega arith)).0 in
     let numeral' : IsNumeral 10 (digits ++ ending) = rw e at numeral in
@@ -63,7 +63,7 @@ plain-name behind None e h = λ index packed below same. by-flag index packed be
 pub stripped : (n s : List ℕ) (x : List ℕ) → StripsSuffix (FindsTextSuffix n) s x → s ≡ x ++ n
 stripped n s x (k, (kn, front, boundary), rest, len) = front ∙ ap (λ (xs : List ℕ). xs ++ n) (sym rest)
 
-abbrev front : List ℕ
+abbrev pub front : List ℕ
 front = codes "dmesg-pstore_blk-"
 
 -- the dump whose name begins so

@@ -1,5 +1,5 @@
 // A loaded block store.
-ghost use Rattle.std.specs.Prelude.{◌≡◌, ℕ, ◌+◌, ◌-◌, ◌^◌, ◌<◌, ◌≤◌, length, IfOk, IfErr, IfSome, Err, Some, None, is_some, IsTrue};
+ghost use Rattle.std.specs.Prelude.{◌≡◌, ℕ, ◌+◌, ◌-◌, ◌^◌, ◌<◌, ◌≤◌, bytes_eq, length, IfOk, IfErr, IfSome, Err, Some, None, is_some, IsTrue};
 ghost use Rattle.std.specs.List.{find};
 ghost use Rattle.std.specs.Option.{option_map};
 ghost use Rattle.box_io.specs.Outside.{HasCause, Rose};
@@ -9,7 +9,7 @@ ghost use Rattle.blk_spec.specs.States.{append_refusal, append_of, appended, dum
 ghost use Rattle.blk_spec.specs.Rings.{empty_words};
 ghost use Rattle.blk_spec.specs.Writes.{limited as limited_to};
 ghost use Rattle.blk_spec.specs.Reading.{BlkDump};
-ghost use Rattle.blk_spec.specs.Names.{is_name as is_same, dump_name as name_of_dump, dump_content as content_of_dump};
+ghost use Rattle.blk_spec.specs.Names.{is_name as is_same, name_text, dump_name as name_of_dump, dump_content as content_of_dump};
 ghost use Rattle.blk_spec.specs.Dumps.{counter_for as counter_of, counted as counted_of};
 ghost use Rattle.zone_blk.specs.Outcomes.{Ends};
 ghost use Rattle.zone_blk.specs.Loading.{IsReadFault};
@@ -21,7 +21,8 @@ ghost use Rattle.zone_blk.specs.Calls.{RingAnswers, counters_seen};
 use crate::appending::append_ring;
 use crate::dumping::{DumpHeader, write_dump};
 use crate::names::{
-    BlkNames, add_name, dump_content, dump_names, find_dump, find_time, forget_dump,
+    BlkNames, add_name, dump_content, dump_len, dump_names, find_dump, find_time, forget_dump,
+    named,
 };
 use crate::reading::{Dump, greatest_counter, read_dumps, read_ring};
 use crate::writing::write_header;
@@ -146,6 +147,25 @@ fn saved_content(alloc: Global, saved: &Option<Bytes>) -> Result<Bytes, BlkFault
     match saved {
         Some(log) => Ok(Bytes::copy_of(alloc, log.as_slice())?),
         None => Err(BlkFault::NoRecord),
+    }
+}
+
+fn saved_len(saved: &Option<Bytes>) -> Option<u64>
+    ensures { result ≡ option_map length saved.now }
+{
+    match saved {
+        Some(log) => Some(log.len() as u64),
+        None => None,
+    }
+}
+
+fn named_len(dumps: &[Dump], name: BlkName) -> Option<u64>
+    ensures { result ≡ option_map length (option_map content_of_dump
+        (find (λ (d : BlkDump). is_same name (name_of_dump d)) dumps.now)) }
+{
+    match find_dump(dumps, name) {
+        Some(dump) => Some(dump_len(dump)),
+        None => None,
     }
 }
 
@@ -352,6 +372,17 @@ impl Blk {
         }
     }
 
+    /// The length in bytes of the content of a listed record. Takes no memory.
+    pub fn content_len(&self, name: BlkName) -> Option<u64>
+        ensures { result ≡ option_map length (content_of self.now name) }
+    {
+        match name {
+            BlkName::Dump { .. } => named_len(&self.dumps, name),
+            BlkName::Console => saved_len(&self.console.saved),
+            BlkName::Pmsg => saved_len(&self.pmsg.saved),
+        }
+    }
+
     /// The time of the listed dump of this number.
     pub fn time(&self, index: u32) -> Option<BlkTime>
         ensures { result ≡ time_of self.now index }
@@ -368,6 +399,16 @@ impl Blk {
             BlkName::Console => self.console.saved.is_some(),
             BlkName::Pmsg => self.pmsg.saved.is_some(),
         }
+    }
+
+    /// The listed record whose name has this text. Takes no memory.
+    pub fn find(&self, text: &[u8]) -> Option<BlkName>
+        ensures { result ≡ find (λ name. bytes_eq (name_text name) text.now) (names_of self.now) }
+    {
+        // The invariant of a loaded store bounds the numbers of its dumps.
+        let _loaded = &self.layout;
+        let name = named(text)?;
+        if self.lists(name) { Some(name) } else { None }
     }
 
     fn zone_named(&self, name: BlkName) -> BlkZone

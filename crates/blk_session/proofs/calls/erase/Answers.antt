@@ -5,17 +5,17 @@ use Rattle.blk_session.proofs.Operations.{line_ends}
 use Rattle.blk_session.proofs.CallLines.{erase_is, erase_refused}
 use Rattle.blk_session.proofs.calls.erase.Goals as goal
 
-pub returns-in-Ok-Some-clause-done : goal.returns-in-Ok-Some-clause-done
-returns-in-Ok-Some-clause-done g c =
-    line_ends c.args.blk.now.layout (Some c.args.blk.now) (Erase c.args.name.now) (EraseRecord (Some c.in-Ok-Some.name))
-    (erase_is (Some c.args.blk.now) c.args.name.now (Some c.in-Ok-Some.name)
-    (sym c.in-Ok-Some.field-0-is ∙ (rw c.as_slice.ensures at c.in-Ok-Some.ensures)))
+pub returns-in-Some-clause-done : goal.returns-in-Some-clause-done
+returns-in-Some-clause-done g c =
+    line_ends c.args.blk.now.layout (Some c.args.blk.now) (Erase c.args.name.now) (EraseRecord (Some c.in-Some.name))
+    (erase_is (Some c.args.blk.now) c.args.name.now (Some c.in-Some.name)
+    (sym c.in-Some.is ∙ (rw c.as_slice.ensures at c.find.ensures)))
     c.erase_named.result (Some c.erase_named.new.blk) (g.S.Store.holds c.args.store.now)
     (g.S.Store.holds c.erase_named.new.store) (g.S.Store.faults c.args.store.now)
     (g.S.Store.faults c.erase_named.new.store) c.erase_named.ensures.done
 
-pub returns-in-Ok-None-clause-done : goal.returns-in-Ok-None-clause-done
-returns-in-Ok-None-clause-done g c =
+pub returns-in-None-clause-done : goal.returns-in-None-clause-done
+returns-in-None-clause-done g c =
     erase_refused c.args.blk.now c.args.name.now (g.S.Store.holds c.args.store.now)
-    (g.S.Store.faults c.args.store.now) (sym c.in-Ok-None.field-0-is
-    ∙ (rw c.as_slice.ensures at c.in-Ok-None.ensures))
+    (g.S.Store.faults c.args.store.now) (sym c.in-None.is
+    ∙ (rw c.as_slice.ensures at c.find.ensures))

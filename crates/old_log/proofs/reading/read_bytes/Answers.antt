@@ -1,3 +1,4 @@
+-- A log's bytes are read block by block, two blocks at a time as far as they are whole
 use Rattle.std.proofs.Common.{◌≡◌, ◌≤◌, ◌<◌, ℕ, ◌*◌, ◌/◌, refl, subst, ◌∙◌, sym, arith}
 use Rattle.ring_laws.proofs.PartsLaw.{block_some}
 use Rattle.old_log.proofs.Fronts.{below-ceil}
@@ -16,42 +17,21 @@ push_read-requires-clause-block c =
     below-ceil c.args.size c.args.zone.now.block c.loop-b.b (block_some c.args.zone.now c.requires.valid)
     (subst (λ (n : ℕ). c.loop-b.b < n) c.div_ceil-b-end.ensures c.loop-b-test.true)
 
-pub returns-clause-bytes : goal.returns-clause-bytes
-returns-clause-bytes c =
-    let low = c.loop-b.auto.b-end (subst (λ (n : ℕ). 2 * (c.args.size / c.args.zone.now.block / 2) ≤ n)
-    (sym c.div_ceil-b-end.ensures) (loop-end c.args.size c.args.zone.now.block _
-    (block_some c.args.zone.now c.requires.valid) refl)) in
+pub returns : goal.returns
+returns c =
+    let z = c.args.zone.now in
+    let x = c.args.span.now in
+    let n = c.args.size in
+    let b = c.loop-b.b in
+    let some = block_some z c.requires.valid in
+    let low = c.loop-b.auto.b-end (subst (λ (k : ℕ). 2 * (n / z.block / 2) ≤ k)
+    (sym c.div_ceil-b-end.ensures) (loop-end n z.block _ some refl)) in
     let high = c.loop-b-test.false in
-    let last : c.loop-b.b ≡ c.div_ceil-b-end.result = omega (arith, low, high) in
-    whole-bytes c.args.zone.now c.args.span.now c.args.size c.loop-b.b _ c.requires.valid c.loop-b.invariant
-    (last ∙ c.div_ceil-b-end.ensures)
-
-pub returns-clause-corrected : goal.returns-clause-corrected
-returns-clause-corrected c =
-    let low = c.loop-b.auto.b-end (subst (λ (n : ℕ). 2 * (c.args.size / c.args.zone.now.block / 2) ≤ n)
-    (sym c.div_ceil-b-end.ensures) (loop-end c.args.size c.args.zone.now.block _
-    (block_some c.args.zone.now c.requires.valid) refl)) in
-    let high = c.loop-b-test.false in
-    let last : c.loop-b.b ≡ c.div_ceil-b-end.result = omega (arith, low, high) in
-    whole-corrected c.args.zone.now c.args.span.now c.args.size c.loop-b.b _ c.requires.valid c.loop-b.invariant
-    (last ∙ c.div_ceil-b-end.ensures)
-
-pub returns-clause-bad : goal.returns-clause-bad
-returns-clause-bad c =
-    let low = c.loop-b.auto.b-end (subst (λ (n : ℕ). 2 * (c.args.size / c.args.zone.now.block / 2) ≤ n)
-    (sym c.div_ceil-b-end.ensures) (loop-end c.args.size c.args.zone.now.block _
-    (block_some c.args.zone.now c.requires.valid) refl)) in
-    let high = c.loop-b-test.false in
-    let last : c.loop-b.b ≡ c.div_ceil-b-end.result = omega (arith, low, high) in
-    whole-bad c.args.zone.now c.args.span.now c.args.size c.loop-b.b _ c.requires.valid c.loop-b.invariant
-    (last ∙ c.div_ceil-b-end.ensures)
-
-pub returns-clause-few : goal.returns-clause-few
-returns-clause-few c =
-    let low = c.loop-b.auto.b-end (subst (λ (n : ℕ). 2 * (c.args.size / c.args.zone.now.block / 2) ≤ n)
-    (sym c.div_ceil-b-end.ensures) (loop-end c.args.size c.args.zone.now.block _
-    (block_some c.args.zone.now c.requires.valid) refl)) in
-    let high = c.loop-b-test.false in
-    let last : c.loop-b.b ≡ c.div_ceil-b-end.result = omega (arith, low, high) in
-    whole-few c.args.zone.now c.args.span.now c.args.size c.loop-b.b _ c.requires.valid c.loop-b.invariant
-    (last ∙ c.div_ceil-b-end.ensures)
+    let last : b ≡ c.div_ceil-b-end.result = omega (arith, low, high) in
+    let end = last ∙ c.div_ceil-b-end.ensures in
+    record {
+      bytes = whole-bytes z x n b _ c.requires.valid c.loop-b.invariant end;
+      corrected = whole-corrected z x n b _ c.requires.valid c.loop-b.invariant end;
+      bad = whole-bad z x n b _ c.requires.valid c.loop-b.invariant end;
+      few = whole-few z x n b _ c.requires.valid c.loop-b.invariant end;
+    }

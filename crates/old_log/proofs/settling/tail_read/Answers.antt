@@ -1,3 +1,4 @@
+-- The bytes of the last block behind the log
 use Rattle.std.proofs.Common.{ℕ, ◌++◌, List, refl, ap, ◌∙◌, arith}
 use Rattle.old_log.specs.Reads.{bytes_read}
 use Rattle.old_log.proofs.DataFixes.{end-whole, end-block, tail-none, tail-some}
@@ -7,21 +8,20 @@ pub returns-then-size-zone : goal.returns-then-size-zone
 returns-then-size-zone c =
     let z = c.args.zone.now in
     let x = c.args.span.now in
-    let n = c.args.size in
     let r = c.requires in
     let bytes = c.len-len.ensures.bytes in
-    ap (λ (l : List ℕ). bytes_read z x n ++ l) c.new-none.ensures
-    ∙ tail-none z x r.valid r.len bytes n (end-whole z x r.valid r.len bytes n c.if-size-zone.true)
+    ap (λ (l : List ℕ). bytes_read z x c.args.size ++ l) c.new-none.ensures
+    ∙ tail-none z x r.valid r.len bytes c.args.size (end-whole z x r.valid r.len bytes c.args.size c.if-size-zone.true)
 
 pub returns-then-within-eq0 : goal.returns-then-within-eq0
 returns-then-within-eq0 c =
     let z = c.args.zone.now in
     let x = c.args.span.now in
-    let n = c.args.size in
     let r = c.requires in
     let bytes = c.len-len.ensures.bytes in
-    ap (λ (l : List ℕ). bytes_read z x n ++ l) c.new-none.ensures
-    ∙ tail-none z x r.valid r.len bytes n (end-block z x r.valid r.len bytes n r.within c.if-within-eq0.true)
+    ap (λ (l : List ℕ). bytes_read z x c.args.size ++ l) c.new-none.ensures
+    ∙ tail-none z x r.valid r.len bytes c.args.size
+    (end-block z x r.valid r.len bytes c.args.size r.within c.if-within-eq0.true)
 
 pub split_at-requires : goal.split_at-requires
 split_at-requires c =

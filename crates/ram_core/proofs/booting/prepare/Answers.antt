@@ -1,7 +1,8 @@
 use Rattle.std.proofs.Common.{List, get_or, slice_get, ap, ◌∙◌}
 use Rattle.zone_spec.specs.declared.Zone.{Zone}
 use Rattle.zone_params.specs.Laid.{zones_of}
-use Rattle.ram_core.proofs.Preparing.{no_zone, at_place, prepares_next}
+use Rattle.ram_region.proofs.Cutting.{no_zone}
+use Rattle.ram_core.proofs.Preparing.{at_place, prepares_next}
 use Rattle.ram_core.proofs.booting.prepare.Goals as goal
 
 pub add-requires-clause-valid : goal.add-requires-clause-valid

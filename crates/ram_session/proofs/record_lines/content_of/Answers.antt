@@ -5,11 +5,11 @@ use Rattle.ram_session.proofs.record_lines.content_of.Goals as goal
 
 pub returns-in-Ok : goal.returns-in-Ok
 returns-in-Ok c = given_content (saved c.args.logs.now) c.args.name.now c.in-Some.name c.in-Ok.bytes
-    (sym c.in-Some.is ∙ c.in_ok-name.ensures) c.in-Ok.ensures
+    (sym c.in-Some.is ∙ c.named.ensures) c.in-Ok.ensures
 
 pub returns-in-Err-NoRecord : goal.returns-in-Err-NoRecord
 returns-in-Err-NoRecord c = (
   refl,
   given_none (saved c.args.logs.now) c.args.name.now c.in-Some.name
-      (sym c.in-Some.is ∙ c.in_ok-name.ensures) (rw c.in-Err-NoRecord.field-0-is at c.in-Err-NoRecord.ensures),
+      (sym c.in-Some.is ∙ c.named.ensures) (rw c.in-Err-NoRecord.field-0-is at c.in-Err-NoRecord.ensures),
 )

@@ -1,3 +1,4 @@
+-- Each byte that differs is corrected: the loop makes the fixes so far
 use Rattle.std.proofs.Common.{◌≡◌, ◌+◌, ◌<◌, List, ℕ, length, take, slice_range, sym, ◌∙◌, arith, refl, length-take}
 use Rattle.ram_region.specs.CutRegion.{span}
 use Rattle.old_log.proofs.Images.{slice_length}
@@ -11,21 +12,22 @@ loop-j-init c =
 
 pub correct_byte-requires-clause-place : goal.correct_byte-requires-clause-place
 correct_byte-requires-clause-place c =
-    let long = makes-length c.loop-j.invariant c.requires.span in
-    let t = c.loop-j-test.true in
-    let p = c.requires.place in
-    omega (arith, long, t, p)
+    omega (arith, makes-length c.loop-j.invariant c.requires.span, c.loop-j-test.true, c.requires.place)
 
 pub correct_byte-requires-clause-room : goal.correct_byte-requires-clause-room
 correct_byte-requires-clause-room c =
-    let n = c.loop-j.invariant.count in
     let l = fix-length c.args.at (take c.loop-j.j (slice_range (span c.args.spans.now c.args.i) c.args.at
     (c.args.at + length c.args.bytes.now))) (take c.loop-j.j c.args.bytes.now) in
-    let t = c.loop-j-test.true in
-    let r = c.requires.room in
-    let s = c.requires.small in
-    let p = c.requires.place in
-    omega (arith, n, l, t, r, s, p, length-take c.loop-j.j c.args.bytes.now)
+    omega (
+      arith,
+      c.loop-j.invariant.count,
+      l,
+      c.loop-j-test.true,
+      c.requires.room,
+      c.requires.small,
+      c.requires.place,
+      length-take c.loop-j.j c.args.bytes.now,
+    )
 
 pub loop-j-preserved : goal.loop-j-preserved
 loop-j-preserved c =

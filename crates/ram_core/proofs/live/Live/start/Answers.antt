@@ -1,25 +1,11 @@
 use Rattle.std.proofs.Common.{get_or, set, sym, subst, arith}
-use Rattle.zone_spec.specs.declared.Zone.{Zone}
-use Rattle.zone_spec.specs.declared.Kind.TheVariants.{Dump}
 use Rattle.zone_spec.specs.Calls.{CanBegin}
 use Rattle.ram_core.specs.Asks.{ask_seen}
 use Rattle.ram_core.proofs.Running.{free_here, started}
 use Rattle.zone_params.specs.Laid.{zones_of}
 use Rattle.ram_core.proofs.DumpFlights.{flights_begun, flights_bound}
+use Rattle.ram_region.proofs.Cutting.{no_zone}
 use Rattle.ram_core.proofs.live.Live.start.Goals as goal
-
--- what a slice gives outside its length
-abbrev no_zone : Zone
-no_zone = record {
-  name = record { kind = Dump; index = 0 };
-  at = 0;
-  size = 0;
-  cap = 0;
-  blocks = 0;
-  parity = 0;
-  sig = 0;
-  block = 0;
-}
 
 pub start-flies-requires-clause-valid : goal.start-flies-requires-clause-valid
 start-flies-requires-clause-valid c =

@@ -5,24 +5,11 @@ use Rattle.ram_core.specs.declared.zones.Stored.{Stored}
 use Rattle.ram_core.specs.Places.{dump_flight, flies_at}
 use Rattle.ram_core.specs.Storing.{is_next}
 use Rattle.zone_spec.specs.declared.Zone.{Zone}
-use Rattle.zone_spec.specs.declared.Kind.TheVariants.{Dump}
 use Rattle.ram_core.specs.Cursors.{cursor_at, cursor_after}
 use Rattle.ram_core.proofs.Flown.{zone_at, zone_read, can_store, has_parity, dumps, flies_here, flies_set, idle_same, stored_by}
 use Rattle.ram_core.proofs.DumpFlights.{flights_flew, flights_stored}
+use Rattle.ram_region.proofs.Cutting.{no_zone}
 use Rattle.ram_core.proofs.live.Live.store.Goals as goal
-
--- what a slice gives outside its length
-abbrev no_zone : Zone
-no_zone = record {
-  name = record { kind = Dump; index = 0 };
-  at = 0;
-  size = 0;
-  cap = 0;
-  blocks = 0;
-  parity = 0;
-  sig = 0;
-  block = 0;
-}
 
 pub advance-stored-requires-clause-can : goal.advance-stored-requires-clause-can
 advance-stored-requires-clause-can c =

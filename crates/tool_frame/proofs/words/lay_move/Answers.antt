@@ -1,0 +1,12 @@
+use Rattle.std.proofs.Common.{arith}
+use Rattle.tool_frame.proofs.FewWords.{few_words}
+use Rattle.tool_frame.proofs.words.lay_move.Goals as goal
+
+pub overflow_cast-second : goal.overflow_cast-second
+overflow_cast-second c = omega (arith, few_words c.args.params.now c.in-Ok.from c.in-Ok.ensures)
+
+pub overflow_add-second : goal.overflow_add-second
+overflow_add-second c = omega (arith, few_words c.args.params.now c.in-Ok.from c.in-Ok.ensures, c.requires)
+
+pub overflow_add-second-2 : goal.overflow_add-second-2
+overflow_add-second-2 c = omega (arith, few_words c.args.params.now c.in-Ok.from c.in-Ok.ensures, c.requires)
