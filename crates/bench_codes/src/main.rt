@@ -3,13 +3,10 @@
 #![tactic(auto)]
 
 ghost use Rattle.std.specs.Prelude.{◌≡◌, ◌≤◌, length};
-ghost use Rattle.kmsg_dump.specs.Kept.{IsLine};
 
 use arrayvec::ArrayVec;
-use kmsg_dump::KLog;
 use rs_encode::Parity;
 use rs_errors::{Decoded, Fix, decode, decode_with};
-use std::alloc::{AllocError, Global};
 use std::rt::Clock;
 use std::time::Instant;
 use std::{env, io};
@@ -193,33 +190,6 @@ fn time(rt: &(impl Print + Clock), r: usize, rounds: u32) -> io::Result<()>
     Ok(())
 }
 
-// A line of 80 bytes of the message log, with its newline.
-fn log_line() -> [u8; 79]
-    ensures { IsLine result }
-{
-    [b'x'; 79]
-}
-
-/// How many of so many lines a message log of 131072 bytes takes.
-fn push_many(alloc: Global, rounds: u32) -> Result<u32, AllocError> {
-    let line = log_line();
-    let mut log = KLog::new(alloc, 131_072)?;
-    let mut pushed = 0u32;
-    for _ in 0..rounds {
-        if log.push(&line) {
-            pushed = pushed.wrapping_add(1);
-        }
-    }
-    Ok(pushed)
-}
-
-fn time_log(rt: &(impl Print + Clock), alloc: Global, rounds: u32) -> io::Result<()> {
-    let start = Instant::now(rt)?;
-    let pushed = push_many(alloc, rounds)?;
-    let micros = start.elapsed(rt)?.as_micros();
-    println!(rt; "message log: {pushed} lines of 80 bytes in {micros} us")
-}
-
 fn main(rt: HostRuntime) -> io::Result<()> {
     if agrees(16) && agrees(127) && agrees(7) {
         println!(rt; "the answers agree")?;
@@ -230,7 +200,6 @@ fn main(rt: HostRuntime) -> io::Result<()> {
         let rounds: u32 = word.parse().unwrap_or(0);
         time(&rt, 16, rounds)?;
         time(&rt, 127, rounds)?;
-        time_log(&rt, rt.alloc(), rounds)?;
     }
     Ok(())
 }
