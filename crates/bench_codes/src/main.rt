@@ -2,7 +2,7 @@
 //! With a number of rounds as its argument it times the work.
 #![tactic(auto)]
 
-ghost use Rattle.std.specs.Prelude.{◌≡◌, ◌≤◌, length};
+ghost use Rattle.std.specs.Prelude.{◌≡◌, ◌≤◌, length, IfOk};
 ghost use Rattle.kmsg_dump.specs.Kept.{IsLine};
 
 use arrayvec::ArrayVec;
@@ -193,16 +193,18 @@ fn time(rt: &(impl Print + Clock), r: usize, rounds: u32) -> io::Result<()>
     Ok(())
 }
 
-// A line of 80 bytes of the message log, with its newline.
-fn log_line() -> [u8; 79]
-    ensures { IsLine result }
+// A line of 80 bytes of the message log, without its newline.
+#[tactic(auto, using(crate::proofs::LogLine::letters_line))]
+fn log_line(alloc: Global) -> Result<Vec<u8>, AllocError>
+    ensures { IfOk result (λ line. IsLine line.items) }
 {
-    [b'x'; 79]
+    let line = Vec::from_elem(alloc, b'x', 79)?;
+    Ok(line)
 }
 
 /// How many of so many lines a message log of 131072 bytes takes.
 fn push_many(alloc: Global, rounds: u32) -> Result<u32, AllocError> {
-    let line = log_line();
+    let line = log_line(alloc)?;
     let mut log = KLog::new(alloc, 131_072)?;
     let mut pushed = 0u32;
     for _ in 0..rounds {

@@ -1,3 +1,4 @@
+mod Crashes
 mod Kernels
 pub mod Sound
 pub mod Steps
