@@ -7,3 +7,4 @@ pub mod HeadlineReads
 pub mod ScriptEnds
 pub mod WorkEnds
 pub mod Completed
+pub mod MoveEnds

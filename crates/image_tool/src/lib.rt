@@ -22,6 +22,8 @@ mod fault_tests;
 #[cfg(test)]
 mod generator_tests;
 #[cfg(test)]
+mod move_tests;
+#[cfg(test)]
 mod record_tests;
 #[cfg(test)]
 mod crash_tests;

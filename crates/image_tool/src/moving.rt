@@ -1,5 +1,9 @@
 // The move of an image to other parameters.
 ghost use Rattle.std.specs.Prelude.{◌≡◌, ◌≤◌, ℕ, List, Option, IfOk, IfErr};
+ghost use Rattle.zone_spec.specs.Layout.{rounded};
+ghost use Rattle.zone_params.specs.Laid.{params_of, zones_of};
+ghost use Rattle.session_spec.specs.Moved.{fitting, moved as moved_state};
+ghost use Rattle.old_log.specs.Saving.{saved};
 ghost use Rattle.tool_spec.specs.Commands.{OfMove, wanted_move};
 ghost use Rattle.tool_spec.specs.PlanAnswers.{statuses};
 ghost use Rattle.tool_spec.specs.Answers.{outside};
@@ -17,7 +21,10 @@ use tool_frame::{Stop, save};
 use zone_params::types::Layout;
 
 // The image of this layout with the logs of the records that fit.
-fn moved(alloc: Global, layout: Layout, mut logs: Logs) -> Result<Off, AllocError> {
+fn moved(alloc: Global, layout: Layout, mut logs: Logs) -> Result<Off, AllocError>
+    ensures { IfOk result (λ off. off.image ≡ (moved_state (zones_of layout) (rounded (params_of layout).mem)
+        (fitting (zones_of layout) (saved logs))).image) }
+{
     forget_unfit(alloc, &mut logs, &layout)?;
     Off::rebuilt(alloc, layout, &logs)
 }

@@ -225,8 +225,10 @@ no_turn None p e = refl
 no_turn (Some f) p e = let n : None ≡ Some f = sym e in cc
 
 begun_turn : (z : Zone) (log : List ℕ) (live : LiveZone) (o : Option Flight) (t : Bool) → live.flight ≡ None
-    → (flies_dump (cond t live (record live { flight = Some (record
-    { image = live.image; call = Append log; made = 0 }) })).flight && not (is_some o)) ≡ false
+    → (flies_dump (cond t live (record live {
+      flight = Some (record
+          { image = live.image; call = Append log; made = 0 });
+    })).flight && not (is_some o)) ≡ false
 begun_turn z log live o true e = no_turn live.flight o e
 begun_turn z log live o false e = refl
 

@@ -47,12 +47,12 @@ start-flies-requires-clause-can c =
 pub invariant_of-self : goal.invariant_of-self
 invariant_of-self c = (
   (log_started _ c.args.self.now c.args.i c.args.log _ c.zones.result.now no_zone c.all.result.now c.index-all-i.result
-    c.index_mut.result.now c.start-flies.new.held c.self.view_is c.self.invariant.0 c.len-len.ensures.bytes c.requires.within c.requires.blank c.zones.ensures.value c.all.ensures c.index-all-i.is c.index_mut.ensures.value refl
-    c.start-flies.ensures.told c.start-flies.ensures.flies c.start-flies.ensures.begun).0,
+      c.index_mut.result.now c.start-flies.new.held c.self.view_is c.self.invariant.0 c.len-len.ensures.bytes c.requires.within c.requires.blank c.zones.ensures.value c.all.ensures c.index-all-i.is c.index_mut.ensures.value refl
+      c.start-flies.ensures.told c.start-flies.ensures.flies c.start-flies.ensures.begun).0,
   c.self.invariant.1,
   c.self.invariant.2,
   (let f = (blank_here _ c.args.self.now c.args.i c.args.log c.zones.result.now no_zone c.all.result.now c.index-all-i.result
-    c.index_mut.result.now c.self.view_is c.self.invariant.0 c.len-len.ensures.bytes c.requires.within c.requires.blank c.zones.ensures.value c.all.ensures c.index-all-i.is c.index_mut.ensures.value) in
+      c.index_mut.result.now c.self.view_is c.self.invariant.0 c.len-len.ensures.bytes c.requires.within c.requires.blank c.zones.ensures.value c.all.ensures c.index-all-i.is c.index_mut.ensures.value) in
       flights_begun _ c.self.inside.zones.items c.args.i (get_or c.zones.result.now c.args.i no_zone)
       c.index_mut.result.now c.start-flies.new.held _ _ _ f.1 f.2 f.0.idle c.self.invariant.3
       c.start-flies.ensures.started c.dump_flight.ensures),
