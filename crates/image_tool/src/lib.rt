@@ -17,13 +17,13 @@ pub use work::run;
 #[cfg(test)]
 mod blk_tests;
 #[cfg(test)]
+mod crash_tests;
+#[cfg(test)]
 mod fault_tests;
 #[cfg(test)]
 mod generator_tests;
 #[cfg(test)]
 mod record_tests;
-#[cfg(test)]
-mod crash_tests;
 #[cfg(test)]
 mod session_tests;
 #[cfg(test)]
