@@ -1,0 +1,6 @@
+pub mod Codes
+pub mod Blank
+pub mod Filled
+pub mod Counts
+pub mod Moved
+pub mod Listed

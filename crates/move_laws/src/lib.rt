@@ -1,0 +1,36 @@
+//! The laws of the move: an image under new parameters reads as the old one did. Each law is a function whose contract
+//! it is.
+#![tactic(auto)]
+
+ghost use Rattle.move_laws.specs.Moves.{BlankZoneIsToldNothing, MovedImageIsSound, MovedZonesAreTold, MovedImageReads, MovedZonesRead};
+ghost use Rattle.move_laws.specs.Listed.{FittingListsWhatFits};
+
+/// A zone of zeros is sound after a boot, in no flight, and told nothing.
+pub fn blank_zone_is_told_nothing()
+    ensures { BlankZoneIsToldNothing }
+{}
+
+/// A moved image makes a sound state.
+pub fn moved_image_is_sound()
+    ensures { MovedImageIsSound }
+{}
+
+/// Each zone of a moved image is told the log that was found of it, or nothing, and stands as at its stop, with no cut.
+pub fn moved_zones_are_told()
+    ensures { MovedZonesAreTold }
+{}
+
+/// Each zone of a moved image reads the log that was found of it, or nothing, with nothing corrected and nothing bad.
+pub fn moved_image_reads()
+    ensures { MovedImageReads }
+{}
+
+/// After damage each zone of a moved image that is within bounds reads the log that was found of it, or nothing.
+pub fn moved_zones_read()
+    ensures { MovedZonesRead }
+{}
+
+/// The saved logs that a move carries over list the records that fit, as they were listed, and no other.
+pub fn fitting_lists_what_fits()
+    ensures { FittingListsWhatFits }
+{}
