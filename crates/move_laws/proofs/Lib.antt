@@ -4,3 +4,4 @@ pub mod Filled
 pub mod Counts
 pub mod Moved
 pub mod Listed
+pub mod Order

@@ -1,11 +1,46 @@
--- What a move carries over: the records that fit
-use Rattle.std.specs.Prelude.{◌≡◌, List, filter}
+-- What a move carries over: the records that fit, and no other
+use Rattle.std.specs.Prelude.{◌≡◌, ℕ, ◌<◌, List, [], ◌∷◌, length, map, filter, flat_map, slice_get, Some}
 use Rattle.zone_spec.specs.declared.Zone.{Zone}
-use Rattle.zone_spec.specs.Records.{Saved, Listed, listed_of}
-use Rattle.session_spec.specs.Moved.{fits, fitting}
+use Rattle.zone_spec.specs.declared.ZoneName.{ZoneName}
+use Rattle.zone_spec.specs.Reading.{ZoneReading}
+use Rattle.zone_spec.specs.Records.{Saved, Listed, found, listed_of}
+use Rattle.zone_spec.specs.Layouts.{IsLayout}
+use Rattle.session_spec.specs.Boot.{booted}
+use Rattle.session_spec.specs.Erasures.{saved_logs}
+use Rattle.session_spec.specs.Moved.{fits, fitting, found_of, moved}
+use Rattle.move_laws.specs.Moves.{LogsFit}
 
 -- the logs that a move carries over list the records that fit, in their order, each with its name, content
 -- and time, and no other
 abbrev pub FittingListsWhatFits : Type 0
 FittingListsWhatFits = (layout : List Zone) (zones : List Saved)
     → listed_of (fitting layout zones) ≡ filter (λ (r : Listed). fits layout zones r.name) (listed_of zones)
+
+-- a log beside the name of its zone
+abbrev pub named : ZoneName → ZoneReading → ZoneName × List ℕ
+named name r = (name, r.log)
+
+-- at most one reading, and that of a log with bytes
+abbrev pub IsOneLog : List ZoneReading → Type 0
+IsOneLog [] = Unit {0}
+IsOneLog (r ∷ []) = 0 < length r.log
+IsOneLog (r ∷ s ∷ rs) = ⊥
+
+-- a layout takes all saved logs in their order, at most one of them in each zone
+pub record TakesInOrder (layout : List Zone) (zones : List Saved) : Type 0 where
+  pub one : (i : ℕ) (z : Zone) → slice_get layout i ≡ Some z → IsOneLog (found_of zones z)
+  pub order : flat_map (λ (z : Zone). map (named z.name) (found_of zones z)) layout
+      ≡ flat_map (λ (zone : Saved). map (named zone.0.name) (found zone.1)) zones
+
+-- then a boot of the moved image lists the records of these logs
+abbrev pub MovedImageLists : Type 0
+MovedImageLists = (layout : List Zone) (mem : ℕ) (zones : List Saved) → IsLayout layout mem → LogsFit layout zones
+    → TakesInOrder layout zones
+    → listed_of (saved_logs layout (booted layout (moved layout mem zones))) ≡ listed_of zones
+
+-- so after a move a boot lists the records that fit, as they were listed, and no other
+abbrev pub MoveListsWhatFits : Type 0
+MoveListsWhatFits = (layout : List Zone) (mem : ℕ) (zones : List Saved) → IsLayout layout mem
+    → LogsFit layout (fitting layout zones) → TakesInOrder layout (fitting layout zones)
+    → listed_of (saved_logs layout (booted layout (moved layout mem (fitting layout zones))))
+    ≡ filter (λ (r : Listed). fits layout zones r.name) (listed_of zones)

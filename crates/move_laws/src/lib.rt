@@ -3,7 +3,7 @@
 #![tactic(auto)]
 
 ghost use Rattle.move_laws.specs.Moves.{BlankZoneIsToldNothing, MovedImageIsSound, MovedZonesAreTold, MovedImageReads, MovedZonesRead};
-ghost use Rattle.move_laws.specs.Listed.{FittingListsWhatFits};
+ghost use Rattle.move_laws.specs.Listed.{FittingListsWhatFits, MovedImageLists, MoveListsWhatFits};
 
 /// A zone of zeros is sound after a boot, in no flight, and told nothing.
 pub fn blank_zone_is_told_nothing()
@@ -33,4 +33,14 @@ pub fn moved_zones_read()
 /// The saved logs that a move carries over list the records that fit, as they were listed, and no other.
 pub fn fitting_lists_what_fits()
     ensures { FittingListsWhatFits }
+{}
+
+/// A boot of a moved image lists the records of the logs that its zones were told.
+pub fn moved_image_lists()
+    ensures { MovedImageLists }
+{}
+
+/// A boot after a move lists the records that fit, as they were listed, and no other.
+pub fn move_lists_what_fits()
+    ensures { MoveListsWhatFits }
 {}
