@@ -5,3 +5,4 @@ pub mod Counts
 pub mod Moved
 pub mod Listed
 pub mod Order
+pub mod Fits

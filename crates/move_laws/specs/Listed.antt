@@ -1,10 +1,12 @@
 -- What a move carries over: the records that fit, and no other
 use Rattle.std.specs.Prelude.{◌≡◌, ℕ, ◌<◌, List, [], ◌∷◌, length, map, filter, flat_map, slice_get, Some}
+use Rattle.std.specs.List.{AllByRecursion}
 use Rattle.zone_spec.specs.declared.Zone.{Zone}
 use Rattle.zone_spec.specs.declared.ZoneName.{ZoneName}
+use Rattle.zone_spec.specs.Parts.{AreBytes}
 use Rattle.zone_spec.specs.Reading.{ZoneReading}
 use Rattle.zone_spec.specs.Records.{Saved, Listed, found, listed_of}
-use Rattle.zone_spec.specs.Layouts.{IsLayout}
+use Rattle.zone_spec.specs.Layouts.{zone_place, IsLayout}
 use Rattle.session_spec.specs.Boot.{booted}
 use Rattle.session_spec.specs.Erasures.{saved_logs}
 use Rattle.session_spec.specs.Moved.{fits, fitting, found_of, moved}
@@ -15,6 +17,23 @@ use Rattle.move_laws.specs.Moves.{LogsFit}
 abbrev pub FittingListsWhatFits : Type 0
 FittingListsWhatFits = (layout : List Zone) (zones : List Saved)
     → listed_of (fitting layout zones) ≡ filter (λ (r : Listed). fits layout zones r.name) (listed_of zones)
+
+-- each zone of a layout is the one that its name finds
+abbrev pub AreNamed : List Zone → Type 0
+AreNamed layout = (i : ℕ) (z : Zone) → slice_get layout i ≡ Some z → zone_place layout z.name ≡ Some i
+
+-- a log of bytes, and of one at least
+abbrev pub IsOfBytes : ZoneReading → Type 0
+IsOfBytes r = (0 < length r.log) × AreBytes r.log
+
+-- so are those that were found of saved zones
+abbrev pub HaveBytes : List Saved → Type 0
+HaveBytes zones = (i : ℕ) (zone : Saved) → slice_get zones i ≡ Some zone → AllByRecursion IsOfBytes (found zone.1)
+
+-- then the logs that a move carries over fit their zones
+abbrev pub FittingLogsFit : Type 0
+FittingLogsFit = (layout : List Zone) (zones : List Saved) → AreNamed layout → HaveBytes zones
+    → LogsFit layout (fitting layout zones)
 
 -- a log beside the name of its zone
 abbrev pub named : ZoneName → ZoneReading → ZoneName × List ℕ

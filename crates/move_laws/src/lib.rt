@@ -3,7 +3,7 @@
 #![tactic(auto)]
 
 ghost use Rattle.move_laws.specs.Moves.{BlankZoneIsToldNothing, MovedImageIsSound, MovedZonesAreTold, MovedImageReads, MovedZonesRead};
-ghost use Rattle.move_laws.specs.Listed.{FittingListsWhatFits, MovedImageLists, MoveListsWhatFits};
+ghost use Rattle.move_laws.specs.Listed.{FittingListsWhatFits, FittingLogsFit, MovedImageLists, MoveListsWhatFits};
 
 /// A zone of zeros is sound after a boot, in no flight, and told nothing.
 pub fn blank_zone_is_told_nothing()
@@ -33,6 +33,11 @@ pub fn moved_zones_read()
 /// The saved logs that a move carries over list the records that fit, as they were listed, and no other.
 pub fn fitting_lists_what_fits()
     ensures { FittingListsWhatFits }
+{}
+
+/// The logs that a move carries over fit the zones of their names.
+pub fn fitting_logs_fit()
+    ensures { FittingLogsFit }
 {}
 
 /// A boot of a moved image lists the records of the logs that its zones were told.
