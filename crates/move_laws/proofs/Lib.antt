@@ -6,3 +6,5 @@ pub mod Moved
 pub mod Listed
 pub mod Order
 pub mod Fits
+pub mod Places
+pub mod Saved

@@ -18,12 +18,14 @@ use Rattle.session_spec.specs.Zones.{zone_bytes}
 use Rattle.session_spec.specs.States.{OffZone}
 use Rattle.session_spec.specs.Boot.{booted}
 use Rattle.session_spec.specs.Erasures.{saved_logs}
-use Rattle.session_spec.specs.Moved.{found_of, moved}
+use Rattle.session_spec.specs.Moved.{found_of, fitting, moved}
 use Rattle.session_laws.proofs.Lists.{get-below}
 use Rattle.move_laws.specs.Moves.{log_of, LogsFit, ReadsLog}
 use Rattle.move_laws.specs.Listed.{named, IsOneLog, TakesInOrder, MovedImageLists, MoveListsWhatFits}
 use Rattle.move_laws.proofs.Moved.{moved-reads}
 use Rattle.move_laws.proofs.Listed.{fitting_lists_what_fits}
+use Rattle.move_laws.proofs.Fits.{fitting_logs_fit}
+use Rattle.move_laws.proofs.Places.{fitting_takes_in_order}
 
 -- ---- the records are those of the named logs
 
@@ -141,5 +143,7 @@ moved_image_lists layout mem zones lies fit takes =
     listed_is (saved_logs layout (booted layout off)) ∙ ap listed_named same ∙ sym (listed_is zones)
 
 pub move_lists_what_fits : MoveListsWhatFits
-move_lists_what_fits layout mem zones lies fit takes =
-    moved_image_lists layout mem _ lies fit takes ∙ fitting_lists_what_fits layout zones
+move_lists_what_fits layout mem zones lies are bytes order =
+    moved_image_lists layout mem (fitting layout zones) lies (fitting_logs_fit layout zones are bytes)
+    (fitting_takes_in_order layout zones are bytes order)
+    ∙ fitting_lists_what_fits layout zones

@@ -7,6 +7,7 @@ use Rattle.zone_spec.specs.Parts.{AreBytes}
 use Rattle.zone_spec.specs.Reading.{ZoneReading}
 use Rattle.zone_spec.specs.Records.{Saved, Listed, found, listed_of}
 use Rattle.zone_spec.specs.Layouts.{zone_place, IsLayout}
+use Rattle.session_spec.specs.States.{OffState}
 use Rattle.session_spec.specs.Boot.{booted}
 use Rattle.session_spec.specs.Erasures.{saved_logs}
 use Rattle.session_spec.specs.Moved.{fits, fitting, found_of, moved}
@@ -57,9 +58,36 @@ MovedImageLists = (layout : List Zone) (mem : ℕ) (zones : List Saved) → IsLa
     → TakesInOrder layout zones
     → listed_of (saved_logs layout (booted layout (moved layout mem zones))) ≡ listed_of zones
 
+-- those of the saved zones that the layout has come in its order
+abbrev pub ComeInOrder : List Zone → List Saved → Type 0
+ComeInOrder layout zones = (i j m n : ℕ) (a b : Saved) → i < j → slice_get zones i ≡ Some a → slice_get zones j ≡ Some b
+    → zone_place layout a.0.name ≡ Some m → zone_place layout b.0.name ≡ Some n
+    → m < n
+
+-- then the layout takes the logs that a move carries over in their order
+abbrev pub FittingTakesInOrder : Type 0
+FittingTakesInOrder = (layout : List Zone) (zones : List Saved) → AreNamed layout → HaveBytes zones
+    → ComeInOrder layout zones
+    → TakesInOrder layout (fitting layout zones)
+
 -- so after a move a boot lists the records that fit, as they were listed, and no other
 abbrev pub MoveListsWhatFits : Type 0
-MoveListsWhatFits = (layout : List Zone) (mem : ℕ) (zones : List Saved) → IsLayout layout mem
-    → LogsFit layout (fitting layout zones) → TakesInOrder layout (fitting layout zones)
+MoveListsWhatFits = (layout : List Zone) (mem : ℕ) (zones : List Saved) → IsLayout layout mem → AreNamed layout
+    → HaveBytes zones → ComeInOrder layout zones
     → listed_of (saved_logs layout (booted layout (moved layout mem (fitting layout zones))))
     ≡ filter (λ (r : Listed). fits layout zones r.name) (listed_of zones)
+
+-- the logs that a boot finds are of bytes, and of one at least
+abbrev pub BootsHaveBytes : Type 0
+BootsHaveBytes = (layout : List Zone) (off : OffState) → AreBytes off.image
+    → HaveBytes (saved_logs layout (booted layout off))
+
+-- so for a boot under an old layout, a move to a new one whose zones have names of their own and come in the
+-- old one's order, and a boot of what it makes
+abbrev pub MoveKeepsRecords : Type 0
+MoveKeepsRecords = (old new : List Zone) (mem : ℕ) (off : OffState) → IsLayout new mem → AreNamed new
+    → AreBytes off.image
+    → let saved : List Saved = saved_logs old (booted old off) in
+    ComeInOrder new saved
+    → listed_of (saved_logs new (booted new (moved new mem (fitting new saved))))
+    ≡ filter (λ (r : Listed). fits new saved r.name) (listed_of saved)

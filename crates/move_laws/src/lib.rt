@@ -3,7 +3,7 @@
 #![tactic(auto)]
 
 ghost use Rattle.move_laws.specs.Moves.{BlankZoneIsToldNothing, MovedImageIsSound, MovedZonesAreTold, MovedImageReads, MovedZonesRead};
-ghost use Rattle.move_laws.specs.Listed.{FittingListsWhatFits, FittingLogsFit, MovedImageLists, MoveListsWhatFits};
+ghost use Rattle.move_laws.specs.Listed.{FittingListsWhatFits, FittingLogsFit, FittingTakesInOrder, MovedImageLists, MoveListsWhatFits, BootsHaveBytes, MoveKeepsRecords};
 
 /// A zone of zeros is sound after a boot, in no flight, and told nothing.
 pub fn blank_zone_is_told_nothing()
@@ -40,6 +40,11 @@ pub fn fitting_logs_fit()
     ensures { FittingLogsFit }
 {}
 
+/// They come to those zones in their order, at most one to a zone.
+pub fn fitting_takes_in_order()
+    ensures { FittingTakesInOrder }
+{}
+
 /// A boot of a moved image lists the records of the logs that its zones were told.
 pub fn moved_image_lists()
     ensures { MovedImageLists }
@@ -48,4 +53,14 @@ pub fn moved_image_lists()
 /// A boot after a move lists the records that fit, as they were listed, and no other.
 pub fn move_lists_what_fits()
     ensures { MoveListsWhatFits }
+{}
+
+/// The logs that a boot finds are of bytes, and of one at least.
+pub fn boots_have_bytes()
+    ensures { BootsHaveBytes }
+{}
+
+/// A boot of what a move makes of an image lists the records of that image that fit, and no other.
+pub fn move_keeps_records()
+    ensures { MoveKeepsRecords }
 {}
