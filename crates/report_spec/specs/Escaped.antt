@@ -1,9 +1,9 @@
 -- The text in which a page shows bytes: printable ASCII, tab and newline as they are; each other byte and the backslash
 -- as `\x` and two digits, as /dev/kmsg shows them (kernel/printk/printk.c, append_char); and what is markup as a
 -- reference
-use Rattle.std.specs.Prelude.{◌≡◌, ◌≢◌, ℕ, ◌+◌, ◌/◌, ◌%◌, ◌<◌, Bool, ◌&&◌, ◌||◌, not, if◌then◌else◌, ◌==◌, nat_le, nat_lt, List, [], ◌∷◌, ◌++◌, codes, flat_map, All, IsTrue}
-use Rattle.std.specs.List.{starts_with, list_any}
-use Rattle.std.specs.Prelude.{nat_eq}
+use Rattle.std.specs.Prelude.{◌≡◌, ℕ, ◌+◌, ◌/◌, ◌%◌, Bool, true, ◌&&◌, ◌||◌, not, if◌then◌else◌, ◌==◌, nat_le, nat_lt, List, [], ◌∷◌, codes, flat_map}
+use Rattle.std.specs.List.{list_all, list_any}
+use Rattle.zone_spec.specs.TimeLines.{begins_with}
 
 -- whether a byte is shown as it is, or as a reference
 abbrev pub is_plain : ℕ → Bool
@@ -30,18 +30,18 @@ escaped_byte b =
 unfoldable pub escaped : List ℕ → List ℕ
 escaped bytes = flat_map escaped_byte bytes
 
--- a byte that can begin or end no tag and no attribute's value, and that a page shows
-abbrev pub IsHarmless : ℕ → Type 0
-IsHarmless b = IsTrue (((b == 9) || (b == 10) || (nat_le 32 b && nat_lt b 127))
-    && not ((b == 60) || (b == 62) || (b == 34) || (b == 39)))
+-- whether a page shows a byte, and it can begin or end no tag and no attribute's value
+abbrev pub is_harmless : ℕ → Bool
+is_harmless b = ((b == 9) || (b == 10) || (nat_le 32 b && nat_lt b 127))
+    && not ((b == 60) || (b == 62) || (b == 34) || (b == 39))
 
--- text in which each ampersand begins one of the references
-abbrev pub AreReferences : List ℕ → Type 0
-AreReferences [] = Unit {0}
-AreReferences (b ∷ bs) =
-    (b ≡ 38 → IsTrue (list_any (λ reference. starts_with nat_eq (b ∷ bs) reference) references)) × AreReferences bs
+-- whether each ampersand of a text begins one of the references
+abbrev pub are_references : List ℕ → Bool
+are_references [] = true
+are_references (b ∷ bs) =
+    (not (b == 38) || list_any (λ reference. begins_with reference (b ∷ bs)) references) && are_references bs
 
 -- text without markup, all of it visible
 pub record IsText (text : List ℕ) : Type 0 where
-  pub harmless : All IsHarmless text
-  pub references : AreReferences text
+  pub harmless : list_all is_harmless text ≡ true
+  pub references : are_references text ≡ true
