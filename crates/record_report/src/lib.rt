@@ -9,3 +9,6 @@ pub use parts::ZoneParts;
 pub use records::RecordReport;
 pub use report::{Report, report_of};
 pub use report_spec::PartState;
+
+#[cfg(test)]
+mod tests;

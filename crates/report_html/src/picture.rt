@@ -55,23 +55,23 @@ fn run(
 ) -> Result<(), AllocError>
     ensures { OnOk result (foreigns pieces.new.items ≡ foreigns pieces.old.items) }
 {
-    let block = u64::from(zone.block);
-    let at = u64::from(zone.at).saturating_add(block.saturating_mul(from).saturating_add(12));
+    let (block, cap) = (u64::from(zone.block), u64::from(zone.cap));
+    let (start, end) = (
+        block.saturating_mul(from).min(cap),
+        block.saturating_mul(to).min(cap),
+    );
+    let at = u64::from(zone.at).saturating_add(start).saturating_add(12);
     own(pieces, "<rect class=\"")?;
     own(pieces, part_class(state))?;
     field(pieces, "\" y=\"30\" height=\"70\" x=\"", at)?;
-    field(
-        pieces,
-        "\" width=\"",
-        block.saturating_mul(to.saturating_sub(from)),
-    )?;
+    field(pieces, "\" width=\"", end.saturating_sub(start))?;
     own(pieces, "\"><title>")?;
     zone_name(pieces, zone)?;
     field(pieces, ": blocks ", from)?;
     field(pieces, " up to ", to)?;
     own(pieces, ", ")?;
     own(pieces, part_class(state))?;
-    if let Some(PartState::Read(n)) = state {
+    if let Some(PartState::Read(n @ 1..)) = state {
         field(pieces, ", bytes corrected in each: ", u64::from(n))?;
     }
     own(pieces, "</title></rect>\n")
