@@ -17,8 +17,10 @@ use zone_spec::{Name, Time};
 const HEAD: &str = "<!doctype html>\n<html lang=\"en\">\n<head>\n<meta charset=\"utf-8\">\n\
 <meta http-equiv=\"Content-Security-Policy\" content=\"default-src 'none'; style-src 'unsafe-inline'\">\n\
 <title>Crash log report</title>\n<style>\n\
-:root { color-scheme: light dark; --fg: #1b1b1b; --bg: #fdfdfd; --clean: #4a8f5b; --corrected: #d29a1d; --bad: #c0392b; --unused: #c9ced4; }\n\
-@media (prefers-color-scheme: dark) { :root { --fg: #e4e4e4; --bg: #17191c; --clean: #58b072; --corrected: #e0b04a; --bad: #e4604f; --unused: #3b4148; } }\n\
+:root { color-scheme: light dark; --fg: #1b1b1b; --bg: #fdfdfd; \
+--clean: #4a8f5b; --corrected: #d29a1d; --bad: #c0392b; --unused: #c9ced4; }\n\
+@media (prefers-color-scheme: dark) { :root { --fg: #e4e4e4; --bg: #17191c; \
+--clean: #58b072; --corrected: #e0b04a; --bad: #e4604f; --unused: #3b4148; } }\n\
 body { font: 15px/1.5 system-ui, sans-serif; color: var(--fg); background: var(--bg); margin: 2rem; }\n\
 svg { width: 100%; height: 120px; }\n.clean, .found { fill: var(--clean); }\n.corrected { fill: var(--corrected); }\n\
 .bad, .invalid { fill: var(--bad); }\n.unused, .empty, .unsigned { fill: var(--unused); }\n\
@@ -121,8 +123,8 @@ fn page<'a>(
     Ok(pieces)
 }
 
-/// The page of a report, by its layout: UTF-8, of which all bytes that come from the image or the title are escaped, and
-/// so make no markup.
+/// The page of a report, by its layout, in ASCII. All bytes that come from the image or the title are escaped, and so
+/// make no markup.
 pub fn html(
     alloc: Global,
     title: &[u8],

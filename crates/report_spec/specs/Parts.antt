@@ -17,8 +17,8 @@ zone_bytes z image = slice_range image z.at (z.at + z.size)
 abbrev pub part_state : PartReading → PartState
 part_state reading = if reading.bad == 0 then Read reading.corrected else Bad
 
--- the states of the header, and of the blocks that hold bytes of the log, from block 0 on: those that begin below size in a
--- zone that was found. All further blocks are unused
+-- the states of the header, and of the blocks that hold bytes of the log, from block 0 on: those that begin below
+-- size in a zone that was found. All further blocks are unused
 pub record PartStates : Type 0 where
   pub header : PartState
   pub blocks : List PartState
