@@ -118,7 +118,8 @@ new_shape found z rest h =
     neither false true = refl
     neither false false = refl
 
-    each : (x : Zone) → not (has_shape (found ++ z ∷ []) x) ≡ (if not (is_alike z x) then not (has_shape found x) else false)
+    each : (x : Zone) → not (has_shape (found ++ z ∷ []) x) ≡ (if not (is_alike z x) then not (has_shape found x)
+        else false)
     each x = ap not (list_any-append (λ (s : Zone). is_alike s x) found (z ∷ []))
         ∙ neither (has_shape found x) (is_alike z x)
 

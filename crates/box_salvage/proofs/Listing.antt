@@ -49,7 +49,8 @@ module _ (dump : List ℕ) (kinds : List Zone) where
       → rings_from dump kinds i index ≡ rings_from dump kinds (i + 1) 0
   unfolding rings_from
   next_place i index h =
-      ap (λ (xs : List FoundRing). xs ++ flat_map (rings_at dump kinds) (range_with_len (i + 1) (places dump - (i + 1))))
+      ap (λ (xs : List FoundRing). xs ++ flat_map (rings_at dump kinds) (range_with_len (i + 1) (places dump - (i +
+      1))))
       (ap (λ (xs : List FoundRing). if nat_lt i (places dump) then xs else []) h ∙ nothing (nat_lt i (places dump)))
       ∙ tail_is (places dump) (i + 1)
     where
@@ -82,7 +83,8 @@ module _ (dump : List ℕ) (kinds : List Zone) where
       f : places dump - (i + 1) ≡ 0
       f = omega arith
 
-      by : ((nat_lt i (places dump) ≡ true) × (i < places dump)) ⊎ ((nat_lt i (places dump) ≡ false) × (places dump ≤ i))
+      by : ((nat_lt i (places dump) ≡ true) × (i < places dump)) ⊎ ((nat_lt i (places dump) ≡ false) × (places dump
+          ≤ i))
           → (if nat_lt i (places dump) then rings_at dump (drop index kinds) i else [])
           ++ flat_map (rings_at dump kinds) (range_with_len (i + 1) (places dump - (i + 1))) ≡ []
       by (inl h) = absurd (let k = h.1 in omega arith)
