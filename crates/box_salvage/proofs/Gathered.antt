@@ -1,6 +1,5 @@
 -- The shapes of zones, gathered one by one
-use Rattle.std.proofs.Common.{◌≡◌, ℕ, zero, suc, ◌+◌, ◌<◌, ◌&&◌, ◌||◌, not, ◌==◌, List, [], ◌∷◌, ◌++◌, ◌≤◌, length, drop, filter, refl, sym, ap, ◌∙◌, arith, Bool, true, false, if◌then◌else◌, eqb-true, append_assoc}
-use Rattle.std.specs.List.{list_any}
+use Rattle.std.proofs.Common.{◌≡◌, ℕ, zero, suc, ◌&&◌, ◌||◌, not, ◌==◌, List, [], ◌∷◌, ◌++◌, ◌≤◌, length, drop, filter, refl, sym, ap, ◌∙◌, arith, Bool, true, false, if◌then◌else◌, eqb-true, append_assoc}
 use Rattle.std.proofs.lemmas.List.{append-nil}
 use Rattle.std.proofs.lemmas.List.Folds.{list_any-append}
 use Rattle.zone_spec.specs.declared.Zone.{Zone}

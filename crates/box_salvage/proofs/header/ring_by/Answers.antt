@@ -1,4 +1,4 @@
-use Rattle.std.proofs.Common.{◌≡◌, ℕ, ◌-◌, ◌/◌, ◌≤◌, List, length, ◌++◌, arith, refl, ap}
+use Rattle.std.proofs.Common.{ℕ, ◌-◌, ◌/◌, List, length, arith, refl, ap}
 use Rattle.box_salvage.proofs.Probed.{probe_is, probe_many, probe_near, zeros_none}
 use Rattle.box_salvage.proofs.header.ring_by.Goals as goal
 

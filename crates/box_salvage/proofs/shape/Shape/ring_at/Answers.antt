@@ -1,4 +1,4 @@
-use Rattle.std.proofs.Common.{◌≡◌, ℕ, ◌+◌, ◌≤◌, List, length, ◌++◌, ◌∙◌, arith, refl, ap, sym}
+use Rattle.std.proofs.Common.{◌≡◌, ℕ, ◌+◌, List, ◌++◌, ◌∙◌, refl, ap, sym}
 use Rattle.std.specs.Prelude.{slice_range}
 use Rattle.zone_spec.specs.declared.Zone.{Zone}
 use Rattle.salvage_spec.specs.Rings.{ring_at, ring_in}
