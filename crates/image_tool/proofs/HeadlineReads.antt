@@ -143,7 +143,6 @@ command_whole : (c : Command) (before : ℕ) (words : List Text) (plan : RamPlan
     → laid_out c before words ≡ Ok (OfRam plan) → IsLayout plan.zones (mem_of plan)
 command_whole (OnRam command) before words plan h = read command before words plan (first_fault [] words) h
 command_whole RunBlkScript before words plan h = absurd (blk_read before words plan (blk_first_fault [] words) h)
-
 command_whole (MoveImage to) before words plan h =
     absurd (first_read plan (before + length words + 1) before to words (first_fault [] words) h)
 

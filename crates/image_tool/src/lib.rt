@@ -18,6 +18,8 @@ pub use work::run;
 #[cfg(test)]
 mod blk_tests;
 #[cfg(test)]
+mod crash_tests;
+#[cfg(test)]
 mod fault_tests;
 #[cfg(test)]
 mod generator_tests;
@@ -25,8 +27,6 @@ mod generator_tests;
 mod move_tests;
 #[cfg(test)]
 mod record_tests;
-#[cfg(test)]
-mod crash_tests;
 #[cfg(test)]
 mod session_tests;
 #[cfg(test)]

@@ -86,11 +86,27 @@ fn both_lists_are_read_first(rt: HostRuntime) -> Result<(), Fail> {
         ("x move mem_size=4096", 2, usage),
         ("x move to to", 2, usage),
         ("x move mem_size=4096 to ecc=1 to", 2, usage),
-        ("x move mem_size=16777217 to ecc=x", 3, "parameter fault 3 at word 5\n"),
+        (
+            "x move mem_size=16777217 to ecc=x",
+            3,
+            "parameter fault 3 at word 5\n",
+        ),
         ("x move ecc=x to ecc=y", 3, "parameter fault 3 at word 3\n"),
-        ("x move mem_size=0 to mem_size=16777217", 3, "layout fault 1\n"),
-        ("x move mem_size=16384 to mem_size=16777217", 3, "layout fault 3\n"),
-        ("x move mem_size=32768 to mem_size=16384", 4, "image has 16384 bytes, 32768 needed\n"),
+        (
+            "x move mem_size=0 to mem_size=16777217",
+            3,
+            "layout fault 1\n",
+        ),
+        (
+            "x move mem_size=16384 to mem_size=16777217",
+            3,
+            "layout fault 3\n",
+        ),
+        (
+            "x move mem_size=32768 to mem_size=16384",
+            4,
+            "image has 16384 bytes, 32768 needed\n",
+        ),
     ];
     for (line, status, text) in cases {
         let ran = outcome(alloc, line, &[], &[0x55; 16384], NONE)?;
