@@ -2,11 +2,14 @@
 //! With a number of rounds as its argument it times the work.
 #![tactic(auto)]
 
-ghost use Rattle.std.specs.Prelude.{◌≡◌, ◌≤◌, length};
+ghost use Rattle.std.specs.Prelude.{◌≡◌, ◌≤◌, length, IfOk};
+ghost use Rattle.kmsg_dump.specs.Kept.{IsLine};
 
 use arrayvec::ArrayVec;
+use kmsg_dump::KLog;
 use rs_encode::Parity;
 use rs_errors::{Decoded, Fix, decode, decode_with};
+use std::alloc::{AllocError, Global};
 use std::rt::Clock;
 use std::time::Instant;
 use std::{env, io};
@@ -190,6 +193,35 @@ fn time(rt: &(impl Print + Clock), r: usize, rounds: u32) -> io::Result<()>
     Ok(())
 }
 
+// A line of 80 bytes of the message log, without its newline.
+#[tactic(auto, using(crate::proofs::LogLine::letters_line))]
+fn log_line(alloc: Global) -> Result<Vec<u8>, AllocError>
+    ensures { IfOk result (λ line. IsLine line.items) }
+{
+    let line = Vec::from_elem(alloc, b'x', 79)?;
+    Ok(line)
+}
+
+/// How many of so many lines a message log of 131072 bytes takes.
+fn push_many(alloc: Global, rounds: u32) -> Result<u32, AllocError> {
+    let line = log_line(alloc)?;
+    let mut log = KLog::new(alloc, 131_072)?;
+    let mut pushed = 0u32;
+    for _ in 0..rounds {
+        if log.push(&line) {
+            pushed = pushed.wrapping_add(1);
+        }
+    }
+    Ok(pushed)
+}
+
+fn time_log(rt: &(impl Print + Clock), alloc: Global, rounds: u32) -> io::Result<()> {
+    let start = Instant::now(rt)?;
+    let pushed = push_many(alloc, rounds)?;
+    let micros = start.elapsed(rt)?.as_micros();
+    println!(rt; "message log: {pushed} lines of 80 bytes in {micros} us")
+}
+
 fn main(rt: HostRuntime) -> io::Result<()> {
     if agrees(16) && agrees(127) && agrees(7) {
         println!(rt; "the answers agree")?;
@@ -200,6 +232,7 @@ fn main(rt: HostRuntime) -> io::Result<()> {
         let rounds: u32 = word.parse().unwrap_or(0);
         time(&rt, 16, rounds)?;
         time(&rt, 127, rounds)?;
+        time_log(&rt, rt.alloc(), rounds)?;
     }
     Ok(())
 }

@@ -62,28 +62,32 @@ fn push_time(text: &mut Vec<u8>, time: Option<BlkTime>) -> Result<(), AllocError
     }
 }
 
-fn push_entry(alloc: Global, text: &mut Vec<u8>, blk: &Blk, name: BlkName) -> Result<(), AllocError>
+// The length of a record's content, or 0 where it is not listed.
+fn content_len(blk: &Blk, name: BlkName) -> u64
+    ensures { result ≡ length (content_of_name blk.now name) }
+{
+    match blk.content_len(name) {
+        Some(len) => len,
+        None => 0,
+    }
+}
+
+fn push_entry(text: &mut Vec<u8>, blk: &Blk, name: BlkName) -> Result<(), AllocError>
     ensures { OnOk result (text.new.items ≡ text.old.items ++ entry_text blk.now name) }
 {
-    let content = content_in(alloc, blk, name)?;
     let mut written = ArrayString::new();
     name_text(name, &mut written);
-    push_record(text, written.as_str(), content.len() as u128)?;
+    push_record(text, written.as_str(), u128::from(content_len(blk, name)))?;
     push_time(text, record_time(blk, name))?;
     text.push(b'\n')?;
     Ok(())
 }
 
-fn push_entries(
-    alloc: Global,
-    text: &mut Vec<u8>,
-    blk: &Blk,
-    names: &[BlkName],
-) -> Result<(), AllocError>
+fn push_entries(text: &mut Vec<u8>, blk: &Blk, names: &[BlkName]) -> Result<(), AllocError>
     ensures { OnOk result (text.new.items ≡ text.old.items ++ flat_map (entry_text blk.now) names.now) }
 {
     for name in names {
-        push_entry(alloc, text, blk, *name)?;
+        push_entry(text, blk, *name)?;
     }
     Ok(())
 }
@@ -96,7 +100,7 @@ pub fn listing(alloc: Global, blk: &Blk) -> Result<Vec<u8>, AllocError>
     let mut text = Vec::new(alloc);
     push_number(&mut text, "records ", names.as_slice().len() as u64)?;
     text.push(b'\n')?;
-    push_entries(alloc, &mut text, blk, names.as_slice())?;
+    push_entries(&mut text, blk, names.as_slice())?;
     Ok(text)
 }
 

@@ -16,8 +16,9 @@ sink_writer s = s.writer
 abbrev pub writer_faults : {W : Type 0} → WriterSink W → ℕ
 writer_faults s = s.faults
 
-abbrev pub file_path : {R : Type 0} → FileStore R → List ℕ
+-- F and D are the runtime's opened files and folders
+abbrev pub file_path : {R F D : Type 0} → FileStore R F D → List ℕ
 file_path s = string_bytes s.path
 
-abbrev pub file_faults : {R : Type 0} → FileStore R → ℕ
+abbrev pub file_faults : {R F D : Type 0} → FileStore R F D → ℕ
 file_faults s = s.faults

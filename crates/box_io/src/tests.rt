@@ -166,6 +166,7 @@ fn a_writer_is_a_sink(rt: HostRuntime) -> Result<(), Fail> {
     Ok(())
 }
 
+// The file stays open: a read after a fault, and of what was written since, goes on in it.
 #[test]
 fn a_file_is_a_store(rt: HostRuntime) -> Result<(), Fail> {
     let path = "/tmp/oopsbox_box_io_test_image";
@@ -180,6 +181,9 @@ fn a_file_is_a_store(rt: HostRuntime) -> Result<(), Fail> {
     assert_eq!(rt; store.read_at(3, &mut into), Ok(()));
     assert_eq!(rt; into, [b'x', b'y']);
     assert_eq!(rt; store.read_at(4, &mut into), Err(Failed));
+    assert_eq!(rt; store.write_at(5, b"z".as_slice()), Ok(()));
+    assert_eq!(rt; store.read_at(4, &mut into), Ok(()));
+    assert_eq!(rt; into, [b'y', b'z']);
     fs::remove_file(&rt, path)?;
     let mut lost = FileStore::new(&rt, rt.alloc(), "/tmp/no_such_folder_of_oopsbox/image")?;
     assert_eq!(rt; lost.write_at(0, b"a".as_slice()), Err(Failed));

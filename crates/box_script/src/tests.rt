@@ -234,7 +234,7 @@ fn which_line_is_bad(rt: HostRuntime) {
 #[test]
 fn values_of_fields(rt: HostRuntime) {
     let script =
-        b"write ftrace-3 -\ndump 7 8 C 41\nstep dump-2 9\nflip 10 255\nkdump 5 6000 D Emergency 78\ncut 4\nkmsg 6f6e65\ncrash Oops 7 8\nreserve 6162\nstore 3 9\n";
+        b"write ftrace-3 -\ndump 7 8 C 41\nstep dump-2 9\nflip 10 255\nkdump 5 6000 D Emergency 78\ncut 4\n";
     let Ok(lines) = parse(rt.alloc(), script) else {
         assert!(rt; false);
         return;
@@ -247,10 +247,6 @@ fn values_of_fields(rt: HostRuntime) {
             Line::Flip(10, 255),
             Line::KDump(5, 6000, false, 3, _),
             Line::CutAfter(4),
-            Line::KMsg(message),
-            Line::Crash(2, at),
-            Line::Reserve(bytes),
-            Line::StoreNext(3, 9),
         ] => {
             *ring
                 == ZoneName {
@@ -260,14 +256,36 @@ fn values_of_fields(rt: HostRuntime) {
                 && nothing.as_slice().is_empty()
                 && *time == Time { secs: 7, micros: 8 }
                 && body.as_slice() == b"A".as_slice()
-                && message.as_slice() == b"one".as_slice()
-                && *at == Time { secs: 7, micros: 8 }
-                && bytes.as_slice() == b"ab".as_slice()
                 && *zone
                     == ZoneName {
                         kind: Kind::Dump,
                         index: 2,
                     }
+        }
+        _ => false,
+    };
+    assert!(rt; as_listed);
+}
+
+#[test]
+fn values_of_messages_and_reservations(rt: HostRuntime) {
+    let Ok(lines) = parse(
+        rt.alloc(),
+        b"kmsg 6f6e65\ncrash Oops 7 8\nreserve 6162\nstore 3 9\n",
+    ) else {
+        assert!(rt; false);
+        return;
+    };
+    let as_listed = match lines.as_slice() {
+        [
+            Line::KMsg(message),
+            Line::Crash(2, at),
+            Line::Reserve(bytes),
+            Line::StoreNext(3, 9),
+        ] => {
+            message.as_slice() == b"one".as_slice()
+                && *at == Time { secs: 7, micros: 8 }
+                && bytes.as_slice() == b"ab".as_slice()
         }
         _ => false,
     };

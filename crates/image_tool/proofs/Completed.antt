@@ -4,7 +4,7 @@ use Rattle.blk_spec.specs.declared.BlkLayout.{BlkLayout}
 use Rattle.grammar_spec.specs.Fields.{Text}
 use Rattle.grammar_spec.specs.declared.line.Line.{Line}
 use Rattle.tool_spec.specs.Ends.{End, status_of}
-use Rattle.tool_spec.specs.Commands.{RamCommand, RunScript, ListRecords, ExtractRecord, EraseRecord, ShowLayout, BlankImage, MakeImage, OnRam, RamPlan, Plan, OfRam, OfBlk, Wanted, wanted, plan_of}
+use Rattle.tool_spec.specs.Commands.{RamCommand, RunScript, ListRecords, ExtractRecord, EraseRecord, ShowLayout, BlankImage, MakeImage, RamPlan, Plan, OfRam, OfBlk, OfMove, Wanted, wanted, wanted_move, plan_of}
 use Rattle.tool_spec.specs.Answers.{Outside, RoseFor, IsFree, Answers}
 use Rattle.tool_spec.specs.BlkAnswers.{blk_lines, LinesOrStopAnswers}
 use Rattle.tool_spec.specs.PlanAnswers.{RamAnswers, ToolAnswers}
@@ -30,7 +30,7 @@ module _ (a b : Outside) (status : ℕ) (script_ok : RoseFor ScriptFault a b →
   -- what a command wants does not stand on what it does not read
   ram_done : (c : RamCommand) (plan : RamPlan) → plan.command ≡ c → RamAnswers c plan a b status
       → (bytes script : List ℕ)
-      → CommandTells (OnRam c) a bytes script → (wanted plan bytes script).end ≡ Ok tt → Done
+      → CommandTells c a bytes script → (wanted plan bytes script).end ≡ Ok tt → Done
   ram_done RunScript plan is h bytes script tells done =
       exact_done (wanted plan bytes script).end (h.whole.told bytes script tells.0 tells.1).exact done
   ram_done ListRecords plan is h bytes script tells done =
@@ -65,6 +65,8 @@ module _ (a b : Outside) (status : ℕ) (script_ok : RoseFor ScriptFault a b →
   tool_done (Ok (OfRam plan)) h bytes script tells done = ram_done plan.command plan refl h.0 bytes script tells done
   tool_done (Ok (OfBlk layout)) h bytes script tells done = lines_done layout bytes (blk_lines layout bytes script)
       (h.0.whole.told bytes script tells.0 tells.1) done
+  tool_done (Ok (OfMove plan)) h bytes script tells done =
+      exact_done (wanted_move plan bytes).end (h.0.whole.told bytes tells).exact done
   tool_done (Err s) h bytes script tells done = no_stop s done
 
 pub completes : (words : List Text) (a b : Outside) (status : ℕ) → ToolAnswers (plan_of words) a b status

@@ -1,5 +1,5 @@
 -- The headline at the boots of a run
-use Rattle.std.proofs.Common.{◌≡◌, ℕ, ◌^◌, ◌<◌, ◌≤◌, Bool, true, false, cond, ◌&&◌, ◌||◌, nat_lt, List, [], length, drop, take, map, zip, codes, Option, Some, None, Result, Ok, Err, IfSome, refl, sym, ap, ◌∙◌, subst, arith}
+use Rattle.std.proofs.Common.{◌≡◌, ℕ, ◌+◌, ◌^◌, ◌<◌, ◌≤◌, Bool, true, false, cond, ◌&&◌, ◌||◌, nat_lt, List, [], length, drop, take, map, zip, codes, Option, Some, None, Result, Ok, Err, IfSome, refl, sym, ap, ◌∙◌, subst, arith}
 use Rattle.std.specs.Option.{option_and_then, unwrap_or}
 use Rattle.std.specs.List.{list_all}
 use Rattle.std.specs.Char.{is_digit}
@@ -41,8 +41,8 @@ use Rattle.grammar_spec.specs.declared.line.Line.TheVariants.{Boot}
 use Rattle.box_script.proofs.Inside.{read_fields}
 use Rattle.tool_spec.specs.Ends.{End}
 use Rattle.tool_spec.specs.Texts.{boot_text}
-use Rattle.tool_spec.specs.Scripts.{Done, Ran, ran, line_done}
-use Rattle.tool_spec.specs.Commands.{Asked, RamCommand, RunScript, Command, OnRam, RunBlkScript, RamPlan, Plan, OfRam, OfBlk, Wanted, planned, laid_out, with_params, with_layout, with_blk_params, with_blk_layout, mem_of, wanted, wanted_run, wanted_lines, script_limit, script_end, stops}
+use Rattle.tool_spec.specs.Scripts.{Kernel, new_kernel, Done, Ran, ran, store_line, line_done}
+use Rattle.tool_spec.specs.Commands.{Asked, RamCommand, RunScript, Command, OnRam, RunBlkScript, MoveImage, RamPlan, Laid, Plan, OfRam, OfBlk, OfMove, Wanted, planned, laid_out, with_params, with_layout, with_blk_params, with_blk_layout, with_first_params, with_second_params, with_first_layout, with_second_layout, mem_of, wanted, wanted_run, wanted_lines, script_limit, script_end, stops}
 use Rattle.tool_spec.specs.Answers.{Outside, whole, RunAnswers}
 use Rattle.tool_spec.specs.PlanAnswers.{RamAnswers, ToolAnswers}
 use Rattle.tool_spec.specs.declared.Cause.{Cause}
@@ -117,10 +117,34 @@ blk_read : (before : ℕ) (words : List Text) (plan : RamPlan) (o : Option Param
 blk_read before words plan None h = blk_laid plan (blk_layout_of (blk_params_of words)) h
 blk_read before words plan (Some fault) h = absurd (cc)
 
+-- nor is a move's
+second_laid : (plan : RamPlan) (from : Laid) (to : Params) (o : Result (List Zone) LayoutFault)
+    → with_second_layout from to o ≡ Ok (OfRam plan) → ⊥
+second_laid plan from to (Ok zones) h = cc
+second_laid plan from to (Err fault) h = cc
+
+first_laid : (plan : RamPlan) (from to : Params) (o : Result (List Zone) LayoutFault)
+    → with_first_layout from to o ≡ Ok (OfRam plan) → ⊥
+first_laid plan from to (Ok zones) h = second_laid plan (record { params = from; zones = zones }) to (layout_of to) h
+first_laid plan from to (Err fault) h = cc
+
+second_read : (plan : RamPlan) (from : Params) (before : ℕ) (words : List Text) (o : Option ParamFault)
+    → with_second_params from before (ok_unless o (params_of words)) ≡ Ok (OfRam plan) → ⊥
+second_read plan from before words None h = first_laid plan from (params_of words) (layout_of from) h
+second_read plan from before words (Some fault) h = cc
+
+first_read : (plan : RamPlan) (second before : ℕ) (to words : List Text) (o : Option ParamFault)
+    → with_first_params second to before (ok_unless o (params_of words)) ≡ Ok (OfRam plan) → ⊥
+first_read plan second before to words None h =
+    second_read plan (params_of words) second to (first_fault [] to) h
+first_read plan second before to words (Some fault) h = cc
+
 command_whole : (c : Command) (before : ℕ) (words : List Text) (plan : RamPlan)
     → laid_out c before words ≡ Ok (OfRam plan) → IsLayout plan.zones (mem_of plan)
 command_whole (OnRam command) before words plan h = read command before words plan (first_fault [] words) h
 command_whole RunBlkScript before words plan h = absurd (blk_read before words plan (blk_first_fault [] words) h)
+command_whole (MoveImage to) before words plan h =
+    absurd (first_read plan (before + length words + 1) before to words (first_fault [] words) h)
 
 planned_whole : (o : Option Asked) (plan : RamPlan) → planned o ≡ Ok (OfRam plan) → IsLayout plan.zones (mem_of plan)
 planned_whole None plan h = absurd (cc)
@@ -162,12 +186,14 @@ shows_boot layout off reads =
     }
 
 -- what a line `boot` does
-boot_done : (layout : List Zone) (off : OffState) → line_done layout (Off off) Boot ≡ Ok (record {
-  session = Live (booted layout off);
-  text = boot_text (saved_logs layout (booted layout off)) (report layout off);
-})
-unfolding line_done
-boot_done layout off = refl
+boot_done : (layout : List Zone) (off : OffState) (kernel : Kernel) → line_done layout (Off off) kernel Boot
+    ≡ Ok (record {
+      session = Live (booted layout off);
+      kernel = new_kernel;
+      text = boot_text (saved_logs layout (booted layout off)) (report layout off);
+    })
+unfolding line_done store_line
+boot_done layout off kernel = refl
 
 -- a script is too long, or is done line by line
 long_by : (layout : List Zone) (image script : List ℕ) → nat_lt script_limit (length script) ≡ true
@@ -208,9 +234,15 @@ module _ (plan : RamPlan) (bytes script : List ℕ) (lines : List Line) (is : pl
       let ended : script_end (length r.texts) r.refused ≡ Ok tt = rw w at end in
       let all : Appends a.given b.given (whole r.texts) = rw w at put in
       let text = boot_text (saved_logs plan.zones (booted plan.zones off)) (report plan.zones off) in
-      let done : line_done plan.zones (ran plan.zones image (take k lines)).session Boot
-      ≡ Ok (record { session = Live (booted plan.zones off); text = text }) = rw session (boot_done plan.zones off) in
-      let t = text_at plan.zones image lines k Boot (record { session = Live (booted plan.zones off); text = text })
+      let before = ran plan.zones image (take k lines) in
+      let done : line_done plan.zones before.session before.kernel Boot
+      ≡ Ok (record { session = Live (booted plan.zones off); kernel = new_kernel; text = text }) =
+      rw session (boot_done plan.zones off before.kernel) in
+      let t = text_at plan.zones image lines k Boot (record {
+        session = Live (booted plan.zones off);
+        kernel = new_kernel;
+        text = text;
+      })
       (slice_get_within lines k Boot at) (sym (get_or_from_slice_get lines k Boot Boot at))
       (none_refused r.refused (length r.texts) ended) done in
       record {
@@ -224,6 +256,7 @@ pub run_reads : (o : Option Asked) (r : Result Plan Stop) (a b : Outside) (statu
     → IfSome a.holds AreBytes → ToolAnswers r a b status → RunReads r a b status
 run_reads o (Err s) a b status e held answers = tt
 run_reads o (Ok (OfBlk layout)) a b status e held answers = tt
+run_reads o (Ok (OfMove plan)) a b status e held answers = tt
 run_reads o (Ok (OfRam plan)) a b status e held answers = λ is. record {
   told = λ bytes script holds left lines long good.
       let lies = planned_whole o plan e in

@@ -1,3 +1,4 @@
+pub mod Alike
 pub mod Shown
 pub mod Booted
 pub mod RecordEnds
@@ -6,3 +7,4 @@ pub mod HeadlineReads
 pub mod ScriptEnds
 pub mod WorkEnds
 pub mod Completed
+pub mod MoveEnds

@@ -24,7 +24,7 @@ use Rattle.tool_spec.specs.declared.Cause.{Cause}
 use Rattle.tool_spec.specs.declared.Cause.TheVariants.{IsOff, IsLive, NoZone, Busy, Idle, OutOfImage, NoRecord, NotHere, TooLong, NoSeat, Crowded, NoRing}
 use Rattle.tool_spec.specs.declared.Stop.{Stop}
 use Rattle.tool_spec.specs.declared.Stop.TheVariants.{Memory as MemoryStop, ImageFault, SinkFault, Refused as RefusedStop}
-use Rattle.tool_frame.specs.Ended.{Ended, CanEnd, ReadEnds, ImageEnds}
+use Rattle.tool_frame.specs.Ended.{Ended, CanEnd, RamReadEnds, RamImageEnds}
 use Rattle.tool_frame.specs.Stages.{LoadStop}
 use Rattle.tool_frame.proofs.Image.{load_can, image_stopped, image_done}
 use Rattle.tool_frame.proofs.Script.{Quiet, quiet_memory, put_nothing}
@@ -51,26 +51,26 @@ unlisted_ends w a b e q = rw e (refl, put_nothing a b q, q.holds)
 
 -- ---- listed
 
-reads : {plan : RamPlan} {a b : Outside} {e : End} → CanEnd plan e → NoScript a b → b.holds ≡ a.holds
-    → IfHolds a (λ bytes. Ended (wanted plan bytes []) a b e) → ReadEnds plan a b e
-reads can none same whole = record { can = can; whole = whole; script = none; image = same }
+reads : (plan : RamPlan) (a b : Outside) (e : End) → CanEnd plan e → NoScript a b → b.holds ≡ a.holds
+    → IfHolds a (λ bytes. Ended (wanted plan bytes []) a b e) → RamReadEnds plan a b e
+reads plan a b e can none same whole = record { can = can; whole = whole; script = none; image = same }
 
-leaves_script : {plan : RamPlan} {a b : Outside} {e : End} → CanEnd plan e → NoScript a b
-    → IfHolds a (λ bytes. Ended (wanted plan bytes []) a b e) → ImageEnds plan a b e
-leaves_script can none whole = record { can = can; whole = whole; script = none }
+leaves_script : (plan : RamPlan) (a b : Outside) (e : End) → CanEnd plan e → NoScript a b
+    → IfHolds a (λ bytes. Ended (wanted plan bytes []) a b e) → RamImageEnds plan a b e
+leaves_script plan a b e can none whole = record { can = can; whole = whole; script = none }
 
 -- ---- an image that was not read
 
 pub unread : (plan : RamPlan) (c : RamCommand) (a b : Outside) (s : Stop) (f g : ℕ) → plan.command ≡ c
-    → reads_image c ≡ true → NoScript a b → Quiet a b → LoadStop s (mem_of plan) a.holds f g → ReadEnds plan a b (Err s)
-unread plan c a b s f g is image none q h = reads (load_can plan c s (mem_of plan) a.holds f g is image h) none q.holds
+    → reads_image c ≡ true → NoScript a b → Quiet a b → LoadStop s (mem_of plan) a.holds f g → RamReadEnds plan a b (Err s)
+unread plan c a b s f g is image none q h = reads plan a b _ (load_can plan c s (mem_of plan) a.holds f g is image h) none q.holds
     (image_stopped plan c a b s f g is image q h)
 
 pub unread_image : (plan : RamPlan) (c : RamCommand) (a b : Outside) (s : Stop) (f g : ℕ) → plan.command ≡ c
     → reads_image c ≡ true → NoScript a b → Quiet a b → LoadStop s (mem_of plan) a.holds f g
-    → ImageEnds plan a b (Err s)
+    → RamImageEnds plan a b (Err s)
 unread_image plan c a b s f g is image none q h =
-    leaves_script (load_can plan c s (mem_of plan) a.holds f g is image h) none
+    leaves_script plan a b _ (load_can plan c s (mem_of plan) a.holds f g is image h) none
     (image_stopped plan c a b s f g is image q h)
 
 -- ---- an image that was read
@@ -97,12 +97,12 @@ module _ (plan : RamPlan) (a b : Outside) (logs : SavedLogs)
     list_wanted : wanted_of plan.params plan.zones read.image [] ListRecords ≡ shows (text ∷ [])
     list_wanted = ap (λ (t : Text). shows (t ∷ [])) (sym (e ∙ ap listing read.logs_are))
 
-    pub list_put : NoScript a b → Appends a.given b.given text → ReadEnds plan a b (Ok tt)
-    list_put none put = reads (rw is refl) none same (done ListRecords (Ok tt) is refl
+    pub list_put : NoScript a b → Appends a.given b.given text → RamReadEnds plan a b (Ok tt)
+    list_put none put = reads plan a b _ (rw is refl) none same (done ListRecords (Ok tt) is refl
         (put_all_of (wanted_of plan.params plan.zones read.image [] ListRecords) a b text list_wanted same put))
 
-    pub list_front : NoScript a b → AppendsFront a.given b.given text → ReadEnds plan a b (Err SinkFault)
-    list_front none put = reads (rw is refl) none same (done ListRecords (Err SinkFault) is refl
+    pub list_front : NoScript a b → AppendsFront a.given b.given text → RamReadEnds plan a b (Err SinkFault)
+    list_front none put = reads plan a b _ (rw is refl) none same (done ListRecords (Err SinkFault) is refl
         (put_front_of (wanted_of plan.params plan.zones read.image [] ListRecords) a b text list_wanted same put))
 
 -- ---- extracted
@@ -124,13 +124,13 @@ module _ (plan : RamPlan) (a b : Outside) (logs : SavedLogs) (name : Text) (is :
         extract_found plan.zones (after_boot plan.zones read.image)
         (named (saved_logs plan.zones (after_boot plan.zones read.image)) name) bytes here
 
-    pub extract_put : NoScript a b → Appends a.given b.given bytes → ReadEnds plan a b (Ok tt)
-    extract_put none put = reads (rw is refl) none same (image_done plan (ExtractRecord name) a b read.image (Ok tt)
+    pub extract_put : NoScript a b → Appends a.given b.given bytes → RamReadEnds plan a b (Ok tt)
+    extract_put none put = reads plan a b _ (rw is refl) none same (image_done plan (ExtractRecord name) a b read.image (Ok tt)
         is refl read.read (put_all_of (wanted_of plan.params plan.zones read.image [] (ExtractRecord name))
         a b bytes extract_wanted same put))
 
-    pub extract_front : NoScript a b → AppendsFront a.given b.given bytes → ReadEnds plan a b (Err SinkFault)
-    extract_front none put = reads (rw is refl) none same (image_done plan (ExtractRecord name) a b read.image
+    pub extract_front : NoScript a b → AppendsFront a.given b.given bytes → RamReadEnds plan a b (Err SinkFault)
+    extract_front none put = reads plan a b _ (rw is refl) none same (image_done plan (ExtractRecord name) a b read.image
         (Err SinkFault)
         is refl read.read (put_front_of (wanted_of plan.params plan.zones read.image [] (ExtractRecord name))
         a b bytes extract_wanted same put))
@@ -146,10 +146,10 @@ module _ (plan : RamPlan) (a b : Outside) (logs : SavedLogs) (name : Text) (is :
       (unlisted_ends (wanted_of plan.params plan.zones read.image [] (ExtractRecord name)) a b w q))
 
   pub extract_stopped : (e : LineError) (s : Stop) → s ≡ stop_for e → IsContent (saved logs) name (Err e)
-      → NoScript a b → Quiet a b → ReadEnds plan a b (Err s)
-  extract_stopped Memory s same h none q = rw same (reads (rw is refl) none q.holds
+      → NoScript a b → Quiet a b → RamReadEnds plan a b (Err s)
+  extract_stopped Memory s same h none q = rw same (reads plan a b _ (rw is refl) none q.holds
       (memory_ends plan a b logs read (ExtractRecord name) is refl q))
-  extract_stopped (Refused cause) s same h none q = rw same (reads (rw is refl) none q.holds
+  extract_stopped (Refused cause) s same h none q = rw same (reads plan a b _ (rw is refl) none q.holds
       (extract_unlisted cause h.0 h.1 q))
 
 -- ---- erased
@@ -179,13 +179,13 @@ module _ (plan : RamPlan) (a b : Outside) (live : LiveSeen) (logs : SavedLogs) (
         let left = stop plan.zones (mem_of plan) (erased plan.zones s e.record_is.name) e.stands in
         ap (wanted_erase plan.zones s) e.named ∙ ap (λ (bs : List ℕ). leaves bs) (sym (image ∙ left.image))
 
-    pub erase_saved : NoScript a b → Writes a.holds b.holds 0 bytes → ImageEnds plan a b (Ok tt)
-    erase_saved none wrote = leaves_script (rw is refl) none
+    pub erase_saved : NoScript a b → Writes a.holds b.holds 0 bytes → RamImageEnds plan a b (Ok tt)
+    erase_saved none wrote = leaves_script plan a b _ (rw is refl) none
         (image_done plan (EraseRecord name) a b booted.image (Ok tt)
         is refl booted.read (rw (erase_wanted, given) (wrote_all bytes a.given a.holds b.holds wrote)))
 
-    pub erase_unsaved : NoScript a b → WritesFront a.holds b.holds 0 bytes → ImageEnds plan a b (Err ImageFault)
-    erase_unsaved none wrote = leaves_script (rw is refl) none (image_done plan (EraseRecord name) a b booted.image
+    pub erase_unsaved : NoScript a b → WritesFront a.holds b.holds 0 bytes → RamImageEnds plan a b (Err ImageFault)
+    erase_unsaved none wrote = leaves_script plan a b _ (rw is refl) none (image_done plan (EraseRecord name) a b booted.image
         (Err ImageFault) is refl booted.read (rw (erase_wanted, given)
         (wrote_front bytes a.given a.holds b.holds wrote)))
 
@@ -226,5 +226,5 @@ module _ (plan : RamPlan) (a b : Outside) (live : LiveSeen) (logs : SavedLogs) (
   erase_can (Refused cause) = rw is refl
 
   pub erase_stopped : (e : LineError) (s : Stop) → s ≡ stop_for e → EraseFails live logs name e → NoScript a b
-      → Quiet a b → ImageEnds plan a b (Err s)
-  erase_stopped e s same h none q = rw same (leaves_script (erase_can e) none (refused e h q))
+      → Quiet a b → RamImageEnds plan a b (Err s)
+  erase_stopped e s same h none q = rw same (leaves_script plan a b _ (erase_can e) none (refused e h q))

@@ -3,9 +3,9 @@ use Rattle.std.proofs.Common.{◌≡◌, ℕ, List, [], ◌∷◌, Option, Resul
 use Rattle.box_io.specs.Outside.{WritesFront}
 use Rattle.tool_spec.specs.Ends.{End, status_of}
 use Rattle.tool_spec.specs.Texts.{layout_text}
-use Rattle.tool_spec.specs.Commands.{ShowLayout, BlankImage, OnRam, RamPlan, Plan, OfRam, Wanted, mem_of, shows, leaves}
+use Rattle.tool_spec.specs.Commands.{ShowLayout, BlankImage, RamPlan, Plan, OfRam, Wanted, mem_of, shows, leaves}
 use Rattle.tool_spec.specs.Answers.{Outside, NoScript, NoImage, WritesSome}
-use Rattle.tool_spec.specs.PlanAnswers.{statuses, IsAmong}
+use Rattle.tool_spec.specs.PlanAnswers.{ram_statuses, IsAmong}
 use Rattle.tool_spec.specs.declared.Stop.{Stop}
 use Rattle.tool_spec.specs.declared.Stop.TheVariants.{Memory, Usage, Param, Layout, Short, ScriptFault, ImageFault, SinkFault, TooLong, BadLine, Refused}
 use Rattle.tool_frame.specs.Words.{PlanStop, IsNoFault, plan_for, ram_command_seen}
@@ -72,7 +72,7 @@ none_done r s a b h n same sink = record {
 
 -- the layout was shown
 pub layout_shown : (plan : RamPlan) (e : End) (a b : Outside) → plan.command ≡ ShowLayout → NoScript a b → NoImage a b
-    → IsAmong (statuses (OnRam ShowLayout)) (status_of e)
+    → IsAmong (ram_statuses ShowLayout) (status_of e)
     → EndedAt (shows (layout_text plan.params plan.zones ∷ [])) a.given b.given a.holds a.holds e
     → RamEnds plan.command plan a b e
 layout_shown plan e a b is script image can ended = rw is (record {
@@ -100,7 +100,7 @@ blank_written w (Err (BadLine x)) a b h none same wrote done = tt
 blank_written w (Err (Refused x y)) a b h none same wrote done = tt
 
 pub blank_left : (plan : RamPlan) (mem : ℕ) (e : End) (a b : Outside) → mem ≡ mem_of plan → plan.command ≡ BlankImage
-    → NoScript a b → b.given ≡ a.given → IsAmong (statuses (OnRam BlankImage)) (status_of e)
+    → NoScript a b → b.given ≡ a.given → IsAmong (ram_statuses BlankImage) (status_of e)
     → EndedAt (leaves (replicate mem 0)) a.given a.given a.holds b.holds e
     → (e ≡ Err ImageFault → WritesFront a.holds b.holds 0 (replicate mem 0)) → RamEnds plan.command plan a b e
 blank_left plan mem e a b same is script given can ended wrote =

@@ -15,7 +15,7 @@ use Rattle.grammar_spec.specs.declared.line.Line.{Line}
 use Rattle.grammar_spec.specs.declared.line.Line.TheVariants.{Boot}
 use Rattle.tool_spec.specs.Texts.{boot_text}
 use Rattle.tool_spec.specs.Scripts.{ran}
-use Rattle.tool_spec.specs.Commands.{RunScript, Plan, OfRam, OfBlk, mem_of}
+use Rattle.tool_spec.specs.Commands.{RunScript, Plan, OfRam, OfBlk, OfMove, mem_of}
 use Rattle.tool_spec.specs.Answers.{Outside, IfTold, front}
 use Rattle.tool_spec.specs.declared.Stop.{Stop}
 
@@ -62,4 +62,5 @@ RunReads (Ok (OfRam plan)) a b status = plan.command ≡ RunScript → IfTold a
     (λ bytes script. (lines : List Line) → mem_of plan ≤ length bytes → script_of script ≡ Ok lines
     → ScriptReads plan.zones (take (mem_of plan) bytes) lines a b status)
 RunReads (Ok (OfBlk layout)) a b status = ⊤
+RunReads (Ok (OfMove plan)) a b status = ⊤
 RunReads (Err s) a b status = ⊤

@@ -4,8 +4,8 @@ ghost use Rattle.box_io.specs.Outside.{WritesFront};
 ghost use Rattle.tool_spec.specs.declared.Stop.TheVariants.{ImageFault};
 ghost use Rattle.tool_spec.specs.Texts.{layout_text};
 ghost use Rattle.tool_spec.specs.Ends.{status_of};
-ghost use Rattle.tool_spec.specs.Commands.{OnRam, ShowLayout, BlankImage, shows, leaves};
-ghost use Rattle.tool_spec.specs.PlanAnswers.{statuses, IsAmong};
+ghost use Rattle.tool_spec.specs.Commands.{ShowLayout, BlankImage, shows, leaves};
+ghost use Rattle.tool_spec.specs.PlanAnswers.{ram_statuses, IsAmong};
 ghost use Rattle.tool_frame.specs.Ended.{EndedAt, CausedAt, KeptAt};
 ghost use Rattle.zone_params.specs.Laid.{params_of, zones_of};
 
@@ -20,7 +20,7 @@ use zone_params::types::Layout;
 pub fn show_layout<O: Sink>(alloc: Global, layout: &Layout, out: &mut O) -> Result<(), Stop>
     ensures later { O.faults out.old ≤ O.faults out.new }
     ensures caused { (f f' g g' : ℕ) → CausedAt f f' g g' (O.faults out.old) (O.faults out.new) result }
-    ensures can { IsAmong (statuses (OnRam ShowLayout)) (status_of result) }
+    ensures can { IsAmong (ram_statuses ShowLayout) (status_of result) }
     ensures ended { (holds : Option (List ℕ)) → EndedAt (shows
         (layout_text (params_of layout.now) (zones_of layout.now) ∷ [])) (O.given out.old) (O.given out.new)
         holds holds result }
@@ -41,7 +41,7 @@ pub fn blank<M: Store>(image: &mut M, mem: u32) -> Result<(), Stop>
     ensures later { M.faults image.old ≤ M.faults image.new }
     ensures caused { (f f' h h' : ℕ) → CausedAt f f' (M.faults image.old) (M.faults image.new) h h' result }
     ensures kept { KeptAt (M.holds image.old) (M.holds image.new) result }
-    ensures can { IsAmong (statuses (OnRam BlankImage)) (status_of result) }
+    ensures can { IsAmong (ram_statuses BlankImage) (status_of result) }
     ensures ended { (given : Option (List ℕ)) → EndedAt (leaves (replicate mem 0)) given given (M.holds image.old)
         (M.holds image.new) result }
     ensures written { result ≡ Err ImageFault

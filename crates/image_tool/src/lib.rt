@@ -5,6 +5,7 @@ mod blk_script;
 mod images;
 mod layout_text;
 mod making;
+mod moving;
 mod records;
 mod script;
 mod stores;
@@ -17,9 +18,13 @@ pub use work::run;
 #[cfg(test)]
 mod blk_tests;
 #[cfg(test)]
+mod crash_tests;
+#[cfg(test)]
 mod fault_tests;
 #[cfg(test)]
 mod generator_tests;
+#[cfg(test)]
+mod move_tests;
 #[cfg(test)]
 mod record_tests;
 #[cfg(test)]

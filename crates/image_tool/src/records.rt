@@ -4,7 +4,7 @@ ghost use Rattle.zone_spec.specs.Layout.{rounded};
 ghost use Rattle.zone_params.specs.Laid.{params_of, zones_of};
 ghost use Rattle.tool_spec.specs.Commands.{ListRecords, ExtractRecord, EraseRecord};
 ghost use Rattle.tool_spec.specs.Answers.{outside};
-ghost use Rattle.tool_frame.specs.Ended.{CausedAt, KeptAt, ReadEnds, ImageEnds};
+ghost use Rattle.tool_frame.specs.Ended.{CausedAt, KeptAt, RamReadEnds, RamImageEnds};
 ghost use Rattle.image_tool.specs.Plans.{plan_for};
 ghost use Rattle.tool_frame.specs.Stages.{LoadStop};
 ghost use Rattle.image_tool.specs.Records.{SavedFrom, stop_for};
@@ -31,7 +31,7 @@ fn stop_of(e: LineError) -> Stop
 }
 
 /// Reads an image, and gives the logs that a boot of it would save.
-fn read_logs<M: Store>(alloc: Global, layout: Layout, image: &mut M) -> Result<Logs, Stop>
+pub fn read_logs<M: Store>(alloc: Global, layout: Layout, image: &mut M) -> Result<Logs, Stop>
     ensures read { IfOk result (λ logs. SavedFrom (zones_of layout) (rounded (params_of layout).mem)
         (M.holds image.old) logs) }
     ensures stopped { IfErr result (λ s. LoadStop s (rounded (params_of layout).mem) (M.holds image.old)
@@ -64,7 +64,7 @@ pub fn list<M: Store, O: Sink>(
     ensures caused { (f f' : ℕ) → CausedAt f f' (M.faults image.old) (M.faults image.new) (O.faults out.old)
         (O.faults out.new) result }
     ensures same { M.holds image.new ≡ M.holds image.old }
-    ensures ended { (left : Option (List ℕ)) (f : ℕ) → ReadEnds (plan_for ListRecords layout)
+    ensures ended { (left : Option (List ℕ)) (f : ℕ) → RamReadEnds (plan_for ListRecords layout)
         (outside left f (M.holds image.old) (M.faults image.old) (O.given out.old) (O.faults out.old))
         (outside left f (M.holds image.new) (M.faults image.new) (O.given out.new) (O.faults out.new)) result }
 {
@@ -94,7 +94,7 @@ pub fn extract<M: Store, O: Sink>(
     ensures caused { (f f' : ℕ) → CausedAt f f' (M.faults image.old) (M.faults image.new) (O.faults out.old)
         (O.faults out.new) result }
     ensures same { M.holds image.new ≡ M.holds image.old }
-    ensures ended { (left : Option (List ℕ)) (f : ℕ) → ReadEnds (plan_for (ExtractRecord name.now) layout)
+    ensures ended { (left : Option (List ℕ)) (f : ℕ) → RamReadEnds (plan_for (ExtractRecord name.now) layout)
         (outside left f (M.holds image.old) (M.faults image.old) (O.given out.old) (O.faults out.old))
         (outside left f (M.holds image.new) (M.faults image.new) (O.given out.new) (O.faults out.new)) result }
 {
@@ -118,7 +118,7 @@ pub fn erase<M: Store>(alloc: Global, layout: Layout, name: &str, image: &mut M)
     ensures caused { (f f' h h' : ℕ) → CausedAt f f' (M.faults image.old) (M.faults image.new) h h' result }
     ensures kept { KeptAt (M.holds image.old) (M.holds image.new) result }
     ensures ended { (left given : Option (List ℕ)) (f h : ℕ)
-        → ImageEnds (plan_for (EraseRecord name.now) layout)
+        → RamImageEnds (plan_for (EraseRecord name.now) layout)
         (outside left f (M.holds image.old) (M.faults image.old) given h)
         (outside left f (M.holds image.new) (M.faults image.new) given h) result }
 {

@@ -14,6 +14,7 @@ use tool_frame::{Stop, load};
 use zone_params::types::Layout;
 
 /// The store of an image of which nothing is known.
+#[tactic(auto, using(crate::proofs::Alike::dumps_alike))]
 pub fn fresh_store(alloc: Global, layout: Layout, image: Vec<u8>) -> Result<Off, AllocError>
     requires { vec_len image ≡ rounded (params_of layout).mem }
     ensures { IfOk result (λ off. StandsFresh (zones_of layout) (rounded (params_of layout).mem) image.items off) }

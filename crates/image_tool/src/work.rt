@@ -10,6 +10,7 @@ ghost use Rattle.image_tool.specs.Runs.{Runs};
 use crate::blk_script::run_blk_script;
 use crate::images::{blank, show_layout};
 use crate::making::make;
+use crate::moving::move_image;
 use crate::records::{erase, extract, list};
 use crate::script::run_script;
 use box_io::{Sink, Source, Store};
@@ -60,6 +61,7 @@ fn do_work<S: Source, M: Store, O: Sink>(
     match read_plan(alloc, words) {
         Ok(Plan::Ram(command, layout)) => do_command(alloc, command, layout, script, image, out),
         Ok(Plan::Blk(layout)) => run_blk_script(alloc, layout, script, image, out),
+        Ok(Plan::Move(from, to)) => move_image(alloc, from, to, image, out),
         Err(stop) => Err(stop),
     }
 }

@@ -7,8 +7,8 @@ mod reading;
 mod settling;
 
 pub use logs::Logs;
-pub use reading::{Reading, keeps, read_zone};
-pub use settling::{Settled, settle};
+pub use reading::{Reading, keeps, read_zone, read_zone_by};
+pub use settling::{Settled, settle, settle_by};
 pub use zone_spec::{State, Words};
 
 #[cfg(test)]

@@ -256,20 +256,26 @@ fn read_log(
     Ok((Bytes::from_vec(log), counts))
 }
 
-/// Reads a zone as a boot does, and stores nothing. The log is the only memory taken.
-pub fn read_zone(alloc: Global, span: &Span, zone: &Zone) -> Result<Reading, AllocError>
+/// Reads a zone as a boot does, and stores nothing. The log is the only memory taken. A caller with many zones makes one
+/// encoder for those with the same parity.
+pub fn read_zone_by(
+    alloc: Global,
+    coder: &Coder,
+    span: &Span,
+    zone: &Zone,
+) -> Result<Reading, AllocError>
+    requires coder { coder.now ≡ zone.now.parity }
     requires valid { IsValidZone zone.now }
     requires size { length span.now ≡ zone.now.size }
     ensures { IfOk result (λ r. r ≡ zone_reading zone.now span.now) }
 {
     let mut fixes: ArrayVec<Fix, 63> = ArrayVec::new();
-    let coder = Coder::new(zone);
     let header = coder.read_header(span, zone, &mut fixes);
     let counts = counts_of(header.outcome);
     let words = header.words;
     match state_of(zone, words) {
         State::Found => {
-            let (log, more) = read_log(alloc, &coder, span, zone, words)?;
+            let (log, more) = read_log(alloc, coder, span, zone, words)?;
             Ok(Reading {
                 state: State::Found,
                 words,
@@ -286,6 +292,15 @@ pub fn read_zone(alloc: Global, span: &Span, zone: &Zone) -> Result<Reading, All
             bad: counts.bad,
         }),
     }
+}
+
+/// Reads a zone as a boot does, with an encoder of its own.
+pub fn read_zone(alloc: Global, span: &Span, zone: &Zone) -> Result<Reading, AllocError>
+    requires valid { IsValidZone zone.now }
+    requires size { length span.now ≡ zone.now.size }
+    ensures { IfOk result (λ r. r ≡ zone_reading zone.now span.now) }
+{
+    read_zone_by(alloc, &Coder::new(zone), span, zone)
 }
 
 /// Tells whether a boot leaves the zone with this reading without erasing it (`fs/pstore/ram.c`). That an ftrace ring

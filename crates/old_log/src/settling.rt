@@ -263,7 +263,15 @@ fn bytes_of(words: Words) -> ArrayVec<u8, 12>
 
 /// Makes the first `limit` stores of a boot, or all, in the zone whose bytes are span `i`: the corrections of its data
 /// and header, and the erasure of a zone that is not kept. `reading` is that of the span. Takes no memory.
-pub fn settle(spans: &mut Spans, i: u32, zone: &Zone, reading: &Reading, limit: u64) -> Settled
+pub fn settle_by(
+    coder: &Coder,
+    spans: &mut Spans,
+    i: u32,
+    zone: &Zone,
+    reading: &Reading,
+    limit: u64,
+) -> Settled
+    requires coder { coder.now ≡ zone.now.parity }
     requires valid { IsValidZone zone.now }
     requires span { i < length spans.old.spans }
     requires size { length (span spans.old i) ≡ zone.now.size }
@@ -275,14 +283,28 @@ pub fn settle(spans: &mut Spans, i: u32, zone: &Zone, reading: &Reading, limit: 
     ensures erase_at { result.erase_at ≡ length (boot_fixes zone.now (span spans.old i)) }
 {
     let _len = spans.all()[i as usize].len();
-    let coder = Coder::new(zone);
     let mut tally = Tally { limit, count: 0 };
-    tally.correct_zone(&coder, spans, i, zone, reading);
+    tally.correct_zone(coder, spans, i, zone, reading);
     let erase_at = tally.count;
-    tally.erase_unless_kept(&coder, spans, i, zone, reading);
+    tally.erase_unless_kept(coder, spans, i, zone, reading);
     Settled {
         made: limit.min(tally.count),
         all: tally.count,
         erase_at,
     }
+}
+
+/// The same with an encoder of its own. Takes no memory.
+pub fn settle(spans: &mut Spans, i: u32, zone: &Zone, reading: &Reading, limit: u64) -> Settled
+    requires valid { IsValidZone zone.now }
+    requires span { i < length spans.old.spans }
+    requires size { length (span spans.old i) ≡ zone.now.size }
+    requires reading { reading.now ≡ zone_reading zone.now (span spans.old i) }
+    ensures stores { spans.new ≡ with_span spans.old i (after_stores (span spans.old i)
+        (take limit (boot_stores zone.now (span spans.old i)))) }
+    ensures made { result.made ≡ min limit (length (boot_stores zone.now (span spans.old i))) }
+    ensures all { result.all ≡ length (boot_stores zone.now (span spans.old i)) }
+    ensures erase_at { result.erase_at ≡ length (boot_fixes zone.now (span spans.old i)) }
+{
+    settle_by(&Coder::new(zone), spans, i, zone, reading, limit)
 }

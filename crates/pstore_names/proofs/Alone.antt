@@ -26,7 +26,7 @@ differs i j h = grind (arith, h)
 passed : (i j : ℕ) → j < i → (i == j) ≡ false
 passed i j h = grind (arith, h)
 
-equals : (i : ℕ) → (i == i) ≡ true
+pub equals : (i : ℕ) → (i == i) ≡ true
 equals i = grind arith
 
 -- what a rising list says of its first zone and of the rest
@@ -66,7 +66,7 @@ least-number least (x ∷ zones) (suc i) s e at is = by (is_of Dump x.0.name.kin
     by false other rest = rest least ((rising least x zones e).other other)
 
 -- the zones in the record of a dump
-abbrev in_dump : ℕ → Bool → List Saved → List Saved
+abbrev pub in_dump : ℕ → Bool → List Saved → List Saved
 in_dump n packed zones = filter (λ (zone : Saved). is_in (DumpName n packed) zone.0) zones
 
 left-away : (n : ℕ) (packed : Bool) (x : Saved) (zones : List Saved) → is_in (DumpName n packed) x.0 ≡ false
@@ -74,7 +74,7 @@ left-away : (n : ℕ) (packed : Bool) (x : Saved) (zones : List Saved) → is_in
 left-away n packed x zones e =
     ap (λ (b : Bool). if b then x ∷ in_dump n packed zones else in_dump n packed zones) e
 
-taken-in : (n : ℕ) (packed : Bool) (x : Saved) (zones : List Saved) → is_in (DumpName n packed) x.0 ≡ true
+pub taken-in : (n : ℕ) (packed : Bool) (x : Saved) (zones : List Saved) → is_in (DumpName n packed) x.0 ≡ true
     → in_dump n packed (x ∷ zones) ≡ x ∷ in_dump n packed zones
 taken-in n packed x zones e =
     ap (λ (b : Bool). if b then x ∷ in_dump n packed zones else in_dump n packed zones) e
@@ -109,7 +109,7 @@ none-below n packed least (x ∷ zones) e lt = by (is_of Dump x.0.name.kind) ref
         left-away n packed x zones (other-kind n packed x other) ∙ rest least ((rising least x zones e).other other) lt
 
 -- the zone of a dump is the only one in its record
-only-zone : (packed : Bool) (least : ℕ) (zones : List Saved) (i : ℕ) (s : Saved) → numbers_rise least zones ≡ true
+pub only-zone : (packed : Bool) (least : ℕ) (zones : List Saved) (i : ℕ) (s : Saved) → numbers_rise least zones ≡ true
     → slice_get zones i ≡ Some s → is_of Dump s.0.name.kind ≡ true → in_dump s.0.name.index packed zones ≡ s ∷ []
 only-zone packed least [] i s e at is = absurd (omega (arith, slice_get_within [] i s at))
 only-zone packed least (x ∷ zones) zero s e at is =

@@ -3,6 +3,8 @@ pub mod Additive
 pub mod Lengths
 pub mod Merges
 pub mod Texts
+pub mod Moved
+pub mod Forgetting
 pub mod Named
 pub mod Finding
 pub mod Given

@@ -2,3 +2,4 @@ pub mod Candidates
 pub mod Counts
 pub mod Contents
 pub mod Tables
+pub mod Moves

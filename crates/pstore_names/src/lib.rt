@@ -2,8 +2,10 @@
 //! (`fs/pstore/ram.c` and `fs/pstore/inode.c`).
 #![tactic(auto)]
 
+mod fitting;
 mod listing;
 mod merging;
+mod moving;
 mod naming;
 mod notices;
 mod records;
@@ -11,7 +13,9 @@ mod table;
 pub mod types;
 mod zones;
 
+pub use fitting::{fits, forget_unfit};
 pub use listing::names;
+pub use moving::{Move, moves};
 pub use naming::{find, name_text};
 pub use notices::is_in;
 pub use records::{ContentFault, content, length, time};

@@ -3,7 +3,7 @@ ghost use Rattle.std.specs.Prelude.{◌≡◌, ◌+◌, ◌<◌, ◌^◌, [], �
 ghost use Rattle.zone_spec.specs.Notices.{notice};
 ghost use Rattle.zone_spec.specs.Records.{Saved, dumps_of, plain, ftrace_of, logs_of, listed_of};
 ghost use Rattle.old_log.specs.Saving.{saved};
-ghost use Rattle.pstore_names.specs.Counts.{notice_with};
+ghost use Rattle.pstore_names.specs.Counts.{notice_with, corrected_in, bad_in};
 ghost use Rattle.pstore_names.specs.Tables.{entry_of, numbers_rise, zones_counted};
 
 use crate::merging::merged_len;
@@ -24,7 +24,7 @@ pub struct Entry {
 
 /// Whether the numbers of the dump zones rise, as they do in every layout: each dump's notice then counts its own zone
 /// alone.
-fn numbers_rise(logs: &Logs) -> bool
+pub fn numbers_rise(logs: &Logs) -> bool
     ensures { result ≡ numbers_rise 0 (saved logs.now) }
 {
     let mut least = 0;
@@ -66,11 +66,15 @@ fn counted(logs: &Logs, name: Name, len: u128, time: Option<Time>) -> Entry
 }
 
 /// What the zones of the record of zone `i` count: the zone alone, or all of them.
-fn dump_counts(logs: &Logs, i: u32, name: Name, is_alone: bool) -> Counts
+pub fn dump_counts(logs: &Logs, i: u32, name: Name, is_alone: bool) -> Counts
     requires { i < length logs.now.readings }
-    ensures { (s : Saved) → slice_get (saved logs.now) i ≡ Some s
+    ensures notice { (s : Saved) → slice_get (saved logs.now) i ≡ Some s
         → notice_with result.has_parity result.corrected result.bad
         ≡ notice (zones_counted is_alone s (saved logs.now)) name }
+    ensures corrected { (s : Saved) → slice_get (saved logs.now) i ≡ Some s
+        → result.corrected ≡ corrected_in name (zones_counted is_alone s (saved logs.now)) }
+    ensures bad { (s : Saved) → slice_get (saved logs.now) i ≡ Some s
+        → result.bad ≡ bad_in name (zones_counted is_alone s (saved logs.now)) }
 {
     if is_alone {
         counts_at(logs, i, name)

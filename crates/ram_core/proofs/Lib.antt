@@ -17,3 +17,5 @@ pub mod Parting
 pub mod Passing
 pub mod PartBoots
 pub mod Resting
+pub mod Refilling
+pub mod Refilled

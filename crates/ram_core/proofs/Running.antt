@@ -60,13 +60,13 @@ none_flies b o h e free = by b h.flight (ap (λ (p : Option HeldZone). b || flie
     by false None k = refl
     by false (Some f) k = absurd (true≢false k)
 
-no_flight : (z : Zone) (bytes : List ℕ) (o : Option Flying) (p : Option Flight) → o ≡ None → StandsForSome z bytes o p
+pub no_flight : (z : Zone) (bytes : List ℕ) (o : Option Flying) (p : Option Flight) → o ≡ None → StandsForSome z bytes o p
     → p ≡ None
 no_flight z bytes None None e s = refl
 no_flight z bytes None (Some f) e s = absurd s
 no_flight z bytes (Some f) p e s = let n : ◌≡◌ {A = ℕ} 0 1 = cc in absurd (omega (arith, n))
 
-same_kind : (k l : Kind) → is_of k l ≡ true → l ≡ k
+pub same_kind : (k l : Kind) → is_of k l ≡ true → l ≡ k
 same_kind DumpKind DumpKind e = refl
 same_kind DumpKind Console e = absurd (true≢false (sym e))
 same_kind DumpKind Ftrace e = absurd (true≢false (sym e))
@@ -254,7 +254,7 @@ pub record Begun (v w : LiveSeen) (i : ℕ) (z : Zone) (h g : HeldZone) (ask : A
       → StandsForZone z (span v.spans i) g (begun z (call_of ask) live)
 
 -- an idle zone's change moves no cursor
-still : (o : Option Flight) (p : Option Flight) → o ≡ None → (flies_dump o && not (is_some p)) ≡ false
+pub still : (o : Option Flight) (p : Option Flight) → o ≡ None → (flies_dump o && not (is_some p)) ≡ false
 still None p e = refl
 still (Some f) p e = let n : ◌≡◌ {A = ℕ} 0 1 = cc in absurd (omega (arith, n))
 

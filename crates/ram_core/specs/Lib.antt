@@ -13,3 +13,4 @@ pub mod Booting
 pub mod Booted
 pub mod Parting
 pub mod Parted
+pub mod Refilling

@@ -19,7 +19,7 @@ use crate::coders::Coders;
 use crate::known::KnownZone;
 use crate::report::{ZoneReport, report_of};
 use crate::zones::HeldZone;
-use old_log::{Logs, Reading, Settled, keeps, read_zone, settle};
+use old_log::{Logs, Reading, Settled, keeps, read_zone, read_zone_by, settle, settle_by};
 use ram_region::{Span, Spans};
 use std::alloc::{AllocError, Global};
 use zone_params::types::Layout;
@@ -51,6 +51,24 @@ fn hold(alloc: Global, zone: &Zone, reading: &Reading) -> Result<HeldZone, Alloc
     Ok(HeldZone { told, flight: None })
 }
 
+// Reads a zone with the encoder for its parts, which is made if there is none yet.
+fn read_with(
+    alloc: Global,
+    coders: &mut Coders,
+    span: &Span,
+    zone: &Zone,
+) -> Result<Reading, AllocError>
+    requires valid { IsValidZone zone.now }
+    requires size { length span.now ≡ zone.now.size }
+    ensures { IfOk result (λ r. r ≡ zone_reading zone.now span.now) }
+{
+    coders.add(zone)?;
+    match coders.for_zone(zone) {
+        Some(coder) => read_zone_by(alloc, coder, span, zone),
+        None => read_zone(alloc, span, zone),
+    }
+}
+
 impl Prepared {
     ghost use Rattle.ram_core.specs.Booting.{Adds};
 
@@ -68,24 +86,24 @@ impl Prepared {
         ensures { IfOk result (λ _. Adds self.old self.new zone.now span.now known.now) }
     {
         let _len = span.len();
-        let reading = read_zone(alloc, span, zone)?;
+        let reading = read_with(alloc, &mut self.coders, span, zone)?;
         self.reports.push(report_of(zone, known, &reading))?;
         self.held.push(hold(alloc, zone, &reading)?)?;
-        self.coders.add(zone)?;
         self.logs.push(reading);
         Ok(())
     }
 }
 
-/// Reads all zones, and stores nothing. The logs are the only memory taken.
+/// Reads all zones, and stores nothing. The logs and the encoders are the only memory taken.
 pub(crate) fn read_logs(alloc: Global, layout: &Layout, spans: &Spans) -> Result<Logs, AllocError>
     requires { SpansFit (zones_of layout.now) spans.now.spans }
     ensures { IfOk result (λ logs. AreLogs (zones_of layout.now) spans.now.spans logs) }
 {
     let mut logs = Logs::new(alloc, layout)?;
+    let mut coders = Coders::new(alloc);
     let zones = layout.zones();
     for (i, zone) in zones.iter().enumerate() {
-        let reading = read_zone(alloc, &spans.all()[i], zone)?;
+        let reading = read_with(alloc, &mut coders, &spans.all()[i], zone)?;
         logs.push(reading);
     }
     Ok(logs)
@@ -124,8 +142,34 @@ pub struct Passed {
     pub(crate) settled: Settled,
 }
 
+// Settles a zone with the encoder that was made for its parts.
+fn settle_with(
+    coders: &Coders,
+    spans: &mut Spans,
+    i: u32,
+    zone: &Zone,
+    reading: &Reading,
+    limit: u64,
+) -> Settled
+    requires valid { IsValidZone zone.now }
+    requires span { i < length spans.old.spans }
+    requires size { length (span spans.old i) ≡ zone.now.size }
+    requires reading { reading.now ≡ zone_reading zone.now (span spans.old i) }
+    ensures stores { spans.new ≡ with_span spans.old i (after_stores (span spans.old i)
+        (take limit (boot_stores zone.now (span spans.old i)))) }
+    ensures made { result.made ≡ min limit (length (boot_stores zone.now (span spans.old i))) }
+    ensures all { result.all ≡ length (boot_stores zone.now (span spans.old i)) }
+    ensures few { result.all < 2 ^ 64 }
+    ensures erase_at { result.erase_at ≡ length (boot_fixes zone.now (span spans.old i)) }
+{
+    match coders.for_zone(zone) {
+        Some(coder) => settle_by(coder, spans, i, zone, reading, limit),
+        None => settle(spans, i, zone, reading, limit),
+    }
+}
+
 // Makes the first `left` stores of a boot in zone `i`, or all, by its reading.
-fn pass(spans: &mut Spans, i: u32, zone: &Zone, logs: &Logs, left: u64) -> Passed
+fn pass(coders: &Coders, spans: &mut Spans, i: u32, zone: &Zone, logs: &Logs, left: u64) -> Passed
     requires valid { IsValidZone zone.now }
     requires span { i < length spans.old.spans }
     requires size { length (span spans.old i) ≡ zone.now.size }
@@ -144,21 +188,21 @@ fn pass(spans: &mut Spans, i: u32, zone: &Zone, logs: &Logs, left: u64) -> Passe
         Some(reading) => Passed {
             left,
             words: reading.words,
-            settled: settle(spans, i, zone, reading, left),
+            settled: settle_with(coders, spans, i, zone, reading, left),
         },
         None => unreachable!(),
     }
 }
 
 /// Makes all stores of a boot, by the zones' readings. Takes no memory.
-pub(crate) fn settle_all(spans: &mut Spans, layout: &Layout, logs: &Logs)
+pub(crate) fn settle_all(coders: &Coders, spans: &mut Spans, layout: &Layout, logs: &Logs)
     requires spans { SpansFit (zones_of layout.now) spans.old.spans }
     requires logs { AreLogs (zones_of layout.now) spans.old.spans logs.now }
     ensures { Settles (zones_of layout.now) spans.old spans.new }
 {
     let zones = layout.zones();
     for i in 0..logs.len() {
-        let _passed = pass(spans, i, &zones[i as usize], logs, u64::MAX);
+        let _passed = pass(coders, spans, i, &zones[i as usize], logs, u64::MAX);
     }
 }
 
@@ -172,6 +216,7 @@ pub struct BootProgress {
 /// Makes the first `limit` stores of a boot, or all, by the zones' readings, and notes how it passed each zone where
 /// there is room for it. Takes no memory.
 pub(crate) fn settle_part(
+    coders: &Coders,
     spans: &mut Spans,
     layout: &Layout,
     logs: &Logs,
@@ -191,7 +236,7 @@ pub(crate) fn settle_part(
         is_whole: true,
     };
     for i in 0..logs.len() {
-        let next = pass(spans, i, &zones[i as usize], logs, progress.left);
+        let next = pass(coders, spans, i, &zones[i as usize], logs, progress.left);
         progress.is_whole &= next.settled.all <= progress.left;
         progress.left -= next.settled.made;
         passed.push_reserved(next);

@@ -11,6 +11,7 @@ mod coders;
 mod known;
 mod live;
 mod off;
+mod rebuilding;
 mod report;
 mod told;
 mod zones;

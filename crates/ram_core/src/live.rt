@@ -147,7 +147,7 @@ fn turn(cursor: &mut Option<Cursor>, stored: Option<Stored>)
 }
 
 // One dump zone, if the zone is one and has a flight.
-fn dump_flight(zone: &Zone, flies: bool) -> usize
+pub(crate) fn dump_flight(zone: &Zone, flies: bool) -> usize
     ensures { result ≡ dump_flight zone.now flies }
 {
     if is_of_dump(zone) && flies { 1 } else { 0 }
@@ -348,7 +348,7 @@ impl Live {
     }
 
     // Makes all stores that are left of the flight in zone `i`, if one stands there.
-    fn store_all(&mut self, i: u32) -> Option<Stored>
+    pub(crate) fn store_all(&mut self, i: u32) -> Option<Stored>
         requires { i < length self.old.layout }
         ensures idle { result ≡ None → self.new ≡ self.old }
         ensures flies { flies_at (slice_get self.old.zones i) ≡ is_some result }
@@ -367,7 +367,7 @@ impl Live {
     }
 
     // The place of the zone of this name.
-    fn place(&self, zone: ZoneName) -> Option<u32>
+    pub(crate) fn place(&self, zone: ZoneName) -> Option<u32>
         ensures place { result ≡ zone_place self.now.layout zone }
         ensures within { IfSome result (λ i. (i < length self.now.layout) × (i < length self.now.zones)) }
     {

@@ -256,7 +256,7 @@ impl Off {
     }
 
     /// The logs that a boot would save. Each zone is read, and nothing is stored: the machine comes back as it was.
-    /// The logs and the list of spans are the only memory taken.
+    /// The logs, the encoders and the list of spans are the only memory taken.
     pub fn logs(self) -> Result<(Off, Logs), (Off, AllocError)>
         ensures logs { IfOk result (λ r. (layout : List AZone) (mem : ℕ) (s : OffState)
             → StandsOff layout mem self s → saved r.1 ≡ saved_logs layout (booted layout s)) }
@@ -281,7 +281,12 @@ impl Off {
         let mut open = self.open()?;
         match open.prepare() {
             Ok((prepared, stopped)) => {
-                settle_all(&mut open.spans, &open.layout, &prepared.logs);
+                settle_all(
+                    &prepared.coders,
+                    &mut open.spans,
+                    &open.layout,
+                    &prepared.logs,
+                );
                 let Prepared {
                     logs,
                     reports,
@@ -314,9 +319,10 @@ impl Off {
                     logs,
                     reports: _,
                     held,
-                    coders: _,
+                    coders,
                 } = prepared;
                 let progress = settle_part(
+                    &coders,
                     &mut open.spans,
                     &open.layout,
                     &logs,

@@ -11,22 +11,22 @@ use Rattle.grammar_spec.specs.declared.line.Line.TheVariants.{Blank, Write, Dump
 use Rattle.zone_spec.specs.declared.Time.{Time}
 use Rattle.session_spec.specs.Sound.{IsTime}
 use Rattle.grammar_spec.specs.Printed.{HasFields}
-use Rattle.tool_spec.specs.Scripts.{line_done}
+use Rattle.tool_spec.specs.Scripts.{Kernel, store_line, line_done}
 use Rattle.tool_spec.specs.declared.Cause.{Cause}
 use Rattle.tool_spec.specs.declared.Cause.TheVariants.{IsOff, IsLive, NotHere}
-use Rattle.ram_session.specs.Sessions.{Stands, LineRefused}
-use Rattle.ram_session.specs.declared.machine.Machine.{Machine}
-use Rattle.ram_session.specs.declared.machine.Machine.TheVariants.{Off, Live}
+use Rattle.ram_session.specs.Sessions.{Live, LineRefused}
+use Rattle.ram_session.specs.Machines.{MachineRefused}
+use Rattle.ram_session.specs.declared.machine.Machine.TheVariants.{Off as OffMachine}
 
 -- a refusal whatever state the machine stands for
 refused_off : (off : OffSeen) (line : Line) (cause : Cause)
-    → ((layout : List Zone) (s : OffState) → line_done layout (OffOf s) line ≡ Err cause)
-    → LineRefused (Off off) line cause
-refused_off off line cause is layout mem (OffOf s) lies stands state = is layout s
-refused_off off line cause is layout mem (LiveOf s) lies stands state = absurd stands
+    → ((layout : List Zone) (s : OffState) (k : Kernel) → line_done layout (OffOf s) k line ≡ Err cause)
+    → MachineRefused (OffMachine off) line cause
+refused_off off line cause is layout mem (OffOf s) k lies alike stands has state = is layout s k
+refused_off off line cause is layout mem (LiveOf s) k lies alike stands has state = absurd stands
 
 refused_live : (live : LiveSeen) (logs : SavedLogs) (line : Line) (cause : Cause)
-    → ((layout : List Zone) (s : LiveState) → line_done layout (LiveOf s) line ≡ Err cause)
+    → ((layout : List Zone) (s : LiveState) → store_line layout (LiveOf s) line ≡ Err cause)
     → LineRefused (Live live logs) line cause
 refused_live live logs line cause is layout mem (OffOf s) lies stands state = absurd stands
 refused_live live logs line cause is layout mem (LiveOf s) lies stands state = is layout s
@@ -44,6 +44,8 @@ WaitsForBoot Stop = ⊤
 WaitsForBoot ListLine = ⊤
 WaitsForBoot (Extract b) = ⊤
 WaitsForBoot (Erase b) = ⊤
+WaitsForBoot (KMsg b) = ⊤
+WaitsForBoot (Crash r t) = ⊤
 WaitsForBoot other = ⊥
 
 abbrev pub WaitsForStop : Line → Type 0
@@ -55,40 +57,38 @@ WaitsForStop other = ⊥
 abbrev pub IsElsewhere : Line → Type 0
 IsElsewhere (KDump a n k r b) = ⊤
 IsElsewhere (CutAfter n) = ⊤
-IsElsewhere (KMsg b) = ⊤
-IsElsewhere (Crash r t) = ⊤
 IsElsewhere (Reserve b) = ⊤
 IsElsewhere (StoreNext t n) = ⊤
 IsElsewhere other = ⊥
 
-waits_for_boot_line : (layout : List Zone) (s : OffState) (line : Line) → WaitsForBoot line
-    → line_done layout (OffOf s) line ≡ Err IsOff
-unfolding line_done
-waits_for_boot_line layout s (Write z b) h = refl
-waits_for_boot_line layout s (Dump t k b) h = refl
-waits_for_boot_line layout s (BeginWrite z b) h = refl
-waits_for_boot_line layout s (BeginErase z) h = refl
-waits_for_boot_line layout s (BeginDump t k b) h = refl
-waits_for_boot_line layout s (Step z n) h = refl
-waits_for_boot_line layout s (Finish z) h = refl
-waits_for_boot_line layout s Stop h = refl
-waits_for_boot_line layout s ListLine h = refl
-waits_for_boot_line layout s (Extract b) h = refl
-waits_for_boot_line layout s (Erase b) h = refl
-waits_for_boot_line layout s (Flip a m) h = absurd h
-waits_for_boot_line layout s Boot h = absurd h
-waits_for_boot_line layout s (BootPart n) h = absurd h
-waits_for_boot_line layout s (KDump a n k r b) h = absurd h
-waits_for_boot_line layout s (CutAfter n) h = absurd h
-waits_for_boot_line layout s (KMsg b) h = absurd h
-waits_for_boot_line layout s (Crash r t) h = absurd h
-waits_for_boot_line layout s (Reserve b) h = absurd h
-waits_for_boot_line layout s (StoreNext t n) h = absurd h
-waits_for_boot_line layout s Blank h = absurd h
+waits_for_boot_line : (layout : List Zone) (s : OffState) (k : Kernel) (line : Line) → WaitsForBoot line
+    → line_done layout (OffOf s) k line ≡ Err IsOff
+unfolding line_done store_line
+waits_for_boot_line layout s k (Write z b) h = refl
+waits_for_boot_line layout s k (Dump t p b) h = refl
+waits_for_boot_line layout s k (BeginWrite z b) h = refl
+waits_for_boot_line layout s k (BeginErase z) h = refl
+waits_for_boot_line layout s k (BeginDump t p b) h = refl
+waits_for_boot_line layout s k (Step z n) h = refl
+waits_for_boot_line layout s k (Finish z) h = refl
+waits_for_boot_line layout s k Stop h = refl
+waits_for_boot_line layout s k ListLine h = refl
+waits_for_boot_line layout s k (Extract b) h = refl
+waits_for_boot_line layout s k (Erase b) h = refl
+waits_for_boot_line layout s k (Flip a m) h = absurd h
+waits_for_boot_line layout s k Boot h = absurd h
+waits_for_boot_line layout s k (BootPart n) h = absurd h
+waits_for_boot_line layout s k (KDump a n p r b) h = absurd h
+waits_for_boot_line layout s k (CutAfter n) h = absurd h
+waits_for_boot_line layout s k (KMsg b) h = refl
+waits_for_boot_line layout s k (Crash r t) h = refl
+waits_for_boot_line layout s k (Reserve b) h = absurd h
+waits_for_boot_line layout s k (StoreNext t n) h = absurd h
+waits_for_boot_line layout s k Blank h = absurd h
 
 waits_for_stop_line : (layout : List Zone) (s : LiveState) (line : Line) → WaitsForStop line
-    → line_done layout (LiveOf s) line ≡ Err IsLive
-unfolding line_done
+    → store_line layout (LiveOf s) line ≡ Err IsLive
+unfolding store_line
 waits_for_stop_line layout s (Write z b) h = absurd h
 waits_for_stop_line layout s (Dump t k b) h = absurd h
 waits_for_stop_line layout s (BeginWrite z b) h = absurd h
@@ -111,34 +111,34 @@ waits_for_stop_line layout s (Reserve b) h = absurd h
 waits_for_stop_line layout s (StoreNext t n) h = absurd h
 waits_for_stop_line layout s Blank h = absurd h
 
-elsewhere_off_line : (layout : List Zone) (s : OffState) (line : Line) → IsElsewhere line
-    → line_done layout (OffOf s) line ≡ Err NotHere
-unfolding line_done
-elsewhere_off_line layout s (Write z b) h = absurd h
-elsewhere_off_line layout s (Dump t k b) h = absurd h
-elsewhere_off_line layout s (BeginWrite z b) h = absurd h
-elsewhere_off_line layout s (BeginErase z) h = absurd h
-elsewhere_off_line layout s (BeginDump t k b) h = absurd h
-elsewhere_off_line layout s (Step z n) h = absurd h
-elsewhere_off_line layout s (Finish z) h = absurd h
-elsewhere_off_line layout s Stop h = absurd h
-elsewhere_off_line layout s ListLine h = absurd h
-elsewhere_off_line layout s (Extract b) h = absurd h
-elsewhere_off_line layout s (Erase b) h = absurd h
-elsewhere_off_line layout s (Flip a m) h = absurd h
-elsewhere_off_line layout s Boot h = absurd h
-elsewhere_off_line layout s (BootPart n) h = absurd h
-elsewhere_off_line layout s (KDump a n k r b) h = refl
-elsewhere_off_line layout s (CutAfter n) h = refl
-elsewhere_off_line layout s (KMsg b) h = refl
-elsewhere_off_line layout s (Crash r t) h = refl
-elsewhere_off_line layout s (Reserve b) h = refl
-elsewhere_off_line layout s (StoreNext t n) h = refl
-elsewhere_off_line layout s Blank h = absurd h
+elsewhere_off_line : (layout : List Zone) (s : OffState) (k : Kernel) (line : Line) → IsElsewhere line
+    → line_done layout (OffOf s) k line ≡ Err NotHere
+unfolding line_done store_line
+elsewhere_off_line layout s k (Write z b) h = absurd h
+elsewhere_off_line layout s k (Dump t p b) h = absurd h
+elsewhere_off_line layout s k (BeginWrite z b) h = absurd h
+elsewhere_off_line layout s k (BeginErase z) h = absurd h
+elsewhere_off_line layout s k (BeginDump t p b) h = absurd h
+elsewhere_off_line layout s k (Step z n) h = absurd h
+elsewhere_off_line layout s k (Finish z) h = absurd h
+elsewhere_off_line layout s k Stop h = absurd h
+elsewhere_off_line layout s k ListLine h = absurd h
+elsewhere_off_line layout s k (Extract b) h = absurd h
+elsewhere_off_line layout s k (Erase b) h = absurd h
+elsewhere_off_line layout s k (Flip a m) h = absurd h
+elsewhere_off_line layout s k Boot h = absurd h
+elsewhere_off_line layout s k (BootPart n) h = absurd h
+elsewhere_off_line layout s k (KDump a n p r b) h = refl
+elsewhere_off_line layout s k (CutAfter n) h = refl
+elsewhere_off_line layout s k (KMsg b) h = absurd h
+elsewhere_off_line layout s k (Crash r t) h = absurd h
+elsewhere_off_line layout s k (Reserve b) h = refl
+elsewhere_off_line layout s k (StoreNext t n) h = refl
+elsewhere_off_line layout s k Blank h = absurd h
 
 elsewhere_live_line : (layout : List Zone) (s : LiveState) (line : Line) → IsElsewhere line
-    → line_done layout (LiveOf s) line ≡ Err NotHere
-unfolding line_done
+    → store_line layout (LiveOf s) line ≡ Err NotHere
+unfolding store_line
 elsewhere_live_line layout s (Write z b) h = absurd h
 elsewhere_live_line layout s (Dump t k b) h = absurd h
 elsewhere_live_line layout s (BeginWrite z b) h = absurd h
@@ -155,21 +155,21 @@ elsewhere_live_line layout s Boot h = absurd h
 elsewhere_live_line layout s (BootPart n) h = absurd h
 elsewhere_live_line layout s (KDump a n k r b) h = refl
 elsewhere_live_line layout s (CutAfter n) h = refl
-elsewhere_live_line layout s (KMsg b) h = refl
-elsewhere_live_line layout s (Crash r t) h = refl
+elsewhere_live_line layout s (KMsg b) h = absurd h
+elsewhere_live_line layout s (Crash r t) h = absurd h
 elsewhere_live_line layout s (Reserve b) h = refl
 elsewhere_live_line layout s (StoreNext t n) h = refl
 elsewhere_live_line layout s Blank h = absurd h
 
-pub waits_for_boot : (off : OffSeen) (line : Line) → WaitsForBoot line → LineRefused (Off off) line IsOff
-waits_for_boot off line h = refused_off off line IsOff (λ layout s. waits_for_boot_line layout s line h)
+pub waits_for_boot : (off : OffSeen) (line : Line) → WaitsForBoot line → MachineRefused (OffMachine off) line IsOff
+waits_for_boot off line h = refused_off off line IsOff (λ layout s k. waits_for_boot_line layout s k line h)
 
 pub waits_for_stop : (live : LiveSeen) (logs : SavedLogs) (line : Line) → WaitsForStop line
     → LineRefused (Live live logs) line IsLive
 waits_for_stop live logs line h = refused_live live logs line IsLive (λ layout s. waits_for_stop_line layout s line h)
 
-pub elsewhere_off : (off : OffSeen) (line : Line) → IsElsewhere line → LineRefused (Off off) line NotHere
-elsewhere_off off line h = refused_off off line NotHere (λ layout s. elsewhere_off_line layout s line h)
+pub elsewhere_off : (off : OffSeen) (line : Line) → IsElsewhere line → MachineRefused (OffMachine off) line NotHere
+elsewhere_off off line h = refused_off off line NotHere (λ layout s k. elsewhere_off_line layout s k line h)
 
 pub elsewhere_live : (live : LiveSeen) (logs : SavedLogs) (line : Line) → IsElsewhere line
     → LineRefused (Live live logs) line NotHere

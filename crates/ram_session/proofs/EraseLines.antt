@@ -15,13 +15,12 @@ use Rattle.session_spec.specs.Operations.{EraseRecord, operated, erases}
 use Rattle.old_log.specs.Saving.{SavedLogs, saved}
 use Rattle.ram_core.specs.LiveSeen.{LiveSeen, StandsLive}
 use Rattle.grammar_spec.specs.declared.line.Line.TheVariants.{Erase}
-use Rattle.tool_spec.specs.Scripts.{line_done, named, erases_of}
+use Rattle.tool_spec.specs.Scripts.{store_line, named, erases_of}
 use Rattle.tool_spec.specs.declared.Cause.TheVariants.{IsOff, IsLive, NoZone, Busy, Idle, OutOfImage, NoRecord, NotHere, TooLong, NoSeat, Crowded, NoRing}
 use Rattle.ram_session.specs.Erasing.{Erases, Forgets, ErasesNamed, IsBusy, EraseFails}
-use Rattle.ram_session.specs.Sessions.{LineDone, LineRefused, LineFails}
+use Rattle.ram_session.specs.Sessions.{Live, LineDone, LineRefused, LineFails}
 use Rattle.ram_session.specs.declared.machine.LineError.{LineError}
 use Rattle.ram_session.specs.declared.machine.LineError.TheVariants.{Memory, Refused}
-use Rattle.ram_session.specs.declared.machine.Machine.TheVariants.{Live}
 use Rattle.ram_session.proofs.RecordLines.{record_is, none_is}
 use Rattle.ram_session.proofs.ErasedZones.{changed_to, all_changed, get_next, set_next, stay_next, forgetting}
 
@@ -183,8 +182,8 @@ module _ (live : LiveSeen) (logs : SavedLogs) (text : List ℕ) (n : Name)
 -- ---- the line
 
 erase_line : (layout : List Zone) (s : LiveState) (text : List ℕ)
-    → line_done layout (LiveOf s) (Erase text) ≡ erases_of layout s (named (saved_logs layout s) text)
-unfolding line_done
+    → store_line layout (LiveOf s) (Erase text) ≡ erases_of layout s (named (saved_logs layout s) text)
+unfolding store_line
 erase_line layout s text = refl
 
 -- the record of the name of one that was named is that one
@@ -194,7 +193,7 @@ record_there zones text r e = sym (record_is zones text r.name (sym (ap (option_
 
 erase_as : (layout : List Zone) (s : LiveState) (text : List ℕ) (r : Listed) (b : Bool)
     → named (saved_logs layout s) text ≡ Some r → flies layout s (λ z. is_in r.name z) ≡ b
-    → line_done layout (LiveOf s) (Erase text) ≡ cond b (Err Busy)
+    → store_line layout (LiveOf s) (Erase text) ≡ cond b (Err Busy)
     (Ok (record { session = LiveOf (erased layout s r.name); text = [] }))
 erase_as layout s text r true e f = erase_line layout s text
     ∙ rw (e, record_there (saved_logs layout s) text r e, f) refl

@@ -7,20 +7,22 @@ use Rattle.old_log.specs.Saving.{SavedLogs}
 use Rattle.ram_core.specs.OffSeen.{OffSeen, StandsOff}
 use Rattle.ram_core.specs.LiveSeen.{LiveSeen, StandsLive}
 use Rattle.ram_session.specs.Sessions.{Stands}
+use Rattle.ram_session.specs.Machines.{store_of}
+use Rattle.ram_session.specs.declared.kernel.Kernel.{Kernel}
 use Rattle.ram_session.specs.declared.machine.Machine.{Machine}
 use Rattle.ram_session.specs.declared.machine.Machine.TheVariants.{Off, Live}
 
 -- bytes are the image of each state for which the machine stands
 abbrev pub IsImageOf : Machine → List ℕ → Type 0
-IsImageOf machine bytes = (layout : List Zone) (mem : ℕ) (s : Session) → Stands layout mem machine s
+IsImageOf machine bytes = (layout : List Zone) (mem : ℕ) (s : Session) → Stands layout mem (store_of machine) s
     → bytes ≡ session_image s
 
 pub off_image : (off : OffSeen) (bytes : List ℕ) → bytes ≡ off.image → IsImageOf (Off off) bytes
 off_image off bytes same layout mem (OffOf s) stands = same ∙ stands.image
 off_image off bytes same layout mem (LiveOf s) stands = absurd stands
 
-pub live_image : (live : LiveSeen) (logs : SavedLogs) (off : OffSeen) (bytes : List ℕ)
+pub live_image : (live : LiveSeen) (logs : SavedLogs) (kernel : Kernel) (off : OffSeen) (bytes : List ℕ)
     → ((layout : List Zone) (mem : ℕ) (s : LiveState) → StandsLive layout mem live s
-    → StandsOff layout mem off (stopped layout s)) → bytes ≡ off.image → IsImageOf (Live live logs) bytes
-live_image live logs off bytes stop same layout mem (OffOf s) stands = absurd stands
-live_image live logs off bytes stop same layout mem (LiveOf s) stands = same ∙ (stop layout mem s stands.0).image
+    → StandsOff layout mem off (stopped layout s)) → bytes ≡ off.image → IsImageOf (Live live logs kernel) bytes
+live_image live logs kernel off bytes stop same layout mem (OffOf s) stands = absurd stands
+live_image live logs kernel off bytes stop same layout mem (LiveOf s) stands = same ∙ (stop layout mem s stands.0).image

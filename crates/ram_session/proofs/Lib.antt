@@ -5,10 +5,13 @@ pub mod LiveLines
 pub mod StateLines
 pub mod RecordLines
 pub mod AnyLines
+pub mod Machines
+pub mod KernelLines
 pub mod ScriptLines
 pub mod ErasedZones
 pub mod EraseLines
 pub mod Images
 pub mod Listings
+pub mod MoveTexts
 pub mod Sides
 pub mod Called

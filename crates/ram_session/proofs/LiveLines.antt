@@ -17,12 +17,11 @@ use Rattle.old_log.specs.Saving.{SavedLogs}
 use Rattle.ram_core.specs.LiveSeen.{LiveSeen, StandsLive, Leaves as LeavesLive}
 use Rattle.grammar_spec.specs.declared.line.Line.{Line}
 use Rattle.grammar_spec.specs.declared.line.Line.TheVariants.{Write, Dump as DumpLine, BeginWrite, BeginErase, BeginDump, Step, Finish}
-use Rattle.tool_spec.specs.Scripts.{line_done, done_or_refused, refusal_cause}
+use Rattle.tool_spec.specs.Scripts.{store_line, done_or_refused, refusal_cause}
 use Rattle.tool_spec.specs.declared.Cause.{Cause}
 use Rattle.tool_laws.proofs.Steps.{calls_keep_logs}
 use Rattle.ram_session.specs.Answers.{Done, IsRefused, Begun, NotBegun}
-use Rattle.ram_session.specs.Sessions.{Stands, LineDone, LineRefused}
-use Rattle.ram_session.specs.declared.machine.Machine.TheVariants.{Off, Live}
+use Rattle.ram_session.specs.Sessions.{Off, Live, Stands, LineDone, LineRefused}
 
 -- ---- saved logs stay
 
@@ -66,7 +65,7 @@ finish_logs name layout s n h = goes_logs layout s n (target layout s name) h
 
 -- the line does what this answers in a live state, and puts nothing
 abbrev IsCall : Line → (List Zone → LiveState → Result LiveState Refusal) → Type 0
-IsCall line f = (layout : List Zone) (s : LiveState) → line_done layout (LiveOf s) line
+IsCall line f = (layout : List Zone) (s : LiveState) → store_line layout (LiveOf s) line
     ≡ done_or_refused (LiveOf s) [] (answered (f layout s))
 
 call_done : (old new : LiveSeen) (logs : SavedLogs) (line : Line)
@@ -97,34 +96,34 @@ call_refused old logs line f why is refused layout mem (LiveOf s) lies stands st
 -- ---- the lines
 
 write_is : (z : ZoneName) (bytes : List ℕ) → IsCall (Write z bytes) (λ layout s. make layout s (Append z bytes))
-unfolding line_done
+unfolding store_line
 write_is z bytes layout s = refl
 
 dump_is : (t : Time) (packed : Bool) (bytes : List ℕ) → IsCall (DumpLine t packed bytes)
     (λ layout s. make layout s (Dump t packed bytes))
-unfolding line_done
+unfolding store_line
 dump_is t packed bytes layout s = refl
 
 begin_write_is : (z : ZoneName) (bytes : List ℕ) → IsCall (BeginWrite z bytes)
     (λ layout s. begin layout s (Append z bytes))
-unfolding line_done
+unfolding store_line
 begin_write_is z bytes layout s = refl
 
 begin_erase_is : (z : ZoneName) → IsCall (BeginErase z) (λ layout s. begin layout s (Erase z))
-unfolding line_done
+unfolding store_line
 begin_erase_is z layout s = refl
 
 begin_dump_is : (t : Time) (packed : Bool) (bytes : List ℕ)
     → IsCall (BeginDump t packed bytes) (λ layout s. begin layout s (Dump t packed bytes))
-unfolding line_done
+unfolding store_line
 begin_dump_is t packed bytes layout s = refl
 
 step_is : (z : ZoneName) (k : ℕ) → IsCall (Step z k) (λ layout s. step layout s z k)
-unfolding line_done
+unfolding store_line
 step_is z k layout s = refl
 
 finish_is : (z : ZoneName) → IsCall (Finish z) (λ layout s. finish layout s z)
-unfolding line_done
+unfolding store_line
 finish_is z layout s = refl
 
 begun_done : (old new : LiveSeen) (ask : Ask) (name : ZoneName) → Begun old new ask name

@@ -8,10 +8,9 @@ use Rattle.session_spec.specs.Off.{flipped}
 use Rattle.session_spec.specs.Sound.{IsState}
 use Rattle.ram_core.specs.OffSeen.{OffSeen, StandsOff}
 use Rattle.grammar_spec.specs.declared.line.Line.TheVariants.{Flip}
-use Rattle.tool_spec.specs.Scripts.{line_done}
+use Rattle.tool_spec.specs.Scripts.{store_line}
 use Rattle.tool_spec.specs.declared.Cause.TheVariants.{OutOfImage}
-use Rattle.ram_session.specs.Sessions.{Stands, LineDone, LineRefused}
-use Rattle.ram_session.specs.declared.machine.Machine.TheVariants.{Off, Live}
+use Rattle.ram_session.specs.Sessions.{Off, Live, Stands, LineDone, LineRefused}
 
 nat_lt-true : {a b : ℕ} → a < b → nat_lt a b ≡ true
 nat_lt-true h = grind (arith, nat_tests)
@@ -20,13 +19,13 @@ nat_lt-false : {a b : ℕ} → b ≤ a → nat_lt a b ≡ false
 nat_lt-false h = grind (arith, nat_tests)
 
 flip_line : (layout : List Zone) (s : OffState) (place mask : ℕ) → place < length s.image
-    → line_done layout (OffOf s) (Flip place mask) ≡ Ok (record { session = OffOf (flipped s place mask); text = [] })
-unfolding line_done
+    → store_line layout (OffOf s) (Flip place mask) ≡ Ok (record { session = OffOf (flipped s place mask); text = [] })
+unfolding store_line
 flip_line layout s place mask h = rw (nat_lt-true h) refl
 
 flip_beyond : (layout : List Zone) (s : OffState) (place mask : ℕ) → length s.image ≤ place
-    → line_done layout (OffOf s) (Flip place mask) ≡ Err OutOfImage
-unfolding line_done
+    → store_line layout (OffOf s) (Flip place mask) ≡ Err OutOfImage
+unfolding store_line
 flip_beyond layout s place mask h = rw (nat_lt-false h) refl
 
 pub flip_done : (old new : OffSeen) (place mask : ℕ) → place < old.mem

@@ -18,10 +18,9 @@ use Rattle.ram_core.specs.LiveSeen.{LiveSeen}
 use Rattle.grammar_spec.specs.declared.line.Line.TheVariants.{Extract}
 use Rattle.pstore_names.proofs.Given.{same-name}
 use Rattle.tool_spec.specs.Texts.{extract_text}
-use Rattle.tool_spec.specs.Scripts.{line_done, named, extracts_of}
+use Rattle.tool_spec.specs.Scripts.{store_line, named, extracts_of}
 use Rattle.tool_spec.specs.declared.Cause.TheVariants.{NoRecord}
-use Rattle.ram_session.specs.Sessions.{LineDone, LineRefused}
-use Rattle.ram_session.specs.declared.machine.Machine.TheVariants.{Live}
+use Rattle.ram_session.specs.Sessions.{Live, LineDone, LineRefused}
 
 -- ---- the record whose name has a text
 
@@ -107,8 +106,8 @@ given_content zones text n bytes e given = ap (option_map (content zones)) (reco
 -- ---- the content of a record
 
 extract_line : (layout : List Zone) (s : LiveState) (text : List ℕ)
-    → line_done layout (LiveOf s) (Extract text) ≡ extracts_of layout s (named (saved_logs layout s) text)
-unfolding line_done
+    → store_line layout (LiveOf s) (Extract text) ≡ extracts_of layout s (named (saved_logs layout s) text)
+unfolding store_line
 extract_line layout s text = refl
 
 put : (layout : List Zone) (s : LiveState) (o : Option Listed) (text : List ℕ)

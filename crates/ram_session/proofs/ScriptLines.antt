@@ -9,13 +9,14 @@ use Rattle.session_spec.specs.Sound.{IsState}
 use Rattle.ram_core.specs.OffSeen.{OffSeen}
 use Rattle.grammar_spec.specs.declared.line.Line.{Line}
 use Rattle.grammar_spec.specs.Printed.{AllHaveFields}
-use Rattle.tool_spec.specs.Scripts.{ran, started}
+use Rattle.tool_spec.specs.Scripts.{Kernel, new_kernel, ran, started}
 use Rattle.tool_spec.specs.declared.Stop.{Stop}
 use Rattle.tool_spec.specs.declared.Stop.TheVariants.{Memory, Usage, Param, Layout, Short, ScriptFault, ImageFault, SinkFault, TooLong, BadLine, Refused}
 use Rattle.tool_laws.specs.Scripts.{ScriptStatesAreSound}
 use Rattle.tool_frame.specs.Playing.{Played, PlayedTo, PlayStop}
 use Rattle.tool_frame.proofs.Play.{played_none, played_on, played_all, stopped_memory, stopped_refused, stopped_put}
-use Rattle.ram_session.specs.Sessions.{Stands, Leaves, LineDone, LineRefused}
+use Rattle.ram_session.specs.Sessions.{Stands}
+use Rattle.ram_session.specs.Machines.{store_of, HasKernel}
 use Rattle.ram_session.specs.Playing.{Puts, PutsPart, LineStops, StandsFresh, PlaysAll}
 use Rattle.ram_session.specs.declared.machine.Machine.{Machine}
 use Rattle.ram_session.specs.declared.machine.Machine.TheVariants.{Off, Live}
@@ -24,8 +25,10 @@ use Rattle.ram_session.specs.declared.machine.Machine.TheVariants.{Off, Live}
 pub record PlaysTo (layout : List Zone) (mem : ℕ) (image : List ℕ) (lines : List Line) (i : ℕ) (machine : Machine)
     (given given' : Option (List ℕ)) : Type 0 where
   pub session : Session
-  pub stands : Stands layout mem machine session
-  pub played : PlayedTo layout image lines i session given given'
+  pub kernel : Kernel
+  pub stands : Stands layout mem (store_of machine) session
+  pub has : HasKernel machine kernel
+  pub played : PlayedTo layout image lines i session kernel given given'
 
 abbrev pub PlaysSoFar : Machine → List Line → ℕ → Machine → Option (List ℕ) → Option (List ℕ) → Type 0
 PlaysSoFar first lines i machine given given' = (off : OffSeen) → first ≡ Off off
@@ -37,8 +40,10 @@ pub plays_none : (off : OffSeen) (lines : List Line) (given : Option (List ℕ))
 plays_none off lines given other is layout mem image f =
     record {
       session = OffOf (fresh layout image);
+      kernel = new_kernel;
       stands = subst
-          (λ (m : Machine). Stands layout mem m (OffOf (fresh layout image))) (sym is) f.stands;
+          (λ (m : Machine). Stands layout mem (store_of m) (OffOf (fresh layout image))) (sym is) f.stands;
+      has = subst (λ (m : Machine). HasKernel m new_kernel) (sym is) refl;
       played =
           played_none layout image lines given;
     }
@@ -55,11 +60,14 @@ module _ (sound : ScriptStatesAreSound) (first : Machine) (lines : List Line) (f
       → PlaysSoFar first lines (i + 1) next a c
   plays_next next c puts off start layout mem image f =
       let p = so_far off start layout mem image f in
-      let l = puts.done layout mem p.session f.lies p.stands (state off layout mem image f p) in
+      let l = puts.done layout mem p.session p.kernel f.lies f.alike p.stands p.has
+      (state off layout mem image f p) in
       record {
         session = l.next;
+        kernel = l.kernel;
         stands = l.stands;
-        played = played_on layout image lines i line p.session l.next
+        has = l.has;
+        played = played_on layout image lines i line p.session l.next p.kernel l.kernel
             puts.text puts.text a b c below is p.played l.done refl puts.put;
       }
 
@@ -69,18 +77,20 @@ module _ (sound : ScriptStatesAreSound) (first : Machine) (lines : List Line) (f
       → PlayStop stop layout image lines a c g0 h
   plays_stop Memory c g g0 h le same off start layout mem image f =
       let p = so_far off start layout mem image f in
-      rw same (stopped_memory layout image lines i p.session a b p.played)
+      rw same (stopped_memory layout image lines i p.session p.kernel a b p.played)
   plays_stop SinkFault c g g0 h le put off start layout mem image f =
       let p = so_far off start layout mem image f in
-      let l = put.1.done layout mem p.session f.lies p.stands (state off layout mem image f p) in (
+      let l = put.1.done layout mem p.session p.kernel f.lies f.alike p.stands p.has
+      (state off layout mem image f p) in (
         omega (arith, le, put.0),
-        stopped_put layout image lines i line p.session l.next put.1.text put.1.text a b c
+        stopped_put layout image lines i line p.session l.next p.kernel l.kernel put.1.text put.1.text a b c
             below is p.played l.done refl put.1.put,
       )
   plays_stop (Refused n cause) c g g0 h le stop off start layout mem image f =
       let p = so_far off start layout mem image f in
-      rw (stop.0, stop.1) (stopped_refused layout image lines i line cause p.session a b below is p.played
-      (stop.2 layout mem p.session f.lies p.stands (state off layout mem image f p)))
+      rw (stop.0, stop.1) (stopped_refused layout image lines i line cause p.session p.kernel a b below is p.played
+      (stop.2 layout mem p.session p.kernel f.lies f.alike p.stands p.has
+      (state off layout mem image f p)))
   plays_stop Usage c g g0 h le stop off start layout mem image f = absurd stop
   plays_stop (Param x y) c g g0 h le stop off start layout mem image f = absurd stop
   plays_stop (Layout x) c g g0 h le stop off start layout mem image f = absurd stop
@@ -98,6 +108,6 @@ plays_all off lines i machine a b all so_far layout mem image f =
     record {
       session = p.session;
       stands = p.stands;
-      played = played_all layout image lines i p.session a b all
+      played = played_all layout image lines i p.session p.kernel a b all
           p.played;
     }

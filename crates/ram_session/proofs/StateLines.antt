@@ -15,18 +15,16 @@ use Rattle.ram_core.specs.Booted.{Booted, BootedInPart}
 use Rattle.session_spec.specs.BootPart.{boot_parted, boot_made}
 use Rattle.grammar_spec.specs.declared.line.Line.TheVariants.{Blank, Boot, BootPart, Stop, List as ListLine}
 use Rattle.tool_spec.specs.Texts.{boot_text, part_text, listing}
-use Rattle.tool_spec.specs.Scripts.{line_done}
-use Rattle.ram_session.specs.Sessions.{Stands, LineDone}
-use Rattle.ram_session.specs.declared.machine.Machine.{Machine}
-use Rattle.ram_session.specs.declared.machine.Machine.TheVariants.{Off, Live}
+use Rattle.tool_spec.specs.Scripts.{store_line}
+use Rattle.ram_session.specs.Sessions.{StoreSeen, Off, Live, Stands, LineDone}
 
-boot_line : (layout : List Zone) (s : OffState) → line_done layout (OffOf s) Boot
+boot_line : (layout : List Zone) (s : OffState) → store_line layout (OffOf s) Boot
     ≡ Ok (record {
       session = LiveOf (booted layout s);
       text = boot_text (saved_logs layout (booted layout s))
           (report layout s);
     })
-unfolding line_done
+unfolding store_line
 boot_line layout s = refl
 
 pub boot_done : (old : OffSeen) (live : LiveSeen) (logs : SavedLogs) (reports : List ZoneReport) (text : List ℕ)
@@ -40,9 +38,9 @@ boot_done old live logs reports text boots same layout mem (OffOf s) lies stands
     record { next = LiveOf (booted layout s); done = rw told (boot_line layout s); stands = (b.live, b.logs) }
 boot_done old live logs reports text boots same layout mem (LiveOf s) lies stands state = absurd stands
 
-stop_line : (layout : List Zone) (s : LiveState) → line_done layout (LiveOf s) Stop
+stop_line : (layout : List Zone) (s : LiveState) → store_line layout (LiveOf s) Stop
     ≡ Ok (record { session = OffOf (stopped layout s); text = [] })
-unfolding line_done
+unfolding store_line
 stop_line layout s = refl
 
 pub stop_done : (old : LiveSeen) (logs : SavedLogs) (new : OffSeen)
@@ -52,9 +50,9 @@ stop_done old logs new stops layout mem (OffOf s) lies stands state = absurd sta
 stop_done old logs new stops layout mem (LiveOf s) lies stands state =
     record { next = OffOf (stopped layout s); done = stop_line layout s; stands = stops layout mem s stands.0 }
 
-list_line : (layout : List Zone) (s : LiveState) → line_done layout (LiveOf s) ListLine
+list_line : (layout : List Zone) (s : LiveState) → store_line layout (LiveOf s) ListLine
     ≡ Ok (record { session = LiveOf s; text = listing (saved_logs layout s) })
-unfolding line_done
+unfolding store_line
 list_line layout s = refl
 
 pub list_done : (live : LiveSeen) (logs : SavedLogs) (text : List ℕ) → text ≡ listing (saved logs)
@@ -64,19 +62,19 @@ list_done live logs text same layout mem (LiveOf s) lies stands state =
     let told : text ≡ listing (saved_logs layout s) = same ∙ rw stands.1 refl in
     record { next = LiveOf s; done = rw told (list_line layout s); stands = stands }
 
-blank_line : (layout : List Zone) (s : Session) → line_done layout s Blank ≡ Ok (record { session = s; text = [] })
-unfolding line_done
+blank_line : (layout : List Zone) (s : Session) → store_line layout s Blank ≡ Ok (record { session = s; text = [] })
+unfolding store_line
 blank_line layout s = refl
 
-pub blank_done : (machine : Machine) → LineDone machine Blank machine []
-blank_done machine layout mem s lies stands state = record { next = s; done = blank_line layout s; stands = stands }
+pub blank_done : (store : StoreSeen) → LineDone store Blank store []
+blank_done store layout mem s lies stands state = record { next = s; done = blank_line layout s; stands = stands }
 
 part_line : (layout : List Zone) (s : OffState) (limit : ℕ)
-    → line_done layout (OffOf s) (BootPart limit) ≡ Ok (record {
+    → store_line layout (OffOf s) (BootPart limit) ≡ Ok (record {
       session = OffOf (boot_parted layout limit s);
       text = part_text (boot_made layout limit s);
     })
-unfolding line_done
+unfolding store_line
 part_line layout s limit = refl
 
 pub part_done : (old new : OffSeen) (limit given made : ℕ) (text : List ℕ) → given ≡ limit

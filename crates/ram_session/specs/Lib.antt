@@ -1,5 +1,7 @@
 pub mod Answers
 pub mod Sessions
+pub mod Kernels
+pub mod Machines
 pub mod Records
 pub mod Playing
 pub mod Erasing

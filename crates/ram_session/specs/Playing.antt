@@ -13,19 +13,21 @@ use Rattle.grammar_spec.specs.declared.line.Line.{Line}
 use Rattle.tool_spec.specs.declared.Stop.{Stop}
 use Rattle.tool_spec.specs.declared.Stop.TheVariants.{Memory, SinkFault, Refused}
 use Rattle.tool_frame.specs.Playing.{Played, PlayStop}
-use Rattle.ram_session.specs.Sessions.{Stands, LineDone, LineRefused}
+use Rattle.ram_session.specs.Sessions.{Stands}
+use Rattle.ram_session.specs.Kernels.{DumpsAlike}
+use Rattle.ram_session.specs.Machines.{store_of, MachineDone, MachineRefused}
 use Rattle.ram_session.specs.declared.machine.Machine.{Machine}
 
 -- a line was done and its text put, whole or in part
 pub record Puts (old : Machine) (line : Line) (new : Machine) (given given' : Option (List ℕ)) : Type 0 where
   pub text : Text
-  pub done : LineDone old line new text
+  pub done : MachineDone old line new text
   pub put : Appends given given' text
 
 pub record PutsPart (old : Machine) (line : Line) (given given' : Option (List ℕ)) : Type 0 where
   pub new : Machine
   pub text : Text
-  pub done : LineDone old line new text
+  pub done : MachineDone old line new text
   pub put : AppendsFront given given' text
 
 -- why a line of this number was not done or not put
@@ -33,12 +35,13 @@ abbrev pub LineStops : Stop → Machine → Line → ℕ → Option (List ℕ) �
 LineStops Memory old line number given given' faults faults' = given' ≡ given
 LineStops SinkFault old line number given given' faults faults' = Rose faults faults' × PutsPart old line given given'
 LineStops (Refused n cause) old line number given given' faults faults' =
-    (n ≡ number) × (given' ≡ given) × LineRefused old line cause
+    (n ≡ number) × (given' ≡ given) × MachineRefused old line cause
 LineStops stop old line number given given' faults faults' = ⊥
 
 -- a store of which nothing is known stands for this image
 pub record StandsFresh (layout : List Zone) (mem : ℕ) (image : List ℕ) (off : OffSeen) : Type 0 where
   pub lies : IsLayout layout mem
+  pub alike : DumpsAlike layout
   pub size : length image ≡ mem
   pub bytes : AreBytes image
   pub stands : StandsOff layout mem off (fresh layout image)
@@ -47,7 +50,7 @@ pub record StandsFresh (layout : List Zone) (mem : ℕ) (image : List ℕ) (off 
 pub record PlaysAll (layout : List Zone) (mem : ℕ) (image : List ℕ) (lines : List Line) (machine : Machine)
     (given given' : Option (List ℕ)) : Type 0 where
   pub session : Session
-  pub stands : Stands layout mem machine session
+  pub stands : Stands layout mem (store_of machine) session
   pub played : Played layout image lines session given given'
 
 -- a script on a store, for each image for which that stands

@@ -1,4 +1,4 @@
--- A script's machine, and the states of a session that it stands for
+-- A script's store, and the states of a session that it stands for
 use Rattle.std.specs.Prelude.{◌≡◌, ⊤, ℕ, List, Result, Ok, Err}
 use Rattle.zone_spec.specs.declared.Zone.{Zone}
 use Rattle.zone_spec.specs.Layouts.{IsLayout}
@@ -6,44 +6,48 @@ use Rattle.session_spec.specs.States.{Session, Off as OffOf, Live as LiveOf}
 use Rattle.session_spec.specs.Sound.{IsState}
 use Rattle.session_spec.specs.Erasures.{saved_logs}
 use Rattle.old_log.specs.Saving.{saved}
-use Rattle.ram_core.specs.OffSeen.{StandsOff}
-use Rattle.ram_core.specs.LiveSeen.{StandsLive}
+use Rattle.old_log.specs.Saving.{SavedLogs}
+use Rattle.ram_core.specs.OffSeen.{OffSeen, StandsOff}
+use Rattle.ram_core.specs.LiveSeen.{LiveSeen, StandsLive}
 use Rattle.grammar_spec.specs.Fields.{Text}
 use Rattle.grammar_spec.specs.declared.line.Line.{Line}
-use Rattle.grammar_spec.specs.declared.line.Line.TheVariants.{Write, Dump, BeginWrite, BeginErase, BeginDump, Step, Finish}
-use Rattle.tool_spec.specs.Scripts.{line_done}
+use Rattle.grammar_spec.specs.declared.line.Line.TheVariants.{Write, Dump, BeginWrite, BeginErase, BeginDump, Step, Finish, KMsg, Crash, Boot, Stop}
+use Rattle.tool_spec.specs.Scripts.{store_line}
 use Rattle.tool_spec.specs.declared.Cause.{Cause}
-use Rattle.ram_session.specs.declared.machine.Machine.{Machine}
-use Rattle.ram_session.specs.declared.machine.Machine.TheVariants.{Off, Live}
 use Rattle.ram_session.specs.declared.machine.LineError.{LineError}
 use Rattle.ram_session.specs.declared.machine.LineError.TheVariants.{Memory, Refused}
 
--- the machine stands for a state of a session; the saved logs beside a live store are those of the state
-abbrev pub Stands : List Zone → ℕ → Machine → Session → Type 0
+-- a store that is off, or live beside the logs that its last boot saved
+pub data StoreSeen : Type 0 where
+  Off : (off : OffSeen) → StoreSeen
+  Live : (live : LiveSeen) (logs : SavedLogs) → StoreSeen
+
+-- it stands for a state of a session; the saved logs beside a live store are those of the state
+abbrev pub Stands : List Zone → ℕ → StoreSeen → Session → Type 0
 Stands layout mem (Off off) (OffOf s) = StandsOff layout mem off s
 Stands layout mem (Off off) (LiveOf s) = ⊥
 Stands layout mem (Live live logs) (LiveOf s) = StandsLive layout mem live s × (saved logs ≡ saved_logs layout s)
 Stands layout mem (Live live logs) (OffOf s) = ⊥
 
--- a line was done, and the machine stands for the state that it leaves
-pub record Leaves (layout : List Zone) (mem : ℕ) (s : Session) (line : Line) (machine : Machine)
+-- a line of the store was done, and the store stands for the state that it leaves
+pub record Leaves (layout : List Zone) (mem : ℕ) (s : Session) (line : Line) (store : StoreSeen)
     (text : Text) : Type 0 where
   pub next : Session
-  pub done : line_done layout s line ≡ Ok (record { session = next; text = text })
-  pub stands : Stands layout mem machine next
+  pub done : store_line layout s line ≡ Ok (record { session = next; text = text })
+  pub stands : Stands layout mem store next
 
--- it was so of every sound state for which the machine stood
-abbrev pub LineDone : Machine → Line → Machine → Text → Type 0
+-- it was so of every sound state for which the store stood
+abbrev pub LineDone : StoreSeen → Line → StoreSeen → Text → Type 0
 LineDone old line new text = (layout : List Zone) (mem : ℕ) (s : Session) → IsLayout layout mem
     → Stands layout mem old s → IsState layout mem s → Leaves layout mem s line new text
 
 -- a line was refused
-abbrev pub LineRefused : Machine → Line → Cause → Type 0
+abbrev pub LineRefused : StoreSeen → Line → Cause → Type 0
 LineRefused old line cause = (layout : List Zone) (mem : ℕ) (s : Session) → IsLayout layout mem
-    → Stands layout mem old s → IsState layout mem s → line_done layout s line ≡ Err cause
+    → Stands layout mem old s → IsState layout mem s → store_line layout s line ≡ Err cause
 
 -- why a line was not done
-abbrev pub LineFails : Machine → Line → LineError → Type 0
+abbrev pub LineFails : StoreSeen → Line → LineError → Type 0
 LineFails old line Memory = ⊤
 LineFails old line (Refused cause) = LineRefused old line cause
 
@@ -57,3 +61,11 @@ IsCall (BeginDump time packed bytes) = ⊤
 IsCall (Step zone k) = ⊤
 IsCall (Finish zone) = ⊤
 IsCall other = ⊥
+
+-- a line that is none of the kernel's, and neither begins nor ends it
+abbrev pub KeepsKernel : Line → Type 0
+KeepsKernel (KMsg text) = ⊥
+KeepsKernel (Crash reason time) = ⊥
+KeepsKernel Boot = ⊥
+KeepsKernel Stop = ⊥
+KeepsKernel other = ⊤

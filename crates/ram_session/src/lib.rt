@@ -3,6 +3,8 @@
 
 mod calls;
 mod erasing;
+mod kernel;
+mod kernel_lines;
 mod lines;
 mod live_lines;
 mod machine;
@@ -14,11 +16,12 @@ mod texts;
 
 pub use calls::{begin, finish, make, step};
 pub use erasing::erase;
+pub use kernel::Kernel;
 pub use lines::do_line;
 pub use machine::{LineError, Machine};
 pub use playing::play;
 pub use record_lines::content_of;
-pub use texts::listing;
+pub use texts::{listing, move_text};
 
 #[cfg(test)]
 mod tests;

@@ -1,13 +1,15 @@
 // The lines of a script, whatever the machine's state.
-ghost use Rattle.std.specs.Prelude.{◌≡◌, ⊤, [], MatchResult};
+ghost use Rattle.std.specs.Prelude.{◌≡◌, ◌+◌, ◌<◌, ◌≤◌, ◌^◌, ⊤, [], IfOk, MatchResult};
 ghost use Rattle.old_log.specs.Saving.{SavedLogs};
 ghost use Rattle.grammar_spec.specs.Printed.{HasFields};
-ghost use Rattle.ram_session.specs.Sessions.{LineDone, LineFails, IsCall};
+ghost use Rattle.grammar_spec.specs.declared.line.Line.TheVariants.{Boot};
+ghost use Rattle.ram_session.specs.Sessions.{Off as OffStore, Live as LiveStore, LineDone, LineFails, IsCall, KeepsKernel};
+ghost use Rattle.ram_session.specs.Machines.{crashes_of, MachineDone, MachineFails};
 ghost use Rattle.ram_session.specs.declared.machine.Machine.TheVariants.{Off as OffMachine, Live as LiveMachine};
 
 use crate::erasing::erase;
 use crate::machine::{LineError, Machine};
-use crate::{live_lines, off_lines, record_lines, state_lines};
+use crate::{Kernel, kernel_lines, live_lines, off_lines, record_lines, state_lines};
 use box_script::Line;
 use old_log::Logs;
 use ram_core::{Live, Off};
@@ -19,8 +21,8 @@ use tool_spec::Cause;
 fn do_call(live: &mut Live, line: Line) -> Result<(), LineError>
     requires fields { HasFields line }
     requires call { IsCall line }
-    ensures { (logs : SavedLogs) → MatchResult result (λ _. LineDone (LiveMachine live.old logs) line
-        (LiveMachine live.new logs) []) (LineFails (LiveMachine live.old logs) line) }
+    ensures { (logs : SavedLogs) → MatchResult result (λ _. LineDone (LiveStore live.old logs) line
+        (LiveStore live.new logs) []) (LineFails (LiveStore live.old logs) line) }
 {
     match line {
         Line::Write(zone, payload) => live_lines::write(live, zone, payload),
@@ -34,68 +36,105 @@ fn do_call(live: &mut Live, line: Line) -> Result<(), LineError>
     }
 }
 
+// A line of a live store that leaves the kernel as it is.
 #[tactic(auto, using(crate::proofs::AnyLines::waits_for_stop, crate::proofs::AnyLines::elsewhere_live, crate::proofs::StateLines::blank_done, crate::proofs::EraseLines::erase_done, crate::proofs::EraseLines::erase_refused))]
-fn do_live(
+fn do_store(
     alloc: Global,
-    live: Live,
-    logs: Logs,
+    live: &mut Live,
+    logs: &mut Logs,
     line: Line,
-) -> Result<(Machine, Vec<u8>), LineError>
+) -> Result<Vec<u8>, LineError>
     requires fields { HasFields line }
-    ensures { MatchResult result (λ r. LineDone (LiveMachine live logs) line r.0 r.1.items)
-        (LineFails (LiveMachine live logs) line) }
+    requires keeps { KeepsKernel line }
+    ensures { MatchResult result (λ text. LineDone (LiveStore live.old logs.old) line
+        (LiveStore live.new logs.new) text.items) (LineFails (LiveStore live.old logs.old) line) }
 {
-    let (mut live, mut logs) = (live, logs);
     match line {
-        Line::Flip(_, _) | Line::Boot | Line::BootPart(_) => {
-            Err(LineError::Refused(Cause::IsLive))
-        }
-        Line::KDump(_, _, _, _, _)
-        | Line::CutAfter(_)
-        | Line::KMsg(_)
-        | Line::Crash(_, _)
-        | Line::Reserve(_)
-        | Line::StoreNext(_, _) => Err(LineError::Refused(Cause::NotHere)),
-        Line::Stop => Ok((state_lines::stop(live, logs), Vec::new(alloc))),
-        Line::Blank => Ok((Machine::Live(live, logs), Vec::new(alloc))),
-        Line::List => {
-            let text = state_lines::list(alloc, &logs)?;
-            Ok((Machine::Live(live, logs), text))
-        }
-        Line::Extract(name) => match record_lines::extract(alloc, &logs, &name) {
-            Ok(text) => Ok((Machine::Live(live, logs), text)),
+        Line::Flip(_, _) | Line::BootPart(_) => Err(LineError::Refused(Cause::IsLive)),
+        Line::KDump(_, _, _, _, _) | Line::CutAfter(_) | Line::Reserve(_) | Line::StoreNext(_, _) =>
+            Err(LineError::Refused(Cause::NotHere)),
+        Line::Blank => Ok(Vec::new(alloc)),
+        Line::List => Ok(state_lines::list(alloc, logs)?),
+        Line::Extract(name) => record_lines::extract(alloc, logs, &name),
+        Line::Erase(name) => match erase(live, logs, name.as_slice()) {
+            Ok(()) => Ok(Vec::new(alloc)),
             Err(e) => Err(e),
         },
-        Line::Erase(name) => match erase(&mut live, &mut logs, name.as_slice()) {
-            Ok(()) => Ok((Machine::Live(live, logs), Vec::new(alloc))),
-            Err(e) => Err(e),
-        },
-        _ => match do_call(&mut live, line) {
-            Ok(()) => Ok((Machine::Live(live, logs), Vec::new(alloc))),
+        _ => match do_call(live, line) {
+            Ok(()) => Ok(Vec::new(alloc)),
             Err(e) => Err(e),
         },
     }
 }
 
-#[tactic(auto, using(crate::proofs::AnyLines::waits_for_boot, crate::proofs::AnyLines::elsewhere_off, crate::proofs::StateLines::blank_done))]
+#[tactic(auto, using(crate::proofs::Machines::stop_done, crate::proofs::Machines::booted_refused, crate::proofs::KernelLines::kmsg_line, crate::proofs::KernelLines::crash_time))]
+fn do_live(
+    alloc: Global,
+    live: Live,
+    logs: Logs,
+    kernel: Kernel,
+    line: Line,
+) -> Result<(Machine, Vec<u8>), LineError>
+    requires fields { HasFields line }
+    requires few { kernel.crashes + 1 < 2 ^ 32 }
+    ensures done { MatchResult result (λ r. MachineDone (LiveMachine live logs kernel) line r.0 r.1.items)
+        (MachineFails (LiveMachine live logs kernel) line) }
+    ensures count { IfOk result (λ r. crashes_of r.0 ≤ kernel.crashes + 1) }
+{
+    let (mut live, mut logs, mut kernel) = (live, logs, kernel);
+    match line {
+        Line::Boot => Err(LineError::Refused(Cause::IsLive)),
+        Line::Stop => Ok((Machine::Off(state_lines::stop(live, logs)), Vec::new(alloc))),
+        Line::KMsg(text) => match kernel_lines::print(&mut kernel, text.as_slice()) {
+            Ok(()) => Ok((Machine::Live(live, logs, kernel), Vec::new(alloc))),
+            Err(e) => Err(e),
+        },
+        Line::Crash(reason, time) => {
+            match kernel_lines::crash(&mut live, &mut kernel, reason, time) {
+                Ok(()) => Ok((Machine::Live(live, logs, kernel), Vec::new(alloc))),
+                Err(e) => Err(e),
+            }
+        }
+        _ => match do_store(alloc, &mut live, &mut logs, line) {
+            Ok(text) => Ok((Machine::Live(live, logs, kernel), text)),
+            Err(e) => Err(e),
+        },
+    }
+}
+
+// A boot of the store and its kernel.
+#[tactic(auto, using(crate::proofs::Machines::boot_done, crate::proofs::Machines::boot_fails))]
+fn boot(alloc: Global, off: Off) -> Result<(Machine, Vec<u8>), LineError>
+    ensures done { MatchResult result (λ r. MachineDone (OffMachine off) Boot r.0 r.1.items)
+        (MachineFails (OffMachine off) Boot) }
+    ensures count { IfOk result (λ r. crashes_of r.0 ≡ 0) }
+{
+    let kernel = Kernel::new(alloc)?;
+    match state_lines::boot(alloc, off) {
+        Ok((live, logs, text)) => Ok((Machine::Live(live, logs, kernel), text)),
+        Err(e) => Err(e),
+    }
+}
+
+#[tactic(auto, using(crate::proofs::Machines::off_done, crate::proofs::Machines::off_refused, crate::proofs::Machines::off_fails, crate::proofs::AnyLines::waits_for_boot, crate::proofs::AnyLines::elsewhere_off, crate::proofs::StateLines::blank_done))]
 fn do_off(alloc: Global, off: Off, line: Line) -> Result<(Machine, Vec<u8>), LineError>
-    ensures { MatchResult result (λ r. LineDone (OffMachine off) line r.0 r.1.items)
-        (LineFails (OffMachine off) line) }
+    ensures done { MatchResult result (λ r. MachineDone (OffMachine off) line r.0 r.1.items)
+        (MachineFails (OffMachine off) line) }
+    ensures count { IfOk result (λ r. crashes_of r.0 ≡ 0) }
 {
     match line {
         Line::Blank => Ok((Machine::Off(off), Vec::new(alloc))),
         Line::Flip(place, mask) => match off_lines::flip(off, place, mask) {
-            Ok(machine) => Ok((machine, Vec::new(alloc))),
+            Ok(off) => Ok((Machine::Off(off), Vec::new(alloc))),
             Err(cause) => Err(LineError::Refused(cause)),
         },
-        Line::Boot => state_lines::boot(alloc, off),
-        Line::BootPart(limit) => state_lines::boot_part(alloc, off, limit),
-        Line::KDump(_, _, _, _, _)
-        | Line::CutAfter(_)
-        | Line::KMsg(_)
-        | Line::Crash(_, _)
-        | Line::Reserve(_)
-        | Line::StoreNext(_, _) => Err(LineError::Refused(Cause::NotHere)),
+        Line::Boot => boot(alloc, off),
+        Line::BootPart(limit) => match state_lines::boot_part(alloc, off, limit) {
+            Ok((off, text)) => Ok((Machine::Off(off), text)),
+            Err(e) => Err(e),
+        },
+        Line::KDump(_, _, _, _, _) | Line::CutAfter(_) | Line::Reserve(_) | Line::StoreNext(_, _) =>
+            Err(LineError::Refused(Cause::NotHere)),
         _ => Err(LineError::Refused(Cause::IsOff)),
     }
 }
@@ -103,10 +142,12 @@ fn do_off(alloc: Global, off: Off, line: Line) -> Result<(Machine, Vec<u8>), Lin
 /// Does a line, and gives what it prints. A line that is refused ends the session.
 pub fn do_line(alloc: Global, machine: Machine, line: Line) -> Result<(Machine, Vec<u8>), LineError>
     requires fields { HasFields line }
-    ensures { MatchResult result (λ r. LineDone machine line r.0 r.1.items) (LineFails machine line) }
+    requires few { crashes_of machine + 1 < 2 ^ 32 }
+    ensures done { MatchResult result (λ r. MachineDone machine line r.0 r.1.items) (MachineFails machine line) }
+    ensures count { IfOk result (λ r. crashes_of r.0 ≤ crashes_of machine + 1) }
 {
     match machine {
         Machine::Off(off) => do_off(alloc, off, line),
-        Machine::Live(live, logs) => do_live(alloc, live, logs, line),
+        Machine::Live(live, logs, kernel) => do_live(alloc, live, logs, kernel, line),
     }
 }

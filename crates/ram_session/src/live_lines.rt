@@ -2,9 +2,8 @@
 ghost use Rattle.std.specs.Prelude.{◌≡◌, [], MatchResult};
 ghost use Rattle.old_log.specs.Saving.{SavedLogs};
 ghost use Rattle.session_spec.specs.Sound.{IsTime};
-ghost use Rattle.ram_session.specs.Sessions.{LineDone, LineFails};
+ghost use Rattle.ram_session.specs.Sessions.{Live as LiveStore, LineDone, LineFails};
 ghost use Rattle.grammar_spec.specs.declared.line.Line.TheVariants.{Write, Dump, BeginWrite, BeginErase, BeginDump, Step, Finish};
-ghost use Rattle.ram_session.specs.declared.machine.Machine.TheVariants.{Live as LiveMachine};
 ghost use Rattle.tool_spec.specs.Scripts.{refusal_cause};
 
 use crate::calls;
@@ -28,9 +27,9 @@ fn cause(why: Refusal) -> Cause
 /// An append, made whole.
 #[tactic(auto, using(crate::proofs::LiveLines::write_done, crate::proofs::LiveLines::write_refused))]
 pub fn write(live: &mut Live, zone: ZoneName, payload: Bytes) -> Result<(), LineError>
-    ensures { (logs : SavedLogs) → MatchResult result (λ _. LineDone (LiveMachine live.old logs)
-        (Write zone payload) (LiveMachine live.new logs) [])
-        (LineFails (LiveMachine live.old logs) (Write zone payload)) }
+    ensures { (logs : SavedLogs) → MatchResult result (λ _. LineDone (LiveStore live.old logs)
+        (Write zone payload) (LiveStore live.new logs) [])
+        (LineFails (LiveStore live.old logs) (Write zone payload)) }
 {
     match calls::make(live, Ask::Append(zone, payload)) {
         Ok(()) => Ok(()),
@@ -41,9 +40,9 @@ pub fn write(live: &mut Live, zone: ZoneName, payload: Bytes) -> Result<(), Line
 /// So many stores of a flight, or all that are left.
 #[tactic(auto, using(crate::proofs::LiveLines::step_done, crate::proofs::LiveLines::step_refused))]
 pub fn step(live: &mut Live, zone: ZoneName, count: u32) -> Result<(), LineError>
-    ensures { (logs : SavedLogs) → MatchResult result (λ _. LineDone (LiveMachine live.old logs) (Step zone count)
-        (LiveMachine live.new logs) [])
-        (LineFails (LiveMachine live.old logs) (Step zone count)) }
+    ensures { (logs : SavedLogs) → MatchResult result (λ _. LineDone (LiveStore live.old logs) (Step zone count)
+        (LiveStore live.new logs) [])
+        (LineFails (LiveStore live.old logs) (Step zone count)) }
 {
     match calls::step(live, zone, u64::from(count)) {
         Ok(()) => Ok(()),
@@ -54,9 +53,9 @@ pub fn step(live: &mut Live, zone: ZoneName, count: u32) -> Result<(), LineError
 /// All stores that are left of a flight.
 #[tactic(auto, using(crate::proofs::LiveLines::finish_done, crate::proofs::LiveLines::finish_refused))]
 pub fn finish(live: &mut Live, zone: ZoneName) -> Result<(), LineError>
-    ensures { (logs : SavedLogs) → MatchResult result (λ _. LineDone (LiveMachine live.old logs) (Finish zone)
-        (LiveMachine live.new logs) [])
-        (LineFails (LiveMachine live.old logs) (Finish zone)) }
+    ensures { (logs : SavedLogs) → MatchResult result (λ _. LineDone (LiveStore live.old logs) (Finish zone)
+        (LiveStore live.new logs) [])
+        (LineFails (LiveStore live.old logs) (Finish zone)) }
 {
     match calls::finish(live, zone) {
         Ok(()) => Ok(()),
@@ -68,9 +67,9 @@ pub fn finish(live: &mut Live, zone: ZoneName) -> Result<(), LineError>
 #[tactic(auto, using(crate::proofs::LiveLines::dump_done, crate::proofs::LiveLines::dump_refused))]
 pub fn dump(live: &mut Live, time: Time, packed: bool, body: Bytes) -> Result<(), LineError>
     requires { IsTime time }
-    ensures { (logs : SavedLogs) → MatchResult result (λ _. LineDone (LiveMachine live.old logs)
-        (Dump time packed body) (LiveMachine live.new logs) [])
-        (LineFails (LiveMachine live.old logs) (Dump time packed body)) }
+    ensures { (logs : SavedLogs) → MatchResult result (λ _. LineDone (LiveStore live.old logs)
+        (Dump time packed body) (LiveStore live.new logs) [])
+        (LineFails (LiveStore live.old logs) (Dump time packed body)) }
 {
     match calls::make(live, Ask::Dump(time, packed, body)) {
         Ok(()) => Ok(()),
@@ -81,9 +80,9 @@ pub fn dump(live: &mut Live, time: Time, packed: bool, body: Bytes) -> Result<()
 /// An append that is begun.
 #[tactic(auto, using(crate::proofs::LiveLines::begin_write_done, crate::proofs::LiveLines::begin_write_refused))]
 pub fn begin_write(live: &mut Live, zone: ZoneName, payload: Bytes) -> Result<(), LineError>
-    ensures { (logs : SavedLogs) → MatchResult result (λ _. LineDone (LiveMachine live.old logs)
-        (BeginWrite zone payload) (LiveMachine live.new logs) [])
-        (LineFails (LiveMachine live.old logs) (BeginWrite zone payload)) }
+    ensures { (logs : SavedLogs) → MatchResult result (λ _. LineDone (LiveStore live.old logs)
+        (BeginWrite zone payload) (LiveStore live.new logs) [])
+        (LineFails (LiveStore live.old logs) (BeginWrite zone payload)) }
 {
     match calls::begin(live, Ask::Append(zone, payload)) {
         Ok(_) => Ok(()),
@@ -94,9 +93,9 @@ pub fn begin_write(live: &mut Live, zone: ZoneName, payload: Bytes) -> Result<()
 /// An erasure that is begun.
 #[tactic(auto, using(crate::proofs::LiveLines::begin_erase_done, crate::proofs::LiveLines::begin_erase_refused))]
 pub fn begin_erase(live: &mut Live, zone: ZoneName) -> Result<(), LineError>
-    ensures { (logs : SavedLogs) → MatchResult result (λ _. LineDone (LiveMachine live.old logs) (BeginErase zone)
-        (LiveMachine live.new logs) [])
-        (LineFails (LiveMachine live.old logs) (BeginErase zone)) }
+    ensures { (logs : SavedLogs) → MatchResult result (λ _. LineDone (LiveStore live.old logs) (BeginErase zone)
+        (LiveStore live.new logs) [])
+        (LineFails (LiveStore live.old logs) (BeginErase zone)) }
 {
     match calls::begin(live, Ask::Erase(zone)) {
         Ok(_) => Ok(()),
@@ -108,9 +107,9 @@ pub fn begin_erase(live: &mut Live, zone: ZoneName) -> Result<(), LineError>
 #[tactic(auto, using(crate::proofs::LiveLines::begin_dump_done, crate::proofs::LiveLines::begin_dump_refused))]
 pub fn begin_dump(live: &mut Live, time: Time, packed: bool, body: Bytes) -> Result<(), LineError>
     requires { IsTime time }
-    ensures { (logs : SavedLogs) → MatchResult result (λ _. LineDone (LiveMachine live.old logs)
-        (BeginDump time packed body) (LiveMachine live.new logs) [])
-        (LineFails (LiveMachine live.old logs) (BeginDump time packed body)) }
+    ensures { (logs : SavedLogs) → MatchResult result (λ _. LineDone (LiveStore live.old logs)
+        (BeginDump time packed body) (LiveStore live.new logs) [])
+        (LineFails (LiveStore live.old logs) (BeginDump time packed body)) }
 {
     match calls::begin(live, Ask::Dump(time, packed, body)) {
         Ok(_) => Ok(()),

@@ -4,29 +4,31 @@ ghost use Rattle.zone_spec.specs.declared.Zone.{Zone};
 ghost use Rattle.session_spec.specs.States.{Session};
 ghost use Rattle.session_spec.specs.Stop.{session_image};
 ghost use Rattle.ram_session.specs.Sessions.{Stands};
+ghost use Rattle.ram_session.specs.Machines.{store_of};
 
+use crate::Kernel;
 use box_io::Bytes;
 use old_log::Logs;
 use ram_core::{Live, Off};
 use std::alloc::AllocError;
 use tool_spec::Cause;
 
-/// The store of a script: off, or live beside the logs that its last boot saved.
+/// The machine of a script: off, or live, with the logs that its last boot saved and its kernel.
 #[derive(Drop)]
 pub enum Machine {
     Off(Off),
-    Live(Live, Logs),
+    Live(Live, Logs, Kernel),
 }
 
 impl Machine {
     /// The bytes of the image; a live store is stopped for it.
     #[tactic(auto, using(crate::proofs::Images::off_image, crate::proofs::Images::live_image))]
     pub fn into_image(self) -> Bytes
-        ensures { (layout : List Zone) (mem : ℕ) (s : Session) → Stands layout mem self s → result ≡ session_image s }
+        ensures { (layout : List Zone) (mem : ℕ) (s : Session) → Stands layout mem (store_of self) s → result ≡ session_image s }
     {
         match self {
             Machine::Off(off) => off.into_image(),
-            Machine::Live(live, _) => live.stop().into_image(),
+            Machine::Live(live, _, _) => live.stop().into_image(),
         }
     }
 }

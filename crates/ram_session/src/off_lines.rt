@@ -1,23 +1,21 @@
 // Lines while the machine is off.
 ghost use Rattle.std.specs.Prelude.{◌≡◌, [], MatchResult};
-ghost use Rattle.ram_session.specs.Sessions.{LineDone, LineRefused};
+ghost use Rattle.ram_session.specs.Sessions.{Off as OffStore, LineDone, LineRefused};
 ghost use Rattle.grammar_spec.specs.declared.line.Line.TheVariants.{Flip};
-ghost use Rattle.ram_session.specs.declared.machine.Machine.TheVariants.{Off as OffMachine};
 ghost use Rattle.tool_spec.specs.declared.Cause.TheVariants.{OutOfImage};
 
-use crate::machine::Machine;
 use ram_core::Off;
 use tool_spec::Cause;
 
 /// A flip of a byte.
 #[tactic(auto, using(crate::proofs::OffLines::flip_done, crate::proofs::OffLines::flip_refused))]
-pub fn flip(off: Off, place: u32, mask: u8) -> Result<Machine, Cause>
-    ensures { MatchResult result (λ machine. LineDone (OffMachine off) (Flip place mask) machine [])
-        (LineRefused (OffMachine off) (Flip place mask)) }
+pub fn flip(off: Off, place: u32, mask: u8) -> Result<Off, Cause>
+    ensures { MatchResult result (λ next. LineDone (OffStore off) (Flip place mask) (OffStore next) [])
+        (LineRefused (OffStore off) (Flip place mask)) }
 {
     let mut off = off;
     match off.flip(place, mask) {
-        Ok(()) => Ok(Machine::Off(off)),
+        Ok(()) => Ok(off),
         Err(_) => Err(Cause::OutOfImage),
     }
 }

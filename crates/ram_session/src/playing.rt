@@ -1,6 +1,7 @@
 // The lines of a script, in order.
-ghost use Rattle.std.specs.Prelude.{◌≡◌, ◌≤◌, ◌<◌, ◌^◌, length, MatchResult};
+ghost use Rattle.std.specs.Prelude.{◌≡◌, ◌+◌, ◌≤◌, ◌<◌, ◌^◌, length, IfOk, MatchResult};
 ghost use Rattle.grammar_spec.specs.Printed.{HasFields, AllHaveFields};
+ghost use Rattle.ram_session.specs.Machines.{crashes_of};
 ghost use Rattle.ram_session.specs.Playing.{Puts, LineStops, Plays};
 
 use crate::lines::do_line;
@@ -20,6 +21,8 @@ fn play_line<O: Sink>(
     out: &mut O,
 ) -> Result<Machine, Stop>
     requires fields { HasFields line }
+    requires few { crashes_of machine + 1 < 2 ^ 32 }
+    ensures count { IfOk result (λ next. crashes_of next ≤ crashes_of machine + 1) }
     ensures later { O.faults out.old ≤ O.faults out.new }
     ensures played { MatchResult result (λ next. Puts machine line next (O.given out.old) (O.given out.new))
         (λ stop. LineStops stop machine line number (O.given out.old) (O.given out.new) (O.faults out.old)

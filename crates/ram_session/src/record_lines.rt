@@ -8,8 +8,7 @@ ghost use Rattle.old_log.specs.Saving.{saved};
 ghost use Rattle.grammar_spec.specs.declared.line.Line.TheVariants.{Extract};
 ghost use Rattle.tool_spec.specs.Scripts.{named as record_named};
 ghost use Rattle.ram_session.specs.Records.{IsContent};
-ghost use Rattle.ram_session.specs.Sessions.{LineDone, LineFails};
-ghost use Rattle.ram_session.specs.declared.machine.Machine.TheVariants.{Live as LiveMachine};
+ghost use Rattle.ram_session.specs.Sessions.{Live as LiveStore, LineDone, LineFails};
 ghost use Rattle.ram_core.specs.LiveSeen.{LiveSeen};
 
 use crate::machine::LineError;
@@ -44,9 +43,9 @@ pub(crate) fn named(logs: &Logs, text: &[u8]) -> Option<Name>
 
 /// A record's name, length and content.
 pub fn extract(alloc: Global, logs: &Logs, name: &Bytes) -> Result<Vec<u8>, LineError>
-    ensures { (live : LiveSeen) → MatchResult result (λ text. LineDone (LiveMachine live logs.now) (Extract name.now)
-        (LiveMachine live logs.now) text.items)
-        (LineFails (LiveMachine live logs.now) (Extract name.now)) }
+    ensures { (live : LiveSeen) → MatchResult result (λ text. LineDone (LiveStore live logs.now) (Extract name.now)
+        (LiveStore live logs.now) text.items)
+        (LineFails (LiveStore live logs.now) (Extract name.now)) }
 {
     match named(logs, name.as_slice()) {
         Some(name) => match extract_text(alloc, logs, name) {

@@ -1,11 +1,10 @@
 // Lines that boot, stop or list.
 ghost use Rattle.std.specs.Prelude.{◌≡◌, [], IfOk, MatchResult, map};
-ghost use Rattle.ram_session.specs.Sessions.{LineDone, LineFails};
+ghost use Rattle.ram_session.specs.Sessions.{Off as OffStore, Live as LiveStore, LineDone, LineFails};
 ghost use Rattle.grammar_spec.specs.declared.line.Line.TheVariants.{Boot, BootPart, Stop, List as ListLine};
-ghost use Rattle.ram_session.specs.declared.machine.Machine.TheVariants.{Off as OffMachine, Live as LiveMachine};
 ghost use Rattle.ram_core.specs.LiveSeen.{LiveSeen};
 
-use crate::machine::{LineError, Machine};
+use crate::machine::LineError;
 use crate::texts::{boot_text, listing, part_text};
 use old_log::Logs;
 use ram_core::{Live, Off};
@@ -13,45 +12,46 @@ use std::alloc::{AllocError, Global};
 
 /// A boot, with the text of what it reads.
 #[tactic(auto, using(crate::proofs::StateLines::boot_done))]
-pub fn boot(alloc: Global, off: Off) -> Result<(Machine, Vec<u8>), LineError>
-    ensures { MatchResult result (λ r. LineDone (OffMachine off) Boot r.0 r.1.items) (LineFails (OffMachine off) Boot) }
+pub fn boot(alloc: Global, off: Off) -> Result<(Live, Logs, Vec<u8>), LineError>
+    ensures { MatchResult result (λ r. LineDone (OffStore off) Boot (LiveStore r.0 r.1) r.2.items)
+        (LineFails (OffStore off) Boot) }
 {
     let (live, logs, report) = match off.boot() {
         Ok(booted) => booted,
         Err(_) => return Err(LineError::Memory),
     };
     let text = boot_text(alloc, &logs, &report)?;
-    Ok((Machine::Live(live, logs), text))
+    Ok((live, logs, text))
 }
 
 /// A boot that is stopped after so many stores, or after its last.
 #[tactic(auto, using(crate::proofs::StateLines::part_done))]
-pub fn boot_part(alloc: Global, off: Off, limit: u32) -> Result<(Machine, Vec<u8>), LineError>
-    ensures { MatchResult result (λ r. LineDone (OffMachine off) (BootPart limit) r.0 r.1.items)
-        (LineFails (OffMachine off) (BootPart limit)) }
+pub fn boot_part(alloc: Global, off: Off, limit: u32) -> Result<(Off, Vec<u8>), LineError>
+    ensures { MatchResult result (λ r. LineDone (OffStore off) (BootPart limit) (OffStore r.0) r.1.items)
+        (LineFails (OffStore off) (BootPart limit)) }
 {
     let (off, made) = match off.boot_part(u64::from(limit)) {
         Ok(parted) => parted,
         Err(_) => return Err(LineError::Memory),
     };
     let text = part_text(alloc, made)?;
-    Ok((Machine::Off(off), text))
+    Ok((off, text))
 }
 
 /// A stop.
 #[tactic(auto, using(crate::proofs::StateLines::stop_done))]
-pub fn stop(live: Live, logs: Logs) -> Machine
-    ensures { LineDone (LiveMachine live logs) Stop result [] }
+pub fn stop(live: Live, logs: Logs) -> Off
+    ensures { LineDone (LiveStore live logs) Stop (OffStore result) [] }
 {
     let _ = logs.len();
-    Machine::Off(live.stop())
+    live.stop()
 }
 
 /// The listing of the last boot's records.
 #[tactic(auto, using(crate::proofs::StateLines::list_done))]
 pub fn list(alloc: Global, logs: &Logs) -> Result<Vec<u8>, AllocError>
-    ensures { IfOk result (λ text. (live : LiveSeen) → LineDone (LiveMachine live logs.now) ListLine
-        (LiveMachine live logs.now) text.items) }
+    ensures { IfOk result (λ text. (live : LiveSeen) → LineDone (LiveStore live logs.now) ListLine
+        (LiveStore live logs.now) text.items) }
 {
     listing(alloc, logs)
 }

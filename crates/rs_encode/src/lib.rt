@@ -2,13 +2,13 @@
 #![tactic(auto)]
 
 ghost use Rattle.std.specs.Prelude.{◌≡◌, ◌+◌, ◌*◌, ◌/◌, ◌%◌, ◌^◌, ◌≤◌, ◌<◌, ℕ, ◌++◌, ◌∷◌, [], length, slice_index, drop, bit_xor, ◌↔◌, IsTrue};
-ghost use Rattle.code_spec.specs.Field.{gf_add, gf_mul};
+ghost use Rattle.code_spec.specs.Field.{gf_add, gf_mul, gf_pow};
 ghost use Rattle.code_spec.specs.Code.{IsCodeword, parity_of};
 ghost use Rattle.rs_encode.specs.Generator.{IsGenerator};
 ghost use Rattle.rs_encode.specs.Lanes.{IsMultiple, IsColumn, IsRest, IsTable, HoldLanes, HoldsLane};
 
 use arrayvec::ArrayVec;
-use gf256::{add, alpha_pow, mul};
+use gf256::{add, mul, mul_pow_by_bits};
 use std::marker::Model;
 
 /// The encoder for `r` parity symbols. It holds 4 KiB; a caller with many messages keeps one.
@@ -33,15 +33,17 @@ impl Model for Parity {
     ghost invariant = { λ p. IsTable p.r p.table };
 }
 
-/// Multiplies the polynomial, whose last coefficient is 0, by x plus `root`, and divides it by x.
-fn times_root(word: &mut [u8], root: u8)
-    requires { 0 < length word.old }
+/// Multiplies the polynomial, whose last coefficient is 0, by x plus 2^power, and divides it by x.
+fn times_root(word: &mut [u8], power: usize)
+    requires some { 0 < length word.old }
+    requires power { power ≤ 126 }
     ensures front { slice_index word.new 0 ≡ slice_index word.old 0 }
     ensures rest { (k : ℕ) → k + 1 < length word.new →
-        slice_index word.new (k + 1) ≡ gf_add (slice_index word.old (k + 1)) (gf_mul root (slice_index word.old k)) }
+        slice_index word.new (k + 1)
+        ≡ gf_add (slice_index word.old (k + 1)) (gf_mul (slice_index word.old k) (gf_pow 2 power)) }
 {
     for i in (1..word.len()).rev() {
-        word[i] = add(word[i], mul(root, word[i - 1]));
+        word[i] = add(word[i], mul_pow_by_bits(word[i - 1], power));
     }
 }
 
@@ -56,7 +58,7 @@ fn generator_of(r: usize) -> ArrayVec<u8, 128>
     generator.push(1);
     for j in 0..r {
         generator.push(0);
-        times_root(generator.as_mut_slice(), alpha_pow(j as u8));
+        times_root(generator.as_mut_slice(), j);
     }
     generator
 }

@@ -681,7 +681,7 @@ mod tests {
             1 <= par.len() && par.len() <= 127,
             "at most 127 parity symbols"
         );
-        assert!(rt; most + most <= par.len(), "at most half the parity");
+        assert!(rt; most <= par.len() / 2, "at most half the parity");
         assert!(rt;
             1 <= msg.len() && msg.len() + par.len() <= 255,
             "at most 255 symbols"

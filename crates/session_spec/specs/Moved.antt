@@ -1,5 +1,5 @@
 -- An image under new parameters: what of an old image's saved logs fits, and a blank image that is told it
-use Rattle.std.specs.Prelude.{ℕ, Bool, false, if◌then◌else◌, nat_le, List, length, map, filter, flat_map, fold, zip, replicate, slice_get, Option, Some, None, []}
+use Rattle.std.specs.Prelude.{ℕ, Bool, false, not, ◌&&◌, ◌==◌, if◌then◌else◌, is_some, nat_le, List, length, map, filter, flat_map, fold, zip, replicate, slice_get, Option, Some, None, []}
 use Rattle.std.specs.Option.{option_and_then, option_map}
 use Rattle.std.specs.List.{list_all}
 use Rattle.zone_spec.specs.declared.Zone.{Zone}
@@ -71,14 +71,19 @@ fitting layout zones = map (λ (zone : Saved). (zone.0, kept_if layout zones zon
 abbrev pub found_of : List Saved → Zone → List ZoneReading
 found_of zones z = flat_map (λ (zone : Saved). if is_zone zone.0.name z then found zone.1 else []) zones
 
--- a zone after an append of a log
-abbrev pub with_log : Zone → LiveZone → ZoneReading → LiveZone
-with_log z zone r = finished z (begun z (Append r.log) zone)
+-- whether a zone is told nothing yet, and no call is in flight there
+abbrev pub is_blank : LiveZone → Bool
+is_blank zone = not (is_some zone.flight) && (length zone.told == 0)
+
+-- such a zone after an append of a log
+abbrev pub with_log : Zone → LiveZone → List ℕ → LiveZone
+with_log z zone log = if is_blank zone then finished z (begun z (Append log) zone) else zone
 
 -- the store after an append to each zone of the log that was found of it
 abbrev pub refilled : List Zone → List Saved → LiveState → LiveState
 refilled layout zones live = record live {
-  zones = map (λ (pair : Zone × LiveZone). fold (with_log pair.0) pair.1 (found_of zones pair.0))
+  zones = map (λ (pair : Zone × LiveZone). fold (λ zone (r : ZoneReading). with_log pair.0 zone r.log) pair.1
+      (found_of zones pair.0))
       (zip layout live.zones);
 }
 

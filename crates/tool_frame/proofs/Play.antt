@@ -10,7 +10,7 @@ use Rattle.zone_spec.specs.declared.Zone.{Zone}
 use Rattle.session_spec.specs.States.{Session}
 use Rattle.grammar_spec.specs.Fields.{Text}
 use Rattle.grammar_spec.specs.declared.line.Line.{Line}
-use Rattle.tool_spec.specs.Scripts.{Done, Ran, ran, ran_on, next_line, started, line_done}
+use Rattle.tool_spec.specs.Scripts.{Kernel, Done, Ran, ran, ran_on, next_line, started, line_done}
 use Rattle.tool_spec.specs.Commands.{script_end}
 use Rattle.tool_spec.specs.Answers.{front, whole}
 use Rattle.tool_spec.specs.declared.Cause.{Cause}
@@ -45,7 +45,7 @@ fold_extends : (layout : List Zone) (lines : List Line) (r : Ran)
 fold_extends layout [] r = extends_self r.texts
 fold_extends layout (line ∷ lines) r =
     extends_on r.texts (next_line layout r line).texts (fold (next_line layout) (next_line layout r line) lines).texts
-    (line_extends r r.refused (line_done layout r.session line))
+    (line_extends r r.refused (line_done layout r.session r.kernel line))
     (fold_extends layout lines (next_line layout r line))
 
 take_extends : (layout : List Zone) (lines : List Line) (k : ℕ) (r : Ran)
@@ -67,7 +67,12 @@ prefix_front layout image lines k = front_of (ran layout image (take k lines)).t
 -- ---- one line more
 
 on_done : (r : Ran) (c : Option Cause) (next : Result Done Cause) (d : Done) → c ≡ None → next ≡ Ok d
-    → ran_on r c next ≡ record { session = d.session; texts = r.texts ++ d.text ∷ []; refused = None }
+    → ran_on r c next ≡ record {
+      session = d.session;
+      kernel = d.kernel;
+      texts = r.texts ++ d.text ∷ [];
+      refused = None;
+    }
 on_done r c next d e h = rw (e, h) refl
 
 on_refused : (r : Ran) (c : Option Cause) (next : Result Done Cause) (cause : Cause) → c ≡ None → next ≡ Err cause
@@ -77,21 +82,24 @@ on_refused r c next cause e h = rw (e, h) refl
 -- a line that is refused ends the script
 refused_at : (layout : List Zone) (image : List ℕ) (lines : List Line) (i : ℕ) (line : Line) (cause : Cause)
     → i < length lines → line ≡ get_or lines i line → (ran layout image (take i lines)).refused ≡ None
-    → line_done layout (ran layout image (take i lines)).session line ≡ Err cause
+    → line_done layout (ran layout image (take i lines)).session
+    (ran layout image (take i lines)).kernel line ≡ Err cause
     → ran layout image lines ≡ record (ran layout image (take i lines)) { refused = Some cause }
 refused_at layout image lines i line cause h is e g =
     let r = ran layout image (take i lines) in
     let now : next_line layout r (get_or lines i line) ≡ record r { refused = Some cause } =
-    rw (← is) (on_refused r r.refused (line_done layout r.session line) cause e g) in
+    rw (← is) (on_refused r r.refused (line_done layout r.session r.kernel line) cause e g) in
     sym (fold_stuck (next_line layout) (record r { refused = Some cause }) (λ x. refl) (started layout image)
     lines i line h now)
 
 -- a line that is done is the next of the script
 done_at : (layout : List Zone) (image : List ℕ) (lines : List Line) (i : ℕ) (line : Line) (d : Done)
     → i < length lines → line ≡ get_or lines i line → (ran layout image (take i lines)).refused ≡ None
-    → line_done layout (ran layout image (take i lines)).session line ≡ Ok d
+    → line_done layout (ran layout image (take i lines)).session
+    (ran layout image (take i lines)).kernel line ≡ Ok d
     → ran layout image (take (i + 1) lines) ≡ record {
       session = d.session;
+      kernel = d.kernel;
       texts = (ran layout image (take i lines)).texts ++ d.text ∷ [];
       refused = None;
     }
@@ -99,9 +107,10 @@ done_at layout image lines i line d h is e g =
     let r = ran layout image (take i lines) in
     let now : next_line layout r (get_or lines i line) ≡ record {
       session = d.session;
+      kernel = d.kernel;
       texts = r.texts ++ d.text ∷ [];
       refused = None;
-    } = rw (← is) (on_done r r.refused (line_done layout r.session line) d e g) in
+    } = rw (← is) (on_done r r.refused (line_done layout r.session r.kernel line) d e g) in
     fold_more (next_line layout) (started layout image) lines i line h ∙ now
 
 pub whole_more : (texts : List Text) (text : Text) → whole (texts ++ text ∷ []) ≡ whole texts ++ text
@@ -109,23 +118,25 @@ whole_more texts text = grind (arith, common_steps)
 
 -- nothing is done yet
 pub played_none : (layout : List Zone) (image : List ℕ) (lines : List Line) (given : Option (List ℕ))
-    → PlayedTo layout image lines 0 (started layout image).session given given
+    → PlayedTo layout image lines 0 (started layout image).session (started layout image).kernel given given
 played_none layout image lines given = record {
   count = refl;
+  kernel_is = refl;
   so_far = record { state = refl; none = refl; texts = nothing_put given };
 }
 
 -- one line more was done, and its text put
 pub played_on : (layout : List Zone) (image : List ℕ) (lines : List Line) (i : ℕ) (line : Line)
-    (session next : Session) (text bytes : List ℕ) (a b c : Option (List ℕ)) → i < length lines
-    → line ≡ get_or lines i line → PlayedTo layout image lines i session a b
-    → line_done layout session line ≡ Ok (record { session = next; text = text }) → bytes ≡ text → Appends b c bytes
-    → PlayedTo layout image lines (i + 1) next a c
-played_on layout image lines i line session next text bytes a b c h is p g same put =
+    (session next : Session) (kernel kernel' : Kernel) (text bytes : List ℕ) (a b c : Option (List ℕ))
+    → i < length lines → line ≡ get_or lines i line → PlayedTo layout image lines i session kernel a b
+    → line_done layout session kernel line ≡ Ok (record { session = next; kernel = kernel'; text = text })
+    → bytes ≡ text → Appends b c bytes → PlayedTo layout image lines (i + 1) next kernel' a c
+played_on layout image lines i line session next kernel kernel' text bytes a b c h is p g same put =
     let r = ran layout image (take i lines) in
-    let e = done_at layout image lines i line (record { session = next; text = text }) h is p.so_far.none
-    (rw p.so_far.state g) in
+    let e = done_at layout image lines i line (record { session = next; kernel = kernel'; text = text }) h is
+    p.so_far.none (rw (p.so_far.state, p.kernel_is) g) in
     record {
+      kernel_is = rw e refl;
       count = rw e (omega (arith, length-append r.texts (text ∷ []), p.count));
       so_far = record {
         state = rw e refl;
@@ -139,14 +150,15 @@ take_all_lines lines i h = grind (arith, common_steps)
 
 -- all lines were done
 pub played_all : (layout : List Zone) (image : List ℕ) (lines : List Line) (i : ℕ) (session : Session)
-    (a b : Option (List ℕ)) → length lines ≤ i → PlayedTo layout image lines i session a b
+    (kernel : Kernel) (a b : Option (List ℕ)) → length lines ≤ i → PlayedTo layout image lines i session kernel a b
     → Played layout image lines session a b
-played_all layout image lines i session a b h p = rw (take_all_lines lines i h) at p.so_far
+played_all layout image lines i session kernel a b h p = rw (take_all_lines lines i h) at p.so_far
 
 -- want of memory at a line
 pub stopped_memory : (layout : List Zone) (image : List ℕ) (lines : List Line) (i : ℕ) (session : Session)
-    (a b : Option (List ℕ)) → PlayedTo layout image lines i session a b → PutTexts (ran layout image lines).texts a b
-stopped_memory layout image lines i session a b p =
+    (kernel : Kernel) (a b : Option (List ℕ)) → PlayedTo layout image lines i session kernel a b
+    → PutTexts (ran layout image lines).texts a b
+stopped_memory layout image lines i session kernel a b p =
     record {
       count = length (ran layout image (take i lines)).texts;
       bytes = rw (prefix_front layout image lines i) p.so_far.texts;
@@ -154,24 +166,24 @@ stopped_memory layout image lines i session a b p =
 
 -- a line was refused
 pub stopped_refused : (layout : List Zone) (image : List ℕ) (lines : List Line) (i : ℕ) (line : Line) (cause : Cause)
-    (session : Session) (a b : Option (List ℕ)) → i < length lines → line ≡ get_or lines i line
-    → PlayedTo layout image lines i session a b → line_done layout session line ≡ Err cause
+    (session : Session) (kernel : Kernel) (a b : Option (List ℕ)) → i < length lines → line ≡ get_or lines i line
+    → PlayedTo layout image lines i session kernel a b → line_done layout session kernel line ≡ Err cause
     → (script_end (length (ran layout image lines).texts) (ran layout image lines).refused
     ≡ Err (Refused (i + 1) cause)) × Appends a b (whole (ran layout image lines).texts)
-stopped_refused layout image lines i line cause session a b h is p g =
-    let e = refused_at layout image lines i line cause h is p.so_far.none (rw p.so_far.state g) in
+stopped_refused layout image lines i line cause session kernel a b h is p g =
+    let e = refused_at layout image lines i line cause h is p.so_far.none (rw (p.so_far.state, p.kernel_is) g) in
     rw e (rw p.count refl, p.so_far.texts)
 
 -- a text was put in part
 pub stopped_put : (layout : List Zone) (image : List ℕ) (lines : List Line) (i : ℕ) (line : Line)
-    (session next : Session) (text bytes : List ℕ) (a b c : Option (List ℕ)) → i < length lines
-    → line ≡ get_or lines i line → PlayedTo layout image lines i session a b
-    → line_done layout session line ≡ Ok (record { session = next; text = text }) → bytes ≡ text
-    → AppendsFront b c bytes → PutSome (ran layout image lines).texts a c
-stopped_put layout image lines i line session next text bytes a b c h is p g same put =
+    (session next : Session) (kernel kernel' : Kernel) (text bytes : List ℕ) (a b c : Option (List ℕ))
+    → i < length lines → line ≡ get_or lines i line → PlayedTo layout image lines i session kernel a b
+    → line_done layout session kernel line ≡ Ok (record { session = next; kernel = kernel'; text = text })
+    → bytes ≡ text → AppendsFront b c bytes → PutSome (ran layout image lines).texts a c
+stopped_put layout image lines i line session next kernel kernel' text bytes a b c h is p g same put =
     let r = ran layout image (take i lines) in
-    let e = done_at layout image lines i line (record { session = next; text = text }) h is p.so_far.none
-    (rw p.so_far.state g) in
+    let e = done_at layout image lines i line (record { session = next; kernel = kernel'; text = text }) h is
+    p.so_far.none (rw (p.so_far.state, p.kernel_is) g) in
     let all : whole (ran layout image (take (i + 1) lines)).texts ≡ whole r.texts ++ text =
     rw e (whole_more r.texts text) in
     record {
@@ -192,7 +204,7 @@ still_done : (layout : List Zone) (lines : List Line) (r : Ran) → (fold (next_
     → r.refused ≡ None
 still_done layout [] r h = h
 still_done layout (line ∷ lines) r h =
-    refused_stays r (line_done layout r.session line) r.refused refl
+    refused_stays r (line_done layout r.session r.kernel line) r.refused refl
     (still_done layout lines (next_line layout r line) h)
 
 take_done : (layout : List Zone) (lines : List Line) (k : ℕ) (r : Ran)
@@ -215,7 +227,7 @@ texts_counted layout lines zero r le h = omega arith
 texts_counted layout [] (suc k) r le h = absurd (omega (arith, le))
 texts_counted layout (line ∷ lines) (suc k) r le h =
     let next = next_line layout r line in
-    let one = one_text r r.refused (line_done layout r.session line) refl
+    let one = one_text r r.refused (line_done layout r.session r.kernel line) refl
     (still_done layout (take k lines) next h) in
     let more = texts_counted layout lines k next (omega (arith, le)) h in omega (arith, one, more)
 
@@ -234,7 +246,8 @@ text_among before all more k text n e = record {
 -- where no line was refused, the text of each stands in its place
 pub text_at : (layout : List Zone) (image : List ℕ) (lines : List Line) (k : ℕ) (line : Line) (d : Done)
     → k < length lines → line ≡ get_or lines k line → (ran layout image lines).refused ≡ None
-    → line_done layout (ran layout image (take k lines)).session line ≡ Ok d
+    → line_done layout (ran layout image (take k lines)).session
+    (ran layout image (take k lines)).kernel line ≡ Ok d
     → TextAt (ran layout image lines).texts k d.text
 text_at layout image lines k line d h is none g =
     let first = started layout image in

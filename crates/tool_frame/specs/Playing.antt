@@ -6,7 +6,7 @@ use Rattle.zone_spec.specs.declared.Zone.{Zone}
 use Rattle.session_spec.specs.States.{Session}
 use Rattle.grammar_spec.specs.declared.line.Line.{Line}
 use Rattle.tool_spec.specs.Ends.{End}
-use Rattle.tool_spec.specs.Scripts.{ran}
+use Rattle.tool_spec.specs.Scripts.{Kernel, ran}
 use Rattle.tool_spec.specs.Commands.{script_end}
 use Rattle.tool_spec.specs.Answers.{whole}
 use Rattle.tool_frame.specs.Ended.{PutTexts, PutSome}
@@ -22,8 +22,9 @@ pub record Played (layout : List Zone) (image : List ℕ) (lines : List Line) (s
 
 -- the first i lines of a script were done
 pub record PlayedTo (layout : List Zone) (image : List ℕ) (lines : List Line) (i : ℕ) (session : Session)
-    (old new : Option (List ℕ)) : Type 0 where
+    (kernel : Kernel) (old new : Option (List ℕ)) : Type 0 where
   pub count : length (ran layout image (take i lines)).texts ≡ i
+  pub kernel_is : (ran layout image (take i lines)).kernel ≡ kernel
   pub so_far : Played layout image (take i lines) session old new
 
 -- why the lines of a script stop: the texts of the lines before were put, or some front of them and the next

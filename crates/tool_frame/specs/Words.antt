@@ -6,7 +6,7 @@ use Rattle.blk_spec.specs.Layout.{IsLayout}
 use Rattle.zone_params.specs.declared.types.Layout.{Layout}
 use Rattle.zone_params.specs.Laid.{params_of, zones_of}
 use Rattle.grammar_spec.specs.Fields.{Text}
-use Rattle.tool_spec.specs.Commands.{RamCommand, RunScript, ListRecords, ExtractRecord, EraseRecord, ShowLayout, BlankImage, MakeImage, Command, OnRam, RunBlkScript, MoveImage, Asked, RamPlan, Laid, Plan, OfRam, OfBlk, OfMove}
+use Rattle.tool_spec.specs.Commands.{RamCommand, RunScript, ListRecords, ExtractRecord, EraseRecord, ShowLayout, BlankImage, MakeImage, Command, OnRam, RunBlkScript, MoveImage, Asked, RamPlan, Laid, MovePlan, Plan, OfRam, OfBlk, OfMove}
 use Rattle.tool_spec.specs.declared.Stop.{Stop}
 use Rattle.tool_spec.specs.declared.Stop.TheVariants.{Memory, ScriptFault, ImageFault, SinkFault}
 use Rattle.tool_frame.specs.declared.words.RamCommand.{RamCommand as ReadRamCommand}
@@ -45,10 +45,13 @@ plan_for command layout = record { command = command; params = params_of layout;
 abbrev pub laid_for : Layout → Laid
 laid_for layout = record { params = params_of layout; zones = zones_of layout }
 
+abbrev pub move_for : Layout → Layout → MovePlan
+move_for from to = record { from = laid_for from; to = laid_for to }
+
 abbrev pub plan_seen : ReadPlan → Plan
 plan_seen (Ram command layout) = OfRam (plan_for (ram_command_seen command) layout)
 plan_seen (Blk layout) = OfBlk layout
-plan_seen (Move from to) = OfMove (record { from = laid_for from; to = laid_for to })
+plan_seen (Move from to) = OfMove (move_for from to)
 
 -- a block store's layout is one
 abbrev pub IsLaid : ReadPlan → Type 0

@@ -1,3 +1,5 @@
+mod Crashes
+mod Kernels
 pub mod Sound
 pub mod Steps
 pub mod BlkScripts

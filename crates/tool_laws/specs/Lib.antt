@@ -1,3 +1,4 @@
 pub mod Scripts
 pub mod Steps
 pub mod BlkScripts
+pub mod Crashes

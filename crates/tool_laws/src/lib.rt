@@ -3,6 +3,7 @@
 
 ghost use Rattle.tool_laws.specs.Steps.{StepsAddUp, StepsEnd, CallsKeepLogs, NoStepsLeaveState, FinishIsSteps, MakeIsBeginAndSteps};
 ghost use Rattle.tool_laws.specs.Scripts.{ScriptStatesAreSound, ScriptsReadLastWritten};
+ghost use Rattle.tool_laws.specs.Crashes.{CrashesAreToldWhole};
 ghost use Rattle.tool_laws.specs.BlkScripts.{ScriptsAreSessions, EveryBootListsReading, WholeScriptListsTold, EarlyCutScriptListsBefore};
 
 /// Every state that a script leads to is sound.
@@ -14,6 +15,11 @@ pub fn script_states_are_sound()
 /// in a zone whose call a stop cut only touched blocks and the header, both reported, make a difference.
 pub fn scripts_read_last_written()
     ensures { ScriptsReadLastWritten }
+{}
+
+/// A crash's dump has its whole body after the time line.
+pub fn crashes_are_told_whole()
+    ensures { CrashesAreToldWhole }
 {}
 
 /// Some steps of a flight and then one more are so many and one.

@@ -3,12 +3,13 @@ use Rattle.std.specs.Prelude.{ℕ}
 use Rattle.hex.specs.Hex.{decode_pairs}
 use Rattle.grammar_spec.specs.Numbers.{number_of}
 use Rattle.grammar_spec.specs.Words.{first_fault, value_text, given}
-use Rattle.grammar_spec.specs.Fields.{number_below, zone_at, ring, zone, payload, flag, reason, name}
-use Rattle.grammar_spec.specs.Groups.{ring_hex, time_flag_hex, one_zone, one_number, one_name}
-use Rattle.grammar_spec.specs.Rows.{step_line, flip_line, kdump_line, begin_row, begin_line, plain_row, row, lone_word}
+use Rattle.grammar_spec.specs.Fields.{number_below, zone_at, ring, zone, payload, message, some_bytes, flag, reason, name}
+use Rattle.grammar_spec.specs.Groups.{ring_hex, time_flag_hex, one_zone, one_number, one_name, one_message, one_some_bytes}
+use Rattle.grammar_spec.specs.Rows.{step_line, flip_line, kdump_line, crash_line, store_line as store_row, begin_row, begin_line, plain_row, row, lone_word}
 use Rattle.grammar_spec.specs.Lines.{line_of, lines_from, script_of}
 use Rattle.spec_rows.proofs.Computing.{computing_all}
-use Rattle.tool_spec.specs.Scripts.{line_done}
+use Rattle.kmsg_spec.specs.Bodies.{last_lines}
+use Rattle.tool_spec.specs.Scripts.{store_line, line_done}
 use Rattle.tool_spec.specs.Generated.{draw, draws}
 use Rattle.blk_spec.specs.Layout.{layout_of}
 use Rattle.blk_spec.specs.Writes.{after_writes, bytes_in, first_bytes}
@@ -22,8 +23,9 @@ use Rattle.tool_spec.specs.BlkScripts.{operation_of, blk_line_done}
 
 unfoldable pub computing_tool : ℕ
 unfolding computing_all decode_pairs number_of first_fault value_text given number_below zone_at ring zone payload
-    flag reason name ring_hex time_flag_hex one_zone one_number one_name step_line flip_line kdump_line begin_row
-    begin_line plain_row row lone_word line_of lines_from script_of line_done draw draws
+    message some_bytes flag reason name ring_hex time_flag_hex one_zone one_number one_name one_message one_some_bytes
+    step_line flip_line kdump_line crash_line store_row begin_row begin_line plain_row row lone_word line_of lines_from
+    script_of last_lines store_line line_done draw draws
 computing_tool = 0
 
 -- these too: for the block store

@@ -37,6 +37,14 @@ DumpsWithKeptZone =
     (codes "boot\ndump 1700000000 123 D 6f6e65\ndump 1700000001 0 D 74776f\nstop\nboot\nerase dmesg-ramoops-0\nlist\n")
     ≡ (codes "boot dump-0 unsigned start 0 size 0 corrected 0 bad 0 nothing told\nboot dump-1 unsigned start 0 size 0 corrected 0 bad 0 nothing told\nboot console unsigned start 0 size 0 corrected 0 bad 0 nothing told\nboot pmsg unsigned start 0 size 0 corrected 0 bad 0 nothing told\nboot dump-0 found start 27 size 27 corrected 0 bad 0 as told\nboot dump-1 found start 27 size 27 corrected 0 bad 0 as told\nboot console empty start 0 size 0 corrected 0 bad 0 as told\nboot pmsg empty start 0 size 0 corrected 0 bad 0 as told\nrecords 1\ndmesg-ramoops-1 3 1700000001.000000\n", 0)
 
+-- two lines of the message log, and the first crash
+abbrev pub FirstCrash : Type 0
+FirstCrash =
+    told (codes "image run mem_size=1024 record_size=256 console_size=256 ftrace_size=0 pmsg_size=256")
+    (replicate 1024 0)
+    (codes "boot\nkmsg 6f6e65\nkmsg 74776f\ncrash Panic 7 0\nstop\nboot\nlist\nextract dmesg-ramoops-0\n")
+    ≡ (codes "boot dump-0 unsigned start 0 size 0 corrected 0 bad 0 nothing told\nboot dump-1 unsigned start 0 size 0 corrected 0 bad 0 nothing told\nboot console unsigned start 0 size 0 corrected 0 bad 0 nothing told\nboot pmsg unsigned start 0 size 0 corrected 0 bad 0 nothing told\nboot dump-0 found start 37 size 37 corrected 0 bad 0 as told\nboot dump-1 empty start 0 size 0 corrected 0 bad 0 as told\nboot console empty start 0 size 0 corrected 0 bad 0 as told\nboot pmsg empty start 0 size 0 corrected 0 bad 0 as told\nrecords 1\ndmesg-ramoops-0 22 7.000000\ndmesg-ramoops-0 22\nPanic#1 Part1\none\ntwo\n\n", 0)
+
 -- the worked layouts
 abbrev pub WorkedLayouts : Type 0
 WorkedLayouts =

@@ -5,7 +5,7 @@ use Rattle.blk_spec.specs.declared.BlkLayout.{BlkLayout}
 use Rattle.grammar_spec.specs.Fields.{Text}
 use Rattle.grammar_spec.specs.declared.line.Line.{Line}
 use Rattle.tool_spec.specs.Ends.{End, status_of, last_line}
-use Rattle.tool_spec.specs.Commands.{Plan, OfRam, OfBlk, plan_of, Wanted, wanted, script_end}
+use Rattle.tool_spec.specs.Commands.{Plan, OfRam, OfBlk, OfMove, plan_of, Wanted, wanted, wanted_move, script_end}
 use Rattle.tool_spec.specs.BlkScripts.{BlkRan, blk_ran}
 use Rattle.tool_spec.specs.BlkAnswers.{blk_lines}
 use Rattle.tool_spec.specs.declared.Stop.{Stop}
@@ -37,6 +37,7 @@ lines_shown layout store (Err stop) = stop_shown stop
 abbrev pub planned_shown : Result Plan Stop → List ℕ → List ℕ → Text × ℕ
 planned_shown (Ok (OfRam plan)) image script = shown (wanted plan image script)
 planned_shown (Ok (OfBlk layout)) store script = lines_shown layout store (blk_lines layout store script)
+planned_shown (Ok (OfMove plan)) image script = shown (wanted_move plan image)
 planned_shown (Err stop) image script = stop_shown stop
 
 -- what the tool shows of these words, on an image and a script

@@ -1,7 +1,7 @@
 //! Worked rows of the tool's definitions: each function's contract is a row, whose expected text stands in `specs/`.
 #![tactic(auto)]
 
-ghost use Rattle.tool_rows.specs.Rows.{FirstDraws, FirstConsoleRecord, CutAfterSizeWord, StoppedBoots, DumpsWithKeptZone, WorkedLayouts, WorkedRefusals, WorkedFaults, CommandsWithoutScript, FirstBlockSession, CutBlockWrite, BlockRefusals};
+ghost use Rattle.tool_rows.specs.Rows.{FirstDraws, FirstConsoleRecord, CutAfterSizeWord, StoppedBoots, DumpsWithKeptZone, FirstCrash, WorkedLayouts, WorkedRefusals, WorkedFaults, CommandsWithoutScript, FirstBlockSession, CutBlockWrite, BlockRefusals};
 
 /// The first draws of a generated session.
 pub fn first_draws()
@@ -26,6 +26,11 @@ pub fn stopped_boots()
 /// Dumps, of which one is erased.
 pub fn dumps_with_kept_zone()
     ensures { DumpsWithKeptZone }
+{}
+
+/// The first crash: a record of the message log.
+pub fn first_crash()
+    ensures { FirstCrash }
 {}
 
 /// Layouts with and without parity, of odd sizes, and with small blocks.

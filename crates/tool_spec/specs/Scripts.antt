@@ -1,8 +1,11 @@
 -- What the lines of a script do and put
-use Rattle.std.specs.Prelude.{ℕ, List, [], ◌∷◌, ◌++◌, filter, fold, bytes_eq, Option, Some, None, Result, Ok, Err}
+use Rattle.std.specs.Prelude.{ℕ, ◌+◌, ◌-◌, ◌==◌, false, nat_lt, if◌then◌else◌, length, List, [], ◌∷◌, ◌++◌, filter, fold, bytes_eq, Option, Some, None, Result, Ok, Err}
 use Rattle.zone_spec.specs.declared.Zone.{Zone}
+use Rattle.zone_spec.specs.declared.Time.{Time}
+use Rattle.zone_spec.specs.declared.Kind.TheVariants.{Dump as DumpKind}
 use Rattle.zone_spec.specs.declared.Refusal.{Refusal}
 use Rattle.zone_spec.specs.declared.Refusal.TheVariants.{NoZone as NoZoneThere, Busy as BusyThere, Idle as IdleThere, OutOfImage as OutOfImageThere}
+use Rattle.zone_spec.specs.TimeLines.{line_text}
 use Rattle.zone_spec.specs.Names.{name_text}
 use Rattle.zone_spec.specs.Records.{Saved, Listed, listed_of, first_listed}
 use Rattle.session_spec.specs.States.{LiveState, Session, Off, Live}
@@ -11,17 +14,21 @@ use Rattle.session_spec.specs.Boot.{booted}
 use Rattle.session_spec.specs.BootPart.{boot_made}
 use Rattle.session_spec.specs.Report.{report}
 use Rattle.session_spec.specs.Erasures.{saved_logs}
+use Rattle.session_spec.specs.LiveZones.{Target, target}
 use Rattle.session_spec.specs.LiveCalls.{Append as AppendAsk, Erase as EraseAsk, Dump as DumpAsk}
 use Rattle.session_spec.specs.Operations.{Operation, operated, Begin as BeginCall, Make as MakeCall, Step as StepFlight, Finish as FinishFlight, Flip as FlipByte, Boot as BootStore, BootPart as BootInPart, EraseRecord, Stop as StopStore, Cause as SessionCause, WrongState, NoRecord as NoSuchRecord, Refused as RefusedThere}
+use Rattle.kmsg_spec.specs.Bodies.{body, last_lines}
+use Rattle.kmsg_spec.specs.declared.Why.{Why}
+use Rattle.kmsg_spec.specs.declared.Why.TheVariants.{Panic, Oops, Emergency, Shutdown}
 use Rattle.grammar_spec.specs.Fields.{Text}
 use Rattle.grammar_spec.specs.declared.line.Line.{Line}
-use Rattle.grammar_spec.specs.declared.line.Line.TheVariants.{Blank, Write, Dump, BeginWrite, BeginErase, BeginDump, Step, Finish, Stop, Flip, Boot, BootPart, List as ListLine, Extract, Erase, KDump, CutAfter, KMsg, Crash, Reserve, StoreNext}
+use Rattle.grammar_spec.specs.declared.line.Line.TheVariants.{Blank, Write, Dump, BeginWrite, BeginErase, BeginDump, Step, Finish, Stop, Flip, Boot, BootPart, List as ListLine, Extract, Erase, KMsg, Crash}
 use Rattle.tool_spec.specs.Texts.{boot_text, part_text, listing, extract_text}
 use Rattle.tool_spec.specs.declared.Cause.{Cause}
-use Rattle.tool_spec.specs.declared.Cause.TheVariants.{IsOff, IsLive, NoZone, Busy, Idle, OutOfImage, NoRecord, NotHere}
+use Rattle.tool_spec.specs.declared.Cause.TheVariants.{IsOff, IsLive, NoZone, Busy, Idle, OutOfImage, NoRecord, NotHere, TooLong}
 
--- what a line that was done leaves and puts
-pub record Done : Type 0 where
+-- what a line of the store that was done leaves and puts
+pub record StoreDone : Type 0 where
   pub session : Session
   pub text : Text
 
@@ -46,12 +53,12 @@ put_by layout (Off off) BootStore = boot_text (saved_logs layout (booted layout 
 put_by layout (Off off) (BootInPart limit) = part_text (boot_made layout limit off)
 put_by layout session other = []
 
-abbrev pub done_or_refused : Session → Text → Result Session SessionCause → Result Done Cause
+abbrev pub done_or_refused : Session → Text → Result Session SessionCause → Result StoreDone Cause
 done_or_refused session text (Ok next) = Ok (record { session = next; text = text })
 done_or_refused session text (Err cause) = Err (line_cause session cause)
 
 -- an operation as a line does it
-abbrev pub does : List Zone → Session → Operation → Result Done Cause
+abbrev pub does : List Zone → Session → Operation → Result StoreDone Cause
 does layout session operation = done_or_refused session (put_by layout session operation)
     (operated layout session operation)
 
@@ -62,73 +69,156 @@ abbrev pub named : List Saved → Text → Option Listed
 named zones text = first_listed (filter (λ (r : Listed). bytes_eq (name_text r.name) text) (listed_of zones))
 
 -- the listing of the last boot's logs
-abbrev pub lists : List Zone → Session → Result Done Cause
+abbrev pub lists : List Zone → Session → Result StoreDone Cause
 lists layout (Off off) = Err IsOff
 lists layout (Live live) = Ok (record { session = Live live; text = listing (saved_logs layout live) })
 
-abbrev pub extracts_of : List Zone → LiveState → Option Listed → Result Done Cause
+abbrev pub extracts_of : List Zone → LiveState → Option Listed → Result StoreDone Cause
 extracts_of layout live None = Err NoRecord
 extracts_of layout live (Some r) = Ok (record { session = Live live; text = extract_text (saved_logs layout live) r })
 
 -- the content of a record
-abbrev pub extracts : List Zone → Session → Text → Result Done Cause
+abbrev pub extracts : List Zone → Session → Text → Result StoreDone Cause
 extracts layout (Off off) name = Err IsOff
 extracts layout (Live live) name = extracts_of layout live (named (saved_logs layout live) name)
 
-abbrev pub erases_of : List Zone → LiveState → Option Listed → Result Done Cause
+abbrev pub erases_of : List Zone → LiveState → Option Listed → Result StoreDone Cause
 erases_of layout live None = Err NoRecord
 erases_of layout live (Some r) = does layout (Live live) (EraseRecord r.name)
 
 -- the erasure of a record
-abbrev pub erases : List Zone → Session → Text → Result Done Cause
+abbrev pub erases : List Zone → Session → Text → Result StoreDone Cause
 erases layout (Off off) name = Err IsOff
 erases layout (Live live) name = erases_of layout live (named (saved_logs layout live) name)
 
+-- ---- the lines of the store
+
+-- what a line of the store does in a state, or its cause of refusal; the lines of the kernel, of the block back end and
+-- of a shared zone are not of the store
+unfoldable pub store_line : List Zone → Session → Line → Result StoreDone Cause
+store_line layout session Blank = Ok (record { session = session; text = [] })
+store_line layout session (Write zone bytes) = does layout session (MakeCall (AppendAsk zone bytes))
+store_line layout session (Dump time packed bytes) = does layout session (MakeCall (DumpAsk time packed bytes))
+store_line layout session (BeginWrite zone bytes) = does layout session (BeginCall (AppendAsk zone bytes))
+store_line layout session (BeginErase zone) = does layout session (BeginCall (EraseAsk zone))
+store_line layout session (BeginDump time packed bytes) = does layout session (BeginCall (DumpAsk time packed bytes))
+store_line layout session (Step zone k) = does layout session (StepFlight zone k)
+store_line layout session (Finish zone) = does layout session (FinishFlight zone)
+store_line layout session Stop = does layout session StopStore
+store_line layout session (Flip place mask) = does layout session (FlipByte place mask)
+store_line layout session Boot = does layout session BootStore
+store_line layout session (BootPart k) = does layout session (BootInPart k)
+store_line layout session ListLine = lists layout session
+store_line layout session (Extract name) = extracts layout session name
+store_line layout session (Erase name) = erases layout session name
+store_line layout session other = Err NotHere
+
+-- ---- the kernel of a live machine
+
+-- the lines that it printed since its boot, and how many crashes it had
+pub record Kernel : Type 0 where
+  pub printed : List (List ℕ)
+  pub crashes : ℕ
+
+-- that of a boot, and of a machine that is off
+abbrev pub new_kernel : Kernel
+new_kernel = record { printed = []; crashes = 0 }
+
+-- the bytes that its message log holds
+abbrev pub log_limit : ℕ
+log_limit = 131072
+
+-- what a line that was done leaves and puts
+pub record Done : Type 0 where
+  pub session : Session
+  pub kernel : Kernel
+  pub text : Text
+
+-- a line of the store, and the kernel behind it
+abbrev pub beside : Kernel → Result StoreDone Cause → Result Done Cause
+beside kernel (Ok done) = Ok (record { session = done.session; kernel = kernel; text = done.text })
+beside kernel (Err cause) = Err cause
+
+-- a line that the kernel prints, and that fits in its log with its newline
+abbrev pub prints : Session → Kernel → List ℕ → Result Done Cause
+prints (Off off) kernel text = Err IsOff
+prints (Live live) kernel text =
+    if nat_lt log_limit (length text + 1) then Err TooLong
+    else Ok (record {
+      session = Live live;
+      kernel = record kernel { printed = kernel.printed ++ text ∷ [] };
+      text = [];
+    })
+
+-- a reason by its number
+abbrev pub why_of : ℕ → Why
+why_of n = if n == 1 then Panic else if n == 2 then Oops else if n == 3 then Emergency else Shutdown
+
+-- what a zone has for a dump's body, behind the time line
+abbrev pub room_in : Option Target → Time → ℕ
+room_in None time = 0
+room_in (Some t) time = t.zone.cap - length (line_text time false)
+
+-- the zone that the next dump goes to
+abbrev pub dump_target : List Zone → LiveState → Option Target
+dump_target layout live = target layout live (record { kind = DumpKind; index = live.cursor })
+
+-- what a crash dumps of the message log
+abbrev pub crash_body : List Zone → LiveState → Kernel → ℕ → Time → List ℕ
+crash_body layout live kernel reason time =
+    body (why_of reason) (kernel.crashes + 1) (room_in (dump_target layout live) time)
+    (last_lines log_limit kernel.printed)
+
+abbrev pub crashed : Kernel → Kernel
+crashed kernel = record kernel { crashes = kernel.crashes + 1 }
+
+-- a crash is a dump of this body; a refused one is not counted
+abbrev pub crashes : List Zone → Session → Kernel → ℕ → Time → Result Done Cause
+crashes layout (Off off) kernel reason time = Err IsOff
+crashes layout (Live live) kernel reason time =
+    beside (crashed kernel) (store_line layout (Live live) (Dump time false
+    (crash_body layout live kernel reason time)))
+
 -- ---- all lines
 
--- what a line does in a state, or its cause of refusal; the lines of the block back end are not here
-unfoldable pub line_done : List Zone → Session → Line → Result Done Cause
-line_done layout session Blank = Ok (record { session = session; text = [] })
-line_done layout session (Write zone bytes) = does layout session (MakeCall (AppendAsk zone bytes))
-line_done layout session (Dump time packed bytes) = does layout session (MakeCall (DumpAsk time packed bytes))
-line_done layout session (BeginWrite zone bytes) = does layout session (BeginCall (AppendAsk zone bytes))
-line_done layout session (BeginErase zone) = does layout session (BeginCall (EraseAsk zone))
-line_done layout session (BeginDump time packed bytes) = does layout session (BeginCall (DumpAsk time packed bytes))
-line_done layout session (Step zone k) = does layout session (StepFlight zone k)
-line_done layout session (Finish zone) = does layout session (FinishFlight zone)
-line_done layout session Stop = does layout session StopStore
-line_done layout session (Flip place mask) = does layout session (FlipByte place mask)
-line_done layout session Boot = does layout session BootStore
-line_done layout session (BootPart k) = does layout session (BootInPart k)
-line_done layout session ListLine = lists layout session
-line_done layout session (Extract name) = extracts layout session name
-line_done layout session (Erase name) = erases layout session name
-line_done layout session (KDump secs nanos packed reason bytes) = Err NotHere
-line_done layout session (CutAfter k) = Err NotHere
-line_done layout session (KMsg bytes) = Err NotHere
-line_done layout session (Crash reason time) = Err NotHere
-line_done layout session (Reserve bytes) = Err NotHere
-line_done layout session (StoreNext ticket k) = Err NotHere
+-- what a line does in a state, or its cause of refusal: a boot begins the kernel anew, and a stop loses it
+unfoldable pub line_done : List Zone → Session → Kernel → Line → Result Done Cause
+line_done layout session kernel (KMsg text) = prints session kernel text
+line_done layout session kernel (Crash reason time) = crashes layout session kernel reason time
+line_done layout session kernel Boot = beside new_kernel (store_line layout session Boot)
+line_done layout session kernel Stop = beside new_kernel (store_line layout session Stop)
+line_done layout session kernel other = beside kernel (store_line layout session other)
 
--- a script so far: the state, the text of each finished line, and the cause of the line behind them, if it
+-- a script so far: the state, the kernel, the text of each finished line, and the cause of the line behind them, if it
 -- was refused
 pub record Ran : Type 0 where
   pub session : Session
+  pub kernel : Kernel
   pub texts : List Text
   pub refused : Option Cause
 
 -- after a refused line no other is done
 abbrev pub ran_on : Ran → Option Cause → Result Done Cause → Ran
 ran_on ran (Some cause) next = ran
-ran_on ran None (Ok done) = record { session = done.session; texts = ran.texts ++ done.text ∷ []; refused = None }
+ran_on ran None (Ok done) = record {
+  session = done.session;
+  kernel = done.kernel;
+  texts = ran.texts ++ done.text ∷ [];
+  refused = None;
+}
 ran_on ran None (Err cause) = record ran { refused = Some cause }
 
 abbrev pub next_line : List Zone → Ran → Line → Ran
-next_line layout ran line = ran_on ran ran.refused (line_done layout ran.session line)
+next_line layout ran line = ran_on ran ran.refused (line_done layout ran.session ran.kernel line)
 
 -- nothing is done yet on an image of which nothing is known
 abbrev pub started : List Zone → List ℕ → Ran
-started layout image = record { session = Off (fresh layout image); texts = []; refused = None }
+started layout image = record {
+  session = Off (fresh layout image);
+  kernel = new_kernel;
+  texts = [];
+  refused = None;
+}
 
 -- a script on an image
 abbrev pub ran : List Zone → List ℕ → List Line → Ran

@@ -1,5 +1,5 @@
 -- Contents and names of records
-use Rattle.std.proofs.Common.{◌≡◌, ℕ, Bool, true, false, not, ◌||◌, ◌==◌, if◌then◌else◌, List, [], ◌∷◌, ◌++◌, map, length, codes, Option, Some, None, is_some, refl, sym, ap, ◌∙◌, append_assoc, Bor, suc, ◌<◌, get_or, arith}
+use Rattle.std.proofs.Common.{◌≡◌, ℕ, ◌+◌, Bool, true, false, not, ◌||◌, ◌==◌, if◌then◌else◌, List, [], ◌∷◌, ◌++◌, map, length, length-append, codes, Option, Some, None, is_some, refl, sym, ap, ◌∙◌, append_assoc, Bor, suc, ◌<◌, get_or, arith}
 use Rattle.std.specs.Prelude.{decimal}
 use Rattle.std.specs.List.{find, list_any, All}
 use Rattle.std.specs.Option.{option_map, option_copied}
@@ -92,3 +92,19 @@ pub dump-inside : (b : BlkState) (index : ℕ) (packed : Bool) → All (IsIn b.l
     → is_listed b (Dump index packed) ≡ true → index < b.layout.dumps
 dump-inside b index packed inside listed = index-within b.layout index packed b.dumps inside
     (sym (listed-dump b index packed) ∙ listed)
+
+-- the lengths of a dump's content
+pub packed-length : (d : BlkDump) → d.packed ≡ true → length d.body ≡ length (dump_content d)
+packed-length d h = ap length (packed-content d h)
+
+pub plain-length : (d : BlkDump) (n k : ℕ) → d.packed ≡ false
+    → n ≡ length (reason_word d.reason ++ codes ": Total " ++ decimal d.counter ++ codes " times" ++ 10 ∷ [])
+    → k ≡ length d.body → n + k ≡ length (dump_content d)
+plain-length d n k h e l =
+    omega (
+      arith,
+      e,
+      l,
+      length-append (reason_word d.reason ++ codes ": Total " ++ decimal d.counter ++ codes " times"
+          ++ 10 ∷ []) d.body,
+    ) ∙ ap length (plain-content d d.body h refl)

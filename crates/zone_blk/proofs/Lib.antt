@@ -1,6 +1,7 @@
 pub mod Effects
 pub mod Sequences
 pub mod Turns
+pub mod Fronts
 pub mod Readings
 pub mod Finding
 pub mod Texts

@@ -34,7 +34,8 @@ unfolding saved_ring
 no-log z bytes words e h = rw e at (sym (if-false (is_valid z words && nat_lt 0 words.size)
     (Some (ring_log words (drop 12 bytes))) None h))
 
-start-within : (z : BlkZone) (words : Words) → (is_valid z words && nat_lt 0 words.size) ≡ true
+-- a ring's start lies within its length
+pub start-within : (z : BlkZone) (words : Words) → (is_valid z words && nat_lt 0 words.size) ≡ true
     → words.start ≤ words.size
 start-within z words h =
     let valid = (and_parts (is_valid z words) (nat_lt 0 words.size) h).0 in

@@ -21,7 +21,8 @@ ghost use Rattle.zone_blk.specs.Calls.{RingAnswers, counters_seen};
 use crate::appending::append_ring;
 use crate::dumping::{DumpHeader, write_dump};
 use crate::names::{
-    BlkNames, add_name, dump_content, dump_names, find_dump, find_time, forget_dump, named,
+    BlkNames, add_name, dump_content, dump_len, dump_names, find_dump, find_time, forget_dump,
+    named,
 };
 use crate::reading::{Dump, greatest_counter, read_dumps, read_ring};
 use crate::writing::write_header;
@@ -146,6 +147,25 @@ fn saved_content(alloc: Global, saved: &Option<Bytes>) -> Result<Bytes, BlkFault
     match saved {
         Some(log) => Ok(Bytes::copy_of(alloc, log.as_slice())?),
         None => Err(BlkFault::NoRecord),
+    }
+}
+
+fn saved_len(saved: &Option<Bytes>) -> Option<u64>
+    ensures { result ≡ option_map length saved.now }
+{
+    match saved {
+        Some(log) => Some(log.len() as u64),
+        None => None,
+    }
+}
+
+fn named_len(dumps: &[Dump], name: BlkName) -> Option<u64>
+    ensures { result ≡ option_map length (option_map content_of_dump
+        (find (λ (d : BlkDump). is_same name (name_of_dump d)) dumps.now)) }
+{
+    match find_dump(dumps, name) {
+        Some(dump) => Some(dump_len(dump)),
+        None => None,
     }
 }
 
@@ -349,6 +369,17 @@ impl Blk {
             BlkName::Dump { .. } => named_content(self.alloc, &self.dumps, name),
             BlkName::Console => saved_content(self.alloc, &self.console.saved),
             BlkName::Pmsg => saved_content(self.alloc, &self.pmsg.saved),
+        }
+    }
+
+    /// The length in bytes of the content of a listed record. Takes no memory.
+    pub fn content_len(&self, name: BlkName) -> Option<u64>
+        ensures { result ≡ option_map length (content_of self.now name) }
+    {
+        match name {
+            BlkName::Dump { .. } => named_len(&self.dumps, name),
+            BlkName::Console => saved_len(&self.console.saved),
+            BlkName::Pmsg => saved_len(&self.pmsg.saved),
         }
     }
 

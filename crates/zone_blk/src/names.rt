@@ -1,5 +1,5 @@
 // The names of records, and their contents.
-ghost use Rattle.std.specs.Prelude.{◌≡◌, ℕ, ◌+◌, ◌++◌, ◌∷◌, [], List, codes, decimal, length, IfOk, OnOk, map, not, ◌==◌, if◌then◌else◌};
+ghost use Rattle.std.specs.Prelude.{◌≡◌, ℕ, ◌+◌, ◌≤◌, ◌++◌, ◌∷◌, [], List, codes, decimal, length, IfOk, OnOk, map, not, ◌==◌, if◌then◌else◌};
 ghost use Rattle.blk_spec.specs.Names.{IsNameOf, is_name as is_same, dump_name as name_of_dump, dump_content as content_of_dump};
 ghost use Rattle.blk_spec.specs.Reasons.{reason_word};
 ghost use Rattle.std.specs.List.{find, filter};
@@ -73,7 +73,8 @@ pub fn dump_name(dump: &Dump) -> BlkName
 }
 
 fn reason_text(reason: u32) -> &'static str
-    ensures { result.now ≡ reason_word reason }
+    ensures text { result.now ≡ reason_word reason }
+    ensures small { length result.now ≤ 9 }
 {
     match reason {
         1 => "Panic",
@@ -106,6 +107,33 @@ pub fn dump_content(alloc: Global, dump: &Dump) -> Result<Bytes, AllocError>
     let mut text = heading(alloc, dump)?;
     text.extend_from_slice(dump.body.as_slice())?;
     Ok(Bytes::from_vec(text))
+}
+
+fn digits_in(n: u32) -> u64
+    ensures len { result ≡ length (decimal n) }
+    ensures small { result ≤ 20 }
+{
+    let mut digits = Buffer::new();
+    digits.format(n).len() as u64
+}
+
+fn heading_len(dump: &Dump) -> u64
+    ensures len { result ≡ length (reason_word dump.now.reason ++ codes ": Total " ++ decimal dump.now.counter
+        ++ codes " times" ++ 10 ∷ []) }
+    ensures small { result ≤ 64 }
+{
+    reason_text(dump.reason).len() as u64 + 15 + digits_in(dump.counter)
+}
+
+/// The length in bytes of a dump's content.
+pub fn dump_len(dump: &Dump) -> u64
+    ensures { result ≡ length (content_of_dump dump.now) }
+{
+    let body = dump.body.as_slice().len() as u64;
+    if dump.packed {
+        return body;
+    }
+    heading_len(dump) + body
 }
 
 /// The dump of this name.

@@ -1,11 +1,11 @@
 // What a loading reads of the store.
-ghost use Rattle.std.specs.Prelude.{◌≡◌, ℕ, ◌+◌, ◌-◌, ◌^◌, ◌<◌, ◌≤◌, length, drop, slice_range, IfOk, IfErr, IfSome, OnOk, ◌++◌, option_to_list, vec_len, None, nat_lt, ◌&&◌};
+ghost use Rattle.std.specs.Prelude.{◌≡◌, ℕ, ◌+◌, ◌-◌, ◌^◌, ◌<◌, ◌≤◌, length, take, drop, slice_range, IfOk, IfErr, IfSome, OnOk, IsTrue, ◌++◌, option_to_list, vec_len, None, nat_lt, ◌&&◌};
 ghost use Rattle.std.specs.List.{All};
 ghost use Rattle.std.specs.Int.{from_le_bytes};
 ghost use Rattle.std.proofs.Common.{w32, w64};
 ghost use Rattle.blk_spec.specs.Layout.{IsLayout};
 ghost use Rattle.blk_spec.specs.Answers.{HasRoom};
-ghost use Rattle.blk_spec.specs.Reading.{zone_bytes, header_words as words_of, is_valid as is_valid_zone, is_dump as is_dump_zone, saved_ring as saved_of, listed_dump as dump_of, dumps_listed, greatest_counter as greatest_of};
+ghost use Rattle.blk_spec.specs.Reading.{zone_bytes, header_words as words_of, is_valid as is_valid_zone, is_dump as is_dump_zone, ring_log, saved_ring as saved_of, dump_seen, listed_dump as dump_of, dumps_listed, greatest_counter as greatest_of};
 ghost use Rattle.zone_blk.specs.Fits.{IsZone};
 ghost use Rattle.zone_blk.specs.Loading.{IsReadFault, IsIn};
 
@@ -18,9 +18,12 @@ use zone_spec::Words;
 
 const MAGIC: u32 = 0x4dfc3ae5;
 
-const HEADER: usize = 12;
+const HEADER: u32 = 12;
 
 const DUMP_HEADER: u32 = 40;
+
+// Both headers of a dump.
+const FRONT: usize = 52;
 
 const NANOS: u64 = 1_000_000_000;
 
@@ -93,26 +96,6 @@ fn has_log(zone: BlkZone, words: Words) -> bool
     is_valid(zone, words) && words.size > 0
 }
 
-/// The saved log of a ring whose zone has these bytes.
-fn saved_ring(alloc: Global, zone: BlkZone, bytes: &[u8]) -> Result<Option<Bytes>, AllocError>
-    requires zone { IsZone zone }
-    requires sig { 0 < zone.sig }
-    requires len { length bytes.now ≡ zone.size }
-    ensures { IfOk result (λ saved. saved ≡ saved_of zone bytes.now) }
-{
-    if bytes.len() < HEADER {
-        return Ok(None);
-    }
-    let words = header_words(bytes);
-    let (_header, data) = bytes.split_at(HEADER);
-    if !has_log(zone, words) {
-        return Ok(None);
-    }
-    let mut log = Vec::from_slice(alloc, &data[..words.size as usize])?;
-    log.rotate_left(words.start as usize);
-    Ok(Some(Bytes::from_vec(log)))
-}
-
 fn is_dump(words: Words, content: &[u8]) -> bool
     requires { 40 ≤ length content.now }
     ensures { result ≡ is_dump_zone words content.now }
@@ -131,53 +114,96 @@ fn is_listed(zone: BlkZone, words: Words, content: &[u8]) -> bool
     is_valid(zone, words) && is_dump(words, content)
 }
 
-/// The dump of a zone with these bytes, where it is listed.
-fn listed_dump(
-    alloc: Global,
-    index: u32,
+/// Reads a part of a zone, from its byte `from` on.
+fn read_part<M: Store>(
+    store: &mut M,
     zone: BlkZone,
-    bytes: &[u8],
-) -> Result<Option<Dump>, AllocError>
-    requires sized { 4096 ≤ zone.size }
-    requires len { length bytes.now ≡ zone.size }
-    ensures { IfOk result (λ dump. dump ≡ dump_of index zone bytes.now) }
-{
-    let words = header_words(bytes);
-    let (_header, data) = bytes.split_at(HEADER);
-    if !is_listed(zone, words, data) {
-        return Ok(None);
-    }
-    Ok(Some(Dump {
-        index,
-        time: BlkTime {
-            secs: long_at(data, 8),
-            nanos: long_at(data, 16) as u32,
-        },
-        packed: data[24] != 0,
-        counter: word_at(data, 28),
-        reason: word_at(data, 32),
-        body: Bytes::copy_of(alloc, &data[40..words.size as usize])?,
-    }))
-}
-
-/// Reads a zone's bytes.
-fn read_zone<M: Store>(alloc: Global, store: &mut M, zone: BlkZone) -> Result<Vec<u8>, BlkFault>
+    from: u32,
+    into: &mut [u8],
+) -> Result<(), BlkFault>
     requires zone { IsZone zone }
+    requires inside { from + length into.old ≤ zone.size }
     requires room { HasRoom (zone.at + zone.size) (M.holds store.old) }
-    ensures bytes { IfOk result (λ v. IfSome (M.holds store.old) (λ bs. v.items ≡ zone_bytes bs zone)) }
-    ensures len { IfOk result (λ v. vec_len v ≡ zone.size) }
+    ensures bytes { OnOk result (IfSome (M.holds store.old)
+        (λ bs. into.new ≡ take (length into.old) (drop from (zone_bytes bs zone)))) }
     ensures fault { IfErr result (λ e. IsReadFault e (M.faults store.old) (M.faults store.new)) }
     ensures same { M.holds store.new ≡ M.holds store.old }
     ensures later { M.faults store.old ≤ M.faults store.new }
 {
-    let mut bytes = vec![in alloc; 0u8; zone.size as usize]?;
-    match store.read_at(zone.at as u64, &mut bytes) {
-        Ok(()) => Ok(bytes),
+    match store.read_at(u64::from(zone.at + from), into) {
+        Ok(()) => Ok(()),
         Err(Failed) => Err(BlkFault::StoreFault),
     }
 }
 
-/// Reads the saved log of a ring.
+/// Reads so many bytes of a zone, from its byte `from` on, into memory of their own.
+fn read_bytes<M: Store>(
+    alloc: Global,
+    store: &mut M,
+    zone: BlkZone,
+    from: u32,
+    len: u32,
+) -> Result<Vec<u8>, BlkFault>
+    requires zone { IsZone zone }
+    requires inside { from + len ≤ zone.size }
+    requires room { HasRoom (zone.at + zone.size) (M.holds store.old) }
+    ensures bytes { IfOk result (λ v. IfSome (M.holds store.old)
+        (λ bs. v.items ≡ take len (drop from (zone_bytes bs zone)))) }
+    ensures len { IfOk result (λ v. vec_len v ≡ len) }
+    ensures fault { IfErr result (λ e. IsReadFault e (M.faults store.old) (M.faults store.new)) }
+    ensures same { M.holds store.new ≡ M.holds store.old }
+    ensures later { M.faults store.old ≤ M.faults store.new }
+{
+    let mut bytes = vec![in alloc; 0u8; len as usize]?;
+    match read_part(store, zone, from, &mut bytes) {
+        Ok(()) => Ok(bytes),
+        Err(fault) => Err(fault),
+    }
+}
+
+/// Reads the words of a ring's header.
+fn read_header<M: Store>(store: &mut M, zone: BlkZone) -> Result<Words, BlkFault>
+    requires zone { IsZone zone }
+    requires sized { 12 ≤ zone.size }
+    requires room { HasRoom (zone.at + zone.size) (M.holds store.old) }
+    ensures words { IfOk result (λ words. IfSome (M.holds store.old) (λ bs. words ≡ words_of (zone_bytes bs zone))) }
+    ensures fault { IfErr result (λ e. IsReadFault e (M.faults store.old) (M.faults store.new)) }
+    ensures same { M.holds store.new ≡ M.holds store.old }
+    ensures later { M.faults store.old ≤ M.faults store.new }
+{
+    let mut header = [0u8; HEADER as usize];
+    match read_part(store, zone, 0, &mut header) {
+        Ok(()) => Ok(header_words(&header)),
+        Err(fault) => Err(fault),
+    }
+}
+
+/// Reads the log of a ring whose header has these words: its bytes alone.
+fn read_log<M: Store>(
+    alloc: Global,
+    store: &mut M,
+    zone: BlkZone,
+    words: Words,
+) -> Result<Bytes, BlkFault>
+    requires zone { IsZone zone }
+    requires sized { 12 ≤ zone.size }
+    requires log { IsTrue (is_valid_zone zone words && nat_lt 0 words.size) }
+    requires room { HasRoom (zone.at + zone.size) (M.holds store.old) }
+    ensures log { IfOk result (λ log. IfSome (M.holds store.old)
+        (λ bs. log ≡ ring_log words (drop 12 (zone_bytes bs zone)))) }
+    ensures fault { IfErr result (λ e. IsReadFault e (M.faults store.old) (M.faults store.new)) }
+    ensures same { M.holds store.new ≡ M.holds store.old }
+    ensures later { M.faults store.old ≤ M.faults store.new }
+{
+    let mut log = match read_bytes(alloc, store, zone, HEADER, words.size) {
+        Ok(log) => log,
+        Err(fault) => return Err(fault),
+    };
+    log.rotate_left(words.start as usize);
+    Ok(Bytes::from_vec(log))
+}
+
+/// Reads the saved log of a ring: its header, and then its log alone.
 pub fn read_ring<M: Store>(
     alloc: Global,
     store: &mut M,
@@ -193,16 +219,59 @@ pub fn read_ring<M: Store>(
     ensures same { M.holds store.new ≡ M.holds store.old }
     ensures later { M.faults store.old ≤ M.faults store.new }
 {
-    let bytes = match read_zone(alloc, store, zone) {
-        Ok(bytes) => bytes,
+    if zone.size < HEADER {
+        return Ok(None);
+    }
+    let words = match read_header(store, zone) {
+        Ok(words) => words,
         Err(fault) => return Err(fault),
     };
-    match saved_ring(alloc, zone, &bytes) {
-        Ok(saved) => Ok(saved),
-        Err(AllocError) => Err(BlkFault::Memory),
+    if !has_log(zone, words) {
+        return Ok(None);
+    }
+    match read_log(alloc, store, zone, words) {
+        Ok(log) => Ok(Some(log)),
+        Err(fault) => Err(fault),
     }
 }
 
+/// The dump whose header has these words and whose zone goes on so, with this body.
+fn dump_with(index: u32, words: Words, content: &[u8], body: Bytes) -> Dump
+    requires content { 40 ≤ length content.now }
+    requires time { IsTrue (is_dump_zone words content.now) }
+    ensures { result ≡ record (dump_seen index words content.now) { body = body } }
+{
+    Dump {
+        index,
+        time: BlkTime {
+            secs: long_at(content, 8),
+            nanos: long_at(content, 16) as u32,
+        },
+        packed: content[24] != 0,
+        counter: word_at(content, 28),
+        reason: word_at(content, 32),
+        body,
+    }
+}
+
+/// Reads the front of a dump's zone: both its headers.
+fn read_front<M: Store>(store: &mut M, zone: BlkZone) -> Result<[u8; FRONT], BlkFault>
+    requires zone { IsZone zone }
+    requires sized { 4096 ≤ zone.size }
+    requires room { HasRoom (zone.at + zone.size) (M.holds store.old) }
+    ensures front { IfOk result (λ front. IfSome (M.holds store.old) (λ bs. front ≡ take 52 (zone_bytes bs zone))) }
+    ensures fault { IfErr result (λ e. IsReadFault e (M.faults store.old) (M.faults store.new)) }
+    ensures same { M.holds store.new ≡ M.holds store.old }
+    ensures later { M.faults store.old ≤ M.faults store.new }
+{
+    let mut front = [0u8; FRONT];
+    match read_part(store, zone, 0, &mut front) {
+        Ok(()) => Ok(front),
+        Err(fault) => Err(fault),
+    }
+}
+
+/// Reads the dump of a zone, where it is listed: its headers, and then its body alone.
 fn read_dump<M: Store>(
     alloc: Global,
     store: &mut M,
@@ -219,13 +288,18 @@ fn read_dump<M: Store>(
     ensures same { M.holds store.new ≡ M.holds store.old }
     ensures later { M.faults store.old ≤ M.faults store.new }
 {
-    let bytes = match read_zone(alloc, store, zone) {
-        Ok(bytes) => bytes,
+    let front = match read_front(store, zone) {
+        Ok(front) => front,
         Err(fault) => return Err(fault),
     };
-    match listed_dump(alloc, index, zone, &bytes) {
-        Ok(dump) => Ok(dump),
-        Err(AllocError) => Err(BlkFault::Memory),
+    let words = header_words(&front);
+    let content = &front[HEADER as usize..];
+    if !is_listed(zone, words, content) {
+        return Ok(None);
+    }
+    match read_bytes(alloc, store, zone, FRONT as u32, words.size - DUMP_HEADER) {
+        Ok(body) => Ok(Some(dump_with(index, words, content, Bytes::from_vec(body)))),
+        Err(fault) => Err(fault),
     }
 }
 

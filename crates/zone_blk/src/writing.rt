@@ -13,7 +13,7 @@ use blk_spec::{BlkCut, BlkWords, BlkZone};
 use box_io::{Failed, Store};
 
 // How many zeros are written at once.
-const PIECE: usize = 512;
+const PIECE: usize = 65_536;
 
 /// How many of the next bytes reach the store, and the cut after them.
 #[derive(Clone, Copy)]

@@ -37,12 +37,19 @@ fn push_time(text: &mut Vec<u8>, time: Option<Time>) -> Result<(), AllocError>
     }
 }
 
+/// Appends a record's name, and a length after it.
+pub fn push_named(text: &mut Vec<u8>, name: Name, len: u128) -> Result<(), AllocError>
+    ensures { OnOk result (text.new.items ≡ text.old.items ++ name_text_of name ++ codes " " ++ decimal len) }
+{
+    let mut written = ArrayString::new();
+    name_text(name, &mut written);
+    push_record(text, written.as_str(), len)
+}
+
 fn push_entry(text: &mut Vec<u8>, entry: &Entry) -> Result<(), AllocError>
     ensures { OnOk result (text.new.items ≡ text.old.items ++ entry_text entry.now) }
 {
-    let mut name = ArrayString::new();
-    name_text(entry.name, &mut name);
-    push_record(text, name.as_str(), entry.len)?;
+    push_named(text, entry.name, entry.len)?;
     push_time(text, entry.time)?;
     text.push(b'\n')?;
     Ok(())

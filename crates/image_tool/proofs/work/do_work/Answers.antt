@@ -1,7 +1,7 @@
-use Rattle.std.proofs.Common.{refl}
-use Rattle.tool_spec.specs.Commands.{plan_of}
-use Rattle.tool_frame.specs.Words.{texts}
-use Rattle.image_tool.proofs.WorkEnds.{none_done}
+use Rattle.std.proofs.Common.{refl, arith}
+use Rattle.tool_spec.specs.Commands.{OfMove, plan_of}
+use Rattle.tool_frame.specs.Words.{texts, move_for}
+use Rattle.image_tool.proofs.WorkEnds.{none_done, plan_done}
 use Rattle.image_tool.proofs.work.do_work.Goals as goal
 
 pub returns-in-Err : goal.returns-in-Err
@@ -12,3 +12,18 @@ returns-in-Err g c = none_done (plan_of (texts c.args.words.now)) c.in-Err.stop 
       image = record { holds = refl; store = refl };
       given = refl;
     }) refl
+
+pub returns-in-Ok-Move : goal.returns-in-Ok-Move
+returns-in-Ok-Move g c = plan_done (plan_of (texts c.args.words.now))
+    (OfMove (move_for c.in-Ok-Move.from c.in-Ok-Move.to)) _ _ _
+    (rw c.in-Ok-Move.field-0-is at c.in-Ok-Move.ensures.plan)
+    (record {
+      later = record {
+        source = omega arith;
+        store = c.move_image.ensures.later.0;
+        sink = c.move_image.ensures.later.1;
+      };
+      caused = c.move_image.ensures.caused _ _;
+      kept = λ w. c.move_image.ensures.kept;
+      ended = c.move_image.ensures.ended _ _;
+    })

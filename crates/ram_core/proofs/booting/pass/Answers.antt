@@ -5,8 +5,8 @@ use Rattle.ram_region.specs.CutRegion.{span}
 use Rattle.ram_core.proofs.Settling.{second_at}
 use Rattle.ram_core.proofs.booting.pass.Goals as goal
 
-pub settle-requires-clause-reading : goal.settle-requires-clause-reading
-settle-requires-clause-reading c =
+pub settle_with-requires-clause-reading : goal.settle_with-requires-clause-reading
+settle_with-requires-clause-reading c =
     let e : Some (Some (zone_reading c.args.zone.now (span c.args.spans.now c.args.i)))
     ≡ Some (option_copied c.reading.result) =
     sym (second_at c.args.logs.now.zones c.args.logs.now.readings c.args.i _ c.requires.zones c.requires.reading)

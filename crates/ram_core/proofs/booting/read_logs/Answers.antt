@@ -8,16 +8,16 @@ use Rattle.ram_core.proofs.booting.read_logs.Goals as goal
 pub loop-i-init : goal.loop-i-init
 loop-i-init c = logs_none _ _ _ c.in_ok-logs.ensures
 
-pub read_zone-requires-clause-valid : goal.read_zone-requires-clause-valid
-read_zone-requires-clause-valid c =
+pub read_with-requires-clause-valid : goal.read_with-requires-clause-valid
+read_with-requires-clause-valid c =
     let at = span_at (zones_of c.args.layout.now) c.zones-zones.result.now no_zone c.args.spans.now.spans
     c.all.result.now c.loop-i.i c.index-all-i.result c.requires c.zones-zones.ensures.value c.all.ensures
     c.loop-i-test.true c.index-all-i.is in
     (c.zones-zones.ensures.laid_out.valid c.loop-i.i (get_or c.zones-zones.result.now c.loop-i.i no_zone)
     (ap (λ (l : List Zone). slice_get l c.loop-i.i) c.zones-zones.ensures.value ∙ at.zone)).0
 
-pub read_zone-requires-clause-size : goal.read_zone-requires-clause-size
-read_zone-requires-clause-size c =
+pub read_with-requires-clause-size : goal.read_with-requires-clause-size
+read_with-requires-clause-size c =
     (span_at (zones_of c.args.layout.now) c.zones-zones.result.now no_zone c.args.spans.now.spans c.all.result.now
     c.loop-i.i c.index-all-i.result c.requires c.zones-zones.ensures.value c.all.ensures c.loop-i-test.true
     c.index-all-i.is).size

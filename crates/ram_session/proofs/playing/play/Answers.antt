@@ -24,6 +24,7 @@ line_taken lines start items len taken here by given next line is steps number c
 pub loop-line-init : goal.loop-line-init
 loop-line-init g c = record {
   counted = refl;
+  few = omega arith;
   later = omega arith;
   played = plays_none c.args.off c.args.lines (g.O.Sink.given c.args.out.now);
 }
@@ -34,6 +35,13 @@ overflow_add-number g c =
     c.loop-line.yielded c.loop-line.line-iterator c.loop-line.yielded_by c.next.result c.next.new.self
     c.in-Some.line c.in-Some.is c.next.ensures.steps c.loop-line.number c.loop-line.invariant.counted in
     omega (arith, turn.0, c.requires.few)
+
+pub play_line-requires-clause-few : goal.play_line-requires-clause-few
+play_line-requires-clause-few g c =
+    let turn = line_taken c.args.lines c.into_iter-line-iterator.result (search rules) (search rules)
+    c.loop-line.yielded c.loop-line.line-iterator c.loop-line.yielded_by c.next.result c.next.new.self
+    c.in-Some.line c.in-Some.is c.next.ensures.steps c.loop-line.number c.loop-line.invariant.counted in
+    omega (arith, turn.0, c.requires.few, c.loop-line.invariant.few)
 
 pub returns-in-Err-clause-later : goal.returns-in-Err-clause-later
 returns-in-Err-clause-later g c = omega (arith, c.loop-line.invariant.later, c.play_line.ensures.later)
@@ -57,6 +65,7 @@ loop-line-preserved g c =
     c.in-Some.line c.in-Some.is c.next.ensures.steps c.loop-line.number c.loop-line.invariant.counted in
     record {
       counted = omega (arith, c.loop-line.invariant.counted, length-append c.loop-line.yielded (c.in-Some.line ∷ []));
+      few = omega (arith, c.loop-line.invariant.few, c.in-Ok.ensures.count);
       later = omega (arith, c.loop-line.invariant.later, c.play_line.ensures.later);
       played = plays_next states_sound (Off c.args.off) c.args.lines c.requires.fields c.loop-line.number
           c.in-Some.line turn.0 turn.1 c.loop-line.machine (g.O.Sink.given c.args.out.now)

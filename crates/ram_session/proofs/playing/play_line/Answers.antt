@@ -8,7 +8,7 @@ returns-in-Err-clause-played g c = (
   record {
     new = c.in-Ok.done.0;
     text = c.in-Ok.done.1.items;
-    done = c.in-Ok.ensures;
+    done = c.in-Ok.ensures.done;
     put = rw c.deref.ensures.value at c.in-Err.ensures.bytes;
   },
 )

@@ -20,7 +20,7 @@ pieces-preserved g c =
     (g.M.Store.holds c.pieces.store) (g.M.Store.holds c.write.new.store) =
     subst (λ (bs : List ℕ). Makes (one_write c.pieces.at bs) c.pieces.cut c.write.new.cut
     (g.M.Store.holds c.pieces.store) (g.M.Store.holds c.write.new.store))
-    (take-replicate c.min-count.result 512 0 (omega (arith, c.min-count.ensures))) c.in-Ok.ensures.ends in
+    (take-replicate c.min-count.result 65536 0 (omega (arith, c.min-count.ensures))) c.in-Ok.ensures.ends in
     record {
       from = omega (arith, c.pieces.invariant.from);
       inside = omega (arith, c.min-count.ensures, c.pieces.invariant.inside);
@@ -38,7 +38,7 @@ returns-in-Err-clause-ends g c =
     (g.M.Store.holds c.pieces.store) (g.M.Store.holds c.write.new.store) =
     subst (λ (bs : List ℕ). FailsWithin (one_write c.pieces.at bs) c.pieces.cut c.write.new.cut
     (g.M.Store.holds c.pieces.store) (g.M.Store.holds c.write.new.store))
-    (take-replicate c.min-count.result 512 0 (omega (arith, c.min-count.ensures))) c.in-Err.ensures.ends in
+    (take-replicate c.min-count.result 65536 0 (omega (arith, c.min-count.ensures))) c.in-Err.ensures.ends in
     zeros-fail c.args.from c.pieces.at c.min-count.result (c.args.zone.at + c.args.zone.size)
     c.args.cut.now c.pieces.cut c.write.new.cut (g.M.Store.holds c.args.store.now)
     (g.M.Store.holds c.pieces.store) (g.M.Store.holds c.write.new.store) c.requires.room c.pieces.invariant.from

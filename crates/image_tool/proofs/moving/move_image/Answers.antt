@@ -1,0 +1,37 @@
+use Rattle.std.proofs.Common.{◌≡◌, [], ◌∙◌, List, ℕ, ap, ap₂, refl, sym}
+use Rattle.zone_params.specs.Laid.{zones_of}
+use Rattle.old_log.specs.Saving.{saved}
+use Rattle.tool_spec.specs.Texts.{move_text}
+use Rattle.tool_frame.specs.Words.{move_for}
+use Rattle.image_tool.proofs.MoveEnds.{move_unread, move_memory, move_unput, move_saved, move_unsaved}
+use Rattle.image_tool.proofs.moving.move_image.Goals as goal
+
+pub returns-in-Err-put-clause-ended : goal.returns-in-Err-put-clause-ended
+returns-in-Err-put-clause-ended g c = λ left f. move_unput (move_for c.args.from c.args.to) _ _ c.in-Ok.logs
+    (record { left = refl; source = refl }) c.in-Ok.ensures.read c.in-Ok-move_text.text.items []
+    (c.in-Ok-move_text.ensures ∙ ap₂ (λ (a b : ℕ). move_text a b (zones_of c.args.to) (saved c.in-Ok.logs))
+    c.mem-size.ensures c.mem.ensures) c.in-Ok.ensures.same (rw c.deref.ensures.value at c.in-Err-put.ensures.bytes)
+
+pub returns-in-Ok-save-clause-ended : goal.returns-in-Ok-save-clause-ended
+returns-in-Ok-save-clause-ended g c = λ left f. move_saved (move_for c.args.from c.args.to) _ _ c.in-Ok.logs
+    (record { left = refl; source = refl }) c.in-Ok.ensures.read c.in-Ok-move_text.text.items c.image.result.now
+    (c.in-Ok-move_text.ensures ∙ ap₂ (λ (a b : ℕ). move_text a b (zones_of c.args.to) (saved c.in-Ok.logs))
+    c.mem-size.ensures c.mem.ensures) (c.image.ensures ∙ c.in-Ok-moved.ensures)
+    (rw c.deref.ensures.value at c.in-Ok-put.ensures.bytes) (rw c.in-Ok.ensures.same at c.in-Ok-save.ensures.bytes)
+
+pub returns-clause-ended : goal.returns-clause-ended
+returns-clause-ended g c = λ left f. move_unsaved (move_for c.args.from c.args.to) _ _ c.in-Ok.logs
+    (record { left = refl; source = refl }) c.in-Ok.ensures.read c.in-Ok-move_text.text.items c.image.result.now
+    (c.in-Ok-move_text.ensures ∙ ap₂ (λ (a b : ℕ). move_text a b (zones_of c.args.to) (saved c.in-Ok.logs))
+    c.mem-size.ensures c.mem.ensures) (c.image.ensures ∙ c.in-Ok-moved.ensures)
+    (rw c.deref.ensures.value at c.in-Ok-put.ensures.bytes) (rw c.in-Ok.ensures.same at c.in-Err-save.ensures.bytes)
+
+pub returns-in-Err-move_text-clause-ended : goal.returns-in-Err-move_text-clause-ended
+returns-in-Err-move_text-clause-ended g c = λ left f. move_memory (move_for c.args.from c.args.to) _ _ c.in-Ok.logs
+    (record { left = refl; source = refl }) c.in-Ok.ensures.read
+    (record { given = refl; holds = c.in-Ok.ensures.same })
+
+pub returns-in-Err-moved-clause-ended : goal.returns-in-Err-moved-clause-ended
+returns-in-Err-moved-clause-ended g c = λ left f. move_memory (move_for c.args.from c.args.to) _ _ c.in-Ok.logs
+    (record { left = refl; source = refl }) c.in-Ok.ensures.read
+    (record { given = refl; holds = c.in-Ok.ensures.same })

@@ -1,0 +1,70 @@
+// The move of an image to other parameters.
+ghost use Rattle.std.specs.Prelude.{◌≡◌, ◌≤◌, ℕ, List, Option, IfOk, IfErr};
+ghost use Rattle.zone_spec.specs.Layout.{rounded};
+ghost use Rattle.zone_params.specs.Laid.{params_of, zones_of};
+ghost use Rattle.session_spec.specs.Moved.{fitting, moved as moved_state};
+ghost use Rattle.old_log.specs.Saving.{saved};
+ghost use Rattle.tool_spec.specs.Commands.{OfMove, wanted_move};
+ghost use Rattle.tool_spec.specs.PlanAnswers.{statuses};
+ghost use Rattle.tool_spec.specs.Answers.{outside};
+ghost use Rattle.tool_frame.specs.Words.{move_for};
+ghost use Rattle.tool_frame.specs.Ended.{CausedAt, KeptAt, ImageEnds};
+
+use crate::records::read_logs;
+use box_io::{Failed, Sink, Store};
+use old_log::Logs;
+use pstore_names::forget_unfit;
+use ram_core::Off;
+use ram_session::move_text;
+use std::alloc::{AllocError, Global};
+use tool_frame::{Stop, save};
+use zone_params::types::Layout;
+
+// The image of this layout with the logs of the records that fit.
+fn moved(alloc: Global, layout: Layout, mut logs: Logs) -> Result<Off, AllocError>
+    ensures { IfOk result (λ off. off.image ≡ (moved_state (zones_of layout) (rounded (params_of layout).mem)
+        (fitting (zones_of layout) (saved logs))).image) }
+{
+    forget_unfit(alloc, &mut logs, &layout)?;
+    Off::rebuilt(alloc, layout, &logs)
+}
+
+/// Prints what becomes of each record of an image of the first layout, and writes the image of the second one.
+pub fn move_image<M: Store, O: Sink>(
+    alloc: Global,
+    from: Layout,
+    to: Layout,
+    image: &mut M,
+    out: &mut O,
+) -> Result<(), Stop>
+    ensures later { (M.faults image.old ≤ M.faults image.new) × (O.faults out.old ≤ O.faults out.new) }
+    ensures caused { (f f' : ℕ) → CausedAt f f' (M.faults image.old) (M.faults image.new) (O.faults out.old)
+        (O.faults out.new) result }
+    ensures kept { KeptAt (M.holds image.old) (M.holds image.new) result }
+    ensures ended { (left : Option (List ℕ)) (f : ℕ) → let plan = move_for from to in
+        ImageEnds (statuses (OfMove plan)) (wanted_move plan)
+        (outside left f (M.holds image.old) (M.faults image.old) (O.given out.old) (O.faults out.old))
+        (outside left f (M.holds image.new) (M.faults image.new) (O.given out.new) (O.faults out.new)) result }
+{
+    let size = from.mem();
+    let logs = match read_logs(alloc, from, image) {
+        Ok(logs) => logs,
+        Err(stop) => return Err(stop),
+    };
+    let text = match move_text(alloc, size, to.mem(), &to, &logs) {
+        Ok(text) => text,
+        Err(AllocError) => return Err(Stop::Memory),
+    };
+    let off = match moved(alloc, to, logs) {
+        Ok(off) => off,
+        Err(AllocError) => return Err(Stop::Memory),
+    };
+    match out.put(&text) {
+        Ok(()) => {}
+        Err(Failed) => return Err(Stop::SinkFault),
+    }
+    match save(image, off.image()) {
+        Ok(()) => Ok(()),
+        Err(Failed) => Err(Stop::ImageFault),
+    }
+}

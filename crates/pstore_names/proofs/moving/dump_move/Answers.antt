@@ -1,0 +1,18 @@
+use Rattle.std.proofs.Common.{◌≡◌, ◌≤◌, length, Some, sym, ◌∙◌, arith}
+use Rattle.zone_spec.specs.TimeLines.{read_line}
+use Rattle.pstore_names.proofs.Lengths.{line-fits}
+use Rattle.pstore_names.proofs.moving.dump_move.Goals as goal
+
+pub slice_bounds-content-count : goal.slice_bounds-content-count
+slice_bounds-content-count c =
+    let found : Some c.in_ok-line.line ≡ read_line c.in_ok-log.log.now = sym c.in_ok-line.was ∙ c.read_line.ensures in
+    let within : c.in_ok-line.line.len ≤ length c.in_ok-log.log.now =
+    line-fits c.in_ok-log.log.now c.in_ok-line.line found in
+    omega (arith, within)
+
+pub slice_bounds-content-start : goal.slice_bounds-content-start
+slice_bounds-content-start c =
+    let found : Some c.in_ok-line.line ≡ read_line c.in_ok-log.log.now = sym c.in_ok-line.was ∙ c.read_line.ensures in
+    let within : c.in_ok-line.line.len ≤ length c.in_ok-log.log.now =
+    line-fits c.in_ok-log.log.now c.in_ok-line.line found in
+    omega (arith, within)

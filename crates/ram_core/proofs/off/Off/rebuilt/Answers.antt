@@ -1,0 +1,22 @@
+use Rattle.std.proofs.Common.{◌≡◌, ℕ, List, replicate, ap, ◌∙◌, subst}
+use Rattle.zone_spec.specs.declared.Zone.{Zone}
+use Rattle.zone_spec.specs.Layout.{rounded}
+use Rattle.zone_params.specs.Laid.{params_of, zones_of}
+use Rattle.session_spec.specs.Off.{fresh}
+use Rattle.session_spec.specs.Boot.{booted}
+use Rattle.old_log.specs.Saving.{saved}
+use Rattle.session_spec.specs.Moved.{refilled}
+use Rattle.ram_core.specs.OffSeen.{StandsOff}
+use Rattle.ram_core.proofs.off.Off.rebuilt.Goals as goal
+
+pub returns : goal.returns
+returns c =
+    let layout : List Zone = zones_of c.args.layout in
+    let mem : ℕ = rounded (params_of c.args.layout).mem in
+    let image : c.in_ok-image.image ≡ replicate mem 0 =
+    c.in_ok-image.ensures ∙ ap (λ (n : ℕ). replicate n 0) c.mem.ensures in
+    let off : StandsOff layout mem c.in_ok-off.off (fresh layout (replicate mem 0)) =
+    subst (λ (bytes : List ℕ). StandsOff layout mem c.in_ok-off.off (fresh layout bytes)) image c.in_ok-off.ensures in
+    let live = (c.in-Ok.ensures.booted layout mem (fresh layout (replicate mem 0)) off).live in
+    c.stop.ensures layout mem (refilled layout (saved c.args.logs.now) (booted layout (fresh layout (replicate mem 0))))
+    (c.in_ok-refill_all.ensures layout mem (booted layout (fresh layout (replicate mem 0))) live)

@@ -1,0 +1,162 @@
+-- Lines of the store as lines of a machine
+use Rattle.std.specs.Bool.{⊤}
+use Rattle.std.proofs.Common.{◌≡◌, ◌≢◌, ℕ, List, [], Result, Ok, Err, refl, ap, ◌∙◌}
+use Rattle.zone_spec.specs.declared.Zone.{Zone}
+use Rattle.zone_spec.specs.declared.Time.{Time}
+use Rattle.session_spec.specs.States.{Session, Off as OffOf, Live as LiveOf}
+use Rattle.old_log.specs.Saving.{SavedLogs}
+use Rattle.ram_core.specs.OffSeen.{OffSeen}
+use Rattle.ram_core.specs.LiveSeen.{LiveSeen}
+use Rattle.grammar_spec.specs.declared.line.Line.{Line}
+use Rattle.grammar_spec.specs.declared.line.Line.TheVariants.{Blank, Write, Dump, BeginWrite, BeginErase, BeginDump, Step, Finish, Stop, Flip, Boot, BootPart, List as ListLine, Extract, Erase, KDump, CutAfter, KMsg, Crash, Reserve, StoreNext}
+use Rattle.tool_spec.specs.Scripts.{Kernel as KernelOf, StoreDone, new_kernel, beside, store_line, line_done}
+use Rattle.tool_spec.specs.declared.Cause.{Cause}
+use Rattle.tool_spec.specs.declared.Cause.TheVariants.{IsLive}
+use Rattle.ram_session.specs.Kernels.{StandsForKernel}
+use Rattle.ram_session.specs.Sessions.{Off as OffStore, Live as LiveStore, LineDone, LineRefused, LineFails, KeepsKernel}
+use Rattle.ram_session.specs.Machines.{MachineDone, MachineRefused, MachineFails}
+use Rattle.ram_session.specs.declared.kernel.Kernel.{Kernel}
+use Rattle.ram_session.specs.declared.machine.Machine.TheVariants.{Off, Live}
+use Rattle.ram_session.specs.declared.machine.LineError.{LineError}
+use Rattle.ram_session.specs.declared.machine.LineError.TheVariants.{Memory, Refused}
+
+kept : (layout : List Zone) (s : Session) (k : KernelOf) (line : Line) → KeepsKernel line
+    → line_done layout s k line ≡ beside k (store_line layout s line)
+unfolding line_done
+kept layout s k Blank h = refl
+kept layout s k (Write z b) h = refl
+kept layout s k (Dump t p b) h = refl
+kept layout s k (BeginWrite z b) h = refl
+kept layout s k (BeginErase z) h = refl
+kept layout s k (BeginDump t p b) h = refl
+kept layout s k (Step z n) h = refl
+kept layout s k (Finish z) h = refl
+kept layout s k Stop h = absurd h
+kept layout s k (Flip a m) h = refl
+kept layout s k Boot h = absurd h
+kept layout s k (BootPart n) h = refl
+kept layout s k ListLine h = refl
+kept layout s k (Extract b) h = refl
+kept layout s k (Erase b) h = refl
+kept layout s k (KDump a n p r b) h = refl
+kept layout s k (CutAfter n) h = refl
+kept layout s k (KMsg b) h = absurd h
+kept layout s k (Crash r t) h = absurd h
+kept layout s k (Reserve b) h = refl
+kept layout s k (StoreNext t n) h = refl
+
+-- a line that is none of the four
+pub keeps_unless : (line : Line) → line ≢ Boot → line ≢ Stop → ((b : List ℕ) → line ≢ KMsg b)
+    → ((r : ℕ) (t : Time) → line ≢ Crash r t) → KeepsKernel line
+keeps_unless Blank p q r t = tt
+keeps_unless (Write z b) p q r t = tt
+keeps_unless (Dump u k b) p q r t = tt
+keeps_unless (BeginWrite z b) p q r t = tt
+keeps_unless (BeginErase z) p q r t = tt
+keeps_unless (BeginDump u k b) p q r t = tt
+keeps_unless (Step z n) p q r t = tt
+keeps_unless (Finish z) p q r t = tt
+keeps_unless Stop p q r t = absurd (q refl)
+keeps_unless (Flip a m) p q r t = tt
+keeps_unless Boot p q r t = absurd (p refl)
+keeps_unless (BootPart n) p q r t = tt
+keeps_unless ListLine p q r t = tt
+keeps_unless (Extract b) p q r t = tt
+keeps_unless (Erase b) p q r t = tt
+keeps_unless (KDump a n k u b) p q r t = tt
+keeps_unless (CutAfter n) p q r t = tt
+keeps_unless (KMsg b) p q r t = absurd (r b refl)
+keeps_unless (Crash u v) p q r t = absurd (t u v refl)
+keeps_unless (Reserve b) p q r t = tt
+keeps_unless (StoreNext u n) p q r t = tt
+
+-- ---- off
+
+pub off_done : (old new : OffSeen) (line : Line) (text : List ℕ) → KeepsKernel line
+    → LineDone (OffStore old) line (OffStore new) text → MachineDone (Off old) line (Off new) text
+off_done old new line text keeps done layout mem s k lies alike stands has state =
+    let d = done layout mem s lies stands state in
+    record {
+      next = d.next;
+      kernel = k;
+      done = kept layout s k line keeps ∙ ap (beside k) d.done;
+      stands = d.stands;
+      has = has;
+    }
+
+pub off_refused : (old : OffSeen) (line : Line) (cause : Cause) → KeepsKernel line
+    → LineRefused (OffStore old) line cause → MachineRefused (Off old) line cause
+off_refused old line cause keeps fails layout mem s k lies alike stands has state =
+    kept layout s k line keeps ∙ ap (beside k) (fails layout mem s lies stands state)
+
+pub off_fails : (old : OffSeen) (line : Line) (e : LineError) → KeepsKernel line → LineFails (OffStore old) line e
+    → MachineFails (Off old) line e
+off_fails old line Memory keeps fails = tt
+off_fails old line (Refused cause) keeps fails = off_refused old line cause keeps fails
+
+boot_is : (layout : List Zone) (s : Session) (k : KernelOf)
+    → line_done layout s k Boot ≡ beside new_kernel (store_line layout s Boot)
+unfolding line_done
+boot_is layout s k = refl
+
+pub boot_done : (old : OffSeen) (live : LiveSeen) (logs : SavedLogs) (kernel : Kernel) (text : List ℕ)
+    → LineDone (OffStore old) Boot (LiveStore live logs) text → StandsForKernel kernel new_kernel
+    → MachineDone (Off old) Boot (Live live logs kernel) text
+boot_done old live logs kernel text done new layout mem s k lies alike stands has state =
+    let d = done layout mem s lies stands state in
+    record {
+      next = d.next;
+      kernel = new_kernel;
+      done = boot_is layout s k ∙ ap (beside new_kernel) d.done;
+      stands = d.stands;
+      has = new;
+    }
+
+pub boot_fails : (old : OffSeen) (e : LineError) → LineFails (OffStore old) Boot e → MachineFails (Off old) Boot e
+boot_fails old Memory fails = tt
+boot_fails old (Refused cause) fails = λ layout mem s k lies alike stands has state.
+    boot_is layout s k ∙ ap (beside new_kernel) (fails layout mem s lies stands state)
+
+-- ---- live
+
+pub live_done : (old new : LiveSeen) (logs logs' : SavedLogs) (kernel : Kernel) (line : Line) (text : List ℕ)
+    → KeepsKernel line → LineDone (LiveStore old logs) line (LiveStore new logs') text
+    → MachineDone (Live old logs kernel) line (Live new logs' kernel) text
+live_done old new logs logs' kernel line text keeps done layout mem s k lies alike stands has state =
+    let d = done layout mem s lies stands state in
+    record {
+      next = d.next;
+      kernel = k;
+      done = kept layout s k line keeps ∙ ap (beside k) d.done;
+      stands = d.stands;
+      has = has;
+    }
+
+pub live_fails : (old : LiveSeen) (logs : SavedLogs) (kernel : Kernel) (line : Line) (e : LineError)
+    → KeepsKernel line → LineFails (LiveStore old logs) line e → MachineFails (Live old logs kernel) line e
+live_fails old logs kernel line Memory keeps fails = tt
+live_fails old logs kernel line (Refused cause) keeps fails = λ layout mem s k lies alike stands has state.
+    kept layout s k line keeps ∙ ap (beside k) (fails layout mem s lies stands state)
+
+stop_is : (layout : List Zone) (s : Session) (k : KernelOf)
+    → line_done layout s k Stop ≡ beside new_kernel (store_line layout s Stop)
+unfolding line_done
+stop_is layout s k = refl
+
+pub stop_done : (old : LiveSeen) (logs : SavedLogs) (kernel : Kernel) (off : OffSeen)
+    → LineDone (LiveStore old logs) Stop (OffStore off) [] → MachineDone (Live old logs kernel) Stop (Off off) []
+stop_done old logs kernel off done layout mem s k lies alike stands has state =
+    let d = done layout mem s lies stands state in
+    record {
+      next = d.next;
+      kernel = new_kernel;
+      done = stop_is layout s k ∙ ap (beside new_kernel) d.done;
+      stands = d.stands;
+      has = refl;
+    }
+
+pub booted_refused : (old : LiveSeen) (logs : SavedLogs) (kernel : Kernel)
+    → MachineRefused (Live old logs kernel) Boot IsLive
+unfolding store_line
+booted_refused old logs kernel layout mem (OffOf s) k lies alike stands has state = absurd stands
+booted_refused old logs kernel layout mem (LiveOf s) k lies alike stands has state = boot_is layout (LiveOf s) k

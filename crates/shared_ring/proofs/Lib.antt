@@ -1,0 +1,9 @@
+pub mod SeatLists
+pub mod Tickets
+pub mod Regions
+pub mod Standing
+pub mod Leaving
+pub mod Wholes
+pub mod Opened
+pub mod Closing
+pub mod Shareable

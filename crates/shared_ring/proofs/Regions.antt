@@ -1,0 +1,56 @@
+-- A zone's span among the spans of a cut image
+use Rattle.std.proofs.Common.{◌≡◌, ℕ, zero, suc, ◌+◌, ◌-◌, ◌<◌, ◌≤◌, List, [], ◌∷◌, ◌++◌, length, map, take, drop, set, get_or, refl, sym, ap, ap₂, ◌∙◌, arith, append_assoc, Some}
+use Rattle.std.specs.Prelude.{slice_get, slice_range, flat_map}
+use Rattle.std.specs.List.{concat}
+use Rattle.std.proofs.lemmas.List.{take-append-drop, take-set, drop-set-lt, get_or-set_same, length-map, take-map}
+use Rattle.std.proofs.lemmas.List.Concat.{concat_is, flat_map-cons}
+use Rattle.std.proofs.lemmas.List.Folds.{concat-append, flat_map-map}
+use Rattle.std.proofs.lemmas.List.Sums.{sum_by-cons}
+use Rattle.std.proofs.lemmas.Option.{slice_get-map, get_or_from_slice_get, slice_get_within}
+use Rattle.std.proofs.Math.Seq.{take-add}
+use Rattle.zone_spec.specs.declared.Zone.{Zone}
+use Rattle.zone_spec.specs.Layouts.{IsLayout, zones_end}
+use Rattle.zone_spec.specs.Stores.{put}
+use Rattle.ram_region.specs.CutRegion.{CutRegion, span, with_span, cut_at}
+
+-- ---- one span stored into
+
+pub span_stored : (cut : CutRegion) (i : ℕ) (bytes : List ℕ) → i < length cut.spans
+    → span (with_span cut i bytes) i ≡ bytes
+span_stored cut i bytes h = get_or-set_same cut.spans i bytes [] h
+
+pub before_stored : (cut : CutRegion) (i : ℕ) (bytes : List ℕ)
+    → concat (take i (with_span cut i bytes).spans) ≡ concat (take i cut.spans)
+before_stored cut i bytes = ap concat (take-set cut.spans i bytes)
+
+pub after_stored : (cut : CutRegion) (i : ℕ) (bytes : List ℕ)
+    → concat (drop (i + 1) (with_span cut i bytes).spans) ++ (with_span cut i bytes).rest
+    ≡ concat (drop (i + 1) cut.spans) ++ cut.rest
+after_stored cut i bytes =
+    ap (λ (xs : List (List ℕ)). concat xs ++ cut.rest) (drop-set-lt (i + 1) cut.spans i bytes (omega arith))
+
+-- ---- all spans, in three pieces
+
+pieces : (xs : List (List ℕ)) (i : ℕ) → i < length xs
+    → concat xs ≡ concat (take i xs) ++ get_or xs i [] ++ concat (drop (suc i) xs)
+pieces [] i h = absurd (omega arith)
+pieces (x ∷ xs) zero h = refl
+pieces (x ∷ xs) (suc i) h =
+    ap (λ ys. x ++ ys) (pieces xs i (omega arith)
+    ∙ append_assoc (concat (take i xs)) (get_or xs i []) (concat (drop (suc i) xs)))
+    ∙ sym (append_assoc x (concat (take i xs)) (get_or xs i [] ++ concat (drop (suc i) xs)))
+    ∙ sym (append_assoc (x ++ concat (take i xs)) (get_or xs i []) (concat (drop (suc i) xs)))
+
+pub joined : (cut : CutRegion) (i : ℕ) → i < length cut.spans
+    → concat cut.spans ++ cut.rest
+    ≡ concat (take i cut.spans) ++ span cut i ++ (concat (drop (i + 1) cut.spans) ++ cut.rest)
+joined cut i h =
+    let n : i + 1 ≡ suc i = omega arith in
+    ap (λ ys. ys ++ cut.rest) (pieces cut.spans i h)
+    ∙ append_assoc (concat (take i cut.spans) ++ span cut i) (concat (drop (suc i) cut.spans)) cut.rest
+    ∙ ap (λ m. concat (take i cut.spans) ++ span cut i ++ (concat (drop m cut.spans) ++ cut.rest)) (sym n)
+
+-- one byte put is one place set
+pub put_one : (bytes : List ℕ) (at b : ℕ) → put bytes at (b ∷ []) ≡ set bytes at b
+unfolding put
+put_one bytes at b = refl

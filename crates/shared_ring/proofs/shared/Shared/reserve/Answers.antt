@@ -1,0 +1,21 @@
+use Rattle.std.proofs.Common.{◌≡◌, ◌<◌, ℕ, length, arith, sym, ap, ◌∙◌, subst, Some, None, Option}
+use Rattle.shared_spec.specs.declared.SharedRefusal.{SharedRefusal}
+use Rattle.shared_spec.specs.Machine.{refusal}
+use Rattle.shared_spec.specs.Runs.{Reserve}
+use Rattle.shared_spec.specs.Histories.{History, shared_zone, and_then}
+use Rattle.shared_ring.specs.Seen.{SharedSeen, IsLeftBy, seated}
+use Rattle.shared_ring.proofs.Leaving.{left_reserved, left_refused}
+use Rattle.shared_ring.proofs.shared.Shared.reserve.Goals as goal
+
+pub returns-in-Some-clause-left : goal.returns-in-Some-clause-left
+returns-in-Some-clause-left c = λ h l.
+    left_refused h c.args.self.now c.args.payload c.in-Some.why l
+    (sym c.in-Some.is ∙ c.refusal.ensures.left h l
+    ∙ ap (refusal h.zone (shared_zone h).calls) c.len.ensures.len)
+
+pub returns-in-None-clause-left : goal.returns-in-None-clause-left
+returns-in-None-clause-left c = λ h l.
+    subst (λ (x : SharedSeen). IsLeftBy (and_then h (Reserve c.args.payload)) x) (sym c.seat.ensures.seated)
+    (left_reserved h c.args.self.now c.args.payload l
+    (sym c.in-None.is ∙ c.refusal.ensures.left h l
+    ∙ ap (refusal h.zone (shared_zone h).calls) c.len.ensures.len) c.requires.some)

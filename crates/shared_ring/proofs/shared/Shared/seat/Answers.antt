@@ -1,0 +1,62 @@
+use Rattle.std.proofs.Common.{◌≡◌, ℕ, ◌+◌, ◌%◌, min, List, [], ◌∷◌, ◌++◌, length, arith, sym, ap, ap₂, ◌∙◌, subst, w32}
+use Rattle.std.specs.Int.{to_le_bytes}
+use Rattle.zone_spec.specs.declared.Words.{Words}
+use Rattle.zone_spec.specs.Stores.{put}
+use Rattle.ram_region.specs.CutRegion.{CutRegion, with_span}
+use Rattle.shared_ring.specs.declared.seats.Seat.{Seat}
+use Rattle.shared_ring.specs.Seen.{SharedSeen, bytes_of, words_of, IsWhole, seated}
+use Rattle.shared_ring.proofs.Wholes.{seated_whole}
+use Rattle.shared_ring.proofs.shared.Shared.seat.Goals as goal
+
+-- a zone whose words were these, after a reservation of so many bytes
+abbrev after : SharedSeen → Words → ℕ → List ℕ → SharedSeen
+after v w n payload = record {
+  region = with_span v.region v.place
+      (put (bytes_of v) 4
+      (to_le_bytes w32 ((w.start + n) % v.zone.cap) ++ to_le_bytes w32 (min v.zone.cap (w.size + n))));
+  place = v.place;
+  zone = v.zone;
+  reserved = v.reserved + 1;
+  seats = v.seats ++ record { ticket = v.reserved; place = w.start; stored = 0; payload = payload } ∷ [];
+}
+
+left : (v : SharedSeen) (payload : List ℕ) (w : Words) (n size : ℕ) (region : CutRegion) (seats : List Seat)
+    → w ≡ words_of v → n ≡ length payload → size ≡ min v.zone.cap (w.size + n)
+    → region ≡ with_span v.region v.place
+    (put (bytes_of v) 4 (to_le_bytes w32 ((w.start + n) % v.zone.cap) ++ to_le_bytes w32 size))
+    → seats ≡ v.seats ++ record { ticket = v.reserved; place = w.start; stored = 0; payload = payload } ∷ []
+    → seated v payload
+    ≡ record { region = region; place = v.place; zone = v.zone; reserved = v.reserved + 1; seats = seats }
+left v payload w n size region seats e f g r s =
+    ap₂ (λ (x : Words) k. after v x k payload) (sym e) (sym f)
+    ∙ ap₂ (λ (c : CutRegion) (xs : List Seat). let u : SharedSeen = record {
+      region = c;
+      place = v.place;
+      zone = v.zone;
+      reserved = v.reserved + 1;
+      seats = xs;
+    } in u)
+    (ap (λ k. with_span v.region v.place
+    (put (bytes_of v) 4 (to_le_bytes w32 ((w.start + n) % v.zone.cap) ++ to_le_bytes w32 k))) (sym g) ∙ sym r)
+    (sym s)
+
+pub invariant_of-self : goal.invariant_of-self
+invariant_of-self c =
+    let v : SharedSeen = record {
+      region = c.self.inside.spans;
+      place = c.self.inside.place;
+      zone = c.self.inside.zone;
+      reserved = c.self.inside.reserved;
+      seats = c.self.inside.seats.items;
+    } in
+    let few : length v.seats ≡ length c.args.self.now.seats = ap (λ (x : SharedSeen). length x.seats) c.self.view_is in
+    let cap : v.zone.cap ≡ c.args.self.now.zone.cap = ap (λ (x : SharedSeen). x.zone.cap) c.self.view_is in (
+      omega (arith, c.self.invariant.0, c.push_reserved.ensures.capacity),
+      subst IsWhole
+          (left v c.args.payload c.words-words.result c.len-len.result c.min.result c.store_words.new.spans
+          c.push_reserved.new.self.items
+          (c.words-words.ensures.value ∙ ap (λ (x : SharedSeen). words_of x) (sym c.self.view_is))
+          c.len-len.ensures.len c.min.ensures c.store_words.ensures c.push_reserved.ensures.items)
+          (seated_whole v c.args.payload c.self.invariant.1 (omega (arith, few, c.requires.seat)) c.requires.some
+          (omega (arith, cap, c.requires.room))),
+    )

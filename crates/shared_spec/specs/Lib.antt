@@ -1,0 +1,4 @@
+pub mod Calls
+pub mod Machine
+pub mod Runs
+pub mod Histories

@@ -1,0 +1,5 @@
+use Rattle.tool_laws.proofs.Crashes.{told_whole}
+use Rattle.tool_laws.proofs.crashes_are_told_whole.Goals as goal
+
+pub returns : goal.returns
+returns c = told_whole
