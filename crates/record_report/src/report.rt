@@ -93,8 +93,8 @@ fn read_zones(alloc: Global, layout: &Layout, spans: &Spans) -> Result<Readings,
     Ok(readings)
 }
 
-/// The report of an image by its layout. Each part is decoded once; the blocks of a zone that was found, and in which
-/// not all is clean, are decoded twice.
+/// The report of an image by its layout. A zone's header is decoded twice. Its blocks are decoded once if the zone was
+/// found and nothing but its header was corrected, else twice.
 pub fn report_of(alloc: Global, layout: &Layout, image: Bytes) -> Result<Report, AllocError>
     requires { length image ≡ rounded (params_of layout.now).mem }
     ensures { IfOk result (IsReport (zones_of layout.now) image) }
