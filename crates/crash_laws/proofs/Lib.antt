@@ -1,0 +1,6 @@
+mod Items
+mod Calls
+mod Told
+mod Stops
+mod Keeping
+mod Scripts

@@ -1,0 +1,192 @@
+-- What a stop, a boot and the erasure of another record leave of a zone
+use Rattle.std.proofs.Common.{◌≡◌, ◌≢◌, ℕ, zero, suc, ◌+◌, ◌-◌, ◌==◌, Bool, true, false, cond, List, [], ◌∷◌, ◌++◌, length, take, drop, map, zip, flat_map, slice_get, Contains, Option, Some, None, refl, sym, ap, ◌∙◌, subst, arith, append_assoc, true≢false, is_some}
+use Rattle.std.proofs.lemmas.Bool.Decides.{nat_tests}
+use Rattle.std.proofs.lemmas.List.Elements.{Contains-append_left}
+use Rattle.std.proofs.lemmas.List.Sums.{sum_by-cons}
+use Rattle.zone_spec.specs.declared.Zone.{Zone}
+use Rattle.zone_spec.specs.declared.Kind.{Kind}
+use Rattle.zone_spec.specs.declared.Kind.TheVariants.{Dump as DumpKind, Console, Ftrace, Pmsg}
+use Rattle.zone_spec.specs.declared.Name.{Name}
+use Rattle.zone_spec.specs.declared.Name.TheVariants.{Dump as DumpName, Console as ConsoleName, Pmsg as PmsgName, Ftrace as FtraceName}
+use Rattle.zone_spec.specs.declared.State.{State}
+use Rattle.zone_spec.specs.declared.State.TheVariants.{Empty, Found}
+use Rattle.zone_spec.specs.declared.TimeLine.{TimeLine}
+use Rattle.zone_spec.specs.Reading.{ZoneReading, zone_reading}
+use Rattle.zone_spec.specs.TimeLines.{read_line, has_line}
+use Rattle.zone_spec.specs.Boot.{told_by_boot, keeps, keeps_in, is_kept}
+use Rattle.zone_spec.specs.Ring.{IsRingForm}
+use Rattle.zone_spec.specs.Records.{Saved, Listed, is_of, found, found_in, logs_of, dump_of, dumps_of, plain, ftrace_of, listed_of}
+use Rattle.zone_spec.specs.Notices.{is_in}
+use Rattle.zone_spec.specs.Layouts.{IsLayout, zones_end}
+use Rattle.session_spec.specs.States.{Flight, LiveZone, LiveState, OffZone, OffState, Off, Live}
+use Rattle.session_spec.specs.Zones.{zone_bytes}
+use Rattle.session_spec.specs.Stop.{cut_by_stop, zone_stopped, stopped, live_image}
+use Rattle.session_spec.specs.Boot.{booted_zone, booted}
+use Rattle.session_spec.specs.Erasures.{saved_logs, erase_zone, erased}
+use Rattle.session_spec.specs.Sound.{IsLiveZone, IsOffZone, IsState}
+use Rattle.ring_laws.specs.Laws.{ReadsTold}
+use Rattle.ring_laws.proofs.Laws.{ring_form_reads_told}
+use Rattle.crash_laws.specs.Standing.{IsToldLive, IsToldOff}
+use Rattle.crash_laws.proofs.Items.{map_item, zip_item, in_flat, front_of, behind_of}
+
+-- ---- a zone's bytes among those of all
+
+zone_in : (layout : List Zone) (zones : List LiveZone) (rest : List ℕ) (i : ℕ) (z : Zone) (v : LiveZone)
+    → ((j : ℕ) (y : Zone) (w : LiveZone) → slice_get layout j ≡ Some y → slice_get zones j ≡ Some w
+    → length w.image ≡ y.size) → slice_get layout i ≡ Some z → slice_get zones i ≡ Some v
+    → take z.size (drop (zones_end (take i layout)) (flat_map (λ (zone : LiveZone). zone.image) zones ++ rest))
+    ≡ v.image
+zone_in [] zones rest i z v each hz hv = absurd (cc)
+zone_in (y ∷ ys) [] rest i z v each hz hv = absurd (cc)
+zone_in (y ∷ ys) (w ∷ ws) rest zero z v each hz hv =
+    let a : y ≡ z = cc in
+    let b : w ≡ v = cc in
+    let more = flat_map (λ (zone : LiveZone). zone.image) ws in
+    let size : z.size ≡ length w.image = ap (λ (u : Zone). u.size) (sym a) ∙ sym (each 0 y w refl refl) in
+    ap (λ (xs : List ℕ). take z.size xs) (append_assoc w.image more rest)
+    ∙ front_of w.image (more ++ rest) z.size size ∙ ap (λ (u : LiveZone). u.image) b
+zone_in (y ∷ ys) (w ∷ ws) rest (suc i) z v each hz hv =
+    let more = flat_map (λ (zone : LiveZone). zone.image) ws in
+    let here : length w.image ≡ y.size = each 0 y w refl refl in
+    let from : zones_end (take (suc i) (y ∷ ys)) ≡ length w.image + zones_end (take i ys) =
+    omega (arith, here, sum_by-cons (λ (u : Zone). u.size) y (take i ys)) in
+    ap (λ (xs : List ℕ). take z.size (drop (zones_end (take (suc i) (y ∷ ys))) xs)) (append_assoc w.image more rest)
+    ∙ ap (λ (xs : List ℕ). take z.size xs) (behind_of w.image (more ++ rest)
+    (zones_end (take (suc i) (y ∷ ys))) (zones_end (take i ys)) from)
+    ∙ zone_in ys ws rest i z v (λ j u x p q. each (suc j) u x p q) hz hv
+
+-- ---- kinds and names
+
+pub dump_kind : (k : Kind) → is_of DumpKind k ≡ true → k ≡ DumpKind
+dump_kind DumpKind e = refl
+dump_kind Console e = absurd (true≢false (sym e))
+dump_kind Ftrace e = absurd (true≢false (sym e))
+dump_kind Pmsg e = absurd (true≢false (sym e))
+
+line_some : (told : List ℕ) → has_line told ≡ true → (length told == 0) ≡ false
+unfolding read_line
+line_some [] e = absurd (true≢false (sym e))
+line_some (b ∷ bs) e = grind (arith, nat_tests)
+
+-- ---- a reading of the told list
+
+kept : (z : Zone) (r : ZoneReading) (told : List ℕ) → r.state ≡ Found → z.name.kind ≡ DumpKind → r.log ≡ told
+    → has_line told ≡ true → cond (keeps z r) r.log [] ≡ told
+kept z r told state kind log line =
+    let k : keeps z r ≡ true = ap (keeps_in z r) state ∙ ap (is_kept z r) kind
+    ∙ ap (λ (xs : List ℕ). has_line xs) log ∙ line in
+    ap (λ (b : Bool). cond b r.log []) k ∙ log
+
+-- a dump's record, where its reading was found
+dump_entry : (z : Zone) (r : ZoneReading) (told : List ℕ) (line : TimeLine) → is_of DumpKind z.name.kind ≡ true
+    → r.state ≡ Found → r.log ≡ told → read_line told ≡ Some line
+    → cond (is_of DumpKind z.name.kind)
+    (flat_map (λ (q : ZoneReading). dump_of z.name.index q.log (read_line q.log)) (found (Some r))) []
+    ≡ record { name = DumpName z.name.index line.packed; content = drop line.len told; time = Some line.time } ∷ []
+dump_entry z r told line kind state log is =
+    ap (λ (b : Bool). cond b
+    (flat_map (λ (q : ZoneReading). dump_of z.name.index q.log (read_line q.log)) (found (Some r))) []) kind
+    ∙ ap (λ (s : State). flat_map (λ (q : ZoneReading). dump_of z.name.index q.log (read_line q.log)) (found_in r s))
+    state ∙ ap (λ (xs : List ℕ). dump_of z.name.index xs (read_line xs) ++ []) log
+    ∙ ap (λ (o : Option TimeLine). dump_of z.name.index told o ++ []) is
+
+one_entry : (r : Listed) → Contains (r ∷ []) r
+one_entry r = (0, omega arith, refl)
+
+-- the dump zones' records come first
+among_dumps : (zones : List Saved) (r : Listed) → Contains (dumps_of zones) r → Contains (listed_of zones) r
+among_dumps zones r h =
+    let consoles = plain ConsoleName (logs_of Console zones) in
+    let messages = plain PmsgName (logs_of Pmsg zones) in
+    Contains-append_left (dumps_of zones ++ consoles ++ messages) (ftrace_of (logs_of Ftrace zones)) r
+    (Contains-append_left (dumps_of zones ++ consoles) messages r
+    (Contains-append_left (dumps_of zones) consoles r h))
+
+-- ---- records of others
+
+spared : (name : Name) (z : Zone) (v : LiveZone) → is_in name z ≡ false → erase_zone name z v ≡ v
+spared name z v e = rw e refl
+
+module _ (layout : List Zone) (mem : ℕ) (lies : IsLayout layout mem) (z : Zone) (place : ℕ)
+    (hz : slice_get layout place ≡ Some z) (told : List ℕ) where
+  pub erased_keeps : (live : LiveState) (name : Name) → is_in name z ≡ false → IsToldLive place told live
+      → IsToldLive place told (erased layout live name)
+  erased_keeps live name other k = record {
+    zone = k.zone;
+    at = zip_map layout live.zones place z k.zone hz k.at
+        ∙ ap (λ (v : LiveZone). Some v) (spared name z k.zone other);
+    told_is = k.told_is;
+    idle = k.idle;
+  }
+    where
+      zip_map : (zs : List Zone) (vs : List LiveZone) (i : ℕ) (y : Zone) (v : LiveZone) → slice_get zs i ≡ Some y
+          → slice_get vs i ≡ Some v
+          → slice_get (map (λ (pair : Zone × LiveZone). erase_zone name pair.0 pair.1) (zip zs vs)) i
+          ≡ Some (erase_zone name y v)
+      zip_map zs vs i y v p q =
+          map_item (λ (pair : Zone × LiveZone). erase_zone name pair.0 pair.1) (zip zs vs) i (y, v)
+          (zip_item zs vs i y v p q)
+
+  -- ---- a stop
+
+  stop_bytes : (live : LiveState) (v : LiveZone) → IsState layout mem (Live live) → slice_get live.zones place ≡ Some v
+      → zone_bytes z (live_image live) ≡ v.image
+  stop_bytes live v state hv =
+      let size : (z.at + z.size) - z.at ≡ z.size = omega arith in
+      let at : z.at ≡ zones_end (take place layout) = (lies.valid place z hz).1 in
+      ap (λ (n : ℕ). take n (drop z.at (live_image live))) size
+      ∙ ap (λ (n : ℕ). take z.size (drop n (live_image live))) at
+      ∙ zone_in layout live.zones live.rest place z v (λ j y w p q. (state.zones.1 j y w p q).size.0) hz hv
+
+  pub stop_keeps : (live : LiveState) → IsState layout mem (Live live) → IsToldLive place told live
+      → IsToldOff z place told (stopped layout live)
+  stop_keeps live state k = record {
+    zone = zone_stopped (z, k.zone);
+    at = map_item zone_stopped (zip layout live.zones) place (z, k.zone)
+        (zip_item layout live.zones place z k.zone hz k.at);
+    told_is = ap (λ (xs : List ℕ). Some xs) k.told_is;
+    whole = ap (λ (o : Option Flight). cut_by_stop z o) k.idle;
+    undamaged = stop_bytes live k.zone state k.at;
+  }
+
+  -- ---- a boot
+
+  reads_told : (off : OffState) → IsState layout mem (Off off) → IsToldOff z place told off
+      → ReadsTold z (zone_bytes z off.image) told
+  reads_told off state k =
+      let zone : IsOffZone z k.zone = state.zones.1 place z k.zone hz k.at in
+      ring_form_reads_told z (zone_bytes z off.image) told (lies.valid place z hz).0
+      (subst (λ (xs : List ℕ). IsRingForm z xs told) (sym k.undamaged) (zone.idle told k.told_is k.whole))
+
+  found_told : (off : OffState) → IsState layout mem (Off off) → has_line told ≡ true → IsToldOff z place told off
+      → (zone_reading z (zone_bytes z off.image)).state ≡ Found
+  found_told off state line k =
+      (reads_told off state k).state ∙ ap (λ (b : Bool). cond b Empty Found) (line_some told line)
+
+  pub boot_keeps : (off : OffState) → IsState layout mem (Off off) → is_of DumpKind z.name.kind ≡ true
+      → has_line told ≡ true → IsToldOff z place told off → IsToldLive place told (booted layout off)
+  boot_keeps off state kind line k = record {
+    zone = booted_zone off.image z;
+    at = map_item (booted_zone off.image) layout place z hz;
+    told_is = kept z (zone_reading z (zone_bytes z off.image)) told (found_told off state line k)
+        (dump_kind z.name.kind kind) (reads_told off state k).log line;
+    idle = refl;
+  }
+
+  pub boot_lists : (off : OffState) (line : TimeLine) → IsState layout mem (Off off)
+      → is_of DumpKind z.name.kind ≡ true → read_line told ≡ Some line → IsToldOff z place told off
+      → Contains (listed_of (saved_logs layout (booted layout off)))
+      (record { name = DumpName z.name.index line.packed; content = drop line.len told; time = Some line.time })
+  boot_lists off line state kind is k =
+      let entry : Listed = record
+      { name = DumpName z.name.index line.packed; content = drop line.len told; time = Some line.time } in
+      let r = zone_reading z (zone_bytes z off.image) in
+      let logs = (booted layout off).logs in
+      let log : slice_get logs place ≡ Some (Some r) =
+      map_item (λ y. Some (zone_reading y (zone_bytes y off.image))) layout place z hz in
+      let state_is = found_told off state (ap (λ (o : Option TimeLine). is_some o) is) k in
+      let one = dump_entry z r told line kind state_is (reads_told off state k).log is in
+      among_dumps (zip layout logs) entry (in_flat (λ (zone : Saved). cond (is_of DumpKind zone.0.name.kind)
+      (flat_map (λ (q : ZoneReading). dump_of zone.0.name.index q.log (read_line q.log)) (found zone.1)) [])
+      (zip layout logs) place (z, Some r) entry (zip_item layout logs place z (Some r) hz log)
+      (subst (λ (rs : List Listed). Contains rs entry) (sym one) (one_entry entry)))

@@ -1,0 +1,5 @@
+use Rattle.crash_laws.proofs.Told.{crash_tells}
+use Rattle.crash_laws.proofs.crash_tells_zone.Goals as goal
+
+pub returns : goal.returns
+returns c = crash_tells c.crashes_are_told_whole.ensures
