@@ -1,21 +1,18 @@
 -- A zone whose header and log are codewords reads with nothing corrected and nothing bad
-use Rattle.std.proofs.Common.{◌≡◌, ℕ, zero, suc, ◌+◌, ◌-◌, ◌*◌, ◌/◌, ◌<◌, ◌≤◌, Bool, cond, List, [], ◌∷◌, length, refl, sym, ap, ap₂, ◌∙◌, subst, arith, Some, eq-eqb}
+use Rattle.std.proofs.Common.{◌≡◌, ℕ, zero, suc, ◌+◌, ◌-◌, ◌/◌, ◌<◌, ◌≤◌, Bool, cond, List, [], ◌∷◌, refl, sym, ap, ◌∙◌, subst, arith, eq-eqb}
 use Rattle.std.specs.Prelude.{sum_by}
 use Rattle.std.specs.List.{range_with_len}
 use Rattle.std.proofs.lemmas.List.Sums.{sum_by-cons}
 use Rattle.zone_spec.specs.declared.Zone.{Zone}
-use Rattle.zone_spec.specs.declared.Words.{Words}
 use Rattle.zone_spec.specs.declared.State.{State}
 use Rattle.zone_spec.specs.declared.State.TheVariants.{Unsigned, Empty, Invalid, Found}
 use Rattle.zone_spec.specs.Zones.{IsValidZone}
 use Rattle.code_spec.specs.Code.{distance}
-use Rattle.zone_spec.specs.Parts.{Part, Header, Block, part_bytes, part_word, standing_words}
-use Rattle.zone_spec.specs.PartReadings.{PartReading, reading_by, part_reading, words_read}
-use Rattle.zone_spec.specs.Reading.{ZoneReading, zone_reading, reading_in, state_of, blocks_below}
-use Rattle.zone_spec.specs.Ring.{IsRingForm}
-use Rattle.ring_laws.specs.Laws.{ReadsTold}
+use Rattle.zone_spec.specs.Parts.{Part, Header, Block, part_bytes, part_word}
+use Rattle.zone_spec.specs.PartReadings.{reading_by, part_reading, words_read}
+use Rattle.zone_spec.specs.Reading.{ZoneReading, zone_reading, reading_in, state_of}
 use Rattle.ring_laws.proofs.PartsLaw.{block_some, nearest-codeword}
-use Rattle.ring_laws.proofs.States.{below_count, reading_is, reading_words}
+use Rattle.ring_laws.proofs.States.{below_count, reading_is}
 use Rattle.move_laws.proofs.Codes.{IsClean, HasCodes}
 
 distance_same : (xs : List ℕ) → distance xs xs ≡ 0

@@ -1,5 +1,5 @@
 -- A zone that is told nothing yet, and is told the logs that were found of it
-use Rattle.std.proofs.Common.{◌≡◌, ◌≢◌, ℕ, zero, suc, ◌+◌, ◌-◌, ◌%◌, ◌<◌, ◌≤◌, ◌==◌, min, Bool, true, false, cond, not, ◌&&◌, is_some, nat_lt, List, [], ◌∷◌, ◌++◌, length, map, take, drop, refl, sym, ap, ◌∙◌, subst, arith, Option, Some, None, true≢false}
+use Rattle.std.proofs.Common.{◌≡◌, ℕ, ◌+◌, ◌-◌, ◌%◌, ◌<◌, ◌≤◌, ◌==◌, min, Bool, true, false, cond, not, ◌&&◌, is_some, nat_lt, List, [], ◌∷◌, ◌++◌, length, map, take, drop, refl, sym, ap, ◌∙◌, subst, arith, Some, None, true≢false}
 use Rattle.std.specs.Prelude.{fold, find, unwrap_or}
 use Rattle.std.specs.List.{AllByRecursion}
 use Rattle.std.proofs.lemmas.Bool.Decides.{nat_tests}
@@ -12,7 +12,7 @@ use Rattle.zone_spec.specs.Stages.{Stage, StartWord, SizeWord, ParityOf, stage_s
 use Rattle.zone_spec.specs.declared.Words.{Words}
 use Rattle.zone_spec.specs.Calls.{CanBegin, call_stores, append_stages, run_stages, image_after}
 use Rattle.zone_spec.specs.Told.{Append, last_items}
-use Rattle.session_spec.specs.States.{Flight, LiveZone}
+use Rattle.session_spec.specs.States.{LiveZone}
 use Rattle.session_spec.specs.ZoneCalls.{begun, finished, stepped_by, stores_left}
 use Rattle.session_spec.specs.Moved.{is_blank, with_log}
 use Rattle.session_spec.specs.Sound.{Stands, IsLiveZone}

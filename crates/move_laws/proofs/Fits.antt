@@ -1,6 +1,6 @@
 -- The saved logs of the records that fit a layout fit their zones
-use Rattle.std.proofs.Common.{◌≡◌, ℕ, zero, suc, ◌<◌, ◌≤◌, ◌==◌, Bool, true, false, cond, ◌&&◌, nat_le, List, [], ◌∷◌, ◌++◌, length, map, slice_get, refl, sym, ap, ap₂, ◌∙◌, subst, arith, Option, Some, None, true≢false, eqb-true, eq-eqb, leb-true}
-use Rattle.std.specs.Prelude.{filter, flat_map}
+use Rattle.std.proofs.Common.{◌≡◌, ℕ, zero, suc, ◌≤◌, ◌==◌, Bool, true, false, cond, ◌&&◌, List, [], ◌∷◌, length, map, slice_get, refl, sym, ap, ap₂, ◌∙◌, subst, Option, Some, None, true≢false, eqb-true, eq-eqb, leb-true}
+use Rattle.std.specs.Prelude.{filter}
 use Rattle.std.specs.List.{AllByRecursion, list_all}
 use Rattle.std.specs.Option.{option_and_then, option_map}
 use Rattle.zone_spec.specs.declared.Zone.{Zone}
@@ -13,15 +13,14 @@ use Rattle.zone_spec.specs.declared.State.{State}
 use Rattle.zone_spec.specs.declared.State.TheVariants.{Unsigned, Empty, Invalid, Found}
 use Rattle.zone_spec.specs.declared.TimeLine.{TimeLine}
 use Rattle.zone_spec.specs.TimeLines.{read_line}
-use Rattle.zone_spec.specs.Parts.{AreBytes}
 use Rattle.zone_spec.specs.Reading.{ZoneReading}
 use Rattle.zone_spec.specs.Records.{Saved, is_of, found_in, found}
 use Rattle.zone_spec.specs.Notices.{is_in}
-use Rattle.zone_spec.specs.Layouts.{is_zone, zone_place}
-use Rattle.session_spec.specs.Moved.{zone_named, has_room, takes, fits, record_name, is_fit, kept_if, fitting, found_of}
+use Rattle.zone_spec.specs.Layouts.{is_zone}
+use Rattle.session_spec.specs.Moved.{zone_named, has_room, takes, record_name, is_fit, kept_if, found_of}
 use Rattle.ring_laws.proofs.StoreBytes.{all-append}
-use Rattle.move_laws.specs.Moves.{IsLogFor, LogsFit}
-use Rattle.move_laws.specs.Listed.{AreNamed, HaveBytes, IsOfBytes, FittingLogsFit}
+use Rattle.move_laws.specs.Moves.{IsLogFor}
+use Rattle.move_laws.specs.Listed.{AreNamed, IsOfBytes, FittingLogsFit}
 
 -- ---- tests
 

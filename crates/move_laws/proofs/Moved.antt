@@ -8,17 +8,17 @@ use Rattle.zone_spec.specs.declared.Words.{Words}
 use Rattle.zone_spec.specs.Zones.{IsValidZone}
 use Rattle.zone_spec.specs.PartReadings.{words_read}
 use Rattle.zone_spec.specs.Ring.{IsRingForm}
-use Rattle.zone_spec.specs.Parts.{AreBytes, IsImage}
+use Rattle.zone_spec.specs.Parts.{IsImage}
 use Rattle.zone_spec.specs.Reading.{ZoneReading}
 use Rattle.zone_spec.specs.Records.{Saved}
 use Rattle.zone_spec.specs.Layouts.{IsLayout, zones_end}
 use Rattle.session_spec.specs.Zones.{EachZone, zone_bytes}
-use Rattle.session_spec.specs.States.{LiveZone, LiveState, OffZone, OffState, Off, Live}
+use Rattle.session_spec.specs.States.{LiveZone, LiveState, Off, Live}
 use Rattle.session_spec.specs.Off.{fresh}
 use Rattle.session_spec.specs.Boot.{booted, booted_zone}
 use Rattle.session_spec.specs.Stop.{cut_by_stop, zone_stopped, live_image}
 use Rattle.session_spec.specs.Moved.{found_of, with_log, refilled, moved}
-use Rattle.session_spec.specs.Sound.{IsLiveZone, IsOffZone, IsMemory, IsState}
+use Rattle.session_spec.specs.Sound.{IsOffZone, IsState}
 use Rattle.session_spec.specs.Headline.{EachOffZone}
 use Rattle.ring_laws.specs.Laws.{ReadsTold}
 use Rattle.ring_laws.proofs.Laws.{ring_form_reads_told}

@@ -1,6 +1,6 @@
 -- A boot of a moved image lists the records of the logs that were told
-use Rattle.std.proofs.Common.{◌≡◌, ℕ, zero, suc, ◌<◌, ◌==◌, Bool, true, false, cond, not, List, [], ◌∷◌, ◌++◌, length, map, slice_get, refl, sym, ap, ap₂, ◌∙◌, subst, arith, Option, Some, None}
-use Rattle.std.specs.Prelude.{filter, find, flat_map, unwrap_or, zip}
+use Rattle.std.proofs.Common.{◌≡◌, ℕ, zero, suc, ◌<◌, ◌==◌, Bool, true, false, cond, not, List, [], ◌∷◌, ◌++◌, length, map, slice_get, refl, sym, ap, ap₂, ◌∙◌, arith, Some}
+use Rattle.std.specs.Prelude.{find, flat_map, unwrap_or, zip}
 use Rattle.std.proofs.lemmas.Bool.Decides.{nat_tests}
 use Rattle.std.proofs.lemmas.List.Concat.{flat_map-append}
 use Rattle.zone_spec.specs.declared.Zone.{Zone}
@@ -8,20 +8,17 @@ use Rattle.zone_spec.specs.declared.ZoneName.{ZoneName}
 use Rattle.zone_spec.specs.declared.Kind.{Kind}
 use Rattle.zone_spec.specs.declared.Kind.TheVariants.{Dump, Console, Ftrace, Pmsg}
 use Rattle.zone_spec.specs.declared.Name.TheVariants.{Console as ConsoleName, Pmsg as PmsgName}
-use Rattle.zone_spec.specs.declared.State.{State}
 use Rattle.zone_spec.specs.declared.State.TheVariants.{Empty, Found}
 use Rattle.zone_spec.specs.TimeLines.{read_line}
 use Rattle.zone_spec.specs.Reading.{ZoneReading, zone_reading}
 use Rattle.zone_spec.specs.Records.{Saved, Listed, is_of, found_in, found, logs_of, dump_of, dumps_of, plain, ftrace_of, listed_of}
-use Rattle.zone_spec.specs.Layouts.{IsLayout}
 use Rattle.session_spec.specs.Zones.{zone_bytes}
-use Rattle.session_spec.specs.States.{OffZone}
 use Rattle.session_spec.specs.Boot.{booted}
 use Rattle.session_spec.specs.Erasures.{saved_logs}
 use Rattle.session_spec.specs.Moved.{found_of, fitting, moved}
 use Rattle.session_laws.proofs.Lists.{get-below}
-use Rattle.move_laws.specs.Moves.{log_of, LogsFit, ReadsLog}
-use Rattle.move_laws.specs.Listed.{named, IsOneLog, TakesInOrder, MovedImageLists, MoveListsWhatFits}
+use Rattle.move_laws.specs.Moves.{ReadsLog}
+use Rattle.move_laws.specs.Listed.{named, IsOneLog, MovedImageLists, MoveListsWhatFits}
 use Rattle.move_laws.proofs.Moved.{moved-reads}
 use Rattle.move_laws.proofs.Listed.{fitting_lists_what_fits}
 use Rattle.move_laws.proofs.Fits.{fitting_logs_fit}

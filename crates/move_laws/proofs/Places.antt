@@ -1,5 +1,5 @@
 -- The logs that a move carries over come to their zones in their order, at most one to a zone
-use Rattle.std.proofs.Common.{◌≡◌, ℕ, zero, suc, ◌<◌, ◌≤◌, Bool, true, false, cond, List, [], ◌∷◌, ◌++◌, length, map, slice_get, get_or, refl, sym, ap, ap₂, ◌∙◌, subst, arith, Option, Some, None, true≢false, append-nil}
+use Rattle.std.proofs.Common.{◌≡◌, ℕ, zero, suc, ◌<◌, ◌≤◌, Bool, true, false, cond, List, [], ◌∷◌, ◌++◌, length, map, slice_get, get_or, refl, sym, ap, ap₂, ◌∙◌, subst, arith, Option, Some, None, true≢false}
 use Rattle.std.specs.Prelude.{flat_map}
 use Rattle.std.specs.List.{AllByRecursion}
 use Rattle.std.specs.Option.{option_and_then}
@@ -13,7 +13,7 @@ use Rattle.zone_spec.specs.Reading.{ZoneReading}
 use Rattle.zone_spec.specs.Records.{Saved, found_in, found}
 use Rattle.zone_spec.specs.Layouts.{is_zone, zone_place}
 use Rattle.session_spec.specs.Moved.{zone_named, has_room, record_name, is_fit, kept_if, fitting, found_of}
-use Rattle.move_laws.specs.Listed.{AreNamed, HaveBytes, IsOfBytes, ComeInOrder, named, IsOneLog, TakesInOrder, FittingTakesInOrder}
+use Rattle.move_laws.specs.Listed.{AreNamed, HaveBytes, IsOfBytes, ComeInOrder, named, IsOneLog, FittingTakesInOrder}
 use Rattle.move_laws.proofs.Fits.{same_name, room_is}
 
 -- ---- lists

@@ -1,5 +1,5 @@
 -- The logs that a boot finds are of bytes, and of one at least
-use Rattle.std.proofs.Common.{◌≡◌, ℕ, zero, suc, ◌+◌, ◌/◌, ◌%◌, ◌<◌, ◌≤◌, List, [], ◌∷◌, length, map, slice_get, refl, sym, ap, ◌∙◌, subst, arith, inl, inr, Option, Some, None, eq-eqb}
+use Rattle.std.proofs.Common.{◌≡◌, ℕ, zero, suc, ◌+◌, ◌/◌, ◌%◌, ◌<◌, ◌≤◌, List, [], ◌∷◌, length, map, slice_get, refl, sym, ◌∙◌, subst, arith, inl, inr, Option, Some, None, eq-eqb}
 use Rattle.std.specs.Prelude.{zip}
 use Rattle.std.specs.List.{AllByRecursion}
 use Rattle.std.proofs.lemmas.Bool.{cases_eq}
@@ -12,12 +12,9 @@ use Rattle.zone_spec.specs.Parts.{AreBytes, Block}
 use Rattle.zone_spec.specs.PartReadings.{words_read}
 use Rattle.zone_spec.specs.Reading.{ZoneReading, zone_reading, reading_in, state_of, log_places, log_read, byte_read}
 use Rattle.zone_spec.specs.Records.{Saved, found_in, found}
-use Rattle.zone_spec.specs.Layouts.{IsLayout}
 use Rattle.session_spec.specs.Zones.{zone_bytes}
-use Rattle.session_spec.specs.States.{OffState}
 use Rattle.session_spec.specs.Boot.{booted}
 use Rattle.session_spec.specs.Erasures.{saved_logs}
-use Rattle.session_spec.specs.Sound.{IsMemory}
 use Rattle.ring_laws.proofs.BootLaw.{length-reading}
 use Rattle.ring_laws.proofs.PartsLaw.{slice_range-bytes}
 use Rattle.ring_laws.proofs.RingBytes.{length-log_places}
