@@ -91,11 +91,10 @@ module _ (z : Zone) (valid : IsValidZone z) where
       let x1_len : length x1 ≡ z.size = length-all_stages z (ParityOf (Block a) ∷ []) x ∙ len in
       let x1_bytes : AreBytes x1 = parity-bytes z valid (has_parity z.parity) x (Block a) bytes in
       elim (cases_eq b a) [
-        | inl e ↦ (let rest : LeavesParts z x1 (all_stages z (map (λ k. ParityOf (Block k)) (range_with_len (a + 1) n)) x1)
-            (a + 1) ((a + 1) + n) =
+        | inl e ↦ (let x2 : List ℕ = all_stages z (map (λ k. ParityOf (Block k)) (range_with_len (a + 1) n)) x1 in
+            let rest : LeavesParts z x1 x2 (a + 1) ((a + 1) + n) =
             parities_leave z valid (has_parity z.parity) n (a + 1) x1 (omega arith) x1_len x1_bytes in
-            subst (λ c. IsClean z (all_stages z (map (λ k. ParityOf (Block k)) (range_with_len (a + 1) n)) x1) (Block c))
-            (sym e) (same_clean (rest.others a (omega arith) (inl (omega arith)))
+            subst (λ c. IsClean z x2 (Block c)) (sym e) (same_clean (rest.others a (omega arith) (inl (omega arith)))
             (own_clean x (Block a) (omega arith) len bytes)))
         | inr ne ↦ parities_clean n (a + 1) x1 (omega arith) x1_len x1_bytes b (omega arith) (omega arith)
       ]

@@ -65,8 +65,10 @@ counts_none z image valid codes =
     by Empty = head
     by Invalid = head
     by Found = (
-      sum_both _ _ head.0 (sum_none (λ b. (part_reading z image (Block b)).corrected) (((words_read z image).size + z.block - 1) / z.block) 0
+      sum_both _ _ head.0 (sum_none (λ b. (part_reading z image (Block b)).corrected)
+          (((words_read z image).size + z.block - 1) / z.block) 0
           (λ b k l. (block b (omega (arith, l))).0)),
-      sum_both _ _ head.1 (sum_none (λ b. (part_reading z image (Block b)).bad) (((words_read z image).size + z.block - 1) / z.block) 0
+      sum_both _ _ head.1 (sum_none (λ b. (part_reading z image (Block b)).bad)
+          (((words_read z image).size + z.block - 1) / z.block) 0
           (λ b k l. (block b (omega (arith, l))).1)),
     )

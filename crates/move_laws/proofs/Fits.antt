@@ -107,8 +107,8 @@ module _ (layout : List Zone) (all : List Saved) where
       let taken : takes layout (zone, Some r) ≡ true =
       filter_at (takes layout) (λ (s : Saved). is_in name s.0) all j (zone, Some r) f at mine in
       let room : (has_room (length r.log) (zone_named layout zone.name) && true) ≡ true =
-      ap (λ t. list_all (λ (r : ZoneReading). has_room (length r.log) (zone_named layout zone.name)) (found_in r t)) (sym s)
-      ∙ taken in
+      ap (λ t. list_all (λ (r : ZoneReading). has_room (length r.log) (zone_named layout zone.name)) (found_in r t))
+      (sym s) ∙ taken in
       (both (has_room (length r.log) (zone_named layout zone.name)) true room).0
 
 module _ (layout : List Zone) (all : List Saved) (named : AreNamed layout) (i : ℕ) (z : Zone)

@@ -102,7 +102,8 @@ module _ (layout : List Zone) (all : List Saved) where
         ≡ cond (fits layout all name) (cond b (map (λ (r : ZoneReading). r.log) (found_in r r.state)) []) []
     log_kind zone r k false e = sym (cond_none {X = List ℕ} (fits layout all name))
     log_kind zone r k true e =
-        ap (λ n. map (λ (r : ZoneReading). r.log) (found (cond (is_fit layout all n) (Some r) None))) (own zone r.log k e)
+        ap (λ n. map (λ (r : ZoneReading). r.log) (found (cond (is_fit layout all n) (Some r) None)))
+        (own zone r.log k e)
         ∙ ap (map (λ (r : ZoneReading). r.log)) (found_if (fits layout all name) r)
         ∙ cond_map (λ (r : ZoneReading). r.log) (fits layout all name) (found_in r r.state)
 
@@ -111,7 +112,8 @@ module _ (layout : List Zone) (all : List Saved) where
         ≡ cond (fits layout all name)
         (cond (is_of kind zone.kind) (map (λ (r : ZoneReading). r.log) (found o)) []) []
     log_zone zone None = cond_none {X = List ℕ} (is_of kind zone.kind)
-        ∙ sym (ap (λ (xs : List (List ℕ)). cond (fits layout all name) xs []) (cond_none {X = List ℕ} (is_of kind zone.kind))
+        ∙ sym (ap (λ (xs : List (List ℕ)). cond (fits layout all name) xs [])
+        (cond_none {X = List ℕ} (is_of kind zone.kind))
         ∙ cond_none {X = List ℕ} (fits layout all name))
     log_zone zone (Some r) = log_kind zone r zone.kind (is_of kind zone.kind) refl
 

@@ -107,7 +107,12 @@ module _ (layout : List Zone) (mem : ℕ) (zones : List Saved) (lies : IsLayout 
   store_sound : IsState layout mem (Live told_store)
   store_sound = live_state layout mem lies told_store
       (store_told.0, λ i z v hz hv. (store_told.1 i z v hz hv).sound)
-      (omega (arith, lies.within, length-replicate {A = ℕ} mem 0, length-drop {A = ℕ} (zones_end layout) (replicate mem 0)))
+      (omega (
+        arith,
+        lies.within,
+        length-replicate {A = ℕ} mem 0,
+        length-drop {A = ℕ} (zones_end layout) (replicate mem 0),
+      ))
       (part-bytes (zones_end layout) (replicate mem 0) (zeros_bytes (replicate mem 0) (zeros mem))).1
 
   pub moved-sound : IsState layout mem (Off (moved layout mem zones))

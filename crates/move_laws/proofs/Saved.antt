@@ -20,7 +20,8 @@ use Rattle.ring_laws.proofs.PartsLaw.{slice_range-bytes}
 use Rattle.ring_laws.proofs.RingBytes.{length-log_places}
 use Rattle.ring_laws.proofs.States.{Says, state_says, reading_is}
 use Rattle.session_laws.proofs.Lists.{bytes-none}
-use Rattle.move_laws.specs.Listed.{IsOfBytes, BootsHaveBytes, MoveKeepsRecords}
+use Rattle.move_laws.specs.Listed.{IsOfBytes, BootsHaveBytes, ImageLogsFit, MoveKeepsRecords}
+use Rattle.move_laws.proofs.Fits.{fitting_logs_fit}
 use Rattle.move_laws.proofs.Order.{move_lists_what_fits}
 
 map_bytes : (f : ℕ → ℕ) (xs : List ℕ) → ((p : ℕ) → f p < 256) → AreBytes (map f xs)
@@ -77,6 +78,10 @@ boots_have_bytes layout off bytes i zone e =
     subst (λ (s : Saved). AllByRecursion IsOfBytes (found s.1)) at.2
     (saved_well at.0 (zone_bytes at.0 off.image)
     (slice_range-bytes off.image at.0.at (at.0.at + at.0.size) bytes))
+
+pub image_logs_fit : ImageLogsFit
+image_logs_fit old new off are bytes =
+    fitting_logs_fit new (saved_logs old (booted old off)) are (boots_have_bytes old off bytes)
 
 pub move_keeps_records : MoveKeepsRecords
 move_keeps_records old new mem off lies are bytes order =

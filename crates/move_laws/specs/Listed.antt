@@ -82,8 +82,13 @@ abbrev pub BootsHaveBytes : Type 0
 BootsHaveBytes = (layout : List Zone) (off : OffState) → AreBytes off.image
     → HaveBytes (saved_logs layout (booted layout off))
 
--- so for a boot under an old layout, a move to a new one whose zones have names of their own and come in the
--- old one's order, and a boot of what it makes
+-- so those of an image that a move carries over fit the zones of a layout
+abbrev pub ImageLogsFit : Type 0
+ImageLogsFit = (old new : List Zone) (off : OffState) → AreNamed new → AreBytes off.image
+    → LogsFit new (fitting new (saved_logs old (booted old off)))
+
+-- after a boot under an old layout and a move to one whose zones have names of their own and come in the old
+-- one's order, a boot lists the records that fit, as they were listed, and no other
 abbrev pub MoveKeepsRecords : Type 0
 MoveKeepsRecords = (old new : List Zone) (mem : ℕ) (off : OffState) → IsLayout new mem → AreNamed new
     → AreBytes off.image

@@ -3,7 +3,7 @@
 #![tactic(auto)]
 
 ghost use Rattle.move_laws.specs.Moves.{BlankZoneIsToldNothing, MovedImageIsSound, MovedZonesAreTold, MovedImageReads, MovedZonesRead};
-ghost use Rattle.move_laws.specs.Listed.{FittingListsWhatFits, FittingLogsFit, FittingTakesInOrder, MovedImageLists, MoveListsWhatFits, BootsHaveBytes, MoveKeepsRecords};
+ghost use Rattle.move_laws.specs.Listed.{FittingListsWhatFits, FittingLogsFit, FittingTakesInOrder, MovedImageLists, MoveListsWhatFits, BootsHaveBytes, ImageLogsFit, MoveKeepsRecords};
 
 /// A zone of zeros is sound after a boot, in no flight, and told nothing.
 pub fn blank_zone_is_told_nothing()
@@ -58,6 +58,11 @@ pub fn move_lists_what_fits()
 /// The logs that a boot finds are of bytes, and of one at least.
 pub fn boots_have_bytes()
     ensures { BootsHaveBytes }
+{}
+
+/// The logs of an image that a move carries over fit the zones of their names.
+pub fn image_logs_fit()
+    ensures { ImageLogsFit }
 {}
 
 /// A boot of what a move makes of an image lists the records of that image that fit, and no other.
