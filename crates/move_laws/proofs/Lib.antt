@@ -8,3 +8,4 @@ pub mod Order
 pub mod Fits
 pub mod Places
 pub mod Saved
+pub mod Ranks

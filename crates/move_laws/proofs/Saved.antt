@@ -66,7 +66,7 @@ saved_well z image bytes = subst IsSavedWell (sym (reading_is z image)) (by (sta
           tt,
         )
 
-zip_at : (g : Zone → Option ZoneReading) (zs : List Zone) (i : ℕ) (s : Saved)
+pub zip_at : (g : Zone → Option ZoneReading) (zs : List Zone) (i : ℕ) (s : Saved)
     → slice_get (zip zs (map g zs)) i ≡ Some s → (z : Zone) × (slice_get zs i ≡ Some z) × ((z, g z) ≡ s)
 zip_at g [] i s e = let n : None ≡ Some s = e in cc
 zip_at g (z ∷ zs) zero s e = (z, refl, (let h : (z, g z) ≡ s = cc in h))

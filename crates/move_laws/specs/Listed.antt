@@ -6,6 +6,8 @@ use Rattle.zone_spec.specs.declared.ZoneName.{ZoneName}
 use Rattle.zone_spec.specs.Parts.{AreBytes}
 use Rattle.zone_spec.specs.Reading.{ZoneReading}
 use Rattle.zone_spec.specs.Records.{Saved, Listed, found, listed_of}
+use Rattle.zone_spec.specs.declared.params.Params.{Params}
+use Rattle.zone_spec.specs.Layout.{zones_of}
 use Rattle.zone_spec.specs.Layouts.{zone_place, IsLayout}
 use Rattle.session_spec.specs.States.{OffState}
 use Rattle.session_spec.specs.Boot.{booted}
@@ -96,3 +98,8 @@ MoveKeepsRecords = (old new : List Zone) (mem : ℕ) (off : OffState) → IsLayo
     ComeInOrder new saved
     → listed_of (saved_logs new (booted new (moved new mem (fitting new saved))))
     ≡ filter (λ (r : Listed). fits new saved r.name) (listed_of saved)
+
+-- the zones of parameters come in one order: by kind, and by number
+abbrev pub LayoutsComeInOrder : Type 0
+LayoutsComeInOrder = (p q : Params) (off : OffState)
+    → ComeInOrder (zones_of q) (saved_logs (zones_of p) (booted (zones_of p) off))

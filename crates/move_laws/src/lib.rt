@@ -3,7 +3,7 @@
 #![tactic(auto)]
 
 ghost use Rattle.move_laws.specs.Moves.{BlankZoneIsToldNothing, MovedImageIsSound, MovedZonesAreTold, MovedImageReads, MovedZonesRead};
-ghost use Rattle.move_laws.specs.Listed.{FittingListsWhatFits, FittingLogsFit, FittingTakesInOrder, MovedImageLists, MoveListsWhatFits, BootsHaveBytes, ImageLogsFit, MoveKeepsRecords};
+ghost use Rattle.move_laws.specs.Listed.{FittingListsWhatFits, FittingLogsFit, FittingTakesInOrder, MovedImageLists, MoveListsWhatFits, BootsHaveBytes, ImageLogsFit, MoveKeepsRecords, LayoutsComeInOrder};
 
 /// A zone of zeros is sound after a boot, in no flight, and told nothing.
 pub fn blank_zone_is_told_nothing()
@@ -68,4 +68,9 @@ pub fn image_logs_fit()
 /// A boot of what a move makes of an image lists the records of that image that fit, and no other.
 pub fn move_keeps_records()
     ensures { MoveKeepsRecords }
+{}
+
+/// The zones of any two lists of parameters come in one order.
+pub fn layouts_come_in_order()
+    ensures { LayoutsComeInOrder }
 {}

@@ -1,0 +1,158 @@
+-- The zones of parameters come by kind and number, so in one order under all parameters
+use Rattle.std.proofs.Common.{◌≡◌, ℕ, zero, suc, ◌+◌, ◌*◌, ◌<◌, ◌≤◌, ◌⊎◌, List, [], ◌∷◌, ◌++◌, length, map, slice_get, get_or, refl, sym, ap, ◌∙◌, subst, arith, inl, inr, Option, Some, None}
+use Rattle.std.specs.List.{AllByRecursion, range_with_len}
+use Rattle.std.proofs.lemmas.Bool.{cases_lt, cases_eq}
+use Rattle.std.proofs.lemmas.List.Quantifiers.{position-Some}
+use Rattle.std.proofs.lemmas.Option.{slice_get-get_or}
+use Rattle.zone_spec.specs.declared.Zone.{Zone}
+use Rattle.zone_spec.specs.declared.ZoneName.{ZoneName}
+use Rattle.zone_spec.specs.declared.Kind.{Kind}
+use Rattle.zone_spec.specs.declared.Kind.TheVariants.{Dump, Console, Ftrace, Pmsg}
+use Rattle.zone_spec.specs.declared.params.Params.{Params}
+use Rattle.zone_spec.specs.declared.params.Row.{Row}
+use Rattle.zone_spec.specs.Layout.{rows, zone_at, zones_from, zones_of}
+use Rattle.zone_spec.specs.Layouts.{is_zone, zone_place}
+use Rattle.zone_spec.specs.Reading.{zone_reading}
+use Rattle.zone_spec.specs.Records.{Saved}
+use Rattle.session_spec.specs.Zones.{zone_bytes}
+use Rattle.ring_laws.proofs.StoreBytes.{all-append}
+use Rattle.move_laws.specs.Listed.{ComeInOrder, LayoutsComeInOrder}
+use Rattle.move_laws.proofs.Fits.{same_name}
+use Rattle.move_laws.proofs.Saved.{zip_at}
+
+abbrev rank : Kind → ℕ
+rank Dump = 0
+rank Console = 1
+rank Ftrace = 2
+rank Pmsg = 3
+
+abbrev Before : ZoneName → ZoneName → Type 0
+Before a b = (rank a.kind < rank b.kind) ⊎ ((rank a.kind ≡ rank b.kind) × (a.index < b.index))
+
+not_both : (a b : ZoneName) → Before a b → Before b a → ⊥
+not_both a b h k = elim h [
+  | inl l ↦ elim k [ inl m ↦ omega arith | inr e ↦ (let f : rank b.kind ≡ rank a.kind = e.0 in omega arith) ]
+  | inr d ↦
+      (let f : rank a.kind ≡ rank b.kind = d.0 in
+      let l : a.index < b.index = d.1 in
+      elim k [ inl m ↦ omega arith | inr e ↦ (let m : b.index < a.index = e.1 in omega arith) ])
+]
+
+-- each zone is before all behind it
+abbrev Rising : List Zone → Type 0
+Rising [] = Unit {0}
+Rising (z ∷ zs) = AllByRecursion (λ (y : Zone). Before z.name y.name) zs × Rising zs
+
+abbrev RisingRows : List Row → Type 0
+RisingRows [] = Unit {0}
+RisingRows (row ∷ rows) = AllByRecursion (λ (q : Row). rank row.kind < rank q.kind) rows × RisingRows rows
+
+all_map : (P Q : Zone → Type 0) (zs : List Zone) → AllByRecursion P zs → ((z : Zone) → P z → Q z) → AllByRecursion Q zs
+all_map P Q [] h f = tt
+all_map P Q (z ∷ zs) h f = (f z h.0, all_map P Q zs h.1 f)
+
+all_get : (P : Zone → Type 0) (zs : List Zone) (i : ℕ) (z : Zone) → AllByRecursion P zs → slice_get zs i ≡ Some z → P z
+all_get P [] i z h e = let n : None ≡ Some z = e in cc
+all_get P (y ∷ ys) zero z h e = let s : y ≡ z = cc in subst P s h.0
+all_get P (y ∷ ys) (suc i) z h e = all_get P ys i z h.1 e
+
+rising_join : (xs ys : List Zone) → Rising xs → Rising ys
+    → AllByRecursion (λ (x : Zone). AllByRecursion (λ (y : Zone). Before x.name y.name) ys) xs → Rising (xs ++ ys)
+rising_join [] ys h k b = k
+rising_join (x ∷ xs) ys h k b =
+    (all-append (λ (y : Zone). Before x.name y.name) xs ys h.0 b.0, rising_join xs ys h.1 k b.1)
+
+rising_get : (zs : List Zone) (i j : ℕ) (y z : Zone) → Rising zs → i < j → slice_get zs i ≡ Some y
+    → slice_get zs j ≡ Some z → Before y.name z.name
+rising_get [] i j y z h l ey ez = let n : None ≡ Some y = ey in cc
+rising_get (w ∷ ws) zero zero y z h l ey ez = absurd (omega arith)
+rising_get (w ∷ ws) zero (suc j) y z h l ey ez =
+    let s : w ≡ y = cc in
+    subst (λ (u : Zone). Before u.name z.name) s (all_get (λ (u : Zone). Before w.name u.name) ws j z h.0 ez)
+rising_get (w ∷ ws) (suc i) zero y z h l ey ez = absurd (omega arith)
+rising_get (w ∷ ws) (suc i) (suc j) y z h l ey ez = rising_get ws i j y z h.1 (omega arith) ey ez
+
+-- ---- the zones of parameters
+
+module _ (p : Params) where
+  all_row : (P : Zone → Type 0) (kind : Kind) (size at n a : ℕ)
+      → ((i : ℕ) → a ≤ i → P (zone_at p kind size i (at + i * size)))
+      → AllByRecursion P (map (λ i. zone_at p kind size i (at + i * size)) (range_with_len a n))
+  all_row P kind size at zero a h = tt
+  all_row P kind size at (suc n) a h = (h a (omega arith), all_row P kind size at n (a + 1) (λ i l. h i (omega arith)))
+
+  rising_row : (kind : Kind) (size at n a : ℕ)
+      → Rising (map (λ i. zone_at p kind size i (at + i * size)) (range_with_len a n))
+  rising_row kind size at zero a = tt
+  rising_row kind size at (suc n) a = (
+    all_row (λ (y : Zone). Before (record { kind = kind; index = a }) y.name) kind size at n (a + 1)
+        (λ i l. inr (refl, omega arith)),
+    rising_row kind size at n (a + 1),
+  )
+
+  all_from : (r : ℕ) (rs : List Row) (at : ℕ) → AllByRecursion (λ (q : Row). r < rank q.kind) rs
+      → AllByRecursion (λ (z : Zone). r < rank z.name.kind) (zones_from p at rs)
+  unfolding zones_from
+  all_from r [] at h = tt
+  all_from r (row ∷ rs) at h =
+      all-append (λ (z : Zone). r < rank z.name.kind)
+      (map (λ i. zone_at p row.kind row.size i (at + i * row.size)) (range_with_len 0 row.count))
+      (zones_from p (at + row.count * row.size) rs)
+      (all_row (λ (z : Zone). r < rank z.name.kind) row.kind row.size at row.count 0 (λ i l. h.0))
+      (all_from r rs (at + row.count * row.size) h.1)
+
+  rising_from : (rs : List Row) (at : ℕ) → RisingRows rs → Rising (zones_from p at rs)
+  unfolding zones_from
+  rising_from [] at h = tt
+  rising_from (row ∷ rs) at h =
+      let behind : List Zone = zones_from p (at + row.count * row.size) rs in
+      rising_join (map (λ i. zone_at p row.kind row.size i (at + i * row.size)) (range_with_len 0 row.count)) behind
+      (rising_row row.kind row.size at row.count 0) (rising_from rs (at + row.count * row.size) h.1)
+      (all_row (λ (x : Zone). AllByRecursion (λ (y : Zone). Before x.name y.name) behind) row.kind row.size at
+      row.count 0 (λ i l. all_map (λ (z : Zone). rank row.kind < rank z.name.kind)
+      (λ (y : Zone). Before (record { kind = row.kind; index = i }) y.name) behind
+      (all_from (rank row.kind) rs (at + row.count * row.size) h.0) (λ z m. inl m)))
+
+  rising_zones : Rising (zones_of p)
+  rising_zones = rising_from (rows p) 0 (
+    (omega arith, (omega arith, (omega arith, tt))),
+    ((omega arith, (omega arith, tt)), ((omega arith, tt), (tt, tt))),
+  )
+
+-- ---- one order
+
+there : (layout : List Zone) (name : ZoneName) (m : ℕ) → zone_place layout name ≡ Some m
+    → (z : Zone) × (slice_get layout m ≡ Some z) × (name ≡ z.name)
+there [] name m e = let n : None ≡ Some m = e in cc
+there (w ∷ ws) name m e =
+    let p = position-Some (is_zone name) (w ∷ ws) m w e in
+    (get_or (w ∷ ws) m w, slice_get-get_or (w ∷ ws) m w p.0, same_name name (get_or (w ∷ ws) m w) p.1)
+
+places_rise : (layout : List Zone) (a b : ZoneName) (m n : ℕ) → Rising layout → Before a b
+    → zone_place layout a ≡ Some m → zone_place layout b ≡ Some n → m < n
+places_rise layout a b m n rising before pa pb =
+    let za = there layout a m pa in
+    let zb = there layout b n pb in
+    elim (cases_lt m n) [
+      | inl l ↦ l
+      | inr g ↦ elim (cases_eq n m) [
+        | inl e ↦ (let same : za.0 ≡ zb.0 = (let h : Some za.0 ≡ Some zb.0 =
+            sym za.1 ∙ ap (slice_get layout) (sym e) ∙ zb.1 in cc) in
+            let names : a ≡ b = za.2 ∙ ap (λ (z : Zone). z.name) same ∙ sym zb.2 in
+            absurd (not_both a b before (subst (λ c. Before c a) names (subst (λ c. Before a c) (sym names) before))))
+        | inr ne ↦ (let back : Before zb.0.name za.0.name =
+            rising_get layout n m zb.0 za.0 rising (omega arith) zb.1 za.1 in
+            absurd (not_both a b before (subst (λ c. Before c a) (sym zb.2)
+            (subst (λ c. Before zb.0.name c) (sym za.2) back))))
+      ]
+    ]
+
+pub layouts_come_in_order : LayoutsComeInOrder
+layouts_come_in_order p q off i j m n a b l ea eb pa pb =
+    let za = zip_at (λ z. Some (zone_reading z (zone_bytes z off.image))) (zones_of p) i a ea in
+    let zb = zip_at (λ z. Some (zone_reading z (zone_bytes z off.image))) (zones_of p) j b eb in
+    let before : Before za.0.name zb.0.name =
+    rising_get (zones_of p) i j za.0 zb.0 (rising_zones p) l za.1 zb.1 in
+    places_rise (zones_of q) a.0.name b.0.name m n (rising_zones q)
+    (subst (λ (s : Saved). Before s.0.name b.0.name) za.2
+    (subst (λ (s : Saved). Before za.0.name s.0.name) zb.2 before)) pa pb
