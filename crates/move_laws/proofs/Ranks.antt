@@ -1,7 +1,8 @@
 -- The zones of parameters come by kind and number, so in one order under all parameters
-use Rattle.std.proofs.Common.{◌≡◌, ℕ, zero, suc, ◌+◌, ◌*◌, ◌<◌, ◌≤◌, ◌⊎◌, List, [], ◌∷◌, ◌++◌, length, map, slice_get, get_or, refl, sym, ap, ◌∙◌, subst, arith, inl, inr, Option, Some, None}
-use Rattle.std.specs.List.{AllByRecursion, range_with_len}
+use Rattle.std.proofs.Common.{◌≡◌, ℕ, zero, suc, ◌+◌, ◌*◌, ◌<◌, ◌≤◌, ◌⊎◌, Bool, true, false, cond, not, ◌&&◌, nat_lt, List, [], ◌∷◌, ◌++◌, length, map, slice_get, get_or, refl, sym, ap, ap₂, ◌∙◌, subst, arith, inl, inr, Option, Some, None, eq-eqb}
+use Rattle.std.specs.List.{AllByRecursion, range_with_len, position_or_len}
 use Rattle.std.proofs.lemmas.Bool.{cases_lt, cases_eq}
+use Rattle.std.proofs.lemmas.Bool.Decides.{nat_tests}
 use Rattle.std.proofs.lemmas.List.Quantifiers.{position-Some}
 use Rattle.std.proofs.lemmas.Option.{slice_get-get_or}
 use Rattle.zone_spec.specs.declared.Zone.{Zone}
@@ -13,12 +14,15 @@ use Rattle.zone_spec.specs.declared.params.Row.{Row}
 use Rattle.zone_spec.specs.Layout.{rows, zone_at, zones_from, zones_of}
 use Rattle.zone_spec.specs.Layouts.{is_zone, zone_place}
 use Rattle.zone_spec.specs.Reading.{zone_reading}
-use Rattle.zone_spec.specs.Records.{Saved}
+use Rattle.zone_spec.specs.Records.{Saved, is_of}
 use Rattle.session_spec.specs.Zones.{zone_bytes}
 use Rattle.ring_laws.proofs.StoreBytes.{all-append}
-use Rattle.move_laws.specs.Listed.{ComeInOrder, LayoutsComeInOrder}
+use Rattle.move_laws.specs.Listed.{AreNamed, ComeInOrder, LayoutsComeInOrder, LayoutsAreNamed, LayoutsKeepRecords}
 use Rattle.move_laws.proofs.Fits.{same_name}
-use Rattle.move_laws.proofs.Saved.{zip_at}
+use Rattle.move_laws.proofs.Saved.{zip_at, move_keeps_records}
+
+lt-tests : (a b : ℕ) → a < b → nat_lt a b ≡ true
+lt-tests a b h = grind (arith, nat_tests)
 
 abbrev rank : Kind → ℕ
 rank Dump = 0
@@ -156,3 +160,58 @@ layouts_come_in_order p q off i j m n a b l ea eb pa pb =
     places_rise (zones_of q) a.0.name b.0.name m n (rising_zones q)
     (subst (λ (s : Saved). Before s.0.name b.0.name) za.2
     (subst (λ (s : Saved). Before za.0.name s.0.name) zb.2 before)) pa pb
+
+-- ---- names
+
+below_place : {X : Type 0} (p : X → Bool) (xs : List X) (i : ℕ) (x : X) → slice_get xs i ≡ Some x → p x ≡ true
+    → position_or_len p xs < length xs
+below_place p [] i x e t = let n : None ≡ Some x = e in cc
+below_place p (y ∷ ys) zero x e t =
+    let s : y ≡ x = cc in
+    subst (λ b. cond (not b) (1 + position_or_len p ys) 0 < length (y ∷ ys)) (sym (ap p s ∙ t)) (omega arith)
+below_place p (y ∷ ys) (suc i) x e t = by (p y) (below_place p ys i x e t)
+  where
+    by : (b : Bool) → position_or_len p ys < length ys
+        → cond (not b) (1 + position_or_len p ys) 0 < length (y ∷ ys)
+    by true h = omega arith
+    by false h = omega arith
+
+own_kind : (k : Kind) → is_of k k ≡ true
+own_kind Dump = refl
+own_kind Console = refl
+own_kind Ftrace = refl
+own_kind Pmsg = refl
+
+own_name : (z : Zone) → is_zone z.name z ≡ true
+own_name z = ap₂ (λ a b. a && b) (own_kind z.name.kind) (eq-eqb z.name.index z.name.index refl)
+
+place_some : (zs : List Zone) (i : ℕ) (z : Zone) → slice_get zs i ≡ Some z
+    → zone_place zs z.name ≡ Some (position_or_len (is_zone z.name) zs)
+place_some zs i z e =
+    let l : position_or_len (is_zone z.name) zs < length zs = below_place (is_zone z.name) zs i z e (own_name z) in
+    let t : nat_lt (position_or_len (is_zone z.name) zs) (length zs) ≡ true = lt-tests _ _ l in
+    ap (λ b. cond b (Some (position_or_len (is_zone z.name) zs)) None) t
+
+not_self : (a b : ZoneName) → a ≡ b → Before a b → ⊥
+not_self a b e h = not_both a a (subst (λ c. Before a c) (sym e) h) (subst (λ c. Before a c) (sym e) h)
+
+are_named : (zs : List Zone) → Rising zs → AreNamed zs
+are_named zs rising i z e =
+    let m : ℕ = position_or_len (is_zone z.name) zs in
+    let place : zone_place zs z.name ≡ Some m = place_some zs i z e in
+    let at = there zs z.name m place in
+    let same : m ≡ i = elim (cases_lt m i) [
+      | inl l ↦ absurd (not_self at.0.name z.name (sym at.2) (rising_get zs m i at.0 z rising l at.1 e))
+      | inr g ↦ elim (cases_eq m i) [
+        | inl k ↦ k
+        | inr ne ↦ absurd (not_self z.name at.0.name at.2 (rising_get zs i m z at.0 rising (omega arith) e at.1))
+      ]
+    ] in
+    place ∙ ap Some same
+
+pub layouts_are_named : LayoutsAreNamed
+layouts_are_named p = are_named (zones_of p) (rising_zones p)
+
+pub layouts_keep_records : LayoutsKeepRecords
+layouts_keep_records p q mem off lies bytes =
+    move_keeps_records (zones_of p) (zones_of q) mem off lies (layouts_are_named q) bytes (layouts_come_in_order p q off)

@@ -103,3 +103,17 @@ MoveKeepsRecords = (old new : List Zone) (mem : ℕ) (off : OffState) → IsLayo
 abbrev pub LayoutsComeInOrder : Type 0
 LayoutsComeInOrder = (p q : Params) (off : OffState)
     → ComeInOrder (zones_of q) (saved_logs (zones_of p) (booted (zones_of p) off))
+
+-- and each of them is the one that its name finds
+abbrev pub LayoutsAreNamed : Type 0
+LayoutsAreNamed = (p : Params) → AreNamed (zones_of p)
+
+-- so after a move from any parameters to others a boot lists the records that fit, as they were listed, and
+-- no other
+abbrev pub LayoutsKeepRecords : Type 0
+LayoutsKeepRecords = (p q : Params) (mem : ℕ) (off : OffState) → IsLayout (zones_of q) mem → AreBytes off.image
+    → let old : List Zone = zones_of p in
+    let new : List Zone = zones_of q in
+    let saved : List Saved = saved_logs old (booted old off) in
+    listed_of (saved_logs new (booted new (moved new mem (fitting new saved))))
+    ≡ filter (λ (r : Listed). fits new saved r.name) (listed_of saved)

@@ -3,7 +3,7 @@
 #![tactic(auto)]
 
 ghost use Rattle.move_laws.specs.Moves.{BlankZoneIsToldNothing, MovedImageIsSound, MovedZonesAreTold, MovedImageReads, MovedZonesRead};
-ghost use Rattle.move_laws.specs.Listed.{FittingListsWhatFits, FittingLogsFit, FittingTakesInOrder, MovedImageLists, MoveListsWhatFits, BootsHaveBytes, ImageLogsFit, MoveKeepsRecords, LayoutsComeInOrder};
+ghost use Rattle.move_laws.specs.Listed.{FittingListsWhatFits, FittingLogsFit, FittingTakesInOrder, MovedImageLists, MoveListsWhatFits, BootsHaveBytes, ImageLogsFit, MoveKeepsRecords, LayoutsComeInOrder, LayoutsAreNamed, LayoutsKeepRecords};
 
 /// A zone of zeros is sound after a boot, in no flight, and told nothing.
 pub fn blank_zone_is_told_nothing()
@@ -73,4 +73,14 @@ pub fn move_keeps_records()
 /// The zones of any two lists of parameters come in one order.
 pub fn layouts_come_in_order()
     ensures { LayoutsComeInOrder }
+{}
+
+/// Each zone of a list of parameters is the one that its name finds.
+pub fn layouts_are_named()
+    ensures { LayoutsAreNamed }
+{}
+
+/// A boot after a move from any parameters to others lists the records that fit, and no other.
+pub fn layouts_keep_records()
+    ensures { LayoutsKeepRecords }
 {}

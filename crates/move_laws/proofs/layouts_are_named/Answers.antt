@@ -1,0 +1,5 @@
+use Rattle.move_laws.proofs.Ranks.{layouts_are_named as law}
+use Rattle.move_laws.proofs.layouts_are_named.Goals as goal
+
+pub returns : goal.returns
+returns c = law

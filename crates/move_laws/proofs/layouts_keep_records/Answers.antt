@@ -1,0 +1,5 @@
+use Rattle.move_laws.proofs.Ranks.{layouts_keep_records as law}
+use Rattle.move_laws.proofs.layouts_keep_records.Goals as goal
+
+pub returns : goal.returns
+returns c = law
