@@ -1,5 +1,5 @@
 -- The zones of parameters come by kind and number, so in one order under all parameters
-use Rattle.std.proofs.Common.{◌≡◌, ℕ, zero, suc, ◌+◌, ◌*◌, ◌<◌, ◌≤◌, ◌⊎◌, Bool, true, false, cond, not, ◌&&◌, nat_lt, List, [], ◌∷◌, ◌++◌, length, map, slice_get, get_or, refl, sym, ap, ap₂, ◌∙◌, subst, arith, inl, inr, Option, Some, None, eq-eqb}
+use Rattle.std.proofs.Common.{◌≡◌, ℕ, zero, suc, ◌+◌, ◌*◌, ◌<◌, ◌≤◌, ◌⊎◌, Bool, true, false, cond, not, ◌&&◌, nat_lt, List, [], ◌∷◌, ◌++◌, length, map, slice_get, get_or, refl, sym, ap, ap₂, ◌∙◌, subst, arith, inl, inr, Some, None, eq-eqb}
 use Rattle.std.specs.List.{AllByRecursion, range_with_len, position_or_len}
 use Rattle.std.proofs.lemmas.Bool.{cases_lt, cases_eq}
 use Rattle.std.proofs.lemmas.Bool.Decides.{nat_tests}
@@ -17,7 +17,7 @@ use Rattle.zone_spec.specs.Reading.{zone_reading}
 use Rattle.zone_spec.specs.Records.{Saved, is_of}
 use Rattle.session_spec.specs.Zones.{zone_bytes}
 use Rattle.ring_laws.proofs.StoreBytes.{all-append}
-use Rattle.move_laws.specs.Listed.{AreNamed, ComeInOrder, LayoutsComeInOrder, LayoutsAreNamed, LayoutsKeepRecords}
+use Rattle.move_laws.specs.Listed.{AreNamed, LayoutsComeInOrder, LayoutsAreNamed, LayoutsKeepRecords}
 use Rattle.move_laws.proofs.Fits.{same_name}
 use Rattle.move_laws.proofs.Saved.{zip_at, move_keeps_records}
 
@@ -214,4 +214,5 @@ layouts_are_named p = are_named (zones_of p) (rising_zones p)
 
 pub layouts_keep_records : LayoutsKeepRecords
 layouts_keep_records p q mem off lies bytes =
-    move_keeps_records (zones_of p) (zones_of q) mem off lies (layouts_are_named q) bytes (layouts_come_in_order p q off)
+    move_keeps_records (zones_of p) (zones_of q) mem off lies (layouts_are_named q) bytes
+    (layouts_come_in_order p q off)
