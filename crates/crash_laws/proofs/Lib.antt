@@ -3,5 +3,6 @@ mod Calls
 mod Entries
 mod Told
 mod Stops
+mod CutBoots
 mod Keeping
 mod Scripts

@@ -88,12 +88,15 @@ line_some (b ∷ bs) e = grind (arith, nat_tests)
 
 -- ---- a reading of the told list
 
+pub kept_is : (z : Zone) (r : ZoneReading) (told : List ℕ) → r.state ≡ Found → z.name.kind ≡ DumpKind → r.log ≡ told
+    → has_line told ≡ true → keeps z r ≡ true
+kept_is z r told state kind log line =
+    ap (keeps_in z r) state ∙ ap (is_kept z r) kind ∙ ap (λ (xs : List ℕ). has_line xs) log ∙ line
+
 kept : (z : Zone) (r : ZoneReading) (told : List ℕ) → r.state ≡ Found → z.name.kind ≡ DumpKind → r.log ≡ told
     → has_line told ≡ true → cond (keeps z r) r.log [] ≡ told
 kept z r told state kind log line =
-    let k : keeps z r ≡ true = ap (keeps_in z r) state ∙ ap (is_kept z r) kind
-    ∙ ap (λ (xs : List ℕ). has_line xs) log ∙ line in
-    ap (λ (b : Bool). cond b r.log []) k ∙ log
+    ap (λ (b : Bool). cond b r.log []) (kept_is z r told state kind log line) ∙ log
 
 -- a dump's record, where its reading was found
 dump_entry : (z : Zone) (r : ZoneReading) (told : List ℕ) (line : TimeLine) → is_of DumpKind z.name.kind ≡ true
@@ -181,25 +184,34 @@ module _ (layout : List Zone) (mem : ℕ) (lies : IsLayout layout mem) (z : Zone
 
   -- ---- a boot
 
-  reads_told : (off : OffState) → IsState layout mem (Off off) → IsToldOff z place told off
+  pub ring_told : (off : OffState) → IsState layout mem (Off off) → IsToldOff z place told off
+      → IsRingForm z (zone_bytes z off.image) told
+  ring_told off state k =
+      let zone : IsOffZone z k.zone = state.zones.1 place z k.zone hz k.at in
+      subst (λ (xs : List ℕ). IsRingForm z xs told) (sym k.undamaged) (zone.idle told k.told_is k.whole)
+
+  pub reads_told : (off : OffState) → IsState layout mem (Off off) → IsToldOff z place told off
       → ReadsTold z (zone_bytes z off.image) told
   reads_told off state k =
-      let zone : IsOffZone z k.zone = state.zones.1 place z k.zone hz k.at in
-      ring_form_reads_told z (zone_bytes z off.image) told (lies.valid place z hz).0
-      (subst (λ (xs : List ℕ). IsRingForm z xs told) (sym k.undamaged) (zone.idle told k.told_is k.whole))
+      ring_form_reads_told z (zone_bytes z off.image) told (lies.valid place z hz).0 (ring_told off state k)
 
-  found_told : (off : OffState) → IsState layout mem (Off off) → has_line told ≡ true → IsToldOff z place told off
+  pub found_told : (off : OffState) → IsState layout mem (Off off) → has_line told ≡ true → IsToldOff z place told off
       → (zone_reading z (zone_bytes z off.image)).state ≡ Found
   found_told off state line k =
       (reads_told off state k).state ∙ ap (λ (b : Bool). cond b Empty Found) (line_some told line)
+
+  pub told_kept : (off : OffState) → IsState layout mem (Off off) → is_of DumpKind z.name.kind ≡ true
+      → has_line told ≡ true → IsToldOff z place told off → told_by_boot z (zone_bytes z off.image) ≡ told
+  told_kept off state kind line k =
+      kept z (zone_reading z (zone_bytes z off.image)) told (found_told off state line k)
+      (dump_kind z.name.kind kind) (reads_told off state k).log line
 
   pub boot_keeps : (off : OffState) → IsState layout mem (Off off) → is_of DumpKind z.name.kind ≡ true
       → has_line told ≡ true → IsToldOff z place told off → IsToldLive place told (booted layout off)
   boot_keeps off state kind line k = record {
     zone = booted_zone off.image z;
     at = map_item (booted_zone off.image) layout place z hz;
-    told_is = kept z (zone_reading z (zone_bytes z off.image)) told (found_told off state line k)
-        (dump_kind z.name.kind kind) (reads_told off state k).log line;
+    told_is = told_kept off state kind line k;
     idle = refl;
   }
 
@@ -224,7 +236,7 @@ module _ (layout : List Zone) (mem : ℕ) (lies : IsLayout layout mem) (z : Zone
       (record { name = DumpName z.name.index line.packed; content = drop line.len told; time = Some line.time })
   boot_lists off line state kind is k =
       let entry : Listed = record
-          { name = DumpName z.name.index line.packed; content = drop line.len told; time = Some line.time } in
+      { name = DumpName z.name.index line.packed; content = drop line.len told; time = Some line.time } in
       let zones = saved_logs layout (booted layout off) in
       among_dumps zones entry (in_flat zone_entries zones place
       (z, Some (zone_reading z (zone_bytes z off.image))) entry (booted_log off)

@@ -8,7 +8,7 @@ use Rattle.zone_spec.specs.Layouts.{is_zone}
 use Rattle.session_spec.specs.States.{Session, Off, Live}
 use Rattle.grammar_spec.specs.Fields.{Text}
 use Rattle.grammar_spec.specs.declared.line.Line.{Line}
-use Rattle.grammar_spec.specs.declared.line.Line.TheVariants.{Write, Dump, BeginWrite, BeginErase, BeginDump, Flip, BootPart, Erase, Crash}
+use Rattle.grammar_spec.specs.declared.line.Line.TheVariants.{Write, Dump, BeginWrite, BeginErase, BeginDump, Flip, Erase, Crash}
 use Rattle.tool_spec.specs.Scripts.{ran}
 
 -- whether the next dump goes to another zone; there is none while the machine is off
@@ -25,8 +25,7 @@ names_dump text z =
 abbrev pub is_outside : ℕ → Zone → Bool
 is_outside place z = nat_lt place z.at || nat_le (z.at + z.size) place
 
--- whether a line begins no call in a dump zone, does not erase its record, flips no byte of it, and is no boot that is
--- cut
+-- whether a line begins no call in a dump zone, does not erase its record, and flips no byte of it
 abbrev pub spares : Zone → Session → Line → Bool
 spares z session (Write name bytes) = not (is_zone name z)
 spares z session (BeginWrite name bytes) = not (is_zone name z)
@@ -36,7 +35,6 @@ spares z session (BeginDump time packed bytes) = dumps_elsewhere z session
 spares z session (Crash reason time) = dumps_elsewhere z session
 spares z session (Erase text) = not (names_dump text z)
 spares z session (Flip place mask) = is_outside place z
-spares z session (BootPart limit) = false
 spares z session other = true
 
 -- so does each of these lines, in the state that those before it leave
