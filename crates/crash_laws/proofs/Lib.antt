@@ -1,5 +1,6 @@
 mod Items
 mod Calls
+mod Entries
 mod Told
 mod Stops
 mod Keeping
