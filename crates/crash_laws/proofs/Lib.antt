@@ -4,4 +4,4 @@ mod Entries
 mod Told
 mod Stops
 mod Keeping
-mod Scripts
+pub mod Scripts
