@@ -76,4 +76,5 @@ whole ks w out i count lo le h =
 pub counted : (ks : List (Option ℕ)) (w out : List ℕ) (i count : ℕ) → length out ≡ length w → length w ≤ i
     → Amending ks w out i count → count ≡ distance w out
 counted ks w out i count lo le h =
-    omega (arith, h.total, none_left i w (drop i (put_in ks w)) le) ∙ ap (distance w) (sym (whole ks w out i count lo le h))
+    omega (arith, h.total, none_left i w (drop i (put_in ks w)) le) ∙ ap (distance w) (sym (whole ks w out i count
+    lo le h))

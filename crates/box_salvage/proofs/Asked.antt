@@ -1,5 +1,5 @@
 -- What a place reads as the zone of a name
-use Rattle.std.proofs.Common.{◌≡◌, ℕ, ◌+◌, ◌%◌, ◌<◌, ◌≤◌, ◌&&◌, ◌==◌, List, length, get_or, refl, sym, ap, ◌∙◌, subst, arith, Bool, true, false, if◌then◌else◌, nat_lt, Option, Some, None, Ok, Err}
+use Rattle.std.proofs.Common.{◌≡◌, ℕ, ◌+◌, ◌%◌, ◌<◌, ◌≤◌, ◌&&◌, ◌==◌, List, length, get_or, refl, sym, ap, ◌∙◌, subst, Bool, true, false, if◌then◌else◌, nat_lt, Option, Some, None, Ok, Err}
 use Rattle.std.specs.Prelude.{slice_get, option_and_then, is_some, Result, IsOk}
 use Rattle.std.specs.List.{position_or_len}
 use Rattle.std.proofs.lemmas.Bool.{ltb-true}

@@ -1,6 +1,5 @@
 -- The shapes of zones, gathered one by one
-use Rattle.std.proofs.Common.{◌≡◌, ℕ, zero, suc, ◌+◌, ◌<◌, ◌&&◌, ◌||◌, not, ◌==◌, List, [], ◌∷◌, ◌++◌, ◌≤◌, length, drop, filter, refl, sym, ap, ◌∙◌, arith, Bool, true, false, if◌then◌else◌, eqb-true, append_assoc}
-use Rattle.std.specs.List.{list_any}
+use Rattle.std.proofs.Common.{◌≡◌, ℕ, zero, suc, ◌&&◌, ◌||◌, not, ◌==◌, List, [], ◌∷◌, ◌++◌, ◌≤◌, length, drop, filter, refl, sym, ap, ◌∙◌, arith, Bool, true, false, if◌then◌else◌, eqb-true, append_assoc}
 use Rattle.std.proofs.lemmas.List.{append-nil}
 use Rattle.std.proofs.lemmas.List.Folds.{list_any-append}
 use Rattle.zone_spec.specs.declared.Zone.{Zone}
@@ -118,7 +117,8 @@ new_shape found z rest h =
     neither false true = refl
     neither false false = refl
 
-    each : (x : Zone) → not (has_shape (found ++ z ∷ []) x) ≡ (if not (is_alike z x) then not (has_shape found x) else false)
+    each : (x : Zone) → not (has_shape (found ++ z ∷ []) x) ≡ (if not (is_alike z x) then not (has_shape found x)
+        else false)
     each x = ap not (list_any-append (λ (s : Zone). is_alike s x) found (z ∷ []))
         ∙ neither (has_shape found x) (is_alike z x)
 

@@ -1,11 +1,11 @@
 -- What is left of a scan, place by place
-use Rattle.std.proofs.Common.{◌≡◌, ℕ, zero, suc, ◌+◌, ◌-◌, ◌*◌, ◌/◌, ◌<◌, ◌≤◌, ◌⊎◌, inl, inr, List, [], ◌∷◌, ◌++◌, length, drop, get_or, refl, sym, ap, ◌∙◌, subst, arith, Bool, true, false, if◌then◌else◌, nat_lt, Option, Some, None}
+use Rattle.std.proofs.Common.{◌≡◌, ℕ, suc, ◌+◌, ◌-◌, ◌/◌, ◌<◌, ◌≤◌, ◌⊎◌, inl, inr, List, [], ◌∷◌, ◌++◌, length, drop, get_or, refl, sym, ap, ◌∙◌, subst, arith, Bool, true, false, if◌then◌else◌, nat_lt, Option, Some, None}
 use Rattle.std.proofs.lemmas.Bool.{lt-ltb, ltb-true}
 use Rattle.std.proofs.lemmas.Bool.Decides.{nat_tests}
 use Rattle.std.specs.Prelude.{flat_map, filter_map, slice_get}
 use Rattle.std.specs.List.{range_with_len}
 use Rattle.zone_spec.specs.declared.Zone.{Zone}
-use Rattle.salvage_spec.specs.Rings.{ring_at, rings, shapes}
+use Rattle.salvage_spec.specs.Rings.{rings, shapes}
 use Rattle.salvage_spec.specs.declared.FoundRing.{FoundRing}
 use Rattle.std.specs.List.{cons_option}
 use Rattle.std.proofs.lemmas.List.{drop_more}
@@ -49,7 +49,8 @@ module _ (dump : List ℕ) (kinds : List Zone) where
       → rings_from dump kinds i index ≡ rings_from dump kinds (i + 1) 0
   unfolding rings_from
   next_place i index h =
-      ap (λ (xs : List FoundRing). xs ++ flat_map (rings_at dump kinds) (range_with_len (i + 1) (places dump - (i + 1))))
+      ap (λ (xs : List FoundRing). xs ++ flat_map (rings_at dump kinds) (range_with_len (i + 1) (places dump - (i +
+      1))))
       (ap (λ (xs : List FoundRing). if nat_lt i (places dump) then xs else []) h ∙ nothing (nat_lt i (places dump)))
       ∙ tail_is (places dump) (i + 1)
     where
@@ -82,7 +83,8 @@ module _ (dump : List ℕ) (kinds : List Zone) where
       f : places dump - (i + 1) ≡ 0
       f = omega arith
 
-      by : ((nat_lt i (places dump) ≡ true) × (i < places dump)) ⊎ ((nat_lt i (places dump) ≡ false) × (places dump ≤ i))
+      by : ((nat_lt i (places dump) ≡ true) × (i < places dump)) ⊎ ((nat_lt i (places dump) ≡ false) × (places dump
+          ≤ i))
           → (if nat_lt i (places dump) then rings_at dump (drop index kinds) i else [])
           ++ flat_map (rings_at dump kinds) (range_with_len (i + 1) (places dump - (i + 1))) ≡ []
       by (inl h) = absurd (let k = h.1 in omega arith)

@@ -1,5 +1,5 @@
 -- What the code's values say of a header's word
-use Rattle.std.proofs.Common.{◌≡◌, ◌≢◌, ℕ, zero, suc, ◌+◌, ◌-◌, ◌/◌, ◌<◌, ◌≤◌, ◌&&◌, List, [], ◌∷◌, ◌++◌, length, take, drop, get_or, replicate, refl, sym, ap, ap₂, ◌∙◌, subst, arith, Option, Some, None, unwrap_or, length-append, ◌==◌, nat_lt, nat_le, if◌then◌else◌, true, false, Bool, ext_get_or, ◌⊎◌, inl, inr, leb-true, le-leb, eqb-true}
+use Rattle.std.proofs.Common.{◌≡◌, ℕ, zero, suc, ◌+◌, ◌-◌, ◌/◌, ◌<◌, ◌≤◌, ◌&&◌, List, [], ◌∷◌, ◌++◌, length, take, get_or, replicate, refl, sym, ap, ap₂, ◌∙◌, subst, arith, Option, Some, None, unwrap_or, length-append, ◌==◌, nat_le, if◌then◌else◌, true, false, Bool, ◌⊎◌, inl, inr, le-leb, eqb-true}
 use Rattle.std.specs.List.{AllByRecursion}
 use Rattle.std.proofs.Math.Dec.{leb}
 use Rattle.std.proofs.lemmas.Bool.Decides.{leb_tells}
@@ -13,7 +13,7 @@ use Rattle.code_laws.proofs.Parity.{codeword_of}
 use Rattle.code_laws.proofs.Steps.{zeros_codeword}
 use Rattle.rs_errors.specs.Decoding.{decoded_by, decoded_at, within}
 use Rattle.rs_errors.specs.declared.Decoded.TheVariants.{Clean, Fixed, Bad}
-use Rattle.salvage_spec.specs.Rings.{ring_in, is_ring_of}
+use Rattle.salvage_spec.specs.Rings.{ring_in}
 use Rattle.salvage_spec.specs.declared.FoundRing.{FoundRing}
 use Rattle.salvage_laws.specs.Known.{known, amended, amends, put_in}
 use Rattle.salvage_laws.proofs.Amended.{distance_self, length-put_in, same_at_zero}

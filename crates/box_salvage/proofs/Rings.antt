@@ -91,10 +91,13 @@ module _ (z : Zone) (at : ℕ) (word : List ℕ) (valid : IsValidZone z) (is_wor
           let same : d ≡ c = (let s : Some d ≡ Some c = sym k.nearest ∙ n in cc) in same)
 
       one : (c : List ℕ) → nearest z.parity (amended z word) ≡ Some c
-          → ((leb (distance (amended z word) c) (z.parity / 2 - amends z word) ≡ true) × (distance (amended z word) c ≤ (z.parity / 2 - amends z word)))
-          ⊎ ((leb (distance (amended z word) c) (z.parity / 2 - amends z word) ≡ false) × ((z.parity / 2 - amends z word) < distance (amended z word) c))
+          → ((leb (distance (amended z word) c) (z.parity / 2 - amends z word) ≡ true) × (distance (amended z word)
+          c ≤ (z.parity / 2 - amends z word)))
+          ⊎ ((leb (distance (amended z word) c) (z.parity / 2 - amends z word) ≡ false) × ((z.parity / 2 - amends z
+          word) < distance (amended z word) c))
           → ring_near z at (amends z word) (amended z word)
-          (if leb (distance (amended z word) c) (z.parity / 2 - amends z word) then Some c else None) ≡ ring_in z at word
+          (if leb (distance (amended z word) c) (z.parity / 2 - amends z word) then Some c else None) ≡ ring_in z at
+          word
       one c n (inl h) =
           ap (λ (b : Bool). ring_near z at (amends z word) (amended z word) (if b then Some c else None)) h.0
           ∙ close_to c n h.1

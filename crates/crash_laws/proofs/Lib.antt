@@ -5,4 +5,4 @@ mod Told
 mod Stops
 mod CutBoots
 mod Keeping
-mod Scripts
+pub mod Scripts

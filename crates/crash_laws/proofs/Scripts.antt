@@ -43,7 +43,7 @@ use Rattle.crash_laws.proofs.Keeping.{line_keeps}
 
 -- ---- fields of lines
 
-left_fields : (xs ys : List Line) → AllHaveFields (xs ++ ys) → AllHaveFields xs
+pub left_fields : (xs ys : List Line) → AllHaveFields (xs ++ ys) → AllHaveFields xs
 left_fields [] ys h = tt
 left_fields (x ∷ xs) ys h = (h.0, left_fields xs ys h.1)
 

@@ -43,7 +43,7 @@ pub fn boot_part(alloc: Global, off: Off, limit: u32) -> Result<(Off, Vec<u8>), 
 pub fn stop(live: Live, logs: Logs) -> Off
     ensures { LineDone (LiveStore live logs) Stop (OffStore result) [] }
 {
-    let _ = logs.len();
+    let _numbered = logs.len(); // what a list of logs keeps, for the proof
     live.stop()
 }
 

@@ -1,7 +1,7 @@
 // Calls in a booted store of one console zone.
 ghost use Rattle.std.specs.Prelude.{◌≡◌, length, IfOk};
 
-use crate::{LineError, Machine, begin, finish, live_lines, make, record_lines, state_lines, step};
+use crate::{LineError, begin, finish, live_lines, make, record_lines, state_lines, step};
 use box_io::Bytes;
 use old_log::Logs;
 use ram_core::{Ask, Live, Off, Refusal};
@@ -83,15 +83,11 @@ fn calls_are_made_by_their_stores(rt: HostRuntime) -> Result<(), Fail> {
     Ok(())
 }
 
-// A machine after a boot, with its text.
+// A store after a boot, with its text.
 fn boot_line(alloc: Global, off: Off) -> Result<(Live, Logs, Vec<u8>), Fail> {
-    let (machine, text) = match state_lines::boot(alloc, off) {
-        Ok(booted) => booted,
-        Err(_) => return Err(Fail::from(AllocError)),
-    };
-    match machine {
-        Machine::Live(live, logs) => Ok((live, logs, text)),
-        Machine::Off(_) => Err(Fail::from(AllocError)),
+    match state_lines::boot(alloc, off) {
+        Ok(booted) => Ok(booted),
+        Err(_) => Err(Fail::from(AllocError)),
     }
 }
 
@@ -112,9 +108,7 @@ fn lines_are_done(rt: HostRuntime) -> Result<(), Fail> {
         live_lines::write(&mut live, PMSG, lost),
         Err(LineError::Refused(Cause::NoZone))
     );
-    let Machine::Off(second) = state_lines::stop(live, logs) else {
-        return Err(Fail::from(AllocError));
-    };
+    let second = state_lines::stop(live, logs);
     let (_, logs, text) = boot_line(alloc, second)?;
     assert_eq!(rt;
         text.as_slice(),
@@ -148,9 +142,7 @@ fn a_record_is_found_by_its_name(rt: HostRuntime) -> Result<(), Fail> {
     );
     let abc = Bytes::copy_of(alloc, b"abc".as_slice())?;
     assert_eq!(rt; live_lines::write(&mut live, CONSOLE, abc), Ok(()));
-    let Machine::Off(second) = state_lines::stop(live, logs) else {
-        return Err(Fail::from(AllocError));
-    };
+    let second = state_lines::stop(live, logs);
     let (_, logs, _) = boot_line(alloc, second)?;
     let text = match record_lines::extract(alloc, &logs, &console) {
         Ok(text) => text,

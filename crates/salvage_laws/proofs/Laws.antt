@@ -15,7 +15,8 @@ use Rattle.salvage_laws.proofs.Amended.{distance-put_in, word-put_in, same_at_ze
 use Rattle.salvage_laws.proofs.Bytes.{has_known, are_known}
 
 -- a codeword near a word of so many bytes, within half the parity
-near_of : (r n : ℕ) (w c : List ℕ) → IsWord n w → nearest r w ≡ Some c → IsWord n c × IsCodeword r c × (distance w c ≤ r / 2)
+near_of : (r n : ℕ) (w c : List ℕ) → IsWord n w → nearest r w ≡ Some c → IsWord n c × IsCodeword r c × (distance w c
+    ≤ r / 2)
 near_of r n w c word e =
     let own : IsWord (length w) w = subst (λ m. IsWord m w) (sym word.0) word in
     let near : IsNear r w c = nearest-IsNear r w c own e in
@@ -86,13 +87,15 @@ take_word (suc n) m [] h = absurd (omega (arith, h.0))
 take_word (suc n) m (x ∷ xs) h =
     let t = take_word n m xs (omega (arith, h.0), h.1.1) in ((omega (arith, t.0.0), (h.1.0, t.0.1)), t.1)
 
-parity_to : (r : ℕ) (c : List ℕ) → 12 + r ≤ 255 → IsWord (12 + r) c → IsCodeword r c → parity_of r (take 12 c) ≡ drop 12 c
+parity_to : (r : ℕ) (c : List ℕ) → 12 + r ≤ 255 → IsWord (12 + r) c → IsCodeword r c → parity_of r (take 12 c) ≡
+    drop 12 c
 parity_to r c l w code =
     let t = take_word 12 r c w in
     (parity_law r (take 12 c) (drop 12 c) (omega (arith, t.0.0)) (subst (λ n. IsWord n (take 12 c)) (sym t.0.0) t.0)).1
     (t.1, subst (IsCodeword r) (sym (take_drop 12 c)) code)
 
-parity_from : (r : ℕ) (c : List ℕ) → 12 + r ≤ 255 → IsWord (12 + r) c → parity_of r (take 12 c) ≡ drop 12 c → IsCodeword r c
+parity_from : (r : ℕ) (c : List ℕ) → 12 + r ≤ 255 → IsWord (12 + r) c → parity_of r (take 12 c) ≡ drop 12 c →
+    IsCodeword r c
 parity_from r c l w e =
     let t = take_word 12 r c w in
     subst (IsCodeword r) (take_drop 12 c)
@@ -149,7 +152,8 @@ is_ring_of-true z w h =
 
 pub is_ring_of-is : (z : Zone) (w : Words) → IsRingOf z w → is_ring_of z w ≡ true
 is_ring_of-is z w h =
-    rw (eq-eqb w.sig z.sig h.sig) (rw (le-leb w.start w.size h.ring.0) (rw (le-leb w.size z.cap h.ring.1) (le-leb 1 w.size h.some)))
+    rw (eq-eqb w.sig z.sig h.sig) (rw (le-leb w.start w.size h.ring.0) (rw (le-leb w.size z.cap h.ring.1) (le-leb 1
+    w.size h.some)))
 
 pub ring_in_is : RingInIs
 unfolding ring_in

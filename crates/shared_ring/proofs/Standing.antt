@@ -161,7 +161,8 @@ module _ (z : Zone) (image : List ℕ) (shared : SharedZone) (v : SharedSeen) (s
               let m : x.ticket ≡ y.ticket = ap (λ (w : Seat). w.ticket) r in absurd (omega arith)
           at (suc k) y g q =
               let m : x.ticket < y.ticket =
-              rising.each 0 (suc k) (shown_seat x) (shown_seat y) (shown_at 0 x e) (shown_at (suc k) y g) (omega arith) in
+              rising.each 0 (suc k) (shown_seat x) (shown_seat y) (shown_at 0 x e) (shown_at (suc k) y g)
+              (omega arith) in
               absurd (omega arith)
 
 module _ (z : Zone) (image : List ℕ) (os : List SharedOperation) (can : CanShare z image) where
@@ -185,7 +186,8 @@ module _ (z : Zone) (image : List ℕ) (os : List SharedOperation) (can : CanSha
             held_by_places_law z image os can x.ticket (call_of x) (first_is_oldest z whole shared v s x g) in
             ap (λ (y : Zone). way_round y.cap x.place (words_of v).start) s.zone
             ∙ ap (λ (bytes : List ℕ). way_round z.cap x.place (standing_words bytes).start) s.bytes
-            ∙ ap (λ p. way_round z.cap p (standing_words shared.image).start) (sym (seat_place z whole shared v s 0 x g))
+            ∙ ap (λ p. way_round z.cap p (standing_words shared.image).start)
+            (sym (seat_place z whole shared v s 0 x g))
             ∙ sym law
 
     -- ---- refusals

@@ -1,4 +1,4 @@
-use Rattle.std.proofs.Common.{◌≡◌, ◌++◌, ◌∙◌, length, sym, ap, true, false, Bool, ℕ}
+use Rattle.std.proofs.Common.{◌≡◌, ◌++◌, ◌∙◌, length, sym, ap, true, false, ℕ}
 use Rattle.code_spec.specs.Code.{is_codeword}
 use Rattle.box_salvage.proofs.Probed.{amended_unlike, amended_same, amended_other, not_true}
 use Rattle.box_salvage.proofs.header.ring_as_amended.Goals as goal

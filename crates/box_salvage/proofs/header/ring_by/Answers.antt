@@ -1,4 +1,4 @@
-use Rattle.std.proofs.Common.{◌≡◌, ℕ, ◌-◌, ◌/◌, ◌≤◌, List, length, ◌++◌, arith, refl, ap}
+use Rattle.std.proofs.Common.{ℕ, ◌-◌, ◌/◌, List, length, arith, refl, ap}
 use Rattle.box_salvage.proofs.Probed.{probe_is, probe_many, probe_near, zeros_none}
 use Rattle.box_salvage.proofs.header.ring_by.Goals as goal
 
@@ -36,5 +36,6 @@ returns c = probe_near _ c.args.at _ _ _ _ (probe_is c.args.zone.now c.args.head
     c.copy_from_slice.new.self c.args.expected.now c.amend-amends.result c.requires.valid
     (λ k. (c.type_inv.header k).fits) (λ k. (c.type_inv.parity k).fits) c.requires.len c.requires.parity
     c.requires.expected c.copy_from_slice.ensures.after c.amend-amends.ensures.bytes c.amend-amends.ensures.count)
-    _ (c.args.zone.now.parity / 2 - c.amend-amends.result) (length c.args.parity.now) (omega arith) refl c.requires.parity
+    _ (c.args.zone.now.parity / 2 - c.amend-amends.result) (length c.args.parity.now) (omega arith) refl
+    c.requires.parity
     c.ring_within.ensures

@@ -1,6 +1,5 @@
 use Rattle.std.proofs.Common.{ℕ, ◌+◌, ◌≤◌, List, length, ◌++◌, refl, arith}
 use Rattle.code_spec.specs.Code.{nearest}
-use Rattle.rs_errors.specs.Decoding.{within}
 use Rattle.box_salvage.proofs.Probed.{near_bad, near_clean, near_fixed, fixed_few}
 use Rattle.box_salvage.proofs.header.ring_within.Goals as goal
 

@@ -1,4 +1,4 @@
-use Rattle.std.proofs.Common.{ℕ, ◌+◌, ◌++◌, List, drop, ap, sym, ◌∙◌}
+use Rattle.std.proofs.Common.{◌+◌, ◌++◌, List, drop, ap, sym, ◌∙◌}
 use Rattle.std.proofs.lemmas.List.{drop_more}
 use Rattle.std.proofs.lemmas.Option.{slice_get-get_or}
 use Rattle.zone_spec.specs.declared.Zone.{Zone}
@@ -8,7 +8,8 @@ use Rattle.box_salvage.proofs.shape.shapes_of.Goals as goal
 
 pub add_shape-requires : goal.add_shape-requires
 add_shape-requires c =
-    c.requires c.loop-zone.zone-index _ (slice_get-get_or c.args.zones.now c.loop-zone.zone-index _ c.loop-zone-test.true)
+    c.requires c.loop-zone.zone-index _ (slice_get-get_or c.args.zones.now c.loop-zone.zone-index _
+    c.loop-zone-test.true)
 
 pub loop-zone-init : goal.loop-zone-init
 loop-zone-init c =

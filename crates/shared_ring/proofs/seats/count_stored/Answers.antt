@@ -31,7 +31,8 @@ other seats i s n =
 pub overflow_add-stored : goal.overflow_add-stored
 overflow_add-stored c =
     let e : slice_get c.args.seats.now.items c.args.i ≡ Some c.index_mut-seat.result.now =
-    seat_read c.args.seats.now.items c.args.i c.index_mut-seat.result.now c.requires.there c.index_mut-seat.ensures.value in
+    seat_read c.args.seats.now.items c.args.i c.index_mut-seat.result.now c.requires.there
+    c.index_mut-seat.ensures.value in
     let h = c.requires.stored c.index_mut-seat.result.now e in
     omega (arith, h.0, h.1)
 

@@ -1,10 +1,5 @@
-use Rattle.std.proofs.Common.{◌≡◌, ◌∙◌, List, ℕ, Bool, refl, sym, ap, subst, if◌then◌else◌, Ok, Err}
-use Rattle.std.specs.Prelude.{IsOk, Result}
+use Rattle.std.proofs.Common.{refl}
 use Rattle.zone_params.specs.Laid.{zones_of}
-use Rattle.zone_spec.specs.Reading.{ZoneReading, zone_reading}
-use Rattle.salvage_spec.specs.declared.RingFault.{RingFault}
-use Rattle.salvage_spec.specs.declared.RingFault.TheVariants.{NoRing}
-use Rattle.salvage_spec.specs.Rings.{bytes_at}
 use Rattle.box_salvage.proofs.Asked.{asked, named_valid, inside, read_ok, read_err, is_ok}
 use Rattle.box_salvage.proofs.scan.Scan.ring_at.Goals as goal
 

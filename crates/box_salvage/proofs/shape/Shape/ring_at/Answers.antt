@@ -1,4 +1,4 @@
-use Rattle.std.proofs.Common.{◌≡◌, ℕ, ◌+◌, ◌≤◌, List, length, ◌++◌, ◌∙◌, arith, refl, ap, sym}
+use Rattle.std.proofs.Common.{◌≡◌, ℕ, ◌+◌, List, ◌++◌, ◌∙◌, refl, ap, sym}
 use Rattle.std.specs.Prelude.{slice_range}
 use Rattle.zone_spec.specs.declared.Zone.{Zone}
 use Rattle.salvage_spec.specs.Rings.{ring_at, ring_in}
@@ -8,7 +8,8 @@ use Rattle.box_salvage.proofs.shape.Shape.ring_at.Goals as goal
 pub returns-then-from-zone : goal.returns-then-from-zone
 returns-then-from-zone c =
     let view : c.self.inside.zone ≡ c.args.self.now = c.self.view_is in
-    no_room c.args.dump.now c.args.at c.self.inside.zone c.if-from-zone.true ∙ ap (ring_at c.args.dump.now c.args.at) view
+    no_room c.args.dump.now c.args.at c.self.inside.zone c.if-from-zone.true ∙ ap (ring_at c.args.dump.now
+    c.args.at) view
 
 pub returns : goal.returns
 returns c =

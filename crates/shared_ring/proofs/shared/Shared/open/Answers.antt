@@ -11,7 +11,8 @@ use Rattle.shared_ring.proofs.Opened.{just_opened, opened_whole, opened_left, zo
 use Rattle.shared_ring.proofs.shared.Shared.open.Goals as goal
 
 -- what was made is what stands for a zone that was just opened
-made : (zones : List Zone) (image : List ℕ) (place : ℕ) (z d : Zone) (region : CutRegion) (seats : List Seat) (taken : List ℕ)
+made : (zones : List Zone) (image : List ℕ) (place : ℕ) (z d : Zone) (region : CutRegion) (seats : List Seat)
+    (taken : List ℕ)
     → slice_get zones place ≡ Some z → region ≡ cut_at zones taken → taken ≡ image → seats ≡ []
     → (read : List Zone) → read ≡ zones
     → ◌≡◌ {A = SharedSeen} (record { region = cut_at zones image; place = place; zone = z; reserved = 0; seats = [] })

@@ -12,7 +12,8 @@ use Rattle.shared_ring.proofs.shared.Shared.seat.Goals as goal
 abbrev after : SharedSeen → Words → ℕ → List ℕ → SharedSeen
 after v w n payload = record {
   region = with_span v.region v.place
-      (put (bytes_of v) 4 (to_le_bytes w32 ((w.start + n) % v.zone.cap) ++ to_le_bytes w32 (min v.zone.cap (w.size + n))));
+      (put (bytes_of v) 4
+      (to_le_bytes w32 ((w.start + n) % v.zone.cap) ++ to_le_bytes w32 (min v.zone.cap (w.size + n))));
   place = v.place;
   zone = v.zone;
   reserved = v.reserved + 1;

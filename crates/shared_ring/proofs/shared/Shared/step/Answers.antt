@@ -16,7 +16,8 @@ returns-in-Some-clause-left c = λ h l.
     ap (λ (x : SharedSeen). position (is_of c.args.ticket) x.seats) (sym c.self.view_is)
     ∙ ap (position (is_of c.args.ticket)) (sym c.deref.ensures.value) ∙ sym c.find.ensures ∙ c.in-Some.is in
     let s = the_seat c.args.ticket c.args.self.now.seats c.in-Some.i e in
-    subst (λ (x : SharedSeen). IsLeftBy (and_then h (StoreNext c.args.ticket)) x) (sym (c.store_next.ensures.stepped s.0 s.1))
+    subst (λ (x : SharedSeen). IsLeftBy (and_then h (StoreNext c.args.ticket)) x)
+    (sym (c.store_next.ensures.stepped s.0 s.1))
     (left_stepped h c.args.self.now c.in-Some.i c.args.ticket s.0 l s.1 s.2)
 
 pub returns-in-Some-clause-answer : goal.returns-in-Some-clause-answer

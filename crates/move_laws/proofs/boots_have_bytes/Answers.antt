@@ -1,0 +1,5 @@
+use Rattle.move_laws.proofs.Saved.{boots_have_bytes as law}
+use Rattle.move_laws.proofs.boots_have_bytes.Goals as goal
+
+pub returns : goal.returns
+returns c = law

@@ -1,0 +1,5 @@
+use Rattle.move_laws.proofs.Listed.{fitting_lists_what_fits as law}
+use Rattle.move_laws.proofs.fitting_lists_what_fits.Goals as goal
+
+pub returns : goal.returns
+returns c = law

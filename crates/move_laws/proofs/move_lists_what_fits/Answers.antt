@@ -1,0 +1,5 @@
+use Rattle.move_laws.proofs.Order.{move_lists_what_fits as law}
+use Rattle.move_laws.proofs.move_lists_what_fits.Goals as goal
+
+pub returns : goal.returns
+returns c = law

@@ -1,0 +1,5 @@
+use Rattle.move_laws.proofs.Moved.{moved_image_is_sound as law}
+use Rattle.move_laws.proofs.moved_image_is_sound.Goals as goal
+
+pub returns : goal.returns
+returns c = law

@@ -1,0 +1,5 @@
+use Rattle.move_laws.proofs.Order.{moved_image_lists as law}
+use Rattle.move_laws.proofs.moved_image_lists.Goals as goal
+
+pub returns : goal.returns
+returns c = law

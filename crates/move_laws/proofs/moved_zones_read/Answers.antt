@@ -1,0 +1,5 @@
+use Rattle.move_laws.proofs.Moved.{moved_zones_read as law}
+use Rattle.move_laws.proofs.moved_zones_read.Goals as goal
+
+pub returns : goal.returns
+returns c = law

@@ -1,0 +1,93 @@
+-- What a move carries over: the records that fit, and no other
+use Rattle.std.specs.Prelude.{◌≡◌, ℕ, ◌<◌, List, [], ◌∷◌, length, map, filter, flat_map, slice_get, Some}
+use Rattle.std.specs.List.{AllByRecursion}
+use Rattle.zone_spec.specs.declared.Zone.{Zone}
+use Rattle.zone_spec.specs.declared.ZoneName.{ZoneName}
+use Rattle.zone_spec.specs.Parts.{AreBytes}
+use Rattle.zone_spec.specs.Reading.{ZoneReading}
+use Rattle.zone_spec.specs.Records.{Saved, Listed, found, listed_of}
+use Rattle.zone_spec.specs.Layouts.{zone_place, IsLayout}
+use Rattle.session_spec.specs.States.{OffState}
+use Rattle.session_spec.specs.Boot.{booted}
+use Rattle.session_spec.specs.Erasures.{saved_logs}
+use Rattle.session_spec.specs.Moved.{fits, fitting, found_of, moved}
+use Rattle.move_laws.specs.Moves.{LogsFit}
+
+-- the logs that a move carries over list the records that fit, in their order, each with its name, content
+-- and time, and no other
+abbrev pub FittingListsWhatFits : Type 0
+FittingListsWhatFits = (layout : List Zone) (zones : List Saved)
+    → listed_of (fitting layout zones) ≡ filter (λ (r : Listed). fits layout zones r.name) (listed_of zones)
+
+-- each zone of a layout is the one that its name finds
+abbrev pub AreNamed : List Zone → Type 0
+AreNamed layout = (i : ℕ) (z : Zone) → slice_get layout i ≡ Some z → zone_place layout z.name ≡ Some i
+
+-- a log of bytes, and of one at least
+abbrev pub IsOfBytes : ZoneReading → Type 0
+IsOfBytes r = (0 < length r.log) × AreBytes r.log
+
+-- so are those that were found of saved zones
+abbrev pub HaveBytes : List Saved → Type 0
+HaveBytes zones = (i : ℕ) (zone : Saved) → slice_get zones i ≡ Some zone → AllByRecursion IsOfBytes (found zone.1)
+
+-- then the logs that a move carries over fit their zones
+abbrev pub FittingLogsFit : Type 0
+FittingLogsFit = (layout : List Zone) (zones : List Saved) → AreNamed layout → HaveBytes zones
+    → LogsFit layout (fitting layout zones)
+
+-- a log beside the name of its zone
+abbrev pub named : ZoneName → ZoneReading → ZoneName × List ℕ
+named name r = (name, r.log)
+
+-- at most one reading, and that of a log with bytes
+abbrev pub IsOneLog : List ZoneReading → Type 0
+IsOneLog [] = Unit {0}
+IsOneLog (r ∷ []) = 0 < length r.log
+IsOneLog (r ∷ s ∷ rs) = ⊥
+
+-- a layout takes all saved logs in their order, at most one of them in each zone
+pub record TakesInOrder (layout : List Zone) (zones : List Saved) : Type 0 where
+  pub one : (i : ℕ) (z : Zone) → slice_get layout i ≡ Some z → IsOneLog (found_of zones z)
+  pub order : flat_map (λ (z : Zone). map (named z.name) (found_of zones z)) layout
+      ≡ flat_map (λ (zone : Saved). map (named zone.0.name) (found zone.1)) zones
+
+-- then a boot of the moved image lists the records of these logs
+abbrev pub MovedImageLists : Type 0
+MovedImageLists = (layout : List Zone) (mem : ℕ) (zones : List Saved) → IsLayout layout mem → LogsFit layout zones
+    → TakesInOrder layout zones
+    → listed_of (saved_logs layout (booted layout (moved layout mem zones))) ≡ listed_of zones
+
+-- those of the saved zones that the layout has come in its order
+abbrev pub ComeInOrder : List Zone → List Saved → Type 0
+ComeInOrder layout zones = (i j m n : ℕ) (a b : Saved) → i < j → slice_get zones i ≡ Some a → slice_get zones j ≡ Some b
+    → zone_place layout a.0.name ≡ Some m → zone_place layout b.0.name ≡ Some n
+    → m < n
+
+-- then the layout takes the logs that a move carries over in their order
+abbrev pub FittingTakesInOrder : Type 0
+FittingTakesInOrder = (layout : List Zone) (zones : List Saved) → AreNamed layout → HaveBytes zones
+    → ComeInOrder layout zones
+    → TakesInOrder layout (fitting layout zones)
+
+-- so after a move a boot lists the records that fit, as they were listed, and no other
+abbrev pub MoveListsWhatFits : Type 0
+MoveListsWhatFits = (layout : List Zone) (mem : ℕ) (zones : List Saved) → IsLayout layout mem → AreNamed layout
+    → HaveBytes zones → ComeInOrder layout zones
+    → listed_of (saved_logs layout (booted layout (moved layout mem (fitting layout zones))))
+    ≡ filter (λ (r : Listed). fits layout zones r.name) (listed_of zones)
+
+-- the logs that a boot finds are of bytes, and of one at least
+abbrev pub BootsHaveBytes : Type 0
+BootsHaveBytes = (layout : List Zone) (off : OffState) → AreBytes off.image
+    → HaveBytes (saved_logs layout (booted layout off))
+
+-- so for a boot under an old layout, a move to a new one whose zones have names of their own and come in the
+-- old one's order, and a boot of what it makes
+abbrev pub MoveKeepsRecords : Type 0
+MoveKeepsRecords = (old new : List Zone) (mem : ℕ) (off : OffState) → IsLayout new mem → AreNamed new
+    → AreBytes off.image
+    → let saved : List Saved = saved_logs old (booted old off) in
+    ComeInOrder new saved
+    → listed_of (saved_logs new (booted new (moved new mem (fitting new saved))))
+    ≡ filter (λ (r : Listed). fits new saved r.name) (listed_of saved)

@@ -1,0 +1,3 @@
+pub mod Cleared
+pub mod Zones
+pub mod Given

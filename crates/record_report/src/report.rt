@@ -1,0 +1,115 @@
+// The report of an image.
+ghost use Rattle.std.specs.Prelude.{◌≡◌, ◌<◌, length, IfOk};
+ghost use Rattle.zone_spec.specs.Zones.{IsValidZone};
+ghost use Rattle.zone_spec.specs.Layout.{rounded};
+ghost use Rattle.zone_params.specs.Laid.{params_of, zones_of};
+ghost use Rattle.record_report.specs.Reports.{SpansFit, ReadsTo, IsReport};
+
+use crate::parts::{ZoneParts, parts};
+use crate::records::{RecordReport, records};
+use box_io::Bytes;
+use old_log::{Logs, read_zone};
+use ram_region::{Region, Span, Spans};
+use std::alloc::{AllocError, Global};
+use std::marker::Model;
+use zone_params::types::Layout;
+use zone_spec::Zone;
+
+/// What an image holds.
+#[derive(Drop)]
+pub struct Report {
+    logs: Logs,
+    parts: Vec<ZoneParts>,
+    records: Vec<RecordReport>,
+}
+
+impl Model for Report {
+    ghost use Rattle.record_report.specs.Reports.{ReportHeld};
+
+    ghost Value = { ReportHeld };
+
+    ghost view = { λ r. record { logs = r.logs; parts = r.parts.items; records = r.records.items } };
+}
+
+impl Report {
+    /// What the zones hold, in the layout's order.
+    pub fn logs(&self) -> &Logs
+        ensures { result.now ≡ self.now.logs }
+    {
+        &self.logs
+    }
+
+    /// How the parts of each zone read, in the layout's order.
+    pub fn parts(&self) -> &[ZoneParts]
+        ensures { result.now ≡ self.now.parts }
+    {
+        &self.parts
+    }
+
+    /// The records, as the next boot would list them.
+    pub fn records(&self) -> &[RecordReport]
+        ensures { result.now ≡ self.now.records }
+    {
+        &self.records
+    }
+}
+
+/// The zones as they read.
+#[derive(Drop)]
+pub struct Readings {
+    pub(crate) logs: Logs,
+    pub(crate) parts: Vec<ZoneParts>,
+}
+
+impl Readings {
+    ghost use Rattle.record_report.specs.Reports.{Adds};
+
+    // Reads the next zone, whose bytes are the span's.
+    fn add(&mut self, alloc: Global, zone: &Zone, span: &Span) -> Result<(), AllocError>
+        requires valid { IsValidZone zone.now }
+        requires size { length span.now ≡ zone.now.size }
+        requires room { length self.old.logs.readings < length self.old.logs.zones }
+        ensures { IfOk result (λ _. Adds self.old self.new zone.now span.now) }
+    {
+        let reading = read_zone(alloc, span, zone)?;
+        self.parts.push(parts(alloc, span, zone, &reading)?)?;
+        self.logs.push(reading);
+        Ok(())
+    }
+}
+
+fn read_zones(alloc: Global, layout: &Layout, spans: &Spans) -> Result<Readings, AllocError>
+    requires { SpansFit (zones_of layout.now) spans.now.spans }
+    ensures { IfOk result (λ r. ReadsTo (zones_of layout.now) spans.now.spans (length (zones_of layout.now)) r) }
+{
+    let zones = layout.zones();
+    let mut readings = Readings {
+        logs: Logs::new(alloc, layout)?,
+        parts: Vec::with_capacity(alloc, zones.len())?,
+    };
+    for (i, zone) in zones.iter().enumerate() {
+        readings.add(alloc, zone, &spans.all()[i])?;
+    }
+    Ok(readings)
+}
+
+/// The report of an image by its layout. A zone's header is decoded twice. Its blocks are decoded once if the zone was
+/// found and nothing but its header was corrected, else twice.
+pub fn report_of(alloc: Global, layout: &Layout, image: Bytes) -> Result<Report, AllocError>
+    requires { length image ≡ rounded (params_of layout.now).mem }
+    ensures { IfOk result (IsReport (zones_of layout.now) image) }
+{
+    let _len = image.len();
+    let _zones = layout.zones();
+    let spans = match Region::from_bytes(image).cut(layout) {
+        Ok(spans) => spans,
+        Err((_, refused)) => return Err(refused),
+    };
+    let Readings { logs, parts } = read_zones(alloc, layout, &spans)?;
+    let records = records(alloc, &logs)?;
+    Ok(Report {
+        logs,
+        parts,
+        records,
+    })
+}

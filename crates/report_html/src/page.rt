@@ -1,0 +1,140 @@
+// The page.
+ghost use Rattle.std.specs.Prelude.{◌≡◌, ◌++◌, [], ◌∷◌, List, ℕ, IfOk, OnOk};
+ghost use Rattle.zone_spec.specs.Parts.{AreBytes};
+ghost use Rattle.report_spec.specs.Escaped.{IsText, escaped};
+ghost use Rattle.report_html.specs.Pieces.{foreigns};
+ghost use Rattle.report_html.specs.Pages.{contents, IsPage};
+
+use crate::laws::escaped_is_text;
+use crate::picture::{state_text, zone};
+use crate::pieces::{Piece, field, foreign, own, render};
+use old_log::Logs;
+use record_report::{RecordReport, Report};
+use std::alloc::{AllocError, Global};
+use zone_params::types::Layout;
+use zone_spec::{Name, Time};
+
+const HEAD: &str = "<!doctype html>\n<html lang=\"en\">\n<head>\n<meta charset=\"utf-8\">\n\
+<meta http-equiv=\"Content-Security-Policy\" content=\"default-src 'none'; style-src 'unsafe-inline'\">\n\
+<title>Crash log report</title>\n<style>\n\
+:root { color-scheme: light dark; --fg: #1b1b1b; --bg: #fdfdfd; \
+--clean: #4a8f5b; --corrected: #d29a1d; --bad: #c0392b; --unused: #c9ced4; }\n\
+@media (prefers-color-scheme: dark) { :root { --fg: #e4e4e4; --bg: #17191c; \
+--clean: #58b072; --corrected: #e0b04a; --bad: #e4604f; --unused: #3b4148; } }\n\
+body { font: 15px/1.5 system-ui, sans-serif; color: var(--fg); background: var(--bg); margin: 2rem; }\n\
+svg { width: 100%; height: 120px; }\n.clean, .found { fill: var(--clean); }\n.corrected { fill: var(--corrected); }\n\
+.bad, .invalid { fill: var(--bad); }\n.unused, .empty, .unsigned { fill: var(--unused); }\n\
+pre { white-space: pre-wrap; overflow-wrap: anywhere; }\n</style>\n</head>\n<body>\n<h1>";
+
+/// Adds what names a record.
+fn record_name(pieces: &mut Vec<Piece<'_>>, name: Name) -> Result<(), AllocError>
+    ensures { OnOk result (foreigns pieces.new.items ≡ foreigns pieces.old.items) }
+{
+    match name {
+        Name::Dump { index, packed } => {
+            field(pieces, "dmesg-ramoops-", u64::from(index))?;
+            own(pieces, if packed { ".enc.z" } else { "" })
+        }
+        Name::Console => own(pieces, "console-ramoops-0"),
+        Name::Pmsg => own(pieces, "pmsg-ramoops-0"),
+        Name::Ftrace => own(pieces, "ftrace-ramoops-0"),
+    }
+}
+
+fn record_time(pieces: &mut Vec<Piece<'_>>, time: Option<Time>) -> Result<(), AllocError>
+    ensures { OnOk result (foreigns pieces.new.items ≡ foreigns pieces.old.items) }
+{
+    match time {
+        Some(time) => {
+            field(pieces, ", ", time.secs)?;
+            own(pieces, " seconds since 1970")
+        }
+        None => Ok(()),
+    }
+}
+
+/// Adds a record.
+fn add_record<'a>(pieces: &mut Vec<Piece<'a>>, record: &'a RecordReport) -> Result<(), AllocError>
+    ensures { OnOk result (foreigns pieces.new.items ≡ foreigns pieces.old.items ++ record.entry.now.content ∷ []) }
+{
+    own(pieces, "<details><summary>")?;
+    record_name(pieces, record.name)?;
+    field(pieces, ", bytes: ", record.content.len() as u64)?;
+    record_time(pieces, record.time)?;
+    own(pieces, "</summary><pre>\n")?;
+    foreign(pieces, record.content.as_slice())?;
+    own(pieces, "</pre></details>\n")
+}
+
+fn add_records<'a>(
+    pieces: &mut Vec<Piece<'a>>,
+    records: &'a [RecordReport],
+) -> Result<(), AllocError>
+    ensures { OnOk result (foreigns pieces.new.items ≡ foreigns pieces.old.items ++ contents records.entry.now) }
+{
+    for record in records {
+        add_record(pieces, record)?;
+    }
+    Ok(())
+}
+
+/// What zone `i` was taken for.
+fn state_at(logs: &Logs, i: usize) -> &'static str {
+    if i >= logs.len() as usize {
+        return "";
+    }
+    match logs.reading(i as u32) {
+        Some(reading) => state_text(reading.state),
+        None => "",
+    }
+}
+
+fn add_picture(
+    pieces: &mut Vec<Piece<'_>>,
+    layout: &Layout,
+    report: &Report,
+) -> Result<(), AllocError>
+    ensures { OnOk result (foreigns pieces.new.items ≡ foreigns pieces.old.items) }
+{
+    field(pieces, "<svg viewBox=\"0 0 ", u64::from(layout.mem()))?;
+    own(pieces, " 100\" preserveAspectRatio=\"none\">\n")?;
+    for (i, (own_zone, parts)) in layout.zones().iter().zip(report.parts()).enumerate() {
+        zone(pieces, own_zone, state_at(report.logs(), i), parts)?;
+    }
+    own(pieces, "</svg>\n")
+}
+
+/// The pieces of the page of a report. `title` is what the page is headed with, such as the image's path.
+fn page<'a>(
+    alloc: Global,
+    title: &'a [u8],
+    layout: &Layout,
+    report: &'a Report,
+) -> Result<Vec<Piece<'a>>, AllocError>
+    ensures { IfOk result (λ pieces. foreigns pieces.items ≡ title.entry.now ∷ contents report.entry.now.records) }
+{
+    let mut pieces = Vec::new(alloc);
+    own(&mut pieces, HEAD)?;
+    foreign(&mut pieces, title)?;
+    own(&mut pieces, "</h1>\n")?;
+    add_picture(&mut pieces, layout, report)?;
+    add_records(&mut pieces, report.records())?;
+    own(&mut pieces, "</body>\n</html>\n")?;
+    Ok(pieces)
+}
+
+/// The page of a report, by its layout, in ASCII. All bytes that come from the image or the title are escaped, and so
+/// make no markup.
+pub fn html(
+    alloc: Global,
+    title: &[u8],
+    layout: &Layout,
+    report: &Report,
+) -> Result<Vec<u8>, AllocError>
+    ensures page { IfOk result (λ text. IsPage title.now report.now.records text.items) }
+    ensures no_markup { (bytes : List ℕ) → AreBytes bytes → IsText (escaped bytes) }
+{
+    escaped_is_text();
+    let pieces = page(alloc, title, layout, report)?;
+    render(alloc, pieces.as_slice())
+}

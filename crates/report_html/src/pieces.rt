@@ -1,0 +1,71 @@
+// The pieces of a page.
+ghost use Rattle.std.specs.Prelude.{◌≡◌, ◌++◌, [], ◌∷◌, flat_map, IfOk, OnOk};
+ghost use Rattle.report_html.specs.Pieces.{piece_text, foreigns};
+
+use crate::escaping::push_escaped;
+use itoa::Buffer;
+use std::alloc::{AllocError, Global};
+
+/// A piece of a page. The page's own text lives as long as the program: it cannot be made of an image's bytes.
+#[derive(Clone, Copy)]
+pub enum Piece<'a> {
+    Own(&'static str),
+    Number(u64),
+    Foreign(&'a [u8]),
+}
+
+fn push_piece(out: &mut Vec<u8>, piece: Piece<'_>) -> Result<(), AllocError>
+    ensures { OnOk result (out.new.items ≡ out.old.items ++ piece_text piece.entry) }
+{
+    match piece {
+        Piece::Own(text) => out.extend_from_slice(text.as_bytes()),
+        Piece::Number(n) => {
+            let mut digits = Buffer::new();
+            out.extend_from_slice(digits.format(n).as_bytes())
+        }
+        Piece::Foreign(bytes) => push_escaped(out, bytes),
+    }
+}
+
+/// The text of the pieces, end to end.
+pub fn render(alloc: Global, pieces: &[Piece<'_>]) -> Result<Vec<u8>, AllocError>
+    ensures { IfOk result (λ text. text.items ≡ flat_map piece_text pieces.now) }
+{
+    let mut out = Vec::new(alloc);
+    for piece in pieces {
+        push_piece(&mut out, *piece)?;
+    }
+    Ok(out)
+}
+
+/// Adds own text.
+pub fn own(pieces: &mut Vec<Piece<'_>>, text: &'static str) -> Result<(), AllocError>
+    ensures { OnOk result (foreigns pieces.new.items ≡ foreigns pieces.old.items) }
+{
+    pieces.push(Piece::Own(text))?;
+    Ok(())
+}
+
+/// Adds a number.
+pub fn number(pieces: &mut Vec<Piece<'_>>, n: u64) -> Result<(), AllocError>
+    ensures { OnOk result (foreigns pieces.new.items ≡ foreigns pieces.old.items) }
+{
+    pieces.push(Piece::Number(n))?;
+    Ok(())
+}
+
+/// Adds own text, and a number after it.
+pub fn field(pieces: &mut Vec<Piece<'_>>, text: &'static str, n: u64) -> Result<(), AllocError>
+    ensures { OnOk result (foreigns pieces.new.items ≡ foreigns pieces.old.items) }
+{
+    own(pieces, text)?;
+    number(pieces, n)
+}
+
+/// Adds foreign bytes.
+pub fn foreign<'a>(pieces: &mut Vec<Piece<'a>>, bytes: &'a [u8]) -> Result<(), AllocError>
+    ensures { OnOk result (foreigns pieces.new.items ≡ foreigns pieces.old.items ++ bytes.entry.now ∷ []) }
+{
+    pieces.push(Piece::Foreign(bytes))?;
+    Ok(())
+}
