@@ -23,7 +23,7 @@ use Rattle.crash_laws.proofs.Items.{other_item, set_item}
 
 -- ---- places by name
 
-target_place : (layout : List Zone) (live : LiveState) (o : Option ℕ) (t : Target) → target_at layout live o ≡ Some t
+pub target_place : (layout : List Zone) (live : LiveState) (o : Option ℕ) (t : Target) → target_at layout live o ≡ Some t
     → o ≡ Some t.place
 target_place layout live None t e = absurd (cc)
 target_place layout live (Some i) t e = by (slice_get layout i) (slice_get live.zones i) e

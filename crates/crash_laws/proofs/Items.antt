@@ -1,5 +1,5 @@
 -- Items of lists beside one another
-use Rattle.std.proofs.Common.{◌≡◌, ◌≢◌, ℕ, zero, suc, ◌+◌, List, [], ◌∷◌, ◌++◌, length, take, drop, map, zip, flat_map, slice_get, slice_set, Contains, Some, None, refl, sym, ap, ap₂, ◌∙◌, subst, arith}
+use Rattle.std.proofs.Common.{◌≡◌, ◌≢◌, ℕ, zero, suc, ◌+◌, ◌<◌, ◌≤◌, List, [], ◌∷◌, ◌++◌, length, take, drop, map, zip, flat_map, slice_get, slice_set, Contains, Some, None, refl, sym, ap, ap₂, ◌∙◌, subst, arith}
 use Rattle.std.proofs.lemmas.List.Elements.{Contains-append_left, Contains-append_right}
 
 -- the items but the one that is set
@@ -49,3 +49,22 @@ behind_of [] ys m n e = let same : m ≡ n = omega arith in ap (λ (k : ℕ). dr
 behind_of (x ∷ xs) ys m n e =
     let same : m ≡ suc (length xs + n) = omega arith in
     ap (λ (k : ℕ). drop k (x ∷ (xs ++ ys))) same ∙ behind_of xs ys (length xs + n) n refl
+
+-- a part of a list with one item changed outside of it
+take_set : (xs : List ℕ) (n i x : ℕ) → n ≤ i → take n (slice_set xs i x) ≡ take n xs
+take_set [] n i x h = refl
+take_set (w ∷ ws) zero i x h = refl
+take_set (w ∷ ws) (suc n) zero x h = absurd (omega arith)
+take_set (w ∷ ws) (suc n) (suc i) x h = ap (λ (us : List ℕ). w ∷ us) (take_set ws n i x (omega arith))
+
+pub set_before : (xs : List ℕ) (a i x : ℕ) → i < a → drop a (slice_set xs i x) ≡ drop a xs
+set_before [] a i x h = refl
+set_before (w ∷ ws) zero i x h = absurd (omega arith)
+set_before (w ∷ ws) (suc a) zero x h = refl
+set_before (w ∷ ws) (suc a) (suc i) x h = set_before ws a i x (omega arith)
+
+pub set_behind : (xs : List ℕ) (a n i x : ℕ) → a + n ≤ i → take n (drop a (slice_set xs i x)) ≡ take n (drop a xs)
+set_behind xs zero n i x h = take_set xs n i x (omega arith)
+set_behind [] (suc a) n i x h = refl
+set_behind (w ∷ ws) (suc a) n zero x h = absurd (omega arith)
+set_behind (w ∷ ws) (suc a) n (suc i) x h = set_behind ws a n i x (omega arith)

@@ -14,15 +14,17 @@ use Rattle.zone_spec.specs.Names.{name_text, is_name}
 use Rattle.zone_spec.specs.Notices.{is_in}
 use Rattle.zone_spec.specs.TimeLines.{has_line}
 use Rattle.zone_spec.specs.Layouts.{IsLayout, is_zone}
-use Rattle.zone_spec.specs.declared.Refusal.TheVariants.{Busy}
+use Rattle.zone_spec.specs.declared.Refusal.TheVariants.{Busy, OutOfImage}
 use Rattle.session_spec.specs.States.{LiveState, OffState, Session, Off, Live}
 use Rattle.session_spec.specs.Erasures.{saved_logs, erased}
+use Rattle.session_spec.specs.Off.{flipped}
+use Rattle.session_spec.specs.BootPart.{boot_parted}
 use Rattle.session_spec.specs.Stop.{stopped}
 use Rattle.session_spec.specs.Boot.{booted}
 use Rattle.session_spec.specs.ZoneCalls.{stepped, finished}
 use Rattle.session_spec.specs.LiveZones.{Target, target, flies}
 use Rattle.session_spec.specs.LiveCalls.{Ask, Append as AskAppend, Erase as AskErase, Dump as AskDump, asked_name, begin, make, step, finish}
-use Rattle.session_spec.specs.Operations.{Operation, operated, erases as erases_record, Begin, Make, Step as StepFlight, Finish as FinishFlight, EraseRecord, Stop as StopStore, Boot as BootStore, Refused, Cause as SessionCause}
+use Rattle.session_spec.specs.Operations.{Operation, operated, erases as erases_record, Begin, Make, Step as StepFlight, Finish as FinishFlight, EraseRecord, Stop as StopStore, Boot as BootStore, BootPart as BootInPart, Flip as FlipByte, Refused, Cause as SessionCause}
 use Rattle.session_spec.specs.Sound.{IsState}
 use Rattle.session_laws.proofs.Targets.{target-some}
 use Rattle.grammar_spec.specs.Fields.{Text}
@@ -32,10 +34,11 @@ use Rattle.tool_spec.specs.Scripts.{StoreDone, Kernel, new_kernel, Done, beside,
 use Rattle.tool_spec.specs.declared.Cause.{Cause}
 use Rattle.tool_spec.specs.declared.Cause.TheVariants.{TooLong}
 use Rattle.crash_laws.specs.Standing.{IsToldLive, IsTold}
-use Rattle.crash_laws.specs.Lines.{dumps_elsewhere, names_dump, spares}
+use Rattle.crash_laws.specs.Lines.{dumps_elsewhere, names_dump, is_outside, spares}
 use Rattle.crash_laws.specs.Listings.{LinesKeepTold}
 use Rattle.crash_laws.proofs.Calls.{goes_on_keeps, begin_keeps, make_keeps}
-use Rattle.crash_laws.proofs.Stops.{dump_kind, erased_keeps, stop_keeps, boot_keeps}
+use Rattle.crash_laws.proofs.Stops.{dump_kind, erased_keeps, stop_keeps, boot_keeps, flip_keeps}
+use Rattle.crash_laws.proofs.CutBoots.{part_keeps}
 use Rattle.crash_laws.proofs.Told.{beside_done, operation_done, answer_done}
 
 -- ---- tests
@@ -198,6 +201,25 @@ module _ (layout : List Zone) (mem : ℕ) (lies : IsLayout layout mem) (z : Zone
       let same : Live (booted layout off) ≡ next = cc in
       subst (IsTold z place told) same (boot_keeps layout mem lies z place hz told off state kind line k)
 
+  flip_op : (session next : Session) (i mask : ℕ) → is_outside i z ≡ true → IsTold z place told session
+      → operated layout session (FlipByte i mask) ≡ Ok next → IsTold z place told next
+  flip_op (Live live) next i mask outside k h = absurd (cc)
+  flip_op (Off off) next i mask outside k h = by (nat_lt i (length off.image)) h
+    where
+      by : (b : Bool) → cond b (Ok (Off (flipped off i mask))) (Err (Refused OutOfImage)) ≡ Ok next
+          → IsTold z place told next
+      by true h =
+          let same : Off (flipped off i mask) ≡ next = cc in
+          subst (IsTold z place told) same (flip_keeps layout mem lies z place hz told off i mask outside k)
+      by false h = absurd (cc)
+
+  part_op : (session next : Session) (limit : ℕ) → IsState layout mem session → IsTold z place told session
+      → operated layout session (BootInPart limit) ≡ Ok next → IsTold z place told next
+  part_op (Live live) next limit state k h = absurd (cc)
+  part_op (Off off) next limit state k h =
+      let same : Off (boot_parted layout limit off) ≡ next = cc in
+      subst (IsTold z place told) same (part_keeps layout mem lies z place hz told off limit state kind line k)
+
   -- ---- lines of the store
 
   does_keeps : (session : Session) (o : Operation) (e : StoreDone)
@@ -265,9 +287,11 @@ module _ (layout : List Zone) (mem : ℕ) (lies : IsLayout layout mem) (z : Zone
   store_keeps session (Finish name) e state s k h = does_keeps session _ e
       (λ next d. finish_op session next name k d) h
   store_keeps session Stop e state s k h = does_keeps session _ e (λ next d. stop_op session next state k d) h
-  store_keeps session (Flip p mask) e state s k h = absurd (true≢false (sym s))
+  store_keeps session (Flip p mask) e state s k h = does_keeps session _ e
+      (λ next d. flip_op session next p mask s k d) h
   store_keeps session Boot e state s k h = does_keeps session _ e (λ next d. boot_op session next state k d) h
-  store_keeps session (BootPart limit) e state s k h = absurd (true≢false (sym s))
+  store_keeps session (BootPart limit) e state s k h = does_keeps session _ e
+      (λ next d. part_op session next limit state k d) h
   store_keeps session ListLine e state s k h = list_line session e k h
   store_keeps session (Extract text) e state s k h = extract_line session text e k h
   store_keeps session (Erase text) e state s k h = erase_line session text e k (not_true _ s) h

@@ -1,6 +1,8 @@
 mod Items
 mod Calls
+mod Entries
 mod Told
 mod Stops
+mod CutBoots
 mod Keeping
-mod Scripts
+pub mod Scripts

@@ -13,7 +13,7 @@ use Rattle.zone_spec.specs.declared.Name.TheVariants.{Dump as DumpName}
 use Rattle.zone_spec.specs.Parts.{AreBytes}
 use Rattle.zone_spec.specs.Layouts.{IsLayout, is_zone}
 use Rattle.zone_spec.specs.TimeLines.{line_text, read_line, has_line}
-use Rattle.zone_spec.specs.Records.{Listed, is_of, listed_of}
+use Rattle.zone_spec.specs.Records.{Listed, is_of, listed_of, record_of}
 use Rattle.session_spec.specs.States.{LiveState, OffState, Session, Off, Live}
 use Rattle.session_spec.specs.Erasures.{saved_logs}
 use Rattle.session_spec.specs.Stop.{stopped}
@@ -36,13 +36,14 @@ use Rattle.crash_laws.specs.Lines.{spares, AllSpare}
 use Rattle.crash_laws.specs.Listings.{crash_dump, crash_record, Lists, LaterBootListsCrash, NextBootListsCrash}
 use Rattle.crash_laws.proofs.Items.{behind_of}
 use Rattle.crash_laws.proofs.Calls.{named}
-use Rattle.crash_laws.proofs.Stops.{boot_lists}
+use Rattle.crash_laws.proofs.Entries.{IsFirst, dump_first}
+use Rattle.crash_laws.proofs.Stops.{boot_lists, boot_names}
 use Rattle.crash_laws.proofs.Told.{beside_done, operation_done, Crashed, crash_leaves}
 use Rattle.crash_laws.proofs.Keeping.{line_keeps}
 
 -- ---- fields of lines
 
-left_fields : (xs ys : List Line) → AllHaveFields (xs ++ ys) → AllHaveFields xs
+pub left_fields : (xs ys : List Line) → AllHaveFields (xs ++ ys) → AllHaveFields xs
 left_fields [] ys h = tt
 left_fields (x ∷ xs) ys h = (h.0, left_fields xs ys h.1)
 
@@ -132,24 +133,29 @@ boot_done layout session kernel done h = by session b.1 (b.2)
         (off, refl, g ∙ a.2 ∙ sym same)
 
 lists_record : (layout : List Zone) (mem : ℕ) (lies : IsLayout layout mem) (z : Zone) (place : ℕ)
-    → slice_get layout place ≡ Some z → is_of DumpKind z.name.kind ≡ true → (time : Time) → IsTime time
-    → (body : List ℕ) (session : Session) (kernel : Kernel) (done : Done) → IsState layout mem session
+    → slice_get layout place ≡ Some z → is_of DumpKind z.name.kind ≡ true → IsFirst layout place z.name.index
+    → (time : Time) → IsTime time → (body : List ℕ) (session : Session) (kernel : Kernel) (done : Done) → IsState layout mem session
     → IsTold z place (line_text time false ++ body) session → line_done layout session kernel Boot ≡ Ok done
     → Lists layout done.session (crash_record z time body)
-lists_record layout mem lies z place hz kind time fit body session kernel done state k h =
+lists_record layout mem lies z place hz kind first time fit body session kernel done state k h =
     let text = line_text time false in
     let b = boot_done layout session kernel done h in
     let off = b.0 in
     let line : TimeLine = record { time = time; packed = false; len = length text } in
     let is : read_line (text ++ body) ≡ Some line = read_back time false body fit.0 fit.1 in
-    let listed = boot_lists layout mem lies z place hz (text ++ body) off line
-    (subst (IsState layout mem) b.1 state) kind is (subst (IsTold z place (text ++ body)) b.1 k) in
+    let state_off : IsState layout mem (Off off) = subst (IsState layout mem) b.1 state in
+    let told_off : IsToldOff z place (text ++ body) off = subst (IsTold z place (text ++ body)) b.1 k in
+    let listed = boot_lists layout mem lies z place hz (text ++ body) off line state_off kind is told_off in
+    let found = boot_names layout mem lies z place hz (text ++ body) off time (length text) state_off kind is first
+    told_off in
     let rest : drop (length text) (text ++ body) ≡ body = behind_of text body (length text) 0 (omega arith) in
     record {
       live = booted layout off;
       is_live = b.2;
       listed = subst (λ (xs : List ℕ). Contains (listed_of (saved_logs layout (booted layout off)))
           (record { name = DumpName z.name.index false; content = xs; time = Some time })) rest listed;
+      named = found ∙ ap (λ (xs : List ℕ). Some (record
+          { name = DumpName z.name.index false; content = xs; time = Some time })) rest;
     }
 
 -- ---- a crash, lines, and a boot
@@ -227,7 +233,8 @@ later_boot whole layout mem image before between reason time live t lies size by
     (λ k next at. ap (λ (s : Ran). spares t.zone s.session next)
     (sym (lines_behind layout image before crash (take k between))) ∙ spare k next at) d.refused told in
     let sound_last = fold_sound layout mem between after lies sound_after fit_between in
-    let lists = lists_record layout mem lies t.zone t.place hz kind time clock body last.session last.kernel d.done
+    let lists = lists_record layout mem lies t.zone t.place hz kind
+    (dump_first layout live t e) time clock body last.session last.kernel d.done
     sound_last.state kept d.is_done in
     subst (λ (s : Session). Lists layout s (crash_record t.zone time body))
     (sym (ap (λ (s : Ran). s.session) all ∙ d.session)) lists

@@ -1,5 +1,5 @@
 -- What a stop, a boot and the erasure of another record leave of a zone
-use Rattle.std.proofs.Common.{◌≡◌, ◌≢◌, ℕ, zero, suc, ◌+◌, ◌-◌, ◌==◌, Bool, true, false, cond, List, [], ◌∷◌, ◌++◌, length, take, drop, map, zip, flat_map, slice_get, Contains, Option, Some, None, refl, sym, ap, ◌∙◌, subst, arith, append_assoc, true≢false, is_some}
+use Rattle.std.proofs.Common.{◌≡◌, ◌≢◌, ℕ, zero, suc, ◌+◌, ◌-◌, ◌==◌, Bool, true, false, cond, List, [], ◌∷◌, ◌++◌, length, take, drop, map, zip, flat_map, slice_get, slice_set, Contains, ◌||◌, nat_lt, nat_le, Option, Some, None, refl, sym, ap, ◌∙◌, subst, arith, append_assoc, true≢false, is_some}
 use Rattle.std.proofs.lemmas.Bool.Decides.{nat_tests}
 use Rattle.std.proofs.lemmas.List.Elements.{Contains-append_left}
 use Rattle.std.proofs.lemmas.List.Sums.{sum_by-cons}
@@ -15,7 +15,7 @@ use Rattle.zone_spec.specs.Reading.{ZoneReading, zone_reading}
 use Rattle.zone_spec.specs.TimeLines.{read_line, has_line}
 use Rattle.zone_spec.specs.Boot.{told_by_boot, keeps, keeps_in, is_kept}
 use Rattle.zone_spec.specs.Ring.{IsRingForm}
-use Rattle.zone_spec.specs.Records.{Saved, Listed, is_of, found, found_in, logs_of, dump_of, dumps_of, plain, ftrace_of, listed_of}
+use Rattle.zone_spec.specs.Records.{Saved, Listed, is_of, found, found_in, logs_of, dump_of, dumps_of, plain, ftrace_of, listed_of, record_of}
 use Rattle.zone_spec.specs.Notices.{is_in}
 use Rattle.zone_spec.specs.Layouts.{IsLayout, zones_end}
 use Rattle.session_spec.specs.States.{Flight, LiveZone, LiveState, OffZone, OffState, Off, Live}
@@ -27,7 +27,12 @@ use Rattle.session_spec.specs.Sound.{IsLiveZone, IsOffZone, IsState}
 use Rattle.ring_laws.specs.Laws.{ReadsTold}
 use Rattle.ring_laws.proofs.Laws.{ring_form_reads_told}
 use Rattle.crash_laws.specs.Standing.{IsToldLive, IsToldOff}
-use Rattle.crash_laws.proofs.Items.{map_item, zip_item, in_flat, front_of, behind_of}
+use Rattle.crash_laws.proofs.Items.{map_item, zip_item, in_flat, front_of, behind_of, set_before, set_behind}
+use Rattle.crash_laws.specs.Lines.{is_outside}
+use Rattle.crash_laws.proofs.Entries.{IsFirst, first_of_name, zone_entries}
+use Rattle.zone_spec.specs.declared.Time.{Time}
+use Rattle.session_spec.specs.Off.{flipped}
+use Rattle.std.proofs.lemmas.Bool.{ltb-true, leb-true}
 
 -- ---- a zone's bytes among those of all
 
@@ -55,6 +60,19 @@ zone_in (y ∷ ys) (w ∷ ws) rest (suc i) z v each hz hv =
     (zones_end (take (suc i) (y ∷ ys))) (zones_end (take i ys)) from)
     ∙ zone_in ys ws rest i z v (λ j u x p q. each (suc j) u x p q) hz hv
 
+-- a byte outside a zone is none of its bytes
+outside_bytes : (z : Zone) (image : List ℕ) (i b : ℕ) → is_outside i z ≡ true
+    → zone_bytes z (slice_set image i b) ≡ zone_bytes z image
+outside_bytes z image i b h = by (nat_lt i z.at) refl h
+  where
+    by : (t : Bool) → nat_lt i z.at ≡ t → (t || nat_le (z.at + z.size) i) ≡ true
+        → zone_bytes z (slice_set image i b) ≡ zone_bytes z image
+    by true e h = ap (λ (xs : List ℕ). take ((z.at + z.size) - z.at) xs)
+        (set_before image z.at i b (ltb-true i z.at e))
+    by false e h =
+        let past = leb-true (z.at + z.size) i h in
+        set_behind image z.at ((z.at + z.size) - z.at) i b (omega (arith, past))
+
 -- ---- kinds and names
 
 pub dump_kind : (k : Kind) → is_of DumpKind k ≡ true → k ≡ DumpKind
@@ -70,12 +88,15 @@ line_some (b ∷ bs) e = grind (arith, nat_tests)
 
 -- ---- a reading of the told list
 
+pub kept_is : (z : Zone) (r : ZoneReading) (told : List ℕ) → r.state ≡ Found → z.name.kind ≡ DumpKind → r.log ≡ told
+    → has_line told ≡ true → keeps z r ≡ true
+kept_is z r told state kind log line =
+    ap (keeps_in z r) state ∙ ap (is_kept z r) kind ∙ ap (λ (xs : List ℕ). has_line xs) log ∙ line
+
 kept : (z : Zone) (r : ZoneReading) (told : List ℕ) → r.state ≡ Found → z.name.kind ≡ DumpKind → r.log ≡ told
     → has_line told ≡ true → cond (keeps z r) r.log [] ≡ told
 kept z r told state kind log line =
-    let k : keeps z r ≡ true = ap (keeps_in z r) state ∙ ap (is_kept z r) kind
-    ∙ ap (λ (xs : List ℕ). has_line xs) log ∙ line in
-    ap (λ (b : Bool). cond b r.log []) k ∙ log
+    ap (λ (b : Bool). cond b r.log []) (kept_is z r told state kind log line) ∙ log
 
 -- a dump's record, where its reading was found
 dump_entry : (z : Zone) (r : ZoneReading) (told : List ℕ) (line : TimeLine) → is_of DumpKind z.name.kind ≡ true
@@ -149,29 +170,65 @@ module _ (layout : List Zone) (mem : ℕ) (lies : IsLayout layout mem) (z : Zone
     undamaged = stop_bytes live k.zone state k.at;
   }
 
+  -- ---- a flip
+
+  pub flip_keeps : (off : OffState) (i mask : ℕ) → is_outside i z ≡ true → IsToldOff z place told off
+      → IsToldOff z place told (flipped off i mask)
+  flip_keeps off i mask outside k = record {
+    zone = k.zone;
+    at = k.at;
+    told_is = k.told_is;
+    whole = k.whole;
+    undamaged = outside_bytes z off.image i _ outside ∙ k.undamaged;
+  }
+
   -- ---- a boot
 
-  reads_told : (off : OffState) → IsState layout mem (Off off) → IsToldOff z place told off
+  pub ring_told : (off : OffState) → IsState layout mem (Off off) → IsToldOff z place told off
+      → IsRingForm z (zone_bytes z off.image) told
+  ring_told off state k =
+      let zone : IsOffZone z k.zone = state.zones.1 place z k.zone hz k.at in
+      subst (λ (xs : List ℕ). IsRingForm z xs told) (sym k.undamaged) (zone.idle told k.told_is k.whole)
+
+  pub reads_told : (off : OffState) → IsState layout mem (Off off) → IsToldOff z place told off
       → ReadsTold z (zone_bytes z off.image) told
   reads_told off state k =
-      let zone : IsOffZone z k.zone = state.zones.1 place z k.zone hz k.at in
-      ring_form_reads_told z (zone_bytes z off.image) told (lies.valid place z hz).0
-      (subst (λ (xs : List ℕ). IsRingForm z xs told) (sym k.undamaged) (zone.idle told k.told_is k.whole))
+      ring_form_reads_told z (zone_bytes z off.image) told (lies.valid place z hz).0 (ring_told off state k)
 
-  found_told : (off : OffState) → IsState layout mem (Off off) → has_line told ≡ true → IsToldOff z place told off
+  pub found_told : (off : OffState) → IsState layout mem (Off off) → has_line told ≡ true → IsToldOff z place told off
       → (zone_reading z (zone_bytes z off.image)).state ≡ Found
   found_told off state line k =
       (reads_told off state k).state ∙ ap (λ (b : Bool). cond b Empty Found) (line_some told line)
+
+  pub told_kept : (off : OffState) → IsState layout mem (Off off) → is_of DumpKind z.name.kind ≡ true
+      → has_line told ≡ true → IsToldOff z place told off → told_by_boot z (zone_bytes z off.image) ≡ told
+  told_kept off state kind line k =
+      kept z (zone_reading z (zone_bytes z off.image)) told (found_told off state line k)
+      (dump_kind z.name.kind kind) (reads_told off state k).log line
 
   pub boot_keeps : (off : OffState) → IsState layout mem (Off off) → is_of DumpKind z.name.kind ≡ true
       → has_line told ≡ true → IsToldOff z place told off → IsToldLive place told (booted layout off)
   boot_keeps off state kind line k = record {
     zone = booted_zone off.image z;
     at = map_item (booted_zone off.image) layout place z hz;
-    told_is = kept z (zone_reading z (zone_bytes z off.image)) told (found_told off state line k)
-        (dump_kind z.name.kind kind) (reads_told off state k).log line;
+    told_is = told_kept off state kind line k;
     idle = refl;
   }
+
+  -- the records that its zone has in the listing of a boot
+  booted_entries : (off : OffState) (line : TimeLine) → IsState layout mem (Off off)
+      → is_of DumpKind z.name.kind ≡ true → read_line told ≡ Some line → IsToldOff z place told off
+      → zone_entries (z, Some (zone_reading z (zone_bytes z off.image)))
+      ≡ record { name = DumpName z.name.index line.packed; content = drop line.len told; time = Some line.time } ∷ []
+  booted_entries off line state kind is k =
+      dump_entry z (zone_reading z (zone_bytes z off.image)) told line kind
+      (found_told off state (ap (λ (o : Option TimeLine). is_some o) is) k) (reads_told off state k).log is
+
+  booted_log : (off : OffState) → slice_get (saved_logs layout (booted layout off)) place
+      ≡ Some (z, Some (zone_reading z (zone_bytes z off.image)))
+  booted_log off =
+      zip_item layout (booted layout off).logs place z (Some (zone_reading z (zone_bytes z off.image))) hz
+      (map_item (λ y. Some (zone_reading y (zone_bytes y off.image))) layout place z hz)
 
   pub boot_lists : (off : OffState) (line : TimeLine) → IsState layout mem (Off off)
       → is_of DumpKind z.name.kind ≡ true → read_line told ≡ Some line → IsToldOff z place told off
@@ -180,13 +237,20 @@ module _ (layout : List Zone) (mem : ℕ) (lies : IsLayout layout mem) (z : Zone
   boot_lists off line state kind is k =
       let entry : Listed = record
       { name = DumpName z.name.index line.packed; content = drop line.len told; time = Some line.time } in
-      let r = zone_reading z (zone_bytes z off.image) in
-      let logs = (booted layout off).logs in
-      let log : slice_get logs place ≡ Some (Some r) =
-      map_item (λ y. Some (zone_reading y (zone_bytes y off.image))) layout place z hz in
-      let state_is = found_told off state (ap (λ (o : Option TimeLine). is_some o) is) k in
-      let one = dump_entry z r told line kind state_is (reads_told off state k).log is in
-      among_dumps (zip layout logs) entry (in_flat (λ (zone : Saved). cond (is_of DumpKind zone.0.name.kind)
-      (flat_map (λ (q : ZoneReading). dump_of zone.0.name.index q.log (read_line q.log)) (found zone.1)) [])
-      (zip layout logs) place (z, Some r) entry (zip_item layout logs place z (Some r) hz log)
-      (subst (λ (rs : List Listed). Contains rs entry) (sym one) (one_entry entry)))
+      let zones = saved_logs layout (booted layout off) in
+      among_dumps zones entry (in_flat zone_entries zones place
+      (z, Some (zone_reading z (zone_bytes z off.image))) entry (booted_log off)
+      (subst (λ (rs : List Listed). Contains rs entry) (sym (booted_entries off line state kind is k))
+      (one_entry entry)))
+
+  pub boot_names : (off : OffState) (time : Time) (len : ℕ) → IsState layout mem (Off off)
+      → is_of DumpKind z.name.kind ≡ true → read_line told ≡ Some (record { time = time; packed = false; len = len })
+      → IsFirst layout place z.name.index → IsToldOff z place told off
+      → record_of (saved_logs layout (booted layout off)) (DumpName z.name.index false)
+      ≡ Some (record { name = DumpName z.name.index false; content = drop len told; time = Some time })
+  boot_names off time len state kind is first k =
+      first_of_name layout (booted layout off).logs place z.name.index
+      (z, Some (zone_reading z (zone_bytes z off.image)))
+      (record { name = DumpName z.name.index false; content = drop len told; time = Some time }) first
+      (booted_log off)
+      (booted_entries off (record { time = time; packed = false; len = len }) state kind is k) refl

@@ -7,7 +7,7 @@ use Rattle.zone_spec.specs.declared.Name.TheVariants.{Dump as DumpName}
 use Rattle.zone_spec.specs.Parts.{AreBytes}
 use Rattle.zone_spec.specs.Layouts.{IsLayout}
 use Rattle.zone_spec.specs.TimeLines.{line_text, has_line}
-use Rattle.zone_spec.specs.Records.{Listed, listed_of, is_of}
+use Rattle.zone_spec.specs.Records.{Listed, listed_of, record_of, is_of}
 use Rattle.session_spec.specs.States.{LiveState, Session, Live}
 use Rattle.session_spec.specs.Sound.{IsState}
 use Rattle.session_spec.specs.Erasures.{saved_logs}
@@ -43,11 +43,12 @@ LinesKeepTold =
 abbrev pub crash_record : Zone → Time → List ℕ → Listed
 crash_record z time body = record { name = DumpName z.name.index false; content = body; time = Some time }
 
--- a live machine lists a record
+-- a live machine lists a record, and finds it by its name
 pub record Lists (layout : List Zone) (session : Session) (entry : Listed) : Type 0 where
   pub live : LiveState
   pub is_live : session ≡ Live live
   pub listed : Contains (listed_of (saved_logs layout live)) entry
+  pub named : record_of (saved_logs layout live) entry.name ≡ Some entry
 
 -- a crash, lines that leave its zone alone, and a boot: where no line is refused, the crash is listed with its whole
 -- body

@@ -1,5 +1,5 @@
 -- The headline at the boots of a run
-use Rattle.std.proofs.Common.{◌≡◌, ℕ, ◌+◌, ◌^◌, ◌<◌, ◌≤◌, Bool, true, false, cond, ◌&&◌, ◌||◌, nat_lt, List, [], length, drop, take, map, zip, codes, Option, Some, None, Result, Ok, Err, IfSome, refl, sym, ap, ◌∙◌, subst, arith}
+use Rattle.std.proofs.Common.{◌≡◌, ℕ, ◌+◌, ◌^◌, ◌<◌, ◌≤◌, Bool, true, false, cond, ◌&&◌, ◌||◌, nat_lt, List, [], ◌∷◌, ◌++◌, length, drop, take, map, zip, codes, Option, Some, None, Result, Ok, Err, IfSome, refl, sym, ap, ◌∙◌, subst, arith}
 use Rattle.std.specs.Option.{option_and_then, unwrap_or}
 use Rattle.std.specs.List.{list_all}
 use Rattle.std.specs.Char.{is_digit}
@@ -37,7 +37,8 @@ use Rattle.ram_core.proofs.Lists.{get-of-map}
 use Rattle.grammar_spec.specs.Fields.{Text}
 use Rattle.grammar_spec.specs.Lines.{script_of}
 use Rattle.grammar_spec.specs.declared.line.Line.{Line}
-use Rattle.grammar_spec.specs.declared.line.Line.TheVariants.{Boot}
+use Rattle.grammar_spec.specs.declared.line.Line.TheVariants.{Boot, Crash}
+use Rattle.grammar_spec.specs.Printed.{AllHaveFields}
 use Rattle.box_script.proofs.Inside.{read_fields}
 use Rattle.tool_spec.specs.Ends.{End}
 use Rattle.tool_spec.specs.Texts.{boot_text}
@@ -51,7 +52,9 @@ use Rattle.tool_spec.specs.declared.Stop.TheVariants.{TooLong}
 use Rattle.tool_frame.proofs.Play.{text_at}
 use Rattle.tool_frame.proofs.Script.{run_wanted}
 use Rattle.tool_laws.proofs.Sound.{states_sound}
-use Rattle.image_tool.specs.Headline.{BootsRead, ShowsBoot, BootsShown, RunReads}
+use Rattle.crash_laws.specs.Listings.{LaterBootListsCrash}
+use Rattle.crash_laws.proofs.Scripts.{left_fields}
+use Rattle.image_tool.specs.Headline.{BootsRead, ShowsBoot, CrashesListed, BootsShown, RunReads}
 
 -- ---- numbers of parameters are small
 
@@ -252,12 +255,22 @@ module _ (plan : RamPlan) (bytes script : List ℕ) (lines : List Line) (is : pl
         put = rw t.is at all;
       }
 
-pub run_reads : (o : Option Asked) (r : Result Plan Stop) (a b : Outside) (status : ℕ) → planned o ≡ r
-    → IfSome a.holds AreBytes → ToolAnswers r a b status → RunReads r a b status
-run_reads o (Err s) a b status e held answers = tt
-run_reads o (Ok (OfBlk layout)) a b status e held answers = tt
-run_reads o (Ok (OfMove plan)) a b status e held answers = tt
-run_reads o (Ok (OfRam plan)) a b status e held answers = λ is. record {
+-- the crashes of a script, by their law
+crashes_listed : LaterBootListsCrash → (layout : List Zone) (mem : ℕ) (image : List ℕ) (lines : List Line)
+    → IsLayout layout mem → length image ≡ mem → AreBytes image → AllHaveFields lines
+    → CrashesListed layout image lines
+crashes_listed law layout mem image lines lies size bytes fit before between rest reason time live t is at to spare none =
+    let front = before ++ Crash reason time ∷ [] ++ between in
+    let fields : AllHaveFields (front ++ Boot ∷ [] ++ rest) = subst (λ (ls : List Line). AllHaveFields ls) is fit in
+    law layout mem image before between reason time live t lies size bytes
+    (left_fields front (Boot ∷ []) (left_fields (front ++ Boot ∷ []) rest fields)) at to spare none
+
+pub run_reads : LaterBootListsCrash → (o : Option Asked) (r : Result Plan Stop) (a b : Outside) (status : ℕ)
+    → planned o ≡ r → IfSome a.holds AreBytes → ToolAnswers r a b status → RunReads r a b status
+run_reads law o (Err s) a b status e held answers = tt
+run_reads law o (Ok (OfBlk layout)) a b status e held answers = tt
+run_reads law o (Ok (OfMove plan)) a b status e held answers = tt
+run_reads law o (Ok (OfRam plan)) a b status e held answers = λ is. record {
   told = λ bytes script holds left lines long good.
       let lies = planned_whole o plan e in
       let all : AreBytes bytes = rw holds at held in
@@ -271,6 +284,8 @@ run_reads o (Ok (OfRam plan)) a b status e held answers = λ is. record {
       subst (λ (c : RamCommand). RamAnswers c plan a b status) is answers.0 in
       record {
         read = reads;
+        crashes = crashes_listed law plan.zones (mem_of plan) (take (mem_of plan) bytes) lines lies size front
+            (read_fields script lines good);
         shown = λ zero. let d = (run.whole.told bytes script holds left).done zero in
             boots_shown plan bytes script lines is long good a b d.0 d.1 reads;
       };

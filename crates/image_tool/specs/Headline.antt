@@ -1,20 +1,24 @@
 -- What every boot of a run's script reads, reports and puts
-use Rattle.std.specs.Prelude.{◌≡◌, ⊤, ℕ, ◌≤◌, List, ◌++◌, length, take, slice_get, Option, Some, Result, Ok, Err}
+use Rattle.std.specs.Prelude.{◌≡◌, ⊤, ℕ, ◌≤◌, List, [], ◌∷◌, ◌++◌, length, take, slice_get, Option, Some, None, Result, Ok, Err}
 use Rattle.std.specs.Io.KnownBytes.{Appends}
 use Rattle.zone_spec.specs.declared.Zone.{Zone}
+use Rattle.zone_spec.specs.declared.Time.{Time}
 use Rattle.zone_spec.specs.Reading.{zone_reading}
 use Rattle.zone_spec.specs.Records.{Saved}
 use Rattle.session_spec.specs.Zones.{zone_bytes}
-use Rattle.session_spec.specs.States.{OffZone, OffState, Off}
+use Rattle.session_spec.specs.States.{OffZone, OffState, LiveState, Off, Live}
+use Rattle.session_spec.specs.LiveZones.{Target}
 use Rattle.session_spec.specs.Report.{ZoneReport, zone_report}
 use Rattle.session_spec.specs.Headline.{EachOffZone}
 use Rattle.session_laws.specs.ZoneReads.{ReadsZone}
 use Rattle.grammar_spec.specs.Fields.{Text}
 use Rattle.grammar_spec.specs.Lines.{script_of}
 use Rattle.grammar_spec.specs.declared.line.Line.{Line}
-use Rattle.grammar_spec.specs.declared.line.Line.TheVariants.{Boot}
+use Rattle.grammar_spec.specs.declared.line.Line.TheVariants.{Boot, Crash}
 use Rattle.tool_spec.specs.Texts.{boot_text}
-use Rattle.tool_spec.specs.Scripts.{ran}
+use Rattle.tool_spec.specs.Scripts.{ran, dump_target, crash_body}
+use Rattle.crash_laws.specs.Lines.{AllSpare}
+use Rattle.crash_laws.specs.Listings.{Lists, crash_record}
 use Rattle.tool_spec.specs.Commands.{RunScript, Plan, OfRam, OfBlk, OfMove, mem_of}
 use Rattle.tool_spec.specs.Answers.{Outside, IfTold, front}
 use Rattle.tool_spec.specs.declared.Stop.{Stop}
@@ -51,10 +55,24 @@ BootsShown layout image lines old new = (k : ℕ) (off : OffState) → slice_get
     → (ran layout image (take k lines)).session ≡ Off off
     → PutsBoot layout off (ran layout image lines).texts k old new
 
--- of the script on the image, if both are told and good: what its boots read, and on status 0 what they put
+-- a crash, lines that leave its zone alone, and a boot stand at the front of a script: if none of them is refused, the
+-- boot lists the crash with its whole body
+abbrev pub CrashesListed : List Zone → List ℕ → List Line → Type 0
+CrashesListed layout image lines =
+    (before between rest : List Line) (reason : ℕ) (time : Time) (live : LiveState) (t : Target)
+    → lines ≡ before ++ Crash reason time ∷ [] ++ between ++ Boot ∷ [] ++ rest
+    → (ran layout image before).session ≡ Live live → dump_target layout live ≡ Some t
+    → AllSpare layout image t.zone (before ++ Crash reason time ∷ []) between
+    → (ran layout image (before ++ Crash reason time ∷ [] ++ between ++ Boot ∷ [])).refused ≡ None
+    → Lists layout (ran layout image (before ++ Crash reason time ∷ [] ++ between ++ Boot ∷ [])).session
+    (crash_record t.zone time (crash_body layout live (ran layout image before).kernel reason time))
+
+-- of the script on the image, if both are told and good: what its boots read, what they list of its crashes, and on
+-- status 0 what they put
 pub record ScriptReads (layout : List Zone) (image : List ℕ) (lines : List Line) (a b : Outside)
     (status : ℕ) : Type 0 where
   pub read : BootsRead layout image lines
+  pub crashes : CrashesListed layout image lines
   pub shown : status ≡ 0 → BootsShown layout image lines a.given b.given
 
 abbrev pub RunReads : Result Plan Stop → Outside → Outside → ℕ → Type 0

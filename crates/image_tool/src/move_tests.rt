@@ -77,6 +77,85 @@ fn a_record_that_does_not_fit_is_left(rt: HostRuntime) -> Result<(), Fail> {
     Ok(())
 }
 
+// Nine wrong bytes in a block of the console under parity: it is bad, and its bytes are moved as they stand.
+const NINE_FLIPS: &str = "boot\nwrite console 616161616161616161616161\nstop\n\
+    flip 8204 1\nflip 8205 255\nflip 8206 11\nflip 8207 81\nflip 8208 54\n\
+    flip 8209 239\nflip 8210 173\nflip 8211 200\nflip 8212 24\n";
+
+const ENTRY: &str = "010000000000000002000000000000000005000000000000";
+
+const TWO_CPUS: &str =
+    "mem_size=4096 record_size=0 console_size=0 ftrace_size=4096 pmsg_size=0 cpus=2";
+
+const ONE_CPU: &str = "mem_size=4096 record_size=0 console_size=0 ftrace_size=4096 pmsg_size=0";
+
+// What is told of each record, and what a boot then lists: to fewer dump zones, from two ftrace zones to one, a bad
+// block, and a larger and a smaller memory.
+#[test]
+fn records_follow_their_zones(rt: HostRuntime) -> Result<(), Fail> {
+    let alloc = rt.alloc();
+    let both = format!(in alloc; "boot\nwrite ftrace-0 {ENTRY}\nwrite ftrace-1 {ENTRY}\nstop\n")?;
+    let first = format!(in alloc; "boot\nwrite ftrace-0 {ENTRY}\nstop\n")?;
+    let cases = [
+        (
+            "boot\ndump 1 0 D 61\ndump 2 0 D 62\nstop\n",
+            PLAIN,
+            "mem_size=16384 record_size=8192 ftrace_size=0",
+            "move 16384 to 16384 records 2\nmoved dmesg-ramoops-0 1 corrected 0 bad 0\n\
+                left dmesg-ramoops-1 1 corrected 0 bad 0\n",
+            "records 1\ndmesg-ramoops-0 1 1.000000\n",
+        ),
+        (
+            both.as_str(),
+            TWO_CPUS,
+            ONE_CPU,
+            "move 4096 to 4096 records 1\nleft ftrace-ramoops-0 48 corrected 0 bad 0\n",
+            "records 0\n",
+        ),
+        (
+            first.as_str(),
+            TWO_CPUS,
+            ONE_CPU,
+            "move 4096 to 4096 records 1\nmoved ftrace-ramoops-0 24 corrected 0 bad 0\n",
+            "records 1\nftrace-ramoops-0 24\n",
+        ),
+        (
+            NINE_FLIPS,
+            WITH_PARITY,
+            PLAIN,
+            "move 16384 to 16384 records 1\nmoved console-ramoops-0 12 corrected 0 bad 1\n",
+            "records 1\nconsole-ramoops-0 12\n",
+        ),
+        (
+            "boot\nwrite pmsg 7071\nstop\n",
+            "mem_size=8192 record_size=0 ftrace_size=0",
+            PLAIN,
+            "move 8192 to 16384 records 1\nmoved pmsg-ramoops-0 2 corrected 0 bad 0\n",
+            "records 1\npmsg-ramoops-0 2\n",
+        ),
+        (
+            "boot\nwrite pmsg 7071\ndump 1 0 D 61\nstop\n",
+            PLAIN,
+            "mem_size=8192 record_size=0 ftrace_size=0",
+            "move 16384 to 8192 records 2\nleft dmesg-ramoops-0 1 corrected 0 bad 0\n\
+                moved pmsg-ramoops-0 2 corrected 0 bad 0\n",
+            "records 1\npmsg-ramoops-0 2\n",
+        ),
+    ];
+    for (script, from, to, told_of, list) in cases {
+        let image = told(alloc, from, script.as_bytes())?;
+        let (status, text, image) = moved(alloc, from, to, &image)?;
+        assert_eq!(rt; status, 0, "{to}");
+        assert_eq!(rt; text.as_slice(), told_of.as_bytes(), "{to}");
+        assert_eq!(rt;
+            listed(alloc, to, &image)?.as_slice(),
+            list.as_bytes(),
+            "{to}"
+        );
+    }
+    Ok(())
+}
+
 // Words and parameters at fault, by their places over all words, and the image untouched.
 #[test]
 fn both_lists_are_read_first(rt: HostRuntime) -> Result<(), Fail> {

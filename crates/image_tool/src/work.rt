@@ -14,6 +14,7 @@ use crate::moving::move_image;
 use crate::records::{erase, extract, list};
 use crate::script::run_script;
 use box_io::{Sink, Source, Store};
+use crash_laws::later_boot_lists_crash;
 use std::alloc::Global;
 use tool_frame::{Plan, RamCommand, Stop, finish, read_plan};
 use zone_params::types::Layout;
@@ -90,6 +91,7 @@ pub fn run<S: Source, M: Store, O: Sink>(
         (M.faults image.new) (O.given out.new) (O.faults out.new) in
         Runs (texts words.now) before after result }
 {
+    later_boot_lists_crash(); // a law, for the proof of what boots list of crashes
     let end = do_work(alloc, words, script, image, out);
     finish(end, out)
 }

@@ -15,6 +15,6 @@ returns-clause-runs g c =
           (record { holds = refl; store = refl }) c.do_work-end.ensures c.finish.ensures;
       answers = answers;
       complete = completes (texts c.args.words.now) _ _ _ answers;
-      reads = run_reads (asked (texts c.args.words.now)) _ _ _ _ refl (g.met.M.Store.held_bytes c.args.image.now)
+      reads = run_reads c.later_boot_lists_crash.ensures (asked (texts c.args.words.now)) _ _ _ _ refl (g.met.M.Store.held_bytes c.args.image.now)
           answers;
     }
