@@ -1,5 +1,5 @@
 // The readings that a boot saves.
-ghost use Rattle.std.specs.Prelude.{◌≡◌, ◌<◌, ◌++◌, ◌∷◌, [], length, slice_get, slice_set, Some, None, IfOk};
+ghost use Rattle.std.specs.Prelude.{◌≡◌, ◌<◌, ◌^◌, ◌++◌, ◌∷◌, [], length, slice_get, slice_set, Some, None, IfOk};
 ghost use Rattle.std.specs.Option.{option_map, option_copied};
 ghost use Rattle.zone_params.specs.Laid.{zones_of};
 ghost use Rattle.zone_spec.specs.Records.{Saved};
@@ -36,7 +36,16 @@ impl Logs {
         ensures { IfOk result (λ logs. logs ≡ record { zones = zones_of layout.now; readings = [] }) }
     {
         let _mem = layout.mem();
-        let zones = Vec::from_slice(alloc, layout.zones())?;
+        Logs::of_zones(alloc, layout.zones())
+    }
+
+    /// No reading yet, with room for those of all these zones.
+    pub fn of_zones(alloc: Global, zones: &[Zone]) -> Result<Logs, AllocError>
+        requires few { length zones.now < 2 ^ 32 }
+        requires numbered { AreNumbered zones.now }
+        ensures { IfOk result (λ logs. logs ≡ record { zones = zones.now; readings = [] }) }
+    {
+        let zones = Vec::from_slice(alloc, zones)?;
         let readings = Vec::with_capacity(alloc, zones.len())?;
         Ok(Logs { zones, readings })
     }

@@ -8,6 +8,7 @@ pub mod SeenCut
 pub mod OffSeen
 pub mod Resting
 pub mod Stopped
+pub mod Rebuilt
 pub mod Reports
 pub mod Booting
 pub mod Booted

@@ -9,15 +9,20 @@ ghost use Rattle.zone_spec.specs.Told.{Append};
 ghost use Rattle.zone_params.specs.Laid.{params_of, zones_of};
 ghost use Rattle.session_spec.specs.ZoneCalls.{begun};
 ghost use Rattle.session_spec.specs.Moved.{with_log, moved};
+ghost use Rattle.move_laws.specs.Moves.{LogsFit};
 ghost use Rattle.old_log.specs.Saving.{saved};
 ghost use Rattle.ram_core.specs.OffSeen.{StandsOff};
 ghost use Rattle.ram_core.specs.LiveSeen.{ChangesZone};
+ghost use Rattle.ram_core.specs.Rebuilt.{ReadsAsTold};
 ghost use Rattle.ram_core.specs.Refilling.{IsBlankAt, SaysBlank, RefillsNext, RefillsAll};
 
 use crate::live::dump_flight;
 use crate::zones::start;
 use crate::{Live, Off};
 use box_io::Bytes;
+use move_laws::{
+    moved_image_is_sound, moved_image_lists, moved_image_reads, moved_zones_are_told, moved_zones_read,
+};
 use old_log::{Logs, Reading};
 use std::alloc::{AllocError, Global};
 use zone_flight::Call;
@@ -126,9 +131,17 @@ impl Off {
     /// of the log that was found of the zone of its name, and a stop. A log whose name the layout has not is left away,
     /// and of one with more bytes than its zone takes the last stay.
     pub fn rebuilt(alloc: Global, layout: Layout, logs: &Logs) -> Result<Off, AllocError>
-        ensures { IfOk result (λ off. StandsOff (zones_of layout) (rounded (params_of layout).mem) off
+        ensures stands { IfOk result (λ off. StandsOff (zones_of layout) (rounded (params_of layout).mem) off
             (moved (zones_of layout) (rounded (params_of layout).mem) (saved logs.now))) }
+        ensures reads { LogsFit (zones_of layout) (saved logs.now)
+            → ReadsAsTold (zones_of layout) (rounded (params_of layout).mem) (saved logs.now) }
     {
+        let _zones = layout.zones();
+        moved_image_is_sound();
+        moved_zones_are_told();
+        moved_image_reads();
+        moved_zones_read();
+        moved_image_lists();
         let image = zeros(alloc, layout.mem())?;
         let off = Off::fresh(alloc, layout, image)?;
         let mut live = match off.boot() {

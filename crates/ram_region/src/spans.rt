@@ -181,7 +181,9 @@ impl Region {
         self.cut_zones(layout.zones())
     }
 
-    pub(crate) fn cut_zones(self, zones: &[Zone]) -> Result<Spans, (Region, AllocError)>
+    /// Cuts the region, which has room for the zones, each directly behind the one before it, into a span for each of
+    /// them. On a refusal the unchanged region comes back. The list of spans is the only memory taken.
+    pub fn cut_zones(self, zones: &[Zone]) -> Result<Spans, (Region, AllocError)>
         requires side_by_side { AreSideBySide zones.now }
         requires room { zones_end zones.now ≤ length self }
         ensures { MatchResult result (λ s. s ≡ cut_at zones.now self) (λ e. e.0 ≡ self) }

@@ -1,24 +1,22 @@
--- New logs have the layout's zones, and room for a reading of each
+-- A layout has few zones, and their numbers have 32 bits
 use Rattle.std.proofs.Common.{◌≡◌, ◌<◌, ◌^◌, ap, subst, length, arith, ◌∙◌, sym}
-use Rattle.std.specs.Prelude.{slice_get}
+use Rattle.std.specs.Prelude.{List, slice_get}
+use Rattle.zone_spec.specs.declared.Zone.{Zone}
 use Rattle.zone_params.specs.Laid.{zones_of}
+use Rattle.old_log.specs.Saving.{AreNumbered}
 use Rattle.old_log.proofs.Saves.{layout-few}
 use Rattle.old_log.proofs.Numbered.{numbers-small}
 use Rattle.old_log.proofs.logs.Logs.new.Goals as goal
 
-pub invariant_of-result : goal.invariant_of-result
-invariant_of-result c =
-    let none = ap length c.in_ok-readings.ensures.items in
-    let same = ap length c.in_ok-zones.ensures.items in
+pub of_zones-requires-clause-few : goal.of_zones-requires-clause-few
+of_zones-requires-clause-few c =
     let few = layout-few c.zones.result.now _ c.zones.ensures.laid_out in
-    let is : c.in_ok-zones.zones.items ≡ zones_of c.args.layout.now =
-    c.in_ok-zones.ensures.items ∙ c.zones.ensures.value in
-    let short : length c.in_ok-zones.zones.items < 2 ^ 32 =
-    (let m = c.mem-mem.ensures in let t = c.mem-mem.type_inv in grind (arith, few, same, m, t)) in
-    record {
-      below = omega (arith, none);
-      room = grind (arith, c.in_ok-readings.ensures.capacity, c.len.ensures, c.in_ok-zones.zones.ok);
-      few = short;
-      numbered = λ k z e. numbers-small c.args.layout.now.params (zones_of c.args.layout.now) c.args.layout.now.laid
-          (let long = ap length is in omega (arith, long, short)) k z (ap (λ zs. slice_get zs k) (sym is) ∙ e);
-    }
+    (let m = c.mem-mem.ensures in let t = c.mem-mem.type_inv in grind (arith, few, m, t))
+
+pub of_zones-requires-clause-numbered : goal.of_zones-requires-clause-numbered
+of_zones-requires-clause-numbered c =
+    let few = layout-few c.zones.result.now _ c.zones.ensures.laid_out in
+    let same : c.zones.result.now ≡ zones_of c.args.layout.now = c.zones.ensures.value in
+    subst AreNumbered (sym same) (numbers-small c.args.layout.now.params (zones_of c.args.layout.now)
+        c.args.layout.now.laid (let long = ap length same in
+        (let m = c.mem-mem.ensures in let t = c.mem-mem.type_inv in grind (arith, long, few, m, t))))
