@@ -21,7 +21,8 @@ use crate::zones::start;
 use crate::{Live, Off};
 use box_io::Bytes;
 use move_laws::{
-    moved_image_is_sound, moved_image_lists, moved_image_reads, moved_zones_are_told, moved_zones_read,
+    moved_image_is_sound, moved_image_lists, moved_image_reads, moved_zones_are_told,
+    moved_zones_read,
 };
 use old_log::{Logs, Reading};
 use std::alloc::{AllocError, Global};
@@ -133,8 +134,8 @@ impl Off {
     pub fn rebuilt(alloc: Global, layout: Layout, logs: &Logs) -> Result<Off, AllocError>
         ensures stands { IfOk result (λ off. StandsOff (zones_of layout) (rounded (params_of layout).mem) off
             (moved (zones_of layout) (rounded (params_of layout).mem) (saved logs.now))) }
-        ensures reads { LogsFit (zones_of layout) (saved logs.now)
-            → ReadsAsTold (zones_of layout) (rounded (params_of layout).mem) (saved logs.now) }
+        ensures reads { IfOk result (λ _. LogsFit (zones_of layout) (saved logs.now)
+            → ReadsAsTold (zones_of layout) (rounded (params_of layout).mem) (saved logs.now)) }
     {
         let _zones = layout.zones();
         moved_image_is_sound();

@@ -18,5 +18,5 @@ of_zones-requires-clause-numbered c =
     let few = layout-few c.zones.result.now _ c.zones.ensures.laid_out in
     let same : c.zones.result.now ≡ zones_of c.args.layout.now = c.zones.ensures.value in
     subst AreNumbered (sym same) (numbers-small c.args.layout.now.params (zones_of c.args.layout.now)
-        c.args.layout.now.laid (let long = ap length same in
-        (let m = c.mem-mem.ensures in let t = c.mem-mem.type_inv in grind (arith, long, few, m, t))))
+    c.args.layout.now.laid (let long = ap length same in
+    (let m = c.mem-mem.ensures in let t = c.mem-mem.type_inv in grind (arith, long, few, m, t))))
