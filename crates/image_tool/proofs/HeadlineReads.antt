@@ -43,7 +43,7 @@ use Rattle.box_script.proofs.Inside.{read_fields}
 use Rattle.tool_spec.specs.Ends.{End}
 use Rattle.tool_spec.specs.Texts.{boot_text}
 use Rattle.tool_spec.specs.Scripts.{Kernel, new_kernel, Done, Ran, ran, store_line, line_done}
-use Rattle.tool_spec.specs.Commands.{Asked, RamCommand, RunScript, Command, OnRam, RunBlkScript, MoveImage, RamPlan, Laid, Plan, OfRam, OfBlk, OfMove, Wanted, planned, laid_out, with_params, with_layout, with_blk_params, with_blk_layout, with_first_params, with_second_params, with_first_layout, with_second_layout, mem_of, wanted, wanted_run, wanted_lines, script_limit, script_end, stops}
+use Rattle.tool_spec.specs.Commands.{Asked, RamCommand, RunScript, Command, OnRam, RunBlkScript, MoveImage, RamPlan, MovePlan, Laid, Plan, OfRam, OfBlk, OfMove, Wanted, planned, laid_out, with_params, with_layout, with_blk_params, with_blk_layout, with_first_params, with_second_params, with_first_layout, with_second_layout, mem_of, wanted, wanted_run, wanted_lines, script_limit, script_end, stops}
 use Rattle.tool_spec.specs.Answers.{Outside, whole, RunAnswers}
 use Rattle.tool_spec.specs.PlanAnswers.{RamAnswers, ToolAnswers}
 use Rattle.tool_spec.specs.declared.Cause.{Cause}
@@ -54,6 +54,7 @@ use Rattle.tool_frame.proofs.Script.{run_wanted}
 use Rattle.tool_laws.proofs.Sound.{states_sound}
 use Rattle.crash_laws.specs.Listings.{LaterBootListsCrash}
 use Rattle.crash_laws.proofs.Scripts.{left_fields}
+use Rattle.image_tool.proofs.MoveReads.{IsLaidMove, move_reads}
 use Rattle.image_tool.specs.Headline.{BootsRead, ShowsBoot, CrashesListed, BootsShown, RunReads}
 
 -- ---- numbers of parameters are small
@@ -265,11 +266,73 @@ crashes_listed law layout mem image lines lies size bytes fit before between res
     law layout mem image before between reason time live t lies size bytes
     (left_fields front (Boot ∷ []) (left_fields (front ++ Boot ∷ []) rest fields)) at to spare none
 
+-- ---- the zones of a move's plan are two layouts
+
+second_move : (plan : MovePlan) (from : Laid) (to : Params) (o : Result (List Zone) LayoutFault) → layout_of to ≡ o
+    → layout_of from.params ≡ Ok from.zones → to.ftrace_sig < 2 ^ 32 → with_second_layout from to o ≡ Ok (OfMove plan)
+    → IsLaidMove plan
+second_move plan from to (Ok zones) e first small h =
+    let same : record { from = from; to = record { params = to; zones = zones } } ≡ plan = cc in
+    subst IsLaidMove same (record { from = first; to = e; small = small })
+second_move plan from to (Err fault) e first small h = absurd (cc)
+
+first_move : (plan : MovePlan) (from to : Params) (o : Result (List Zone) LayoutFault) → layout_of from ≡ o
+    → to.ftrace_sig < 2 ^ 32 → with_first_layout from to o ≡ Ok (OfMove plan) → IsLaidMove plan
+first_move plan from to (Ok zones) e small h =
+    second_move plan (record { params = from; zones = zones }) to (layout_of to) refl e small h
+first_move plan from to (Err fault) e small h = absurd (cc)
+
+second_words : (plan : MovePlan) (from : Params) (before : ℕ) (words : List Text) (o : Option ParamFault)
+    → with_second_params from before (ok_unless o (params_of words)) ≡ Ok (OfMove plan) → IsLaidMove plan
+second_words plan from before words None h = first_move plan from (params_of words) (layout_of from) refl
+    (given_small keys words (codes "ftrace_sig")) h
+second_words plan from before words (Some fault) h = absurd (cc)
+
+first_words : (plan : MovePlan) (second before : ℕ) (to words : List Text) (o : Option ParamFault)
+    → with_first_params second to before (ok_unless o (params_of words)) ≡ Ok (OfMove plan) → IsLaidMove plan
+first_words plan second before to words None h =
+    second_words plan (params_of words) second to (first_fault [] to) h
+first_words plan second before to words (Some fault) h = absurd (cc)
+
+-- a command on an image is no move, and no script on the block store is
+ram_laid : (command : RamCommand) (params : Params) (plan : MovePlan) (o : Result (List Zone) LayoutFault)
+    → with_layout command params o ≡ Ok (OfMove plan) → ⊥
+ram_laid command params plan (Ok zones) h = absurd (cc)
+ram_laid command params plan (Err fault) h = absurd (cc)
+
+ram_words : (command : RamCommand) (before : ℕ) (words : List Text) (plan : MovePlan) (o : Option ParamFault)
+    → with_params command before (ok_unless o (params_of words)) ≡ Ok (OfMove plan) → ⊥
+ram_words command before words plan None h = ram_laid command (params_of words) plan (layout_of (params_of words)) h
+ram_words command before words plan (Some fault) h = absurd (cc)
+
+blk_move : (plan : MovePlan) (o : Result BlkLayout LayoutFault) → with_blk_layout o ≡ Ok (OfMove plan) → ⊥
+blk_move plan (Ok layout) h = absurd (cc)
+blk_move plan (Err fault) h = absurd (cc)
+
+blk_words : (before : ℕ) (words : List Text) (plan : MovePlan) (o : Option ParamFault)
+    → with_blk_params before (ok_unless o (blk_params_of words)) ≡ Ok (OfMove plan) → ⊥
+blk_words before words plan None h = blk_move plan (blk_layout_of (blk_params_of words)) h
+blk_words before words plan (Some fault) h = absurd (cc)
+
+move_laid : (c : Command) (before : ℕ) (words : List Text) (plan : MovePlan)
+    → laid_out c before words ≡ Ok (OfMove plan) → IsLaidMove plan
+move_laid (OnRam command) before words plan h = absurd (ram_words command before words plan (first_fault [] words) h)
+move_laid RunBlkScript before words plan h = absurd (blk_words before words plan (blk_first_fault [] words) h)
+move_laid (MoveImage to) before words plan h =
+    first_words plan (before + length words + 1) before to words (first_fault [] words) h
+
+planned_move : (o : Option Asked) (plan : MovePlan) → planned o ≡ Ok (OfMove plan) → IsLaidMove plan
+planned_move None plan h = absurd (cc)
+planned_move (Some a) plan h = move_laid a.command a.before a.params plan h
+
+-- ---- the run
+
 pub run_reads : LaterBootListsCrash → (o : Option Asked) (r : Result Plan Stop) (a b : Outside) (status : ℕ)
     → planned o ≡ r → IfSome a.holds AreBytes → ToolAnswers r a b status → RunReads r a b status
 run_reads law o (Err s) a b status e held answers = tt
 run_reads law o (Ok (OfBlk layout)) a b status e held answers = tt
-run_reads law o (Ok (OfMove plan)) a b status e held answers = tt
+run_reads law o (Ok (OfMove plan)) a b status e held answers =
+    move_reads plan a b status (planned_move o plan e) held answers.0
 run_reads law o (Ok (OfRam plan)) a b status e held answers = λ is. record {
   told = λ bytes script holds left lines long good.
       let lies = planned_whole o plan e in

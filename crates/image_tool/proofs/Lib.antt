@@ -8,3 +8,4 @@ pub mod ScriptEnds
 pub mod WorkEnds
 pub mod Completed
 pub mod MoveEnds
+pub mod MoveReads

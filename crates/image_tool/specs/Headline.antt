@@ -1,4 +1,4 @@
--- What every boot of a run's script reads, reports and puts
+-- What every boot of a run's script reads, reports and puts, and what one lists after a move
 use Rattle.std.specs.Prelude.{◌≡◌, ⊤, ℕ, ◌≤◌, List, [], ◌∷◌, ◌++◌, length, take, slice_get, Option, Some, None, Result, Ok, Err}
 use Rattle.std.specs.Io.KnownBytes.{Appends}
 use Rattle.zone_spec.specs.declared.Zone.{Zone}
@@ -20,8 +20,9 @@ use Rattle.tool_spec.specs.Scripts.{ran, dump_target, crash_body}
 use Rattle.crash_laws.specs.Lines.{AllSpare}
 use Rattle.crash_laws.specs.Listings.{Lists, crash_record}
 use Rattle.tool_spec.specs.Commands.{RunScript, Plan, OfRam, OfBlk, OfMove, mem_of}
-use Rattle.tool_spec.specs.Answers.{Outside, IfTold, front}
+use Rattle.tool_spec.specs.Answers.{Outside, IfHolds, IfTold, front}
 use Rattle.tool_spec.specs.declared.Stop.{Stop}
+use Rattle.image_tool.specs.Moves.{Moves}
 
 -- after each line of a script, if the machine is then off, the next boot reads of each zone what it must: the headline,
 -- and all else that is said of a boot
@@ -75,10 +76,11 @@ pub record ScriptReads (layout : List Zone) (image : List ℕ) (lines : List Lin
   pub crashes : CrashesListed layout image lines
   pub shown : status ≡ 0 → BootsShown layout image lines a.given b.given
 
+-- and of a move that is done, what a boot then lists and reads
 abbrev pub RunReads : Result Plan Stop → Outside → Outside → ℕ → Type 0
 RunReads (Ok (OfRam plan)) a b status = plan.command ≡ RunScript → IfTold a
     (λ bytes script. (lines : List Line) → mem_of plan ≤ length bytes → script_of script ≡ Ok lines
     → ScriptReads plan.zones (take (mem_of plan) bytes) lines a b status)
 RunReads (Ok (OfBlk layout)) a b status = ⊤
-RunReads (Ok (OfMove plan)) a b status = ⊤
+RunReads (Ok (OfMove plan)) a b status = status ≡ 0 → IfHolds a (λ bytes. Moves plan bytes b)
 RunReads (Err s) a b status = ⊤

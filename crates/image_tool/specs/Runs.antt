@@ -15,5 +15,5 @@ pub record Runs (words : List Text) (a b : Outside) (status : ℕ) : Type 0 wher
   pub answers : ToolAnswers (plan_of words) a b status
   -- if nothing is refused and nothing failed, all is done, or memory is out
   pub complete : Completes words a b status
-  -- what each boot of a script reads, and the text that it puts
+  -- what each boot of a script reads, and the text that it puts; what a boot lists after a move
   pub reads : RunReads (plan_of words) a b status
