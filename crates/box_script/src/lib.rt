@@ -8,7 +8,7 @@ mod printing;
 mod reading;
 mod rows;
 
-pub use fields::number;
+pub use fields::{number, zone};
 pub use grammar_spec::Line;
 pub use lines::Lines;
 pub use printing::{print, printed_is_read};

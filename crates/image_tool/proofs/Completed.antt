@@ -4,7 +4,7 @@ use Rattle.blk_spec.specs.declared.BlkLayout.{BlkLayout}
 use Rattle.grammar_spec.specs.Fields.{Text}
 use Rattle.grammar_spec.specs.declared.line.Line.{Line}
 use Rattle.tool_spec.specs.Ends.{End, status_of}
-use Rattle.tool_spec.specs.Commands.{RamCommand, RunScript, ListRecords, ExtractRecord, EraseRecord, ShowLayout, BlankImage, MakeImage, RamPlan, Plan, OfRam, OfBlk, OfMove, Wanted, wanted, wanted_move, plan_of}
+use Rattle.tool_spec.specs.Commands.{RamCommand, RunScript, ListRecords, ExtractRecord, EraseRecord, ShowLayout, BlankImage, MakeImage, FindRings, ReadRing, RamPlan, Plan, OfRam, OfBlk, OfMove, Wanted, wanted, wanted_move, plan_of}
 use Rattle.tool_spec.specs.Answers.{Outside, RoseFor, IsFree, Answers}
 use Rattle.tool_spec.specs.BlkAnswers.{blk_lines, LinesOrStopAnswers}
 use Rattle.tool_spec.specs.PlanAnswers.{RamAnswers, ToolAnswers}
@@ -51,6 +51,12 @@ module _ (a b : Outside) (status : ℕ) (script_ok : RoseFor ScriptFault a b →
   ram_done (MakeImage n) plan is h bytes script tells done =
       let same : wanted plan bytes script ≡ wanted plan [] [] = rw is refl in
       exact_done (wanted plan [] []).end h.whole.exact (rw same at done)
+  ram_done FindRings plan is h bytes script tells done =
+      let same : wanted plan bytes script ≡ wanted plan bytes [] = rw is refl in
+      exact_done (wanted plan bytes []).end (h.whole.told bytes tells).exact (rw same at done)
+  ram_done (ReadRing at name) plan is h bytes script tells done =
+      let same : wanted plan bytes script ≡ wanted plan bytes [] = rw is refl in
+      exact_done (wanted plan bytes []).end (h.whole.told bytes tells).exact (rw same at done)
 
   no_stop : (s : Stop) → (let e : End = Err s in e) ≡ Ok tt → Done
   no_stop s e = absurd (cc)

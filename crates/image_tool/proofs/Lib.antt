@@ -8,4 +8,6 @@ pub mod ScriptEnds
 pub mod WorkEnds
 pub mod Completed
 pub mod MoveEnds
+pub mod DumpEnds
+pub mod RingTexts
 pub mod MoveReads

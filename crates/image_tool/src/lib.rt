@@ -7,6 +7,7 @@ mod layout_text;
 mod making;
 mod moving;
 mod records;
+mod salvaging;
 mod script;
 mod stores;
 mod work;

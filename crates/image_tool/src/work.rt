@@ -12,6 +12,7 @@ use crate::images::{blank, show_layout};
 use crate::making::make;
 use crate::moving::move_image;
 use crate::records::{erase, extract, list};
+use crate::salvaging::{rescue, salvage};
 use crate::script::run_script;
 use box_io::{Sink, Source, Store};
 use crash_laws::later_boot_lists_crash;
@@ -42,6 +43,8 @@ fn do_command<S: Source, M: Store, O: Sink>(
         RamCommand::Layout => show_layout(alloc, &layout, out),
         RamCommand::Blank => blank(image, layout.mem()),
         RamCommand::Make(n) => make(alloc, layout, n, image, out),
+        RamCommand::Salvage => salvage(alloc, layout, image, out),
+        RamCommand::Rescue(at, name) => rescue(alloc, layout, at, name, image, out),
     }
 }
 

@@ -3,7 +3,7 @@ use Rattle.std.proofs.Common.{◌≡◌, ◌≢◌, ◌⊎◌, true, false, ℕ,
 use Rattle.std.specs.Io.KnownBytes.{Appends}
 use Rattle.blk_spec.specs.declared.BlkLayout.{BlkLayout}
 use Rattle.tool_spec.specs.Ends.{End, status_of, last_line}
-use Rattle.tool_spec.specs.Commands.{RamCommand, RunScript, ListRecords, ExtractRecord, EraseRecord, ShowLayout, BlankImage, MakeImage, RamPlan, Plan, OfRam, OfBlk, OfMove, Wanted, wanted, wanted_of_image, wanted_move, mem_of}
+use Rattle.tool_spec.specs.Commands.{RamCommand, RunScript, ListRecords, ExtractRecord, EraseRecord, ShowLayout, BlankImage, MakeImage, FindRings, ReadRing, RamPlan, Plan, OfRam, OfBlk, OfMove, Wanted, wanted, wanted_of_image, wanted_move, mem_of}
 use Rattle.tool_spec.specs.Answers.{Outside, NoScript, NoImage, RoseFor, FaultAnswers}
 use Rattle.tool_spec.specs.BlkAnswers.{blk_lines}
 use Rattle.tool_spec.specs.PlanAnswers.{PlanAnswers, ToolAnswers, ram_statuses, statuses, IsAmong, Untouched, WritesLast}
@@ -30,6 +30,8 @@ ram_can_want (EraseRecord name) = refl
 ram_can_want ShowLayout = refl
 ram_can_want BlankImage = refl
 ram_can_want (MakeImage n) = refl
+ram_can_want FindRings = refl
+ram_can_want (ReadRing at name) = refl
 
 ram_can_fail : (c : RamCommand) → IsAmong (ram_statuses c) 7
 ram_can_fail RunScript = refl
@@ -39,6 +41,8 @@ ram_can_fail (EraseRecord name) = refl
 ram_can_fail ShowLayout = refl
 ram_can_fail BlankImage = refl
 ram_can_fail (MakeImage n) = refl
+ram_can_fail FindRings = refl
+ram_can_fail (ReadRing at name) = refl
 
 can_fail : (plan : Plan) → IsAmong (statuses plan) 7
 can_fail (OfRam plan) = ram_can_fail plan.command
@@ -54,6 +58,8 @@ can_end (EraseRecord name) plan a b e h = h.can
 can_end ShowLayout plan a b e h = h.can
 can_end BlankImage plan a b e h = h.can
 can_end (MakeImage n) plan a b e h = h.can
+can_end FindRings plan a b e h = h.can
+can_end (ReadRing at name) plan a b e h = h.can
 
 blk_can : (layout : BlkLayout) (e : End) (holds holds' : Option (List ℕ)) → KeptBefore holds holds' e
     → IsAmong (statuses (OfBlk layout)) (status_of e)
@@ -207,6 +213,8 @@ ram_memory (MakeImage n) plan a b h = record {
   image_fault = tt;
   text_first = inl h.image;
 }
+ram_memory FindRings plan a b h = read_memory _ (wanted_of_image plan) a b (ram_can_want plan.command) h
+ram_memory (ReadRing at name) plan a b h = read_memory _ (wanted_of_image plan) a b (ram_can_want plan.command) h
 
 memory_ends : (plan : Plan) (a b : Outside) → Nothing a b → PlanEnds plan a b (Err Memory)
 memory_ends (OfRam plan) a b h = ram_memory plan.command plan a b h

@@ -1,8 +1,8 @@
 -- How the stages of a command that reads the image, and no script, end it
-use Rattle.std.proofs.Common.{◌≡◌, ℕ, ◌<◌, ◌≤◌, List, [], length, take, Option, Err, IfSome, refl, sym, ◌∙◌, arith, inl, true, false, true≢false, nat_lt}
+use Rattle.std.proofs.Common.{◌≡◌, ℕ, ◌<◌, ◌≤◌, List, [], length, take, Option, Err, IfSome, refl, sym, ap, ◌∙◌, arith, inl, true, false, true≢false, nat_lt}
 use Rattle.std.proofs.lemmas.Bool.Decides.{nat_tests}
 use Rattle.tool_spec.specs.Ends.{End}
-use Rattle.tool_spec.specs.Commands.{RamCommand, RunScript, ListRecords, ExtractRecord, EraseRecord, ShowLayout, BlankImage, MakeImage, RamPlan, wanted, wanted_of, reads_image, mem_of, stops}
+use Rattle.tool_spec.specs.Commands.{RamCommand, RunScript, ListRecords, ExtractRecord, EraseRecord, ShowLayout, BlankImage, MakeImage, FindRings, ReadRing, RamPlan, wanted, wanted_of, reads_image, front_of, mem_of, stops}
 use Rattle.tool_spec.specs.Answers.{Outside, IfHolds}
 use Rattle.tool_spec.specs.PlanAnswers.{ram_statuses, IsAmong}
 use Rattle.tool_spec.specs.declared.Stop.{Stop}
@@ -21,10 +21,25 @@ short_wanted : (plan : RamPlan) (c : RamCommand) (bytes : List ℕ) → plan.com
     → length bytes < mem_of plan → wanted plan bytes [] ≡ stops (Short (length bytes) (mem_of plan))
 short_wanted plan c bytes is reads h = rw (is, reads, nat_lt-true h) refl
 
+-- a command that reads an image takes that and no more
+front_is : (plan : RamPlan) (c : RamCommand) → reads_image c ≡ true → front_of c plan ≡ mem_of plan
+front_is plan RunScript reads = refl
+front_is plan ListRecords reads = refl
+front_is plan (ExtractRecord name) reads = refl
+front_is plan (EraseRecord name) reads = refl
+front_is plan ShowLayout reads = absurd (true≢false (sym reads))
+front_is plan BlankImage reads = absurd (true≢false (sym reads))
+front_is plan (MakeImage n) reads = absurd (true≢false (sym reads))
+front_is plan FindRings reads = absurd (true≢false (sym reads))
+front_is plan (ReadRing at name) reads = absurd (true≢false (sym reads))
+
 image_wanted : (plan : RamPlan) (c : RamCommand) (bytes : List ℕ) → plan.command ≡ c → reads_image c ≡ true
     → mem_of plan ≤ length bytes → wanted plan bytes [] ≡ wanted_of plan.params plan.zones (take (mem_of plan) bytes)
     [] c
-image_wanted plan c bytes is reads h = rw (is, reads, nat_lt-false h) refl
+image_wanted plan c bytes is reads h =
+    let e : wanted plan bytes [] ≡ wanted_of plan.params plan.zones (take (front_of c plan) bytes) [] c =
+    rw (is, reads, nat_lt-false h) refl in
+    e ∙ ap (λ (n : ℕ). wanted_of plan.params plan.zones (take n bytes) [] c) (front_is plan c reads)
 
 stop_short : (plan : RamPlan) (c : RamCommand) (a b : Outside) (has needed : ℕ) → plan.command ≡ c → reads_image c ≡ true
     → Quiet a b → (needed ≡ mem_of plan) × (has < mem_of plan) × IfSome a.holds (λ bs. has ≡ length bs)
@@ -64,6 +79,8 @@ can_read (EraseRecord name) reads = (refl, refl, refl)
 can_read ShowLayout reads = absurd (true≢false (sym reads))
 can_read BlankImage reads = absurd (true≢false (sym reads))
 can_read (MakeImage n) reads = absurd (true≢false (sym reads))
+can_read FindRings reads = absurd (true≢false (sym reads))
+can_read (ReadRing at name) reads = absurd (true≢false (sym reads))
 
 pub load_can : (plan : RamPlan) (c : RamCommand) (s : Stop) (mem : ℕ) (holds : Option (List ℕ)) (f g : ℕ)
     → plan.command ≡ c → reads_image c ≡ true → LoadStop s mem holds f g → CanEnd plan (Err s)

@@ -4,7 +4,7 @@ use Rattle.std.specs.Io.KnownBytes.{Appends, IsAtEnd}
 use Rattle.grammar_spec.specs.Lines.{script_of}
 use Rattle.grammar_spec.specs.Fields.{Text}
 use Rattle.tool_spec.specs.Ends.{End, status_of, last_line}
-use Rattle.tool_spec.specs.Commands.{RamCommand, RunScript, ListRecords, ExtractRecord, EraseRecord, ShowLayout, BlankImage, MakeImage, RamPlan, Wanted, wanted, wanted_of_image, mem_of, script_limit}
+use Rattle.tool_spec.specs.Commands.{RamCommand, RunScript, ListRecords, ExtractRecord, EraseRecord, ShowLayout, BlankImage, MakeImage, FindRings, ReadRing, RamPlan, Wanted, wanted, wanted_of_image, mem_of, script_limit}
 use Rattle.tool_spec.specs.Answers.{Outside, NoScript, NoImage, RoseFor, PutsAll, IsFree, SavedInPart, ShortAnswers, ScriptAnswers, ScriptUse, ScriptRead, RunAnswers, ImageAnswers, ReadAnswers, MakeAnswers, whole}
 use Rattle.tool_spec.specs.PlanAnswers.{ram_statuses, RamAnswers}
 use Rattle.tool_frame.specs.Ends.{LastPut, Finished}
@@ -444,6 +444,9 @@ module _ (a m b : Outside) (on : GoesOn a m b) (status : ℕ) where
   }
   ram_answers BlankImage plan e c h f = make_answers plan e c h f
   ram_answers (MakeImage n) plan e c h f = make_answers plan e c h f
+  ram_answers FindRings plan e c h f = read_answers (ram_statuses plan.command) (wanted_of_image plan) e c h f
+  ram_answers (ReadRing at name) plan e c h f =
+      read_answers (ram_statuses plan.command) (wanted_of_image plan) e c h f
 
 -- ---- work that nothing has come of
 

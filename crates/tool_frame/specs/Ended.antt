@@ -7,7 +7,7 @@ use Rattle.grammar_spec.specs.Fields.{Text}
 use Rattle.grammar_spec.specs.Lines.{script_of}
 use Rattle.grammar_spec.specs.declared.line.Line.{Line}
 use Rattle.tool_spec.specs.Ends.{End, status_of}
-use Rattle.tool_spec.specs.Commands.{RamCommand, RunScript, ListRecords, ExtractRecord, EraseRecord, ShowLayout, BlankImage, MakeImage, RamPlan, Plan, OfRam, OfBlk, OfMove, Wanted, wanted, wanted_of_image, wanted_move, mem_of, stops, script_limit}
+use Rattle.tool_spec.specs.Commands.{RamCommand, RunScript, ListRecords, ExtractRecord, EraseRecord, ShowLayout, BlankImage, MakeImage, FindRings, ReadRing, RamPlan, Plan, OfRam, OfBlk, OfMove, Wanted, wanted, wanted_of_image, wanted_move, mem_of, stops, script_limit}
 use Rattle.tool_spec.specs.Answers.{Outside, IfHolds, IfLeft, IfTold, NoScript, NoImage, Later, front, whole, WritesAll, WritesSome, PutsAll}
 use Rattle.tool_spec.specs.BlkAnswers.{blk_lines, BlkStop, AllDone}
 use Rattle.tool_spec.specs.PlanAnswers.{ram_statuses, statuses, IsAmong, WritesLast}
@@ -185,6 +185,8 @@ RamEnds (EraseRecord name) plan a b e = RamImageEnds plan a b e
 RamEnds ShowLayout plan a b e = ShowEnds plan a b e
 RamEnds BlankImage plan a b e = MakeEnds plan a b e
 RamEnds (MakeImage n) plan a b e = MakeEnds plan a b e
+RamEnds FindRings plan a b e = RamReadEnds plan a b e
+RamEnds (ReadRing at name) plan a b e = RamReadEnds plan a b e
 
 abbrev pub PlanEnds : Plan → Outside → Outside → End → Type 0
 PlanEnds (OfRam plan) a b e = RamEnds plan.command plan a b e

@@ -6,11 +6,11 @@ use Rattle.blk_spec.specs.Layout.{IsLayout}
 use Rattle.zone_params.specs.declared.types.Layout.{Layout}
 use Rattle.zone_params.specs.Laid.{params_of, zones_of}
 use Rattle.grammar_spec.specs.Fields.{Text}
-use Rattle.tool_spec.specs.Commands.{RamCommand, RunScript, ListRecords, ExtractRecord, EraseRecord, ShowLayout, BlankImage, MakeImage, Command, OnRam, RunBlkScript, MoveImage, Asked, RamPlan, Laid, MovePlan, Plan, OfRam, OfBlk, OfMove}
+use Rattle.tool_spec.specs.Commands.{RamCommand, RunScript, ListRecords, ExtractRecord, EraseRecord, ShowLayout, BlankImage, MakeImage, FindRings, ReadRing, Command, OnRam, RunBlkScript, MoveImage, Asked, RamPlan, Laid, MovePlan, Plan, OfRam, OfBlk, OfMove}
 use Rattle.tool_spec.specs.declared.Stop.{Stop}
 use Rattle.tool_spec.specs.declared.Stop.TheVariants.{Memory, ScriptFault, ImageFault, SinkFault}
 use Rattle.tool_frame.specs.declared.words.RamCommand.{RamCommand as ReadRamCommand}
-use Rattle.tool_frame.specs.declared.words.RamCommand.TheVariants.{Run, List as ListCommand, Extract, Erase, Layout as LayoutCommand, Blank, Make}
+use Rattle.tool_frame.specs.declared.words.RamCommand.TheVariants.{Run, List as ListCommand, Extract, Erase, Layout as LayoutCommand, Blank, Make, Salvage, Rescue}
 use Rattle.tool_frame.specs.declared.asked.Command.{Command as ReadCommand}
 use Rattle.tool_frame.specs.declared.asked.Command.TheVariants.{OnRam as OnRamRead, RunBlk, Move as MoveRead}
 use Rattle.tool_frame.specs.declared.asked.Asked.{Asked as ReadAsked}
@@ -28,6 +28,8 @@ ram_command_seen (Erase name) = EraseRecord name.now
 ram_command_seen LayoutCommand = ShowLayout
 ram_command_seen Blank = BlankImage
 ram_command_seen (Make n) = MakeImage n
+ram_command_seen Salvage = FindRings
+ram_command_seen (Rescue at name) = ReadRing at name
 
 abbrev pub command_seen : ReadCommand → Command
 command_seen (OnRamRead command) = OnRam (ram_command_seen command)

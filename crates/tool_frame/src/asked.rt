@@ -19,5 +19,5 @@ pub struct Asked<'a> {
     pub command: Command<'a>,
     pub before: u32,
     pub params: &'a [String],
-    ghost few: { before < 4 },
+    ghost few: { before < 5 },
 }

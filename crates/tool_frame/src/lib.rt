@@ -7,6 +7,6 @@ mod stages;
 mod words;
 
 pub use ending::finish;
-pub use stages::{check_size, fill, lines, load, read_script, save};
+pub use stages::{check_size, fill, lines, load, load_front, read_script, save};
 pub use tool_spec::{Cause, Stop};
 pub use words::{Plan, RamCommand, read_plan};

@@ -5,7 +5,7 @@ ghost use Rattle.box_io.specs.Outside.{HasCause, Writes, WritesFront};
 ghost use Rattle.grammar_spec.specs.Lines.{script_of};
 ghost use Rattle.grammar_spec.specs.Printed.{AllHaveFields};
 ghost use Rattle.tool_spec.specs.Commands.{script_limit};
-ghost use Rattle.tool_frame.specs.Stages.{ScriptStop, SizeStop, LoadStop, ParseStop};
+ghost use Rattle.tool_frame.specs.Stages.{ScriptStop, SizeStop, FrontStop, LoadStop, ParseStop};
 
 use crate::Stop;
 use box_io::{Failed, Sink, Source, Store};
@@ -41,12 +41,12 @@ pub fn read_script<S: Source>(alloc: Global, script: &mut S) -> Result<Vec<u8>, 
     }
 }
 
-// Reads the first `mem` bytes in rising pieces.
+// Reads the first `mem` bytes in rising pieces. The store has as many.
 #[tactic(auto, using(crate::proofs::Pieces::piece_read))]
 fn read_pieces<M: Store>(alloc: Global, image: &mut M, mem: u32) -> Result<Vec<u8>, Stop>
     requires { IfSome (M.holds image.old) (λ bs. mem ≤ length bs) }
     ensures ok { IfOk result (λ v. (vec_len v ≡ mem) × IfSome (M.holds image.old) (λ bs. v.items ≡ take mem bs)) }
-    ensures err { IfErr result (λ s. LoadStop s mem (M.holds image.old) (M.faults image.old) (M.faults image.new)) }
+    ensures err { IfErr result (λ s. FrontStop s (M.faults image.old) (M.faults image.new)) }
     ensures same { M.holds image.new ≡ M.holds image.old }
     ensures later { M.faults image.old ≤ M.faults image.new }
 {
@@ -80,7 +80,7 @@ pub fn check_size<M: Store>(image: &mut M, mem: u32) -> Result<(), Stop>
 }
 
 /// Reads an image of `mem` bytes from the front of a store.
-#[tactic(auto, using(crate::proofs::Sizes::size_load))]
+#[tactic(auto, using(crate::proofs::Sizes::size_load, crate::proofs::Sizes::front_load))]
 pub fn load<M: Store>(alloc: Global, image: &mut M, mem: u32) -> Result<Vec<u8>, Stop>
     ensures ok { IfOk result (λ v. (vec_len v ≡ mem) × IfSome (M.holds image.old)
         (λ bs. (mem ≤ length bs) × (v.items ≡ take mem bs))) }
@@ -91,6 +91,19 @@ pub fn load<M: Store>(alloc: Global, image: &mut M, mem: u32) -> Result<Vec<u8>,
     match check_size(image, mem) {
         Ok(()) => read_pieces(alloc, image, mem),
         Err(stop) => Err(stop),
+    }
+}
+
+/// Reads the first bytes of a store, `limit` at most, however many it has.
+pub fn load_front<M: Store>(alloc: Global, image: &mut M, limit: u32) -> Result<Vec<u8>, Stop>
+    ensures ok { IfOk result (λ v. (vec_len v ≤ limit) × IfSome (M.holds image.old) (λ bs. v.items ≡ take limit bs)) }
+    ensures err { IfErr result (λ s. FrontStop s (M.faults image.old) (M.faults image.new)) }
+    ensures same { M.holds image.new ≡ M.holds image.old }
+    ensures later { M.faults image.old ≤ M.faults image.new }
+{
+    match image.size() {
+        Ok(has) => read_pieces(alloc, image, has.min(u64::from(limit)) as u32),
+        Err(Failed) => Err(Stop::ImageFault),
     }
 }
 

@@ -1,6 +1,6 @@
 // The words of the command line.
 ghost use Rattle.std.specs.Prelude.{◌≡◌, ◌<◌, position, string_bytes, [], ◌∷◌, MatchResult, MatchOption, None, Some, Ok, IfOk, IfErr};
-ghost use Rattle.tool_spec.specs.Commands.{OnRam, RunBlkScript, MoveImage, is_to, with_to, asked, asked_by, with_name, with_number, with_first_layout, laid_out, plan_of, ExtractRecord, EraseRecord};
+ghost use Rattle.tool_spec.specs.Commands.{OnRam, RunBlkScript, MoveImage, is_to, with_to, asked, asked_by, with_name, with_number, with_place, with_first_layout, laid_out, plan_of, ExtractRecord, EraseRecord};
 ghost use Rattle.zone_spec.specs.Layout.{layout_of};
 ghost use Rattle.tool_frame.specs.Words.{asked_seen, plan_seen, ram_command_seen, command_seen, texts, PlanStop, IsLaid, IsNoFault};
 
@@ -9,9 +9,9 @@ use crate::asked::{Asked, Command};
 use blk_params::{BlkLayout, blk_layout, read_blk_words};
 use std::alloc::Global;
 use zone_params::types::Layout;
-use zone_params::{LayoutError, Params, layout, read_words};
+use zone_params::{LayoutError, Params, ZoneName, layout, read_words};
 
-/// A command on an image of the ram store.
+/// A command on an image of the ram store, or on a memory dump that may hold its rings.
 #[derive(Clone, Copy, Debug, PartialEq, Eq)]
 pub enum RamCommand<'a> {
     /// A script on an image.
@@ -25,6 +25,10 @@ pub enum RamCommand<'a> {
     Blank,
     /// The generated session of this number.
     Make(u32),
+    /// The rings of a memory dump.
+    Salvage,
+    /// The log of the ring at this place, read as this zone.
+    Rescue(u32, ZoneName),
 }
 
 /// What the words ask for.
@@ -100,6 +104,21 @@ fn make(words: &[String]) -> Option<Asked<'_>>
     })
 }
 
+fn rescue(words: &[String]) -> Option<Asked<'_>>
+    ensures { MatchOption result (with_place (texts words.now) ≡ None)
+        (λ a. with_place (texts words.now) ≡ Some (asked_seen a)) }
+{
+    let (at, words) = split_name(words)?;
+    let (name, params) = split_name(words)?;
+    let at = box_script::number(at.as_bytes())?;
+    let name = box_script::zone(name.as_bytes())?;
+    Some(Asked {
+        command: Command::OnRam(RamCommand::Rescue(at, name)),
+        before: 4,
+        params,
+    })
+}
+
 // The place of the first word `to`.
 fn find_to(words: &[String]) -> Option<usize>
     ensures { result ≡ position (λ word. is_to (string_bytes word)) words.now }
@@ -138,6 +157,8 @@ fn asked_by<'a>(word: &str, words: &'a [String]) -> Option<Asked<'a>>
         "make" => make(words),
         "blk-run" => Some(plain(Command::RunBlk, words)),
         "move" => move_image(words),
+        "salvage" => Some(plain(Command::OnRam(RamCommand::Salvage), words)),
+        "rescue" => rescue(words),
         _ => None,
     }
 }
@@ -219,7 +240,7 @@ fn lay_move<'a>(
     params: &[String],
     to: &[String],
 ) -> Result<Plan<'a>, Stop>
-    requires { before < 4 }
+    requires { before < 5 }
     ensures plan { let wanted = laid_out (MoveImage (texts to.now)) before (texts params.now) in
         MatchResult result (λ plan. wanted ≡ Ok (plan_seen plan)) (λ stop. PlanStop stop wanted) }
     ensures laid { IfOk result IsLaid }

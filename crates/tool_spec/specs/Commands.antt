@@ -1,11 +1,16 @@
 -- The words that the tool takes, and what each command wants
 use Rattle.std.specs.Prelude.{ℕ, ◌+◌, Bool, true, false, ◌&&◌, if◌then◌else◌, nat_lt, List, [], ◌∷◌, length, take, drop, position, is_some, replicate, codes, bytes_eq, Option, Some, None, Result, Ok, Err}
 use Rattle.zone_spec.specs.declared.Zone.{Zone}
+use Rattle.zone_spec.specs.declared.ZoneName.{ZoneName}
 use Rattle.zone_spec.specs.declared.params.Params.{Params}
 use Rattle.zone_spec.specs.declared.params.LayoutFault.{LayoutFault}
 use Rattle.zone_spec.specs.Layout.{rounded, layout_of}
 use Rattle.zone_spec.specs.Records.{Saved, Listed}
 use Rattle.zone_spec.specs.Notices.{content}
+use Rattle.zone_spec.specs.Reading.{ZoneReading}
+use Rattle.salvage_spec.specs.declared.RingFault.{RingFault}
+use Rattle.salvage_spec.specs.declared.RingFault.TheVariants.{NoZone as RingNoZone, NoRing as RingNoRing, Memory as RingMemory}
+use Rattle.salvage_spec.specs.Rings.{rings, read_at}
 use Rattle.blk_spec.specs.declared.BlkParams.{BlkParams}
 use Rattle.blk_spec.specs.declared.BlkLayout.{BlkLayout}
 use Rattle.blk_spec.specs.Layout.{layout_of as blk_layout_of}
@@ -19,21 +24,21 @@ use Rattle.grammar_spec.specs.declared.faults.ParamFault.{ParamFault}
 use Rattle.grammar_spec.specs.Words.{ok_unless}
 use Rattle.grammar_spec.specs.ZoneWords.{first_fault, params_of}
 use Rattle.grammar_spec.specs.BlkWords.{first_fault as blk_first_fault, params_of as blk_params_of}
-use Rattle.grammar_spec.specs.Fields.{Text, number}
+use Rattle.grammar_spec.specs.Fields.{Text, number, zone}
 use Rattle.grammar_spec.specs.Lines.{script_of}
 use Rattle.grammar_spec.specs.declared.line.Line.{Line}
-use Rattle.tool_spec.specs.Texts.{layout_text, listing, move_text}
+use Rattle.tool_spec.specs.Texts.{layout_text, listing, move_text, rings_text}
 use Rattle.tool_spec.specs.Scripts.{Ran, ran, named}
 use Rattle.tool_spec.specs.Generated.{Generated, generated, summary}
 use Rattle.tool_spec.specs.Ends.{End}
 use Rattle.tool_spec.specs.declared.Cause.{Cause}
-use Rattle.tool_spec.specs.declared.Cause.TheVariants.{NoRecord}
+use Rattle.tool_spec.specs.declared.Cause.TheVariants.{NoRecord, NoZone, NoRing}
 use Rattle.tool_spec.specs.declared.Stop.{Stop}
-use Rattle.tool_spec.specs.declared.Stop.TheVariants.{Usage, Param, Layout as LayoutStop, Short, TooLong, BadLine, Refused}
+use Rattle.tool_spec.specs.declared.Stop.TheVariants.{Memory, Usage, Param, Layout as LayoutStop, Short, TooLong, BadLine, Refused}
 
 -- ---- words
 
--- a command on an image of the ram store
+-- a command on an image of the ram store, or on a memory dump that may hold its rings
 pub data RamCommand : Type 0 where
   RunScript : RamCommand
   ListRecords : RamCommand
@@ -42,6 +47,8 @@ pub data RamCommand : Type 0 where
   ShowLayout : RamCommand
   BlankImage : RamCommand
   MakeImage : (n : ℕ) → RamCommand
+  FindRings : RamCommand
+  ReadRing : (at : ℕ) (name : ZoneName) → RamCommand
 
 -- what a word names: such a command, a script on the block store, or a move to these parameters
 pub data Command : Type 0 where
@@ -72,6 +79,15 @@ abbrev pub with_number : List Text → Option Asked
 with_number [] = None
 with_number (n ∷ words) = numbered (number n) words
 
+abbrev pub placed : Option ℕ → Option ZoneName → List Text → Option Asked
+placed (Some at) (Some name) words = Some (record { command = OnRam (ReadRing at name); before = 4; params = words })
+placed at name words = None
+
+-- `rescue` with A, a decimal number below 2^32, and a ZONE
+abbrev pub with_place : List Text → Option Asked
+with_place (at ∷ name ∷ words) = placed (number at) (zone name) words
+with_place other = None
+
 -- whether a word stands between the two lists of parameters of a move
 abbrev pub is_to : Text → Bool
 is_to word = bytes_eq word (codes "to")
@@ -98,6 +114,8 @@ asked_by word words =
     else if bytes_eq word (codes "make") then with_number words
     else if bytes_eq word (codes "blk-run") then plain RunBlkScript words
     else if bytes_eq word (codes "move") then with_to words
+    else if bytes_eq word (codes "salvage") then plain (OnRam FindRings) words
+    else if bytes_eq word (codes "rescue") then with_place words
     else None
 
 -- IMAGE COMMAND and what follows it; None for words outside the grammar
@@ -257,7 +275,14 @@ wanted_make n layout made = record {
   writes = Some (session_image made.session);
 }
 
--- what each command wants of an image of mem bytes and a script
+-- `rescue` puts the log of a ring alone, and refuses a zone or a place as the first line of a script would
+abbrev pub wanted_ring : Result ZoneReading RingFault → Wanted
+wanted_ring (Ok reading) = shows (reading.log ∷ [])
+wanted_ring (Err RingNoZone) = stops (Refused 1 NoZone)
+wanted_ring (Err RingNoRing) = stops (Refused 1 NoRing)
+wanted_ring (Err RingMemory) = stops Memory
+
+-- what each command wants of an image, or a dump, and a script
 abbrev pub wanted_of : Params → List Zone → List ℕ → List ℕ → RamCommand → Wanted
 wanted_of params layout image script RunScript = wanted_run layout image script
 wanted_of params layout image script ListRecords = shows (listing (saved_logs layout (after_boot layout image)) ∷ [])
@@ -268,20 +293,33 @@ wanted_of params layout image script (EraseRecord name) =
 wanted_of params layout image script ShowLayout = shows (layout_text params layout ∷ [])
 wanted_of params layout image script BlankImage = leaves (replicate (rounded params.mem) 0)
 wanted_of params layout image script (MakeImage n) = wanted_make n layout (generated layout (rounded params.mem) n)
+wanted_of params layout dump script FindRings = shows (rings_text (rings dump layout) ∷ [])
+wanted_of params layout dump script (ReadRing at name) = wanted_ring (read_at dump layout at name)
 
--- whether a command reads the image
+-- whether a command reads an image
 abbrev pub reads_image : RamCommand → Bool
 reads_image ShowLayout = false
 reads_image BlankImage = false
 reads_image (MakeImage n) = false
+reads_image FindRings = false
+reads_image (ReadRing at name) = false
 reads_image other = true
 
--- and the same of a store's bytes, of which it takes the first mem, and of a script: an image that it reads
--- and that is too short is refused first
+-- the bytes that a dump has at most
+abbrev pub dump_limit : ℕ
+dump_limit = 16777216
+
+-- how many of a store's first bytes a command takes: the image, or a dump, however long that is
+abbrev pub front_of : RamCommand → RamPlan → ℕ
+front_of FindRings plan = dump_limit
+front_of (ReadRing at name) plan = dump_limit
+front_of other plan = mem_of plan
+
+-- and the same of a store's bytes and of a script: an image that it reads and that is too short is refused first
 abbrev pub wanted : RamPlan → List ℕ → List ℕ → Wanted
 wanted plan bytes script =
     if (reads_image plan.command && nat_lt (length bytes) (mem_of plan)) then stops (Short (length bytes) (mem_of plan))
-    else wanted_of plan.params plan.zones (take (mem_of plan) bytes) script plan.command
+    else wanted_of plan.params plan.zones (take (front_of plan.command plan) bytes) script plan.command
 
 -- and of those alone, where it reads no script
 abbrev pub wanted_of_image : RamPlan → List ℕ → Wanted

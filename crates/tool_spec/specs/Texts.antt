@@ -22,6 +22,7 @@ use Rattle.zone_spec.specs.Names.{name_text}
 use Rattle.zone_spec.specs.Records.{Saved, Listed, listed_of, found}
 use Rattle.zone_spec.specs.Notices.{is_in, content}
 use Rattle.zone_spec.specs.Cut.{CutReport}
+use Rattle.salvage_spec.specs.declared.FoundRing.{FoundRing}
 use Rattle.session_spec.specs.Report.{ZoneReport}
 use Rattle.session_spec.specs.Moved.{fits}
 use Rattle.grammar_spec.specs.Fields.{Text}
@@ -162,3 +163,16 @@ move_text from to layout zones =
     codes "move " ++ decimal from ++ codes " to " ++ decimal to ++ codes " records "
     ++ decimal (length (listed_of zones)) ++ newline
     ++ flat_map (λ r. move_line (fits layout zones r.name) zones r) (listed_of zones)
+
+-- ---- the rings of a dump
+
+-- `ring at A shape ZONE start S size Z corrected X`
+abbrev pub ring_line : FoundRing → Text
+ring_line ring =
+    codes "ring at " ++ decimal ring.at ++ codes " shape " ++ zone_text ring.zone
+    ++ codes " start " ++ decimal ring.words.start ++ codes " size " ++ decimal ring.words.size
+    ++ codes " corrected " ++ decimal ring.corrected ++ newline
+
+-- `salvage rings N`, and a line for each ring
+abbrev pub rings_text : List FoundRing → Text
+rings_text rings = codes "salvage rings " ++ decimal (length rings) ++ newline ++ flat_map ring_line rings

@@ -1,7 +1,7 @@
 use Rattle.std.proofs.Common.{refl, arith}
 use Rattle.tool_spec.specs.Commands.{ShowLayout, BlankImage}
 use Rattle.tool_frame.specs.Words.{plan_for}
-use Rattle.tool_frame.specs.declared.words.RamCommand.TheVariants.{Run, List, Extract, Erase, Layout, Blank, Make}
+use Rattle.tool_frame.specs.declared.words.RamCommand.TheVariants.{Run, List, Extract, Erase, Layout, Blank, Make, Salvage, Rescue}
 use Rattle.image_tool.proofs.WorkEnds.{arm_done, kept_same, layout_shown, blank_left}
 use Rattle.image_tool.proofs.work.do_command.Goals as goal
 
@@ -57,4 +57,20 @@ returns-in-Make g c = arm_done _ (Make c.in-Make.n) c.args.layout _ _ _ c.in-Mak
   caused = c.make.ensures.caused _ _;
   kept = λ w. c.make.ensures.kept;
   ended = c.make.ensures.ended _ _;
+})
+
+pub returns-in-Salvage : goal.returns-in-Salvage
+returns-in-Salvage g c = arm_done _ Salvage c.args.layout _ _ _ c.in-Salvage.is (record {
+  later = record { source = omega arith; store = c.salvage.ensures.later.0; sink = c.salvage.ensures.later.1 };
+  caused = c.salvage.ensures.caused _ _;
+  kept = λ w. kept_same _ _ _ c.salvage.ensures.same;
+  ended = c.salvage.ensures.ended _ _;
+})
+
+pub returns-in-Rescue : goal.returns-in-Rescue
+returns-in-Rescue g c = arm_done _ (Rescue c.in-Rescue.at c.in-Rescue.name) c.args.layout _ _ _ c.in-Rescue.is (record {
+  later = record { source = omega arith; store = c.rescue.ensures.later.0; sink = c.rescue.ensures.later.1 };
+  caused = c.rescue.ensures.caused _ _;
+  kept = λ w. kept_same _ _ _ c.rescue.ensures.same;
+  ended = c.rescue.ensures.ended _ _;
 })
