@@ -1,16 +1,16 @@
 -- What the words' values are seen as
-use Rattle.std.specs.Prelude.{◌≡◌, ⊤, List, map, string_bytes, Result, Err, IsOk}
+use Rattle.std.specs.Prelude.{◌≡◌, ⊤, false, List, map, string_bytes, Result, Err, IsOk}
 use Rattle.std.specs.declared.string.String.{String}
 use Rattle.std.specs.declared.alloc.Global.{Global}
 use Rattle.blk_spec.specs.Layout.{IsLayout}
 use Rattle.zone_params.specs.declared.types.Layout.{Layout}
 use Rattle.zone_params.specs.Laid.{params_of, zones_of}
 use Rattle.grammar_spec.specs.Fields.{Text}
-use Rattle.tool_spec.specs.Commands.{RamCommand, RunScript, ListRecords, ExtractRecord, EraseRecord, ShowLayout, BlankImage, MakeImage, Command, OnRam, RunBlkScript, MoveImage, Asked, RamPlan, Laid, MovePlan, Plan, OfRam, OfBlk, OfMove}
+use Rattle.tool_spec.specs.Commands.{RamCommand, RunScript, ListRecords, ExtractRecord, EraseRecord, ShowLayout, BlankImage, MakeImage, RunShared, lacks_zone, Command, OnRam, RunBlkScript, MoveImage, Asked, RamPlan, Laid, MovePlan, Plan, OfRam, OfBlk, OfMove}
 use Rattle.tool_spec.specs.declared.Stop.{Stop}
 use Rattle.tool_spec.specs.declared.Stop.TheVariants.{Memory, ScriptFault, ImageFault, SinkFault}
 use Rattle.tool_frame.specs.declared.words.RamCommand.{RamCommand as ReadRamCommand}
-use Rattle.tool_frame.specs.declared.words.RamCommand.TheVariants.{Run, List as ListCommand, Extract, Erase, Layout as LayoutCommand, Blank, Make}
+use Rattle.tool_frame.specs.declared.words.RamCommand.TheVariants.{Run, List as ListCommand, Extract, Erase, Layout as LayoutCommand, Blank, Make, Shared}
 use Rattle.tool_frame.specs.declared.asked.Command.{Command as ReadCommand}
 use Rattle.tool_frame.specs.declared.asked.Command.TheVariants.{OnRam as OnRamRead, RunBlk, Move as MoveRead}
 use Rattle.tool_frame.specs.declared.asked.Asked.{Asked as ReadAsked}
@@ -28,6 +28,7 @@ ram_command_seen (Erase name) = EraseRecord name.now
 ram_command_seen LayoutCommand = ShowLayout
 ram_command_seen Blank = BlankImage
 ram_command_seen (Make n) = MakeImage n
+ram_command_seen Shared = RunShared
 
 abbrev pub command_seen : ReadCommand → Command
 command_seen (OnRamRead command) = OnRam (ram_command_seen command)
@@ -53,9 +54,9 @@ plan_seen (Ram command layout) = OfRam (plan_for (ram_command_seen command) layo
 plan_seen (Blk layout) = OfBlk layout
 plan_seen (Move from to) = OfMove (move_for from to)
 
--- a block store's layout is one
+-- the zone that a command shares is there; a block store's layout is one
 abbrev pub IsLaid : ReadPlan → Type 0
-IsLaid (Ram command layout) = ⊤
+IsLaid (Ram command layout) = lacks_zone (ram_command_seen command) (params_of layout) ≡ false
 IsLaid (Blk layout) = IsLayout layout
 IsLaid (Move from to) = ⊤
 

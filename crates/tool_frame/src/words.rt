@@ -1,6 +1,6 @@
 // The words of the command line.
 ghost use Rattle.std.specs.Prelude.{◌≡◌, ◌<◌, position, string_bytes, [], ◌∷◌, MatchResult, MatchOption, None, Some, Ok, IfOk, IfErr};
-ghost use Rattle.tool_spec.specs.Commands.{OnRam, RunBlkScript, MoveImage, is_to, with_to, asked, asked_by, with_name, with_number, with_first_layout, laid_out, plan_of, ExtractRecord, EraseRecord};
+ghost use Rattle.tool_spec.specs.Commands.{OnRam, RunBlkScript, MoveImage, is_to, with_to, asked, asked_by, with_name, with_number, with_first_layout, lacks_zone, laid_out, plan_of, ExtractRecord, EraseRecord};
 ghost use Rattle.zone_spec.specs.Layout.{layout_of};
 ghost use Rattle.tool_frame.specs.Words.{asked_seen, plan_seen, ram_command_seen, command_seen, texts, PlanStop, IsLaid, IsNoFault};
 
@@ -25,6 +25,8 @@ pub enum RamCommand<'a> {
     Blank,
     /// The generated session of this number.
     Make(u32),
+    /// A script on the zone ftrace-0, which it shares.
+    Shared,
 }
 
 /// What the words ask for.
@@ -138,6 +140,7 @@ fn asked_by<'a>(word: &str, words: &'a [String]) -> Option<Asked<'a>>
         "make" => make(words),
         "blk-run" => Some(plain(Command::RunBlk, words)),
         "move" => move_image(words),
+        "shared-run" => Some(plain(Command::OnRam(RamCommand::Shared), words)),
         _ => None,
     }
 }
@@ -148,6 +151,16 @@ fn read_command(words: &[String]) -> Option<Asked<'_>>
     match words {
         [_, word, rest @ ..] => asked_by(word.as_str(), rest),
         _ => None,
+    }
+}
+
+// Whether the parameters give no zone that the command can share.
+fn lacks_zone(command: RamCommand<'_>, params: &Params) -> bool
+    ensures { result ≡ lacks_zone (ram_command_seen command.entry) params.now }
+{
+    match command {
+        RamCommand::Shared => params.ftrace == 0 || params.ecc_ftrace > 0,
+        _ => false,
     }
 }
 
@@ -167,10 +180,16 @@ fn lay_image<'a>(
         Ok(params) => params,
         Err(fault) => return Err(Stop::Param { fault, before }),
     };
-    match layout(alloc, &params) {
+    let laid = match layout(alloc, &params) {
+        Err(LayoutError::Fault(fault)) => return Err(Stop::Layout(fault)),
+        laid => laid,
+    };
+    if lacks_zone(command, &params) {
+        return Err(Stop::NoSharedZone);
+    }
+    match laid {
         Ok(layout) => Ok(Plan::Ram(command, layout)),
-        Err(LayoutError::Fault(fault)) => Err(Stop::Layout(fault)),
-        Err(LayoutError::Memory) => Err(Stop::Memory),
+        Err(_) => Err(Stop::Memory),
     }
 }
 
