@@ -8,3 +8,5 @@ pub mod ScriptEnds
 pub mod WorkEnds
 pub mod Completed
 pub mod MoveEnds
+pub mod SharedEnds
+pub mod Sharing

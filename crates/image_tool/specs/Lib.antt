@@ -3,3 +3,4 @@ pub mod Stores
 pub mod Records
 pub mod Headline
 pub mod Runs
+pub mod Shares

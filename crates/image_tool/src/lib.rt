@@ -8,6 +8,7 @@ mod making;
 mod moving;
 mod records;
 mod script;
+mod sharing;
 mod stores;
 mod work;
 

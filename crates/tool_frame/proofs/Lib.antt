@@ -13,3 +13,4 @@ pub mod Sizes
 pub mod BlkScript
 pub mod BlkAnswered
 pub mod AnyWords
+pub mod Unshared
