@@ -19,7 +19,7 @@ use Rattle.tool_spec.specs.Ends.{End}
 use Rattle.tool_frame.specs.Playing.{BlkPlayCaused}
 use Rattle.tool_spec.specs.declared.Cause.{Cause}
 use Rattle.tool_spec.specs.declared.Stop.{Stop}
-use Rattle.tool_spec.specs.declared.Stop.TheVariants.{Memory, Usage, Param, Layout, Short, ScriptFault, ImageFault, SinkFault, TooLong, BadLine, Refused}
+use Rattle.tool_spec.specs.declared.Stop.TheVariants.{Memory, Usage, Param, Layout, NoSharedZone, Short, ScriptFault, ImageFault, SinkFault, TooLong, BadLine, Refused}
 use Rattle.tool_frame.proofs.Answered.{appends_on}
 use Rattle.tool_frame.proofs.Answered.{nothing_put}
 use Rattle.tool_frame.proofs.Play.{Extends, extends_self, extends_on, front_of, whole_more}
@@ -233,6 +233,7 @@ module _ (layout : BlkLayout) (bytes : List ℕ) (lines : List Line) (i : ℕ) (
     on_stop Usage c h = absurd h
     on_stop (Param x y) c h = absurd h
     on_stop (Layout x) c h = absurd h
+    on_stop NoSharedZone c h = absurd h
     on_stop (Short x y) c h = absurd h
     on_stop ScriptFault c h = absurd h
     on_stop TooLong c h = absurd h
@@ -271,6 +272,7 @@ stop_caused (Refused n cause) layout blk line number a b c s o h = tt
 stop_caused Usage layout blk line number a b c s o h = absurd h
 stop_caused (Param x y) layout blk line number a b c s o h = absurd h
 stop_caused (Layout x) layout blk line number a b c s o h = absurd h
+stop_caused NoSharedZone layout blk line number a b c s o h = absurd h
 stop_caused (Short x y) layout blk line number a b c s o h = absurd h
 stop_caused ScriptFault layout blk line number a b c s o h = absurd h
 stop_caused TooLong layout blk line number a b c s o h = absurd h

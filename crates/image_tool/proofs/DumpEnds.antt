@@ -16,7 +16,7 @@ use Rattle.tool_spec.specs.Commands.{RamCommand, FindRings, ReadRing, RamPlan, r
 use Rattle.tool_spec.specs.Answers.{Outside, IfHolds, NoScript}
 use Rattle.tool_spec.specs.PlanAnswers.{ram_statuses, IsAmong}
 use Rattle.tool_spec.specs.declared.Stop.{Stop}
-use Rattle.tool_spec.specs.declared.Stop.TheVariants.{Memory, Usage, Param, Layout, Short, ScriptFault, ImageFault, SinkFault, TooLong, BadLine, Refused}
+use Rattle.tool_spec.specs.declared.Stop.TheVariants.{Memory, Usage, Param, Layout, NoSharedZone, Short, ScriptFault, ImageFault, SinkFault, TooLong, BadLine, Refused}
 use Rattle.tool_frame.specs.Stages.{FrontStop}
 use Rattle.tool_frame.specs.Ended.{Ended, CanEnd, RamReadEnds}
 use Rattle.tool_frame.proofs.Script.{Quiet, quiet_memory, put_nothing, ended_as}
@@ -58,6 +58,7 @@ unread plan c a b ImageFault f g is on none q h = reads plan a b _ (rw is on.ima
 unread plan c a b Usage f g is on none q h = absurd h
 unread plan c a b (Param x y) f g is on none q h = absurd h
 unread plan c a b (Layout x) f g is on none q h = absurd h
+unread plan c a b NoSharedZone f g is on none q h = absurd h
 unread plan c a b (Short x y) f g is on none q h = absurd h
 unread plan c a b ScriptFault f g is on none q h = absurd h
 unread plan c a b SinkFault f g is on none q h = absurd h

@@ -297,7 +297,12 @@ first_words plan second before to words (Some fault) h = absurd (cc)
 -- a command on an image is no move, and no script on the block store is
 ram_laid : (command : RamCommand) (params : Params) (plan : MovePlan) (o : Result (List Zone) LayoutFault)
     → with_layout command params o ≡ Ok (OfMove plan) → ⊥
-ram_laid command params plan (Ok zones) h = absurd (cc)
+ram_laid command params plan (Ok zones) h = by (lacks_zone command params) h
+  where
+    by : (lacks : Bool) → cond lacks (Err NoSharedZone)
+        (Ok (OfRam (record { command = command; params = params; zones = zones }))) ≡ Ok (OfMove plan) → ⊥
+    by true h = absurd (cc)
+    by false h = absurd (cc)
 ram_laid command params plan (Err fault) h = absurd (cc)
 
 ram_words : (command : RamCommand) (before : ℕ) (words : List Text) (plan : MovePlan) (o : Option ParamFault)

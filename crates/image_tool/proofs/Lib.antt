@@ -8,6 +8,8 @@ pub mod ScriptEnds
 pub mod WorkEnds
 pub mod Completed
 pub mod MoveEnds
+pub mod SharedEnds
+pub mod Sharing
 pub mod DumpEnds
 pub mod RingTexts
 pub mod MoveReads

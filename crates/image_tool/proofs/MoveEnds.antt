@@ -13,7 +13,7 @@ use Rattle.tool_spec.specs.Commands.{MovePlan, OfMove, laid_mem, after_boot, sto
 use Rattle.tool_spec.specs.Answers.{Outside, IfHolds, NoScript}
 use Rattle.tool_spec.specs.PlanAnswers.{statuses}
 use Rattle.tool_spec.specs.declared.Stop.{Stop}
-use Rattle.tool_spec.specs.declared.Stop.TheVariants.{Memory, Usage, Param, Layout, Short, ScriptFault, ImageFault, SinkFault, TooLong, BadLine, Refused}
+use Rattle.tool_spec.specs.declared.Stop.TheVariants.{Memory, Usage, Param, Layout, NoSharedZone, Short, ScriptFault, ImageFault, SinkFault, TooLong, BadLine, Refused}
 use Rattle.tool_frame.specs.Stages.{LoadStop}
 use Rattle.tool_frame.specs.Ended.{Ended, ImageEnds}
 use Rattle.tool_frame.proofs.Script.{Quiet, quiet_memory, put_nothing, ended_as, nat_lt-true, nat_lt-false}
@@ -59,6 +59,7 @@ move_unread plan a b (Short has needed) f g none q h = record {
 move_unread plan a b Usage f g none q h = absurd h
 move_unread plan a b (Param x y) f g none q h = absurd h
 move_unread plan a b (Layout x) f g none q h = absurd h
+move_unread plan a b NoSharedZone f g none q h = absurd h
 move_unread plan a b ScriptFault f g none q h = absurd h
 move_unread plan a b SinkFault f g none q h = absurd h
 move_unread plan a b TooLong f g none q h = absurd h

@@ -3,7 +3,7 @@ use Rattle.std.proofs.Common.{ℕ, List, Option, Err}
 use Rattle.zone_spec.specs.declared.Zone.{Zone}
 use Rattle.grammar_spec.specs.declared.line.Line.{Line}
 use Rattle.tool_spec.specs.declared.Stop.{Stop}
-use Rattle.tool_spec.specs.declared.Stop.TheVariants.{Memory, Usage, Param, Layout, Short, ScriptFault, ImageFault, SinkFault, TooLong, BadLine, Refused}
+use Rattle.tool_spec.specs.declared.Stop.TheVariants.{Memory, Usage, Param, Layout, NoSharedZone, Short, ScriptFault, ImageFault, SinkFault, TooLong, BadLine, Refused}
 use Rattle.tool_frame.specs.Playing.{PlayStop}
 use Rattle.tool_frame.specs.Ended.{CausedAt}
 
@@ -17,6 +17,7 @@ play_caused (Refused n cause) layout image lines given given' f f' g g' h h' p =
 play_caused Usage layout image lines given given' f f' g g' h h' p = absurd p
 play_caused (Param x y) layout image lines given given' f f' g g' h h' p = absurd p
 play_caused (Layout x) layout image lines given given' f f' g g' h h' p = absurd p
+play_caused NoSharedZone layout image lines given given' f f' g g' h h' p = absurd p
 play_caused (Short x y) layout image lines given given' f f' g g' h h' p = absurd p
 play_caused ScriptFault layout image lines given given' f f' g g' h h' p = absurd p
 play_caused ImageFault layout image lines given given' f f' g g' h h' p = absurd p

@@ -7,7 +7,7 @@ use Rattle.tool_spec.specs.Commands.{ShowLayout, BlankImage, RamPlan, Plan, OfRa
 use Rattle.tool_spec.specs.Answers.{Outside, NoScript, NoImage, WritesSome}
 use Rattle.tool_spec.specs.PlanAnswers.{ram_statuses, IsAmong}
 use Rattle.tool_spec.specs.declared.Stop.{Stop}
-use Rattle.tool_spec.specs.declared.Stop.TheVariants.{Memory, Usage, Param, Layout, Short, ScriptFault, ImageFault, SinkFault, TooLong, BadLine, Refused}
+use Rattle.tool_spec.specs.declared.Stop.TheVariants.{Memory, Usage, Param, Layout, NoSharedZone, Short, ScriptFault, ImageFault, SinkFault, TooLong, BadLine, Refused}
 use Rattle.tool_frame.specs.Words.{PlanStop, IsNoFault, plan_for, ram_command_seen}
 use Rattle.tool_frame.specs.declared.words.RamCommand.{RamCommand as ReadRamCommand}
 use Rattle.zone_params.specs.declared.types.Layout.{Layout as ReadLayout}
@@ -21,6 +21,7 @@ no_fault_caused Memory f f' g g' h h' n = tt
 no_fault_caused Usage f f' g g' h h' n = tt
 no_fault_caused (Param x y) f f' g g' h h' n = tt
 no_fault_caused (Layout x) f f' g g' h h' n = tt
+no_fault_caused NoSharedZone f f' g g' h h' n = tt
 no_fault_caused (Short x y) f f' g g' h h' n = tt
 no_fault_caused ScriptFault f f' g g' h h' n = absurd n
 no_fault_caused ImageFault f f' g g' h h' n = absurd n
@@ -36,6 +37,7 @@ kept_same (Err Memory) holds holds' h = h
 kept_same (Err Usage) holds holds' h = h
 kept_same (Err (Param x y)) holds holds' h = h
 kept_same (Err (Layout x)) holds holds' h = h
+kept_same (Err NoSharedZone) holds holds' h = h
 kept_same (Err (Short x y)) holds holds' h = h
 kept_same (Err ScriptFault) holds holds' h = h
 kept_same (Err ImageFault) holds holds' h = tt
@@ -90,6 +92,7 @@ blank_written w (Err Memory) a b h none same wrote done = tt
 blank_written w (Err Usage) a b h none same wrote done = tt
 blank_written w (Err (Param x y)) a b h none same wrote done = tt
 blank_written w (Err (Layout x)) a b h none same wrote done = tt
+blank_written w (Err NoSharedZone) a b h none same wrote done = tt
 blank_written w (Err (Short x y)) a b h none same wrote done = tt
 blank_written w (Err ScriptFault) a b h none same wrote done = tt
 blank_written w (Err ImageFault) a b h none same wrote done =

@@ -5,3 +5,4 @@ pub mod Dumps
 pub mod Moves
 pub mod Headline
 pub mod Runs
+pub mod Shares

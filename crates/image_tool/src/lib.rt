@@ -9,6 +9,7 @@ mod moving;
 mod records;
 mod salvaging;
 mod script;
+mod sharing;
 mod stores;
 mod work;
 

@@ -14,6 +14,7 @@ use crate::moving::move_image;
 use crate::records::{erase, extract, list};
 use crate::salvaging::{rescue, salvage};
 use crate::script::run_script;
+use crate::sharing::run_shared_script;
 use box_io::{Sink, Source, Store};
 use crash_laws::later_boot_lists_crash;
 use std::alloc::Global;
@@ -66,6 +67,9 @@ fn do_work<S: Source, M: Store, O: Sink>(
         Ok(Plan::Ram(command, layout)) => do_command(alloc, command, layout, script, image, out),
         Ok(Plan::Blk(layout)) => run_blk_script(alloc, layout, script, image, out),
         Ok(Plan::Move(from, to)) => move_image(alloc, from, to, image, out),
+        Ok(Plan::Share(booted, layout)) => {
+            run_shared_script(alloc, booted, layout, script, image, out)
+        }
         Err(stop) => Err(stop),
     }
 }

@@ -11,7 +11,7 @@ use Rattle.grammar_spec.specs.declared.line.Line.{Line}
 use Rattle.grammar_spec.specs.Printed.{AllHaveFields}
 use Rattle.tool_spec.specs.Scripts.{Kernel, new_kernel, ran, started}
 use Rattle.tool_spec.specs.declared.Stop.{Stop}
-use Rattle.tool_spec.specs.declared.Stop.TheVariants.{Memory, Usage, Param, Layout, Short, ScriptFault, ImageFault, SinkFault, TooLong, BadLine, Refused}
+use Rattle.tool_spec.specs.declared.Stop.TheVariants.{Memory, Usage, Param, Layout, NoSharedZone, Short, ScriptFault, ImageFault, SinkFault, TooLong, BadLine, Refused}
 use Rattle.tool_laws.specs.Scripts.{ScriptStatesAreSound}
 use Rattle.tool_frame.specs.Playing.{Played, PlayedTo, PlayStop}
 use Rattle.tool_frame.proofs.Play.{played_none, played_on, played_all, stopped_memory, stopped_refused, stopped_put}
@@ -94,6 +94,7 @@ module _ (sound : ScriptStatesAreSound) (first : Machine) (lines : List Line) (f
   plays_stop Usage c g g0 h le stop off start layout mem image f = absurd stop
   plays_stop (Param x y) c g g0 h le stop off start layout mem image f = absurd stop
   plays_stop (Layout x) c g g0 h le stop off start layout mem image f = absurd stop
+  plays_stop NoSharedZone c g g0 h le stop off start layout mem image f = absurd stop
   plays_stop (Short x y) c g g0 h le stop off start layout mem image f = absurd stop
   plays_stop ScriptFault c g g0 h le stop off start layout mem image f = absurd stop
   plays_stop ImageFault c g g0 h le stop off start layout mem image f = absurd stop

@@ -3,7 +3,7 @@ use Rattle.std.proofs.Common.{◌≡◌, ◌≢◌, ℕ, zero, suc, ◌+◌, ◌
 use Rattle.std.proofs.lemmas.Bool.{cases_order, lt-ltb, ltb-true}
 use Rattle.std.proofs.lemmas.List.{map-append, take-map, drop-map}
 use Rattle.std.proofs.lemmas.Option.{slice_get_within}
-use Rattle.std.specs.Prelude.{slice_get, slice_index, flat_map, position}
+use Rattle.std.specs.Prelude.{slice_get, slice_index, flat_map, position, is_some}
 use Rattle.std.specs.Int.{to_le_bytes}
 use Rattle.zone_spec.specs.declared.Zone.{Zone}
 use Rattle.zone_spec.specs.Parts.{standing_words}
@@ -27,7 +27,7 @@ use Rattle.shared_ring.specs.Seen.{SharedSeen, bytes_of, words_of, StandsFor, Is
 use Rattle.shared_ring.proofs.SeatLists.{more_cases, each_stepped, set_pieces}
 use Rattle.shared_ring.proofs.Tickets.{AreRising, after_own}
 use Rattle.shared_ring.proofs.Regions.{span_stored, before_stored, after_stored}
-use Rattle.shared_ring.proofs.Standing.{shown_at, rising, seat_place, no_call}
+use Rattle.shared_ring.proofs.Standing.{shown_at, rising, seat_place, no_call, the_seat}
 
 -- ---- a reservation
 
@@ -224,3 +224,17 @@ pub idle_answers : (h : History) (v : SharedSeen) (t : ℕ) → IsLeftBy h v →
 idle_answers h v t l e =
     subst (λ (o : Option SharedCall). IsStepped (step_answer o) (Err (record {})))
     (sym (no_call h.zone h.image (shared_zone h) v l.stands t e)) tt
+
+-- whether an open call has the ticket
+pub open_told : (h : History) (v : SharedSeen) (t : ℕ) → IsLeftBy h v
+    → is_some (position (is_of t) v.seats) ≡ is_some (open_call (shared_zone h).calls t)
+open_told h v t l = by (position (is_of t) v.seats) refl
+  where
+    by : (o : Option ℕ) → position (is_of t) v.seats ≡ o
+        → is_some (position (is_of t) v.seats) ≡ is_some (open_call (shared_zone h).calls t)
+    by None e = ap is_some e ∙ sym (ap is_some (no_call h.zone h.image (shared_zone h) v l.stands t e))
+    by (Some i) e =
+        let s = the_seat t v.seats i e in
+        let there : open_call (shared_zone h).calls t ≡ Some (call_of s.0) =
+        ap (open_call (shared_zone h).calls) (sym s.2) ∙ l.stands.seated i s.0 s.1 in
+        ap is_some e ∙ sym (ap is_some there)

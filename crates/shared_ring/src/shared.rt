@@ -1,5 +1,5 @@
 // The shared zone.
-ghost use Rattle.std.specs.Prelude.{◌≡◌, ◌<◌, ◌≤◌, ◌+◌, ◌^◌, ◌++◌, ◌∷◌, [], ℕ, List, length, slice_get, IfOk, IfErr, MatchResult, OnErr, IfNone, Some, None};
+ghost use Rattle.std.specs.Prelude.{◌≡◌, ◌<◌, ◌≤◌, ◌+◌, ◌^◌, ◌++◌, ◌∷◌, [], ℕ, List, length, slice_get, IfOk, IfErr, MatchResult, OnErr, IfNone, is_some, Some, None};
 ghost use Rattle.std.specs.Int.{to_le_bytes};
 ghost use Rattle.std.proofs.Common.{w32};
 ghost use Rattle.zone_spec.specs.Layout.{rounded};
@@ -136,6 +136,14 @@ impl Shared {
         ensures { (h : History) → IsLeftBy h self.now → result.items ≡ open_calls_of h.zone (shared_zone h) }
     {
         show(&self.seats, self.zone.cap)
+    }
+
+    /// Whether an open call has this ticket.
+    pub fn is_open(&self, ticket: u64) -> bool
+        ensures { (h : History) → IsLeftBy h self.now
+            → result ≡ is_some (open_call (shared_zone h).calls ticket) }
+    {
+        find(&self.seats, ticket).is_some()
     }
 
     // Why a payload of so many bytes gets no reservation.

@@ -11,7 +11,7 @@ use Rattle.tool_spec.specs.Answers.{Outside, Later, NoScript, NoImage, RoseFor, 
 use Rattle.tool_frame.specs.Ends.{LastPut, Finished, Silent}
 use Rattle.tool_frame.specs.Ended.{PutTexts, PutSome, Ended, Caused}
 use Rattle.tool_spec.specs.declared.Stop.{Stop}
-use Rattle.tool_spec.specs.declared.Stop.TheVariants.{Memory, Usage, Param, Layout, Short, ScriptFault, ImageFault, SinkFault, TooLong, BadLine, Refused}
+use Rattle.tool_spec.specs.declared.Stop.TheVariants.{Memory, Usage, Param, Layout, NoSharedZone, Short, ScriptFault, ImageFault, SinkFault, TooLong, BadLine, Refused}
 
 -- text in two parts
 pub appends_on : (a b c : Option (List ℕ)) (xs ys : List ℕ) → Appends a b xs → Appends b c ys → Appends a c (xs ++ ys)
@@ -61,6 +61,7 @@ module _ (a m b : Outside) (on : GoesOn a m b) where
   rose_on Usage h k = tt
   rose_on (Param x y) h k = tt
   rose_on (Layout x) h k = tt
+  rose_on NoSharedZone h k = tt
   rose_on (Short x y) h k = tt
   rose_on ScriptFault h k = rw on.script.source h
   rose_on ImageFault h k = rw on.image.store h
@@ -262,6 +263,8 @@ module _ (a m b : Outside) (on : GoesOn a m b) where
     answers (Err (Param x y)) c h f = answers_fixed (Param x y) (lit≤ tt) (λ z. absurd (omega arith))
         (λ z. absurd (omega arith)) (λ z. absurd (omega arith)) h.0 tt h.0 h.1 h.2 f
     answers (Err (Layout x)) c h f = answers_fixed (Layout x) (lit≤ tt) (λ z. absurd (omega arith))
+        (λ z. absurd (omega arith)) (λ z. absurd (omega arith)) h.0 tt h.0 h.1 h.2 f
+    answers (Err NoSharedZone) c h f = answers_fixed NoSharedZone (lit≤ tt) (λ z. absurd (omega arith))
         (λ z. absurd (omega arith)) (λ z. absurd (omega arith)) h.0 tt h.0 h.1 h.2 f
     answers (Err (Short x y)) c h f = answers_fixed (Short x y) (lit≤ tt) (λ z. absurd (omega arith))
         (λ z. absurd (omega arith)) (λ z. absurd (omega arith)) h.0 tt h.0 h.1 h.2 f

@@ -3,7 +3,7 @@ use Rattle.std.proofs.Common.{◌≡◌, ◌≢◌, ◌⊎◌, true, false, ℕ,
 use Rattle.std.specs.Io.KnownBytes.{Appends}
 use Rattle.blk_spec.specs.declared.BlkLayout.{BlkLayout}
 use Rattle.tool_spec.specs.Ends.{End, status_of, last_line}
-use Rattle.tool_spec.specs.Commands.{RamCommand, RunScript, ListRecords, ExtractRecord, EraseRecord, ShowLayout, BlankImage, MakeImage, FindRings, ReadRing, RamPlan, Plan, OfRam, OfBlk, OfMove, Wanted, wanted, wanted_of_image, wanted_move, mem_of}
+use Rattle.tool_spec.specs.Commands.{RamCommand, RunScript, ListRecords, ExtractRecord, EraseRecord, ShowLayout, BlankImage, MakeImage, FindRings, ReadRing, RamPlan, Plan, OfRam, OfBlk, OfMove, Wanted, wanted, wanted_of_image, wanted_move, mem_of, RunShared}
 use Rattle.tool_spec.specs.Answers.{Outside, NoScript, NoImage, RoseFor, FaultAnswers}
 use Rattle.tool_spec.specs.BlkAnswers.{blk_lines}
 use Rattle.tool_spec.specs.PlanAnswers.{PlanAnswers, ToolAnswers, ram_statuses, statuses, IsAmong, Untouched, WritesLast}
@@ -17,7 +17,7 @@ use Rattle.tool_frame.proofs.BlkScript.{memory_lines}
 use Rattle.tool_frame.proofs.BlkAnswered.{blk_answers}
 use Rattle.tool_frame.proofs.Script.{Quiet}
 use Rattle.tool_spec.specs.declared.Stop.{Stop}
-use Rattle.tool_spec.specs.declared.Stop.TheVariants.{Memory, Usage, Param, Layout, Short, ScriptFault, ImageFault, SinkFault, TooLong, BadLine, Refused}
+use Rattle.tool_spec.specs.declared.Stop.TheVariants.{Memory, Usage, Param, Layout, NoSharedZone, Short, ScriptFault, ImageFault, SinkFault, TooLong, BadLine, Refused}
 
 -- ---- the statuses of a command
 
@@ -30,6 +30,7 @@ ram_can_want (EraseRecord name) = refl
 ram_can_want ShowLayout = refl
 ram_can_want BlankImage = refl
 ram_can_want (MakeImage n) = refl
+ram_can_want RunShared = refl
 ram_can_want FindRings = refl
 ram_can_want (ReadRing at name) = refl
 
@@ -41,6 +42,7 @@ ram_can_fail (EraseRecord name) = refl
 ram_can_fail ShowLayout = refl
 ram_can_fail BlankImage = refl
 ram_can_fail (MakeImage n) = refl
+ram_can_fail RunShared = refl
 ram_can_fail FindRings = refl
 ram_can_fail (ReadRing at name) = refl
 
@@ -58,6 +60,7 @@ can_end (EraseRecord name) plan a b e h = h.can
 can_end ShowLayout plan a b e h = h.can
 can_end BlankImage plan a b e h = h.can
 can_end (MakeImage n) plan a b e h = h.can
+can_end RunShared plan a b e h = h.can
 can_end FindRings plan a b e h = h.can
 can_end (ReadRing at name) plan a b e h = h.can
 
@@ -68,6 +71,7 @@ blk_can layout (Err Memory) holds holds' h = refl
 blk_can layout (Err Usage) holds holds' h = absurd h
 blk_can layout (Err (Param x y)) holds holds' h = absurd h
 blk_can layout (Err (Layout x)) holds holds' h = absurd h
+blk_can layout (Err NoSharedZone) holds holds' h = absurd h
 blk_can layout (Err (Short x y)) holds holds' h = refl
 blk_can layout (Err ScriptFault) holds holds' h = refl
 blk_can layout (Err ImageFault) holds holds' h = refl
@@ -117,6 +121,8 @@ fault_answers (Param x y) a m b status script image given f =
     fault_put (Param x y) a m b status script image given f (λ z. absurd (omega arith))
 fault_answers (Layout x) a m b status script image given f =
     fault_put (Layout x) a m b status script image given f (λ z. absurd (omega arith))
+fault_answers NoSharedZone a m b status script image given f =
+    fault_put NoSharedZone a m b status script image given f (λ z. absurd (omega arith))
 fault_answers (Short x y) a m b status script image given f =
     fault_put (Short x y) a m b status script image given f (λ z. absurd (omega arith))
 fault_answers ScriptFault a m b status script image given f =
@@ -190,6 +196,11 @@ ram_memory RunScript plan a b h = record {
   whole = record { told = λ bytes script t l. out_of_memory (wanted plan bytes script) a b h };
   read = unread_memory (mem_of plan) a b h.script;
 }
+ram_memory RunShared plan a b h = record {
+  can = ram_can_want plan.command;
+  whole = record { told = λ bytes script t l. out_of_memory (wanted plan bytes script) a b h };
+  read = unread_memory (mem_of plan) a b h.script;
+}
 ram_memory ListRecords plan a b h = read_memory _ (wanted_of_image plan) a b (ram_can_want plan.command) h
 ram_memory (ExtractRecord name) plan a b h = read_memory _ (wanted_of_image plan) a b (ram_can_want plan.command) h
 ram_memory (EraseRecord name) plan a b h = image_memory _ (wanted_of_image plan) a b (ram_can_want plan.command) h
@@ -240,6 +251,7 @@ plan_stopped (Ok plan) Memory a b h n = memory_ends plan a b n
 plan_stopped (Ok plan) Usage a b h n = absurd (clash h)
 plan_stopped (Ok plan) (Param x y) a b h n = absurd (clash h)
 plan_stopped (Ok plan) (Layout x) a b h n = absurd (clash h)
+plan_stopped (Ok plan) NoSharedZone a b h n = absurd (clash h)
 plan_stopped (Ok plan) (Short x y) a b h n = absurd (clash h)
 plan_stopped (Ok plan) ScriptFault a b h n = absurd (clash h)
 plan_stopped (Ok plan) ImageFault a b h n = absurd (clash h)
@@ -251,6 +263,7 @@ plan_stopped (Err f) Memory a b h n = let no_plan : false ≡ true = h in cc
 plan_stopped (Err f) Usage a b h n = (same_stop f _ h, n)
 plan_stopped (Err f) (Param x y) a b h n = (same_stop f _ h, n)
 plan_stopped (Err f) (Layout x) a b h n = (same_stop f _ h, n)
+plan_stopped (Err f) NoSharedZone a b h n = (same_stop f _ h, n)
 plan_stopped (Err f) (Short x y) a b h n = (same_stop f _ h, n)
 plan_stopped (Err f) ScriptFault a b h n = (same_stop f _ h, n)
 plan_stopped (Err f) ImageFault a b h n = (same_stop f _ h, n)
@@ -269,6 +282,7 @@ untouched_by a m b (Err Memory) status on c h f zero = inl (on.image.holds ∙ h
 untouched_by a m b (Err Usage) status on c h f zero = inl (on.image.holds ∙ h)
 untouched_by a m b (Err (Param x y)) status on c h f zero = inl (on.image.holds ∙ h)
 untouched_by a m b (Err (Layout x)) status on c h f zero = inl (on.image.holds ∙ h)
+untouched_by a m b (Err NoSharedZone) status on c h f zero = inl (on.image.holds ∙ h)
 untouched_by a m b (Err (Short x y)) status on c h f zero = inl (on.image.holds ∙ h)
 untouched_by a m b (Err ScriptFault) status on c h f zero = inl (on.image.holds ∙ h)
 untouched_by a m b (Err SinkFault) status on c h f zero = inl (on.image.holds ∙ h)

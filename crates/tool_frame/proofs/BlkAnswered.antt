@@ -12,7 +12,7 @@ use Rattle.tool_spec.specs.BlkScripts.{blk_ran}
 use Rattle.tool_spec.specs.BlkAnswers.{blk_lines, blk_end, AllDone, StoppedFor, StoppedUnput, LinesAnswers, LinesOrStopAnswers, BlkAnswers}
 use Rattle.tool_spec.specs.declared.Stop.{Stop}
 use Rattle.tool_spec.specs.declared.Cause.{Cause}
-use Rattle.tool_spec.specs.declared.Stop.TheVariants.{Memory, Usage, Param, Layout, Short, ScriptFault, ImageFault, SinkFault, TooLong, BadLine, Refused}
+use Rattle.tool_spec.specs.declared.Stop.TheVariants.{Memory, Usage, Param, Layout, NoSharedZone, Short, ScriptFault, ImageFault, SinkFault, TooLong, BadLine, Refused}
 use Rattle.tool_frame.specs.Ends.{LastPut, Finished}
 use Rattle.tool_frame.specs.Ended.{Caused, StoppedAt, LinesEnded, LinesOrStopEnded, KeptBefore, BlkEnds}
 use Rattle.tool_frame.proofs.Answered.{GoesOn, rose_on, sink_rose, answers, appends_on}
@@ -160,6 +160,7 @@ module _ (layout : BlkLayout) (bytes : List ℕ) (a m b : Outside) (on : GoesOn 
     lines_answers (Err Usage) c h f = absurd h.stops
     lines_answers (Err (Param x y)) c h f = absurd h.stops
     lines_answers (Err (Layout x)) c h f = absurd h.stops
+    lines_answers (Err NoSharedZone) c h f = absurd h.stops
     lines_answers (Err (Short x y)) c h f = absurd h.stops
     lines_answers (Err TooLong) c h f = absurd h.stops
     lines_answers (Err (BadLine x)) c h f = absurd h.stops
@@ -191,6 +192,7 @@ module _ (a m b : Outside) (status : ℕ) where
   kept_before (Err Usage) h is zero one six seven ten = absurd h
   kept_before (Err (Param x y)) h is zero one six seven ten = absurd h
   kept_before (Err (Layout x)) h is zero one six seven ten = absurd h
+  kept_before (Err NoSharedZone) h is zero one six seven ten = absurd h
   kept_before (Err (Short x y)) h is zero one six seven ten = h
   kept_before (Err ScriptFault) h is zero one six seven ten = h
   kept_before (Err TooLong) h is zero one six seven ten = h

@@ -8,7 +8,7 @@ use Rattle.tool_spec.specs.Commands.{script_limit, stops}
 use Rattle.tool_spec.specs.Answers.{Outside, NoScript}
 use Rattle.tool_spec.specs.BlkAnswers.{blk_lines, lines_or_bad, LinesEnd}
 use Rattle.tool_spec.specs.declared.Stop.{Stop}
-use Rattle.tool_spec.specs.declared.Stop.TheVariants.{Memory, Usage, Param, Layout, Short, ScriptFault, ImageFault, SinkFault, TooLong, BadLine, Refused}
+use Rattle.tool_spec.specs.declared.Stop.TheVariants.{Memory, Usage, Param, Layout, NoSharedZone, Short, ScriptFault, ImageFault, SinkFault, TooLong, BadLine, Refused}
 use Rattle.tool_frame.specs.Stages.{SizeStop, ScriptStop, ParseStop}
 use Rattle.tool_frame.specs.Ended.{CausedAt, ScriptEnds, LinesEnded, LinesOrStopEnded, KeptBefore, BlkEnds}
 use Rattle.tool_frame.proofs.ReadParts.{Read, read_of, room_of, unread_fault, unread_short, read_memory, read_fault, read_long, read_bad, read_unput, read_unsaved, read_refused, read_done}
@@ -94,6 +94,7 @@ size_stopped layout a b Memory f g none q h = absurd h
 size_stopped layout a b Usage f g none q h = absurd h
 size_stopped layout a b (Param x y) f g none q h = absurd h
 size_stopped layout a b (Layout x) f g none q h = absurd h
+size_stopped layout a b NoSharedZone f g none q h = absurd h
 size_stopped layout a b ScriptFault f g none q h = absurd h
 size_stopped layout a b SinkFault f g none q h = absurd h
 size_stopped layout a b TooLong f g none q h = absurd h
@@ -134,6 +135,7 @@ module _ (layout : BlkLayout) (a b : Outside) (room : IfSome a.holds (λ bs. lay
   script_stopped Usage f g q h = absurd h
   script_stopped (Param x y) f g q h = absurd h
   script_stopped (Layout x) f g q h = absurd h
+  script_stopped NoSharedZone f g q h = absurd h
   script_stopped (Short x y) f g q h = absurd h
   script_stopped ImageFault f g q h = absurd h
   script_stopped SinkFault f g q h = absurd h
@@ -166,6 +168,7 @@ module _ (layout : BlkLayout) (a b : Outside) (room : IfSome a.holds (λ bs. lay
     parse_stopped Usage q h = absurd h
     parse_stopped (Param x y) q h = absurd h
     parse_stopped (Layout x) q h = absurd h
+    parse_stopped NoSharedZone q h = absurd h
     parse_stopped (Short x y) q h = absurd h
     parse_stopped ScriptFault q h = absurd h
     parse_stopped ImageFault q h = absurd h
@@ -187,6 +190,7 @@ lines_played (Err (Refused n cause)) layout bytes lines a b p =
 lines_played (Err Usage) layout bytes lines a b p = absurd p.stops
 lines_played (Err (Param x y)) layout bytes lines a b p = absurd p.stops
 lines_played (Err (Layout x)) layout bytes lines a b p = absurd p.stops
+lines_played (Err NoSharedZone) layout bytes lines a b p = absurd p.stops
 lines_played (Err (Short x y)) layout bytes lines a b p = absurd p.stops
 lines_played (Err ScriptFault) layout bytes lines a b p = absurd p.stops
 lines_played (Err TooLong) layout bytes lines a b p = absurd p.stops
@@ -204,6 +208,7 @@ module _ (mem : ℕ) (a b : Outside) (room : IfSome a.holds (λ bs. mem ≤ leng
   played_read (Err Usage) g g' h h' c = absurd c
   played_read (Err (Param x y)) g g' h h' c = absurd c
   played_read (Err (Layout x)) g g' h h' c = absurd c
+  played_read (Err NoSharedZone) g g' h h' c = absurd c
   played_read (Err (Short x y)) g g' h h' c = absurd c
   played_read (Err ScriptFault) g g' h h' c = absurd c
   played_read (Err TooLong) g g' h h' c = absurd c
@@ -219,6 +224,7 @@ played_kept (Err (Refused n cause)) g g' h h' before now c = tt
 played_kept (Err Usage) g g' h h' before now c = absurd c
 played_kept (Err (Param x y)) g g' h h' before now c = absurd c
 played_kept (Err (Layout x)) g g' h h' before now c = absurd c
+played_kept (Err NoSharedZone) g g' h h' before now c = absurd c
 played_kept (Err (Short x y)) g g' h h' before now c = absurd c
 played_kept (Err ScriptFault) g g' h h' before now c = absurd c
 played_kept (Err TooLong) g g' h h' before now c = absurd c
@@ -235,6 +241,7 @@ played_caused (Err (Refused n cause)) f f' g0 g g' h0 h h' p q c = tt
 played_caused (Err Usage) f f' g0 g g' h0 h h' p q c = absurd c
 played_caused (Err (Param x y)) f f' g0 g g' h0 h h' p q c = absurd c
 played_caused (Err (Layout x)) f f' g0 g g' h0 h h' p q c = absurd c
+played_caused (Err NoSharedZone) f f' g0 g g' h0 h h' p q c = absurd c
 played_caused (Err (Short x y)) f f' g0 g g' h0 h h' p q c = absurd c
 played_caused (Err ScriptFault) f f' g0 g g' h0 h h' p q c = absurd c
 played_caused (Err TooLong) f f' g0 g g' h0 h h' p q c = absurd c

@@ -2,11 +2,11 @@
 use Rattle.std.proofs.Common.{◌≡◌, ℕ, ◌<◌, ◌≤◌, List, [], length, take, Option, Err, IfSome, refl, sym, ap, ◌∙◌, arith, inl, true, false, true≢false, nat_lt}
 use Rattle.std.proofs.lemmas.Bool.Decides.{nat_tests}
 use Rattle.tool_spec.specs.Ends.{End}
-use Rattle.tool_spec.specs.Commands.{RamCommand, RunScript, ListRecords, ExtractRecord, EraseRecord, ShowLayout, BlankImage, MakeImage, FindRings, ReadRing, RamPlan, wanted, wanted_of, reads_image, front_of, mem_of, stops}
+use Rattle.tool_spec.specs.Commands.{RamCommand, RunScript, ListRecords, ExtractRecord, EraseRecord, ShowLayout, BlankImage, MakeImage, FindRings, ReadRing, RamPlan, wanted, wanted_of, reads_image, front_of, mem_of, stops, RunShared}
 use Rattle.tool_spec.specs.Answers.{Outside, IfHolds}
 use Rattle.tool_spec.specs.PlanAnswers.{ram_statuses, IsAmong}
 use Rattle.tool_spec.specs.declared.Stop.{Stop}
-use Rattle.tool_spec.specs.declared.Stop.TheVariants.{Memory, Usage, Param, Layout, Short, ScriptFault, ImageFault, SinkFault, TooLong, BadLine, Refused}
+use Rattle.tool_spec.specs.declared.Stop.TheVariants.{Memory, Usage, Param, Layout, NoSharedZone, Short, ScriptFault, ImageFault, SinkFault, TooLong, BadLine, Refused}
 use Rattle.tool_frame.specs.Stages.{LoadStop}
 use Rattle.tool_frame.specs.Ended.{Ended, CanEnd}
 use Rattle.tool_frame.proofs.Script.{Quiet, quiet_memory, put_nothing, ended_as}
@@ -30,6 +30,7 @@ front_is plan (EraseRecord name) reads = refl
 front_is plan ShowLayout reads = absurd (true≢false (sym reads))
 front_is plan BlankImage reads = absurd (true≢false (sym reads))
 front_is plan (MakeImage n) reads = absurd (true≢false (sym reads))
+front_is plan RunShared reads = refl
 front_is plan FindRings reads = absurd (true≢false (sym reads))
 front_is plan (ReadRing at name) reads = absurd (true≢false (sym reads))
 
@@ -63,6 +64,7 @@ image_stopped plan c a b (Short has needed) f g is reads q h = stop_short plan c
 image_stopped plan c a b Usage f g is reads q h = absurd h
 image_stopped plan c a b (Param x y) f g is reads q h = absurd h
 image_stopped plan c a b (Layout x) f g is reads q h = absurd h
+image_stopped plan c a b NoSharedZone f g is reads q h = absurd h
 image_stopped plan c a b ScriptFault f g is reads q h = absurd h
 image_stopped plan c a b SinkFault f g is reads q h = absurd h
 image_stopped plan c a b TooLong f g is reads q h = absurd h
@@ -79,6 +81,7 @@ can_read (EraseRecord name) reads = (refl, refl, refl)
 can_read ShowLayout reads = absurd (true≢false (sym reads))
 can_read BlankImage reads = absurd (true≢false (sym reads))
 can_read (MakeImage n) reads = absurd (true≢false (sym reads))
+can_read RunShared reads = (refl, refl, refl)
 can_read FindRings reads = absurd (true≢false (sym reads))
 can_read (ReadRing at name) reads = absurd (true≢false (sym reads))
 
@@ -90,6 +93,7 @@ load_can plan c ImageFault mem holds f g is reads h = rw is ((can_read c reads).
 load_can plan c Usage mem holds f g is reads h = absurd h
 load_can plan c (Param x y) mem holds f g is reads h = absurd h
 load_can plan c (Layout x) mem holds f g is reads h = absurd h
+load_can plan c NoSharedZone mem holds f g is reads h = absurd h
 load_can plan c ScriptFault mem holds f g is reads h = absurd h
 load_can plan c SinkFault mem holds f g is reads h = absurd h
 load_can plan c TooLong mem holds f g is reads h = absurd h

@@ -13,3 +13,5 @@ pub mod Sizes
 pub mod BlkScript
 pub mod BlkAnswered
 pub mod AnyWords
+pub mod Asking
+pub mod Unshared

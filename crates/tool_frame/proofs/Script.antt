@@ -13,7 +13,7 @@ use Rattle.tool_spec.specs.Scripts.{ran}
 use Rattle.tool_spec.specs.Commands.{RunScript, RamPlan, Wanted, wanted, wanted_run, wanted_script, wanted_lines, mem_of, stops, script_limit}
 use Rattle.tool_spec.specs.Answers.{Outside, NoScript}
 use Rattle.tool_spec.specs.declared.Stop.{Stop}
-use Rattle.tool_spec.specs.declared.Stop.TheVariants.{Memory, Usage, Param, Layout, Short, ScriptFault, ImageFault, SinkFault, TooLong, BadLine, Refused}
+use Rattle.tool_spec.specs.declared.Stop.TheVariants.{Memory, Usage, Param, Layout, NoSharedZone, Short, ScriptFault, ImageFault, SinkFault, TooLong, BadLine, Refused}
 use Rattle.tool_frame.specs.Stages.{LoadStop, ScriptStop, ParseStop}
 use Rattle.tool_frame.specs.Playing.{Played, PlayStop}
 use Rattle.tool_frame.specs.Ended.{Ended, RunEnds}
@@ -124,6 +124,7 @@ load_stopped plan a b (Short has needed) f g is none q h = stop_short plan a b h
 load_stopped plan a b Usage f g is none q h = absurd h
 load_stopped plan a b (Param x y) f g is none q h = absurd h
 load_stopped plan a b (Layout x) f g is none q h = absurd h
+load_stopped plan a b NoSharedZone f g is none q h = absurd h
 load_stopped plan a b ScriptFault f g is none q h = absurd h
 load_stopped plan a b SinkFault f g is none q h = absurd h
 load_stopped plan a b TooLong f g is none q h = absurd h
@@ -167,6 +168,7 @@ module _ (plan : RamPlan) (a b : Outside) (image : List ℕ) (l : Loaded plan a 
   script_stopped Usage f g q h = absurd h
   script_stopped (Param x y) f g q h = absurd h
   script_stopped (Layout x) f g q h = absurd h
+  script_stopped NoSharedZone f g q h = absurd h
   script_stopped (Short x y) f g q h = absurd h
   script_stopped ImageFault f g q h = absurd h
   script_stopped SinkFault f g q h = absurd h
@@ -195,6 +197,7 @@ module _ (plan : RamPlan) (a b : Outside) (image : List ℕ) (l : Loaded plan a 
     parse_stopped Usage q h = absurd h
     parse_stopped (Param x y) q h = absurd h
     parse_stopped (Layout x) q h = absurd h
+    parse_stopped NoSharedZone q h = absurd h
     parse_stopped (Short x y) q h = absurd h
     parse_stopped ScriptFault q h = absurd h
     parse_stopped ImageFault q h = absurd h
@@ -232,6 +235,7 @@ module _ (plan : RamPlan) (a b : Outside) (image : List ℕ) (l : Loaded plan a 
       play_stopped Usage f g kept h = absurd h
       play_stopped (Param x y) f g kept h = absurd h
       play_stopped (Layout x) f g kept h = absurd h
+      play_stopped NoSharedZone f g kept h = absurd h
       play_stopped (Short x y) f g kept h = absurd h
       play_stopped ScriptFault f g kept h = absurd h
       play_stopped ImageFault f g kept h = absurd h

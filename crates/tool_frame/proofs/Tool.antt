@@ -4,14 +4,14 @@ use Rattle.std.specs.Io.KnownBytes.{Appends, IsAtEnd}
 use Rattle.grammar_spec.specs.Lines.{script_of}
 use Rattle.grammar_spec.specs.Fields.{Text}
 use Rattle.tool_spec.specs.Ends.{End, status_of, last_line}
-use Rattle.tool_spec.specs.Commands.{RamCommand, RunScript, ListRecords, ExtractRecord, EraseRecord, ShowLayout, BlankImage, MakeImage, FindRings, ReadRing, RamPlan, Wanted, wanted, wanted_of_image, mem_of, script_limit}
+use Rattle.tool_spec.specs.Commands.{RamCommand, RunScript, ListRecords, ExtractRecord, EraseRecord, ShowLayout, BlankImage, MakeImage, FindRings, ReadRing, RamPlan, Wanted, wanted, wanted_of_image, mem_of, script_limit, RunShared}
 use Rattle.tool_spec.specs.Answers.{Outside, NoScript, NoImage, RoseFor, PutsAll, IsFree, SavedInPart, ShortAnswers, ScriptAnswers, ScriptUse, ScriptRead, RunAnswers, ImageAnswers, ReadAnswers, MakeAnswers, whole}
 use Rattle.tool_spec.specs.PlanAnswers.{ram_statuses, RamAnswers}
 use Rattle.tool_frame.specs.Ends.{LastPut, Finished}
 use Rattle.tool_frame.specs.Ended.{PutTexts, Ended, Caused, ShortAt, ScriptAt, UseAt, ScriptEnds, RunEnds, ImageEnds, ReadEnds, WrittenAt, MakeEnds, RamEnds}
 use Rattle.tool_frame.proofs.Answered.{GoesOn, rose_on, sink_rose, saved_in_part, answers, appends_on, nothing_put}
 use Rattle.tool_spec.specs.declared.Stop.{Stop}
-use Rattle.tool_spec.specs.declared.Stop.TheVariants.{Memory, Usage, Param, Layout, Short, ScriptFault, ImageFault, SinkFault, TooLong, BadLine, Refused}
+use Rattle.tool_spec.specs.declared.Stop.TheVariants.{Memory, Usage, Param, Layout, NoSharedZone, Short, ScriptFault, ImageFault, SinkFault, TooLong, BadLine, Refused}
 
 pub script_on : (a m b : Outside) → NoScript a m → NoScript m b → NoScript a b
 script_on a m b h k = record { left = k.left ∙ h.left; source = k.source ∙ h.source }
@@ -41,6 +41,7 @@ module _ (a m b : Outside) (on : GoesOn a m b) (status : ℕ) where
   status_is (Err Usage) c f = put_status Usage f
   status_is (Err (Param x y)) c f = put_status (Param x y) f
   status_is (Err (Layout x)) c f = put_status (Layout x) f
+  status_is (Err NoSharedZone) c f = put_status NoSharedZone f
   status_is (Err (Short x y)) c f = put_status (Short x y) f
   status_is (Err ScriptFault) c f = put_status ScriptFault f
   status_is (Err ImageFault) c f = put_status ImageFault f
@@ -115,6 +116,7 @@ module _ (a m b : Outside) (on : GoesOn a m b) (status : ℕ) where
     short_at (Err Usage) c h q f = enough 2 (λ z. absurd (omega arith)) h (put_status Usage f)
     short_at (Err (Param x y)) c h q f = enough 3 (λ z. absurd (omega arith)) h (put_status (Param x y) f)
     short_at (Err (Layout x)) c h q f = enough 3 (λ z. absurd (omega arith)) h (put_status (Layout x) f)
+    short_at (Err NoSharedZone) c h q f = enough 3 (λ z. absurd (omega arith)) h (put_status NoSharedZone f)
     short_at (Err ScriptFault) c h q f = enough 5 (λ z. absurd (omega arith)) h (put_status ScriptFault f)
     short_at (Err SinkFault) c h q f = enough 7 (λ z. absurd (omega arith)) h
         (inr (f.answer, rose_on a m b on SinkFault c f.later))
@@ -200,6 +202,8 @@ module _ (a m b : Outside) (on : GoesOn a m b) (status : ℕ) where
         (put_status (Param x y) f)
     script_at (Err (Layout x)) c h q f = good 3 (λ z. absurd (omega arith)) (λ z. absurd (omega arith)) h
         (put_status (Layout x) f)
+    script_at (Err NoSharedZone) c h q f = good 3 (λ z. absurd (omega arith)) (λ z. absurd (omega arith)) h
+        (put_status NoSharedZone f)
     script_at (Err (Refused x y)) c h q f = good 10 (λ z. absurd (omega arith)) (λ z. absurd (omega arith)) h
         (put_status (Refused x y) f)
 
@@ -307,6 +311,9 @@ module _ (a m b : Outside) (on : GoesOn a m b) (status : ℕ) where
   use_at (Err (Layout x)) c h f = quiet_end (Layout x) 3 refl (λ z. absurd (omega arith)) (λ z. absurd (omega arith))
       (λ z. absurd (omega arith)) (λ z. absurd (omega arith)) (λ z. absurd (omega arith)) (λ z. absurd (omega arith))
       (λ z. absurd (omega arith)) (put_status (Layout x) f)
+  use_at (Err NoSharedZone) c h f = quiet_end NoSharedZone 3 refl (λ z. absurd (omega arith)) (λ z. absurd (omega arith))
+      (λ z. absurd (omega arith)) (λ z. absurd (omega arith)) (λ z. absurd (omega arith)) (λ z. absurd (omega arith))
+      (λ z. absurd (omega arith)) (put_status NoSharedZone f)
   use_at (Err (Short x y)) c h f = used_by (Short x y) (unread_at h.0) (put_status (Short x y) f)
   use_at (Err ScriptFault) c h f = used_by ScriptFault
       (λ k. fault_at (put_after ScriptFault 5 refl (λ z. absurd (omega arith)) h f k) k) (put_status ScriptFault f)
@@ -358,6 +365,7 @@ module _ (a m b : Outside) (on : GoesOn a m b) (status : ℕ) where
   last_put (Err Usage) f = some_put Usage f
   last_put (Err (Param x y)) f = some_put (Param x y) f
   last_put (Err (Layout x)) f = some_put (Layout x) f
+  last_put (Err NoSharedZone) f = some_put NoSharedZone f
   last_put (Err (Short x y)) f = some_put (Short x y) f
   last_put (Err ScriptFault) f = some_put ScriptFault f
   last_put (Err ImageFault) f = some_put ImageFault f
@@ -397,6 +405,7 @@ module _ (a m b : Outside) (on : GoesOn a m b) (status : ℕ) where
   written_at w (Err Usage) c h f = not_six w 2 (λ z. absurd (omega arith)) (put_status Usage f)
   written_at w (Err (Param x y)) c h f = not_six w 3 (λ z. absurd (omega arith)) (put_status (Param x y) f)
   written_at w (Err (Layout x)) c h f = not_six w 3 (λ z. absurd (omega arith)) (put_status (Layout x) f)
+  written_at w (Err NoSharedZone) c h f = not_six w 3 (λ z. absurd (omega arith)) (put_status NoSharedZone f)
   written_at w (Err (Short x y)) c h f = not_six w 4 (λ z. absurd (omega arith)) (put_status (Short x y) f)
   written_at w (Err ScriptFault) c h f = not_six w 5 (λ z. absurd (omega arith)) (put_status ScriptFault f)
   written_at w (Err SinkFault) c h f = not_six w 7 (λ z. absurd (omega arith)) (inl f.answer)
@@ -444,6 +453,7 @@ module _ (a m b : Outside) (on : GoesOn a m b) (status : ℕ) where
   }
   ram_answers BlankImage plan e c h f = make_answers plan e c h f
   ram_answers (MakeImage n) plan e c h f = make_answers plan e c h f
+  ram_answers RunShared plan e c h f = run_answers plan e c h f
   ram_answers FindRings plan e c h f = read_answers (ram_statuses plan.command) (wanted_of_image plan) e c h f
   ram_answers (ReadRing at name) plan e c h f =
       read_answers (ram_statuses plan.command) (wanted_of_image plan) e c h f

@@ -7,12 +7,12 @@ use Rattle.grammar_spec.specs.Fields.{Text}
 use Rattle.grammar_spec.specs.Lines.{script_of}
 use Rattle.grammar_spec.specs.declared.line.Line.{Line}
 use Rattle.tool_spec.specs.Ends.{End, status_of}
-use Rattle.tool_spec.specs.Commands.{RamCommand, RunScript, ListRecords, ExtractRecord, EraseRecord, ShowLayout, BlankImage, MakeImage, FindRings, ReadRing, RamPlan, Plan, OfRam, OfBlk, OfMove, Wanted, wanted, wanted_of_image, wanted_move, mem_of, stops, script_limit}
+use Rattle.tool_spec.specs.Commands.{RamCommand, RunScript, ListRecords, ExtractRecord, EraseRecord, ShowLayout, BlankImage, MakeImage, FindRings, ReadRing, RamPlan, Plan, OfRam, OfBlk, OfMove, Wanted, wanted, wanted_of_image, wanted_move, mem_of, stops, script_limit, RunShared}
 use Rattle.tool_spec.specs.Answers.{Outside, IfHolds, IfLeft, IfTold, NoScript, NoImage, Later, front, whole, WritesAll, WritesSome, PutsAll}
 use Rattle.tool_spec.specs.BlkAnswers.{blk_lines, BlkStop, AllDone}
 use Rattle.tool_spec.specs.PlanAnswers.{ram_statuses, statuses, IsAmong, WritesLast}
 use Rattle.tool_spec.specs.declared.Stop.{Stop}
-use Rattle.tool_spec.specs.declared.Stop.TheVariants.{Memory, Usage, Param, Layout, Short, ScriptFault, ImageFault, SinkFault, TooLong, BadLine, Refused}
+use Rattle.tool_spec.specs.declared.Stop.TheVariants.{Memory, Usage, Param, Layout, NoSharedZone, Short, ScriptFault, ImageFault, SinkFault, TooLong, BadLine, Refused}
 
 -- some first texts were put
 pub record PutTexts (texts : List Text) (old new : Option (List ℕ)) : Type 0 where
@@ -167,6 +167,7 @@ KeptBefore holds holds' (Err (Refused n cause)) = ⊤
 KeptBefore holds holds' (Err Usage) = ⊥
 KeptBefore holds holds' (Err (Param fault before)) = ⊥
 KeptBefore holds holds' (Err (Layout fault)) = ⊥
+KeptBefore holds holds' (Err NoSharedZone) = ⊥
 KeptBefore holds holds' (Err s) = holds' ≡ holds
 
 -- a script on the block store, as far as the outside tells what it uses
@@ -185,6 +186,7 @@ RamEnds (EraseRecord name) plan a b e = RamImageEnds plan a b e
 RamEnds ShowLayout plan a b e = ShowEnds plan a b e
 RamEnds BlankImage plan a b e = MakeEnds plan a b e
 RamEnds (MakeImage n) plan a b e = MakeEnds plan a b e
+RamEnds RunShared plan a b e = RunEnds plan a b e
 RamEnds FindRings plan a b e = RamReadEnds plan a b e
 RamEnds (ReadRing at name) plan a b e = RamReadEnds plan a b e
 

@@ -1,21 +1,22 @@
 -- What the words' values are seen as
-use Rattle.std.specs.Prelude.{◌≡◌, ⊤, List, map, string_bytes, Result, Err, IsOk}
+use Rattle.std.specs.Prelude.{◌≡◌, ⊤, false, List, map, string_bytes, Result, Err, IsOk}
 use Rattle.std.specs.declared.string.String.{String}
 use Rattle.std.specs.declared.alloc.Global.{Global}
 use Rattle.blk_spec.specs.Layout.{IsLayout}
 use Rattle.zone_params.specs.declared.types.Layout.{Layout}
 use Rattle.zone_params.specs.Laid.{params_of, zones_of}
 use Rattle.grammar_spec.specs.Fields.{Text}
-use Rattle.tool_spec.specs.Commands.{RamCommand, RunScript, ListRecords, ExtractRecord, EraseRecord, ShowLayout, BlankImage, MakeImage, FindRings, ReadRing, Command, OnRam, RunBlkScript, MoveImage, Asked, RamPlan, Laid, MovePlan, Plan, OfRam, OfBlk, OfMove}
+use Rattle.tool_spec.specs.Commands.{RamCommand, RunScript, ListRecords, ExtractRecord, EraseRecord, ShowLayout, BlankImage, MakeImage, FindRings, ReadRing, Command, OnRam, RunBlkScript, MoveImage, Asked, RamPlan, Laid, MovePlan, Plan, OfRam, OfBlk, OfMove, RunShared}
+use Rattle.tool_spec.specs.SharedScripts.{lacks_plain_ftrace}
 use Rattle.tool_spec.specs.declared.Stop.{Stop}
 use Rattle.tool_spec.specs.declared.Stop.TheVariants.{Memory, ScriptFault, ImageFault, SinkFault}
 use Rattle.tool_frame.specs.declared.words.RamCommand.{RamCommand as ReadRamCommand}
 use Rattle.tool_frame.specs.declared.words.RamCommand.TheVariants.{Run, List as ListCommand, Extract, Erase, Layout as LayoutCommand, Blank, Make, Salvage, Rescue}
 use Rattle.tool_frame.specs.declared.asked.Command.{Command as ReadCommand}
-use Rattle.tool_frame.specs.declared.asked.Command.TheVariants.{OnRam as OnRamRead, RunBlk, Move as MoveRead}
+use Rattle.tool_frame.specs.declared.asked.Command.TheVariants.{OnRam as OnRamRead, RunBlk, Move as MoveRead, RunShared as RunSharedRead}
 use Rattle.tool_frame.specs.declared.asked.Asked.{Asked as ReadAsked}
 use Rattle.tool_frame.specs.declared.words.Plan.{Plan as ReadPlan}
-use Rattle.tool_frame.specs.declared.words.Plan.TheVariants.{Ram, Blk, Move}
+use Rattle.tool_frame.specs.declared.words.Plan.TheVariants.{Ram, Blk, Move, Share}
 
 abbrev pub texts : List (String Global) → List Text
 texts words = map string_bytes words
@@ -35,6 +36,7 @@ abbrev pub command_seen : ReadCommand → Command
 command_seen (OnRamRead command) = OnRam (ram_command_seen command)
 command_seen RunBlk = RunBlkScript
 command_seen (MoveRead to) = MoveImage (texts to.now)
+command_seen RunSharedRead = OnRam RunShared
 
 abbrev pub asked_seen : ReadAsked → Asked
 asked_seen a = record { command = command_seen a.command; before = a.before; params = texts a.params.now }
@@ -54,10 +56,18 @@ abbrev pub plan_seen : ReadPlan → Plan
 plan_seen (Ram command layout) = OfRam (plan_for (ram_command_seen command) layout)
 plan_seen (Blk layout) = OfBlk layout
 plan_seen (Move from to) = OfMove (move_for from to)
+plan_seen (Share booted shared) = OfRam (plan_for RunShared booted)
+
+-- a zone that is shared is there without parity, and both layouts are of the same parameters
+pub record CanShareIn (booted shared : Layout) : Type 0 where
+  pub params : params_of shared ≡ params_of booted
+  pub zones : zones_of shared ≡ zones_of booted
+  pub plain : lacks_plain_ftrace (params_of booted) ≡ false
 
 -- a block store's layout is one
 abbrev pub IsLaid : ReadPlan → Type 0
 IsLaid (Ram command layout) = ⊤
+IsLaid (Share booted shared) = CanShareIn booted shared
 IsLaid (Blk layout) = IsLayout layout
 IsLaid (Move from to) = ⊤
 

@@ -11,6 +11,8 @@ pub enum Command<'a> {
     RunBlk,
     /// A move to an image of these parameters.
     Move(&'a [String]),
+    /// A script on a shared zone.
+    RunShared,
 }
 
 /// A command, how many words stand before its parameters, and these.

@@ -1,6 +1,6 @@
 // The words of the command line.
 ghost use Rattle.std.specs.Prelude.{◌≡◌, ◌<◌, position, string_bytes, [], ◌∷◌, MatchResult, MatchOption, None, Some, Ok, IfOk, IfErr};
-ghost use Rattle.tool_spec.specs.Commands.{OnRam, RunBlkScript, MoveImage, is_to, with_to, asked, asked_by, with_name, with_number, with_place, with_first_layout, laid_out, plan_of, ExtractRecord, EraseRecord};
+ghost use Rattle.tool_spec.specs.Commands.{OnRam, RunBlkScript, MoveImage, is_to, with_to, asked, asked_by, with_name, with_number, with_place, with_first_layout, laid_out, plan_of, ExtractRecord, EraseRecord, RunShared};
 ghost use Rattle.zone_spec.specs.Layout.{layout_of};
 ghost use Rattle.tool_frame.specs.Words.{asked_seen, plan_seen, ram_command_seen, command_seen, texts, PlanStop, IsLaid, IsNoFault};
 
@@ -40,6 +40,8 @@ pub enum Plan<'a> {
     Blk(BlkLayout),
     /// A move from an image of the first layout to one of the second.
     Move(Layout, Layout),
+    /// A script on a shared zone of an image of this layout, once for the boot and once for the zone.
+    Share(Layout, Layout),
 }
 
 // A command that only parameters follow.
@@ -157,6 +159,7 @@ fn asked_by<'a>(word: &str, words: &'a [String]) -> Option<Asked<'a>>
         "make" => make(words),
         "blk-run" => Some(plain(Command::RunBlk, words)),
         "move" => move_image(words),
+        "shared-run" => Some(plain(Command::RunShared, words)),
         "salvage" => Some(plain(Command::OnRam(RamCommand::Salvage), words)),
         "rescue" => rescue(words),
         _ => None,
@@ -173,6 +176,7 @@ fn read_command(words: &[String]) -> Option<Asked<'_>>
 }
 
 // A command on an image of these parameters, which stand after so many words.
+#[tactic(auto, using(crate::proofs::Unshared::shares_none))]
 fn lay_image<'a>(
     alloc: Global,
     command: RamCommand<'a>,
@@ -192,6 +196,30 @@ fn lay_image<'a>(
         Ok(layout) => Ok(Plan::Ram(command, layout)),
         Err(LayoutError::Fault(fault)) => Err(Stop::Layout(fault)),
         Err(LayoutError::Memory) => Err(Stop::Memory),
+    }
+}
+
+// A script on a shared zone of an image of these parameters. That the zone is missing comes before want of memory.
+fn lay_shared<'a>(alloc: Global, before: u32, params: &[String]) -> Result<Plan<'a>, Stop>
+    ensures plan { let wanted = laid_out (OnRam RunShared) before (texts params.now) in
+        MatchResult result (λ plan. wanted ≡ Ok (plan_seen plan)) (λ stop. PlanStop stop wanted) }
+    ensures laid { IfOk result IsLaid }
+    ensures stops { IfErr result IsNoFault }
+{
+    let params = match read_words(params) {
+        Ok(params) => params,
+        Err(fault) => return Err(Stop::Param { fault, before }),
+    };
+    let booted = match layout(alloc, &params) {
+        Err(LayoutError::Fault(fault)) => return Err(Stop::Layout(fault)),
+        booted => booted,
+    };
+    if params.ftrace == 0 || params.ecc_ftrace > 0 {
+        return Err(Stop::NoSharedZone);
+    }
+    match (booted, layout(alloc, &params)) {
+        (Ok(booted), Ok(shared)) => Ok(Plan::Share(booted, shared)),
+        _ => Err(Stop::Memory),
     }
 }
 
@@ -274,6 +302,7 @@ pub fn read_plan(alloc: Global, words: &[String]) -> Result<Plan<'_>, Stop>
     match asked.command {
         Command::OnRam(command) => lay_image(alloc, command, asked.before, asked.params),
         Command::RunBlk => lay_blk(asked.before, asked.params),
+        Command::RunShared => lay_shared(alloc, asked.before, asked.params),
         Command::Move(to) => lay_move(alloc, asked.before, asked.params, to),
     }
 }

@@ -29,12 +29,14 @@ use Rattle.grammar_spec.specs.Lines.{script_of}
 use Rattle.grammar_spec.specs.declared.line.Line.{Line}
 use Rattle.tool_spec.specs.Texts.{layout_text, listing, move_text, rings_text}
 use Rattle.tool_spec.specs.Scripts.{Ran, ran, named}
+use Rattle.tool_spec.specs.SharedScripts.{SharedRan, shared_ran, shared_text, zone_to_share, lacks_plain_ftrace}
+use Rattle.shared_spec.specs.Histories.{shared_zone, image_left}
 use Rattle.tool_spec.specs.Generated.{Generated, generated, summary}
 use Rattle.tool_spec.specs.Ends.{End}
 use Rattle.tool_spec.specs.declared.Cause.{Cause}
 use Rattle.tool_spec.specs.declared.Cause.TheVariants.{NoRecord, NoZone, NoRing}
 use Rattle.tool_spec.specs.declared.Stop.{Stop}
-use Rattle.tool_spec.specs.declared.Stop.TheVariants.{Memory, Usage, Param, Layout as LayoutStop, Short, TooLong, BadLine, Refused}
+use Rattle.tool_spec.specs.declared.Stop.TheVariants.{Memory, Usage, Param, Layout as LayoutStop, Short, TooLong, BadLine, Refused, NoSharedZone}
 
 -- ---- words
 
@@ -47,6 +49,7 @@ pub data RamCommand : Type 0 where
   ShowLayout : RamCommand
   BlankImage : RamCommand
   MakeImage : (n : ℕ) → RamCommand
+  RunShared : RamCommand
   FindRings : RamCommand
   ReadRing : (at : ℕ) (name : ZoneName) → RamCommand
 
@@ -114,6 +117,7 @@ asked_by word words =
     else if bytes_eq word (codes "make") then with_number words
     else if bytes_eq word (codes "blk-run") then plain RunBlkScript words
     else if bytes_eq word (codes "move") then with_to words
+    else if bytes_eq word (codes "shared-run") then plain (OnRam RunShared) words
     else if bytes_eq word (codes "salvage") then plain (OnRam FindRings) words
     else if bytes_eq word (codes "rescue") then with_place words
     else None
@@ -145,8 +149,15 @@ pub data Plan : Type 0 where
   OfBlk : (layout : BlkLayout) → Plan
   OfMove : (plan : MovePlan) → Plan
 
+-- a script on a shared zone needs one; this is asked of parameters whose layout has no fault
+abbrev pub lacks_zone : RamCommand → Params → Bool
+lacks_zone RunShared params = lacks_plain_ftrace params
+lacks_zone other params = false
+
 abbrev pub with_layout : RamCommand → Params → Result (List Zone) LayoutFault → Result Plan Stop
-with_layout command params (Ok zones) = Ok (OfRam (record { command = command; params = params; zones = zones }))
+with_layout command params (Ok zones) =
+    if lacks_zone command params then Err NoSharedZone
+    else Ok (OfRam (record { command = command; params = params; zones = zones }))
 with_layout command params (Err fault) = Err (LayoutStop fault)
 
 abbrev pub with_params : RamCommand → ℕ → Result Params ParamFault → Result Plan Stop
@@ -254,6 +265,33 @@ wanted_run layout image script =
 abbrev pub after_boot : List Zone → List ℕ → LiveState
 after_boot layout image = booted layout (fresh layout image)
 
+-- a script on the zone ftrace-0 of the image of a session `boot`, `stop`: one text at its end
+abbrev pub wanted_calls : SharedRan → Wanted
+wanted_calls r = record {
+  texts = shared_text r.history.zone (shared_zone r.history) ∷ [];
+  end = Ok tt;
+  writes = Some (image_left r.history);
+}
+
+-- a refused line comes before that text
+abbrev pub wanted_ran : SharedRan → Option Cause → Wanted
+wanted_ran r None = wanted_calls r
+wanted_ran r (Some cause) = stops (Refused (r.count + 1) cause)
+
+abbrev pub wanted_in_zone : Option Zone → List ℕ → List Line → Wanted
+wanted_in_zone None image lines = stops NoSharedZone
+wanted_in_zone (Some z) image lines = let r = shared_ran z image lines in wanted_ran r r.refused
+
+abbrev pub wanted_shared_lines : List Zone → List ℕ → Result (List Line) ℕ → Wanted
+wanted_shared_lines layout image (Ok lines) =
+    wanted_in_zone (zone_to_share layout) (stopped layout (after_boot layout image)).image lines
+wanted_shared_lines layout image (Err n) = stops (BadLine n)
+
+abbrev pub wanted_shared : List Zone → List ℕ → List ℕ → Wanted
+wanted_shared layout image script =
+    if nat_lt script_limit (length script) then stops TooLong
+    else wanted_shared_lines layout image (script_of script)
+
 -- the commands put no boot lines, and refuse a name as the second line of a script would
 abbrev pub unlisted : Wanted
 unlisted = stops (Refused 2 NoRecord)
@@ -292,6 +330,7 @@ wanted_of params layout image script (EraseRecord name) =
     let live = after_boot layout image in wanted_erase layout live (named (saved_logs layout live) name)
 wanted_of params layout image script ShowLayout = shows (layout_text params layout ∷ [])
 wanted_of params layout image script BlankImage = leaves (replicate (rounded params.mem) 0)
+wanted_of params layout image script RunShared = wanted_shared layout image script
 wanted_of params layout image script (MakeImage n) = wanted_make n layout (generated layout (rounded params.mem) n)
 wanted_of params layout dump script FindRings = shows (rings_text (rings dump layout) ∷ [])
 wanted_of params layout dump script (ReadRing at name) = wanted_ring (read_at dump layout at name)

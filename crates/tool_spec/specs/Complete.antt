@@ -4,7 +4,7 @@ use Rattle.blk_spec.specs.declared.BlkLayout.{BlkLayout}
 use Rattle.grammar_spec.specs.Fields.{Text}
 use Rattle.grammar_spec.specs.declared.line.Line.{Line}
 use Rattle.tool_spec.specs.Ends.{End}
-use Rattle.tool_spec.specs.Commands.{RamCommand, RunScript, ShowLayout, BlankImage, MakeImage, Plan, OfRam, OfBlk, OfMove, wanted, wanted_move, plan_of}
+use Rattle.tool_spec.specs.Commands.{RamCommand, RunScript, ShowLayout, BlankImage, MakeImage, RunShared, Plan, OfRam, OfBlk, OfMove, wanted, wanted_move, plan_of}
 use Rattle.tool_spec.specs.BlkScripts.{blk_ran}
 use Rattle.tool_spec.specs.Answers.{Outside, RoseFor}
 use Rattle.tool_spec.specs.BlkAnswers.{blk_lines, blk_end}
@@ -33,6 +33,7 @@ wanted_end words bytes script = plan_end (plan_of words) bytes script
 -- the image holds these bytes, and these are left of the script, as far as a command reads them
 abbrev pub CommandTells : RamCommand → Outside → List ℕ → List ℕ → Type 0
 CommandTells RunScript a bytes script = (a.holds ≡ Some bytes) × (a.left ≡ Some script)
+CommandTells RunShared a bytes script = (a.holds ≡ Some bytes) × (a.left ≡ Some script)
 CommandTells ShowLayout a bytes script = ⊤
 CommandTells BlankImage a bytes script = ⊤
 CommandTells (MakeImage n) a bytes script = ⊤

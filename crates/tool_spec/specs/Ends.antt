@@ -6,7 +6,7 @@ use Rattle.grammar_spec.specs.declared.faults.ParamFault.TheVariants.{UnknownKey
 use Rattle.grammar_spec.specs.Fields.{Text}
 use Rattle.tool_spec.specs.Texts.{newline}
 use Rattle.tool_spec.specs.declared.Stop.{Stop}
-use Rattle.tool_spec.specs.declared.Stop.TheVariants.{Memory, Usage, Param, Layout, Short, ScriptFault, ImageFault, SinkFault, TooLong, BadLine, Refused}
+use Rattle.tool_spec.specs.declared.Stop.TheVariants.{Memory, Usage, Param, Layout, NoSharedZone, Short, ScriptFault, ImageFault, SinkFault, TooLong, BadLine, Refused}
 use Rattle.tool_spec.specs.declared.Cause.{Cause}
 use Rattle.tool_spec.specs.declared.Cause.TheVariants.{IsOff, IsLive, NoZone, Busy, Idle, OutOfImage, NoRecord, NotHere, TooLong as TooLongLine, NoSeat, Crowded, NoRing}
 
@@ -20,6 +20,7 @@ status_of (Err Memory) = 1
 status_of (Err Usage) = 2
 status_of (Err (Param fault before)) = 3
 status_of (Err (Layout fault)) = 3
+status_of (Err NoSharedZone) = 3
 status_of (Err (Short has needed)) = 4
 status_of (Err ScriptFault) = 5
 status_of (Err ImageFault) = 6
@@ -54,6 +55,7 @@ last_line Memory = codes "no memory" ++ newline
 last_line Usage = codes "usage: oopsbox IMAGE COMMAND key=value .." ++ newline
 last_line (Param fault before) = codes "parameter fault " ++ param_text fault before ++ newline
 last_line (Layout fault) = codes "layout fault " ++ decimal (fault_number fault) ++ newline
+last_line NoSharedZone = codes "layout fault 12" ++ newline
 last_line (Short has needed) = codes "image has " ++ decimal has ++ codes " bytes, " ++ decimal needed
     ++ codes " needed" ++ newline
 last_line ScriptFault = codes "script fault" ++ newline

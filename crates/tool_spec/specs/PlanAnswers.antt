@@ -1,7 +1,7 @@
 -- What run answers to any words
 use Rattle.std.specs.Prelude.{◌≡◌, ◌≢◌, ◌⊎◌, ⊤, ℕ, ◌==◌, true, List, [], ◌∷◌, Result, Ok, Err}
 use Rattle.std.specs.List.{list_any}
-use Rattle.tool_spec.specs.Commands.{RamCommand, RunScript, ListRecords, ExtractRecord, EraseRecord, ShowLayout, BlankImage, MakeImage, FindRings, ReadRing, RamPlan, wanted_of_image, Plan, OfRam, OfBlk, OfMove, wanted_move}
+use Rattle.tool_spec.specs.Commands.{RamCommand, RunScript, ListRecords, ExtractRecord, EraseRecord, ShowLayout, BlankImage, MakeImage, FindRings, ReadRing, RamPlan, wanted_of_image, Plan, OfRam, OfBlk, OfMove, wanted_move, RunShared}
 use Rattle.tool_spec.specs.Answers.{Outside, RoseFor, RunAnswers, ImageAnswers, ReadAnswers, MakeAnswers, ShowAnswers, FaultAnswers}
 use Rattle.tool_spec.specs.BlkAnswers.{BlkAnswers}
 use Rattle.tool_spec.specs.declared.Stop.{Stop}
@@ -16,6 +16,7 @@ RamAnswers (EraseRecord name) plan a b status = ImageAnswers (wanted_of_image pl
 RamAnswers ShowLayout plan a b status = ShowAnswers plan a b status
 RamAnswers BlankImage plan a b status = MakeAnswers plan a b status
 RamAnswers (MakeImage n) plan a b status = MakeAnswers plan a b status
+RamAnswers RunShared plan a b status = RunAnswers plan a b status
 RamAnswers FindRings plan a b status = ReadAnswers (wanted_of_image plan) a b status
 RamAnswers (ReadRing at name) plan a b status = ReadAnswers (wanted_of_image plan) a b status
 
@@ -34,6 +35,7 @@ ram_statuses (EraseRecord name) = 0 ∷ 1 ∷ 4 ∷ 6 ∷ 7 ∷ 10 ∷ []
 ram_statuses ShowLayout = 0 ∷ 1 ∷ 7 ∷ []
 ram_statuses BlankImage = 0 ∷ 1 ∷ 6 ∷ 7 ∷ []
 ram_statuses (MakeImage n) = 0 ∷ 1 ∷ 6 ∷ 7 ∷ []
+ram_statuses RunShared = 0 ∷ 1 ∷ 4 ∷ 5 ∷ 6 ∷ 7 ∷ 8 ∷ 9 ∷ 10 ∷ []
 ram_statuses FindRings = 0 ∷ 1 ∷ 6 ∷ 7 ∷ []
 ram_statuses (ReadRing at name) = 0 ∷ 1 ∷ 6 ∷ 7 ∷ 10 ∷ []
 

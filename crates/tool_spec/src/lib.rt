@@ -35,6 +35,8 @@ pub enum Stop {
     /// A faulty parameter, and how many words stand before the first parameter.
     Param { fault: ParamFault, before: u32 },
     Layout(LayoutFault),
+    /// A layout without fault, in which the zone that is to be shared is missing or has parity.
+    NoSharedZone,
     /// The image has fewer bytes than the layout needs.
     Short { has: u64, needed: u32 },
     ScriptFault,

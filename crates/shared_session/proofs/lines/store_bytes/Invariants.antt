@@ -1,0 +1,12 @@
+use Rattle.std.proofs.Common.{◌≡◌, ◌≤◌}
+use Rattle.shared_spec.specs.Histories.{History}
+use Rattle.shared_ring.specs.Seen.{IsLeftBy}
+use Rattle.tool_spec.specs.SharedScripts.{with_steps}
+use Rattle.shared_session.proofs.lines.store_bytes.Given as goal
+
+-- so many steps were made
+abbrev pub invariant-steps : goal.invariant-steps
+invariant-steps l = record {
+  within : l.made ≤ l.count;
+  left : (h : History) → IsLeftBy h l.initial.shared → IsLeftBy (with_steps h l.ticket l.made) l.shared;
+}

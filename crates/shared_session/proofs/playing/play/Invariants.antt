@@ -1,0 +1,10 @@
+use Rattle.std.proofs.Common.{◌≡◌, length}
+use Rattle.shared_session.proofs.Lines.{PlaysSoFar}
+use Rattle.shared_session.proofs.playing.play.Given as goal
+
+-- so many lines were done as were taken
+abbrev pub invariant-loop-line : goal.invariant-loop-line
+invariant-loop-line l = record {
+  counted : l.number ≡ length l.yielded;
+  played : PlaysSoFar l.initial.shared l.fn.lines l.number l.shared;
+}

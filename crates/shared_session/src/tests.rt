@@ -1,0 +1,2 @@
+// What no clause says: that the text finds memory.
+use crate::{play, shared_text};
