@@ -1,3 +1,4 @@
 pub mod Parts
 pub mod Records
 pub mod Escaped
+pub mod AsGiven
