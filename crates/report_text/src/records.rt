@@ -1,5 +1,5 @@
 // The table of the records.
-ghost use Rattle.std.specs.Prelude.{◌≡◌, ◌++◌, ◌*◌, flat_map, pos, IfSome, OnOk};
+ghost use Rattle.std.specs.Prelude.{◌≡◌, ◌++◌, ◌*◌, ◌<◌, flat_map, pos, IfSome, IsSome, OnOk};
 ghost use Rattle.jiff.specs.Words.{civil_nanos};
 ghost use Rattle.report_text.specs.Pieces.{numbers};
 ghost use Rattle.report_text.specs.Counts.{name_numbers, record_numbers};
@@ -15,7 +15,10 @@ use zone_spec::{Name, Time};
 const HEAD: &str = "\n     bytes  time                            record\n";
 
 /// The date of so many seconds since 1970, in UTC, where the calendar has one.
-fn date_of(secs: u64) -> Option<DateTime> {
+fn date_of(secs: u64) -> Option<DateTime>
+    ensures date { IfSome result (λ date. civil_nanos date ≡ pos (secs * 1_000_000_000)) }
+    ensures held { secs < 253_402_207_200 → IsSome result }
+{
     let second = i64::try_from(secs).ok()?;
     let timestamp = Timestamp::from_second(second).ok()?;
     Some(Offset::UTC.to_datetime(timestamp))

@@ -29,8 +29,8 @@ const TEXT: &str = "a\\x1bb
 zones 2, records 2
 
 zone          state        place     size      start       used corrected   bad
-dump        0 found             0     4096         38         38         0     0
-console     0 found          4096     4096         15         15         0     0
+dump        0 found            0     4096         38         38         0     0
+console     0 found         4096     4096         15         15         0     0
 
      bytes  time                            record
         14  2025-11-27 00:04:18.836908 UTC  dmesg-ramoops-0
