@@ -145,7 +145,7 @@ notice_over own =
     then notice_text (sum_by (λ (r : ZoneReading). r.corrected) readings) (sum_by (λ (r : ZoneReading). r.bad) readings)
     else []
 
-own-notice : (packed : Bool) (zones : List Saved) (i : ℕ) (s : Saved) → numbers_rise 0 zones ≡ true
+pub own-notice : (packed : Bool) (zones : List Saved) (i : ℕ) (s : Saved) → numbers_rise 0 zones ≡ true
     → slice_get zones i ≡ Some s → is_of Dump s.0.name.kind ≡ true
     → notice (s ∷ []) (DumpName s.0.name.index packed) ≡ notice zones (DumpName s.0.name.index packed)
 own-notice packed zones i s e at is =

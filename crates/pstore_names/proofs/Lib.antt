@@ -10,3 +10,4 @@ pub mod Finding
 pub mod Given
 pub mod Tabled
 pub mod Alone
+pub mod Held

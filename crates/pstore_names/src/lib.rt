@@ -3,6 +3,7 @@
 #![tactic(auto)]
 
 mod fitting;
+mod holding;
 mod listing;
 mod merging;
 mod moving;
@@ -14,6 +15,7 @@ pub mod types;
 mod zones;
 
 pub use fitting::{fits, forget_unfit};
+pub use holding::{HeldRecord, held_records};
 pub use listing::names;
 pub use moving::{Move, moves};
 pub use naming::{find, name_text};

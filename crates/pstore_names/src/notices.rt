@@ -98,17 +98,23 @@ fn write_counts(corrected: u64, bad: u64, out: &mut ArrayString<86>)
     out.push_str(" unrecoverable blocks\n");
 }
 
-/// Writes what follows the content of a record, in at most 86 bytes (`fs/pstore/ram_core.c`,
-/// `persistent_ram_ecc_string`): nothing where none of its zones has parity.
-pub fn write_notice(logs: &Logs, name: Name, out: &mut ArrayString<86>)
-    ensures { out.new.bytes ≡ notice (saved logs.now) name }
+/// Writes the notice with these counts: nothing where no zone has parity.
+pub fn write_counted(counts: Counts, out: &mut ArrayString<86>)
+    ensures { out.new.bytes ≡ notice_with counts.has_parity counts.corrected counts.bad }
 {
-    let counts = counts_of(logs, name);
     if counts.has_parity {
         write_counts(counts.corrected, counts.bad, out);
     } else {
         out.clear();
     }
+}
+
+/// Writes what follows the content of a record, in at most 86 bytes (`fs/pstore/ram_core.c`,
+/// `persistent_ram_ecc_string`): nothing where none of its zones has parity.
+pub fn write_notice(logs: &Logs, name: Name, out: &mut ArrayString<86>)
+    ensures { out.new.bytes ≡ notice (saved logs.now) name }
+{
+    write_counted(counts_of(logs, name), out);
 }
 
 fn digits_in(n: u64) -> u64

@@ -2,12 +2,11 @@
 #![tactic(auto)]
 
 mod parts;
-mod records;
 mod report;
 
 pub use parts::ZoneParts;
-pub use records::RecordReport;
-pub use report::{Report, report_of};
+pub use pstore_names::HeldRecord as RecordReport;
+pub use report::{Report, report_of, report_of_zones};
 pub use report_spec::PartState;
 
 #[cfg(test)]

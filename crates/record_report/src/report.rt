@@ -1,14 +1,17 @@
 // The report of an image.
-ghost use Rattle.std.specs.Prelude.{◌≡◌, ◌<◌, length, IfOk};
+ghost use Rattle.std.specs.Prelude.{◌≡◌, ◌<◌, ◌^◌, ℕ, Some, length, slice_get, IfOk};
+ghost use Rattle.zone_spec.specs.declared.Zone.{Zone as ZoneValue};
 ghost use Rattle.zone_spec.specs.Zones.{IsValidZone};
+ghost use Rattle.zone_spec.specs.Layouts.{IsLayout};
 ghost use Rattle.zone_spec.specs.Layout.{rounded};
 ghost use Rattle.zone_params.specs.Laid.{params_of, zones_of};
+ghost use Rattle.old_log.specs.Saving.{AreNumbered};
 ghost use Rattle.record_report.specs.Reports.{SpansFit, ReadsTo, IsReport};
 
 use crate::parts::{ZoneParts, parts};
-use crate::records::{RecordReport, records};
 use box_io::Bytes;
 use old_log::{Logs, read_zone};
+use pstore_names::{HeldRecord, held_records};
 use ram_region::{Region, Span, Spans};
 use std::alloc::{AllocError, Global};
 use std::marker::Model;
@@ -20,10 +23,11 @@ use zone_spec::Zone;
 pub struct Report {
     logs: Logs,
     parts: Vec<ZoneParts>,
-    records: Vec<RecordReport>,
+    records: Vec<HeldRecord>,
 }
 
 impl Model for Report {
+    ghost use Rattle.old_log.specs.Saving.{AreNumbered};
     ghost use Rattle.record_report.specs.Reports.{ReportHeld};
 
     ghost Value = { ReportHeld };
@@ -47,7 +51,7 @@ impl Report {
     }
 
     /// The records, as the next boot would list them.
-    pub fn records(&self) -> &[RecordReport]
+    pub fn records(&self) -> &[HeldRecord]
         ensures { result.now ≡ self.now.records }
     {
         &self.records
@@ -62,6 +66,7 @@ pub struct Readings {
 }
 
 impl Readings {
+    ghost use Rattle.old_log.specs.Saving.{AreNumbered};
     ghost use Rattle.record_report.specs.Reports.{Adds};
 
     // Reads the next zone, whose bytes are the span's.
@@ -78,13 +83,15 @@ impl Readings {
     }
 }
 
-fn read_zones(alloc: Global, layout: &Layout, spans: &Spans) -> Result<Readings, AllocError>
-    requires { SpansFit (zones_of layout.now) spans.now.spans }
-    ensures { IfOk result (λ r. ReadsTo (zones_of layout.now) spans.now.spans (length (zones_of layout.now)) r) }
+fn read_zones(alloc: Global, zones: &[Zone], spans: &Spans) -> Result<Readings, AllocError>
+    requires valid { (i : ℕ) (z : ZoneValue) → slice_get zones.now i ≡ Some z → IsValidZone z }
+    requires fit { SpansFit zones.now spans.now.spans }
+    requires few { length zones.now < 2 ^ 32 }
+    requires numbered { AreNumbered zones.now }
+    ensures { IfOk result (λ r. ReadsTo zones.now spans.now.spans (length zones.now) r) }
 {
-    let zones = layout.zones();
     let mut readings = Readings {
-        logs: Logs::new(alloc, layout)?,
+        logs: Logs::of_zones(alloc, zones)?,
         parts: Vec::with_capacity(alloc, zones.len())?,
     };
     for (i, zone) in zones.iter().enumerate() {
@@ -93,23 +100,32 @@ fn read_zones(alloc: Global, layout: &Layout, spans: &Spans) -> Result<Readings,
     Ok(readings)
 }
 
-/// The report of an image by its layout. A zone's header is decoded twice. Its blocks are decoded once if the zone was
-/// found and nothing but its header was corrected, else twice.
-pub fn report_of(alloc: Global, layout: &Layout, image: Bytes) -> Result<Report, AllocError>
-    requires { length image ≡ rounded (params_of layout.now).mem }
-    ensures { IfOk result (IsReport (zones_of layout.now) image) }
+/// The report of an image by a whole list of zones. A zone's header is decoded twice. Its blocks are decoded once if
+/// the zone was found and nothing but its header was corrected, else twice. Takes time linear in the image.
+pub fn report_of_zones(alloc: Global, zones: &[Zone], image: Bytes) -> Result<Report, AllocError>
+    requires whole { IsLayout zones.now (length image) }
+    requires few { length zones.now < 2 ^ 32 }
+    requires numbered { AreNumbered zones.now }
+    ensures { IfOk result (IsReport zones.now image) }
 {
-    let _len = image.len();
-    let _zones = layout.zones();
-    let spans = match Region::from_bytes(image).cut(layout) {
+    let spans = match Region::from_bytes(image).cut_zones(zones) {
         Ok(spans) => spans,
         Err((_, refused)) => return Err(refused),
     };
-    let Readings { logs, parts } = read_zones(alloc, layout, &spans)?;
-    let records = records(alloc, &logs)?;
+    let Readings { logs, parts } = read_zones(alloc, zones, &spans)?;
+    let records = held_records(alloc, &logs)?;
     Ok(Report {
         logs,
         parts,
         records,
     })
+}
+
+/// The report of an image by its layout.
+pub fn report_of(alloc: Global, layout: &Layout, image: Bytes) -> Result<Report, AllocError>
+    requires { length image ≡ rounded (params_of layout.now).mem }
+    ensures { IfOk result (IsReport (zones_of layout.now) image) }
+{
+    let _mem = layout.mem();
+    report_of_zones(alloc, layout.zones(), image)
 }

@@ -1,5 +1,5 @@
 -- The page of a report
-use Rattle.std.specs.Prelude.{◌≡◌, ℕ, List, [], ◌∷◌, ◌++◌, map, flat_map}
+use Rattle.std.specs.Prelude.{◌≡◌, ℕ, List, ◌∷◌, map, flat_map}
 use Rattle.report_spec.specs.Records.{RecordHeld}
 use Rattle.report_html.specs.declared.pieces.Piece.{Piece}
 use Rattle.report_html.specs.Pieces.{piece_text, foreigns}

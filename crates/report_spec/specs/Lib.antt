@@ -1,3 +1,5 @@
 pub mod Parts
 pub mod Records
 pub mod Escaped
+pub mod AsGiven
+pub mod Visible

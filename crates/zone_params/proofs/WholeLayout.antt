@@ -82,7 +82,7 @@ layout_short p zones h =
 
 -- ---- valid zones in order
 
-none_any : {X : Type 0} (test : X → Bool) (xs : List X) → list_any test xs ≡ false
+pub none_any : {X : Type 0} (test : X → Bool) (xs : List X) → list_any test xs ≡ false
     → AllByRecursion (λ x. test x ≡ false) xs
 none_any test [] h = tt
 none_any test (x ∷ xs) h = let both = or_clear (test x) (list_any test xs) h in (both.0, none_any test xs both.1)
@@ -199,7 +199,7 @@ whole_row p row at f tag small large roomy = by (nat_lt 0 row.count) refl
         let empty : row.count ≡ 0 = omega (arith, ltb-false 0 row.count none) in
         rw empty tt
 
-rows_in_order : (p : Params) (at : ℕ) (rows : List Row) → IsFaultless p → p.ftrace_sig < 2 ^ 32
+pub rows_in_order : (p : Params) (at : ℕ) (rows : List Row) → IsFaultless p → p.ftrace_sig < 2 ^ 32
     → AllByRecursion (λ (row : Row). row.size ≤ 2 ^ 24) rows
     → AllByRecursion (λ (row : Row). (nat_lt 0 row.count && nat_lt row.size 256) ≡ false) rows
     → AllByRecursion (λ (row : Row). (nat_lt 0 row.count && tight p row) ≡ false) rows
@@ -211,7 +211,7 @@ rows_in_order p at (row ∷ rows) f tag small large roomy =
     (whole_row p row at f tag small.0 large.0 roomy.0)
     (rw (row_end p row 0 row.count at) (rows_in_order p (at + taken row) rows f tag small.1 large.1 roomy.1))
 
-rows_end_at : (p : Params) (at : ℕ) (rows : List Row) → zones_end (zones_from p at rows) ≡ all_taken rows
+pub rows_end_at : (p : Params) (at : ℕ) (rows : List Row) → zones_end (zones_from p at rows) ≡ all_taken rows
 unfolding zones_from
 rows_end_at p at [] = refl
 rows_end_at p at (row ∷ rows) =

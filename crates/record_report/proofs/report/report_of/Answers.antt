@@ -1,25 +1,25 @@
-use Rattle.std.proofs.Common.{◌≡◌, ℕ, List, length, sym, ap, subst, ◌∙◌}
-use Rattle.zone_params.specs.Laid.{params_of, zones_of}
-use Rattle.zone_spec.specs.Layout.{rounded}
+-- A layout's zones are whole, few and numbered
+use Rattle.std.proofs.Common.{◌≡◌, sym, ap, subst, length, arith}
+use Rattle.zone_params.specs.Laid.{zones_of}
 use Rattle.zone_spec.specs.Layouts.{IsLayout}
-use Rattle.ram_region.specs.CutRegion.{CutRegion, cut_at}
-use Rattle.record_report.specs.Reports.{SpansFit}
-use Rattle.record_report.proofs.Zones.{spans-fit, report-is}
+use Rattle.old_log.specs.Saving.{AreNumbered}
+use Rattle.old_log.proofs.Saves.{layout-few}
+use Rattle.old_log.proofs.Numbered.{numbers-small}
 use Rattle.record_report.proofs.report.report_of.Goals as goal
 
-pub read_zones-requires : goal.read_zones-requires
-read_zones-requires c =
-    let zones = zones_of c.args.layout.now in
-    let lies : IsLayout zones (rounded (params_of c.args.layout.now).mem) =
-    subst (λ zs. IsLayout zs (rounded (params_of c.args.layout.now).mem)) c.zones-zones.ensures.value
-    c.zones-zones.ensures.laid_out in
-    subst (λ (cut : CutRegion). SpansFit zones cut.spans)
-    (ap (cut_at zones) (sym c.from_bytes.ensures) ∙ sym c.in-Ok.ensures)
-    (spans-fit zones (rounded (params_of c.args.layout.now).mem) c.args.image lies c.requires)
+pub report_of_zones-requires-clause-whole : goal.report_of_zones-requires-clause-whole
+report_of_zones-requires-clause-whole c =
+    subst (IsLayout c.zones.result.now) (sym c.requires) c.zones.ensures.laid_out
 
-pub returns : goal.returns
-returns c =
-    let zones = zones_of c.args.layout.now in
-    report-is zones c.args.image c.in-Ok.spans.spans c.in_ok-logs.field-0 c.in_ok-records.records.items
-    (ap (λ (cut : CutRegion). cut.spans) (c.in-Ok.ensures ∙ ap (cut_at zones) c.from_bytes.ensures))
-    c.in_ok-logs.ensures c.in_ok-records.ensures
+pub report_of_zones-requires-clause-few : goal.report_of_zones-requires-clause-few
+report_of_zones-requires-clause-few c =
+    let few = layout-few c.zones.result.now _ c.zones.ensures.laid_out in
+    (let m = c.mem-mem.ensures in let t = c.mem-mem.type_inv in grind (arith, few, m, t))
+
+pub report_of_zones-requires-clause-numbered : goal.report_of_zones-requires-clause-numbered
+report_of_zones-requires-clause-numbered c =
+    let few = layout-few c.zones.result.now _ c.zones.ensures.laid_out in
+    let same : c.zones.result.now ≡ zones_of c.args.layout.now = c.zones.ensures.value in
+    subst AreNumbered (sym same) (numbers-small c.args.layout.now.params (zones_of c.args.layout.now)
+    c.args.layout.now.laid (let long = ap length same in
+    (let m = c.mem-mem.ensures in let t = c.mem-mem.type_inv in grind (arith, long, few, m, t))))

@@ -1,6 +1,5 @@
-use Rattle.std.proofs.Common.{◌≡◌, ◌++◌, ◌∷◌, [], ◌∙◌, List, ℕ, refl, ap, sym}
+use Rattle.std.proofs.Common.{◌≡◌, ◌++◌, ◌∷◌, [], ◌∙◌, List, ℕ, ap}
 use Rattle.report_spec.specs.Records.{RecordHeld}
-use Rattle.report_html.specs.declared.pieces.Piece.{Piece}
 use Rattle.report_html.specs.Pieces.{foreigns}
 use Rattle.report_html.specs.Pages.{contents}
 use Rattle.report_html.proofs.Pushed.{foreigns-none}

@@ -1,5 +1,4 @@
-use Rattle.std.proofs.Common.{◌≡◌, ◌++◌, ◌∷◌, [], refl, arith}
-use Rattle.std.proofs.lemmas.Grind.{common_steps}
+use Rattle.std.proofs.Common.{refl}
 use Rattle.report_html.specs.declared.pieces.Piece.TheVariants.{Own}
 use Rattle.report_html.proofs.Pushed.{foreigns-same}
 use Rattle.report_html.proofs.pieces.own.Goals as goal

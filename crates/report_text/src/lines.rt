@@ -1,0 +1,138 @@
+// The last lines of a record.
+ghost use Rattle.std.specs.Prelude.{◌≡◌, ◌≤◌, length, OnOk};
+ghost use Rattle.report_text.specs.Pieces.{numbers};
+
+use crate::pieces::{Piece, add};
+use crate::visible::is_plain;
+use record_report::RecordReport;
+use std::alloc::AllocError;
+use zone_spec::Name;
+
+const LINES: usize = 10;
+
+const COLUMNS: usize = 76;
+
+/// Where the last lines begin.
+fn tail_start(bytes: &[u8]) -> usize
+    ensures { result ≤ length bytes.now }
+{
+    let mut lines = 0;
+    for i in (0..bytes.len()).rev() {
+        if bytes[i] == b'\n' && i + 1 < bytes.len() {
+            lines += 1;
+            if lines == LINES {
+                return i + 1;
+            }
+        }
+    }
+    0
+}
+
+/// The columns that a byte takes at most.
+fn columns(b: u8) -> usize
+    ensures { result ≤ 8 }
+{
+    match b {
+        b'\t' => 8,
+        _ if is_plain(b) => 1,
+        _ => 4,
+    }
+}
+
+fn add_row<'a>(pieces: &mut Vec<Piece<'a>>, row: &'a [u8]) -> Result<(), AllocError>
+    ensures { OnOk result (numbers pieces.new.items ≡ numbers pieces.old.items) }
+{
+    add(
+        pieces,
+        &[Piece::Own("  "), Piece::Foreign(row), Piece::Own("\n")],
+    )
+}
+
+/// Adds the lines of these bytes in rows that fit a terminal.
+fn add_rows<'a>(pieces: &mut Vec<Piece<'a>>, bytes: &'a [u8]) -> Result<(), AllocError>
+    ensures { OnOk result (numbers pieces.new.items ≡ numbers pieces.old.items) }
+{
+    let mut from = 0;
+    let mut taken = 0;
+    for (i, b) in bytes.iter().enumerate() {
+        let next = columns(*b);
+        if *b == b'\n' {
+            add_row(pieces, &bytes[from..i])?;
+            from = i + 1;
+            taken = 0;
+        } else if taken + next > COLUMNS {
+            add_row(pieces, &bytes[from..i])?;
+            from = i;
+            taken = next;
+        } else {
+            taken += next;
+        }
+    }
+    if from < bytes.len() {
+        add_row(pieces, &bytes[from..])?;
+    }
+    Ok(())
+}
+
+/// Adds a heading and the last lines of a record, if there is one.
+fn add_tail<'a>(
+    pieces: &mut Vec<Piece<'a>>,
+    heading: &'static str,
+    entry: Option<&'a RecordReport>,
+) -> Result<(), AllocError>
+    ensures { OnOk result (numbers pieces.new.items ≡ numbers pieces.old.items) }
+{
+    match entry {
+        Some(entry) => {
+            add(pieces, &[Piece::Own(heading)])?;
+            let bytes = entry.content.as_slice();
+            add_rows(pieces, &bytes[tail_start(bytes)..])
+        }
+        None => Ok(()),
+    }
+}
+
+fn is_newer(entry: &RecordReport, newest: Option<&RecordReport>) -> bool {
+    let Some(time) = entry.time else {
+        return false;
+    };
+    match newest.and_then(|held| held.time) {
+        Some(held) => (time.secs, time.micros) > (held.secs, held.micros),
+        None => true,
+    }
+}
+
+/// The dump of the latest time, the first of those.
+fn newest_dump(records: &[RecordReport]) -> Option<&RecordReport> {
+    let mut newest = None;
+    for entry in records {
+        if is_newer(entry, newest) {
+            newest = Some(entry);
+        }
+    }
+    newest
+}
+
+fn console(records: &[RecordReport]) -> Option<&RecordReport> {
+    for entry in records {
+        if entry.name == Name::Console {
+            return Some(entry);
+        }
+    }
+    None
+}
+
+/// Adds the last lines of the newest dump and of the console.
+pub fn add_tails<'a>(
+    pieces: &mut Vec<Piece<'a>>,
+    records: &'a [RecordReport],
+) -> Result<(), AllocError>
+    ensures { OnOk result (numbers pieces.new.items ≡ numbers pieces.old.items) }
+{
+    add_tail(
+        pieces,
+        "\nlast lines of the newest dump\n",
+        newest_dump(records),
+    )?;
+    add_tail(pieces, "\nlast lines of the console\n", console(records))
+}

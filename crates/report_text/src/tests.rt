@@ -1,0 +1,83 @@
+// Texts of worked images, and dates.
+use crate::pieces::render;
+use crate::records::add_time;
+use crate::text;
+use box_io::Bytes;
+use record_report::report_of;
+use std::test::Fail;
+use zone_params::{Params, layout};
+use zone_spec::Time;
+
+// A dump of 4096 bytes, and a console.
+const PARAMS: Params = Params {
+    mem: 8192,
+    dump: 4096,
+    console: 4096,
+    ftrace: 0,
+    pmsg: 0,
+    ecc: 0,
+    cpus: 1,
+    ftrace_sig: 0,
+    block: 128,
+    ecc_dump: 0,
+    ecc_console: 0,
+    ecc_ftrace: 0,
+    ecc_pmsg: 0,
+};
+
+const TEXT: &str = "a\\x1bb
+zones 2, records 2
+
+zone          state        place     size      start       used corrected   bad
+dump        0 found            0     4096         38         38         0     0
+console     0 found         4096     4096         15         15         0     0
+
+     bytes  time                            record
+        14  2025-11-27 00:04:18.836908 UTC  dmesg-ramoops-0
+        15                                  console-ramoops-0
+
+last lines of the newest dump
+  Panic#1 Part1
+
+last lines of the console
+  \\x1b[31mred
+  one\\x5c\\xff
+";
+
+// The records of the two zones, one with an escape sequence.
+#[test]
+fn two_records(rt: HostRuntime) -> Result<(), Fail> {
+    let mut bytes = Vec::new(rt.alloc());
+    bytes.extend_from_slice(&[0x44, 0x42, 0x47, 0x43, 38, 0, 0, 0, 38, 0, 0, 0])?;
+    bytes.extend_from_slice(b"====1764201858.836908-D\nPanic#1 Part1\n")?;
+    bytes.resize(4096, 0)?;
+    bytes.extend_from_slice(&[0x44, 0x42, 0x47, 0x43, 15, 0, 0, 0, 15, 0, 0, 0])?;
+    bytes.extend_from_slice(b"\x1b[31mred\none\\\xff\n")?;
+    bytes.resize(8192, 0)?;
+    let zones = layout(rt.alloc(), &PARAMS)?;
+    let image = Bytes::from_vec(bytes);
+    if image.len() != zones.mem() as usize {
+        return Err(Fail::from("the image has another size"));
+    }
+    let report = report_of(rt.alloc(), &zones, image)?;
+    let shown = text(rt.alloc(), b"a\x1bb", zones.zones(), &report)?;
+    assert_eq!(rt; str::from_utf8(shown.as_slice())?, TEXT);
+    Ok(())
+}
+
+#[test]
+fn dates(rt: HostRuntime) -> Result<(), Fail> {
+    let rows = [
+        (0, 5, "1970-01-01 00:00:00.000005 UTC"),
+        (951827696, 999999999, "2000-02-29 12:34:56.999999999 UTC"),
+        (253402300800, 0, "253402300800.000000 s"),
+        (9223372036854775807, 0, "9223372036854775807.000000 s"),
+    ];
+    for (secs, micros, date) in rows {
+        let mut pieces = Vec::new(rt.alloc());
+        add_time(&mut pieces, Time { secs, micros })?;
+        let shown = render(rt.alloc(), pieces.as_slice())?;
+        assert_eq!(rt; str::from_utf8(shown.as_slice())?, date);
+    }
+    Ok(())
+}

@@ -1,0 +1,62 @@
+// The whole text.
+ghost use Rattle.std.specs.Prelude.{◌≡◌, length, true, IfOk};
+ghost use Rattle.std.specs.List.{list_all};
+ghost use Rattle.report_spec.specs.Visible.{is_visible};
+ghost use Rattle.report_text.specs.Pieces.{numbers};
+ghost use Rattle.report_text.specs.Counts.{counts, ShowsCounts};
+
+use crate::lines::add_tails;
+use crate::pieces::{Piece, add, render};
+use crate::records::add_records;
+use crate::zones::add_zones;
+use box_io::Bytes;
+use record_report::Report;
+use std::alloc::{AllocError, Global};
+use zone_spec::Zone;
+
+fn all_pieces<'a>(
+    alloc: Global,
+    title: &'a [u8],
+    zones: &[Zone],
+    report: &'a Report,
+) -> Result<Vec<Piece<'a>>, AllocError>
+    requires zones { zones.now ≡ report.now.logs.zones }
+    requires readings { length report.now.logs.readings ≡ length zones.now }
+    ensures { IfOk result (λ pieces. numbers pieces.items ≡ counts report.entry.now) }
+{
+    let records = report.records();
+    let mut pieces = Vec::new(alloc);
+    add(
+        &mut pieces,
+        &[
+            Piece::Foreign(title),
+            Piece::Own("\nzones "),
+            Piece::Number(1, zones.len() as u64),
+            Piece::Own(", records "),
+            Piece::Number(1, records.len() as u64),
+            Piece::Own("\n\n"),
+        ],
+    )?;
+    add_zones(&mut pieces, zones, report.logs())?;
+    add_records(&mut pieces, records)?;
+    add_tails(&mut pieces, records)?;
+    Ok(pieces)
+}
+
+/// The text of the report of these zones, headed by `title`, such as the image's path. Its numbers are the report's. No
+/// byte of it but printable ASCII, tabs and newlines, whatever the title and the records are.
+pub fn text(
+    alloc: Global,
+    title: &[u8],
+    zones: &[Zone],
+    report: &Report,
+) -> Result<Bytes, AllocError>
+    requires zones { zones.now ≡ report.now.logs.zones }
+    requires readings { length report.now.logs.readings ≡ length zones.now }
+    ensures counts { IfOk result (ShowsCounts report.now) }
+    ensures visible { IfOk result (λ text. list_all is_visible text ≡ true) }
+{
+    let pieces = all_pieces(alloc, title, zones, report)?;
+    let text = render(alloc, pieces.as_slice())?;
+    Ok(Bytes::from_vec(text))
+}

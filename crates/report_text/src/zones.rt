@@ -1,0 +1,84 @@
+// The table of the zones.
+ghost use Rattle.std.specs.Prelude.{◌≡◌, ◌++◌, length, flat_map, OnOk};
+ghost use Rattle.std.specs.Option.{option_copied};
+ghost use Rattle.old_log.specs.Saving.{saved};
+ghost use Rattle.report_text.specs.Pieces.{numbers};
+ghost use Rattle.report_text.specs.Counts.{zone_numbers, reading_numbers};
+
+use crate::pieces::{Piece, add};
+use old_log::{Logs, Reading};
+use std::alloc::AllocError;
+use zone_spec::{Kind, State, Zone};
+
+const HEAD: &str =
+    "zone          state        place     size      start       used corrected   bad\n";
+
+fn kind_text(kind: Kind) -> &'static str {
+    match kind {
+        Kind::Dump => "dump    ",
+        Kind::Console => "console ",
+        Kind::Ftrace => "ftrace  ",
+        Kind::Pmsg => "pmsg    ",
+    }
+}
+
+fn state_text(state: State) -> &'static str {
+    match state {
+        State::Unsigned => " unsigned ",
+        State::Empty => " empty    ",
+        State::Invalid => " invalid  ",
+        State::Found => " found    ",
+    }
+}
+
+fn add_reading(pieces: &mut Vec<Piece<'_>>, reading: &Reading) -> Result<(), AllocError>
+    ensures { OnOk result (numbers pieces.new.items ≡ numbers pieces.old.items ++ reading_numbers reading.now) }
+{
+    add(
+        pieces,
+        &[
+            Piece::Number(11, u64::from(reading.words.start)),
+            Piece::Number(11, u64::from(reading.words.size)),
+            Piece::Number(10, u64::from(reading.corrected)),
+            Piece::Number(6, u64::from(reading.bad)),
+        ],
+    )
+}
+
+fn add_zone(
+    pieces: &mut Vec<Piece<'_>>,
+    zone: &Zone,
+    reading: Option<&Reading>,
+) -> Result<(), AllocError>
+    ensures { OnOk result (numbers pieces.new.items
+        ≡ numbers pieces.old.items ++ zone_numbers (zone.now, option_copied reading.entry)) }
+{
+    add(
+        pieces,
+        &[
+            Piece::Own(kind_text(zone.name.kind)),
+            Piece::Number(5, u64::from(zone.name.index)),
+            Piece::Own(reading.map_or(" not read ", |r| state_text(r.state))),
+            Piece::Number(9, u64::from(zone.at)),
+            Piece::Number(9, u64::from(zone.size)),
+        ],
+    )?;
+    if let Some(reading) = reading {
+        add_reading(pieces, reading)?;
+    }
+    add(pieces, &[Piece::Own("\n")])
+}
+
+/// Adds a row for each zone: its name, state, place and size, the words of its header, and its counts.
+pub fn add_zones(pieces: &mut Vec<Piece<'_>>, zones: &[Zone], logs: &Logs) -> Result<(), AllocError>
+    requires zones { zones.now ≡ logs.now.zones }
+    requires readings { length logs.now.readings ≡ length zones.now }
+    ensures { OnOk result (numbers pieces.new.items
+        ≡ numbers pieces.old.items ++ flat_map zone_numbers (saved logs.now)) }
+{
+    add(pieces, &[Piece::Own(HEAD)])?;
+    for i in 0..logs.len() {
+        add_zone(pieces, &zones[i as usize], logs.reading(i))?;
+    }
+    Ok(())
+}
