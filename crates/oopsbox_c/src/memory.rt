@@ -1,0 +1,166 @@
+// A script, an image and a text in memory, for one run. Image and text grow as far as there is memory.
+ghost use Rattle.std.specs.Prelude.{◌≡◌, ℕ, ◌+◌, ◌-◌, ◌<◌, ◌≤◌, min, List, [], ◌++◌, Some, length, take, drop, vec_len, vec_capacity};
+ghost use Rattle.box_io.specs.Bytes.{AreBytes, AreBytes-drop};
+ghost use Rattle.box_io.specs.Outside.{written};
+
+use box_io::{Bytes, Failed, Sink, Source, Store};
+use std::alloc::Global;
+
+/// The bytes of a script. It never fails.
+#[derive(Drop)]
+pub struct Script {
+    bytes: Bytes,
+    at: usize,
+    ghost inside: { at ≤ length bytes },
+    ghost of_bytes: { AreBytes bytes },
+}
+
+impl Script {
+    ghost use Rattle.oopsbox_c.specs.Memory.{script_left};
+
+    pub fn new(bytes: Bytes) -> Script
+        ensures { script_left result ≡ bytes }
+    {
+        let _len = bytes.len();
+        Script { bytes, at: 0 }
+    }
+}
+
+// Copies as many bytes from `at` on as there are and as fit.
+fn copy_piece(from: &[u8], at: usize, into: &mut [u8]) -> usize
+    requires inside { at ≤ length from.now }
+    ensures count { result ≡ min (length from.now - at) (length into.new) }
+    ensures within { at + result ≤ length from.now }
+    ensures fits { result ≤ length into.new }
+    ensures given { drop at from.now ≡ take result into.new ++ drop (at + result) from.now }
+    ensures none { result ≡ 0 → 0 < length into.new → drop at from.now ≡ [] }
+{
+    let count = (from.len() - at).min(into.len());
+    into[..count].copy_from_slice(&from[at..at + count]);
+    count
+}
+
+impl Source for Script {
+    ghost left = { λ s. Some (drop s.at s.bytes) };
+
+    ghost faults = { λ _. 0 };
+
+    ghost left_bytes = { λ s. AreBytes-drop s.at s.bytes s.of_bytes };
+
+    fn take(&mut self, into: &mut [u8]) -> Result<usize, Failed> {
+        let count = copy_piece(self.bytes.as_slice(), self.at, into);
+        self.at += count;
+        Ok(count)
+    }
+}
+
+/// The bytes of an image. It fails only where memory is refused.
+#[derive(Drop)]
+pub struct Image {
+    bytes: Vec<u8>,
+    faults: u64,
+    ghost of_bytes: { AreBytes bytes.items },
+}
+
+impl Image {
+    ghost use Rattle.oopsbox_c.specs.Memory.{image_bytes, image_faults};
+
+    pub fn new(bytes: Bytes) -> Image
+        ensures bytes { image_bytes result ≡ bytes }
+        ensures faults { image_faults result ≡ 0 }
+    {
+        Image {
+            bytes: bytes.into_vec(),
+            faults: 0,
+        }
+    }
+
+    pub fn bytes(&self) -> &[u8]
+        ensures { result.now ≡ image_bytes self.now }
+    {
+        &self.bytes
+    }
+}
+
+// Puts bytes in the place of those from `at` on, and after the end where they pass it.
+fn overwrite(bytes: &mut Vec<u8>, at: usize, with: &[u8])
+    requires inside { at ≤ vec_len bytes.old }
+    requires room { at + length with.now ≤ vec_capacity bytes.old }
+    ensures after { bytes.new.items ≡ written bytes.old.items at with.now }
+    ensures of_bytes { AreBytes bytes.new.items }
+{
+    let over = with.len().min(bytes.len() - at);
+    bytes[at..at + over].copy_from_slice(&with[..over]);
+    bytes.extend_from_slice(&with[over..]).unwrap();
+}
+
+impl Store for Image {
+    ghost holds = { λ s. Some s.bytes.items };
+
+    ghost faults = { λ s. s.faults };
+
+    ghost held_bytes = { λ s. s.of_bytes };
+
+    fn size(&mut self) -> Result<u64, Failed> {
+        Ok(self.bytes.len() as u64)
+    }
+
+    fn read_at(&mut self, at: u64, into: &mut [u8]) -> Result<(), Failed> {
+        let at = at as usize;
+        into.copy_from_slice(&self.bytes[at..at + into.len()]);
+        Ok(())
+    }
+
+    fn write_at(&mut self, at: u64, bytes: &[u8]) -> Result<(), Failed> {
+        let at = at as usize;
+        let over = bytes.len().min(self.bytes.len() - at);
+        if self.bytes.reserve(bytes.len() - over).is_err() {
+            self.faults = self.faults.saturating_add(1);
+            return Err(Failed);
+        }
+        overwrite(&mut self.bytes, at, bytes);
+        Ok(())
+    }
+}
+
+/// The bytes of a text. It fails only where memory is refused.
+#[derive(Drop)]
+pub struct Text {
+    bytes: Vec<u8>,
+    faults: u64,
+}
+
+impl Text {
+    ghost use Rattle.oopsbox_c.specs.Memory.{text_bytes, text_faults};
+
+    /// Takes no memory.
+    pub fn new(alloc: Global) -> Text
+        ensures bytes { text_bytes result ≡ [] }
+        ensures faults { text_faults result ≡ 0 }
+    {
+        Text {
+            bytes: Vec::new(alloc),
+            faults: 0,
+        }
+    }
+
+    pub fn bytes(&self) -> &[u8]
+        ensures { result.now ≡ text_bytes self.now }
+    {
+        &self.bytes
+    }
+}
+
+impl Sink for Text {
+    ghost given = { λ s. Some s.bytes.items };
+
+    ghost faults = { λ s. s.faults };
+
+    fn put(&mut self, bytes: &[u8]) -> Result<(), Failed> {
+        if self.bytes.extend_from_slice(bytes).is_err() {
+            self.faults = self.faults.saturating_add(1);
+            return Err(Failed);
+        }
+        Ok(())
+    }
+}
