@@ -1,0 +1,5 @@
+pub mod Cmdline
+pub mod Kernel
+pub mod Kept
+pub mod Plans
+pub mod Turns

@@ -1,0 +1,81 @@
+// An image's bytes as a report.
+ghost use Rattle.std.specs.Prelude.{◌≡◌, ℕ, length, IfOk, MatchResult};
+
+use crate::options::Format;
+use crate::plan::Plan;
+use box_io::Bytes;
+use record_report::{Report, report_of};
+use report_html::html;
+use report_json::json;
+use std::alloc::{AllocError, Global};
+use thiserror::Error;
+use zone_params::{LayoutError, layout};
+use zone_spec::{LayoutFault, Zone};
+
+/// Why an image has no report.
+#[derive(Clone, Copy, Debug, PartialEq, Eq, Error)]
+pub enum ImageFault {
+    /// The bytes of the image, and those that the parameters say.
+    #[error("{0} bytes, and not the {1} of mem_size")]
+    Size(u64, u64),
+    #[error("{0}")]
+    Layout(LayoutFault),
+    #[error("out of memory")]
+    Memory,
+}
+
+impl From<AllocError> for ImageFault {
+    fn from(_e: AllocError) -> ImageFault {
+        ImageFault::Memory
+    }
+}
+
+impl From<LayoutError> for ImageFault {
+    fn from(e: LayoutError) -> ImageFault {
+        match e {
+            LayoutError::Fault(fault) => ImageFault::Layout(fault),
+            LayoutError::Memory => ImageFault::Memory,
+        }
+    }
+}
+
+/// What an image holds, and its text in the form that was asked for.
+#[derive(Drop)]
+pub struct ImageReport {
+    pub report: Report,
+    pub text: Bytes,
+}
+
+/// The report of the image at a path.
+pub fn report_image(
+    alloc: Global,
+    plan: &Plan,
+    path: &str,
+    image: Bytes,
+) -> Result<ImageReport, ImageFault> {
+    let layout = layout(alloc, &plan.params)?;
+    if image.len() != layout.mem() as usize {
+        return Err(ImageFault::Size(image.len() as u64, u64::from(layout.mem())));
+    }
+    let report = report_of(alloc, &layout, image)?;
+    let text = match plan.format {
+        Format::Json | Format::Text => line(alloc, plan, path, layout.zones(), &report)?,
+        Format::Html => Bytes::from_vec(html(alloc, path.as_bytes(), &layout, &report)?),
+    };
+    Ok(ImageReport { report, text })
+}
+
+fn line(
+    alloc: Global,
+    plan: &Plan,
+    path: &str,
+    zones: &[Zone],
+    report: &Report,
+) -> Result<Bytes, AllocError>
+    requires readings { length report.now.logs.readings ≡ length zones.now }
+    requires parts { length report.now.parts ≡ length zones.now }
+{
+    let mut text = json(alloc, path, &plan.params, zones, report)?;
+    text.push('\n')?;
+    Ok(Bytes::from_vec(text.into_bytes()))
+}
