@@ -1,7 +1,6 @@
 -- The records that zones make, with their contents, are those that their parts make, end to end
 use Rattle.std.proofs.Common.{◌≡◌, ℕ, ◌+◌, Bool, true, false, List, [], ◌∷◌, ◌++◌, map, refl, sym, ap, ap₂, ◌∙◌, ◌<◌, length, take, Some, None, append-nil}
-use Rattle.std.specs.Prelude.{Option, flat_map, sum_by, nat_lt, if◌then◌else◌, slice_get, drop}
-use Rattle.std.specs.List.{list_any}
+use Rattle.std.specs.Prelude.{Option, flat_map, if◌then◌else◌, slice_get, drop}
 use Rattle.std.proofs.lemmas.List.{map-append}
 use Rattle.zone_spec.specs.declared.Kind.{Kind}
 use Rattle.zone_spec.specs.declared.Kind.TheVariants.{Dump}
@@ -11,7 +10,7 @@ use Rattle.zone_spec.specs.declared.TimeLine.{TimeLine}
 use Rattle.zone_spec.specs.Reading.{ZoneReading}
 use Rattle.zone_spec.specs.TimeLines.{read_line}
 use Rattle.zone_spec.specs.Records.{Saved, Listed, is_of, found, logs_of, dump_of, dumps_of, plain}
-use Rattle.zone_spec.specs.Notices.{is_in, notice, notice_text}
+use Rattle.zone_spec.specs.Notices.{notice}
 use Rattle.report_spec.specs.Records.{RecordHeld, record_held}
 use Rattle.pstore_names.specs.Tables.{numbers_rise, zones_counted}
 use Rattle.pstore_names.specs.Holding.{noted}

@@ -107,11 +107,7 @@ fn add_dump(
     }
 }
 
-fn add_dumps(
-    alloc: Global,
-    logs: &Logs,
-    records: &mut Vec<HeldRecord>,
-) -> Result<(), AllocError>
+fn add_dumps(alloc: Global, logs: &Logs, records: &mut Vec<HeldRecord>) -> Result<(), AllocError>
     ensures { OnOk result (records.new.items
         ≡ records.old.items ++ map (record_held (saved logs.now)) (dumps_of (saved logs.now))) }
 {
@@ -164,11 +160,7 @@ fn add_plain(
     Ok(())
 }
 
-fn add_ftrace(
-    alloc: Global,
-    logs: &Logs,
-    records: &mut Vec<HeldRecord>,
-) -> Result<(), AllocError>
+fn add_ftrace(alloc: Global, logs: &Logs, records: &mut Vec<HeldRecord>) -> Result<(), AllocError>
     ensures { OnOk result (records.new.items
         ≡ records.old.items ++ map (record_held (saved logs.now)) (ftrace_of (logs_of Kind.Ftrace (saved logs.now)))) }
 {

@@ -1,5 +1,5 @@
 -- The zones of an image, one after another
-use Rattle.std.proofs.Common.{◌≡◌, ℕ, zero, suc, ◌+◌, ◌-◌, ◌<◌, ◌≤◌, List, [], ◌∷◌, ◌++◌, length, take, drop, map, slice_get, get_or, refl, sym, ap, ◌∙◌, subst, arith, inl, inr, Some, None, length-append, length-take, length-drop}
+use Rattle.std.proofs.Common.{◌≡◌, ℕ, zero, suc, ◌+◌, ◌-◌, ◌<◌, ◌≤◌, List, [], ◌∷◌, length, take, drop, map, slice_get, get_or, refl, sym, ap, ◌∙◌, subst, arith, inl, inr, Some, length-append, length-take, length-drop}
 use Rattle.std.specs.Prelude.{slice_range}
 use Rattle.std.proofs.lemmas.Bool.{cases_lt}
 use Rattle.std.proofs.lemmas.List.{length-map}
@@ -7,11 +7,11 @@ use Rattle.std.proofs.lemmas.List.Sums.{sum_by-cons}
 use Rattle.std.proofs.lemmas.Option.{slice_get-get_or, slice_get_read, slice_get_within}
 use Rattle.circular_buffer.proofs.Places.{slice_get-append_left, slice_get-last}
 use Rattle.zone_spec.specs.declared.Zone.{Zone}
-use Rattle.zone_spec.specs.Reading.{ZoneReading, zone_reading}
+use Rattle.zone_spec.specs.Reading.{zone_reading}
 use Rattle.zone_spec.specs.Layouts.{zones_end, IsLayout}
 use Rattle.old_log.specs.Saving.{SavedLogs, saved}
 use Rattle.ram_region.specs.CutRegion.{cut_at}
-use Rattle.report_spec.specs.Parts.{PartStates, part_states, zone_bytes}
+use Rattle.report_spec.specs.Parts.{part_states, zone_bytes}
 use Rattle.record_report.specs.declared.report.Readings.{Readings}
 use Rattle.record_report.specs.Reports.{SpansFit, Adds, ReadsTo, IsReport}
 use Rattle.report_spec.specs.Records.{RecordHeld, records_held}

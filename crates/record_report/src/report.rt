@@ -28,7 +28,7 @@ pub struct Report {
 
 impl Model for Report {
     ghost use Rattle.old_log.specs.Saving.{AreNumbered};
-ghost use Rattle.record_report.specs.Reports.{ReportHeld};
+    ghost use Rattle.record_report.specs.Reports.{ReportHeld};
 
     ghost Value = { ReportHeld };
 
@@ -67,7 +67,7 @@ pub struct Readings {
 
 impl Readings {
     ghost use Rattle.old_log.specs.Saving.{AreNumbered};
-ghost use Rattle.record_report.specs.Reports.{Adds};
+    ghost use Rattle.record_report.specs.Reports.{Adds};
 
     // Reads the next zone, whose bytes are the span's.
     fn add(&mut self, alloc: Global, zone: &Zone, span: &Span) -> Result<(), AllocError>

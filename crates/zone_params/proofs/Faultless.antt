@@ -94,10 +94,10 @@ block_positive p f = elim f.block [ inl h ↦ omega arith | inr t ↦ elim t [ i
 pub block_at_most : (p : Params) → IsFaultless p → p.block ≤ 128
 block_at_most p f = elim f.block [ inl h ↦ omega arith | inr t ↦ elim t [ inl h ↦ omega arith | inr h ↦ omega arith ] ]
 
-even_le : (n : ℕ) → even n ≤ n
+pub even_le : (n : ℕ) → even n ≤ n
 even_le n = omega arith
 
-shared : (m k : ℕ) → k * even (m / k) ≤ m
+pub shared : (m k : ℕ) → k * even (m / k) ≤ m
 shared m k = omega (arith, mul-div-le m k, mul-le-mul_left k (even_le (m / k)))
 
 -- what a row's zones take together
@@ -110,7 +110,7 @@ pub record Within (row : Row) (most : ℕ) : Type 0 where
   pub each : row.size ≤ most
   pub count : row.count ≤ most + 64
 
-one_within : (kind : Kind) (size : ℕ) → Within (one_row kind size) size
+pub one_within : (kind : Kind) (size : ℕ) → Within (one_row kind size) size
 one_within kind size = record { all = by (size == 0); each = omega arith; count = count_by_size (size == 0) }
   where
     by : (b : Bool) → (if b then 0 else 1) * size ≤ size
@@ -137,7 +137,7 @@ dump_within p = record {
     by true h = omega arith
     by false h = omega arith
 
-ftrace_within : (p : Params) → p.cpus ≤ 64 → Within (record
+pub ftrace_within : (p : Params) → p.cpus ≤ 64 → Within (record
     { kind = Ftrace; count = if rounded p.ftrace == 0 then 0 else p.cpus; size = even (rounded p.ftrace / p.cpus) })
     (rounded p.ftrace)
 ftrace_within p cpus = record {
@@ -243,7 +243,7 @@ pub small_rows : (p : Params) → list_any (λ (row : Row). nat_lt 0 row.count &
     ≡ list_any (λ (z : Zone). nat_lt z.size 256) (zones_from p 0 (rows p))
 small_rows p = sym (any_in_rows (λ (z : Zone). nat_lt z.size 256) p 0 (rows p) (λ row i place. refl))
 
-any_same : {X : Type 0} (f g : X → Bool) (xs : List X) → ((x : X) → f x ≡ g x) → list_any f xs ≡ list_any g xs
+pub any_same : {X : Type 0} (f g : X → Bool) (xs : List X) → ((x : X) → f x ≡ g x) → list_any f xs ≡ list_any g xs
 any_same f g [] h = refl
 any_same f g (x ∷ xs) h = cc (h x, any_same f g xs h)
 

@@ -13,7 +13,7 @@ use Rattle.zone_spec.specs.declared.params.LayoutFault.{LayoutFault}
 use Rattle.zone_spec.specs.Layout.{rows, zone_at, zones_from, parameter_faults, zone_faults, first_fault, ok_unless, layout_of}
 use Rattle.zone_params.proofs.Faultless.{IsFaultless, rows_within, mem_small, taken, all_taken}
 
-first_append : (xs ys : List (Bool × LayoutFault)) → first_fault (xs ++ ys)
+pub first_append : (xs ys : List (Bool × LayoutFault)) → first_fault (xs ++ ys)
     ≡ option_or (first_fault xs) (first_fault ys)
 first_append [] ys = refl
 first_append (x ∷ xs) ys = by x.0 (first_append xs ys)

@@ -10,8 +10,8 @@ use crate::{LayoutError, rows};
 use std::alloc::{AllocError, Global};
 use zone_spec::{Params, Row, Zone};
 
-// The zones of a row, from this place on, after those that stand.
-fn add_row(zones: &mut Vec<Zone>, p: &Params, row: Row, at: u64) -> Result<(), AllocError>
+/// Adds the zones of a row, from this place on, after those that stand.
+pub fn add_row(zones: &mut Vec<Zone>, p: &Params, row: Row, at: u64) -> Result<(), AllocError>
     requires faultless { first_fault (parameter_faults p.now) ≡ None }
     requires within { at + row.count * row.size ≤ 2 ^ 24 }
     requires size { row.size ≤ 2 ^ 24 }

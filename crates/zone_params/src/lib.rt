@@ -5,12 +5,12 @@ mod faults;
 pub mod laws;
 mod laying;
 mod params;
-mod rows;
+pub mod rows;
 pub mod types;
 
 pub use faults::LayoutError;
 pub use grammar_spec::ParamFault;
-pub use laying::layout;
+pub use laying::{add_row, layout};
 pub use params::read_words;
 pub use zone_spec::{Kind, LayoutFault, Params, Zone, ZoneName};
 

@@ -11,7 +11,7 @@ use zone_spec::{Kind, LayoutFault, Params, Row, Zone, ZoneName};
 
 const SIGNATURE: u32 = 0x43474244;
 
-const MOST_MEMORY: u64 = 16_777_216;
+pub const MOST_MEMORY: u64 = 16_777_216;
 
 const LEAST_ZONE: u64 = 256;
 
@@ -19,7 +19,7 @@ const LEAST_CAPACITY: u32 = 64;
 
 const HEADER: u64 = 12;
 
-// A size rounded down to a power of two.
+/// A size rounded down to a power of two.
 pub fn rounded(size: u64) -> u64
     ensures { result ≡ rounded_of size }
 {
@@ -37,7 +37,7 @@ fn ecc(p: &Params, kind: Kind) -> u64
     }
 }
 
-// The parity bytes that an ecc value asks for.
+/// The parity bytes that an ecc value asks for.
 pub fn parity_bytes(ecc: u64) -> u64
     ensures { result ≡ parity_bytes ecc }
 {
@@ -50,8 +50,8 @@ pub fn parity(p: &Params, kind: Kind) -> u64
     parity_bytes(ecc(p, kind))
 }
 
-// The first fault that holds.
-fn first(faults: &[(bool, LayoutFault)]) -> Option<LayoutFault>
+/// The first fault that holds.
+pub fn first(faults: &[(bool, LayoutFault)]) -> Option<LayoutFault>
     ensures { result ≡ first_fault faults.now }
 {
     for (holds, fault) in faults {
@@ -62,7 +62,8 @@ fn first(faults: &[(bool, LayoutFault)]) -> Option<LayoutFault>
     None
 }
 
-fn is_empty(p: &Params) -> bool
+/// Whether no zone has a size.
+pub fn is_empty(p: &Params) -> bool
     ensures { result ≡ list_all (λ size. rounded_of size == 0)
         (p.now.dump ∷ p.now.console ∷ p.now.ftrace ∷ p.now.pmsg ∷ []) }
 {
@@ -72,14 +73,16 @@ fn is_empty(p: &Params) -> bool
         && rounded(p.pmsg) == 0
 }
 
-fn is_ecc_large(p: &Params) -> bool
+/// Whether a kind would have more than 127 parity bytes.
+pub fn is_ecc_large(p: &Params) -> bool
     ensures { result ≡ list_any (nat_lt 127) (p.now.ecc ∷ p.now.ecc_dump ∷ p.now.ecc_console ∷ p.now.ecc_ftrace
         ∷ p.now.ecc_pmsg ∷ []) }
 {
     p.ecc > 127 || p.ecc_dump > 127 || p.ecc_console > 127 || p.ecc_ftrace > 127 || p.ecc_pmsg > 127
 }
 
-fn is_block(size: u64) -> bool
+/// Whether this is the size of a parity block.
+pub fn is_block(size: u64) -> bool
     ensures { result ≡ list_any (λ k. size == k) (32 ∷ 64 ∷ 128 ∷ []) }
 {
     size == 32 || size == 64 || size == 128
@@ -102,7 +105,7 @@ fn lacks_room(p: &Params) -> bool
         || (dumps > 0 && dumps < rounded(p.dump))
 }
 
-// The first fault of the parameters, before any zone is looked at.
+/// The first fault of the parameters, before any zone is looked at.
 pub fn parameter_fault(p: &Params) -> Option<LayoutFault>
     ensures { result ≡ first_fault (parameter_faults p.now) }
 {
@@ -117,7 +120,7 @@ pub fn parameter_fault(p: &Params) -> Option<LayoutFault>
     ])
 }
 
-// The zones of each kind: dump, console, ftrace, pmsg.
+/// The zones of each kind: dump, console, ftrace, pmsg.
 pub fn rows(p: &Params) -> [Row; 4]
     requires { first_fault (parameter_faults p.now) ≡ None }
     ensures { result ≡ rows_of p.now }
@@ -175,7 +178,7 @@ fn blocks_in(size: u64, parity: u64, block: u64) -> u64
     (size.saturating_sub(HEADER).saturating_sub(parity) + part - 1) / part
 }
 
-// A zone of this size from this place on, with the parity of its kind.
+/// A zone of this size from this place on, with the parity of its kind.
 pub fn zone_at(p: &Params, kind: Kind, size: u64, index: u64, at: u64) -> Zone
     requires faultless { first_fault (parameter_faults p.now) ≡ None }
     requires size { size ≤ 2 ^ 24 }
@@ -203,14 +206,16 @@ pub fn zone_at(p: &Params, kind: Kind, size: u64, index: u64, at: u64) -> Zone
     }
 }
 
-fn has_small(rows: &[Row]) -> bool
+/// Whether a zone of these rows has too few bytes.
+pub fn has_small(rows: &[Row]) -> bool
     ensures { result ≡ list_any (λ row. nat_lt 0 row.count && nat_lt row.size 256) rows.now }
 {
     rows.iter()
         .any(|row| row.count > 0 && row.size < LEAST_ZONE)
 }
 
-fn has_tight(p: &Params, rows: &[Row]) -> bool
+/// Whether parity leaves a zone of these rows too little room.
+pub fn has_tight(p: &Params, rows: &[Row]) -> bool
     requires faultless { first_fault (parameter_faults p.now) ≡ None }
     requires sizes { All (λ row. row.size ≤ 2 ^ 24) rows.now }
     ensures { result ≡ list_any (λ row. nat_lt 0 row.count && nat_lt (zone_of p.now row.kind row.size 0 0).cap 64)
@@ -224,7 +229,7 @@ fn has_tight(p: &Params, rows: &[Row]) -> bool
     false
 }
 
-// The first fault of the zones of these rows.
+/// The first fault of the zones of these rows.
 pub fn zone_fault(p: &Params, rows: &[Row]) -> Option<LayoutFault>
     requires faultless { first_fault (parameter_faults p.now) ≡ None }
     requires rows { rows.now ≡ rows_of p.now }
@@ -242,7 +247,7 @@ fn holds(row: Row, name: ZoneName) -> bool
     row.kind == name.kind && u64::from(name.index) < row.count
 }
 
-// The place of the zone of this name among those of these rows.
+/// The place of the zone of this name among those of these rows.
 pub fn place(rows: &[Row], name: ZoneName) -> Option<u32>
     requires { sum_by (λ row. row.count) rows.now < 2 ^ 32 }
     ensures { (p : ParamsValue) (at : ℕ) → result ≡ zone_place (zones_from p at rows.now) name }

@@ -1,8 +1,6 @@
 -- Each zone adds its dump, and all zones add all dumps
-use Rattle.std.proofs.Common.{◌<◌, ◌∙◌, ◌++◌, ap, sym, length, arith, List, ℕ, map}
-use Rattle.std.specs.Prelude.{slice_get, Some}
-use Rattle.zone_spec.specs.Records.{Saved, dumps_of}
-use Rattle.report_spec.specs.Records.{RecordHeld, record_held}
+use Rattle.std.proofs.Common.{◌<◌, ◌∙◌, ◌++◌, ap, length, arith, List}
+use Rattle.report_spec.specs.Records.{RecordHeld}
 use Rattle.old_log.specs.Saving.{saved}
 use Rattle.pstore_names.proofs.Held.{held_dumps, held_dumps-append, counted-held, added-each}
 use Rattle.pstore_names.proofs.Steps.{collected-all}

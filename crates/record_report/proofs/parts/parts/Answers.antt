@@ -1,7 +1,7 @@
-use Rattle.std.proofs.Common.{◌≡◌, ◌∙◌, sym, ap}
+use Rattle.std.proofs.Common.{◌∙◌, sym, ap}
 use Rattle.zone_spec.specs.Reading.{ZoneReading}
 use Rattle.report_spec.specs.declared.PartState.TheVariants.{Read}
-use Rattle.record_report.proofs.Cleared.{all-clean, size-within, states-found, states-other}
+use Rattle.record_report.proofs.Cleared.{all-clean, size-within, states-found}
 use Rattle.record_report.proofs.parts.parts.Goals as goal
 
 pub block_states-requires-clause-within : goal.block_states-requires-clause-within

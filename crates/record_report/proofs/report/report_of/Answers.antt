@@ -1,11 +1,10 @@
 -- A layout's zones are whole, few and numbered
-use Rattle.std.proofs.Common.{◌≡◌, ◌<◌, ◌^◌, ℕ, sym, ap, subst, length, arith, ◌∙◌}
+use Rattle.std.proofs.Common.{◌≡◌, sym, ap, subst, length, arith}
 use Rattle.zone_params.specs.Laid.{zones_of}
 use Rattle.zone_spec.specs.Layouts.{IsLayout}
 use Rattle.old_log.specs.Saving.{AreNumbered}
 use Rattle.old_log.proofs.Saves.{layout-few}
 use Rattle.old_log.proofs.Numbered.{numbers-small}
-use Rattle.record_report.specs.Reports.{IsReport}
 use Rattle.record_report.proofs.report.report_of.Goals as goal
 
 pub report_of_zones-requires-clause-whole : goal.report_of_zones-requires-clause-whole
@@ -22,5 +21,5 @@ report_of_zones-requires-clause-numbered c =
     let few = layout-few c.zones.result.now _ c.zones.ensures.laid_out in
     let same : c.zones.result.now ≡ zones_of c.args.layout.now = c.zones.ensures.value in
     subst AreNumbered (sym same) (numbers-small c.args.layout.now.params (zones_of c.args.layout.now)
-        c.args.layout.now.laid (let long = ap length same in
-        (let m = c.mem-mem.ensures in let t = c.mem-mem.type_inv in grind (arith, long, few, m, t))))
+    c.args.layout.now.laid (let long = ap length same in
+    (let m = c.mem-mem.ensures in let t = c.mem-mem.type_inv in grind (arith, long, few, m, t))))

@@ -1,5 +1,5 @@
 -- The spans of the image are its zones' bytes
-use Rattle.std.proofs.Common.{◌≡◌, List, length, sym, ap, subst, ◌∙◌, refl}
+use Rattle.std.proofs.Common.{length, sym, ap, subst, ◌∙◌, refl}
 use Rattle.ram_region.specs.CutRegion.{CutRegion, cut_at}
 use Rattle.record_report.specs.Reports.{SpansFit}
 use Rattle.record_report.proofs.Zones.{spans-fit, report-is}

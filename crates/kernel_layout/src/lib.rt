@@ -1,0 +1,11 @@
+//! The layout that the kernel makes where the memory size is no power of two: it takes the size as given
+//! (`fs/pstore/ram.c`, `ramoops_probe`). All else is as in `zone_params::layout`.
+#![tactic(auto)]
+
+mod laying;
+mod rows;
+
+pub use laying::layout_as_given;
+
+#[cfg(test)]
+mod tests;
