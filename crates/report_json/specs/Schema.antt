@@ -1,5 +1,5 @@
 -- The data of a report's line, schema 1
-use Rattle.std.specs.Prelude.{◌≡◌, ℕ, ◌-◌, Bool, if◌then◌else◌, List, [], ◌++◌, length, map, slice_get, Option, Some, None, option_to_list, replicate, codes}
+use Rattle.std.specs.Prelude.{◌≡◌, ℕ, ◌-◌, ◌<◌, Bool, if◌then◌else◌, List, [], ◌++◌, length, map, slice_get, Option, Some, None, option_to_list, replicate, codes}
 use Rattle.std.specs.Str.{is_utf8}
 use Rattle.base64.specs.Engines.{standard}
 use Rattle.base64.specs.GeneralPurpose.{encode_of}
@@ -15,6 +15,7 @@ use Rattle.zone_spec.specs.declared.Name.TheVariants.{Dump as DumpName, Console 
 use Rattle.zone_spec.specs.declared.Time.{Time}
 use Rattle.zone_spec.specs.declared.Words.{Words}
 use Rattle.zone_spec.specs.declared.Zone.{Zone}
+use Rattle.zone_spec.specs.declared.ZoneName.{ZoneName}
 use Rattle.zone_spec.specs.declared.params.Params.{Params}
 use Rattle.zone_spec.specs.Names.{name_text}
 use Rattle.zone_spec.specs.Reading.{ZoneReading}
@@ -73,21 +74,30 @@ state_text Empty = codes "empty"
 state_text Invalid = codes "invalid"
 state_text Found = codes "found"
 
-abbrev pub zone_data : Zone → ZoneReading → PartStates → Data
-zone_data z reading parts = object (
+-- where a zone lies, and how
+abbrev pub layout_data : Zone → Data
+layout_data z = object (
     member (codes "at") (count z.at) (
-    member (codes "bad") (count reading.bad) (
     member (codes "block_size") (count z.block) (
-    member (codes "blocks") (array (items_of (blocks_data z parts.blocks))) (
     member (codes "capacity") (count z.cap) (
-    member (codes "corrected") (count reading.corrected) (
-    member (codes "header") (part_data parts.header) (
-    member (codes "index") (count z.name.index) (
-    member (codes "kind") (string (kind_text z.name.kind)) (
     member (codes "parity") (count z.parity) (
-    member (codes "size") (count z.size) (
+    member (codes "size") (count z.size) no_members)))))
+
+abbrev pub zone_with : ZoneName → ZoneReading → Data → Data → Data → Data
+zone_with name reading header blocks layout = object (
+    member (codes "bad") (count reading.bad) (
+    member (codes "blocks") blocks (
+    member (codes "corrected") (count reading.corrected) (
+    member (codes "header") header (
+    member (codes "index") (count name.index) (
+    member (codes "kind") (string (kind_text name.kind)) (
+    member (codes "layout") layout (
     member (codes "state") (string (state_text reading.state)) (
-    member (codes "words") (words_data reading.words) no_members)))))))))))))
+    member (codes "words") (words_data reading.words) no_members)))))))))
+
+abbrev pub zone_data : Zone → ZoneReading → PartStates → Data
+zone_data z reading parts = zone_with z.name reading (part_data parts.header)
+    (array (items_of (blocks_data z parts.blocks))) (layout_data z)
 
 abbrev pub time_data : Option Time → Data
 time_data None = null
@@ -113,18 +123,21 @@ record_with zones r text base64 = object (
     member (codes "time") (time_data r.time) no_members))))))
 
 -- the content is text where it is UTF-8, else in base64
-abbrev pub record_data : List Saved → RecordHeld → Data
+unfoldable pub record_data : List Saved → RecordHeld → Data
 record_data zones r =
     if is_utf8 r.content then record_with zones r (string r.content) null
     else record_with zones r null (string (encode_of standard r.content))
 
--- the values of the zones, in order
-pub record AreZones (zones : List Zone) (readings : List (Option ZoneReading)) (parts : List PartStates)
+-- the value of the zone at a place
+abbrev pub IsZoneAt : List Zone → List (Option ZoneReading) → List PartStates → ℕ → Data → Type 0
+IsZoneAt zones readings parts i d = (z : Zone) (reading : ZoneReading) (p : PartStates) → slice_get zones i ≡ Some z
+    → slice_get readings i ≡ Some (Some reading) → slice_get parts i ≡ Some p → d ≡ zone_data z reading p
+
+-- the values of the first n zones, in order
+pub record AreZones (zones : List Zone) (readings : List (Option ZoneReading)) (parts : List PartStates) (n : ℕ)
     (values : List Data) : Type 0 where
-  pub count_same : length values ≡ length zones
-  pub each : (i : ℕ) (z : Zone) (reading : ZoneReading) (p : PartStates) → slice_get zones i ≡ Some z
-      → slice_get readings i ≡ Some (Some reading) → slice_get parts i ≡ Some p
-      → slice_get values i ≡ Some (zone_data z reading p)
+  pub count_same : length values ≡ n
+  pub each : (i : ℕ) (d : Data) → i < n → slice_get values i ≡ Some d → IsZoneAt zones readings parts i d
 
 abbrev pub line_data : List ℕ → Params → List Data → List Data → Data
 line_data path params zones records = object (
@@ -138,6 +151,6 @@ line_data path params zones records = object (
 pub record IsLine (path : List ℕ) (params : Params) (zones : List Zone) (report : ReportHeld) (text : List ℕ)
     : Type 0 where
   pub values : List Data
-  pub zones : AreZones zones report.logs.readings report.parts values
-  pub text : IsInOrder text (line_data path params values
+  pub each_zone : AreZones zones report.logs.readings report.parts (length zones) values
+  pub in_order : IsInOrder text (line_data path params values
       (map (record_data (saved report.logs)) report.records))

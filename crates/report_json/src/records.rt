@@ -48,7 +48,7 @@ fn with_content(
     text: Value,
     base64: Value,
 ) -> Result<Value, AllocError>
-    ensures { IfOk result (λ v. view v ≡ record_with (saved logs.now) record.now (view text.entry) (view base64.entry)) }
+    ensures { IfOk result (λ v. view v ≡ record_with (saved logs.now) record.now (view text) (view base64)) }
 {
     let mut name = ArrayString::new();
     name_text(record.name, &mut name);

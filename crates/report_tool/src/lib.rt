@@ -14,7 +14,7 @@ pub use cmdline::{layout_words, words_of};
 pub use images::{Images, Outcome, report_all};
 pub use kernel::ftrace_tag;
 pub use options::{Format, Options, read_options};
-pub use plan::{Plan, PlanFault, plan};
+pub use plan::{Plan, PlanFault, make_plan};
 pub use report::{ImageFault, ImageReport, report_image};
 
 #[cfg(test)]

@@ -105,7 +105,7 @@ fn tag(alloc: Global, kernel: Option<&str>) -> Result<Option<u32>, PlanFault> {
 }
 
 /// The plan of the options and the text of a kernel's command line, which is empty where none is given.
-pub fn plan(alloc: Global, options: &Options<'_>, cmdline: &[u8]) -> Result<Plan, PlanFault> {
+pub fn make_plan(alloc: Global, options: &Options<'_>, cmdline: &[u8]) -> Result<Plan, PlanFault> {
     let tag = tag(alloc, options.kernel)?;
     let words = words_given(alloc, tag, cmdline, options.params.as_slice())?;
     match read_words(&words) {

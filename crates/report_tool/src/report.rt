@@ -8,6 +8,7 @@ use record_report::{Report, report_of};
 use report_html::html;
 use report_json::json;
 use std::alloc::{AllocError, Global};
+use std::cmp::Ordering;
 use thiserror::Error;
 use zone_params::{LayoutError, layout};
 use zone_spec::{LayoutFault, Zone};
@@ -16,8 +17,10 @@ use zone_spec::{LayoutFault, Zone};
 #[derive(Clone, Copy, Debug, PartialEq, Eq, Error)]
 pub enum ImageFault {
     /// The bytes of the image, and those that the parameters say.
-    #[error("{0} bytes, and not the {1} of mem_size")]
-    Size(u64, u64),
+    #[error("has {0} bytes, and mem_size is {1}")]
+    TooShort(u64, u64),
+    #[error("has more bytes than mem_size, {0}")]
+    TooLong(u64),
     #[error("{0}")]
     Layout(LayoutFault),
     #[error("out of memory")]
@@ -46,6 +49,15 @@ pub struct ImageReport {
     pub text: Bytes,
 }
 
+/// The fault of an image with so many bytes, where the parameters say another number.
+fn check_size(bytes: u64, mem: u64) -> Result<(), ImageFault> {
+    match bytes.cmp(&mem) {
+        Ordering::Less => Err(ImageFault::TooShort(bytes, mem)),
+        Ordering::Equal => Ok(()),
+        Ordering::Greater => Err(ImageFault::TooLong(mem)),
+    }
+}
+
 /// The report of the image at a path.
 pub fn report_image(
     alloc: Global,
@@ -54,9 +66,7 @@ pub fn report_image(
     image: Bytes,
 ) -> Result<ImageReport, ImageFault> {
     let layout = layout(alloc, &plan.params)?;
-    if image.len() != layout.mem() as usize {
-        return Err(ImageFault::Size(image.len() as u64, u64::from(layout.mem())));
-    }
+    check_size(image.len() as u64, u64::from(layout.mem()))?;
     let report = report_of(alloc, &layout, image)?;
     let text = match plan.format {
         Format::Json | Format::Text => line(alloc, plan, path, layout.zones(), &report)?,
