@@ -11,8 +11,7 @@ use crate::pieces::{Piece, field, foreign, own, render};
 use old_log::Logs;
 use record_report::{RecordReport, Report};
 use std::alloc::{AllocError, Global};
-use zone_params::types::Layout;
-use zone_spec::{Name, Time};
+use zone_spec::{Name, Time, Zone};
 
 const HEAD: &str = "<!doctype html>\n<html lang=\"en\">\n<head>\n<meta charset=\"utf-8\">\n\
 <meta http-equiv=\"Content-Security-Policy\" content=\"default-src 'none'; style-src 'unsafe-inline'\">\n\
@@ -89,16 +88,23 @@ fn state_at(logs: &Logs, i: usize) -> &'static str {
     }
 }
 
+/// The bytes up to the end of the last zone.
+fn width(zones: &[Zone]) -> u64 {
+    zones.last().map_or(0, |last| {
+        u64::from(last.at).saturating_add(u64::from(last.size))
+    })
+}
+
 fn add_picture(
     pieces: &mut Vec<Piece<'_>>,
-    layout: &Layout,
+    zones: &[Zone],
     report: &Report,
 ) -> Result<(), AllocError>
     ensures { OnOk result (foreigns pieces.new.items ≡ foreigns pieces.old.items) }
 {
-    field(pieces, "<svg viewBox=\"0 0 ", u64::from(layout.mem()))?;
+    field(pieces, "<svg viewBox=\"0 0 ", width(zones))?;
     own(pieces, " 100\" preserveAspectRatio=\"none\">\n")?;
-    for (i, (own_zone, parts)) in layout.zones().iter().zip(report.parts()).enumerate() {
+    for (i, (own_zone, parts)) in zones.iter().zip(report.parts()).enumerate() {
         zone(pieces, own_zone, state_at(report.logs(), i), parts)?;
     }
     own(pieces, "</svg>\n")
@@ -108,7 +114,7 @@ fn add_picture(
 fn page<'a>(
     alloc: Global,
     title: &'a [u8],
-    layout: &Layout,
+    zones: &[Zone],
     report: &'a Report,
 ) -> Result<Vec<Piece<'a>>, AllocError>
     ensures { IfOk result (λ pieces. foreigns pieces.items ≡ title.entry.now ∷ contents report.entry.now.records) }
@@ -117,24 +123,24 @@ fn page<'a>(
     own(&mut pieces, HEAD)?;
     foreign(&mut pieces, title)?;
     own(&mut pieces, "</h1>\n")?;
-    add_picture(&mut pieces, layout, report)?;
+    add_picture(&mut pieces, zones, report)?;
     add_records(&mut pieces, report.records())?;
     own(&mut pieces, "</body>\n</html>\n")?;
     Ok(pieces)
 }
 
-/// The page of a report, by its layout, in ASCII. All bytes that come from the image or the title are escaped, and so
+/// The page of the report of these zones, in ASCII. All bytes that come from the image or the title are escaped, and so
 /// make no markup.
 pub fn html(
     alloc: Global,
     title: &[u8],
-    layout: &Layout,
+    zones: &[Zone],
     report: &Report,
 ) -> Result<Vec<u8>, AllocError>
     ensures page { IfOk result (λ text. IsPage title.now report.now.records text.items) }
     ensures no_markup { (bytes : List ℕ) → AreBytes bytes → IsText (escaped bytes) }
 {
     escaped_is_text();
-    let pieces = page(alloc, title, layout, report)?;
+    let pieces = page(alloc, title, zones, report)?;
     render(alloc, pieces.as_slice())
 }

@@ -54,7 +54,7 @@ fn hostile_record(rt: HostRuntime) -> Result<(), Fail> {
         return Err(Fail::from("the image has another size"));
     }
     let report = report_of(rt.alloc(), &zones, image)?;
-    let page = html(rt.alloc(), b"a<b", &zones, &report)?;
+    let page = html(rt.alloc(), b"a<b", zones.zones(), &report)?;
     let text = str::from_utf8(page.as_slice())?;
     assert!(rt; text.contains("<h1>a&lt;b</h1>"));
     assert!(rt; text.contains("console-ramoops-0, bytes: 8</summary><pre>\n&lt;script&gt;</pre>"));
