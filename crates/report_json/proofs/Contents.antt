@@ -11,7 +11,8 @@ use Rattle.report_json.specs.Schema.{record_with, record_data}
 
 by_text : (zones : List Saved) (r : RecordHeld) (b : Bool) → is_utf8 r.content ≡ b → b ≡ true
     → record_with zones r (string r.content) null ≡ record_data zones r
-by_text zones r b e t = unfolding record_data in rw (e ∙ t) refl
+unfolding record_data
+by_text zones r b e t = rw (e ∙ t) refl
 
 pub text_record : (zones : List Saved) (r : RecordHeld) (bytes : List ℕ) (d : Data) → bytes ≡ r.content
     → IsUtf8 bytes → d ≡ string bytes → record_with zones r d null ≡ record_data zones r
@@ -25,7 +26,8 @@ not_utf8 bytes false e bad = refl
 
 by_base64 : (zones : List Saved) (r : RecordHeld) (b : Bool) → is_utf8 r.content ≡ b → b ≡ false
     → record_with zones r null (string (encode_of standard r.content)) ≡ record_data zones r
-by_base64 zones r b e t = unfolding record_data in rw (e ∙ t) refl
+unfolding record_data
+by_base64 zones r b e t = rw (e ∙ t) refl
 
 pub base64_record : (zones : List Saved) (r : RecordHeld) (bytes : List ℕ) (d : Data) → bytes ≡ r.content
     → ¬ (IsUtf8 bytes) → d ≡ string (encode_of standard bytes) → record_with zones r null d ≡ record_data zones r

@@ -3,3 +3,4 @@ pub mod Kernel
 pub mod Kept
 pub mod Plans
 pub mod Turns
+pub mod Reports

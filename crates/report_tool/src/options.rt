@@ -26,7 +26,8 @@ pub struct Options<'a> {
 
 static FORMS: [&str; 3] = ["text", "json", "html"];
 
-const ABOUT: &str = "Shows what ramoops regions hold: zones, blocks and records. Never writes an image.";
+const ABOUT: &str =
+    "Shows what ramoops regions hold: zones, blocks and records. Never writes an image.";
 
 fn set<'a>(alloc: Global, name: &'a str, value: &'a str, help: &'a str) -> Arg<'a> {
     Arg::new(alloc, name)
@@ -37,16 +38,46 @@ fn set<'a>(alloc: Global, name: &'a str, value: &'a str, help: &'a str) -> Arg<'
 }
 
 fn command<'a>(alloc: Global) -> Result<Command<'a>, AllocError> {
-    let param = set(alloc, "param", "KEY=VALUE", "A parameter of ramoops; the last of a key counts")
-        .action(ArgAction::Append);
-    let cmdline = set(alloc, "cmdline", "TEXT", "Take the ramoops. words of a kernel's command line")
-        .conflicts_with("cmdline-file")?;
-    let file = set(alloc, "cmdline-file", "FILE", "The same, from a file such as /proc/cmdline");
-    let kernel = set(alloc, "kernel", "X.Y.Z", "The kernel's version, which tags ftrace zones");
-    let format = set(alloc, "format", "FORM", "text, json (one line an image) or html (one page)")
-        .value_parser(FORMS.as_slice())
-        .default_value("text");
-    let save = set(alloc, "save", "DIR", "Write each record into DIR under its pstore name");
+    let param = set(
+        alloc,
+        "param",
+        "KEY=VALUE",
+        "A parameter of ramoops; the last of a key counts",
+    )
+    .action(ArgAction::Append);
+    let cmdline = set(
+        alloc,
+        "cmdline",
+        "TEXT",
+        "Take the ramoops. words of a kernel's command line",
+    )
+    .conflicts_with("cmdline-file")?;
+    let file = set(
+        alloc,
+        "cmdline-file",
+        "FILE",
+        "The same, from a file such as /proc/cmdline",
+    );
+    let kernel = set(
+        alloc,
+        "kernel",
+        "X.Y.Z",
+        "The kernel's version, which tags ftrace zones",
+    );
+    let format = set(
+        alloc,
+        "format",
+        "FORM",
+        "text, json (one line an image) or html (one page)",
+    )
+    .value_parser(FORMS.as_slice())
+    .default_value("text");
+    let save = set(
+        alloc,
+        "save",
+        "DIR",
+        "Write each record into DIR under its pstore name",
+    );
     let given = Arg::new(alloc, "mem-as-given")
         .long("mem-as-given")
         .action(ArgAction::SetTrue)
@@ -69,7 +100,11 @@ fn command<'a>(alloc: Global) -> Result<Command<'a>, AllocError> {
         .arg(images)
 }
 
-fn texts<'a>(alloc: Global, matches: &ArgMatches<'a>, name: &str) -> Result<Vec<&'a str>, AllocError> {
+fn texts<'a>(
+    alloc: Global,
+    matches: &ArgMatches<'a>,
+    name: &str,
+) -> Result<Vec<&'a str>, AllocError> {
     match matches.get_strs(name) {
         Some(texts) => Vec::from_slice(alloc, texts),
         None => Ok(Vec::new(alloc)),

@@ -83,7 +83,8 @@ fn word_at(alloc: Global, words: &[String], place: u32) -> Result<String, AllocE
 
 /// The fault of a word, with the word.
 fn fault_of(alloc: Global, words: &[String], fault: ParamFault) -> PlanFault {
-    let (ParamFault::UnknownKey(place) | ParamFault::Twice(place) | ParamFault::NotANumber(place)) = fault;
+    let (ParamFault::UnknownKey(place) | ParamFault::Twice(place) | ParamFault::NotANumber(place)) =
+        fault;
     let Ok(word) = word_at(alloc, words, place) else {
         return PlanFault::Memory;
     };

@@ -17,10 +17,14 @@ fn tags(rt: HostRuntime) {
 
 #[test]
 fn words_of_a_command_line(rt: HostRuntime) -> Result<(), Fail> {
-    let line = b"quiet ramoops.mem_address=0x8000000 ramoops.mem_size=0x8000  dyndbg=\"a ramoops.cpus=2\"\nramoops.ecc=1";
+    let line =
+        b"quiet ramoops.mem_address=0x8000000 ramoops.mem_size=0x8000  dyndbg=\"a ramoops.cpus=2\"\nramoops.ecc=1";
     let words = layout_words(rt.alloc(), line)?;
     assert_eq!(rt; words.len(), 2);
-    assert_eq!(rt; words.first().map(String::as_str), Some("ramoops.mem_size=0x8000"));
+    assert_eq!(rt;
+        words.first().map(String::as_str),
+        Some("ramoops.mem_size=0x8000")
+    );
     assert_eq!(rt; words.get(1).map(String::as_str), Some("ramoops.ecc=1"));
     Ok(())
 }
