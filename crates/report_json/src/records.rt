@@ -44,16 +44,16 @@ fn counts(logs: &Logs, name: Name) -> Counts
 fn with_content(
     alloc: Global,
     logs: &Logs,
-    record: &RecordReport,
+    held: &RecordReport,
     text: Value,
     base64: Value,
 ) -> Result<Value, AllocError>
-    ensures { IfOk result (λ v. view v ≡ record_with (saved logs.now) record.now (view text) (view base64)) }
+    ensures { IfOk result (λ v. view v ≡ record_with (saved logs.now) held.now (view text) (view base64)) }
 {
     let mut name = ArrayString::new();
-    name_text(record.name, &mut name);
-    let time = time_value(alloc, record.time)?;
-    let counts = counts(logs, record.name);
+    name_text(held.name, &mut name);
+    let time = time_value(alloc, held.time)?;
+    let counts = counts(logs, held.name);
     json!(in alloc; {
         "bad": counts.bad,
         "base64": base64,
@@ -64,18 +64,18 @@ fn with_content(
     })
 }
 
-fn record_value(alloc: Global, logs: &Logs, record: &RecordReport) -> Result<Value, AllocError>
-    ensures { IfOk result (λ v. view v ≡ record_data (saved logs.now) record.now) }
+fn record_value(alloc: Global, logs: &Logs, held: &RecordReport) -> Result<Value, AllocError>
+    ensures { IfOk result (λ v. view v ≡ record_data (saved logs.now) held.now) }
 {
-    let bytes = record.content.as_slice();
+    let bytes = held.content.as_slice();
     match str::from_utf8(bytes) {
         Ok(text) => {
             let text = Value::try_from_str(alloc, text)?;
-            with_content(alloc, logs, record, text, Value::Null)
+            with_content(alloc, logs, held, text, Value::Null)
         }
         Err(_) => {
             let base64 = Value::String(STANDARD.encode(alloc, bytes)?);
-            with_content(alloc, logs, record, Value::Null, base64)
+            with_content(alloc, logs, held, Value::Null, base64)
         }
     }
 }
@@ -89,8 +89,8 @@ pub fn record_values(
     ensures { IfOk result (λ values. map view values.items ≡ map (record_data (saved logs.now)) records.now) }
 {
     let mut values = Vec::with_capacity(alloc, records.len())?;
-    for record in records {
-        values.push(record_value(alloc, logs, record)?)?;
+    for held in records {
+        values.push(record_value(alloc, logs, held)?)?;
     }
     Ok(values)
 }

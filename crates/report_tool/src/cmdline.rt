@@ -1,8 +1,7 @@
 // The words of a kernel's command line.
-ghost use Rattle.std.specs.Prelude.{◌≡◌, ◌++◌, [], ◌∷◌, false, ℕ, List, map, filter, vec_len, IfOk, OnOk};
-ghost use Rattle.std.specs.Str.Lossy.{utf8_lossy};
+ghost use Rattle.std.specs.Prelude.{◌≡◌, ◌++◌, IfOk, OnOk};
 ghost use Rattle.grammar_spec.specs.Words.{texts};
-ghost use Rattle.report_tool.specs.Cmdline.{is_space, words_of, layout_words, is_layout_word, items_of};
+ghost use Rattle.report_tool.specs.Cmdline.{is_space, words_of, layout_words, is_layout_word, items_of, ended};
 
 use std::alloc::{AllocError, Global};
 use std::mem;
@@ -14,7 +13,9 @@ fn is_space(b: u8) -> bool
 }
 
 /// Adds a word, where it has a byte.
-fn add_word(words: &mut Vec<Vec<u8>>, word: Vec<u8>) -> Result<(), AllocError> {
+fn add_word(words: &mut Vec<Vec<u8>>, word: Vec<u8>) -> Result<(), AllocError>
+    ensures { OnOk result (items_of words.new.items ≡ items_of words.old.items ++ ended word.items) }
+{
     if !word.is_empty() {
         words.push(word)?;
     }
@@ -56,8 +57,9 @@ fn is_layout_word(word: &[u8]) -> bool
 pub fn layout_words(alloc: Global, line: &[u8]) -> Result<Vec<String>, AllocError>
     ensures { IfOk result (λ words. texts words.items ≡ layout_words line.now) }
 {
+    let words = words_of(alloc, line)?;
     let mut picked = Vec::new(alloc);
-    for word in words_of(alloc, line)?.as_slice() {
+    for word in words.as_slice() {
         if is_layout_word(word) {
             picked.push(String::from_utf8_lossy(alloc, word)?)?;
         }

@@ -1,5 +1,5 @@
 // Words that give the same key.
-ghost use Rattle.std.specs.Prelude.{◌≡◌, List, ℕ, map, bytes_eq, IfOk};
+ghost use Rattle.std.specs.Prelude.{◌≡◌, bytes_eq, IfOk};
 ghost use Rattle.std.specs.List.{list_any};
 ghost use Rattle.grammar_spec.specs.Words.{texts, key_of};
 ghost use Rattle.grammar_spec.specs.ZoneWords.{keys};

@@ -1,7 +1,8 @@
 // The parameters that the options make.
-ghost use Rattle.std.specs.Prelude.{◌≡◌, ◌++◌, [], ◌∷◌, codes, decimal, IfOk, OnOk, MatchResult, map, Option, Some, None};
+ghost use Rattle.std.specs.Prelude.{◌≡◌, ℕ, List, ◌++◌, map, string_bytes, IfOk, OnOk, MatchResult};
 ghost use Rattle.grammar_spec.specs.Words.{texts};
-ghost use Rattle.report_tool.specs.Plans.{words_given, IsPlanOf, tag_words};
+ghost use Rattle.report_tool.specs.Plans.{words_given, tag_words};
+ghost use Rattle.report_tool.specs.Causes.{tag_asked, words_asked, IsPlanOf, word_at, IsWordFault, IsPlanFault};
 
 use crate::cmdline::layout_words;
 use crate::kernel::ftrace_tag;
@@ -28,6 +29,8 @@ pub enum PlanFault {
     Kernel(String),
     #[error("'{0}' gives no parameter of ramoops")]
     UnknownKey(String),
+    #[error("'{0}' repeats a key")]
+    Twice(String),
     #[error("'{0}' gives no number")]
     NotANumber(String),
     #[error("out of memory")]
@@ -35,6 +38,8 @@ pub enum PlanFault {
 }
 
 impl From<AllocError> for PlanFault {
+    ghost from_gives = { λ _ fault. fault ≡ PlanFault.Memory };
+
     fn from(_e: AllocError) -> PlanFault {
         PlanFault::Memory
     }
@@ -53,6 +58,15 @@ fn add_tag(alloc: Global, words: &mut Vec<String>, tag: Option<u32>) -> Result<(
     }
 }
 
+fn add_words(alloc: Global, words: &mut Vec<String>, more: &[&str]) -> Result<(), AllocError>
+    ensures { OnOk result (texts words.new.items ≡ texts words.old.items ++ map (λ p. p.now) more.now) }
+{
+    for word in more {
+        words.push(String::from_str(alloc, word)?)?;
+    }
+    Ok(())
+}
+
 /// All words that give a parameter: the kernel's tag, the command line's, and those of `--param`. The later count.
 fn words_given(
     alloc: Global,
@@ -60,42 +74,45 @@ fn words_given(
     cmdline: &[u8],
     params: &[&str],
 ) -> Result<Vec<String>, AllocError>
-    ensures { IfOk result (λ words. texts words.items
-        ≡ words_given tag cmdline.now (map (λ p. p.now) params.now)) }
+    ensures { IfOk result (λ words. texts words.items ≡ words_given tag cmdline.now (map (λ p. p.now) params.now)) }
 {
     let mut words = Vec::new(alloc);
     add_tag(alloc, &mut words, tag)?;
-    for word in layout_words(alloc, cmdline)?.as_slice() {
-        words.push(String::from_str(alloc, word.as_str())?)?;
-    }
-    for word in params {
-        words.push(String::from_str(alloc, word)?)?;
-    }
+    let mut picked = layout_words(alloc, cmdline)?;
+    words.append(&mut picked)?;
+    add_words(alloc, &mut words, params)?;
     last_words(alloc, &words)
 }
 
-fn word_at(alloc: Global, words: &[String], place: u32) -> Result<String, AllocError> {
+fn word_at(alloc: Global, words: &[String], place: u32) -> Result<String, AllocError>
+    ensures { IfOk result (λ word. string_bytes word ≡ word_at (texts words.now) place) }
+{
     match words.get(place as usize) {
         Some(word) => String::from_str(alloc, word.as_str()),
-        None => String::from_str(alloc, ""),
+        None => Ok(String::new(alloc)),
     }
 }
 
 /// The fault of a word, with the word.
-fn fault_of(alloc: Global, words: &[String], fault: ParamFault) -> PlanFault {
+fn fault_of(alloc: Global, words: &[String], fault: ParamFault) -> PlanFault
+    ensures { IsWordFault (texts words.now) fault result }
+{
     let (ParamFault::UnknownKey(place) | ParamFault::Twice(place) | ParamFault::NotANumber(place)) =
         fault;
     let Ok(word) = word_at(alloc, words, place) else {
         return PlanFault::Memory;
     };
     match fault {
-        ParamFault::UnknownKey(_) | ParamFault::Twice(_) => PlanFault::UnknownKey(word),
+        ParamFault::UnknownKey(_) => PlanFault::UnknownKey(word),
+        ParamFault::Twice(_) => PlanFault::Twice(word),
         ParamFault::NotANumber(_) => PlanFault::NotANumber(word),
     }
 }
 
 /// The tag of the version that `--kernel` gives, where it gives one.
-fn tag(alloc: Global, kernel: Option<&str>) -> Result<Option<u32>, PlanFault> {
+fn tag(alloc: Global, kernel: Option<&str>) -> Result<Option<u32>, PlanFault>
+    ensures { (words : List (List ℕ)) → MatchResult result (λ tag. tag ≡ tag_asked kernel) (IsPlanFault kernel words) }
+{
     let Some(text) = kernel else {
         return Ok(None);
     };
@@ -106,7 +123,10 @@ fn tag(alloc: Global, kernel: Option<&str>) -> Result<Option<u32>, PlanFault> {
 }
 
 /// The plan of the options and the text of a kernel's command line, which is empty where none is given.
-pub fn make_plan(alloc: Global, options: &Options<'_>, cmdline: &[u8]) -> Result<Plan, PlanFault> {
+pub fn make_plan(alloc: Global, options: &Options<'_>, cmdline: &[u8]) -> Result<Plan, PlanFault>
+    ensures { MatchResult result (IsPlanOf options.now cmdline.now)
+        (IsPlanFault options.now.kernel (words_asked options.now cmdline.now)) }
+{
     let tag = tag(alloc, options.kernel)?;
     let words = words_given(alloc, tag, cmdline, options.params.as_slice())?;
     match read_words(&words) {

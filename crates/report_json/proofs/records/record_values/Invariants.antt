@@ -4,5 +4,5 @@ use Rattle.old_log.specs.Saving.{saved}
 use Rattle.report_json.specs.Schema.{record_data}
 use Rattle.report_json.proofs.records.record_values.Given as goal
 
-abbrev pub invariant-loop-record : goal.invariant-loop-record
-invariant-loop-record l = map view l.values.items ≡ map (record_data (saved l.logs)) (take l.record-index l.records)
+abbrev pub invariant-loop-held : goal.invariant-loop-held
+invariant-loop-held l = map view l.values.items ≡ map (record_data (saved l.logs)) (take l.held-index l.records)
