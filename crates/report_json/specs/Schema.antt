@@ -139,13 +139,17 @@ pub record AreZones (zones : List Zone) (readings : List (Option ZoneReading)) (
   pub count_same : length values ≡ n
   pub each : (i : ℕ) (d : Data) → i < n → slice_get values i ≡ Some d → IsZoneAt zones readings parts i d
 
-abbrev pub line_data : List ℕ → Params → List Data → List Data → Data
-line_data path params zones records = object (
-    member (codes "parameters") (parameters_data params) (
+abbrev pub line_with : List ℕ → Data → Data → Data → Data
+line_with path parameters records zones = object (
+    member (codes "parameters") parameters (
     member (codes "path") (string path) (
-    member (codes "records") (array (items_of records)) (
+    member (codes "records") records (
     member (codes "schema") (count 1) (
-    member (codes "zones") (array (items_of zones)) no_members)))))
+    member (codes "zones") zones no_members)))))
+
+abbrev pub line_data : List ℕ → Params → List Data → List Data → Data
+line_data path params zones records =
+    line_with path (parameters_data params) (array (items_of records)) (array (items_of zones))
 
 -- the line of a report: the tokens of this data, in order
 pub record IsLine (path : List ℕ) (params : Params) (zones : List Zone) (report : ReportHeld) (text : List ℕ)

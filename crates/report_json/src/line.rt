@@ -1,6 +1,7 @@
 // The line of a report.
 ghost use Rattle.std.specs.Prelude.{◌≡◌, length, string_bytes, IfOk};
-ghost use Rattle.report_json.specs.Schema.{IsLine};
+ghost use Rattle.serde_json.specs.View.{view};
+ghost use Rattle.report_json.specs.Schema.{line_with, IsLine};
 
 use crate::records::record_values;
 use crate::zones::{parameters_value, zone_values};
@@ -11,6 +12,24 @@ use zone_spec::{Params, Zone};
 
 /// The number of the schema that docs/REPORT.md describes.
 const SCHEMA: u32 = 1;
+
+fn line_value(
+    alloc: Global,
+    path: &str,
+    parameters: Value,
+    records: Value,
+    zones: Value,
+) -> Result<Value, AllocError>
+    ensures { IfOk result (λ v. view v ≡ line_with path.now (view parameters) (view records) (view zones)) }
+{
+    json!(in alloc; {
+        "parameters": parameters,
+        "path": path,
+        "records": records,
+        "schema": SCHEMA,
+        "zones": zones
+    })
+}
 
 /// The report of the image at `path` as JSON, without a newline.
 pub fn json(
@@ -25,14 +44,10 @@ pub fn json(
     ensures { IfOk result (λ text. IsLine path.now params.now zones.now report.now (string_bytes text)) }
 {
     let parameters = parameters_value(alloc, params)?;
-    let zones = zone_values(alloc, zones, report.logs(), report.parts())?;
-    let records = record_values(alloc, report.logs(), report.records())?;
-    let value = json!(in alloc; {
-        "parameters": parameters,
-        "path": path,
-        "records": Value::Array(records),
-        "schema": SCHEMA,
-        "zones": Value::Array(zones)
-    })?;
+    let record_list = record_values(alloc, report.logs(), report.records())?;
+    let records = Value::from(record_list);
+    let zone_list = zone_values(alloc, zones, report.logs(), report.parts())?;
+    let zones = Value::from(zone_list);
+    let value = line_value(alloc, path, parameters, records, zones)?;
     value.to_string(alloc)
 }

@@ -1,6 +1,6 @@
 // The values of records.
-ghost use Rattle.std.specs.Prelude.{◌≡◌, ◌<◌, ◌++◌, length, map, IfOk, MatchOption};
-ghost use Rattle.serde_json.specs.Data.{Data, number, unsigned};
+ghost use Rattle.std.specs.Prelude.{◌≡◌, map, IfOk};
+ghost use Rattle.serde_json.specs.Data.{null};
 ghost use Rattle.serde_json.specs.View.{view};
 ghost use Rattle.old_log.specs.Saving.{saved};
 ghost use Rattle.pstore_names.specs.Counts.{corrected_in, bad_in};
@@ -64,6 +64,12 @@ fn with_content(
     })
 }
 
+fn null_value() -> Value
+    ensures { view result ≡ null }
+{
+    Value::Null
+}
+
 fn record_value(alloc: Global, logs: &Logs, held: &RecordReport) -> Result<Value, AllocError>
     ensures { IfOk result (λ v. view v ≡ record_data (saved logs.now) held.now) }
 {
@@ -71,11 +77,13 @@ fn record_value(alloc: Global, logs: &Logs, held: &RecordReport) -> Result<Value
     match str::from_utf8(bytes) {
         Ok(text) => {
             let text = Value::try_from_str(alloc, text)?;
-            with_content(alloc, logs, held, text, Value::Null)
+            let base64 = null_value();
+            with_content(alloc, logs, held, text, base64)
         }
         Err(_) => {
-            let base64 = Value::String(STANDARD.encode(alloc, bytes)?);
-            with_content(alloc, logs, held, Value::Null, base64)
+            let base64 = Value::from(STANDARD.encode(alloc, bytes)?);
+            let text = null_value();
+            with_content(alloc, logs, held, text, base64)
         }
     }
 }
