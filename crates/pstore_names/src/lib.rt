@@ -19,7 +19,7 @@ pub use holding::{HeldRecord, held_records};
 pub use listing::names;
 pub use moving::{Move, moves};
 pub use naming::{find, name_text};
-pub use notices::is_in;
+pub use notices::{Counts, counts_at, counts_of, is_in};
 pub use records::{ContentFault, content, length, time};
 pub use table::{Entry, listed};
 pub use zone_spec::{Name, Time};

@@ -1,0 +1,37 @@
+-- The line has the values of the parameters, the records and the zones
+use Rattle.std.proofs.Common.{◌≡◌, ◌∙◌, List, length, subst, ap, map, string_bytes}
+use Rattle.serde_json.specs.Data.{Data, array}
+use Rattle.serde_json.specs.View.{view, items_of}
+use Rattle.serde_json.specs.Written.{IsInOrder}
+use Rattle.old_log.specs.Saving.{SavedLogs, saved}
+use Rattle.report_spec.specs.Parts.{PartStates}
+use Rattle.report_json.specs.Schema.{line_with, parameters_data, record_data, AreZones}
+use Rattle.report_json.proofs.Places.{if_ok}
+use Rattle.report_json.proofs.line.json.Goals as goal
+
+pub returns : goal.returns
+returns c =
+    let values = map view c.in_ok-zone_list.zone_list.items in
+    let held = c.args.report.now in
+    let records : map view c.in_ok-record_list.record_list.items ≡ map (record_data (saved held.logs)) held.records =
+    c.in_ok-record_list.ensures
+    ∙ ap (λ (l : SavedLogs). map (record_data (saved l)) c.records.result.now) c.logs.ensures
+    ∙ ap (map (record_data (saved held.logs))) c.records.ensures in
+    let parameters = parameters_data c.args.params.now in
+    let line : view c.in_ok-value.value ≡ line_with c.args.path.now parameters
+    (array (items_of (map (record_data (saved held.logs)) held.records))) (array (items_of values)) =
+    c.in_ok-value.ensures
+    ∙ ap (λ p. line_with c.args.path.now p (view c.from-records.result) (view c.from-zones.result))
+    c.in_ok-parameters.ensures
+    ∙ ap (λ r. line_with c.args.path.now parameters r (view c.from-zones.result))
+    (c.from-records.ensures ∙ ap (λ (ds : List Data). array (items_of ds)) records)
+    ∙ ap (line_with c.args.path.now parameters
+    (array (items_of (map (record_data (saved held.logs)) held.records)))) c.from-zones.ensures in
+    if_ok c.to_string.result _ _ (λ text order. record {
+      values = values;
+      each_zone = subst (λ (ps : List PartStates). AreZones c.args.zones.now held.logs.readings ps
+          (length c.args.zones.now) values) c.parts.ensures
+          (subst (λ (l : SavedLogs). AreZones c.args.zones.now l.readings c.parts.result.now
+          (length c.args.zones.now) values) c.logs-2.ensures c.in_ok-zone_list.ensures);
+      in_order = subst (IsInOrder (string_bytes text)) line order;
+    }) c.to_string.ensures.order

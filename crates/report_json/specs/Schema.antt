@@ -1,0 +1,160 @@
+-- The data of a report's line, schema 1
+use Rattle.std.specs.Prelude.{◌≡◌, ℕ, ◌-◌, ◌<◌, Bool, if◌then◌else◌, List, [], ◌++◌, length, map, slice_get, Option, Some, None, option_to_list, replicate, codes}
+use Rattle.std.specs.Str.{is_utf8}
+use Rattle.base64.specs.Engines.{standard}
+use Rattle.base64.specs.GeneralPurpose.{encode_of}
+use Rattle.serde_json.specs.Data.{Data, null, number, unsigned, string, array, object, member, no_members}
+use Rattle.serde_json.specs.View.{items_of}
+use Rattle.serde_json.specs.Written.{IsInOrder}
+use Rattle.zone_spec.specs.declared.Kind.{Kind}
+use Rattle.zone_spec.specs.declared.Kind.TheVariants.{Dump, Console, Ftrace, Pmsg}
+use Rattle.zone_spec.specs.declared.State.{State}
+use Rattle.zone_spec.specs.declared.State.TheVariants.{Unsigned, Empty, Invalid, Found}
+use Rattle.zone_spec.specs.declared.Name.{Name}
+use Rattle.zone_spec.specs.declared.Name.TheVariants.{Dump as DumpName, Console as ConsoleName, Pmsg as PmsgName, Ftrace as FtraceName}
+use Rattle.zone_spec.specs.declared.Time.{Time}
+use Rattle.zone_spec.specs.declared.Words.{Words}
+use Rattle.zone_spec.specs.declared.Zone.{Zone}
+use Rattle.zone_spec.specs.declared.ZoneName.{ZoneName}
+use Rattle.zone_spec.specs.declared.params.Params.{Params}
+use Rattle.zone_spec.specs.Names.{name_text}
+use Rattle.zone_spec.specs.Reading.{ZoneReading}
+use Rattle.zone_spec.specs.Records.{Saved}
+use Rattle.old_log.specs.Saving.{saved}
+use Rattle.pstore_names.specs.Counts.{corrected_in, bad_in}
+use Rattle.report_spec.specs.declared.PartState.{PartState}
+use Rattle.report_spec.specs.declared.PartState.TheVariants.{Read, Bad}
+use Rattle.report_spec.specs.Parts.{PartStates}
+use Rattle.report_spec.specs.Records.{RecordHeld}
+use Rattle.record_report.specs.Reports.{ReportHeld}
+
+abbrev pub count : ℕ → Data
+count n = number (unsigned n)
+
+abbrev pub parameters_data : Params → Data
+parameters_data p = object (
+    member (codes "block_size") (count p.block) (
+    member (codes "console_size") (count p.console) (
+    member (codes "cpus") (count p.cpus) (
+    member (codes "ecc") (count p.ecc) (
+    member (codes "ecc_console") (count p.ecc_console) (
+    member (codes "ecc_dump") (count p.ecc_dump) (
+    member (codes "ecc_ftrace") (count p.ecc_ftrace) (
+    member (codes "ecc_pmsg") (count p.ecc_pmsg) (
+    member (codes "ftrace_sig") (count p.ftrace_sig) (
+    member (codes "ftrace_size") (count p.ftrace) (
+    member (codes "mem_size") (count p.mem) (
+    member (codes "pmsg_size") (count p.pmsg) (
+    member (codes "record_size") (count p.dump) no_members)))))))))))))
+
+-- the corrected bytes of a header or block, 0 where it is clean; or the word bad
+abbrev pub part_data : PartState → Data
+part_data (Read corrected) = count corrected
+part_data Bad = string (codes "bad")
+
+-- each block of a zone, null where it is unused
+abbrev pub blocks_data : Zone → List PartState → List Data
+blocks_data z used = map part_data used ++ replicate (z.blocks - length used) null
+
+abbrev pub words_data : Words → Data
+words_data words = object (
+    member (codes "signature") (count words.sig) (
+    member (codes "size") (count words.size) (
+    member (codes "start") (count words.start) no_members)))
+
+abbrev pub kind_text : Kind → List ℕ
+kind_text Dump = codes "dump"
+kind_text Console = codes "console"
+kind_text Ftrace = codes "ftrace"
+kind_text Pmsg = codes "pmsg"
+
+abbrev pub state_text : State → List ℕ
+state_text Unsigned = codes "unsigned"
+state_text Empty = codes "empty"
+state_text Invalid = codes "invalid"
+state_text Found = codes "found"
+
+-- where a zone lies, and how
+abbrev pub layout_data : Zone → Data
+layout_data z = object (
+    member (codes "at") (count z.at) (
+    member (codes "block_size") (count z.block) (
+    member (codes "capacity") (count z.cap) (
+    member (codes "parity") (count z.parity) (
+    member (codes "size") (count z.size) no_members)))))
+
+abbrev pub zone_with : ZoneName → ZoneReading → Data → Data → Data → Data
+zone_with name reading header blocks layout = object (
+    member (codes "bad") (count reading.bad) (
+    member (codes "blocks") blocks (
+    member (codes "corrected") (count reading.corrected) (
+    member (codes "header") header (
+    member (codes "index") (count name.index) (
+    member (codes "kind") (string (kind_text name.kind)) (
+    member (codes "layout") layout (
+    member (codes "state") (string (state_text reading.state)) (
+    member (codes "words") (words_data reading.words) no_members)))))))))
+
+abbrev pub zone_data : Zone → ZoneReading → PartStates → Data
+zone_data z reading parts = zone_with z.name reading (part_data parts.header)
+    (array (items_of (blocks_data z parts.blocks))) (layout_data z)
+
+abbrev pub time_data : Option Time → Data
+time_data None = null
+time_data (Some time) = object (
+    member (codes "microseconds") (count time.micros) (
+    member (codes "seconds") (count time.secs) no_members))
+
+-- the zones over which a record's counts go: dump zone i is the i-th of a layout
+abbrev pub zones_counted : Name → List Saved → List Saved
+zones_counted (DumpName index packed) zones = option_to_list (slice_get zones index)
+zones_counted ConsoleName zones = zones
+zones_counted PmsgName zones = zones
+zones_counted FtraceName zones = zones
+
+-- a record with its content as text and in base64
+abbrev pub record_with : List Saved → RecordHeld → Data → Data → Data
+record_with zones r text base64 = object (
+    member (codes "bad") (count (bad_in r.name (zones_counted r.name zones))) (
+    member (codes "base64") base64 (
+    member (codes "corrected") (count (corrected_in r.name (zones_counted r.name zones))) (
+    member (codes "name") (string (name_text r.name)) (
+    member (codes "text") text (
+    member (codes "time") (time_data r.time) no_members))))))
+
+-- the content is text where it is UTF-8, else in base64
+unfoldable pub record_data : List Saved → RecordHeld → Data
+record_data zones r =
+    if is_utf8 r.content then record_with zones r (string r.content) null
+    else record_with zones r null (string (encode_of standard r.content))
+
+-- the value of the zone at a place
+abbrev pub IsZoneAt : List Zone → List (Option ZoneReading) → List PartStates → ℕ → Data → Type 0
+IsZoneAt zones readings parts i d = (z : Zone) (reading : ZoneReading) (p : PartStates) → slice_get zones i ≡ Some z
+    → slice_get readings i ≡ Some (Some reading) → slice_get parts i ≡ Some p → d ≡ zone_data z reading p
+
+-- the values of the first n zones, in order
+pub record AreZones (zones : List Zone) (readings : List (Option ZoneReading)) (parts : List PartStates) (n : ℕ)
+    (values : List Data) : Type 0 where
+  pub count_same : length values ≡ n
+  pub each : (i : ℕ) (d : Data) → i < n → slice_get values i ≡ Some d → IsZoneAt zones readings parts i d
+
+abbrev pub line_with : List ℕ → Data → Data → Data → Data
+line_with path parameters records zones = object (
+    member (codes "parameters") parameters (
+    member (codes "path") (string path) (
+    member (codes "records") records (
+    member (codes "schema") (count 1) (
+    member (codes "zones") zones no_members)))))
+
+abbrev pub line_data : List ℕ → Params → List Data → List Data → Data
+line_data path params zones records =
+    line_with path (parameters_data params) (array (items_of records)) (array (items_of zones))
+
+-- the line of a report: the tokens of this data, in order
+pub record IsLine (path : List ℕ) (params : Params) (zones : List Zone) (report : ReportHeld) (text : List ℕ)
+    : Type 0 where
+  pub values : List Data
+  pub each_zone : AreZones zones report.logs.readings report.parts (length zones) values
+  pub in_order : IsInOrder text (line_data path params values
+      (map (record_data (saved report.logs)) report.records))

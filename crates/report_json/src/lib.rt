@@ -1,0 +1,12 @@
+//! A report as one line of JSON, for programs: schema number, path, parameters, zones with the state of each block,
+//! and records with their contents.
+#![tactic(auto)]
+
+mod line;
+mod records;
+mod zones;
+
+pub use line::json;
+
+#[cfg(test)]
+mod tests;

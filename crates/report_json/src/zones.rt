@@ -1,0 +1,189 @@
+// The values of parameters and zones.
+ghost use Rattle.std.specs.Prelude.{◌≡◌, ◌<◌, ◌^◌, ◌++◌, length, map, replicate, slice_get, Some, None, IfOk, OnOk};
+ghost use Rattle.zone_spec.specs.Reading.{ZoneReading};
+ghost use Rattle.serde_json.specs.Data.{array, null};
+ghost use Rattle.serde_json.specs.View.{view, items_of};
+ghost use Rattle.report_json.specs.Schema.{count, parameters_data, part_data, blocks_data, words_data, layout_data, zone_with, zone_data, kind_text, state_text, IsZoneAt, AreZones};
+
+use old_log::{Logs, Reading};
+use record_report::{PartState, ZoneParts};
+use serde_json::{Value, json};
+use std::alloc::{AllocError, Global};
+use zone_spec::{Kind, Params, State, Words, Zone, ZoneName};
+
+/// The parameters as they were given.
+pub fn parameters_value(alloc: Global, p: &Params) -> Result<Value, AllocError>
+    ensures { IfOk result (λ v. view v ≡ parameters_data p.now) }
+{
+    json!(in alloc; {
+        "block_size": p.block,
+        "console_size": p.console,
+        "cpus": p.cpus,
+        "ecc": p.ecc,
+        "ecc_console": p.ecc_console,
+        "ecc_dump": p.ecc_dump,
+        "ecc_ftrace": p.ecc_ftrace,
+        "ecc_pmsg": p.ecc_pmsg,
+        "ftrace_sig": p.ftrace_sig,
+        "ftrace_size": p.ftrace,
+        "mem_size": p.mem,
+        "pmsg_size": p.pmsg,
+        "record_size": p.dump
+    })
+}
+
+fn part_value(alloc: Global, state: PartState) -> Result<Value, AllocError>
+    ensures { IfOk result (λ v. view v ≡ part_data state) }
+{
+    match state {
+        PartState::Read(corrected) => Ok(Value::from(corrected)),
+        PartState::Bad => Value::try_from_str(alloc, "bad"),
+    }
+}
+
+/// Adds so many unused blocks.
+fn add_unused(blocks: &mut Vec<Value>, count: usize) -> Result<(), AllocError>
+    ensures { OnOk result (map view blocks.new.items ≡ map view blocks.old.items ++ replicate count null) }
+{
+    for _unused in 0..count {
+        blocks.push(Value::Null)?;
+    }
+    Ok(())
+}
+
+fn used_blocks(alloc: Global, used: &[PartState]) -> Result<Vec<Value>, AllocError>
+    ensures { IfOk result (λ blocks. map view blocks.items ≡ map part_data used.now) }
+{
+    let mut blocks = Vec::with_capacity(alloc, used.len())?;
+    for state in used {
+        blocks.push(part_value(alloc, *state)?)?;
+    }
+    Ok(blocks)
+}
+
+fn blocks_value(alloc: Global, zone: &Zone, used: &[PartState]) -> Result<Value, AllocError>
+    ensures { IfOk result (λ v. view v ≡ array (items_of (blocks_data zone.now used.now))) }
+{
+    let mut blocks = used_blocks(alloc, used)?;
+    let unused = (zone.blocks as usize).saturating_sub(used.len());
+    add_unused(&mut blocks, unused)?;
+    Ok(Value::Array(blocks))
+}
+
+fn words_value(alloc: Global, words: Words) -> Result<Value, AllocError>
+    ensures { IfOk result (λ v. view v ≡ words_data words) }
+{
+    json!(in alloc; { "signature": words.sig, "size": words.size, "start": words.start })
+}
+
+fn kind_text(kind: Kind) -> &'static str
+    ensures { result.now ≡ kind_text kind }
+{
+    match kind {
+        Kind::Dump => "dump",
+        Kind::Console => "console",
+        Kind::Ftrace => "ftrace",
+        Kind::Pmsg => "pmsg",
+    }
+}
+
+fn state_text(state: State) -> &'static str
+    ensures { result.now ≡ state_text state }
+{
+    match state {
+        State::Unsigned => "unsigned",
+        State::Empty => "empty",
+        State::Invalid => "invalid",
+        State::Found => "found",
+    }
+}
+
+fn layout_value(alloc: Global, zone: &Zone) -> Result<Value, AllocError>
+    ensures { IfOk result (λ v. view v ≡ layout_data zone.now) }
+{
+    json!(in alloc; {
+        "at": zone.at,
+        "block_size": zone.block,
+        "capacity": zone.cap,
+        "parity": zone.parity,
+        "size": zone.size
+    })
+}
+
+/// A zone with the values of its header, its blocks and its layout.
+fn zone_with(
+    alloc: Global,
+    name: ZoneName,
+    reading: &Reading,
+    header: Value,
+    blocks: Value,
+    layout: Value,
+) -> Result<Value, AllocError>
+    ensures { IfOk result (λ v. view v ≡ zone_with name reading.now (view header) (view blocks) (view layout)) }
+{
+    let words = words_value(alloc, reading.words)?;
+    json!(in alloc; {
+        "bad": reading.bad,
+        "blocks": blocks,
+        "corrected": reading.corrected,
+        "header": header,
+        "index": name.index,
+        "kind": kind_text(name.kind),
+        "layout": layout,
+        "state": state_text(reading.state),
+        "words": words
+    })
+}
+
+fn zone_value(
+    alloc: Global,
+    zone: &Zone,
+    reading: &Reading,
+    parts: &ZoneParts,
+) -> Result<Value, AllocError>
+    ensures { IfOk result (λ v. view v ≡ zone_data zone.now reading.now parts.now) }
+{
+    let header = part_value(alloc, parts.header)?;
+    let blocks = blocks_value(alloc, zone, &parts.blocks)?;
+    let layout = layout_value(alloc, zone)?;
+    zone_with(alloc, zone.name, reading, header, blocks, layout)
+}
+
+/// The zone at a place, which has a reading.
+fn value_at(
+    alloc: Global,
+    zones: &[Zone],
+    logs: &Logs,
+    parts: &[ZoneParts],
+    i: u32,
+) -> Result<Value, AllocError>
+    requires readings { i < length logs.now.readings }
+    requires zones { i < length zones.now }
+    requires parts { i < length parts.now }
+    ensures { IfOk result (λ v. IsZoneAt zones.now logs.now.readings parts.now i (view v)) }
+{
+    let place = i as usize;
+    match logs.reading(i) {
+        Some(reading) => zone_value(alloc, &zones[place], reading, &parts[place]),
+        None => Ok(Value::Null),
+    }
+}
+
+/// The zones in the layout's order.
+pub fn zone_values(
+    alloc: Global,
+    zones: &[Zone],
+    logs: &Logs,
+    parts: &[ZoneParts],
+) -> Result<Vec<Value>, AllocError>
+    requires readings { length logs.now.readings ≡ length zones.now }
+    requires parts { length parts.now ≡ length zones.now }
+    ensures { IfOk result (λ values. AreZones zones.now logs.now.readings parts.now (length zones.now)
+        (map view values.items)) }
+{
+    let mut values = Vec::with_capacity(alloc, zones.len())?;
+    for i in 0..logs.len() {
+        values.push(value_at(alloc, zones, logs, parts, i)?)?;
+    }
+    Ok(values)
+}
