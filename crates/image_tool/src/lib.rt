@@ -30,6 +30,8 @@ mod move_tests;
 #[cfg(test)]
 mod record_tests;
 #[cfg(test)]
+mod salvage_tests;
+#[cfg(test)]
 mod session_tests;
 #[cfg(test)]
 mod tests;
