@@ -9,4 +9,4 @@ pub mod WorkEnds
 pub mod Completed
 pub mod MoveEnds
 pub mod SharedEnds
-pub mod Sharing
+pub mod Shareable
