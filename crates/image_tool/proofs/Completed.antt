@@ -4,7 +4,7 @@ use Rattle.blk_spec.specs.declared.BlkLayout.{BlkLayout}
 use Rattle.grammar_spec.specs.Fields.{Text}
 use Rattle.grammar_spec.specs.declared.line.Line.{Line}
 use Rattle.tool_spec.specs.Ends.{End, status_of}
-use Rattle.tool_spec.specs.Commands.{RamCommand, RunScript, ListRecords, ExtractRecord, EraseRecord, ShowLayout, BlankImage, MakeImage, FindRings, ReadRing, RamPlan, Plan, OfRam, OfBlk, OfMove, Wanted, wanted, wanted_move, plan_of}
+use Rattle.tool_spec.specs.Commands.{RamCommand, RunScript, ListRecords, ExtractRecord, EraseRecord, ShowLayout, BlankImage, MakeImage, FindRings, ReadRing, RamPlan, Plan, OfRam, OfBlk, OfMove, Wanted, wanted, wanted_move, plan_of, RunShared}
 use Rattle.tool_spec.specs.Answers.{Outside, RoseFor, IsFree, Answers}
 use Rattle.tool_spec.specs.BlkAnswers.{blk_lines, LinesOrStopAnswers}
 use Rattle.tool_spec.specs.PlanAnswers.{RamAnswers, ToolAnswers}
@@ -32,6 +32,8 @@ module _ (a b : Outside) (status : ℕ) (script_ok : RoseFor ScriptFault a b →
       → (bytes script : List ℕ)
       → CommandTells c a bytes script → (wanted plan bytes script).end ≡ Ok tt → Done
   ram_done RunScript plan is h bytes script tells done =
+      exact_done (wanted plan bytes script).end (h.whole.told bytes script tells.0 tells.1).exact done
+  ram_done RunShared plan is h bytes script tells done =
       exact_done (wanted plan bytes script).end (h.whole.told bytes script tells.0 tells.1).exact done
   ram_done ListRecords plan is h bytes script tells done =
       let same : wanted plan bytes script ≡ wanted plan bytes [] = rw is refl in

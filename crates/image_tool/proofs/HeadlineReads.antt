@@ -43,12 +43,12 @@ use Rattle.box_script.proofs.Inside.{read_fields}
 use Rattle.tool_spec.specs.Ends.{End}
 use Rattle.tool_spec.specs.Texts.{boot_text}
 use Rattle.tool_spec.specs.Scripts.{Kernel, new_kernel, Done, Ran, ran, store_line, line_done}
-use Rattle.tool_spec.specs.Commands.{Asked, RamCommand, RunScript, Command, OnRam, RunBlkScript, MoveImage, RamPlan, MovePlan, Laid, Plan, OfRam, OfBlk, OfMove, Wanted, planned, laid_out, with_params, with_layout, with_blk_params, with_blk_layout, with_first_params, with_second_params, with_first_layout, with_second_layout, mem_of, wanted, wanted_run, wanted_lines, script_limit, script_end, stops}
+use Rattle.tool_spec.specs.Commands.{Asked, RamCommand, RunScript, Command, OnRam, RunBlkScript, MoveImage, RamPlan, MovePlan, Laid, Plan, OfRam, OfBlk, OfMove, Wanted, planned, laid_out, with_params, with_layout, with_blk_params, with_blk_layout, with_first_params, with_second_params, with_first_layout, with_second_layout, mem_of, wanted, wanted_run, wanted_lines, script_limit, script_end, stops, lacks_zone}
 use Rattle.tool_spec.specs.Answers.{Outside, whole, RunAnswers}
 use Rattle.tool_spec.specs.PlanAnswers.{RamAnswers, ToolAnswers}
 use Rattle.tool_spec.specs.declared.Cause.{Cause}
 use Rattle.tool_spec.specs.declared.Stop.{Stop}
-use Rattle.tool_spec.specs.declared.Stop.TheVariants.{TooLong}
+use Rattle.tool_spec.specs.declared.Stop.TheVariants.{TooLong, NoSharedZone}
 use Rattle.tool_frame.proofs.Play.{text_at}
 use Rattle.tool_frame.proofs.Script.{run_wanted}
 use Rattle.tool_laws.proofs.Sound.{states_sound}
@@ -100,9 +100,14 @@ given_small table words key = by (value_text table words key)
 laid : (command : RamCommand) (params : Params) (plan : RamPlan) (o : Result (List Zone) LayoutFault)
     → layout_of params ≡ o → with_layout command params o ≡ Ok (OfRam plan) → params.ftrace_sig < 2 ^ 32
     → IsLayout plan.zones (mem_of plan)
-laid command params plan (Ok zones) e h small =
-    let same : record { command = command; params = params; zones = zones } ≡ plan = cc in
-    subst (λ (p : RamPlan). IsLayout p.zones (mem_of p)) same (whole_layout params zones small e)
+laid command params plan (Ok zones) e h small = by (lacks_zone command params) h
+  where
+    by : (b : Bool) → cond b (Err NoSharedZone) (Ok (OfRam (record { command = command; params = params; zones = zones })))
+        ≡ Ok (OfRam plan) → IsLayout plan.zones (mem_of plan)
+    by true h = absurd (cc)
+    by false h =
+        let same : record { command = command; params = params; zones = zones } ≡ plan = cc in
+        subst (λ (p : RamPlan). IsLayout p.zones (mem_of p)) same (whole_layout params zones small e)
 laid command params plan (Err fault) e h small = absurd (cc)
 
 read : (command : RamCommand) (before : ℕ) (words : List Text) (plan : RamPlan) (o : Option ParamFault)

@@ -9,7 +9,7 @@ pub mod WorkEnds
 pub mod Completed
 pub mod MoveEnds
 pub mod SharedEnds
-pub mod Sharing
+pub mod Shareable
 pub mod DumpEnds
 pub mod RingTexts
 pub mod MoveReads

@@ -13,7 +13,8 @@ use Rattle.tool_spec.specs.declared.Cause.{Cause}
 use Rattle.tool_spec.specs.declared.Stop.{Stop}
 use Rattle.tool_spec.specs.declared.Stop.TheVariants.{Memory, Usage, Param, Layout, NoSharedZone, Short, ScriptFault, ImageFault, SinkFault, TooLong, BadLine, Refused}
 use Rattle.tool_frame.specs.Stages.{LoadStop, ScriptStop, ParseStop}
-use Rattle.tool_frame.specs.Ended.{Ended, RunEnds, PutSome}
+use Rattle.tool_frame.specs.Ended.{Ended, RunEnds, PutSome, CausedAt}
+use Rattle.image_tool.specs.Shares.{SharesLines}
 use Rattle.tool_frame.proofs.ReadParts.{Read, read_of, unread_memory, unread_fault, unread_short, read_memory, read_fault, read_long, read_bad, read_unput, read_unsaved, read_refused, read_done}
 use Rattle.tool_frame.proofs.Script.{Quiet, nat_lt-true, nat_lt-false, quiet_memory, put_nothing, ended_as}
 
@@ -203,6 +204,22 @@ module _ (plan : RamPlan) (a b : Outside) (image : List ℕ) (l : Loaded plan a 
         read = read_refused (mem_of plan) a b room text r lines ok n c;
       }
 
+      -- the lines were not all done
+      pub share_ended : (s : Stop) → Quiet a b
+          → SharesLines (wanted_shared_lines plan.zones image (Ok lines)) (Err s) → RunEnds plan a b (Err s)
+      share_ended (Refused n c) q h = lines_refused n c q h
+      share_ended Memory q h = out_of_memory q
+      share_ended Usage q h = absurd h
+      share_ended (Param x y) q h = absurd h
+      share_ended (Layout x) q h = absurd h
+      share_ended NoSharedZone q h = absurd h
+      share_ended (Short x y) q h = absurd h
+      share_ended ScriptFault q h = absurd h
+      share_ended ImageFault q h = absurd h
+      share_ended SinkFault q h = absurd h
+      share_ended TooLong q h = absurd h
+      share_ended (BadLine x) q h = absurd h
+
       -- all lines were done, and leave this text and this image
       module _ (shown : Text) (last : List ℕ) (same : wanted_shared_lines plan.zones image (Ok lines)
           ≡ record { texts = shown ∷ []; end = Ok tt; writes = Some last }) where
@@ -232,3 +249,18 @@ module _ (plan : RamPlan) (a b : Outside) (image : List ℕ) (l : Loaded plan a 
           whole = record { told = of_lines w (Err ImageFault) same (inr (refl, rw (append-nil shown) put, wrote)) };
           read = read_unsaved (mem_of plan) a b room text r;
         }
+
+pub share_caused : (w : Wanted) (s : Stop) (f f' g g' h h' : ℕ) → SharesLines w (Err s)
+    → CausedAt f f' g g' h h' (Err s)
+share_caused w (Refused n c) f f' g g' h h' is = tt
+share_caused w Memory f f' g g' h h' is = tt
+share_caused w Usage f f' g g' h h' is = absurd is
+share_caused w (Param x y) f f' g g' h h' is = absurd is
+share_caused w (Layout x) f f' g g' h h' is = absurd is
+share_caused w NoSharedZone f f' g g' h h' is = absurd is
+share_caused w (Short x y) f f' g g' h h' is = absurd is
+share_caused w ScriptFault f f' g g' h h' is = absurd is
+share_caused w ImageFault f f' g g' h h' is = absurd is
+share_caused w SinkFault f f' g g' h h' is = absurd is
+share_caused w TooLong f f' g g' h h' is = absurd is
+share_caused w (BadLine x) f f' g g' h h' is = absurd is

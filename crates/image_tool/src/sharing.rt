@@ -2,13 +2,12 @@
 ghost use Rattle.std.specs.Prelude.{◌≡◌, ◌<◌, ◌^◌, vec_len, length, Ok, IfOk};
 ghost use Rattle.zone_spec.specs.Layout.{rounded};
 ghost use Rattle.zone_params.specs.Laid.{params_of, zones_of};
-ghost use Rattle.session_spec.specs.Stop.{stopped};
 ghost use Rattle.grammar_spec.specs.Printed.{AllHaveFields};
-ghost use Rattle.tool_spec.specs.Commands.{RunShared, OfRam, after_boot, wanted_shared_lines};
+ghost use Rattle.tool_spec.specs.Commands.{RunShared, OfRam, wanted_shared_lines};
 ghost use Rattle.tool_spec.specs.Answers.{outside};
 ghost use Rattle.tool_frame.specs.Words.{plan_for, CanShareIn};
 ghost use Rattle.tool_frame.specs.Ended.{WorkDone};
-ghost use Rattle.image_tool.specs.Shares.{SharesLines};
+ghost use Rattle.image_tool.specs.Shares.{SharesLines, IsBooted};
 
 use crate::stores::fresh_store;
 use box_io::{Bytes, Failed, Sink, Source, Store};
@@ -28,7 +27,7 @@ const FTRACE: ZoneName = ZoneName {
 // The image after a boot and a stop.
 fn booted_image(alloc: Global, layout: Layout, image: Vec<u8>) -> Result<Bytes, AllocError>
     requires { vec_len image ≡ rounded (params_of layout).mem }
-    ensures { IfOk result (λ bytes. bytes ≡ (stopped (zones_of layout) (after_boot (zones_of layout) image.items)).image) }
+    ensures { IfOk result (IsBooted (params_of layout) (zones_of layout) image.items) }
 {
     let off = fresh_store(alloc, layout, image)?;
     match off.boot() {

@@ -1,3 +1,4 @@
 pub mod Steps
-pub mod Texts
-pub mod Lines
+pub mod Pieces
+pub mod Played
+pub mod Done

@@ -3,16 +3,17 @@ use Rattle.std.proofs.Common.{◌≡◌, ◌≢◌, ℕ, zero, suc, ◌+◌, ◌
 use Rattle.std.proofs.lemmas.Bool.{ltb-true, ltb-false}
 use Rattle.session_spec.specs.Zones.{zone_bytes}
 use Rattle.shared_spec.specs.declared.NoCall.{NoCall}
+use Rattle.shared_spec.specs.declared.SharedRefusal.{SharedRefusal}
 use Rattle.shared_spec.specs.Calls.{SharedCall, open_call}
 use Rattle.shared_spec.specs.Machine.{SharedZone, opened, stepped_if, step_answer}
-use Rattle.shared_spec.specs.Runs.{SharedOperation, StoreNext, operated}
+use Rattle.shared_spec.specs.Runs.{SharedOperation, Reserve as ReserveBytes, StoreNext, operated}
 use Rattle.shared_spec.specs.Histories.{History, shared_zone, and_then}
 use Rattle.shared_laws.proofs.Seats.{one_more_operation}
-use Rattle.shared_ring.specs.Seen.{SharedSeen, StandsFor, IsLeftBy, IsStepped}
-use Rattle.tool_spec.specs.SharedScripts.{with_steps, stores}
+use Rattle.shared_ring.specs.Seen.{SharedSeen, StandsFor, IsLeftBy, IsStepped, IsReserved}
+use Rattle.tool_spec.specs.SharedScripts.{with_steps, stores, reserves}
 use Rattle.tool_spec.specs.declared.Cause.{Cause}
 use Rattle.tool_spec.specs.declared.Cause.TheVariants.{Idle}
-use Rattle.shared_session.specs.Lines.{IsLeft}
+use Rattle.shared_session.specs.Left.{IsLeft}
 
 pub next_zone : (h : History) (o : SharedOperation) → shared_zone (and_then h o) ≡ operated h.zone (shared_zone h) o
 next_zone h o = one_more_operation h.zone (opened (zone_bytes h.zone h.image)) h.operations o
@@ -39,13 +40,13 @@ idle_on : (h : History) (t : ℕ) (v : SharedSeen) (i m : ℕ) → i ≤ m → I
 unfolding with_steps
 idle_on h t v i zero le idle =
     let e : i ≡ 0 = omega (arith, le) in subst (λ (n : ℕ). IsIdle (with_steps h t n) t v) e idle
-idle_on h t v i (suc m) le idle = by (nat_lt m i) refl
+idle_on h t v i (suc m) le idle = by (nat_lt m i) refl (λ less. idle_on h t v i m less idle)
   where
-    by : (b : Bool) → nat_lt m i ≡ b → IsIdle (with_steps h t (suc m)) t v
-    by true e =
+    by : (b : Bool) → nat_lt m i ≡ b → (i ≤ m → IsIdle (with_steps h t m) t v) → IsIdle (with_steps h t (suc m)) t v
+    by true e so_far =
         let same : i ≡ suc m = omega (arith, le, ltb-true m i e) in
         subst (λ (n : ℕ). IsIdle (with_steps h t n) t v) same idle
-    by false e = idle_next (with_steps h t m) t v (idle_on h t v i m (omega (arith, ltb-false m i e)) idle)
+    by false e so_far = idle_next (with_steps h t m) t v (so_far (omega (arith, ltb-false m i e)))
 
 not_stepped : (o : Option SharedCall) (e : NoCall) → IsStepped (step_answer o) (Err e) → o ≡ None
 not_stepped None e h = refl
@@ -74,7 +75,15 @@ steps_suc h t made v l = l
 
 pub steps_next : (h : History) (t made : ℕ) (v : SharedSeen)
     → IsLeftBy (and_then (with_steps h t made) (StoreNext t)) v → IsLeftBy (with_steps h t (made + 1)) v
-steps_next h t made v l = subst (λ (n : ℕ). IsLeftBy (with_steps h t n) v) (add-one made) (steps_suc h t made v l)
+steps_next h t made v l = subst (λ (n : ℕ). IsLeftBy (with_steps h t n) v) (sym (add-one made)) (steps_suc h t made v l)
+
+-- a payload that was reserved
+pub reserved : (h : History) (payload : List ℕ) (o : Option SharedRefusal) (n answer : ℕ) (v : SharedSeen)
+    → IsReserved o n payload (Ok answer) → IsLeftBy (and_then h (ReserveBytes payload)) v
+    → IsLeft (reserves h payload o) v
+reserved h payload None n answer v is l =
+    record { history = and_then h (ReserveBytes payload); is = refl; left = l }
+reserved h payload (Some why) n answer v is l = absurd is
 
 -- an open call's line, and one of a call that is not open
 pub stored : (h : History) (t k : ℕ) (o : Option SharedCall) (v : SharedSeen) → true ≡ is_some o

@@ -8,6 +8,3 @@ mod texts;
 pub use lines::do_line;
 pub use playing::play;
 pub use texts::shared_text;
-
-#[cfg(test)]
-mod tests;

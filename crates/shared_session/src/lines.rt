@@ -6,7 +6,7 @@ ghost use Rattle.shared_spec.specs.Machine.{refusal};
 ghost use Rattle.shared_spec.specs.Histories.{History, shared_zone};
 ghost use Rattle.shared_ring.specs.Seen.{IsLeftBy};
 ghost use Rattle.tool_spec.specs.SharedScripts.{reserves, stores, with_steps, shared_line};
-ghost use Rattle.shared_session.specs.Lines.{IsLeft};
+ghost use Rattle.shared_session.specs.Left.{IsLeft};
 
 use box_io::Bytes;
 use box_script::Line;

@@ -3,7 +3,7 @@ ghost use Rattle.std.specs.Prelude.{◌≡◌, ◌^◌, ◌<◌, ℕ, List, leng
 ghost use Rattle.zone_spec.specs.declared.Zone.{Zone};
 ghost use Rattle.grammar_spec.specs.Printed.{AllHaveFields};
 ghost use Rattle.shared_ring.specs.Seen.{IsLeftBy};
-ghost use Rattle.shared_session.specs.Lines.{just_opened, IsOpened, Plays};
+ghost use Rattle.shared_session.specs.Left.{just_opened, IsOpened, Plays};
 
 use crate::lines::do_line;
 use box_script::Lines;

@@ -1,4 +1,4 @@
-use Rattle.std.proofs.Common.{◌≡◌, ◌≤◌}
+use Rattle.std.proofs.Common.{◌≡◌, ◌≤◌, ◌-◌}
 use Rattle.shared_spec.specs.Histories.{History}
 use Rattle.shared_ring.specs.Seen.{IsLeftBy}
 use Rattle.tool_spec.specs.SharedScripts.{with_steps}
@@ -10,3 +10,6 @@ invariant-steps l = record {
   within : l.made ≤ l.count;
   left : (h : History) → IsLeftBy h l.initial.shared → IsLeftBy (with_steps h l.ticket l.made) l.shared;
 }
+
+abbrev pub decreases-steps : goal.decreases-steps
+decreases-steps l = l.count - l.made

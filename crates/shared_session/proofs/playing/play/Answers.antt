@@ -5,7 +5,7 @@ use Rattle.std.specs.declared.vec.IntoIter.{IntoIter}
 use Rattle.std.proofs.lemmas.Iterator.Adapters.{YieldsList-from_vec}
 use Rattle.std.proofs.lemmas.Iterator.Consumers.{YieldsList-turn, YieldsList-end}
 use Rattle.grammar_spec.specs.declared.line.Line.{Line}
-use Rattle.shared_session.proofs.Lines.{plays_none, plays_next, plays_stop, plays_all, few_reserved}
+use Rattle.shared_session.proofs.Played.{plays_none, plays_next, plays_stop, plays_all, few_reserved, field_at}
 use Rattle.shared_session.proofs.playing.play.Goals as goal
 
 -- the line that is taken behind so many others is the one at that place
@@ -20,7 +20,7 @@ line_taken lines start items len taken here by given next line is steps number c
     rw counted turn
 
 pub loop-line-init : goal.loop-line-init
-loop-line-init c = record { counted = refl; played = plays_none c.args.shared c.args.lines }
+loop-line-init c = record { counted = refl; played = plays_none c.args.shared.now c.args.lines }
 
 pub overflow_add-number : goal.overflow_add-number
 overflow_add-number c =
@@ -34,7 +34,7 @@ do_line-requires-clause-few c =
     let turn = line_taken c.args.lines c.into_iter-line-iterator.result (search rules) (search rules)
     c.loop-line.yielded c.loop-line.line-iterator c.loop-line.yielded_by c.next.result c.next.new.self
     c.in-Some.line c.in-Some.is c.next.ensures.steps c.loop-line.number c.loop-line.invariant.counted in
-    few_reserved c.args.shared c.loop-line.shared c.args.lines c.loop-line.number c.requires.opened
+    few_reserved c.args.shared.now c.loop-line.shared c.args.lines c.loop-line.number c.requires.opened
     (omega (arith, turn.0, c.requires.few)) c.loop-line.invariant.played
 
 pub returns-in-Err : goal.returns-in-Err
@@ -42,7 +42,7 @@ returns-in-Err c z image left =
     let turn = line_taken c.args.lines c.into_iter-line-iterator.result (search rules) (search rules)
     c.loop-line.yielded c.loop-line.line-iterator c.loop-line.yielded_by c.next.result c.next.new.self
     c.in-Some.line c.in-Some.is c.next.ensures.steps c.loop-line.number c.loop-line.invariant.counted in
-    plays_stop c.args.shared c.args.lines c.loop-line.number c.in-Some.line c.loop-line.shared c.in-Err.cause
+    plays_stop c.args.shared.now c.args.lines c.loop-line.number c.in-Some.line c.loop-line.shared c.in-Err.cause
     turn.0 turn.1 c.loop-line.invariant.played c.in-Err.ensures z image left
 
 pub loop-line-preserved : goal.loop-line-preserved
@@ -52,7 +52,7 @@ loop-line-preserved c =
     c.in-Some.line c.in-Some.is c.next.ensures.steps c.loop-line.number c.loop-line.invariant.counted in
     record {
       counted = omega (arith, c.loop-line.invariant.counted, length-append c.loop-line.yielded (c.in-Some.line ∷ []));
-      played = plays_next c.args.shared c.args.lines c.loop-line.number c.in-Some.line c.loop-line.shared
+      played = plays_next c.args.shared.now c.args.lines c.loop-line.number c.in-Some.line c.loop-line.shared
           c.do_line.new.shared turn.0 turn.1 c.loop-line.invariant.played c.in-Ok.ensures;
     }
 
@@ -61,5 +61,12 @@ returns c z image left =
     let end = YieldsList-end (YieldsList-from_vec {s = c.into_iter-line-iterator.result} c.args.lines (search rules) (search rules))
     c.loop-line.yielded c.loop-line.line-iterator c.loop-line.yielded_by c.next.result c.next.new.self
     c.in-None.is c.next.ensures.steps in
-    plays_all c.args.shared c.args.lines c.loop-line.number c.loop-line.shared
+    plays_all c.args.shared.now c.args.lines c.loop-line.number c.loop-line.shared
     (omega (arith, end.1, c.loop-line.invariant.counted)) c.loop-line.invariant.played z image left
+
+pub do_line-requires-clause-fields : goal.do_line-requires-clause-fields
+do_line-requires-clause-fields c =
+    let turn = line_taken c.args.lines c.into_iter-line-iterator.result (search rules) (search rules)
+    c.loop-line.yielded c.loop-line.line-iterator c.loop-line.yielded_by c.next.result c.next.new.self
+    c.in-Some.line c.in-Some.is c.next.ensures.steps c.loop-line.number c.loop-line.invariant.counted in
+    field_at c.args.lines c.loop-line.number c.in-Some.line turn.0 turn.1 c.requires.fields

@@ -1,5 +1,5 @@
 use Rattle.std.proofs.Common.{◌≡◌, length}
-use Rattle.shared_session.proofs.Lines.{PlaysSoFar}
+use Rattle.shared_session.proofs.Played.{PlaysSoFar}
 use Rattle.shared_session.proofs.playing.play.Given as goal
 
 -- so many lines were done as were taken

@@ -9,14 +9,15 @@ use Rattle.shared_spec.specs.declared.SharedRefusal.{SharedRefusal}
 use Rattle.shared_spec.specs.declared.SharedRefusal.TheVariants.{NoSeat as NoSeatThere, Crowded as CrowdedThere}
 use Rattle.shared_spec.specs.Calls.{SharedCall, open_call}
 use Rattle.shared_spec.specs.Machine.{SharedZone, refusal, reserved_unless, stepped_if}
-use Rattle.shared_spec.specs.Runs.{Reserve as ReserveBytes, StoreNext as StoreByte}
+use Rattle.shared_spec.specs.Runs.{Reserve as ReserveBytes, StoreNext as StoreByte, shared_after}
 use Rattle.shared_spec.specs.Histories.{History, shared_zone, and_then}
 use Rattle.shared_ring.specs.Seen.{SharedSeen, IsLeftBy}
+use Rattle.grammar_spec.specs.Printed.{HasFields, AllHaveFields}
 use Rattle.grammar_spec.specs.declared.line.Line.{Line}
 use Rattle.grammar_spec.specs.declared.line.Line.TheVariants.{Blank, Write, Dump, BeginWrite, BeginErase, BeginDump, Step, Finish, Stop, Flip, Boot, BootPart, List as ListLine, Extract, Erase, KDump, CutAfter, KMsg, Crash, Reserve, StoreNext}
 use Rattle.tool_spec.specs.SharedScripts.{SharedRan, shared_on, next_shared, shared_ran, shared_line, reserves, stores, with_steps}
 use Rattle.tool_spec.specs.declared.Cause.{Cause}
-use Rattle.shared_session.specs.Lines.{IsLeft, just_opened, IsOpened, PlaysAll, StopsAt}
+use Rattle.shared_session.specs.Left.{IsLeft, just_opened, IsOpened, PlaysAll, StopsAt}
 use Rattle.shared_session.proofs.Steps.{next_zone}
 
 abbrev calls_in : History → ℕ
@@ -107,13 +108,17 @@ PlaysSoFar first lines i v = (z : Zone) (image : List ℕ) → IsLeftBy (just_op
 abbrev begun : Zone → List ℕ → SharedRan
 begun z image = record { history = just_opened z image; count = 0; refused = None }
 
+none_reserved : (z : Zone) (image : List ℕ) → calls_in (just_opened z image) ≡ 0
+unfolding shared_after
+none_reserved z image = refl
+
 pub plays_none : (first : SharedSeen) (lines : List Line) → PlaysSoFar first lines 0 first
 plays_none first lines z image l = record {
   ran = begun z image;
   is = refl;
   none = refl;
   count = refl;
-  few = omega arith;
+  few = omega (arith, none_reserved z image);
   left = l;
 }
 
@@ -179,3 +184,9 @@ plays_all first lines i v all so_far z image l =
       none = ap (λ (x : SharedRan). x.refused) same ∙ p.none;
       left = subst (λ (x : SharedRan). IsLeftBy x.history v) (sym same) p.left;
     }
+
+pub field_at : (lines : List Line) (i : ℕ) (line : Line) → i < length lines → line ≡ get_or lines i line
+    → AllHaveFields lines → HasFields line
+field_at [] i line below is h = absurd (omega (arith, below))
+field_at (x ∷ xs) zero line below is h = rw is h.0
+field_at (x ∷ xs) (suc i) line below is h = field_at xs i line (omega (arith, below)) is h.1

@@ -1,0 +1,78 @@
+use Rattle.std.proofs.Common.{refl, arith, Err}
+use Rattle.tool_spec.specs.Commands.{RunShared}
+use Rattle.tool_frame.specs.Words.{plan_for}
+use Rattle.image_tool.proofs.SharedEnds.{share_ended, share_caused, text_unput, image_saved, image_unsaved}
+use Rattle.image_tool.proofs.WorkEnds.{kept_same}
+use Rattle.image_tool.proofs.sharing.run_shared_script.Goals as goal
+
+pub returns-in-Err-share : goal.returns-in-Err-share
+returns-in-Err-share g c = record {
+  later = record { source = omega arith; store = omega arith; sink = omega arith };
+  caused = share_caused _ _ _ _ _ _ _ _ c.in-Err-share.ensures;
+  kept = λ w. kept_same (Err c.in-Err-share.stop) _ _ c.in-Ok.ensures.same;
+  ended = share_ended (plan_for RunShared c.args.booted) _ _ c.in-Ok.bytes.items
+      (record { is = refl; read = rw c.mem.ensures at c.in-Ok.ensures.ok.1 })
+      c.in-Ok-read_script.text.items
+      (record {
+        read = c.in-Ok-read_script.ensures.ok.1;
+        few = omega (arith, c.in-Ok-read_script.ensures.ok.0, c.in-Ok-read_script.text.ok);
+        end = c.in-Ok-read_script.ensures.end;
+      })
+      c.in-Ok-lines.lines (rw c.deref.ensures.value at c.in-Ok-lines.ensures.read) c.in-Err-share.stop (record { given = refl; holds = c.in-Ok.ensures.same }) c.in-Err-share.ensures;
+}
+
+pub returns-in-Err-put : goal.returns-in-Err-put
+returns-in-Err-put g c = record {
+  later = record { source = omega arith; store = omega arith; sink = omega arith };
+  caused = omega (arith, c.in-Err-put.ensures.cause.failed);
+  kept = λ w. c.in-Ok.ensures.same;
+  ended = text_unput (plan_for RunShared c.args.booted) _ _ c.in-Ok.bytes.items
+      (record { is = refl; read = rw c.mem.ensures at c.in-Ok.ensures.ok.1 })
+      c.in-Ok-read_script.text.items
+      (record {
+        read = c.in-Ok-read_script.ensures.ok.1;
+        few = omega (arith, c.in-Ok-read_script.ensures.ok.0, c.in-Ok-read_script.text.ok);
+        end = c.in-Ok-read_script.ensures.end;
+      })
+      c.in-Ok-lines.lines (rw c.deref.ensures.value at c.in-Ok-lines.ensures.read)
+      c.in-Ok-share.done.0.items c.in-Ok-share.done.1 c.in-Ok-share.ensures c.in-Ok.ensures.same
+      (rw c.deref-2.ensures.value at c.in-Err-put.ensures.bytes);
+}
+
+pub returns-in-Ok-save : goal.returns-in-Ok-save
+returns-in-Ok-save g c = record {
+  later = record { source = omega arith; store = omega arith; sink = omega arith };
+  caused = tt;
+  kept = λ w. tt;
+  ended = image_saved (plan_for RunShared c.args.booted) _ _ c.in-Ok.bytes.items
+      (record { is = refl; read = rw c.mem.ensures at c.in-Ok.ensures.ok.1 })
+      c.in-Ok-read_script.text.items
+      (record {
+        read = c.in-Ok-read_script.ensures.ok.1;
+        few = omega (arith, c.in-Ok-read_script.ensures.ok.0, c.in-Ok-read_script.text.ok);
+        end = c.in-Ok-read_script.ensures.end;
+      })
+      c.in-Ok-lines.lines (rw c.deref.ensures.value at c.in-Ok-lines.ensures.read)
+      c.in-Ok-share.done.0.items c.in-Ok-share.done.1 c.in-Ok-share.ensures
+      (rw c.deref-2.ensures.value at c.in-Ok-put.ensures.bytes)
+      (rw (c.as_slice.ensures, c.in-Ok.ensures.same) at c.in-Ok-save.ensures.bytes);
+}
+
+pub returns : goal.returns
+returns g c = record {
+  later = record { source = omega arith; store = omega arith; sink = omega arith };
+  caused = omega (arith, c.in-Err-save.ensures.cause.failed);
+  kept = λ w. tt;
+  ended = image_unsaved (plan_for RunShared c.args.booted) _ _ c.in-Ok.bytes.items
+      (record { is = refl; read = rw c.mem.ensures at c.in-Ok.ensures.ok.1 })
+      c.in-Ok-read_script.text.items
+      (record {
+        read = c.in-Ok-read_script.ensures.ok.1;
+        few = omega (arith, c.in-Ok-read_script.ensures.ok.0, c.in-Ok-read_script.text.ok);
+        end = c.in-Ok-read_script.ensures.end;
+      })
+      c.in-Ok-lines.lines (rw c.deref.ensures.value at c.in-Ok-lines.ensures.read)
+      c.in-Ok-share.done.0.items c.in-Ok-share.done.1 c.in-Ok-share.ensures
+      (rw c.deref-2.ensures.value at c.in-Ok-put.ensures.bytes)
+      (rw (c.as_slice.ensures, c.in-Ok.ensures.same) at c.in-Err-save.ensures.bytes);
+}
