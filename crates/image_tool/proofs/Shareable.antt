@@ -12,7 +12,6 @@ use Rattle.zone_spec.specs.declared.Words.{Words}
 use Rattle.zone_spec.specs.declared.params.Params.{Params}
 use Rattle.zone_spec.specs.declared.params.Row.{Row}
 use Rattle.std.proofs.lemmas.List.Sums.{sum_by-cons}
-use Rattle.crash_laws.proofs.Items.{front_of, behind_of}
 use Rattle.ram_core.proofs.Lists.{get-of-map}
 use Rattle.zone_spec.specs.Layout.{rounded, even, dump_memory, dump_count, rows, zone_at, zones_from, layout_of, parity_bytes, ecc_of}
 use Rattle.zone_spec.specs.Layouts.{IsLayout, is_zone, zone_place, zones_end}
@@ -160,6 +159,17 @@ module _ (p : Params) (zones : List Zone) (laid : layout_of p ≡ Ok zones) (pla
       (rows_place shared_name (rows p), found (rows_place shared_name (rows p)) at (omega (arith, less, all)))
 
 -- ---- the zone stands in the image
+
+front_of : (xs ys : List ℕ) (n : ℕ) → n ≡ length xs → take n (xs ++ ys) ≡ xs
+front_of [] ys n e = ap (λ (k : ℕ). take k ys) e
+front_of (x ∷ xs) ys n e =
+    ap (λ (k : ℕ). take k (x ∷ (xs ++ ys))) e ∙ ap (λ (us : List ℕ). x ∷ us) (front_of xs ys (length xs) refl)
+
+behind_of : (xs ys : List ℕ) (m n : ℕ) → m ≡ length xs + n → drop m (xs ++ ys) ≡ drop n ys
+behind_of [] ys m n e = let same : m ≡ n = omega arith in ap (λ (k : ℕ). drop k ys) same
+behind_of (x ∷ xs) ys m n e =
+    let same : m ≡ suc (length xs + n) = omega arith in
+    ap (λ (k : ℕ). drop k (x ∷ (xs ++ ys))) same ∙ behind_of xs ys (length xs + n) n refl
 
 zone_in : (layout : List Zone) (zones : List LiveZone) (rest : List ℕ) (i : ℕ) (z : Zone) (v : LiveZone)
     → ((j : ℕ) (y : Zone) (w : LiveZone) → slice_get layout j ≡ Some y → slice_get zones j ≡ Some w

@@ -223,7 +223,7 @@ module _ (plan : RamPlan) (a b : Outside) (image : List ℕ) (l : Loaded plan a 
       -- all lines were done, and leave this text and this image
       module _ (shown : Text) (last : List ℕ) (same : wanted_shared_lines plan.zones image (Ok lines)
           ≡ record { texts = shown ∷ []; end = Ok tt; writes = Some last }) where
-        w : Wanted
+        abbrev w : Wanted
         w = record { texts = shown ∷ []; end = Ok tt; writes = Some last }
 
         pub text_unput : b.holds ≡ a.holds → AppendsFront a.given b.given shown → RunEnds plan a b (Err SinkFault)
