@@ -94,7 +94,7 @@ got_is (x ∷ xs) (suc i) z e = got_is xs i z e
 
 -- there are fewer zones in front of it than in all
 in_front : (d c f m sd sc sf sm : ℕ) → 0 < f
-    → let rs = record { kind = Dump; count = d; size = sd } ∷ record { kind = Console; count = c; size = sc }
+    → let rs : List Row = record { kind = Dump; count = d; size = sd } ∷ record { kind = Console; count = c; size = sc }
     ∷ record { kind = Ftrace; count = f; size = sf } ∷ record { kind = Pmsg; count = m; size = sm } ∷ [] in
     rows_place shared_name rs < all_count rs
 unfolding rows_place
@@ -132,18 +132,20 @@ module _ (p : Params) (zones : List Zone) (laid : layout_of p ≡ Ok zones) (pla
       ap (λ (b : Bool). cond b (Some (position_or_len (is_zone shared_name) zones)) None) within ∙ ap Some e in
       let holds : is_zone shared_name z ≡ true =
       ap (is_zone shared_name) (sym (got_is zones place z g.1))
-      ∙ (position-Some (is_zone shared_name) zones place z named).1.0 in
+      ∙ (position-Some (is_zone shared_name) zones place z named).1 in
       let kind = is_ftrace z.name.kind (and_parts (is_of Ftrace z.name.kind) (z.name.index == 0) holds).0 in
       let none : p.ecc_ftrace ≡ 0 = omega (arith, ltb-false 0 p.ecc_ftrace asked.1) in
       let parities : AllByRecursion (HasParity p) zones =
-      subst (AllByRecursion (HasParity p)) (no_fault p zones laid).same (rows_parity p 0 (rows p)) in
-      (z, record {
-        named = named;
-        there = g.1;
-        kind = kind;
-        parity = parity_at p zones place z parities g.1 ∙ ap (λ k. parity_bytes (ecc_of p k)) kind
-            ∙ ap parity_bytes none;
-      })
+      subst (AllByRecursion (HasParity p)) (no_fault p zones laid).same (rows_parity p 0 (rows p)) in (
+        z,
+        record {
+          named = named;
+          there = g.1;
+          kind = kind;
+          parity = parity_at p zones place z parities g.1 ∙ ap (λ k. parity_bytes (ecc_of p k)) kind
+              ∙ ap parity_bytes none;
+        },
+      )
 
   is_there : (place : ℕ) × (z : Zone) × IsPlainFtrace zones place z
   is_there =
@@ -156,7 +158,8 @@ module _ (p : Params) (zones : List Zone) (laid : layout_of p ≡ Ok zones) (pla
       let at : position_or_len (is_zone shared_name) zones ≡ rows_place shared_name (rows p) =
       ap (position_or_len (is_zone shared_name)) (sym same) ∙ place_in_rows p shared_name 0 (rows p) in
       let all : length zones ≡ all_count (rows p) = ap (length {A = Zone}) (sym same) ∙ length_zones p 0 (rows p) in
-      (rows_place shared_name (rows p), found (rows_place shared_name (rows p)) at (omega (arith, less, all)))
+      let here = found (rows_place shared_name (rows p)) at (omega (arith, less, all)) in
+      (rows_place shared_name (rows p), here.0, here.1)
 
 -- ---- the zone stands in the image
 
@@ -206,7 +209,7 @@ open_unless Pmsg w cap e h = cc
 module _ (p : Params) (zones : List Zone) (mem : ℕ) (image : List ℕ) (laid : layout_of p ≡ Ok zones)
     (plain : lacks_plain_ftrace p ≡ false) (lies : IsLayout zones mem) (size : length image ≡ mem)
     (bytes : AreBytes image) where
-  live : LiveState
+  abbrev live : LiveState
   live = after_boot zones image
 
   state : IsState zones mem (LiveOf (booted zones (fresh zones image)))
@@ -280,7 +283,8 @@ zone_is zones image can = ap (zone_named zones) can.named ∙ can.there
 
 pub zone_in_both : (zones others : List Zone) (image : List ℕ) → others ≡ zones
     → (can : CanOpen others shared_name image) → zone_to_share zones ≡ Some can.zone
-zone_in_both zones others image same can = rw same at zone_is others image can
+zone_in_both zones others image same can =
+    subst (λ (zs : List Zone). zone_to_share zs ≡ Some can.zone) same (zone_is others image can)
 
 -- ---- the lines
 

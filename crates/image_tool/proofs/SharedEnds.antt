@@ -1,5 +1,5 @@
 -- How the stages of a run on a shared zone end it
-use Rattle.std.proofs.Common.{◌≡◌, ℕ, ◌<◌, ◌≤◌, List, [], ◌∷◌, length, take, Option, Some, None, Ok, Err, IfSome, refl, sym, ◌∙◌, arith, append-nil, inl, inr}
+use Rattle.std.proofs.Common.{◌≡◌, ℕ, ◌<◌, ◌≤◌, List, [], ◌∷◌, length, take, Option, Some, None, Result, Ok, Err, IfSome, refl, sym, ◌∙◌, arith, append-nil, inl, inr}
 use Rattle.std.specs.Io.KnownBytes.{Appends}
 use Rattle.box_io.specs.Outside.{Rose, AppendsFront, Writes, WritesFront}
 use Rattle.zone_spec.specs.declared.Zone.{Zone}
@@ -264,3 +264,48 @@ share_caused w ImageFault f f' g g' h h' is = absurd is
 share_caused w SinkFault f f' g g' h h' is = absurd is
 share_caused w TooLong f f' g g' h h' is = absurd is
 share_caused w (BadLine x) f f' g g' h h' is = absurd is
+
+pub load_caused : (s : Stop) (mem : ℕ) (holds : Option (List ℕ)) (f f' g g' h h' : ℕ) → LoadStop s mem holds g g'
+    → CausedAt f f' g g' h h' (Err s)
+load_caused Memory mem holds f f' g g' h h' is = tt
+load_caused Usage mem holds f f' g g' h h' is = absurd is
+load_caused (Param x y) mem holds f f' g g' h h' is = absurd is
+load_caused (Layout x) mem holds f f' g g' h h' is = absurd is
+load_caused NoSharedZone mem holds f f' g g' h h' is = absurd is
+load_caused (Short x y) mem holds f f' g g' h h' is = tt
+load_caused ScriptFault mem holds f f' g g' h h' is = absurd is
+load_caused ImageFault mem holds f f' g g' h h' is = is
+load_caused SinkFault mem holds f f' g g' h h' is = absurd is
+load_caused TooLong mem holds f f' g g' h h' is = absurd is
+load_caused (BadLine x) mem holds f f' g g' h h' is = absurd is
+load_caused (Refused x y) mem holds f f' g g' h h' is = absurd is
+
+pub script_caused : (s : Stop) (left : Option (List ℕ)) (f f' g g' h h' : ℕ) → ScriptStop s left f f'
+    → CausedAt f f' g g' h h' (Err s)
+script_caused Memory left f f' g g' h h' is = tt
+script_caused Usage left f f' g g' h h' is = absurd is
+script_caused (Param x y) left f f' g g' h h' is = absurd is
+script_caused (Layout x) left f f' g g' h h' is = absurd is
+script_caused NoSharedZone left f f' g g' h h' is = absurd is
+script_caused (Short x y) left f f' g g' h h' is = absurd is
+script_caused ScriptFault left f f' g g' h h' is = is
+script_caused ImageFault left f f' g g' h h' is = absurd is
+script_caused SinkFault left f f' g g' h h' is = absurd is
+script_caused TooLong left f f' g g' h h' is = tt
+script_caused (BadLine x) left f f' g g' h h' is = absurd is
+script_caused (Refused x y) left f f' g g' h h' is = absurd is
+
+pub parse_caused : (s : Stop) (read : Result (List Line) ℕ) (f f' g g' h h' : ℕ) → ParseStop s read
+    → CausedAt f f' g g' h h' (Err s)
+parse_caused Memory read f f' g g' h h' is = tt
+parse_caused Usage read f f' g g' h h' is = absurd is
+parse_caused (Param x y) read f f' g g' h h' is = absurd is
+parse_caused (Layout x) read f f' g g' h h' is = absurd is
+parse_caused NoSharedZone read f f' g g' h h' is = absurd is
+parse_caused (Short x y) read f f' g g' h h' is = absurd is
+parse_caused ScriptFault read f f' g g' h h' is = absurd is
+parse_caused ImageFault read f f' g g' h h' is = absurd is
+parse_caused SinkFault read f f' g g' h h' is = absurd is
+parse_caused TooLong read f f' g g' h h' is = absurd is
+parse_caused (BadLine x) read f f' g g' h h' is = tt
+parse_caused (Refused x y) read f f' g g' h h' is = absurd is

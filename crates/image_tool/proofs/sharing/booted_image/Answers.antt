@@ -3,14 +3,14 @@ use Rattle.zone_spec.specs.Layout.{rounded}
 use Rattle.zone_params.specs.Laid.{params_of, zones_of}
 use Rattle.session_spec.specs.Off.{fresh}
 use Rattle.session_spec.specs.Boot.{booted}
-use Rattle.image_tool.proofs.Shareable.{is_booted}
+use Rattle.image_tool.proofs.Shareable.{is_booted, is_booted_size}
 use Rattle.image_tool.proofs.sharing.booted_image.Goals as goal
 
 pub returns-in-Ok : goal.returns-in-Ok
 returns-in-Ok c =
     let layout = zones_of c.args.layout in
     let mem = rounded (params_of c.args.layout).mem in
-    let f = c.in_ok-fresh_store.ensures in
+    let f = c.in_ok-off.ensures in
     let b = c.in-Ok.ensures.booted layout mem (fresh layout c.args.image.items) f.stands in
     let is = c.into_image.ensures ∙ (c.stop.ensures layout mem (booted layout (fresh layout c.args.image.items)) b.live).image in
     record {

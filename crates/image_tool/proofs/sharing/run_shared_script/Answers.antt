@@ -1,7 +1,8 @@
+-- How each stage of a script on a shared zone ends it
 use Rattle.std.proofs.Common.{refl, arith, Err}
 use Rattle.tool_spec.specs.Commands.{RunShared}
 use Rattle.tool_frame.specs.Words.{plan_for}
-use Rattle.image_tool.proofs.SharedEnds.{share_ended, share_caused, text_unput, image_saved, image_unsaved}
+use Rattle.image_tool.proofs.SharedEnds.{load_stopped, script_stopped, parse_stopped, load_caused, script_caused, parse_caused, share_ended, share_caused, text_unput, image_saved, image_unsaved}
 use Rattle.image_tool.proofs.WorkEnds.{kept_same}
 use Rattle.image_tool.proofs.sharing.run_shared_script.Goals as goal
 
@@ -75,4 +76,42 @@ returns g c = record {
       c.in-Ok-share.done.0.items c.in-Ok-share.done.1 c.in-Ok-share.ensures
       (rw c.deref-2.ensures.value at c.in-Ok-put.ensures.bytes)
       (rw (c.as_slice.ensures, c.in-Ok.ensures.same) at c.in-Err-save.ensures.bytes);
+}
+
+pub returns-in-Err : goal.returns-in-Err
+returns-in-Err g c = record {
+  later = record { source = omega arith; store = omega arith; sink = omega arith };
+  caused = load_caused c.in-Err.stop c.mem.result (g.M.Store.holds c.args.image.now) _ _ _ _ _ _ c.in-Err.ensures.err;
+  kept = λ w. kept_same (Err c.in-Err.stop) _ _ c.in-Err.ensures.same;
+  ended = load_stopped (plan_for RunShared c.args.booted) _ _ c.in-Err.stop _ _ refl
+      (record { left = refl; source = refl }) (record { given = refl; holds = c.in-Err.ensures.same })
+      (rw c.mem.ensures at c.in-Err.ensures.err);
+}
+
+pub returns-in-Err-read_script : goal.returns-in-Err-read_script
+returns-in-Err-read_script g c = record {
+  later = record { source = omega arith; store = omega arith; sink = omega arith };
+  caused = script_caused c.in-Err-read_script.stop (g.S.Source.left c.args.script.now) _ _ _ _ _ _
+      c.in-Err-read_script.ensures.err;
+  kept = λ w. kept_same (Err c.in-Err-read_script.stop) _ _ c.in-Ok.ensures.same;
+  ended = script_stopped (plan_for RunShared c.args.booted) _ _ c.in-Ok.bytes.items
+      (record { is = refl; read = rw c.mem.ensures at c.in-Ok.ensures.ok.1 }) c.in-Err-read_script.stop _ _
+      (record { given = refl; holds = c.in-Ok.ensures.same }) c.in-Err-read_script.ensures.err;
+}
+
+pub returns-in-Err-lines : goal.returns-in-Err-lines
+returns-in-Err-lines g c = record {
+  later = record { source = omega arith; store = omega arith; sink = omega arith };
+  caused = parse_caused c.in-Err-lines.stop _ _ _ _ _ _ _ c.in-Err-lines.ensures.read;
+  kept = λ w. kept_same (Err c.in-Err-lines.stop) _ _ c.in-Ok.ensures.same;
+  ended = parse_stopped (plan_for RunShared c.args.booted) _ _ c.in-Ok.bytes.items
+      (record { is = refl; read = rw c.mem.ensures at c.in-Ok.ensures.ok.1 })
+      c.in-Ok-read_script.text.items
+      (record {
+        read = c.in-Ok-read_script.ensures.ok.1;
+        few = omega (arith, c.in-Ok-read_script.ensures.ok.0, c.in-Ok-read_script.text.ok);
+        end = c.in-Ok-read_script.ensures.end;
+      })
+      c.in-Err-lines.stop (record { given = refl; holds = c.in-Ok.ensures.same })
+      (rw c.deref.ensures.value at c.in-Err-lines.ensures.read);
 }
