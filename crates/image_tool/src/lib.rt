@@ -34,4 +34,6 @@ mod salvage_tests;
 #[cfg(test)]
 mod session_tests;
 #[cfg(test)]
+mod shared_tests;
+#[cfg(test)]
 mod tests;
