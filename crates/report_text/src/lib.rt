@@ -6,6 +6,7 @@
 #![tactic(auto)]
 
 mod lines;
+mod newest;
 mod pieces;
 mod records;
 mod visible;

@@ -2,6 +2,7 @@
 ghost use Rattle.std.specs.Prelude.{◌≡◌, ◌≤◌, length, OnOk};
 ghost use Rattle.report_text.specs.Pieces.{numbers};
 
+use crate::newest::newest_dump;
 use crate::pieces::{Piece, add};
 use crate::visible::is_plain;
 use record_report::RecordReport;
@@ -90,27 +91,6 @@ fn add_tail<'a>(
         }
         None => Ok(()),
     }
-}
-
-fn is_newer(entry: &RecordReport, newest: Option<&RecordReport>) -> bool {
-    let Some(time) = entry.time else {
-        return false;
-    };
-    match newest.and_then(|held| held.time) {
-        Some(held) => (time.secs, time.micros) > (held.secs, held.micros),
-        None => true,
-    }
-}
-
-/// The dump of the latest time, the first of those.
-fn newest_dump(records: &[RecordReport]) -> Option<&RecordReport> {
-    let mut newest = None;
-    for entry in records {
-        if is_newer(entry, newest) {
-            newest = Some(entry);
-        }
-    }
-    newest
 }
 
 fn console(records: &[RecordReport]) -> Option<&RecordReport> {

@@ -1,0 +1,13 @@
+-- None of the records so far is newer than the one held
+use Rattle.std.proofs.Common.{◌≡◌, false, take}
+use Rattle.std.specs.Prelude.{IfSome, IsSome}
+use Rattle.std.specs.Option.{option_copied}
+use Rattle.std.specs.List.{list_any}
+use Rattle.report_text.specs.Newest.{is_newer}
+use Rattle.report_text.proofs.newest.newest_dump.Given as goal
+
+abbrev pub invariant-loop-entry : goal.invariant-loop-entry
+invariant-loop-entry l = record {
+  newest : list_any (λ r. is_newer r (option_copied l.newest)) (take l.entry-index l.records) ≡ false;
+  dated : IfSome l.newest (λ r. IsSome r.now.time);
+}

@@ -1,0 +1,18 @@
+-- The newest dump
+use Rattle.std.specs.Prelude.{Bool, true, false, ◌&&◌, ◌||◌, ◌==◌, nat_lt, Option, Some, None}
+use Rattle.std.specs.Option.{option_and_then}
+use Rattle.zone_spec.specs.declared.Time.{Time}
+use Rattle.report_spec.specs.Records.{RecordHeld}
+
+abbrev pub is_later : Time → Time → Bool
+is_later t u = nat_lt u.secs t.secs || ((t.secs == u.secs) && nat_lt u.micros t.micros)
+
+-- no time is never later, and each is later than none
+abbrev pub later_than : Option Time → Option Time → Bool
+later_than None other = false
+later_than (Some t) None = true
+later_than (Some t) (Some u) = is_later t u
+
+-- whether a record has a later time than the one that is held
+abbrev pub is_newer : RecordHeld → Option RecordHeld → Bool
+is_newer r held = later_than r.time (option_and_then (λ (h : RecordHeld). h.time) held)

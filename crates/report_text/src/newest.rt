@@ -1,0 +1,49 @@
+// The newest dump of the records.
+ghost use Rattle.std.specs.Prelude.{◌≡◌, false, IfSome, IsSome};
+ghost use Rattle.std.specs.Option.{option_copied};
+ghost use Rattle.std.specs.List.{list_any};
+ghost use Rattle.report_text.specs.Newest.{is_later, later_than, is_newer};
+
+use record_report::RecordReport;
+use zone_spec::Time;
+
+fn is_later(time: Time, other: Time) -> bool
+    ensures { result ≡ is_later time other }
+{
+    time.secs > other.secs || (time.secs == other.secs && time.micros > other.micros)
+}
+
+fn is_later_than(time: Option<Time>, other: Option<Time>) -> bool
+    ensures { result ≡ later_than time other }
+{
+    match time {
+        Some(time) => match other {
+            Some(other) => is_later(time, other),
+            None => true,
+        },
+        None => false,
+    }
+}
+
+fn is_newer(entry: &RecordReport, newest: Option<&RecordReport>) -> bool
+    ensures { result ≡ is_newer entry.now (option_copied newest.entry) }
+{
+    match newest {
+        Some(held) => is_later_than(entry.time, held.time),
+        None => entry.time.is_some(),
+    }
+}
+
+/// The first of the records with the latest time, or `None` where none has a time: dumps alone have one.
+pub fn newest_dump(records: &[RecordReport]) -> Option<&RecordReport>
+    ensures newest { list_any (λ r. is_newer r (option_copied result)) records.now ≡ false }
+    ensures dated { IfSome result (λ r. IsSome r.now.time) }
+{
+    let mut newest = None;
+    for entry in records {
+        if is_newer(entry, newest) {
+            newest = Some(entry);
+        }
+    }
+    newest
+}
