@@ -1,7 +1,6 @@
 -- The parts of a text are its fields.
 use Rattle.std.proofs.Common.{lit<, Ok}
 use Rattle.std.specs.declared.alloc.AllocError.{AllocError}
-
 use Rattle.std.proofs.lemmas.Iterator.Consumers.{map_from_collect}
 use Rattle.std.proofs.lemmas.Iterator.Splits.{YieldsList-from_str_split}
 use Rattle.oopsbox_c.proofs.words.parts.Goals as goal
