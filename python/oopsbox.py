@@ -1,7 +1,7 @@
 """The crash log store of Linux (ramoops), read and written by the proved library.
 
-The module loads the shared object liboopsbox.so: from the path in OOPSBOX_LIBRARY if that is set, else from this
-module's folder, else by the system's search. `tools/build-library FOLDER` makes it.
+The module loads the shared object liboopsbox.so: the one that OOPSBOX_LIBRARY names if that is set, else one in this
+module's folder, else the package's. `tools/build-library FOLDER` makes it.
 
     >>> import oopsbox
     >>> region = open("region.bin", "rb").read()
@@ -13,6 +13,7 @@ Parameters are words key=value with one space between, as on a kernel's command 
 
 import ctypes
 import os
+import sysconfig
 from collections import namedtuple
 
 __all__ = ["Error", "Record", "Run", "Zone", "boot", "layout", "records", "rs_decode", "rs_encode", "run"]
@@ -49,8 +50,8 @@ class _Lengths(ctypes.Structure):
 
 def _load():
     beside = os.path.join(os.path.dirname(os.path.abspath(__file__)), "liboopsbox.so")
-    named = os.environ.get("OOPSBOX_LIBRARY")
-    library = ctypes.CDLL(named or (beside if os.path.exists(beside) else "liboopsbox.so"))
+    packaged = "/usr/lib/%s/oopsbox/liboopsbox.so" % sysconfig.get_config_var("MULTIARCH")
+    library = ctypes.CDLL(os.environ.get("OOPSBOX_LIBRARY") or (beside if os.path.exists(beside) else packaged))
     piece = [ctypes.c_void_p, ctypes.c_size_t]
     shapes = {
         "oopsbox_rs_encode": piece + piece,

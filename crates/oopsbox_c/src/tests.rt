@@ -1,6 +1,5 @@
 // Each call once on its happy path, and its refusals.
 use crate::*;
-use std::alloc::{AllocError, Global};
 use std::test::Fail;
 
 const ONE_CONSOLE: &[u8] = b"mem_size=4096 record_size=0 ftrace_size=0 pmsg_size=0";
@@ -8,10 +7,10 @@ const ONE_CONSOLE: &[u8] = b"mem_size=4096 record_size=0 ftrace_size=0 pmsg_size
 const LIST: &[u8] = b"image list mem_size=4096 record_size=0 ftrace_size=0 pmsg_size=0";
 
 // An image of one console zone, which holds `abc`.
-fn image(alloc: Global) -> Result<Vec<u8>, AllocError> {
-    let mut image = Vec::from_slice(alloc, b"DBGC\0\0\0\0\x03\0\0\0abc")?;
-    image.resize(4096, 0)?;
-    Ok(image)
+fn image() -> [u8; 4096] {
+    let mut image = [0; 4096];
+    image[..15].copy_from_slice(b"DBGC\0\0\0\0\x03\0\0\0abc");
+    image
 }
 
 #[test]
@@ -88,7 +87,7 @@ fn a_text_has_a_layout(rt: HostRuntime) -> Result<(), Fail> {
 #[test]
 fn a_zone_is_read(rt: HostRuntime) -> Result<(), Fail> {
     let alloc = rt.alloc();
-    let image = image(alloc)?;
+    let image = image();
     let mut log = [b'-'; 4];
     let mut answer = ZoneAnswer::default();
     assert_eq!(rt;
@@ -119,7 +118,7 @@ fn a_zone_is_read(rt: HostRuntime) -> Result<(), Fail> {
 #[test]
 fn the_tool_runs(rt: HostRuntime) -> Result<(), Fail> {
     let alloc = rt.alloc();
-    let mut image = image(alloc)?;
+    let mut image = image();
     let mut text = [b'-'; 64];
     let mut lengths = Lengths {
         image: 4096,
