@@ -1,0 +1,18 @@
+# Completion of oopsbox for bash: a file, a command, its parameters.
+_oopsbox()
+{
+    local word=${COMP_WORDS[COMP_CWORD]}
+    local keys="mem_size= record_size= console_size= ftrace_size= pmsg_size= ecc= cpus= ftrace_sig= block_size=
+        ecc_dump= ecc_console= ecc_ftrace= ecc_pmsg="
+    if [ "$COMP_CWORD" -eq 1 ]; then
+        mapfile -t COMPREPLY < <(compgen -f -- "$word")
+        compopt -o filenames
+    elif [ "$COMP_CWORD" -eq 2 ]; then
+        mapfile -t COMPREPLY < <(compgen -W "list extract erase layout run blank make move blk-run" -- "$word")
+    else
+        [ "${COMP_WORDS[2]}" = move ] && keys="$keys to"
+        mapfile -t COMPREPLY < <(compgen -W "$keys" -- "$word")
+        compopt -o nospace
+    fi
+}
+complete -F _oopsbox oopsbox
