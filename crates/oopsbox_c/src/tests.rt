@@ -105,7 +105,7 @@ fn a_zone_is_read(rt: HostRuntime) -> Result<(), Fail> {
         13
     );
     assert_eq!(rt;
-        oopsbox_zone(alloc, ONE_CONSOLE, 0, &image[..4095], &mut log, &mut answer),
+        oopsbox_zone(alloc, ONE_CONSOLE, 0, &[0; 4095], &mut log, &mut answer),
         4
     );
     assert_eq!(rt;
@@ -129,9 +129,9 @@ fn the_tool_runs(rt: HostRuntime) -> Result<(), Fail> {
         0
     );
     assert_eq!(rt; (lengths.image, lengths.text), (4096, 30));
-    assert!(rt; text[..31] == b"records 1\nconsole-ramoops-0 3\n-"[..]);
+    assert!(rt; text.starts_with(b"records 1\nconsole-ramoops-0 3\n-".as_slice()));
     assert_eq!(rt;
-        oopsbox_run(alloc, LIST, b"", &mut image, &mut text[..29], &mut lengths),
+        oopsbox_run(alloc, LIST, b"", &mut image, &mut [0; 29], &mut lengths),
         12
     );
     assert_eq!(rt; lengths.text, 30);
