@@ -1,5 +1,5 @@
 -- What a zone reads whose erasure by a boot was cut
-use Rattle.std.proofs.Common.{◌≡◌, ◌≢◌, ℕ, zero, suc, ◌+◌, ◌-◌, ◌*◌, ◌/◌, ◌%◌, ◌<◌, ◌≤◌, Bool, true, false, cond, ◌&&◌, ◌==◌, List, [], ◌∷◌, ◌++◌, length, take, map, flat_map, get_or, refl, sym, ap, ap₂, ◌∙◌, subst, arith, Option, Some, None, w32, length-append, append-nil, true≢false, eqb-true}
+use Rattle.std.proofs.Common.{◌≡◌, ◌≢◌, ℕ, zero, suc, ◌-◌, ◌*◌, ◌/◌, ◌%◌, ◌<◌, ◌≤◌, Bool, true, false, cond, ◌&&◌, ◌==◌, List, [], ◌∷◌, ◌++◌, length, take, map, flat_map, get_or, refl, sym, ap, ap₂, ◌∙◌, subst, arith, Option, Some, None, w32, append-nil, true≢false, eqb-true}
 use Rattle.std.specs.Prelude.{Contains}
 use Rattle.std.specs.Int.{to_le_bytes}
 use Rattle.std.specs.List.{AllByRecursion, range_with_len, position}
@@ -11,13 +11,13 @@ use Rattle.zone_spec.specs.declared.HeaderSeen.TheVariants.{Pair as SeenPair, Fo
 use Rattle.zone_spec.specs.declared.State.{State}
 use Rattle.zone_spec.specs.declared.State.TheVariants.{Unsigned, Empty, Invalid, Found}
 use Rattle.zone_spec.specs.Zones.{IsValidZone}
-use Rattle.zone_spec.specs.Parts.{Part, Header, Block, part_bytes, part_word, words_in, standing_words, IsImage}
+use Rattle.zone_spec.specs.Parts.{Part, Header, Block, part_word, standing_words, IsImage}
 use Rattle.zone_spec.specs.PartReadings.{part_reading, words_read}
 use Rattle.zone_spec.specs.Reading.{ZoneReading, byte_read, log_places, state_of, zone_reading}
 use Rattle.zone_spec.specs.Stores.{put, after_stores}
 use Rattle.zone_spec.specs.Stages.{Stage, stage_stores, stores_in_turn}
 use Rattle.zone_spec.specs.Calls.{erase_stages}
-use Rattle.zone_spec.specs.Boot.{boot_fixes, boot_erasure, boot_stores, signing, keeps}
+use Rattle.zone_spec.specs.Boot.{boot_fixes, boot_erasure, boot_stores, signing}
 use Rattle.zone_spec.specs.Pairs.{pairs_from, seen_at, header_seen, pair_of}
 use Rattle.zone_spec.specs.Cut.{cut_parts, cut_stages, cut_pairs}
 use Rattle.zone_spec.specs.Windows.{words_after}

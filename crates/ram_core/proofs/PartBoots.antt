@@ -23,7 +23,7 @@ use Rattle.zone_spec.specs.Stores.{after_stores}
 use Rattle.zone_spec.specs.Stages.{stage_count, stores_in_turn}
 use Rattle.zone_spec.specs.Calls.{erase_stages}
 use Rattle.zone_spec.specs.Pairs.{pairs_from, pair_of}
-use Rattle.zone_spec.specs.Boot.{boot_stores, boot_fixes, boot_erasure, signing, keeps, told_by_boot}
+use Rattle.zone_spec.specs.Boot.{boot_stores, boot_fixes, boot_erasure, signing, told_by_boot}
 use Rattle.zone_spec.specs.Cut.{cut_stages, cut_pairs}
 use Rattle.session_spec.specs.Zones.{zone_bytes}
 use Rattle.session_spec.specs.States.{OffZone, OffState}

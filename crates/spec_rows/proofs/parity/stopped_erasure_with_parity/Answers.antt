@@ -1,5 +1,5 @@
 use Rattle.std.specs.Prelude.{Some}
-use Rattle.std.proofs.Common.{◌≡◌, ℕ, List, [], ◌∷◌, take, refl, ap, ap₂, ◌∙◌}
+use Rattle.std.proofs.Common.{◌≡◌, ℕ, List, [], take, refl, ap, ap₂, ◌∙◌}
 use Rattle.zone_spec.specs.Parts.{Header, part_word}
 use Rattle.zone_spec.specs.Reading.{ZoneReading, zone_reading}
 use Rattle.zone_spec.specs.Stores.{Store, after_stores}
