@@ -3,6 +3,7 @@ use Rattle.std.specs.Prelude.{◌≡◌, ℕ, ◌+◌, ◌-◌, ◌*◌, ◌/◌
 use Rattle.std.specs.List.{list_all}
 use Rattle.zone_spec.specs.declared.params.LayoutFault.{LayoutFault}
 use Rattle.zone_spec.specs.declared.params.LayoutFault.TheVariants.{NoMemory, NoZone, TooLarge, NoRoom, NotPage}
+use Rattle.zone_spec.specs.Numbers.{plain_sig, most_memory}
 use Rattle.zone_spec.specs.Layout.{first_fault}
 use Rattle.blk_spec.specs.declared.BlkParams.{BlkParams}
 use Rattle.blk_spec.specs.declared.BlkLayout.{BlkLayout}
@@ -21,7 +22,7 @@ dump_count p = if p.kmsg == 0 then 0 else dump_memory p / p.kmsg
 abbrev pub faults : BlkParams → List (Bool × LayoutFault)
 faults p =
     (p.total == 0, NoMemory)
-    ∷ (nat_lt (2 ^ 24) p.total, TooLarge)
+    ∷ (nat_lt most_memory p.total, TooLarge)
     ∷ (not (list_all (λ size. size % 4096 == 0) (p.total ∷ p.kmsg ∷ p.console ∷ p.pmsg ∷ [])), NotPage)
     ∷ (list_all (λ size. size == 0) (p.kmsg ∷ p.console ∷ p.pmsg ∷ []), NoZone)
     ∷ (nat_lt p.total (p.pmsg + p.console) || (nat_lt 0 (dump_memory p) && nat_lt (dump_memory p) p.kmsg), NoRoom)
@@ -43,7 +44,7 @@ layout_of p = ok_unless (first_fault (faults p)) (zones_of p)
 
 -- the layouts that a store can have
 pub record IsLayout (l : BlkLayout) : Type 0 where
-  pub small : l.total ≤ 2 ^ 24
+  pub small : l.total ≤ most_memory
   pub kmsg : l.kmsg % 4096 ≡ 0
   pub console : l.console % 4096 ≡ 0
   pub pmsg : l.pmsg % 4096 ≡ 0
@@ -52,12 +53,16 @@ pub record IsLayout (l : BlkLayout) : Type 0 where
 
 -- the zones: pmsg, console, dumps
 abbrev pub ring_zone : BlkLayout → BlkRing → BlkZone
-ring_zone l Pmsg = record { at = 0; size = l.pmsg; sig = bit_xor 0x43474244 7 }
-ring_zone l Console = record { at = l.pmsg; size = l.console; sig = bit_xor 0x43474244 2 }
+ring_zone l Pmsg = record { at = 0; size = l.pmsg; sig = bit_xor plain_sig 7 }
+ring_zone l Console = record { at = l.pmsg; size = l.console; sig = bit_xor plain_sig 2 }
 
 abbrev pub dump_zone : BlkLayout → ℕ → BlkZone
-dump_zone l index = record { at = l.pmsg + l.console + index * l.kmsg; size = l.kmsg; sig = 0x43474244 }
+dump_zone l index = record { at = l.pmsg + l.console + index * l.kmsg; size = l.kmsg; sig = plain_sig }
 
--- a zone's data bytes: all behind its header of 12
+-- how many bytes a zone's header has: signature, data length and start
+abbrev pub header_len : ℕ
+header_len = 12
+
+-- a zone's data bytes: all behind its header
 abbrev pub capacity : BlkZone → ℕ
-capacity z = z.size - 12
+capacity z = z.size - header_len

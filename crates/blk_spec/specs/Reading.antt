@@ -8,7 +8,7 @@ use Rattle.blk_spec.specs.declared.BlkLayout.{BlkLayout}
 use Rattle.blk_spec.specs.declared.BlkRing.{BlkRing}
 use Rattle.blk_spec.specs.declared.BlkZone.{BlkZone}
 use Rattle.blk_spec.specs.declared.BlkTime.{BlkTime}
-use Rattle.blk_spec.specs.Layout.{ring_zone, dump_zone, capacity}
+use Rattle.blk_spec.specs.Layout.{header_len, ring_zone, dump_zone, capacity}
 use Rattle.blk_spec.specs.Dumps.{Counters}
 
 -- a listed dump; its reason by its number
@@ -29,7 +29,7 @@ abbrev pub header_words : List ℕ → Words
 header_words bytes = record {
   sig = from_le_bytes w32 (slice_range bytes 0 4);
   size = from_le_bytes w32 (slice_range bytes 4 8);
-  start = from_le_bytes w32 (slice_range bytes 8 12);
+  start = from_le_bytes w32 (slice_range bytes 8 header_len);
 }
 
 -- a valid zone has its own signature, a length within its data and a start within its length
@@ -44,7 +44,7 @@ ring_log words bytes = drop words.start (take words.size bytes) ++ take words.st
 unfoldable pub saved_ring : BlkZone → List ℕ → Option (List ℕ)
 saved_ring z bytes =
     let words = header_words bytes in
-    if is_valid z words && nat_lt 0 words.size then Some (ring_log words (drop 12 bytes)) else None
+    if is_valid z words && nat_lt 0 words.size then Some (ring_log words (drop header_len bytes)) else None
 
 -- what the 40 bytes of a dump's header say; what stands in their padding does not matter
 abbrev pub dump_seen : ℕ → Words → List ℕ → BlkDump
@@ -70,7 +70,8 @@ is_dump words bytes =
 unfoldable pub listed_dump : ℕ → BlkZone → List ℕ → Option BlkDump
 listed_dump index z bytes =
     let words = header_words bytes in
-    if is_valid z words && is_dump words (drop 12 bytes) then Some (dump_seen index words (drop 12 bytes)) else None
+    if is_valid z words && is_dump words (drop header_len bytes)
+    then Some (dump_seen index words (drop header_len bytes)) else None
 
 -- the saved log of a ring, and the listed dumps by rising number
 abbrev pub ring_saved : BlkLayout → BlkRing → List ℕ → Option (List ℕ)

@@ -5,7 +5,7 @@ use Rattle.std.proofs.Common.{w32}
 use Rattle.zone_spec.specs.Told.{last_items}
 use Rattle.blk_spec.specs.declared.BlkZone.{BlkZone}
 use Rattle.blk_spec.specs.declared.BlkWords.{BlkWords}
-use Rattle.blk_spec.specs.Layout.{capacity}
+use Rattle.blk_spec.specs.Layout.{header_len, capacity}
 use Rattle.blk_spec.specs.Writes.{Write}
 
 -- a zone's header: signature, data length and start, 32 bits each, little-endian
@@ -17,7 +17,7 @@ header_write z words = record { at = z.at; bytes = header_bytes z.sig words }
 
 -- data from a place on, then the header with these words
 abbrev pub run_writes : BlkZone → ℕ → List ℕ → BlkWords → List Write
-run_writes z place bytes words = record { at = z.at + 12 + place; bytes = bytes } ∷ header_write z words ∷ []
+run_writes z place bytes words = record { at = z.at + header_len + place; bytes = bytes } ∷ header_write z words ∷ []
 
 abbrev pub empty_words : BlkWords
 empty_words = record { size = 0; start = 0 }

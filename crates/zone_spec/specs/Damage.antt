@@ -2,6 +2,7 @@
 -- its bytes as they stand
 use Rattle.std.specs.Prelude.{◌≡◌, ℕ, ◌+◌, ◌/◌, ◌<◌, ◌≤◌, ◌⊎◌, List, slice_index, Some}
 use Rattle.zone_spec.specs.declared.Zone.{Zone}
+use Rattle.zone_spec.specs.Numbers.{header_len}
 use Rattle.code_spec.specs.Code.{distance, nearest}
 use Rattle.zone_spec.specs.Parts.{Part, Header, IsPartOf, part_word}
 
@@ -23,6 +24,6 @@ IsZoneWithinBounds z stop now = (part : Part) → IsPartOf z part → IsWithinBo
 -- each byte of the header is as at the stop, or as in the codeword that the header then stood for:
 -- corrections are no damage
 abbrev pub IsNotDamagedFurther : Zone → List ℕ → List ℕ → Type 0
-IsNotDamagedFurther z stop now = (i : ℕ) → i < 12 + z.parity →
+IsNotDamagedFurther z stop now = (i : ℕ) → i < header_len + z.parity →
     (slice_index (part_word z now Header) i ≡ slice_index (part_word z stop Header) i)
     ⊎ ((c : List ℕ) × StoodFor z stop Header c × (slice_index (part_word z now Header) i ≡ slice_index c i))

@@ -1,6 +1,6 @@
 -- The layout of a parameter list: its zones, or its first fault
-use Rattle.std.specs.Prelude.{◌≡◌, ℕ, zero, suc, ◌+◌, ◌-◌, ◌*◌, ◌/◌, ◌^◌, ◌<◌, ◌≤◌, Bool, true, false, ◌&&◌, ◌||◌, not, if◌then◌else◌, nat_lt, nat_le, bit_xor, ◌==◌, List, [], ◌∷◌, ◌++◌, map, take, slice_get, Option, Some, None, Result, Ok, Err}
-use Rattle.std.specs.List.{list_any, list_all, range_with_len, sum_by, position}
+use Rattle.std.specs.Prelude.{ℕ, zero, suc, ◌+◌, ◌-◌, ◌*◌, ◌/◌, ◌^◌, Bool, ◌&&◌, ◌||◌, not, if◌then◌else◌, nat_lt, nat_le, bit_xor, ◌==◌, List, [], ◌∷◌, ◌++◌, map, Option, Some, None, Result, Ok, Err}
+use Rattle.std.specs.List.{list_any, list_all, range_with_len}
 use Rattle.zone_spec.specs.declared.Kind.{Kind}
 use Rattle.zone_spec.specs.declared.Kind.TheVariants.{Dump, Console, Ftrace, Pmsg}
 use Rattle.zone_spec.specs.declared.Zone.{Zone}
@@ -8,6 +8,7 @@ use Rattle.zone_spec.specs.declared.params.Params.{Params}
 use Rattle.zone_spec.specs.declared.params.Row.{Row}
 use Rattle.zone_spec.specs.declared.params.LayoutFault.{LayoutFault}
 use Rattle.zone_spec.specs.declared.params.LayoutFault.TheVariants.{NoMemory, NoZone, TooLarge, EccTooLarge, NoRoom, ZoneTooSmall, EccInvalid, CpusBad, BlockBad}
+use Rattle.zone_spec.specs.Numbers.{header_len, plain_sig, most_memory}
 use Rattle.zone_spec.specs.Zones.{blocks_in}
 
 -- the greatest of 1, 2, 4 .. 2 ^ k that is at most n; 0 for 0
@@ -68,10 +69,10 @@ zone_at p kind size index at =
       name = record { kind = kind; index = index };
       at = at;
       size = size;
-      cap = size - 12 - (blocks + 1) * r;
+      cap = size - header_len - (blocks + 1) * r;
       blocks = blocks;
       parity = r;
-      sig = bit_xor 0x43474244 (tag_of p kind);
+      sig = bit_xor plain_sig (tag_of p kind);
       block = p.block;
     }
 
@@ -91,7 +92,7 @@ parameter_faults p =
     let others = rounded p.console + rounded p.ftrace + rounded p.pmsg in
     (p.mem == 0, NoMemory)
     ∷ (list_all (λ size. rounded size == 0) (p.dump ∷ p.console ∷ p.ftrace ∷ p.pmsg ∷ []), NoZone)
-    ∷ (nat_lt (2 ^ 24) p.mem, TooLarge)
+    ∷ (nat_lt most_memory p.mem, TooLarge)
     ∷ (list_any (nat_lt 127) (p.ecc ∷ p.ecc_dump ∷ p.ecc_console ∷ p.ecc_ftrace ∷ p.ecc_pmsg ∷ []), EccTooLarge)
     ∷ (not (list_any (λ k. p.block == k) (32 ∷ 64 ∷ 128 ∷ [])), BlockBad)
     ∷ ((p.cpus == 0) || nat_lt 64 p.cpus, CpusBad)
@@ -102,7 +103,10 @@ parameter_faults p =
 abbrev pub zone_faults : List Zone → List (Bool × LayoutFault)
 zone_faults zones =
     (list_any (λ (z : Zone). nat_lt z.size 256) zones, ZoneTooSmall)
-    ∷ (list_any (λ (z : Zone). nat_le (z.size - 12) ((z.blocks + 1) * z.parity) || nat_lt z.cap 64) zones, EccInvalid)
+    ∷ (
+      list_any (λ (z : Zone). nat_le (z.size - header_len) ((z.blocks + 1) * z.parity) || nat_lt z.cap 64) zones,
+      EccInvalid,
+    )
     ∷ []
 
 -- the first that holds

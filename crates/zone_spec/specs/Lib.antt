@@ -1,3 +1,4 @@
+pub mod Numbers
 pub mod Zones
 pub mod Parts
 pub mod PartReadings

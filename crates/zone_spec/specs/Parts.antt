@@ -5,6 +5,7 @@ use Rattle.std.specs.Int.{from_le_bytes}
 use Rattle.std.proofs.Common.{w32}
 use Rattle.zone_spec.specs.declared.Zone.{Zone}
 use Rattle.zone_spec.specs.declared.Words.{Words}
+use Rattle.zone_spec.specs.Numbers.{header_len, start_at, size_at}
 
 -- a list of bytes
 abbrev pub AreBytes : List ℕ → Type 0
@@ -27,17 +28,17 @@ IsPartOf z (Block b) = z.block * b < z.cap
 -- where its bytes begin
 abbrev pub part_at : Zone → Part → ℕ
 part_at z Header = 0
-part_at z (Block b) = 12 + z.block * b
+part_at z (Block b) = header_len + z.block * b
 
 -- how many bytes it has
 abbrev pub part_len : Zone → Part → ℕ
-part_len z Header = 12
+part_len z Header = header_len
 part_len z (Block b) = min (z.block * (b + 1)) z.cap - z.block * b
 
 -- where its parity begins: behind the data those of the blocks, and then the header's
 abbrev pub part_parity_at : Zone → Part → ℕ
-part_parity_at z Header = 12 + z.cap + z.blocks * z.parity
-part_parity_at z (Block b) = 12 + z.cap + b * z.parity
+part_parity_at z Header = header_len + z.cap + z.blocks * z.parity
+part_parity_at z (Block b) = header_len + z.cap + b * z.parity
 
 -- its bytes
 unfoldable pub part_bytes : Zone → List ℕ → Part → List ℕ
@@ -50,11 +51,11 @@ part_word z image p = part_bytes z image p ++ slice_range image (part_parity_at 
 -- the words of a header's twelve bytes (struct persistent_ram_buffer)
 abbrev pub words_in : List ℕ → Words
 words_in bytes = record {
-  sig = from_le_bytes w32 (slice_range bytes 0 4);
-  start = from_le_bytes w32 (slice_range bytes 4 8);
-  size = from_le_bytes w32 (slice_range bytes 8 12);
+  sig = from_le_bytes w32 (slice_range bytes 0 start_at);
+  start = from_le_bytes w32 (slice_range bytes start_at size_at);
+  size = from_le_bytes w32 (slice_range bytes size_at header_len);
 }
 
 -- the words as they stand in a zone's image
 abbrev pub standing_words : List ℕ → Words
-standing_words image = words_in (slice_range image 0 12)
+standing_words image = words_in (slice_range image 0 header_len)

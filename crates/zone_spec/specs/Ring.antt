@@ -1,6 +1,7 @@
 -- The form that a zone's image has for the list that it was told
 use Rattle.std.specs.Prelude.{◌≡◌, ℕ, ◌+◌, ◌*◌, ◌<◌, List, length, take, map, slice_index, Some}
 use Rattle.zone_spec.specs.declared.Zone.{Zone}
+use Rattle.zone_spec.specs.Numbers.{header_len}
 use Rattle.zone_spec.specs.declared.Words.{Words}
 use Rattle.zone_spec.specs.declared.Kind.{Kind}
 use Rattle.zone_spec.specs.declared.Kind.TheVariants.{Dump}
@@ -29,7 +30,7 @@ pub record IsRingForm (z : Zone) (image told : List ℕ) : Type 0 where
   pub ring : IsRing (standing_words image) z.cap
   pub signed : (standing_words image).sig ≡ z.sig
   pub told_length : (standing_words image).size ≡ length told
-  pub bytes : map (λ place. slice_index image (12 + place))
+  pub bytes : map (λ place. slice_index image (header_len + place))
       (log_places (standing_words image).start (standing_words image).size) ≡ told
   pub is_open : IsOpenUnlessDump z.name.kind (standing_words image) z.cap
   pub header : ReadsAsStands z image Header

@@ -2,6 +2,7 @@
 use Rattle.std.specs.Prelude.{ℕ, ◌+◌, ◌-◌, ◌/◌, List, [], ◌∷◌, ◌++◌, length}
 use Rattle.std.specs.List.{range_with_len}
 use Rattle.zone_spec.specs.declared.Zone.{Zone}
+use Rattle.zone_spec.specs.Numbers.{header_len, start_at, size_at}
 use Rattle.code_spec.specs.Code.{parity_of}
 use Rattle.zone_spec.specs.Parts.{Part, part_bytes, part_parity_at}
 use Rattle.zone_spec.specs.Stores.{Store, after_stores, byte_stores, word_store}
@@ -17,9 +18,9 @@ pub data Stage : Type 0 where
 -- the stores of a stage on an image
 unfoldable pub stage_stores : Zone → Stage → List ℕ → List Store
 stage_stores z (SigWord n) image = word_store 0 n
-stage_stores z (StartWord n) image = word_store 4 n
-stage_stores z (SizeWord n) image = word_store 8 n
-stage_stores z (Run place bytes) image = byte_stores (12 + place) bytes
+stage_stores z (StartWord n) image = word_store start_at n
+stage_stores z (SizeWord n) image = word_store size_at n
+stage_stores z (Run place bytes) image = byte_stores (header_len + place) bytes
 stage_stores z (ParityOf part) image = byte_stores (part_parity_at z part)
     (parity_of z.parity (part_bytes z image part))
 
