@@ -222,10 +222,12 @@ fn rings_are_turned(rt: HostRuntime) -> Result<(), Fail> {
     Ok(())
 }
 
+const NO_RINGS: &[(u32, u32)] = &[(1, 0), (4, 3), (0, 4085), (0xffff_ffff, 0xffff_ffff)];
+
 #[test]
 fn words_that_are_no_ring_are_invalid(rt: HostRuntime) -> Result<(), Fail> {
     let alloc = rt.alloc();
-    for (start, size) in [(1, 0), (4, 3), (0, 4085), (0xffff_ffff, 0xffff_ffff)] {
+    for (start, size) in NO_RINGS.iter().copied() {
         let image = ring(alloc, start, size, b"abc".as_slice())?;
         let reading = reading_of(alloc, &console(0), 0, image.as_slice())?;
         assert!(rt; is_reading(&reading, State::Invalid, (start, size), (0, 0), &[]));
@@ -349,19 +351,18 @@ fn a_dump_with_its_line_is_kept(rt: HostRuntime) -> Result<(), Fail> {
     Ok(())
 }
 
+const FTRACE_RINGS: &[(u32, u32, bool)] = &[
+    (48, 48, true),
+    (7, 4084, true),
+    (2, 5, false),
+    (4084, 4084, false),
+];
+
 #[test]
 fn an_ftrace_ring_that_is_open_is_kept(rt: HostRuntime) -> Result<(), Fail> {
     let alloc = rt.alloc();
-    for (start, size, kept) in [
-        (48, 48, true),
-        (7, 4084, true),
-        (2, 5, false),
-        (4084, 4084, false),
-    ] {
-        assert_eq!(rt;
-            is_kept(alloc, Kind::Ftrace, State::Found, start, size, &[])?,
-            kept
-        );
+    for (start, size, kept) in FTRACE_RINGS.iter().copied() {
+        assert!(rt; is_kept(alloc, Kind::Ftrace, State::Found, start, size, &[])? == kept);
     }
     for kind in [Kind::Dump, Kind::Console, Kind::Ftrace, Kind::Pmsg] {
         assert!(rt; is_kept(alloc, kind, State::Empty, 0, 0, &[])?);
@@ -487,7 +488,7 @@ fn a_kept_dump_has_no_stores(rt: HostRuntime) -> Result<(), Fail> {
 fn boots_with_parity_are_cut(rt: HostRuntime) -> Result<(), Fail> {
     let alloc = rt.alloc();
     let erased = erasure(alloc, true)?;
-    assert_eq!(rt; erased.len(), 18);
+    assert!(rt; erased.len() == 18);
     let sound = abc(alloc)?;
     assert!(rt; boots_with(alloc, &four(1), 2, sound.as_slice(), 0, erased.as_slice())?);
     let mut cut = abc(alloc)?;
@@ -519,19 +520,19 @@ fn readings_are_saved(rt: HostRuntime) -> Result<(), Fail> {
     let alloc = rt.alloc();
     let (layout, spans) = zeros(alloc, &four(1))?;
     let mut logs = Logs::new(alloc, &layout)?;
-    assert_eq!(rt; logs.len(), 0);
+    assert!(rt; logs.len() == 0);
     if layout.zones().len() == 4 {
         logs.push(read(alloc, &layout, &spans, 0)?);
         logs.push(read(alloc, &layout, &spans, 1)?);
         logs.push(read(alloc, &layout, &spans, 2)?);
-        assert_eq!(rt; logs.len(), 3);
-        assert_eq!(rt; logs.parity(0), 16);
-        assert_eq!(rt; logs.name(1).index, 1);
+        assert!(rt; logs.len() == 3);
+        assert!(rt; logs.parity(0) == 16);
+        assert!(rt; logs.name(1).index == 1);
         assert!(rt; logs.reading(2).is_some());
         logs.forget(2);
         assert!(rt; logs.reading(2).is_none());
         assert!(rt; logs.reading(1).is_some());
-        assert_eq!(rt; logs.len(), 3);
+        assert!(rt; logs.len() == 3);
     }
     Ok(())
 }

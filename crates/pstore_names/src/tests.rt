@@ -127,6 +127,24 @@ fn dump(index: u32, packed: bool) -> Name {
     Name::Dump { index, packed }
 }
 
+const UNLISTED: &[Name] = &[
+    Name::Dump {
+        index: 1,
+        packed: true,
+    },
+    Name::Dump {
+        index: 0,
+        packed: false,
+    },
+    Name::Dump {
+        index: 2,
+        packed: false,
+    },
+    Name::Console,
+    Name::Pmsg,
+    Name::Ftrace,
+];
+
 #[test]
 fn a_kept_dump_is_listed(rt: HostRuntime) -> Result<(), Fail> {
     let alloc = rt.alloc();
@@ -139,14 +157,7 @@ fn a_kept_dump_is_listed(rt: HostRuntime) -> Result<(), Fail> {
         micros: 0,
     };
     assert!(rt; time(&logs, dump(1, false)) == Some(at));
-    for name in [
-        dump(1, true),
-        dump(0, false),
-        dump(2, false),
-        Name::Console,
-        Name::Pmsg,
-        Name::Ftrace,
-    ] {
+    for name in UNLISTED.iter().copied() {
         assert!(rt; is_unlisted(alloc, &logs, name));
     }
     Ok(())
@@ -206,7 +217,7 @@ fn ftrace_zones_make_one_record_behind_pmsg(rt: HostRuntime) -> Result<(), Fail>
     let zones = [empty(), found(&first), found(&second), found(b"p")];
     let logs = saved(alloc, &rings(0), zones)?;
     assert!(rt; lists(alloc, &logs, &[Name::Pmsg, Name::Ftrace]));
-    assert_eq!(rt; merged.len(), 72);
+    assert!(rt; merged.len() == 72);
     assert!(rt; shows(alloc, &logs, Name::Ftrace, &merged));
     assert!(rt; time(&logs, Name::Ftrace).is_none());
     Ok(())
@@ -219,38 +230,39 @@ fn bytes_of_no_whole_entry_are_dropped(rt: HostRuntime) -> Result<(), Fail> {
     for i in 0..85_u64 {
         push_entry(&mut all, 256 * i)?;
     }
-    assert_eq!(rt; all.len(), 2040);
+    assert!(rt; all.len() == 2040);
     let log = &all.as_slice()[4..];
     let kept = &all.as_slice()[24..];
     let logs = saved(alloc, &rings(0), [empty(), found(log), empty(), empty()])?;
-    assert_eq!(rt; log.len(), 2036);
-    assert_eq!(rt; kept.len(), 2016);
+    assert!(rt; log.len() == 2036);
+    assert!(rt; kept.len() == 2016);
     assert!(rt; shows(alloc, &logs, Name::Ftrace, kept));
     Ok(())
 }
 
+const NOTICES: &[(u32, u32, &[u8])] = &[
+    (0, 0, b"abc\nECC: No errors detected\n"),
+    (
+        1,
+        0,
+        b"abc\nECC: 1 Corrected bytes, 0 unrecoverable blocks\n",
+    ),
+    (
+        8,
+        0,
+        b"abc\nECC: 8 Corrected bytes, 0 unrecoverable blocks\n",
+    ),
+    (
+        0,
+        1,
+        b"abc\nECC: 0 Corrected bytes, 1 unrecoverable blocks\n",
+    ),
+];
+
 #[test]
 fn a_notice_follows_where_there_is_parity(rt: HostRuntime) -> Result<(), Fail> {
     let alloc = rt.alloc();
-    let rows: [(u32, u32, &[u8]); 4] = [
-        (0, 0, b"abc\nECC: No errors detected\n"),
-        (
-            1,
-            0,
-            b"abc\nECC: 1 Corrected bytes, 0 unrecoverable blocks\n",
-        ),
-        (
-            8,
-            0,
-            b"abc\nECC: 8 Corrected bytes, 0 unrecoverable blocks\n",
-        ),
-        (
-            0,
-            1,
-            b"abc\nECC: 0 Corrected bytes, 1 unrecoverable blocks\n",
-        ),
-    ];
-    for (corrected, bad, text) in rows {
+    for (corrected, bad, text) in NOTICES.iter().copied() {
         let console = zone_of(State::Found, b"abc", corrected, bad);
         let logs = saved(alloc, &dumps(1), [empty(), empty(), console, empty()])?;
         assert!(rt; shows(alloc, &logs, Name::Console, text));
@@ -311,18 +323,43 @@ fn a_forgotten_log_is_not_listed(rt: HostRuntime) -> Result<(), Fail> {
     Ok(())
 }
 
+const TEXTS: &[(Name, &str)] = &[
+    (
+        Name::Dump {
+            index: 0,
+            packed: false,
+        },
+        "dmesg-ramoops-0",
+    ),
+    (
+        Name::Dump {
+            index: 12,
+            packed: false,
+        },
+        "dmesg-ramoops-12",
+    ),
+    (
+        Name::Dump {
+            index: 0,
+            packed: true,
+        },
+        "dmesg-ramoops-0.enc.z",
+    ),
+    (
+        Name::Dump {
+            index: 4294967295,
+            packed: true,
+        },
+        "dmesg-ramoops-4294967295.enc.z",
+    ),
+    (Name::Console, "console-ramoops-0"),
+    (Name::Pmsg, "pmsg-ramoops-0"),
+    (Name::Ftrace, "ftrace-ramoops-0"),
+];
+
 #[test]
 fn names_are_written_and_found(rt: HostRuntime) -> Result<(), Fail> {
-    let rows: [(Name, &str); 7] = [
-        (dump(0, false), "dmesg-ramoops-0"),
-        (dump(12, false), "dmesg-ramoops-12"),
-        (dump(0, true), "dmesg-ramoops-0.enc.z"),
-        (dump(4294967295, true), "dmesg-ramoops-4294967295.enc.z"),
-        (Name::Console, "console-ramoops-0"),
-        (Name::Pmsg, "pmsg-ramoops-0"),
-        (Name::Ftrace, "ftrace-ramoops-0"),
-    ];
-    for (name, text) in rows {
+    for (name, text) in TEXTS.iter().copied() {
         let mut out = ArrayString::zero_filled();
         name_text(name, &mut out);
         assert!(rt; out.as_str() == text);
@@ -331,30 +368,31 @@ fn names_are_written_and_found(rt: HostRuntime) -> Result<(), Fail> {
     Ok(())
 }
 
+const NO_NAMES: &[&str] = &[
+    "",
+    "dmesg-ramoops-",
+    "dmesg-ramoops-00",
+    "dmesg-ramoops-01",
+    "dmesg-ramoops-+1",
+    "dmesg-ramoops--1",
+    "dmesg-ramoops-4294967296",
+    "dmesg-ramoops-1.",
+    "dmesg-ramoops-1.enc",
+    "dmesg-ramoops-1.enc.zz",
+    "dmesg-ramoops-.enc.z",
+    "dmesg-ramoops-1.enc.z.enc.z",
+    "dmesg-ramoops-1 ",
+    " dmesg-ramoops-1",
+    "Dmesg-ramoops-1",
+    "console-ramoops-1",
+    "console-ramoops",
+    "ftrace-ramoops-00",
+    "pmsg-ramoops-0.enc.z",
+];
+
 #[test]
 fn other_texts_are_no_names(rt: HostRuntime) -> Result<(), Fail> {
-    let texts: [&str; 19] = [
-        "",
-        "dmesg-ramoops-",
-        "dmesg-ramoops-00",
-        "dmesg-ramoops-01",
-        "dmesg-ramoops-+1",
-        "dmesg-ramoops--1",
-        "dmesg-ramoops-4294967296",
-        "dmesg-ramoops-1.",
-        "dmesg-ramoops-1.enc",
-        "dmesg-ramoops-1.enc.zz",
-        "dmesg-ramoops-.enc.z",
-        "dmesg-ramoops-1.enc.z.enc.z",
-        "dmesg-ramoops-1 ",
-        " dmesg-ramoops-1",
-        "Dmesg-ramoops-1",
-        "console-ramoops-1",
-        "console-ramoops",
-        "ftrace-ramoops-00",
-        "pmsg-ramoops-0.enc.z",
-    ];
-    for text in texts {
+    for text in NO_NAMES.iter().copied() {
         assert!(rt; find(text).is_none());
     }
     Ok(())

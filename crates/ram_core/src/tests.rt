@@ -1,13 +1,11 @@
 // Worked sessions: what a boot reports of cut and damaged zones, which calls are refused, and what a stopped boot
 // leaves.
-ghost use Rattle.std.specs.Prelude.{◌<◌, ◌^◌, IfOk};
 ghost use Rattle.ram_core.specs.Asks.{CanBeAsked};
 
 use super::*;
 use arrayvec::ArrayVec;
 use box_io::Bytes;
 use old_log::Logs;
-use std::alloc::Global;
 use std::process::Abort;
 use std::test::Fail;
 use zone_params::layout;
@@ -64,12 +62,12 @@ fn four(ecc: u64) -> Params {
 }
 
 // A store of zeros.
-fn zeros(rt: &impl Abort, alloc: Global, params: &Params) -> Result<Off, Fail> {
-    match layout(alloc, params) {
+fn zeros(rt: &(impl Abort + AllocGlobal), params: &Params) -> Off {
+    match layout(rt.alloc(), params) {
         Ok(layout) => {
             let mem = layout.mem() as usize;
-            let image = Bytes::from_vec(Vec::from_elem(alloc, 0u8, mem)?);
-            Ok(Off::fresh(alloc, layout, image)?)
+            let image = Vec::from_elem(rt.alloc(), 0u8, mem).expect(rt, "no memory");
+            Off::fresh(rt.alloc(), layout, Bytes::from_vec(image)).expect(rt, "no memory")
         }
         Err(_) => panic!(rt; "no layout"),
     }
@@ -90,49 +88,45 @@ fn boot_part(rt: &impl Abort, off: Off, limit: u64) -> (Off, u64) {
 }
 
 // A live store that was zeros.
-fn live(rt: &impl Abort, alloc: Global, params: &Params) -> Result<Live, Fail> {
-    let (live, _, _) = boot(rt, zeros(rt, alloc, params)?);
-    Ok(live)
+fn live(rt: &(impl Abort + AllocGlobal), params: &Params) -> Live {
+    let (live, _, _) = boot(rt, zeros(rt, params));
+    live
 }
 
-fn append(alloc: Global, zone: ZoneName, bytes: &[u8]) -> Result<Ask, Fail>
-    ensures { IfOk result (λ ask. CanBeAsked ask) }
+fn append(rt: &(impl Abort + AllocGlobal), zone: ZoneName, bytes: &[u8]) -> Ask
+    ensures { CanBeAsked result }
 {
-    Ok(Ask::Append(zone, Bytes::copy_of(alloc, bytes)?))
+    Ask::Append(
+        zone,
+        Bytes::copy_of(rt.alloc(), bytes).expect(rt, "no memory"),
+    )
 }
 
-fn append_of(alloc: Global, zone: ZoneName, byte: u8, count: usize) -> Result<Ask, Fail>
-    ensures { IfOk result (λ ask. CanBeAsked ask) }
+fn append_of(rt: &(impl Abort + AllocGlobal), zone: ZoneName, byte: u8, count: usize) -> Ask
+    ensures { CanBeAsked result }
 {
-    Ok(Ask::Append(zone, Bytes::from_vec(Vec::from_elem(alloc, byte, count)?)))
+    let bytes = Vec::from_elem(rt.alloc(), byte, count).expect(rt, "no memory");
+    Ask::Append(zone, Bytes::from_vec(bytes))
 }
 
-fn begin_append(
-    rt: &impl Abort,
-    alloc: Global,
-    live: &mut Live,
-    zone: ZoneName,
-    bytes: &[u8],
-) -> Result<(), Fail> {
-    assert!(rt; begun(live.begin(append(alloc, zone, bytes)?), zone));
-    Ok(())
+fn begin_append(rt: &(impl Abort + AllocGlobal), live: &mut Live, zone: ZoneName, bytes: &[u8]) {
+    assert!(rt; begun(live.begin(append(rt, zone, bytes)), zone));
 }
 
 // Begins a dump that is not compressed, and gives the zone that it goes to.
 fn begin_dump(
-    rt: &impl Abort,
-    alloc: Global,
+    rt: &(impl Abort + AllocGlobal),
     live: &mut Live,
     secs: u64,
     micros: u32,
     body: &[u8],
-) -> Result<ZoneName, Fail>
-    requires secs { secs < 2 ^ 63 }
-    requires micros { micros < 10 ^ 6 }
-{
+) -> ZoneName {
+    assert!(rt; secs < 9_223_372_036_854_775_808);
+    assert!(rt; micros < 1_000_000);
     let time = Time { secs, micros };
-    match live.begin(Ask::Dump(time, false, Bytes::copy_of(alloc, body)?)) {
-        Ok(zone) => Ok(zone),
+    let body = Bytes::copy_of(rt.alloc(), body).expect(rt, "no memory");
+    match live.begin(Ask::Dump(time, false, body)) {
+        Ok(zone) => zone,
         Err(_) => panic!(rt; "refused"),
     }
 }
@@ -178,17 +172,11 @@ fn finish(live: &mut Live, zone: ZoneName) -> u64 {
 }
 
 // Makes a whole append.
-fn write(
-    rt: &impl Abort,
-    alloc: Global,
-    live: &mut Live,
-    zone: ZoneName,
-    bytes: &[u8],
-) -> Result<u64, Fail> {
-    begin_append(rt, alloc, live, zone, bytes)?;
+fn write(rt: &(impl Abort + AllocGlobal), live: &mut Live, zone: ZoneName, bytes: &[u8]) -> u64 {
+    begin_append(rt, live, zone, bytes);
     let made = finish(live, zone);
     assert!(rt; live.flies(zone) == Ok(false));
-    Ok(made)
+    made
 }
 
 fn flip_all(rt: &impl Abort, off: &mut Off, at: u32, masks: &[u8]) {
@@ -279,87 +267,96 @@ fn cut(kind: CallKind, made: u64, total: u64, header: HeaderSeen, runs: &[(u32, 
 
 #[test]
 fn an_append_reads_after_a_stop(rt: HostRuntime) -> Result<(), Fail> {
-    let alloc = rt.alloc();
-    let (mut live, logs, report) = boot(&rt, zeros(&rt, alloc, &console(0))?);
-    assert_eq!(rt; logs.len(), 1);
-    assert_eq!(rt; report.as_slice().len(), 1);
+    let (mut live, logs, report) = boot(&rt, zeros(&rt, &console(0)));
+    assert!(rt; logs.len() == 1);
+    assert!(rt; report.as_slice().len() == 1);
     assert!(rt; tells(&report, 0, Verdict::NothingTold));
-    assert_eq!(rt; write(&rt, alloc, &mut live, CONSOLE, b"abc")?, 5);
+    assert!(rt; write(&rt, &mut live, CONSOLE, b"abc") == 5);
     match live.told(CONSOLE) {
         Ok(told) => {
-            assert_eq!(rt; told.len(), 3);
+            assert!(rt; told.len() == 3);
             assert!(rt; told.ring().capacity() == 4084);
             assert!(rt; told.ring().get(2) == Some(&0x63));
         }
         Err(_) => panic!(rt; "no told list"),
     }
     let off = live.stop();
-    assert!(rt;
-        has(
-            &off,
-            0,
-            &[
-                0x44, 0x42, 0x47, 0x43, 3, 0, 0, 0, 3, 0, 0, 0, 0x61, 0x62, 0x63
-            ]
-        )
-    );
+    assert!(rt; has(&off, 0, b"DBGC\x03\0\0\0\x03\0\0\0abc"));
     let (live, logs, report) = boot(&rt, off);
     assert!(rt; reads(&logs, 0, b"abc"));
     assert!(rt; tells(&report, 0, Verdict::AsTold));
     let image = live.stop().into_image();
-    assert!(rt;
-        image
-            .as_slice()
-            .starts_with(&[0x44, 0x42, 0x47, 0x43, 0, 0, 0, 0, 0, 0, 0, 0, 0x61])
-    );
+    assert!(rt; image.as_slice().starts_with(b"DBGC\0\0\0\0\0\0\0\0a"));
     Ok(())
 }
 
+#[derive(Clone, Copy)]
+enum Zones {
+    Console(u64),
+    Four(u64),
+}
+
+// The zones with their parity, the place of the console, how many stores are made, what the next boot tells if the log
+// differs, of the call and of the header, and the log that it reads.
+const CUT_APPENDS: &[(
+    Zones,
+    u32,
+    u32,
+    Option<(u32, u32, u32)>,
+    (u64, HeaderSeen),
+    &[u8],
+)] = &[
+    (
+        Zones::Console(0),
+        0,
+        1,
+        Some((3, 6, 0)),
+        (5, HeaderSeen::Pair(1)),
+        b"\0\0\0abc",
+    ),
+    (
+        Zones::Four(1),
+        2,
+        1,
+        None,
+        (37, HeaderSeen::Pair(0)),
+        b"abc",
+    ),
+    (
+        Zones::Four(1),
+        2,
+        21,
+        None,
+        (37, HeaderSeen::Pair(0)),
+        b"abc",
+    ),
+    (
+        Zones::Console(2),
+        0,
+        2,
+        Some((3, 6, 3)),
+        (9, HeaderSeen::Pair(2)),
+        b"abc\0\0\0",
+    ),
+];
+
 #[test]
 fn a_cut_append_is_reported(rt: HostRuntime) -> Result<(), Fail> {
-    let alloc = rt.alloc();
-    // The zones, the place of the console, how many stores are made, and what the next boot tells and reads.
-    let rows = [
-        (
-            console(0),
-            0,
-            1,
-            differs(3, 6, 0),
-            (5, HeaderSeen::Pair(1)),
-            b"\0\0\0abc".as_slice(),
-        ),
-        (
-            four(1),
-            2,
-            1,
-            Verdict::AsTold,
-            (37, HeaderSeen::Pair(0)),
-            b"abc".as_slice(),
-        ),
-        (
-            four(1),
-            2,
-            21,
-            Verdict::AsTold,
-            (37, HeaderSeen::Pair(0)),
-            b"abc".as_slice(),
-        ),
-        (
-            console(2),
-            0,
-            2,
-            differs(3, 6, 3),
-            (9, HeaderSeen::Pair(2)),
-            b"abc\0\0\0".as_slice(),
-        ),
-    ];
-    for (params, place, made, verdict, (total, header), log) in rows {
-        let mut live = live(&rt, alloc, &params)?;
-        let _made = write(&rt, alloc, &mut live, CONSOLE, b"abc")?;
-        begin_append(&rt, alloc, &mut live, CONSOLE, b"def")?;
+    for (zones, place, made, told, (total, header), log) in CUT_APPENDS.iter().copied() {
+        let params = match zones {
+            Zones::Console(ecc) => console(ecc),
+            Zones::Four(ecc) => four(ecc),
+        };
+        let mut live = live(&rt, &params);
+        let _made = write(&rt, &mut live, CONSOLE, b"abc");
+        begin_append(&rt, &mut live, CONSOLE, b"def");
         steps(&rt, &mut live, CONSOLE, made);
         let (_, logs, report) = boot(&rt, live.stop());
         let wanted = cut(CallKind::Append, made as u64, total, header, &[(0, 0)]);
+        let verdict = match told {
+            Some((told, seen, first)) => differs(told, seen, first),
+            None => Verdict::AsTold,
+        };
         assert!(rt; tells_cut(&report, place as usize, verdict, &wanted));
         assert!(rt; reads(&logs, place, log));
     }
@@ -369,13 +366,13 @@ fn a_cut_append_is_reported(rt: HostRuntime) -> Result<(), Fail> {
 #[test]
 fn a_full_ring_keeps_the_last_bytes(rt: HostRuntime) -> Result<(), Fail> {
     let alloc = rt.alloc();
-    let mut live = live(&rt, alloc, &console(0))?;
-    let zone = live.begin(append_of(alloc, CONSOLE, 0x61, 4084)?);
+    let mut live = live(&rt, &console(0));
+    let zone = live.begin(append_of(&rt, CONSOLE, 0x61, 4084));
     assert!(rt; begun(zone, CONSOLE));
-    assert_eq!(rt; finish(&mut live, CONSOLE), 4086);
-    assert_eq!(rt; write(&rt, alloc, &mut live, CONSOLE, b"b")?, 2);
+    assert!(rt; finish(&mut live, CONSOLE) == 4086);
+    assert!(rt; write(&rt, &mut live, CONSOLE, b"b") == 2);
     let off = live.stop();
-    assert!(rt; has(&off, 4, &[1, 0, 0, 0, 0xf4, 0x0f, 0, 0, 0x62, 0x61]));
+    assert!(rt; has(&off, 4, b"\x01\0\0\0\xf4\x0f\0\0ba"));
     let (_, logs, report) = boot(&rt, off);
     assert!(rt; tells(&report, 0, Verdict::AsTold));
     let mut wanted = Vec::from_elem(alloc, 0x61u8, 4083)?;
@@ -387,13 +384,13 @@ fn a_full_ring_keeps_the_last_bytes(rt: HostRuntime) -> Result<(), Fail> {
 #[test]
 fn a_cut_erasure_is_reported(rt: HostRuntime) -> Result<(), Fail> {
     let alloc = rt.alloc();
-    let mut live = live(&rt, alloc, &console(0))?;
+    let mut live = live(&rt, &console(0));
     let mut bytes = Vec::with_capacity(alloc, 4084)?;
     for i in 0u32..4084 {
         bytes.push(0x61 + (i % 26) as u8)?;
     }
-    let _made = write(&rt, alloc, &mut live, CONSOLE, &bytes)?;
-    let _made = write(&rt, alloc, &mut live, CONSOLE, b"!")?;
+    let _made = write(&rt, &mut live, CONSOLE, &bytes);
+    let _made = write(&rt, &mut live, CONSOLE, b"!");
     assert!(rt; begun(live.begin(Ask::Erase(CONSOLE)), CONSOLE));
     steps(&rt, &mut live, CONSOLE, 1);
     let (_, logs, report) = boot(&rt, live.stop());
@@ -408,12 +405,11 @@ fn a_cut_erasure_is_reported(rt: HostRuntime) -> Result<(), Fail> {
 
 #[test]
 fn a_cut_header_can_be_foreign(rt: HostRuntime) -> Result<(), Fail> {
-    let alloc = rt.alloc();
-    let mut live = live(&rt, alloc, &console(2))?;
-    let zone = live.begin(append_of(alloc, CONSOLE, 0x61, 4018)?);
+    let mut live = live(&rt, &console(2));
+    let zone = live.begin(append_of(&rt, CONSOLE, 0x61, 4018));
     assert!(rt; begun(zone, CONSOLE));
     let _made = finish(&mut live, CONSOLE);
-    let zone = live.begin(append_of(alloc, CONSOLE, 0x62, 1541)?);
+    let zone = live.begin(append_of(&rt, CONSOLE, 0x62, 1541));
     assert!(rt; begun(zone, CONSOLE));
     steps(&rt, &mut live, CONSOLE, 1);
     let (_, logs, report) = boot(&rt, live.stop());
@@ -425,11 +421,10 @@ fn a_cut_header_can_be_foreign(rt: HostRuntime) -> Result<(), Fail> {
 
 #[test]
 fn calls_in_two_zones_are_cut_together(rt: HostRuntime) -> Result<(), Fail> {
-    let alloc = rt.alloc();
-    let mut live = live(&rt, alloc, &four(0))?;
-    let _made = write(&rt, alloc, &mut live, PMSG, b"p")?;
-    begin_append(&rt, alloc, &mut live, CONSOLE, b"abc")?;
-    assert!(rt; begin_dump(&rt, alloc, &mut live, 5, 6, b"x")? == dump_zone(0));
+    let mut live = live(&rt, &four(0));
+    let _made = write(&rt, &mut live, PMSG, b"p");
+    begin_append(&rt, &mut live, CONSOLE, b"abc");
+    assert!(rt; begin_dump(&rt, &mut live, 5, 6, b"x") == dump_zone(0));
     steps(&rt, &mut live, CONSOLE, 3);
     steps(&rt, &mut live, dump_zone(0), 4);
     let (live, logs, report) = boot(&rt, live.stop());
@@ -444,14 +439,8 @@ fn calls_in_two_zones_are_cut_together(rt: HostRuntime) -> Result<(), Fail> {
     assert!(rt; reads(&logs, 0, &[0; 15]));
     // A dump without its line is erased, and pmsg too.
     let off = live.stop();
-    assert!(rt; has(&off, 0, &[0x44, 0x42, 0x47, 0x43, 0, 0, 0, 0, 0, 0, 0, 0]));
-    assert!(rt;
-        has(
-            &off,
-            12288,
-            &[0x44, 0x42, 0x47, 0x43, 0, 0, 0, 0, 0, 0, 0, 0, 0x70]
-        )
-    );
+    assert!(rt; has(&off, 0, b"DBGC\0\0\0\0\0\0\0\0"));
+    assert!(rt; has(&off, 12288, b"DBGC\0\0\0\0\0\0\0\0p"));
     Ok(())
 }
 
@@ -472,14 +461,13 @@ fn tells_append(report: &Report, i: usize, made: u64) -> bool {
 
 // Makes the first `stop` stores of an order of two appends, and tells how many each made.
 fn interleave(
-    rt: &impl Abort,
-    alloc: Global,
+    rt: &(impl Abort + AllocGlobal),
     live: &mut Live,
     order: [ZoneName; 10],
     stop: usize,
-) -> Result<(u64, u64), Fail> {
-    begin_append(rt, alloc, live, CONSOLE, b"abc")?;
-    begin_append(rt, alloc, live, PMSG, b"xyz")?;
+) -> (u64, u64) {
+    begin_append(rt, live, CONSOLE, b"abc");
+    begin_append(rt, live, PMSG, b"xyz");
     for zone in order.iter().take(stop) {
         assert!(rt; live.step(*zone).is_ok());
     }
@@ -488,22 +476,27 @@ fn interleave(
         .take(stop)
         .filter(|zone| **zone == CONSOLE)
         .count();
-    Ok((console as u64, (stop as u64).saturating_sub(console as u64)))
+    (console as u64, (stop as u64).saturating_sub(console as u64))
 }
+
+const ORDERS: &[[ZoneName; 10]] = &[
+    [
+        CONSOLE, CONSOLE, CONSOLE, CONSOLE, CONSOLE, PMSG, PMSG, PMSG, PMSG, PMSG,
+    ],
+    [
+        PMSG, PMSG, PMSG, PMSG, PMSG, CONSOLE, CONSOLE, CONSOLE, CONSOLE, CONSOLE,
+    ],
+    [
+        CONSOLE, PMSG, CONSOLE, PMSG, CONSOLE, PMSG, CONSOLE, PMSG, CONSOLE, PMSG,
+    ],
+];
 
 #[test]
 fn interleaved_appends_stop_after_each_store(rt: HostRuntime) -> Result<(), Fail> {
-    let alloc = rt.alloc();
-    let (c, p) = (CONSOLE, PMSG);
-    let orders = [
-        [c, c, c, c, c, p, p, p, p, p],
-        [p, p, p, p, p, c, c, c, c, c],
-        [c, p, c, p, c, p, c, p, c, p],
-    ];
-    for order in orders {
+    for order in ORDERS.iter().copied() {
         for stop in 0..11 {
-            let mut live = live(&rt, alloc, &params(8192, 0, 4096, 4096, 0))?;
-            let (console, pmsg) = interleave(&rt, alloc, &mut live, order, stop)?;
+            let mut live = live(&rt, &params(8192, 0, 4096, 4096, 0));
+            let (console, pmsg) = interleave(&rt, &mut live, order, stop);
             let (_, logs, report) = boot(&rt, live.stop());
             assert!(rt; tells_append(&report, 0, console));
             assert!(rt; tells_append(&report, 1, pmsg));
@@ -516,10 +509,9 @@ fn interleaved_appends_stop_after_each_store(rt: HostRuntime) -> Result<(), Fail
 
 #[test]
 fn damage_within_half_the_parity_reads_as_told(rt: HostRuntime) -> Result<(), Fail> {
-    let alloc = rt.alloc();
     for (at, masks) in [(8204, [1; 8]), (8192, [255; 8])] {
-        let mut live = live(&rt, alloc, &four(1))?;
-        let _made = write(&rt, alloc, &mut live, CONSOLE, b"abc")?;
+        let mut live = live(&rt, &four(1));
+        let _made = write(&rt, &mut live, CONSOLE, b"abc");
         let mut off = live.stop();
         flip_all(&rt, &mut off, at, &masks);
         let (_, logs, report) = boot(&rt, off);
@@ -531,9 +523,8 @@ fn damage_within_half_the_parity_reads_as_told(rt: HostRuntime) -> Result<(), Fa
 
 #[test]
 fn damage_beyond_it_is_told(rt: HostRuntime) -> Result<(), Fail> {
-    let alloc = rt.alloc();
-    let mut live = live(&rt, alloc, &four(1))?;
-    let _zone = live.begin(append_of(alloc, CONSOLE, 0x61, 200)?);
+    let mut live = live(&rt, &four(1));
+    let _zone = live.begin(append_of(&rt, CONSOLE, 0x61, 200));
     let _made = finish(&mut live, CONSOLE);
     let mut off = live.stop();
     flip_all(
@@ -549,16 +540,18 @@ fn damage_beyond_it_is_told(rt: HostRuntime) -> Result<(), Fail> {
     Ok(())
 }
 
+const DUMPS: &[(u64, u32, &[u8], u32)] = &[
+    (1_700_000_000, 123, b"one", 0),
+    (1_700_000_001, 0, b"two", 1),
+    (1_700_000_002, 0, b"six", 0),
+];
+
 #[test]
 fn dumps_take_the_dump_zones_in_turn(rt: HostRuntime) -> Result<(), Fail> {
     let alloc = rt.alloc();
-    let mut live = live(&rt, alloc, &four(0))?;
-    for (secs, micros, body, zone) in [
-        (1_700_000_000, 123, b"one".as_slice(), 0),
-        (1_700_000_001, 0, b"two".as_slice(), 1),
-        (1_700_000_002, 0, b"six".as_slice(), 0),
-    ] {
-        assert!(rt; begin_dump(&rt, alloc, &mut live, secs, micros, body)? == dump_zone(zone));
+    let mut live = live(&rt, &four(0));
+    for (secs, micros, body, zone) in DUMPS.iter().copied() {
+        assert!(rt; begin_dump(&rt, &mut live, secs, micros, body) == dump_zone(zone));
         // The cursor stays until the last store.
         assert!(rt;
             refused(
@@ -570,15 +563,9 @@ fn dumps_take_the_dump_zones_in_turn(rt: HostRuntime) -> Result<(), Fail> {
         assert!(rt; finish(&mut live, dump_zone(zone)) > 27);
     }
     let off = live.stop();
-    assert!(rt; has(&off, 0, &[0x44, 0x42, 0x47, 0x43, 27, 0, 0, 0, 27, 0, 0, 0]));
+    assert!(rt; has(&off, 0, b"DBGC\x1b\0\0\0\x1b\0\0\0"));
     assert!(rt; has(&off, 12, b"====1700000002.000000-D\nsix"));
-    assert!(rt;
-        has(
-            &off,
-            4096,
-            &[0x44, 0x42, 0x47, 0x43, 27, 0, 0, 0, 27, 0, 0, 0]
-        )
-    );
+    assert!(rt; has(&off, 4096, b"DBGC\x1b\0\0\0\x1b\0\0\0"));
     assert!(rt; has(&off, 4108, b"====1700000001.000000-D\ntwo"));
     let (_, logs, report) = boot(&rt, off);
     assert!(rt; tells(&report, 0, Verdict::AsTold));
@@ -589,7 +576,7 @@ fn dumps_take_the_dump_zones_in_turn(rt: HostRuntime) -> Result<(), Fail> {
 #[test]
 fn a_long_dump_keeps_its_front(rt: HostRuntime) -> Result<(), Fail> {
     let alloc = rt.alloc();
-    let mut live = live(&rt, alloc, &four(0))?;
+    let mut live = live(&rt, &four(0));
     let time = Time {
         secs: 1_700_000_000,
         micros: 123,
@@ -609,10 +596,9 @@ fn a_long_dump_keeps_its_front(rt: HostRuntime) -> Result<(), Fail> {
 
 #[test]
 fn refusals_hand_back_what_was_asked(rt: HostRuntime) -> Result<(), Fail> {
-    let alloc = rt.alloc();
-    let mut live = live(&rt, alloc, &four(0))?;
+    let mut live = live(&rt, &four(0));
     for zone in [FTRACE, dump_zone(2), dump_zone(0)] {
-        match refused(live.begin(append(alloc, zone, b"abc")?), Refusal::NoZone) {
+        match refused(live.begin(append(&rt, zone, b"abc")), Refusal::NoZone) {
             Some(Ask::Append(name, payload)) => {
                 assert!(rt; name == zone);
                 assert!(rt; payload.as_slice() == b"abc".as_slice());
@@ -620,7 +606,7 @@ fn refusals_hand_back_what_was_asked(rt: HostRuntime) -> Result<(), Fail> {
             _ => panic!(rt; "not refused"),
         }
     }
-    begin_append(&rt, alloc, &mut live, CONSOLE, b"abc")?;
+    begin_append(&rt, &mut live, CONSOLE, b"abc");
     let busy = refused(live.begin(Ask::Erase(CONSOLE)), Refusal::Busy);
     assert!(rt; matches!(busy, Some(Ask::Erase(_))));
     let none = refused(live.begin(Ask::Erase(FTRACE)), Refusal::NoZone);
@@ -629,7 +615,7 @@ fn refusals_hand_back_what_was_asked(rt: HostRuntime) -> Result<(), Fail> {
     assert!(rt; matches!(live.step(FTRACE), Err(Refusal::NoZone)));
     assert!(rt; matches!(live.told(FTRACE), Err(Refusal::NoZone)));
     assert!(rt; live.flies(FTRACE) == Err(Refusal::NoZone));
-    assert_eq!(rt; finish(&mut live, CONSOLE), 5);
+    assert!(rt; finish(&mut live, CONSOLE) == 5);
     assert!(rt; matches!(live.step(CONSOLE), Err(Refusal::Idle)));
     Ok(())
 }
@@ -638,7 +624,7 @@ fn refusals_hand_back_what_was_asked(rt: HostRuntime) -> Result<(), Fail> {
 fn a_dump_waits_for_each_dump_zone(rt: HostRuntime) -> Result<(), Fail> {
     let alloc = rt.alloc();
     let time = Time { secs: 5, micros: 6 };
-    let mut live = live(&rt, alloc, &four(0))?;
+    let mut live = live(&rt, &four(0));
     assert!(rt; begun(live.begin(Ask::Erase(dump_zone(1))), dump_zone(1)));
     match refused(
         live.begin(Ask::Dump(time, true, Bytes::copy_of(alloc, b"x")?)),
@@ -651,15 +637,15 @@ fn a_dump_waits_for_each_dump_zone(rt: HostRuntime) -> Result<(), Fail> {
         }
         _ => panic!(rt; "not refused"),
     }
-    assert_eq!(rt; finish(&mut live, dump_zone(1)), 2);
-    assert!(rt; begin_dump(&rt, alloc, &mut live, 5, 6, b"x")? == dump_zone(0));
+    assert!(rt; finish(&mut live, dump_zone(1)) == 2);
+    assert!(rt; begin_dump(&rt, &mut live, 5, 6, b"x") == dump_zone(0));
     Ok(())
 }
 
 #[test]
 fn a_dump_needs_a_dump_zone(rt: HostRuntime) -> Result<(), Fail> {
     let alloc = rt.alloc();
-    let mut live = live(&rt, alloc, &console(0))?;
+    let mut live = live(&rt, &console(0));
     let time = Time { secs: 0, micros: 0 };
     let none = refused(
         live.begin(Ask::Dump(time, false, Bytes::empty(alloc))),
@@ -671,9 +657,8 @@ fn a_dump_needs_a_dump_zone(rt: HostRuntime) -> Result<(), Fail> {
 
 #[test]
 fn an_append_of_no_bytes_does_not_fly(rt: HostRuntime) -> Result<(), Fail> {
-    let alloc = rt.alloc();
-    let mut live = live(&rt, alloc, &console(0))?;
-    begin_append(&rt, alloc, &mut live, CONSOLE, b"")?;
+    let mut live = live(&rt, &console(0));
+    begin_append(&rt, &mut live, CONSOLE, b"");
     assert!(rt; live.flies(CONSOLE) == Ok(false));
     let (_, _, report) = boot(&rt, live.stop());
     assert!(rt; tells(&report, 0, Verdict::AsTold));
@@ -682,7 +667,7 @@ fn an_append_of_no_bytes_does_not_fly(rt: HostRuntime) -> Result<(), Fail> {
 
 #[test]
 fn a_flip_lies_within_the_image(rt: HostRuntime) -> Result<(), Fail> {
-    let mut off = zeros(&rt, rt.alloc(), &console(0))?;
+    let mut off = zeros(&rt, &console(0));
     assert!(rt; off.flip(4095, 0x81) == Ok(()));
     assert!(rt; has(&off, 4094, &[0, 0x81]));
     assert!(rt; off.flip(4096, 1) == Err(Refusal::OutOfImage));
@@ -691,21 +676,21 @@ fn a_flip_lies_within_the_image(rt: HostRuntime) -> Result<(), Fail> {
     Ok(())
 }
 
+// How many stores are asked for, how many are made, and what the next boot tells and reads.
+const STOPPED_BOOTS: &[(u64, u64, Option<HeaderSeen>, &[u8])] = &[
+    (0, 0, None, b"abc"),
+    (1, 1, Some(HeaderSeen::Pair(1)), b"abc"),
+    (2, 2, None, b""),
+    (9, 2, None, b""),
+];
+
 #[test]
 fn a_boot_stops_within_its_erasure(rt: HostRuntime) -> Result<(), Fail> {
-    let alloc = rt.alloc();
-    // How many stores are asked for, how many are made, and what the next boot tells and reads.
-    let rows = [
-        (0, 0, None, b"abc".as_slice()),
-        (1, 1, Some(HeaderSeen::Pair(1)), b"abc".as_slice()),
-        (2, 2, None, b"".as_slice()),
-        (9, 2, None, b"".as_slice()),
-    ];
-    for (limit, stores, header, log) in rows {
-        let mut live = live(&rt, alloc, &console(0))?;
-        let _made = write(&rt, alloc, &mut live, CONSOLE, b"abc")?;
+    for (limit, stores, header, log) in STOPPED_BOOTS.iter().copied() {
+        let mut live = live(&rt, &console(0));
+        let _made = write(&rt, &mut live, CONSOLE, b"abc");
         let (off, made) = boot_part(&rt, live.stop(), limit);
-        assert_eq!(rt; made, stores);
+        assert!(rt; made == stores);
         let (_, logs, report) = boot(&rt, off);
         match header {
             Some(header) => assert!(rt;
@@ -738,16 +723,16 @@ fn two_processors() -> Params {
 }
 
 // The same as it stops with two entries in the first ring and one in the second.
-fn traced(rt: &impl Abort, alloc: Global) -> Result<Off, Fail> {
-    let mut live = live(rt, alloc, &two_processors())?;
-    let _made = write(rt, alloc, &mut live, FTRACE, ENTRY)?;
-    let _made = write(rt, alloc, &mut live, FTRACE, ENTRY)?;
+fn traced(rt: &(impl Abort + AllocGlobal)) -> Off {
+    let mut live = live(rt, &two_processors());
+    let _made = write(rt, &mut live, FTRACE, ENTRY);
+    let _made = write(rt, &mut live, FTRACE, ENTRY);
     let second = ZoneName {
         kind: Kind::Ftrace,
         index: 1,
     };
-    let _made = write(rt, alloc, &mut live, second, ENTRY)?;
-    Ok(live.stop())
+    let _made = write(rt, &mut live, second, ENTRY);
+    live.stop()
 }
 
 // What the second ftrace ring tells at a boot, where a boot before made so many stores in it: its start was damaged, so
@@ -780,8 +765,8 @@ fn tells_first(report: &Report, i: usize, made: u64) -> bool {
 fn a_boot_keeps_the_rings_of_two_processors(rt: HostRuntime) -> Result<(), Fail> {
     let alloc = rt.alloc();
     for limit in [0, 1, 9] {
-        let (off, made) = boot_part(&rt, traced(&rt, alloc)?, limit);
-        assert_eq!(rt; made, 0);
+        let (off, made) = boot_part(&rt, traced(&rt), limit);
+        assert!(rt; made == 0);
         let (_, logs, report) = boot(&rt, off);
         assert!(rt; tells(&report, 0, Verdict::AsTold));
         assert!(rt; tells(&report, 1, Verdict::AsTold));
@@ -795,8 +780,8 @@ fn a_boot_keeps_the_rings_of_two_processors(rt: HostRuntime) -> Result<(), Fail>
 fn a_boot_of_two_processors_stops_after_each_store(rt: HostRuntime) -> Result<(), Fail> {
     let alloc = rt.alloc();
     for limit in 0u64..8 {
-        let (off, made) = boot_part(&rt, zeros(&rt, alloc, &two_processors())?, limit);
-        assert_eq!(rt; made, limit.min(6));
+        let (off, made) = boot_part(&rt, zeros(&rt, &two_processors()), limit);
+        assert!(rt; made == limit.min(6));
         let (_, logs, report) = boot(&rt, off);
         assert!(rt; tells_first(&report, 0, made));
         assert!(rt; tells_first(&report, 1, made.saturating_sub(3)));
@@ -804,10 +789,10 @@ fn a_boot_of_two_processors_stops_after_each_store(rt: HostRuntime) -> Result<()
         assert!(rt; reads(&logs, 1, &[]));
     }
     for limit in 0u64..4 {
-        let mut off = traced(&rt, alloc)?;
+        let mut off = traced(&rt);
         flip_all(&rt, &mut off, 2052, &[1]);
         let (off, made) = boot_part(&rt, off, limit);
-        assert_eq!(rt; made, limit.min(2));
+        assert!(rt; made == limit.min(2));
         let (_, logs, report) = boot(&rt, off);
         assert!(rt; tells(&report, 0, Verdict::AsTold));
         assert!(rt; tells_erased_ring(&report, made));
@@ -818,17 +803,17 @@ fn a_boot_of_two_processors_stops_after_each_store(rt: HostRuntime) -> Result<()
 }
 
 // A live store of four zones with a record in each, the third cut.
-fn recorded(rt: &impl Abort, alloc: Global) -> Result<Live, Fail> {
-    let mut live = live(rt, alloc, &four(1))?;
+fn recorded(rt: &(impl Abort + AllocGlobal)) -> Live {
+    let mut live = live(rt, &four(1));
     for zone in [dump_zone(0), dump_zone(1)] {
-        assert!(rt; begin_dump(rt, alloc, &mut live, 5, 6, b"x")? == zone);
+        assert!(rt; begin_dump(rt, &mut live, 5, 6, b"x") == zone);
         assert!(rt; finish(&mut live, zone) > 16);
     }
-    let _made = write(rt, alloc, &mut live, PMSG, b"xyz")?;
-    let _made = write(rt, alloc, &mut live, CONSOLE, b"abc")?;
-    begin_append(rt, alloc, &mut live, CONSOLE, b"def")?;
+    let _made = write(rt, &mut live, PMSG, b"xyz");
+    let _made = write(rt, &mut live, CONSOLE, b"abc");
+    begin_append(rt, &mut live, CONSOLE, b"def");
     steps(rt, &mut live, CONSOLE, 21);
-    Ok(live)
+    live
 }
 
 fn is_recorded(logs: &Logs, report: &Report) -> bool {
@@ -847,7 +832,7 @@ fn is_recorded(logs: &Logs, report: &Report) -> bool {
 // turn.
 #[test]
 fn a_refused_boot_can_be_asked_for_again(rt: HostRuntime) -> Result<(), Fail> {
-    let off = recorded(&rt, rt.alloc())?.stop();
+    let off = recorded(&rt).stop();
     let (_, logs, report) = match off.boot() {
         Ok(booted) => booted,
         Err((off, _refused)) => {
@@ -862,10 +847,10 @@ fn a_refused_boot_can_be_asked_for_again(rt: HostRuntime) -> Result<(), Fail> {
 // The same for a boot that is stopped before its first store.
 #[test]
 fn a_refused_stopped_boot_leaves_all(rt: HostRuntime) -> Result<(), Fail> {
-    let off = recorded(&rt, rt.alloc())?.stop();
+    let off = recorded(&rt).stop();
     let off = match off.boot_part(0) {
         Ok((off, made)) => {
-            assert_eq!(rt; made, 0);
+            assert!(rt; made == 0);
             off
         }
         Err((off, _refused)) => {

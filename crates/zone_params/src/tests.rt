@@ -49,15 +49,9 @@ fn keys_have_their_defaults(rt: HostRuntime) {
     let p = read_words(&words)
         .ok()
         .expect(&rt, "the words are parameters");
-    assert_eq!(rt;
-        (p.mem, p.dump, p.console, p.ftrace, p.pmsg),
-        (0, 4096, 4096, 4096, 4096)
-    );
-    assert_eq!(rt;
-        (p.ecc, p.ecc_dump, p.ecc_console, p.ecc_ftrace, p.ecc_pmsg),
-        (5, 5, 0, 5, 5)
-    );
-    assert_eq!(rt; (p.cpus, p.block, p.ftrace_sig), (1, 128, 0x43474244));
+    assert!(rt; (p.mem, p.dump, p.console, p.ftrace, p.pmsg) == (0, 4096, 4096, 4096, 4096));
+    assert!(rt; (p.ecc, p.ecc_dump, p.ecc_console, p.ecc_ftrace, p.ecc_pmsg) == (5, 5, 0, 5, 5));
+    assert!(rt; (p.cpus, p.block, p.ftrace_sig) == (1, 128, 0x43474244));
 }
 
 #[test]
@@ -65,20 +59,17 @@ fn zones_with_parity_are_laid_out(rt: HostRuntime) {
     let l = laid(rt.alloc(), "mem_size=16384 ftrace_size=0 ecc=1")
         .expect(&rt, "there is memory")
         .expect(&rt, "there is a layout");
-    assert_eq!(rt; (l.mem(), l.parity(), l.zones().len()), (16384, 16, 4));
-    assert_eq!(rt; shape(&l, Kind::Dump, 0), Some((0, 4096, 3604, 29)));
-    assert_eq!(rt; shape(&l, Kind::Dump, 1), Some((4096, 4096, 3604, 29)));
-    assert_eq!(rt; shape(&l, Kind::Console, 0), Some((8192, 4096, 3604, 29)));
-    assert_eq!(rt; shape(&l, Kind::Pmsg, 0), Some((12288, 4096, 3604, 29)));
-    assert_eq!(rt; shape(&l, Kind::Ftrace, 0), None);
-    assert_eq!(rt; l.zones().get(2).map(|z| z.sig), Some(0x43474244));
+    assert!(rt; (l.mem(), l.parity(), l.zones().len()) == (16384, 16, 4));
+    assert!(rt; shape(&l, Kind::Dump, 0) == Some((0, 4096, 3604, 29)));
+    assert!(rt; shape(&l, Kind::Dump, 1) == Some((4096, 4096, 3604, 29)));
+    assert!(rt; shape(&l, Kind::Console, 0) == Some((8192, 4096, 3604, 29)));
+    assert!(rt; shape(&l, Kind::Pmsg, 0) == Some((12288, 4096, 3604, 29)));
+    assert!(rt; shape(&l, Kind::Ftrace, 0) == None);
+    assert!(rt; l.zones().get(2).map(|z| z.sig) == Some(0x43474244));
     let plain = laid(rt.alloc(), "mem_size=16384 ftrace_size=0")
         .expect(&rt, "there is memory")
         .expect(&rt, "there is a layout");
-    assert_eq!(rt;
-        shape(&plain, Kind::Console, 0),
-        Some((8192, 4096, 4084, 32))
-    );
+    assert!(rt; shape(&plain, Kind::Console, 0) == Some((8192, 4096, 4084, 32)));
 }
 
 #[test]
@@ -90,11 +81,11 @@ fn one_mebibyte_is_laid_out(rt: HostRuntime) {
         let l = laid(rt.alloc(), line)
             .expect(&rt, "there is memory")
             .expect(&rt, "there is a layout");
-        assert_eq!(rt; l.zones().len(), 256);
-        assert_eq!(rt; shape(&l, Kind::Dump, 252).map(|s| s.0), Some(1032192));
-        assert_eq!(rt; shape(&l, Kind::Console, 0).map(|s| s.0), Some(1036288));
-        assert_eq!(rt; shape(&l, Kind::Ftrace, 0).map(|s| s.0), Some(1040384));
-        assert_eq!(rt; shape(&l, Kind::Pmsg, 0).map(|s| s.0), Some(1044480));
+        assert!(rt; l.zones().len() == 256);
+        assert!(rt; shape(&l, Kind::Dump, 252).map(|s| s.0) == Some(1032192));
+        assert!(rt; shape(&l, Kind::Console, 0).map(|s| s.0) == Some(1036288));
+        assert!(rt; shape(&l, Kind::Ftrace, 0).map(|s| s.0) == Some(1040384));
+        assert!(rt; shape(&l, Kind::Pmsg, 0).map(|s| s.0) == Some(1044480));
     }
 }
 
@@ -106,17 +97,17 @@ fn odd_sizes_are_laid_out(rt: HostRuntime) {
     )
     .expect(&rt, "there is memory")
     .expect(&rt, "there is a layout");
-    assert_eq!(rt; shape(&l, Kind::Dump, 0), Some((0, 596, 584, 5)));
-    assert_eq!(rt; shape(&l, Kind::Dump, 1), Some((596, 596, 584, 5)));
-    assert_eq!(rt; shape(&l, Kind::Dump, 2), Some((1192, 596, 584, 5)));
-    assert_eq!(rt; shape(&l, Kind::Console, 0), Some((1788, 256, 244, 2)));
+    assert!(rt; shape(&l, Kind::Dump, 0) == Some((0, 596, 584, 5)));
+    assert!(rt; shape(&l, Kind::Dump, 1) == Some((596, 596, 584, 5)));
+    assert!(rt; shape(&l, Kind::Dump, 2) == Some((1192, 596, 584, 5)));
+    assert!(rt; shape(&l, Kind::Console, 0) == Some((1788, 256, 244, 2)));
     let whole = laid(
         rt.alloc(),
         "mem_size=2048 record_size=0 console_size=2048 ftrace_size=0 pmsg_size=0 ecc=1",
     )
     .expect(&rt, "there is memory")
     .expect(&rt, "there is a layout");
-    assert_eq!(rt; shape(&whole, Kind::Console, 0), Some((0, 2048, 1780, 15)));
+    assert!(rt; shape(&whole, Kind::Console, 0) == Some((0, 2048, 1780, 15)));
 }
 
 #[test]
@@ -127,19 +118,18 @@ fn kinds_have_their_own_parity(rt: HostRuntime) {
     )
     .expect(&rt, "there is memory")
     .expect(&rt, "there is a layout");
-    assert_eq!(rt;
+    assert!(rt;
         (
             l.parity(),
             l.parity_of(Kind::Dump),
             l.parity_of(Kind::Ftrace)
-        ),
-        (16, 0, 16)
+        ) == (16, 0, 16)
     );
-    assert_eq!(rt; shape(&l, Kind::Dump, 0), Some((0, 4096, 4084, 128)));
-    assert_eq!(rt; shape(&l, Kind::Dump, 1), Some((4096, 4096, 4084, 128)));
-    assert_eq!(rt; shape(&l, Kind::Console, 0), Some((8192, 4096, 2708, 85)));
-    assert_eq!(rt; shape(&l, Kind::Pmsg, 0), Some((12288, 4096, 2708, 85)));
-    assert_eq!(rt; l.zones().first().map(|z| z.block), Some(32));
+    assert!(rt; shape(&l, Kind::Dump, 0) == Some((0, 4096, 4084, 128)));
+    assert!(rt; shape(&l, Kind::Dump, 1) == Some((4096, 4096, 4084, 128)));
+    assert!(rt; shape(&l, Kind::Console, 0) == Some((8192, 4096, 2708, 85)));
+    assert!(rt; shape(&l, Kind::Pmsg, 0) == Some((12288, 4096, 2708, 85)));
+    assert!(rt; l.zones().first().map(|z| z.block) == Some(32));
 }
 
 #[test]
@@ -150,57 +140,59 @@ fn ftrace_zones_have_the_tag(rt: HostRuntime) {
     )
     .expect(&rt, "there is memory")
     .expect(&rt, "there is a layout");
-    assert_eq!(rt; shape(&l, Kind::Ftrace, 1), Some((2048, 2048, 2036, 16)));
-    assert_eq!(rt; l.zones().get(1).map(|z| z.sig), Some(0x43474245));
-    assert_eq!(rt; l.parity_of(Kind::Ftrace), 0);
+    assert!(rt; shape(&l, Kind::Ftrace, 1) == Some((2048, 2048, 2036, 16)));
+    assert!(rt; l.zones().get(1).map(|z| z.sig) == Some(0x43474245));
+    assert!(rt; l.parity_of(Kind::Ftrace) == 0);
 }
+
+const FAULTS: &[(&str, u32)] = &[
+    ("mem_size=0 console_size=0", 1),
+    ("mem_size=0 console_size=0 ftrace_size=0 pmsg_size=0", 1),
+    (
+        "mem_size=0 record_size=0 console_size=0 ftrace_size=0 pmsg_size=0",
+        1,
+    ),
+    (
+        "mem_size=4096 record_size=0 console_size=0 ftrace_size=0 pmsg_size=0",
+        2,
+    ),
+    (
+        "mem_size=16777217 record_size=0 console_size=0 ftrace_size=0 pmsg_size=0",
+        2,
+    ),
+    ("mem_size=16777217", 3),
+    ("mem_size=16777217 ecc=128", 3),
+    ("mem_size=16777216 ecc_pmsg=128 pmsg_size=0", 4),
+    ("mem_size=65536 ecc=128 block_size=33", 4),
+    ("mem_size=65536 block_size=33 cpus=0", 11),
+    ("mem_size=16384 ftrace_size=0 ecc=1 block_size=100", 11),
+    ("mem_size=65536 cpus=0 console_size=131072", 8),
+    ("mem_size=65536 cpus=65", 8),
+    (
+        "mem_size=4096 console_size=4294967295 ftrace_size=4294967295 pmsg_size=4294967295",
+        5,
+    ),
+    ("mem_size=16384 record_size=8192 console_size=128", 5),
+    ("mem_size=16777216 record_size=1", 6),
+    (
+        "mem_size=4096 record_size=0 console_size=128 ftrace_size=0 pmsg_size=0",
+        6,
+    ),
+    (
+        "mem_size=4096 record_size=0 console_size=0 ftrace_size=32 cpus=64 pmsg_size=0",
+        6,
+    ),
+    (
+        "mem_size=256 record_size=0 console_size=256 ftrace_size=0 pmsg_size=0 ecc=127",
+        7,
+    ),
+    ("mem_size=4096", 5),
+    ("mem_size=16384", 0),
+];
 
 #[test]
 fn each_layout_fault_comes_in_its_order(rt: HostRuntime) {
-    for (line, want) in [
-        ("mem_size=0 console_size=0", 1),
-        ("mem_size=0 console_size=0 ftrace_size=0 pmsg_size=0", 1),
-        (
-            "mem_size=0 record_size=0 console_size=0 ftrace_size=0 pmsg_size=0",
-            1,
-        ),
-        (
-            "mem_size=4096 record_size=0 console_size=0 ftrace_size=0 pmsg_size=0",
-            2,
-        ),
-        (
-            "mem_size=16777217 record_size=0 console_size=0 ftrace_size=0 pmsg_size=0",
-            2,
-        ),
-        ("mem_size=16777217", 3),
-        ("mem_size=16777217 ecc=128", 3),
-        ("mem_size=16777216 ecc_pmsg=128 pmsg_size=0", 4),
-        ("mem_size=65536 ecc=128 block_size=33", 4),
-        ("mem_size=65536 block_size=33 cpus=0", 11),
-        ("mem_size=16384 ftrace_size=0 ecc=1 block_size=100", 11),
-        ("mem_size=65536 cpus=0 console_size=131072", 8),
-        ("mem_size=65536 cpus=65", 8),
-        (
-            "mem_size=4096 console_size=4294967295 ftrace_size=4294967295 pmsg_size=4294967295",
-            5,
-        ),
-        ("mem_size=16384 record_size=8192 console_size=128", 5),
-        ("mem_size=16777216 record_size=1", 6),
-        (
-            "mem_size=4096 record_size=0 console_size=128 ftrace_size=0 pmsg_size=0",
-            6,
-        ),
-        (
-            "mem_size=4096 record_size=0 console_size=0 ftrace_size=32 cpus=64 pmsg_size=0",
-            6,
-        ),
-        (
-            "mem_size=256 record_size=0 console_size=256 ftrace_size=0 pmsg_size=0 ecc=127",
-            7,
-        ),
-        ("mem_size=4096", 5),
-        ("mem_size=16384", 0),
-    ] {
-        assert_eq!(rt; layout_fault_of(rt.alloc(), line), Ok(want), "of {line}");
+    for (line, want) in FAULTS.iter().copied() {
+        assert!(rt; layout_fault_of(rt.alloc(), line) == Ok(want), "of {line}");
     }
 }
