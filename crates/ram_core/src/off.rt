@@ -11,7 +11,6 @@ ghost use Rattle.ram_core.specs.OffSeen.{OffSeen, StandsOff, AreUnknown};
 ghost use Rattle.ram_core.specs.Booting.{IsOpen, SpansFit, Prepares, AreLogs, seen_off, seen_booted};
 ghost use Rattle.std.specs.List.{concat};
 ghost use Rattle.old_log.specs.Saving.{saved};
-ghost use Rattle.ram_core.specs.Stopped.{HasRoom};
 ghost use Rattle.ram_core.specs.Running.{IsRunning};
 ghost use Rattle.ram_core.specs.Resting.{IsResting};
 ghost use Rattle.ram_core.specs.Reports.{report_seen};
@@ -106,17 +105,14 @@ impl OpenOff {
         read_logs(self.alloc, &self.layout, &self.spans)
     }
 
-    // All that a boot reads and takes before its first store, with room for what the next stop tells of the zones.
-    fn prepare(&self) -> Result<(Prepared, Vec<KnownZone>), AllocError>
+    // All that a boot reads and takes before its first store.
+    fn prepare(&self) -> Result<Prepared, AllocError>
         requires spans { SpansFit (zones_of self.now.layout) self.now.spans.spans }
         requires known { length self.now.zones.items ≡ length (zones_of self.now.layout) }
-        ensures prepared { IfOk result (λ r. Prepares (zones_of self.now.layout)
-            self.now.spans.spans self.now.zones.items r.0) }
-        ensures room { IfOk result (λ r. HasRoom (zones_of self.now.layout) r.1) }
+        ensures prepared { IfOk result (λ p. Prepares (zones_of self.now.layout)
+            self.now.spans.spans self.now.zones.items p) }
     {
-        let prepared = prepare(self.alloc, &self.layout, &self.spans, &self.zones)?;
-        let stopped = Vec::with_capacity(self.alloc, self.layout.zones().len())?;
-        Ok((prepared, stopped))
+        prepare(self.alloc, &self.layout, &self.spans, &self.zones)
     }
 
     // The same for a boot that is cut, with room for how it passes the zones.
@@ -128,15 +124,16 @@ impl OpenOff {
         ensures none { IfOk result (λ r. r.1.items ≡ []) }
         ensures room { IfOk result (λ r. length (zones_of self.now.layout) ≤ vec_capacity r.1) }
     {
-        let prepared = prepare(self.alloc, &self.layout, &self.spans, &self.zones)?;
+        let prepared = self.prepare()?;
         let passed = Vec::with_capacity(self.alloc, self.layout.zones().len())?;
         Ok((prepared, passed))
     }
 
-    // The machine after a boot that has made all its stores.
-    fn live(self, zones: Vec<HeldZone>, coders: Coders, stopped: Vec<KnownZone>) -> Live
+    // The machine after a boot that has made all its stores. What was known of the zones leaves its room to what the
+    // next stop tells of them.
+    fn live(self, zones: Vec<HeldZone>, coders: Coders) -> Live
         requires running { IsRunning (seen_booted self zones.items) }
-        requires room { HasRoom (zones_of self.layout) stopped }
+        requires known { length self.zones.items ≡ length (zones_of self.layout) }
         requires few { length (zones_of self.layout) < 2 ^ 32 }
         ensures { result ≡ seen_booted self zones.items }
     {
@@ -146,7 +143,7 @@ impl OpenOff {
             alloc,
             layout,
             spans,
-            zones: _,
+            zones: known,
         } = self;
         Live {
             alloc,
@@ -156,9 +153,18 @@ impl OpenOff {
             cursor,
             flying_dumps,
             coders,
-            stopped,
+            stopped: emptied(known),
         }
     }
+}
+
+// The room of a list.
+fn emptied(mut known: Vec<KnownZone>) -> Vec<KnownZone>
+    ensures none { result.items ≡ [] }
+    ensures room { length known.items ≤ vec_capacity result }
+{
+    known.clear();
+    known
 }
 
 // Zones of which nothing is known.
@@ -280,7 +286,7 @@ impl Off {
     {
         let mut open = self.open()?;
         match open.prepare() {
-            Ok((prepared, stopped)) => {
+            Ok(prepared) => {
                 settle_all(
                     &prepared.coders,
                     &mut open.spans,
@@ -293,11 +299,7 @@ impl Off {
                     held,
                     coders,
                 } = prepared;
-                Ok((
-                    open.live(held, coders, stopped),
-                    logs,
-                    Report::from_vec(reports),
-                ))
+                Ok((open.live(held, coders), logs, Report::from_vec(reports)))
             }
             Err(refused) => Err((open.close(), refused)),
         }

@@ -492,14 +492,85 @@ fn add_fixes(values: &mut [u8], fixes: &[Fix], places: usize)
     }
 }
 
+/// Adds the mask to its place, where the word has it.
+fn apply_fix(word: &mut [u8], place: u8, mask: u8)
+    ensures { word.new ≡ slice_set word.old place (gf_add (slice_index word.old place) mask) }
+{
+    let place = place as usize;
+    if place < word.len() {
+        word[place] = add(word[place], mask);
+    }
+}
+
+/// Adds the masks of the places that the word has.
+fn apply(word: &mut [u8], fixes: &[Fix])
+    ensures { word.new ≡ applied fixes.now word.old }
+{
+    for fix in fixes {
+        apply_fix(word, fix.place, fix.mask);
+    }
+}
+
+fn extend(word: &mut ArrayVec<u8, 255>, more: &[u8])
+    requires { length word.old.items + length more.now ≤ 255 }
+    ensures { word.new.items ≡ word.old.items ++ more.now }
+{
+    match word.try_extend_from_slice(more) {
+        Ok(()) => {}
+        Err(_) => unreachable!(),
+    }
+}
+
+fn joined(msg: &[u8], par: &[u8]) -> ArrayVec<u8, 255>
+    requires { length msg.now + length par.now ≤ 255 }
+    ensures { result.items ≡ msg.now ++ par.now }
+{
+    let mut word: ArrayVec<u8, 255> = ArrayVec::new();
+    extend(&mut word, msg);
+    extend(&mut word, par);
+    word
+}
+
+/// Tells whether the word with the fixes is a codeword, by its parity.
+fn is_mended_by_parity(coder: &Parity, msg: &[u8], par: &[u8], fixes: &[Fix]) -> bool
+    requires coder { coder.now ≡ length par.now }
+    requires fits { length msg.now + length par.now ≤ 255 }
+    ensures { IsTrue result ↔ HasRoots (length par.now) (applied fixes.now (msg.now ++ par.now)) }
+{
+    let mut word = joined(msg, par);
+    apply(word.as_mut_slice(), fixes);
+    let (front, back) = word.as_slice().split_at(msg.len());
+    coder.is_parity(front, back)
+}
+
+/// Tells whether the word with these values, and with the fixes, is a codeword. The values of few fixes take less time
+/// than the parity of a word.
+fn is_mended(coder: &Parity, msg: &[u8], par: &[u8], values: &mut [u8], fixes: &[Fix]) -> bool
+    requires coder { coder.now ≡ length par.now }
+    requires fits { length msg.now + length par.now ≤ 255 }
+    requires len { length values.old ≡ length par.now }
+    requires values { (k : ℕ) → k < length par.now → slice_index values.old k
+        ≡ value_of (msg.now ++ par.now) (gf_pow 2 k) }
+    requires inside { AllInside (length msg.now + length par.now) fixes.now }
+    ensures { IsTrue result ↔ HasRoots (length par.now) (applied fixes.now (msg.now ++ par.now)) }
+{
+    if fixes.len() > 10 {
+        return is_mended_by_parity(coder, msg, par, fixes);
+    }
+    add_fixes(values, fixes, msg.len() + par.len());
+    all_zero(values)
+}
+
 /// Finds the fixes that make the codeword within `most` places of the word with these values, where there is one.
 fn corrected(
+    coder: &Parity,
     most: usize,
     msg: &[u8],
     par: &[u8],
     values: &mut [u8],
     fixes: &mut ArrayVec<Fix, 63>,
 ) -> bool
+    requires coder { coder.now ≡ length par.now }
     requires some { 1 ≤ length par.now }
     requires few { length par.now ≤ 127 }
     requires fits { length msg.now + length par.now ≤ 255 }
@@ -526,27 +597,7 @@ fn corrected(
     if !found {
         return false;
     }
-    add_fixes(values, fixes.as_slice(), places);
-    all_zero(values)
-}
-
-/// Adds the mask to its place, where the word has it.
-fn apply_fix(word: &mut [u8], place: u8, mask: u8)
-    ensures { word.new ≡ slice_set word.old place (gf_add (slice_index word.old place) mask) }
-{
-    let place = place as usize;
-    if place < word.len() {
-        word[place] = add(word[place], mask);
-    }
-}
-
-/// Adds the masks of the places that the word has.
-fn apply(word: &mut [u8], fixes: &[Fix])
-    ensures { word.new ≡ applied fixes.now word.old }
-{
-    for fix in fixes {
-        apply_fix(word, fix.place, fix.mask);
-    }
+    is_mended(coder, msg, par, values, fixes.as_slice())
 }
 
 /// Corrects `msg`, read with the parity `par`, to the nearest codeword's data; `fixes` becomes the places of the whole
@@ -612,7 +663,7 @@ pub fn decode_within(
     if !is_damaged(coder, msg, par, values) {
         return Decoded::Clean;
     }
-    if corrected(most, msg, par, values, fixes) {
+    if corrected(coder, most, msg, par, values, fixes) {
         apply(msg, fixes.as_slice());
         let count = fixes.len() as u8;
         Decoded::Fixed(count)
@@ -774,26 +825,6 @@ mod tests {
             next = next.wrapping_add(37);
         }
         msg
-    }
-
-    fn extend(word: &mut ArrayVec<u8, 255>, more: &[u8])
-        requires { length word.old.items + length more.now ≤ 255 }
-        ensures { word.new.items ≡ word.old.items ++ more.now }
-    {
-        match word.try_extend_from_slice(more) {
-            Ok(()) => {}
-            Err(_) => unreachable!(),
-        }
-    }
-
-    fn joined(msg: &[u8], par: &[u8]) -> ArrayVec<u8, 255>
-        requires { length msg.now + length par.now ≤ 255 }
-        ensures { result.items ≡ msg.now ++ par.now }
-    {
-        let mut word: ArrayVec<u8, 255> = ArrayVec::new();
-        extend(&mut word, msg);
-        extend(&mut word, par);
-        word
     }
 
     /// Adds the masks of `places` to the word, and wants them found again where there are at most half as many as

@@ -38,7 +38,7 @@ pub record Starts (f : Flying) : Type 0 where
 
 starts_by : (f : Flying) (p : Phase) (st : Stage) → IsSound f → f.place.phase ≡ p → f.place.number ≡ 0
     → 0 < phase_len f p → call_stages f.zone f.words f.call ≡ st ∷ behind f p
-    → stage_count f.zone st ≡ phase_len f p → ((image : List ℕ) → stores_of f p ≡ stage_stores f.zone st image)
+    → stage_count f.zone st ≡ phase_len f p → ((image : List ℕ) → stores_of f image p ≡ stage_stores f.zone st image)
     → Starts f
 starts_by f p st sound e n some stages count stores = record {
   sound = sound;
@@ -66,7 +66,7 @@ starts_ended f sound e n stages = record {
 }
 
 abbrev pub started : Zone → Words → Call → Flying
-started z w call = record { zone = z; words = w; call = call; made = 0; place = first_place z w call; parity = [] }
+started z w call = record { zone = z; words = w; call = call; made = 0; place = first_place z w call }
 
 abbrev appending : Zone → Words → List ℕ → Phase → Flying
 appending z w bytes p = record {
@@ -75,7 +75,6 @@ appending z w bytes p = record {
   call = Append bytes;
   made = 0;
   place = record { leg = Payload; start = w.start; size = w.size; phase = p; block = 0; number = 0 };
-  parity = [];
 }
 
 module _ (z : Zone) (w : Words) (valid : IsValidZone z) (ring : IsRing w z.cap) where
@@ -117,7 +116,7 @@ module _ (z : Zone) (w : Words) (valid : IsValidZone z) (ring : IsRing w z.cap) 
       ]
 
   sound_erasure : (call : Call) → length (line_of call) ≤ 36
-      → IsSound (record { zone = z; words = w; call = call; made = 0; place = erasure; parity = [] })
+      → IsSound (record { zone = z; words = w; call = call; made = 0; place = erasure })
   sound_erasure call line = record {
     valid = valid;
     below = omega (arith, valid.room);

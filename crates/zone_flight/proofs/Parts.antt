@@ -15,7 +15,7 @@ use Rattle.zone_flight.specs.Calls.{line_of, front_of, body_stages}
 use Rattle.zone_flight.specs.Flying.{Flying, at_place, later}
 use Rattle.zone_flight.specs.Phases.{IsDone, IsSound}
 use Rattle.zone_flight.specs.Machine.{Enters}
-use Rattle.zone_flight.proofs.Left.{AllStored, enters_by}
+use Rattle.zone_flight.proofs.Left.{AlwaysStored, enters_by}
 
 regroup : (a r1 r2 more : List Stage) (s h : Stage) → a ++ s ∷ [] ++ r1 ++ r2 ++ h ∷ [] ++ more
     ≡ a ++ (s ∷ (r1 ++ (r2 ++ h ∷ more)))
@@ -62,26 +62,26 @@ append_begins_full z start size bytes more h some = append_by z start size [] mo
 abbrev pub begun : Leg → ℕ → Place
 begun leg at = record { leg = leg; start = at; size = at; phase = Size; block = 0; number = 0 }
 
-module _ (f : Flying) (image : List ℕ) (all : AllStored f) (done : IsDone f) (is : f.place.phase ≡ HeaderPhase) where
+module _ (f : Flying) (all : AlwaysStored f) (done : IsDone f) (is : f.place.phase ≡ HeaderPhase) where
   -- the body behind the line, or behind an erasure where the line is empty
   pub enter_body : later f ≡ body_stages f.zone f.call → length (line_of f.call) < f.zone.cap
-      → 0 < length (front_of f.zone.cap f.call) → Enters f (at_place f (begun Body (length (line_of f.call)))) image
+      → 0 < length (front_of f.zone.cap f.call) → Enters f (at_place f (begun Body (length (line_of f.call))))
   unfolding stage_stores
   enter_body behind_is h some =
       let at : ℕ = length (line_of f.call) in
       let g : Flying = at_place f (begun Body at) in
-      enters_by f g image HeaderPhase Size (SizeWord (min f.zone.cap (at + length (front_of f.zone.cap f.call))))
-      is all done refl refl refl refl refl refl refl refl
+      enters_by f g HeaderPhase Size (SizeWord (min f.zone.cap (at + length (front_of f.zone.cap f.call))))
+      is all done refl refl refl refl refl refl (λ image. refl) refl
       (behind_is ∙ sym (append-nil (append_stages f.zone at at (front_of f.zone.cap f.call)))
       ∙ append_begins f.zone at at (front_of f.zone.cap f.call) [] h some)
 
   pub enter_line : f.place.leg ≡ Erasure → 0 < f.zone.cap → 0 < length (line_of f.call)
-      → Enters f (at_place f (begun Line 0)) image
+      → Enters f (at_place f (begun Line 0))
   unfolding stage_stores
   enter_line leg h some =
       let g : Flying = at_place f (begun Line 0) in
-      enters_by f g image HeaderPhase Size (SizeWord (min f.zone.cap (0 + length (line_of f.call))))
-      is all done refl refl refl refl refl refl refl refl
+      enters_by f g HeaderPhase Size (SizeWord (min f.zone.cap (0 + length (line_of f.call))))
+      is all done refl refl refl refl refl refl (λ image. refl) refl
       (ap (λ l. later (record f { place = record f.place { leg = l } })) leg
       ∙ append_begins f.zone 0 0 (line_of f.call) (body_stages f.zone f.call) h some)
 

@@ -20,9 +20,9 @@ stands_image f now before stands =
 none_left : (f : Flying) (now : List ℕ) → IsFinished f → stores_left f now ≡ []
 unfolding stores_left stores_in_turn
 none_left f now e =
-    let s : List Store = drop f.place.number (stores_of f f.place.phase) in
-    let none : s ≡ [] = drop_all f.place.number (stores_of f f.place.phase)
-    (let l : length (stores_of f f.place.phase) ≡ 0 = ap (λ p. length (stores_of f p)) e in omega (arith, l)) in
+    let s : List Store = drop f.place.number (stores_of f now f.place.phase) in
+    let none : s ≡ [] = drop_all f.place.number (stores_of f now f.place.phase)
+    (let l : length (stores_of f now f.place.phase) ≡ 0 = ap (λ p. length (stores_of f now p)) e in omega (arith, l)) in
     ap (λ ss. ss ++ stores_in_turn f.zone (behind f f.place.phase) (after_stores now ss)) none
     ∙ ap (λ p. stores_in_turn f.zone (behind f p) (after_stores now [])) e
 

@@ -10,6 +10,8 @@ use Rattle.zone_spec.specs.Calls.{call_stores, call_stages, IsUnderway}
 use Rattle.ring_laws.proofs.Images.{after_stores-append}
 use Rattle.std.proofs.lemmas.List.{take-append-drop, drop-drop, length-take-le}
 use Rattle.zone_flight.proofs.Left.{length-stores_of}
+use Rattle.zone_flight.proofs.ParityBytes.{parity_stays}
+use Rattle.zone_spec.specs.Parts.{AreBytes, Header, Block}
 use Rattle.zone_flight.specs.declared.progress.Phase.{Phase}
 use Rattle.zone_flight.specs.declared.progress.Phase.TheVariants.{ZeroStart, ZeroSize, Size, Start, First, FirstParity, Second, SecondParity, Header as HeaderPhase, Finished}
 use Rattle.zone_flight.specs.Flying.{Flying, IsSameCall}
@@ -27,17 +29,32 @@ underway_begins z call image left e = record { done = []; whole = sym e; image =
 abbrev pub later_by : ℕ → Flying → Flying
 later_by n f = record f { place = record f.place { number = f.place.number + n }; made = f.made + n }
 
-moved_stores : (n : ℕ) (f : Flying) (p : Phase) → stores_of (later_by n f) p ≡ stores_of f p
-moved_stores n f ZeroStart = refl
-moved_stores n f ZeroSize = refl
-moved_stores n f Size = refl
-moved_stores n f Start = refl
-moved_stores n f First = refl
-moved_stores n f FirstParity = refl
-moved_stores n f Second = refl
-moved_stores n f SecondParity = refl
-moved_stores n f HeaderPhase = refl
-moved_stores n f Finished = refl
+moved_stores : (n : ℕ) (f : Flying) (image : List ℕ) (p : Phase)
+    → stores_of (later_by n f) image p ≡ stores_of f image p
+moved_stores n f image ZeroStart = refl
+moved_stores n f image ZeroSize = refl
+moved_stores n f image Size = refl
+moved_stores n f image Start = refl
+moved_stores n f image First = refl
+moved_stores n f image FirstParity = refl
+moved_stores n f image Second = refl
+moved_stores n f image SecondParity = refl
+moved_stores n f image HeaderPhase = refl
+moved_stores n f image Finished = refl
+
+-- after some stores of a phase all of them are the same
+stores_stay : (f : Flying) (image : List ℕ) (k n : ℕ) (p : Phase) → 0 < f.zone.cap
+    → stores_of f (after_stores image (take n (drop k (stores_of f image p)))) p ≡ stores_of f image p
+stores_stay f image k n ZeroStart some = refl
+stores_stay f image k n ZeroSize some = refl
+stores_stay f image k n Size some = refl
+stores_stay f image k n Start some = refl
+stores_stay f image k n First some = refl
+stores_stay f image k n FirstParity some = parity_stays f.zone image k n (Block f.place.block) some
+stores_stay f image k n Second some = refl
+stores_stay f image k n SecondParity some = parity_stays f.zone image k n (Block f.place.block) some
+stores_stay f image k n HeaderPhase some = parity_stays f.zone image k n Header some
+stores_stay f image k n Finished some = refl
 
 moved_behind : (n : ℕ) (f : Flying) (p : Phase) → behind (later_by n f) p ≡ behind f p
 moved_behind n f ZeroStart = refl
@@ -64,20 +81,21 @@ moved_len n f HeaderPhase = refl
 moved_len n f Finished = refl
 
 -- so many stores are those of the phase
-pub next_length : (f : Flying) (n : ℕ) → IsSound f → f.place.number + n ≤ phase_len f f.place.phase
-    → length (next_stores f n) ≡ n
-next_length f n sound h =
-    let all : List Store = stores_of f f.place.phase in
+pub next_length : (f : Flying) (image : List ℕ) (n : ℕ) → AreBytes image
+    → f.place.number + n ≤ phase_len f f.place.phase → length (next_stores f image n) ≡ n
+next_length f image n bytes h =
+    let all : List Store = stores_of f image f.place.phase in
     length-take-le n (drop f.place.number all)
-    (omega (arith, length-drop f.place.number all, length-stores_of f f.place.phase sound.within))
+    (omega (arith, length-drop f.place.number all, length-stores_of f image f.place.phase bytes))
 
-left_later : (n : ℕ) (f : Flying) (image : List ℕ)
-    → stores_left f image ≡ next_stores f n ++ stores_left (later_by n f) (after_stores image (next_stores f n))
+left_later : (n : ℕ) (f : Flying) (image : List ℕ) → 0 < f.zone.cap
+    → stores_left f image
+    ≡ next_stores f image n ++ stores_left (later_by n f) (after_stores image (next_stores f image n))
 unfolding stores_left
-left_later n f image =
+left_later n f image some =
     let k : ℕ = f.place.number in
     let p : Phase = f.place.phase in
-    let all : List Store = stores_of f p in
+    let all : List Store = stores_of f image p in
     let next : List Store = take n (drop k all) in
     let rest : List Store = drop (k + n) all in
     let split : drop k all ≡ next ++ rest =
@@ -88,7 +106,8 @@ left_later n f image =
     ∙ ap (λ gs. next ++ (rest ++ stores_in_turn f.zone gs (after_stores (after_stores image next) rest)))
     (sym (moved_behind n f p))
     ∙ ap (λ ss. next ++ (drop (k + n) ss ++ stores_in_turn f.zone (behind (later_by n f) p)
-    (after_stores (after_stores image next) (drop (k + n) ss)))) (sym (moved_stores n f p))
+    (after_stores (after_stores image next) (drop (k + n) ss))))
+    (sym (moved_stores n f (after_stores image next) p ∙ stores_stay f image k n p some))
 
 underway_later : (z : Zone) (call : Call) (before now : List ℕ) (made : ℕ) (ss left : List Store)
     → IsUnderway z call before now made (ss ++ left)
@@ -116,22 +135,22 @@ total_same {f} {g} same =
     ∙ ap (λ c. sum_by (stage_count f.zone) (call_stages f.zone f.words c)) same.call
 
 -- after the stores, whatever phase was then entered
-pub stands_later : (f h : Flying) (n : ℕ) (old new before : List ℕ) → length (next_stores f n) ≡ n
-    → new ≡ after_stores old (next_stores f n) → IsSettled (later_by n f) h new
-    → StandsFor f old before → StandsFor h new before
-stands_later f h n old new before count new_is settled stands =
+pub stands_later : (f h : Flying) (n : ℕ) (old new before : List ℕ) → 0 < f.zone.cap
+    → length (next_stores f old n) ≡ n → new ≡ after_stores old (next_stores f old n)
+    → AreBytes new → IsSettled (later_by n f) h → StandsFor f old before → StandsFor h new before
+stands_later f h n old new before some count new_is bytes settled stands =
+    let next : List Store = next_stores f old n in
     let g : Flying = later_by n f in
-    let u : IsUnderway f.zone f.call before (after_stores old (next_stores f n)) (f.made + length (next_stores f n))
-    (stores_left g (after_stores old (next_stores f n))) =
-    underway_later f.zone f.call before old f.made (next_stores f n) (stores_left g (after_stores old (next_stores f n)))
-    (subst (IsUnderway f.zone f.call before old f.made) (left_later n f old) stands.underway) in
-    let v : IsUnderway f.zone f.call before new (f.made + length (next_stores f n)) (stores_left g new) =
-    subst (λ x. IsUnderway f.zone f.call before x (f.made + length (next_stores f n)) (stores_left g x))
-    (sym new_is) u in
+    let u : IsUnderway f.zone f.call before (after_stores old next) (f.made + length next)
+    (stores_left g (after_stores old next)) =
+    underway_later f.zone f.call before old f.made next (stores_left g (after_stores old next))
+    (subst (IsUnderway f.zone f.call before old f.made) (left_later n f old some) stands.underway) in
+    let v : IsUnderway f.zone f.call before new (f.made + length next) (stores_left g new) =
+    subst (λ x. IsUnderway f.zone f.call before x (f.made + length next) (stores_left g x)) (sym new_is) u in
     let c : IsUnderway f.zone f.call before new (f.made + n) (stores_left g new) =
     subst (λ m. IsUnderway f.zone f.call before new (f.made + m) (stores_left g new)) count v in
     let w : IsUnderway f.zone f.call before new (f.made + n) (stores_left h new) =
-    subst (IsUnderway f.zone f.call before new (f.made + n)) (sym settled.left) c in
+    subst (IsUnderway f.zone f.call before new (f.made + n)) (sym (settled.left new bytes)) c in
     record {
       words = stands.words ∙ sym settled.same.words;
       underway =
@@ -179,9 +198,9 @@ is_ready f kept h = elim kept.ready [
   | inr l ↦ l
 ]
 
-pub kept_later : (f g : Flying) (n : ℕ) (image : List ℕ) → IsKept f
-    → f.place.number + n ≤ phase_len f f.place.phase → IsSound g → IsSettled (later_by n f) g image → IsKept g
-kept_later f g n image kept h sound settled =
+pub kept_later : (f g : Flying) (n : ℕ) → IsKept f
+    → f.place.number + n ≤ phase_len f f.place.phase → IsSound g → IsSettled (later_by n f) g → IsKept g
+kept_later f g n kept h sound settled =
     let same : IsSameCall f g = record {
       zone = settled.same.zone;
       words = settled.same.words;

@@ -34,7 +34,7 @@ take-byte_stores (suc n) place (x ∷ xs) =
     ap (λ ss. record { place = place; bytes = x ∷ [] } ∷ ss) (take-byte_stores n (place + 1) xs)
 
 -- the next stores of a run are those of its next bytes
-part-byte_stores : (n k place : ℕ) (xs : List ℕ)
+pub part-byte_stores : (n k place : ℕ) (xs : List ℕ)
     → take n (drop k (byte_stores place xs)) ≡ byte_stores (place + k) (take n (drop k xs))
 part-byte_stores n k place xs = ap (take n) (drop-byte_stores k place xs) ∙ take-byte_stores n (place + k) (drop k xs)
 
@@ -49,13 +49,14 @@ pub ready_in : (f : Flying) (n : ℕ) (p : Phase) → f.place.phase ≡ p
 ready_in f n p e h = subst (λ q. f.place.number + n ≤ phase_len f q) e h
 
 module _ (f : Flying) (n : ℕ) (old : CutRegion) (i : ℕ) (new : CutRegion) where
-  stored : (p : Phase) (ss : List Store) → f.place.phase ≡ p → take n (drop f.place.number (stores_of f p)) ≡ ss
+  pub stored : (p : Phase) (ss : List Store) → f.place.phase ≡ p
+      → take n (drop f.place.number (stores_of f (span old i) p)) ≡ ss
       → new ≡ with_span old i (after_stores (span old i) ss) → Stores f n old i new
   stored p ss e h k = k ∙ ap (λ xs. with_span old i (after_stores (span old i) xs))
-      (sym (ap (λ q. take n (drop f.place.number (stores_of f q))) e ∙ h))
+      (sym (ap (λ q. take n (drop f.place.number (stores_of f (span old i) q))) e ∙ h))
 
   -- a word is the one store of its phase
-  pub stored_word : (p : Phase) (at w : ℕ) → f.place.phase ≡ p → stores_of f p ≡ word_store at w → 0 < n
+  pub stored_word : (p : Phase) (at w : ℕ) → f.place.phase ≡ p → stores_of f (span old i) p ≡ word_store at w → 0 < n
       → f.place.number + n ≤ 1 → new ≡ with_span old i (put (span old i) at (to_le_bytes w32 w)) → Stores f n old i new
   unfolding after_stores
   stored_word p at w e all some ready k =
@@ -65,7 +66,7 @@ module _ (f : Flying) (n : ℕ) (old : CutRegion) (i : ℕ) (new : CutRegion) wh
       ∙ ap (λ m. take n (drop m (word_store at w))) first ∙ ap (λ m. take m (drop 0 (word_store at w))) one) k
 
   -- of a run the next bytes
-  pub stored_bytes : (p : Phase) (at : ℕ) (xs ys : List ℕ) → f.place.phase ≡ p → stores_of f p ≡ byte_stores at xs
+  pub stored_bytes : (p : Phase) (at : ℕ) (xs ys : List ℕ) → f.place.phase ≡ p → stores_of f (span old i) p ≡ byte_stores at xs
       → take n (drop f.place.number xs) ≡ ys
       → new ≡ with_span old i (put (span old i) (at + f.place.number) ys) → Stores f n old i new
   stored_bytes p at xs ys e all part k =

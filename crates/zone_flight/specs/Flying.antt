@@ -8,15 +8,13 @@ use Rattle.zone_flight.specs.declared.progress.Place.{Place}
 use Rattle.zone_flight.specs.declared.progress.Progress.{Progress}
 use Rattle.zone_flight.specs.Calls.{call_seen, leg_bytes, later_stages}
 
--- a call on a zone whose words were these, the number of stores made, where it is, and the parity of the part that is
--- being stored
+-- a call on a zone whose words were these, the number of stores made, and where it is
 pub record Flying : Type 0 where
   pub zone : Zone
   pub words : Words
   pub call : Call
   pub made : ℕ
   pub place : Place
-  pub parity : List ℕ
 
 abbrev pub seen : Progress → Flying
 seen p = record {
@@ -25,7 +23,6 @@ seen p = record {
   call = call_seen p.call;
   made = p.made;
   place = p.place;
-  parity = p.parity.items;
 }
 
 -- the same call on the same zone

@@ -1,10 +1,10 @@
 -- The stores that a flight has still to make, and what it stands for
 use Rattle.std.specs.Prelude.{◌≡◌, ℕ, ◌+◌, ◌-◌, ◌/◌, ◌%◌, ◌^◌, ◌<◌, min, ◌⊎◌, List, [], ◌∷◌, ◌++◌, length, take, drop, map, sum_by}
 use Rattle.std.specs.List.{range_with_len}
-use Rattle.zone_spec.specs.Parts.{Header, Block, part_parity_at, standing_words}
+use Rattle.zone_spec.specs.Parts.{AreBytes, Part, Header, Block, standing_words}
 use Rattle.zone_spec.specs.Reading.{IsRing}
 use Rattle.zone_spec.specs.Stores.{Store, after_stores, byte_stores, word_store}
-use Rattle.zone_spec.specs.Stages.{Stage, StartWord, SizeWord, ParityOf, stage_count, stores_in_turn}
+use Rattle.zone_spec.specs.Stages.{Stage, StartWord, SizeWord, ParityOf, stage_stores, stage_count, stores_in_turn}
 use Rattle.zone_spec.specs.Calls.{call_stores, run_stages, IsUnderway}
 use Rattle.ram_region.specs.CutRegion.{CutRegion, span, with_span}
 use Rattle.zone_flight.specs.declared.progress.Phase.{Phase}
@@ -14,18 +14,18 @@ use Rattle.zone_flight.specs.Counts.{total_of}
 use Rattle.zone_flight.specs.Flying.{Flying, IsSameCall, payload, later}
 use Rattle.zone_flight.specs.Phases.{first_run, second_run, first_end, second_end, phase_len, IsFinished, IsSound}
 
--- all stores of a phase
-abbrev pub stores_of : Flying → Phase → List Store
-stores_of f ZeroStart = word_store 4 0
-stores_of f ZeroSize = word_store 8 0
-stores_of f Size = word_store 8 (min f.zone.cap (f.place.size + length (payload f)))
-stores_of f Start = word_store 4 ((f.place.start + length (payload f)) % f.zone.cap)
-stores_of f First = byte_stores (12 + f.place.start) (first_run f)
-stores_of f FirstParity = byte_stores (part_parity_at f.zone (Block f.place.block)) f.parity
-stores_of f Second = byte_stores 12 (second_run f)
-stores_of f SecondParity = byte_stores (part_parity_at f.zone (Block f.place.block)) f.parity
-stores_of f HeaderPhase = byte_stores (part_parity_at f.zone Header) f.parity
-stores_of f Finished = []
+-- all stores of a phase, on an image in which none or some of them are made: parity is that of its part as it stands
+abbrev pub stores_of : Flying → List ℕ → Phase → List Store
+stores_of f image ZeroStart = word_store 4 0
+stores_of f image ZeroSize = word_store 8 0
+stores_of f image Size = word_store 8 (min f.zone.cap (f.place.size + length (payload f)))
+stores_of f image Start = word_store 4 ((f.place.start + length (payload f)) % f.zone.cap)
+stores_of f image First = byte_stores (12 + f.place.start) (first_run f)
+stores_of f image FirstParity = stage_stores f.zone (ParityOf (Block f.place.block)) image
+stores_of f image Second = byte_stores 12 (second_run f)
+stores_of f image SecondParity = stage_stores f.zone (ParityOf (Block f.place.block)) image
+stores_of f image HeaderPhase = stage_stores f.zone (ParityOf Header) image
+stores_of f image Finished = []
 
 abbrev pub parities_between : ℕ → ℕ → List Stage
 parities_between a e = map (λ k. ParityOf (Block k)) (range_with_len a (e - a))
@@ -53,9 +53,9 @@ behind f Finished = []
 -- the phase's stores from the next one on, and those of the stages behind it
 unfoldable pub stores_left : Flying → List ℕ → List Store
 stores_left f image =
-    drop f.place.number (stores_of f f.place.phase)
+    drop f.place.number (stores_of f image f.place.phase)
     ++ stores_in_turn f.zone (behind f f.place.phase) (after_stores image
-    (drop f.place.number (stores_of f f.place.phase)))
+    (drop f.place.number (stores_of f image f.place.phase)))
 
 -- their number
 abbrev pub count_left : Flying → ℕ
@@ -84,8 +84,8 @@ phases_left f Finished = 0
 phases_left f p = length (behind f p) + 1
 
 -- the flight at a later phase, with the same stores left
-pub record Enters (f g : Flying) (image : List ℕ) : Type 0 where
-  pub left : stores_left g image ≡ stores_left f image
+pub record Enters (f g : Flying) : Type 0 where
+  pub left : (image : List ℕ) → AreBytes image → stores_left g image ≡ stores_left f image
   pub count : count_left g ≡ count_left f
   pub number : g.place.number ≡ 0
   pub fewer : phases_left g g.place.phase < phases_left f f.place.phase
@@ -93,17 +93,22 @@ pub record Enters (f g : Flying) (image : List ℕ) : Type 0 where
   pub made : g.made ≡ f.made
 
 -- the flight where its next store is, with the same stores left
-pub record IsSettled (f g : Flying) (image : List ℕ) : Type 0 where
-  pub left : stores_left g image ≡ stores_left f image
+pub record IsSettled (f g : Flying) : Type 0 where
+  pub left : (image : List ℕ) → AreBytes image → stores_left g image ≡ stores_left f image
   pub count : count_left g ≡ count_left f
   pub ready : IsFinished g ⊎ (g.place.number < phase_len g g.place.phase)
   pub same : IsSameCall f g
   pub made : g.made ≡ f.made
 
 -- the next n stores of the flight's phase
-abbrev pub next_stores : Flying → ℕ → List Store
-next_stores f n = take n (drop f.place.number (stores_of f f.place.phase))
+abbrev pub next_stores : Flying → List ℕ → ℕ → List Store
+next_stores f image n = take n (drop f.place.number (stores_of f image f.place.phase))
 
 -- span i has them, and no other span has changed
 abbrev pub Stores : Flying → ℕ → CutRegion → ℕ → CutRegion → Type 0
-Stores f n old i new = new ≡ with_span old i (after_stores (span old i) (next_stores f n))
+Stores f n old i new = new ≡ with_span old i (after_stores (span old i) (next_stores f (span old i) n))
+
+-- span i has the next n stores of a part's parity, and no other span has changed
+abbrev pub StoresParity : Flying → Part → ℕ → CutRegion → ℕ → CutRegion → Type 0
+StoresParity f part n old i new = new ≡ with_span old i (after_stores (span old i)
+    (take n (drop f.place.number (stage_stores f.zone (ParityOf part) (span old i)))))

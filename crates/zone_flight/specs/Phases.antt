@@ -46,17 +46,17 @@ IsDone f = f.place.number ≡ phase_len f f.place.phase
 abbrev pub IsFinished : Flying → Type 0
 IsFinished f = f.place.phase ≡ Finished
 
--- where the block may be, and how long the parity is
+-- where the block may be
 abbrev pub IsWithin : Flying → Phase → Type 0
 IsWithin f ZeroStart = Unit {0}
 IsWithin f ZeroSize = Unit {0}
 IsWithin f Size = 0 < length (payload f)
 IsWithin f Start = 0 < length (payload f)
 IsWithin f First = 0 < length (payload f)
-IsWithin f FirstParity = (length f.parity ≡ f.zone.parity) × (f.place.block < first_end f)
+IsWithin f FirstParity = f.place.block < first_end f
 IsWithin f Second = 0 < second_len f
-IsWithin f SecondParity = (length f.parity ≡ f.zone.parity) × (f.place.block < second_end f)
-IsWithin f HeaderPhase = length f.parity ≡ f.zone.parity
+IsWithin f SecondParity = f.place.block < second_end f
+IsWithin f HeaderPhase = Unit {0}
 IsWithin f Finished = Unit {0}
 
 -- a flight within its zone

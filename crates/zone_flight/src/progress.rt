@@ -1,10 +1,9 @@
 // The machine of phases: what the next store of a call is.
 ghost use Rattle.std.specs.Prelude.{◌≡◌, ◌+◌, ◌-◌, ◌*◌, ◌/◌, ◌%◌, ◌<◌, ◌≤◌, ◌^◌, ◌⊎◌, false, List, ℕ, length, take, drop, IsTrue, ◌↔◌, min};
 ghost use Rattle.std.specs.Option.{ForSome};
-ghost use Rattle.code_spec.specs.Code.{parity_of};
-ghost use Rattle.zone_spec.specs.Parts.{Header, Block, part_bytes, part_parity_at, standing_words};
+ghost use Rattle.zone_spec.specs.Parts.{Header, Block, standing_words};
 ghost use Rattle.zone_spec.specs.Zones.{IsValidZone};
-ghost use Rattle.zone_spec.specs.Stores.{put};
+ghost use Rattle.zone_spec.specs.Stores.{put, after_stores, byte_stores};
 ghost use Rattle.ram_region.specs.CutRegion.{span, with_span};
 ghost use Rattle.zone_spec.specs.Reading.{IsRing};
 ghost use Rattle.zone_flight.specs.Calls.{call_seen, line_of, front_of, last_of, IsOpenFor};
@@ -55,8 +54,8 @@ pub struct Place {
     pub number: u32,
 }
 
-/// A call on a zone with these words at its begin, the number of stores made, and the parity of the part that is being
-/// stored.
+/// A call on a zone with these words at its begin, and the number of stores made. Parity is not kept: it is computed
+/// from its part where it is stored, since no store of parity changes a part.
 #[derive(Drop)]
 pub struct Progress {
     pub zone: Zone,
@@ -64,14 +63,13 @@ pub struct Progress {
     pub call: Call,
     pub made: u64,
     pub place: Place,
-    pub parity: ArrayVec<u8, 127>,
 }
 
 impl Progress {
     ghost use Rattle.zone_flight.specs.Flying.{Flying, seen, at_place, payload, later, IsSameCall};
     ghost use Rattle.zone_flight.specs.Calls.{call_seen, body_stages};
     ghost use Rattle.zone_flight.specs.Phases.{IsSound, IsFinished, IsDone, first_len, second_len, first_end, second_end, phase_len};
-    ghost use Rattle.zone_flight.specs.Machine.{Enters, Stores, IsKept, StandsFor, IsSettled};
+    ghost use Rattle.zone_flight.specs.Machine.{Enters, Stores, StoresParity, IsKept, StandsFor, IsSettled};
     ghost use Rattle.zone_flight.specs.Counts.{total_of};
 
     /// The call before its first store.
@@ -98,7 +96,6 @@ impl Progress {
             call,
             made: 0,
             place,
-            parity: ArrayVec::new(),
         }
     }
 
@@ -178,35 +175,10 @@ impl Progress {
         }
     }
 
-    fn enter_header(&mut self, span: &Span, coder: Option<&Coder>)
-        requires sound { IsSound (seen self.old) }
-        requires coder { ForSome coder (λ c. c.now ≡ self.old.zone.parity) }
-        requires len { length span.now ≡ self.old.zone.size }
-        ensures same { seen self.new ≡ record (at_place (seen self.old)
-            (record self.old.place { phase = Phase.Header; number = 0 })) { parity = self.new.parity.items } }
-        ensures value { self.new.parity.items ≡ parity_of self.old.zone.parity
-            (part_bytes self.old.zone span.now Header) }
-        ensures len { length self.new.parity.items ≡ self.old.zone.parity }
+    fn enter_block(&mut self, phase: Phase, block: u32)
+        ensures { seen self.new ≡ at_place (seen self.old)
+            (record self.old.place { phase = phase; block = block; number = 0 }) }
     {
-        let _bytes = span.len();
-        header_parity(coder, span, &self.zone, &mut self.parity);
-        self.place.phase = Phase::Header;
-        self.place.number = 0;
-    }
-
-    fn enter_block(&mut self, span: &Span, coder: Option<&Coder>, phase: Phase, block: u32)
-        requires sound { IsSound (seen self.old) }
-        requires coder { ForSome coder (λ c. c.now ≡ self.old.zone.parity) }
-        requires len { length span.now ≡ self.old.zone.size }
-        requires block { self.old.zone.block * block < self.old.zone.cap }
-        ensures same { seen self.new ≡ record (at_place (seen self.old)
-            (record self.old.place { phase = phase; block = block; number = 0 })) { parity = self.new.parity.items } }
-        ensures value { self.new.parity.items ≡ parity_of self.old.zone.parity
-            (part_bytes self.old.zone span.now (Block block)) }
-        ensures len { length self.new.parity.items ≡ self.old.zone.parity }
-    {
-        let _bytes = span.len();
-        block_parity(coder, span, &self.zone, block, &mut self.parity);
         self.place.phase = phase;
         self.place.block = block;
         self.place.number = 0;
@@ -241,7 +213,7 @@ impl Progress {
         requires header { self.old.place.phase ≡ Phase.Header }
         requires behind { later (seen self.old) ≡ body_stages self.old.zone (call_seen self.old.call) }
         ensures sound { IsSound (seen self.new) }
-        ensures enters { (image : List ℕ) → Enters (seen self.old) (seen self.new) image }
+        ensures enters { Enters (seen self.old) (seen self.new) }
     {
         let line = line_bytes(&self.call).len() as u32;
         if front_bytes(&self.call, self.zone.cap).is_empty() {
@@ -257,7 +229,7 @@ impl Progress {
         requires done { IsDone (seen self.old) }
         requires header { self.old.place.phase ≡ Phase.Header }
         ensures sound { IsSound (seen self.new) }
-        ensures enters { (image : List ℕ) → Enters (seen self.old) (seen self.new) image }
+        ensures enters { Enters (seen self.old) (seen self.new) }
     {
         match self.place.leg {
             Leg::Erasure => {
@@ -274,41 +246,39 @@ impl Progress {
     }
 
     /// Goes on to the next phase.
-    fn enter(&mut self, span: &Span, coder: Option<&Coder>)
+    fn enter(&mut self)
         requires sound { IsSound (seen self.old) }
-        requires coder { ForSome coder (λ c. c.now ≡ self.old.zone.parity) }
-        requires len { length span.now ≡ self.old.zone.size }
         requires done { IsDone (seen self.old) }
         requires more { IsFinished (seen self.old) → ⊥ }
         ensures sound { IsSound (seen self.new) }
-        ensures enters { Enters (seen self.old) (seen self.new) span.now }
+        ensures enters { Enters (seen self.old) (seen self.new) }
     {
         match self.place.phase {
             Phase::ZeroStart => self.enter_phase(Phase::ZeroSize),
-            Phase::ZeroSize => self.enter_header(span, coder),
+            Phase::ZeroSize => self.enter_phase(Phase::Header),
             Phase::Size => self.enter_phase(Phase::Start),
             Phase::Start => self.enter_phase(Phase::First),
             Phase::First => {
                 let block = self.place.start / self.zone.block;
-                self.enter_block(span, coder, Phase::FirstParity, block);
+                self.enter_block(Phase::FirstParity, block);
             }
             Phase::FirstParity => {
                 let block = self.place.block + 1;
                 if block < self.first_end() {
-                    self.enter_block(span, coder, Phase::FirstParity, block);
+                    self.enter_block(Phase::FirstParity, block);
                 } else if self.second_len() > 0 {
                     self.enter_phase(Phase::Second);
                 } else {
-                    self.enter_header(span, coder);
+                    self.enter_phase(Phase::Header);
                 }
             }
-            Phase::Second => self.enter_block(span, coder, Phase::SecondParity, 0),
+            Phase::Second => self.enter_block(Phase::SecondParity, 0),
             Phase::SecondParity => {
                 let block = self.place.block + 1;
                 if block < self.second_end() {
-                    self.enter_block(span, coder, Phase::SecondParity, block);
+                    self.enter_block(Phase::SecondParity, block);
                 } else {
-                    self.enter_header(span, coder);
+                    self.enter_phase(Phase::Header);
                 }
             }
             Phase::Header => self.enter_next_leg(),
@@ -317,8 +287,9 @@ impl Progress {
     }
 
     /// Makes the next `count` stores of the phase.
-    fn store(&self, spans: &mut Spans, i: u32, count: u32)
+    fn store(&self, coder: Option<&Coder>, spans: &mut Spans, i: u32, count: u32)
         requires sound { IsSound (seen self.now) }
+        requires coder { ForSome coder (λ c. c.now ≡ self.now.zone.parity) }
         requires has { i < length spans.old.spans }
         requires len { length (span spans.old i) ≡ self.now.zone.size }
         requires some { 0 < count }
@@ -344,23 +315,13 @@ impl Progress {
                 number,
                 count,
             ),
-            Phase::FirstParity => self.store_parity(
-                spans,
-                i,
-                self.parity_at(self.place.block),
-                count,
-            ),
+            Phase::FirstParity => self.store_block_parity(coder, spans, i, count),
             Phase::Second => {
                 let first = self.first_len();
                 self.store_payload(spans, i, 12 + number, first + number, count)
             }
-            Phase::SecondParity => self.store_parity(
-                spans,
-                i,
-                self.parity_at(self.place.block),
-                count,
-            ),
-            Phase::Header => self.store_parity(spans, i, self.parity_at(self.zone.blocks), count),
+            Phase::SecondParity => self.store_block_parity(coder, spans, i, count),
+            Phase::Header => self.store_header_parity(coder, spans, i, count),
             Phase::Finished => {}
         }
     }
@@ -386,29 +347,73 @@ impl Progress {
         spans.store_bytes(i, at, part_of(self.payload(), from, count));
     }
 
-    /// Stores the next `count` bytes of the parity that is kept.
-    fn store_parity(&self, spans: &mut Spans, i: u32, at: u32, count: u32)
+    /// Stores the next `count` parity bytes of the block as it stands.
+    fn store_block_parity(&self, coder: Option<&Coder>, spans: &mut Spans, i: u32, count: u32)
+        requires sound { IsSound (seen self.now) }
+        requires coder { ForSome coder (λ c. c.now ≡ self.now.zone.parity) }
         requires has { i < length spans.old.spans }
-        requires number { self.now.place.number + count ≤ length self.now.parity.items }
+        requires len { length (span spans.old i) ≡ self.now.zone.size }
+        requires block { self.now.zone.block * self.now.place.block < self.now.zone.cap }
+        requires within { self.now.place.block < self.now.zone.blocks }
+        requires number { self.now.place.number + count ≤ self.now.zone.parity }
+        ensures { StoresParity (seen self.now) (Block self.now.place.block) count spans.old i spans.new }
+    {
+        let mut parity = ArrayVec::new();
+        let span = &spans.all()[i as usize];
+        let _bytes = span.len();
+        block_parity(coder, span, &self.zone, self.place.block, &mut parity);
+        self.store_parity(
+            spans,
+            i,
+            self.parity_at(self.place.block),
+            parity.as_slice(),
+            count,
+        );
+    }
+
+    /// Stores the next `count` parity bytes of the header as it stands.
+    fn store_header_parity(&self, coder: Option<&Coder>, spans: &mut Spans, i: u32, count: u32)
+        requires sound { IsSound (seen self.now) }
+        requires coder { ForSome coder (λ c. c.now ≡ self.now.zone.parity) }
+        requires has { i < length spans.old.spans }
+        requires len { length (span spans.old i) ≡ self.now.zone.size }
+        requires number { self.now.place.number + count ≤ self.now.zone.parity }
+        ensures { StoresParity (seen self.now) Header count spans.old i spans.new }
+    {
+        let mut parity = ArrayVec::new();
+        let span = &spans.all()[i as usize];
+        let _bytes = span.len();
+        header_parity(coder, span, &self.zone, &mut parity);
+        self.store_parity(
+            spans,
+            i,
+            self.parity_at(self.zone.blocks),
+            parity.as_slice(),
+            count,
+        );
+    }
+
+    /// Stores the next `count` bytes of a parity that begins at `at`.
+    fn store_parity(&self, spans: &mut Spans, i: u32, at: u32, parity: &[u8], count: u32)
+        requires has { i < length spans.old.spans }
+        requires number { self.now.place.number + count ≤ length parity.now }
         requires at { at + self.now.place.number + count ≤ length (span spans.old i) }
         requires small { length (span spans.old i) < 2 ^ 25 }
-        ensures { spans.new ≡ with_span spans.old i (put (span spans.old i) (at + self.now.place.number)
-            (take count (drop self.now.place.number self.now.parity.items))) }
+        ensures { spans.new ≡ with_span spans.old i (after_stores (span spans.old i) (take count
+            (drop self.now.place.number (byte_stores at parity.now)))) }
     {
-        let bytes = part_of(self.parity.as_slice(), self.place.number, count);
+        let bytes = part_of(parity, self.place.number, count);
         spans.store_bytes(i, at + self.place.number, bytes);
     }
 
     /// Goes on to the phase of the next store.
-    fn settle(&mut self, span: &Span, coder: Option<&Coder>)
+    fn settle(&mut self)
         requires sound { IsSound (seen self.old) }
-        requires len { length span.now ≡ self.old.zone.size }
-        requires coder { ForSome coder (λ c. c.now ≡ self.old.zone.parity) }
         ensures sound { IsSound (seen self.new) }
-        ensures settled { IsSettled (seen self.old) (seen self.new) span.now }
+        ensures settled { IsSettled (seen self.old) (seen self.new) }
     {
         while !self.is_finished() && self.place.number == self.phase_len() {
-            self.enter(span, coder);
+            self.enter();
         }
     }
 
@@ -442,11 +447,13 @@ impl Progress {
         ensures others { spans.new ≡ with_span spans.old i (span spans.new i) }
         ensures len { length (span spans.new i) ≡ length (span spans.old i) }
     {
+        let _old = spans.all()[i as usize].len();
         let count = self.next_count(most);
-        self.store(spans, i, count);
+        self.store(coder, spans, i, count);
         self.place.number += count;
         self.made += count as u64;
-        self.settle(&spans.all()[i as usize], coder);
+        self.settle();
+        let _new = spans.all()[i as usize].len();
         count as u64
     }
 

@@ -1,4 +1,4 @@
-use Rattle.std.proofs.Common.{ℕ, ◌/◌, List, length, refl, sym, ap, ◌∙◌, ◌++◌}
+use Rattle.std.proofs.Common.{ℕ, List, length, refl, sym, ap, ◌∙◌, ◌++◌}
 use Rattle.code_spec.specs.Code.{nearest}
 use Rattle.rs_errors.specs.Fixes.{IsWithin, applied}
 use Rattle.rs_errors.specs.declared.Fix.{Fix}

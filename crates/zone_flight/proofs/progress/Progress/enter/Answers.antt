@@ -12,54 +12,52 @@ use Rattle.zone_flight.proofs.progress.Progress.enter.Goals as goal
 pub returns-in-ZeroStart-clause-enters : goal.returns-in-ZeroStart-clause-enters
 returns-in-ZeroStart-clause-enters c =
     let f : Flying = seen c.args.self.now in
-    subst (λ h. Enters f h c.args.span.now) (sym c.enter_phase.ensures.place)
-    (enter_zero_size f c.args.span.now (all_stored f c.requires.sound c.requires.done)
+    subst (Enters f) (sym c.enter_phase.ensures.place)
+    (enter_zero_size f (all_stored f c.requires.done)
     c.requires.done c.in-ZeroStart.is)
 
 pub returns-in-ZeroSize-clause-enters : goal.returns-in-ZeroSize-clause-enters
 returns-in-ZeroSize-clause-enters c =
     let f : Flying = seen c.args.self.now in
-    subst (λ h. Enters f h c.args.span.now) (sym c.enter_header.ensures.same)
-    (enter_header_erased f c.args.span.now (all_stored f c.requires.sound c.requires.done)
-    c.requires.done _ c.enter_header.ensures.value c.in-ZeroSize.is)
+    subst (Enters f) (sym c.enter_phase-in-ZeroSize.ensures.place)
+    (enter_header_erased f (all_stored f c.requires.done)
+    c.requires.done c.in-ZeroSize.is)
 
 pub returns-in-Size-clause-enters : goal.returns-in-Size-clause-enters
 returns-in-Size-clause-enters c =
     let f : Flying = seen c.args.self.now in
-    subst (λ h. Enters f h c.args.span.now) (sym c.enter_phase-in-Size.ensures.place)
-    (enter_start f c.args.span.now (all_stored f c.requires.sound c.requires.done) c.requires.done c.in-Size.is)
+    subst (Enters f) (sym c.enter_phase-in-Size.ensures.place)
+    (enter_start f (all_stored f c.requires.done) c.requires.done c.in-Size.is)
 
 pub returns-in-Start-clause-enters : goal.returns-in-Start-clause-enters
 returns-in-Start-clause-enters c =
     let f : Flying = seen c.args.self.now in
     let w : IsWithin f Start = subst (IsWithin f) c.in-Start.is c.requires.sound.within in
-    subst (λ h. Enters f h c.args.span.now) (sym c.enter_phase-in-Start.ensures.place)
-    (enter_first f c.args.span.now (all_stored f c.requires.sound c.requires.done) c.requires.done c.in-Start.is
+    subst (Enters f) (sym c.enter_phase-in-Start.ensures.place)
+    (enter_first f (all_stored f c.requires.done) c.requires.done c.in-Start.is
     (first_some f c.requires.sound.below w))
 
 pub returns-in-First-clause-enters : goal.returns-in-First-clause-enters
 returns-in-First-clause-enters c =
     let f : Flying = seen c.args.self.now in
     let w : IsWithin f First = subst (IsWithin f) c.in-First.is c.requires.sound.within in
-    subst (λ h. Enters f h c.args.span.now) (sym c.enter_block.ensures.same)
-    (enter_first_parity f c.args.span.now (all_stored f c.requires.sound c.requires.done) c.requires.done _
-    (f.place.start / f.zone.block) c.enter_block.ensures.value c.in-First.is refl
+    subst (Enters f) (sym c.enter_block.ensures)
+    (enter_first_parity f (all_stored f c.requires.done) c.requires.done (f.place.start / f.zone.block) c.in-First.is refl
     (end_above f.zone.block f.place.start (first_len f) (block_some f.zone.block c.requires.sound.valid.block).0
     (omega (arith, c.requires.sound.below, w))))
 
 pub returns-then-block-first_end-clause-enters : goal.returns-then-block-first_end-clause-enters
 returns-then-block-first_end-clause-enters c =
     let f : Flying = seen c.args.self.now in
-    subst (λ h. Enters f h c.args.span.now) (sym c.enter_block-then-block-first_end.ensures.same)
-    (enter_next_parity f c.args.span.now (all_stored f c.requires.sound c.requires.done) c.requires.done _
-    (f.place.block + 1) c.enter_block-then-block-first_end.ensures.value c.in-FirstParity.is refl
+    subst (Enters f) (sym c.enter_block-then-block-first_end.ensures)
+    (enter_next_parity f (all_stored f c.requires.done) c.requires.done (f.place.block + 1) c.in-FirstParity.is refl
     (omega (arith, c.first_end.ensures)))
 
 pub returns-then-second_len-gt0-clause-enters : goal.returns-then-second_len-gt0-clause-enters
 returns-then-second_len-gt0-clause-enters c =
     let f : Flying = seen c.args.self.now in
-    subst (λ h. Enters f h c.args.span.now) (sym c.enter_phase-then-second_len-gt0.ensures.place)
-    (enter_second f c.args.span.now (all_stored f c.requires.sound c.requires.done)
+    subst (Enters f) (sym c.enter_phase-then-second_len-gt0.ensures.place)
+    (enter_second f (all_stored f c.requires.done)
     c.requires.done c.in-FirstParity.is (omega (arith, c.first_end.ensures))
     (omega (arith, c.second_len.ensures, second_length f)) (second_length f)
     (block_some f.zone.block c.requires.sound.valid.block).0)
@@ -67,9 +65,9 @@ returns-then-second_len-gt0-clause-enters c =
 pub returns-else-second_len-gt0-clause-enters : goal.returns-else-second_len-gt0-clause-enters
 returns-else-second_len-gt0-clause-enters c =
     let f : Flying = seen c.args.self.now in
-    subst (λ h. Enters f h c.args.span.now) (sym c.enter_header-else-second_len-gt0.ensures.same)
-    (enter_header_first f c.args.span.now (all_stored f c.requires.sound c.requires.done)
-    c.requires.done _ c.enter_header-else-second_len-gt0.ensures.value c.in-FirstParity.is
+    subst (Enters f) (sym c.enter_phase-else-second_len-gt0.ensures.place)
+    (enter_header_first f (all_stored f c.requires.done)
+    c.requires.done c.in-FirstParity.is
     (omega (arith, c.first_end.ensures)) (nil_from_length (second_run f)
     (omega (arith, c.second_len.ensures, second_length f))))
 
@@ -77,26 +75,25 @@ pub returns-in-Second-clause-enters : goal.returns-in-Second-clause-enters
 returns-in-Second-clause-enters c =
     let f : Flying = seen c.args.self.now in
     let w : IsWithin f Second = subst (IsWithin f) c.in-Second.is c.requires.sound.within in
-    subst (λ h. Enters f h c.args.span.now) (sym c.enter_block-in-Second.ensures.same)
-    (enter_second_parity f c.args.span.now (all_stored f c.requires.sound c.requires.done)
-    c.requires.done _ 0 c.enter_block-in-Second.ensures.value c.in-Second.is refl
+    subst (Enters f) (sym c.enter_block-in-Second.ensures)
+    (enter_second_parity f (all_stored f c.requires.done)
+    c.requires.done 0 c.in-Second.is refl
     (end_some f.zone.block (second_len f) (block_some f.zone.block c.requires.sound.valid.block).0 w))
 
 pub returns-then-block-second_end-clause-enters : goal.returns-then-block-second_end-clause-enters
 returns-then-block-second_end-clause-enters c =
     let f : Flying = seen c.args.self.now in
-    subst (λ h. Enters f h c.args.span.now) (sym c.enter_block-then-block-second_end.ensures.same)
-    (enter_later_parity f c.args.span.now (all_stored f c.requires.sound c.requires.done) c.requires.done _
-    (f.place.block + 1) c.enter_block-then-block-second_end.ensures.value c.in-SecondParity.is refl
+    subst (Enters f) (sym c.enter_block-then-block-second_end.ensures)
+    (enter_later_parity f (all_stored f c.requires.done) c.requires.done (f.place.block + 1) c.in-SecondParity.is refl
     (omega (arith, c.second_end.ensures)))
 
 pub returns-else-block-second_end-clause-enters : goal.returns-else-block-second_end-clause-enters
 returns-else-block-second_end-clause-enters c =
     let f : Flying = seen c.args.self.now in
-    subst (λ h. Enters f h c.args.span.now) (sym c.enter_header-else-block-second_end.ensures.same)
-    (enter_header_second f c.args.span.now (all_stored f c.requires.sound c.requires.done)
-    c.requires.done _ c.enter_header-else-block-second_end.ensures.value c.in-SecondParity.is
+    subst (Enters f) (sym c.enter_phase-else-block-second_end.ensures.place)
+    (enter_header_second f (all_stored f c.requires.done)
+    c.requires.done c.in-SecondParity.is
     (omega (arith, c.second_end.ensures)))
 
 pub returns-in-Header-clause-enters : goal.returns-in-Header-clause-enters
-returns-in-Header-clause-enters c = c.enter_next_leg.ensures.enters c.args.span.now
+returns-in-Header-clause-enters c = c.enter_next_leg.ensures.enters

@@ -1,4 +1,5 @@
-use Rattle.std.proofs.Common.{◌≡◌}
+use Rattle.std.proofs.Common.{◌≡◌, ℕ, List}
+use Rattle.zone_spec.specs.Parts.{AreBytes}
 use Rattle.zone_flight.specs.Flying.{seen, IsSameCall}
 use Rattle.zone_flight.specs.Phases.{IsSound}
 use Rattle.zone_flight.specs.Machine.{stores_left, count_left, phases_left}
@@ -7,7 +8,8 @@ use Rattle.zone_flight.proofs.progress.Progress.settle.Given as goal
 abbrev pub invariant-loop-self : goal.invariant-loop-self
 invariant-loop-self l = record {
   sound : IsSound (seen l.self);
-  left : stores_left (seen l.self) l.span ≡ stores_left (seen l.initial.self) l.span;
+  left : (image : List ℕ) → AreBytes image
+      → stores_left (seen l.self) image ≡ stores_left (seen l.initial.self) image;
   count : count_left (seen l.self) ≡ count_left (seen l.initial.self);
   same : IsSameCall (seen l.initial.self) (seen l.self);
   made : l.self.made ≡ l.initial.self.made;

@@ -1,42 +1,53 @@
-use Rattle.std.proofs.Common.{arith, ◌+◌, ◌%◌, ◌<◌, min, ap, ◌∙◌, refl, subst, take, drop, w32}
+use Rattle.std.proofs.Common.{arith, ◌+◌, ◌%◌, min, ap, ◌∙◌, refl, subst, take, drop, w32}
 use Rattle.std.specs.Int.{to_le_bytes}
-use Rattle.zone_spec.specs.Parts.{Header as HeaderPart, Block, part_parity_at}
 use Rattle.zone_spec.specs.Stores.{put}
 use Rattle.ram_region.specs.CutRegion.{span, with_span}
 use Rattle.zone_flight.specs.declared.progress.Phase.TheVariants.{ZeroStart, ZeroSize, Size, Start, First, FirstParity, Second, SecondParity, Header}
 use Rattle.zone_flight.specs.Flying.{Flying, seen, payload}
 use Rattle.zone_flight.specs.Phases.{IsWithin, first_len, second_len}
-use Rattle.zone_flight.proofs.Storing.{parity_in, block_in, ready_in, stored_word, stored_bytes, stored_first, stored_second}
+use Rattle.zone_flight.proofs.Storing.{block_in, block_begins, ready_in, stored, stored_word, stored_first, stored_second}
 use Rattle.zone_flight.proofs.progress.Progress.store.Goals as goal
 
-pub store_parity-requires-clause-at : goal.store_parity-requires-clause-at
-store_parity-requires-clause-at c =
+pub store_block_parity-requires-clause-block : goal.store_block_parity-requires-clause-block
+store_block_parity-requires-clause-block c =
     let f : Flying = seen c.args.self.now in
     let w : IsWithin f FirstParity = subst (IsWithin f) c.in-FirstParity.is c.requires.sound.within in
-    let b : f.place.block < f.zone.blocks = block_in f.zone (f.place.start + first_len f)
-    f.place.block c.requires.sound.valid (omega (arith, c.requires.sound.below)) w.1 in
-    omega (
-      arith,
-      c.requires.len,
-      c.parity_at.ensures,
-      parity_in f.zone f.place.block c.requires.sound.valid
-          (omega (arith, b)),
-      ready_in f c.args.count FirstParity c.in-FirstParity.is c.requires.ready,
-    )
+    block_begins f.zone (f.place.start + first_len f) f.place.block c.requires.sound.valid
+    (omega (arith, c.requires.sound.below)) w
 
-pub store_parity-requires-in-SecondParity-clause-at : goal.store_parity-requires-in-SecondParity-clause-at
-store_parity-requires-in-SecondParity-clause-at c =
+pub store_block_parity-requires-clause-within : goal.store_block_parity-requires-clause-within
+store_block_parity-requires-clause-within c =
+    let f : Flying = seen c.args.self.now in
+    let w : IsWithin f FirstParity = subst (IsWithin f) c.in-FirstParity.is c.requires.sound.within in
+    block_in f.zone (f.place.start + first_len f) f.place.block c.requires.sound.valid
+    (omega (arith, c.requires.sound.below)) w
+
+pub store_block_parity-requires-clause-number : goal.store_block_parity-requires-clause-number
+store_block_parity-requires-clause-number c =
+    ready_in (seen c.args.self.now) c.args.count FirstParity c.in-FirstParity.is c.requires.ready
+
+pub store_block_parity-requires-in-SecondParity-clause-block
+    : goal.store_block_parity-requires-in-SecondParity-clause-block
+store_block_parity-requires-in-SecondParity-clause-block c =
     let f : Flying = seen c.args.self.now in
     let w : IsWithin f SecondParity = subst (IsWithin f) c.in-SecondParity.is c.requires.sound.within in
-    let b : f.place.block < f.zone.blocks = block_in f.zone (second_len f) f.place.block c.requires.sound.valid
-    (omega (arith, c.requires.sound.short)) w.1 in
-    omega (
-      arith,
-      c.requires.len,
-      c.parity_at-in-SecondParity.ensures,
-      parity_in f.zone f.place.block c.requires.sound.valid (omega (arith, b)),
-      ready_in f c.args.count SecondParity c.in-SecondParity.is c.requires.ready,
-    )
+    block_begins f.zone (second_len f) f.place.block c.requires.sound.valid (omega (arith, c.requires.sound.short)) w
+
+pub store_block_parity-requires-in-SecondParity-clause-within
+    : goal.store_block_parity-requires-in-SecondParity-clause-within
+store_block_parity-requires-in-SecondParity-clause-within c =
+    let f : Flying = seen c.args.self.now in
+    let w : IsWithin f SecondParity = subst (IsWithin f) c.in-SecondParity.is c.requires.sound.within in
+    block_in f.zone (second_len f) f.place.block c.requires.sound.valid (omega (arith, c.requires.sound.short)) w
+
+pub store_block_parity-requires-in-SecondParity-clause-number
+    : goal.store_block_parity-requires-in-SecondParity-clause-number
+store_block_parity-requires-in-SecondParity-clause-number c =
+    ready_in (seen c.args.self.now) c.args.count SecondParity c.in-SecondParity.is c.requires.ready
+
+pub store_header_parity-requires-clause-number : goal.store_header_parity-requires-clause-number
+store_header_parity-requires-clause-number c =
+    ready_in (seen c.args.self.now) c.args.count Header c.in-Header.is c.requires.ready
 
 pub returns-in-ZeroStart : goal.returns-in-ZeroStart
 returns-in-ZeroStart c =
@@ -76,12 +87,8 @@ returns-in-First c =
 
 pub returns-in-FirstParity : goal.returns-in-FirstParity
 returns-in-FirstParity c =
-    let f : Flying = seen c.args.self.now in
-    stored_bytes f c.args.count c.args.spans.now c.args.i _ FirstParity (part_parity_at f.zone (Block f.place.block))
-    f.parity _ c.in-FirstParity.is refl refl
-    (c.store_parity.ensures ∙ ap (λ k. with_span c.args.spans.now c.args.i
-    (put (span c.args.spans.now c.args.i) (k + f.place.number)
-    (take c.args.count (drop f.place.number f.parity)))) c.parity_at.ensures)
+    stored (seen c.args.self.now) c.args.count c.args.spans.now c.args.i _ FirstParity _ c.in-FirstParity.is refl
+    c.store_block_parity.ensures
 
 pub returns-in-Second : goal.returns-in-Second
 returns-in-Second c =
@@ -94,18 +101,10 @@ returns-in-Second c =
 
 pub returns-in-SecondParity : goal.returns-in-SecondParity
 returns-in-SecondParity c =
-    let f : Flying = seen c.args.self.now in
-    stored_bytes f c.args.count c.args.spans.now c.args.i _ SecondParity (part_parity_at f.zone (Block f.place.block))
-    f.parity _ c.in-SecondParity.is refl refl
-    (c.store_parity-in-SecondParity.ensures ∙ ap (λ k. with_span c.args.spans.now c.args.i
-    (put (span c.args.spans.now c.args.i) (k + f.place.number)
-    (take c.args.count (drop f.place.number f.parity)))) c.parity_at-in-SecondParity.ensures)
+    stored (seen c.args.self.now) c.args.count c.args.spans.now c.args.i _ SecondParity _ c.in-SecondParity.is refl
+    c.store_block_parity-in-SecondParity.ensures
 
 pub returns-in-Header : goal.returns-in-Header
 returns-in-Header c =
-    let f : Flying = seen c.args.self.now in
-    stored_bytes f c.args.count c.args.spans.now c.args.i _ Header (part_parity_at f.zone HeaderPart) f.parity _
-    c.in-Header.is refl refl
-    (c.store_parity-in-Header.ensures ∙ ap (λ k. with_span c.args.spans.now c.args.i
-    (put (span c.args.spans.now c.args.i) (k + f.place.number)
-    (take c.args.count (drop f.place.number f.parity)))) c.parity_at-in-Header.ensures)
+    stored (seen c.args.self.now) c.args.count c.args.spans.now c.args.i _ Header _ c.in-Header.is refl
+    c.store_header_parity.ensures
