@@ -1,0 +1,4 @@
+pub mod Plans
+pub mod Shown
+pub mod Images
+pub mod Saved
