@@ -1,5 +1,5 @@
 -- What a zone reads whose erasure by a boot was cut
-use Rattle.std.proofs.Common.{◌≡◌, ◌≢◌, ℕ, zero, suc, ◌+◌, ◌-◌, ◌*◌, ◌/◌, ◌%◌, ◌<◌, ◌≤◌, Bool, true, false, cond, ◌&&◌, ◌==◌, List, [], ◌∷◌, ◌++◌, length, take, map, get_or, refl, sym, ap, ap₂, ◌∙◌, subst, arith, Option, Some, None, w32, length-append, append-nil, true≢false, eqb-true}
+use Rattle.std.proofs.Common.{◌≡◌, ◌≢◌, ℕ, zero, suc, ◌-◌, ◌*◌, ◌/◌, ◌%◌, ◌<◌, ◌≤◌, Bool, true, false, cond, ◌&&◌, ◌==◌, List, [], ◌∷◌, ◌++◌, length, take, map, flat_map, get_or, refl, sym, ap, ap₂, ◌∙◌, subst, arith, Option, Some, None, w32, append-nil, true≢false, eqb-true}
 use Rattle.std.specs.Prelude.{Contains}
 use Rattle.std.specs.Int.{to_le_bytes}
 use Rattle.std.specs.List.{AllByRecursion, range_with_len, position}
@@ -11,15 +11,15 @@ use Rattle.zone_spec.specs.declared.HeaderSeen.TheVariants.{Pair as SeenPair, Fo
 use Rattle.zone_spec.specs.declared.State.{State}
 use Rattle.zone_spec.specs.declared.State.TheVariants.{Unsigned, Empty, Invalid, Found}
 use Rattle.zone_spec.specs.Zones.{IsValidZone}
-use Rattle.zone_spec.specs.Parts.{Part, Header, Block, part_bytes, part_word, words_in, standing_words, IsImage}
+use Rattle.zone_spec.specs.Parts.{Part, Header, Block, part_word, standing_words, IsImage}
 use Rattle.zone_spec.specs.PartReadings.{part_reading, words_read}
 use Rattle.zone_spec.specs.Reading.{ZoneReading, byte_read, log_places, state_of, zone_reading}
 use Rattle.zone_spec.specs.Stores.{put, after_stores}
 use Rattle.zone_spec.specs.Stages.{Stage, stage_stores, stores_in_turn}
 use Rattle.zone_spec.specs.Calls.{erase_stages}
-use Rattle.zone_spec.specs.Boot.{boot_fixes, boot_erasure, boot_stores, signing, keeps}
+use Rattle.zone_spec.specs.Boot.{boot_fixes, boot_erasure, boot_stores, signing}
 use Rattle.zone_spec.specs.Pairs.{pairs_from, seen_at, header_seen, pair_of}
-use Rattle.zone_spec.specs.Cut.{cut_pairs}
+use Rattle.zone_spec.specs.Cut.{cut_parts, cut_stages, cut_pairs}
 use Rattle.zone_spec.specs.Windows.{words_after}
 use Rattle.session_spec.specs.BootPart.{boot_cut}
 use Rattle.damage_laws.specs.CutErasures.{BootCutZoneReads, BootCutReads, after_boot_stores}
@@ -29,10 +29,10 @@ use Rattle.ring_laws.proofs.PartsLaw.{block_some, SamePart, put-bytes}
 use Rattle.ring_laws.proofs.EveryParity.{block_has, word-bytes}
 use Rattle.ring_laws.proofs.ReadingLaw.{state_of-ring}
 use Rattle.ring_laws.proofs.States.{Says, state_says, reading_is, reading_state, reading_words, log_same, range_same}
-use Rattle.ring_laws.proofs.BootLaw.{booted_bytes, booted_image, booted_mended, stands_as_read, read_stands}
+use Rattle.ring_laws.proofs.BootLaw.{booted_bytes, booted_image, booted_mended, read_stands}
 use Rattle.ring_laws.proofs.BootRing.{boot_image}
-use Rattle.ring_laws.proofs.HeaderWords.{header_words}
 use Rattle.damage_laws.proofs.Within.{part_reads, same_word, log_by}
+use Rattle.damage_laws.proofs.Erasures.{erases as erasure_is, corrected_words, erasure_words, erasure_parts}
 use Rattle.damage_laws.proofs.Untouched.{LeavesBlock, stages_leave, prefix_leaves}
 use Rattle.damage_laws.proofs.Touched.{parity_length}
 use Rattle.damage_laws.proofs.CutHeader.{IsSmall, IsUnsigning, IsHeader, take-right, words_track, pairs_have, sig_kept, sig_put, is_header, header_reads}
@@ -89,8 +89,7 @@ module _ (z : Zone) (valid : IsValidZone z) (now : List ℕ) (im : IsImage z now
   x_image = booted_image z valid now im
 
   x_words : standing_words x ≡ words_read z now
-  unfolding booted_bytes part_bytes
-  x_words = ap words_in (stands_as_read z valid now im Header tt)
+  x_words = corrected_words z now valid im
 
   x_header : IsHeader z.parity (part_word z x Header)
   unfolding booted_bytes
@@ -101,23 +100,12 @@ module _ (z : Zone) (valid : IsValidZone z) (now : List ℕ) (im : IsImage z now
   unfolding booted_bytes
   x_reads part = (booted_mended z valid now im part).reading
 
-  count : length (boot_stores z now) ≡ length (boot_fixes z now) + length (stores_in_turn z (boot_erasure z now) x)
-  unfolding boot_stores
-  count = length-append (boot_fixes z now) (stores_in_turn z (boot_erasure z now) x)
-
-  none_left : keeps z reading ≡ true → length (stores_in_turn z (boot_erasure z now) x) ≡ 0
-  unfolding boot_erasure stores_in_turn
-  none_left e = ap (λ t. length (stores_in_turn z (cond t [] (signing z reading.state ++ erase_stages)) x)) e
-
   -- the boot erases the zone
   erases : boot_erasure z now ≡ signing z reading.state ++ erase_stages
-  unfolding boot_erasure
-  erases = by (keeps z reading) refl
-    where
-      by : (b : Bool) → keeps z reading ≡ b → cond (keeps z reading) [] (signing z reading.state ++ erase_stages)
-          ≡ signing z reading.state ++ erase_stages
-      by false e = ap (λ t. cond t [] (signing z reading.state ++ erase_stages)) e
-      by true e = absurd (omega (arith, count, none_left e, after, before))
+  erases = erasure_is z now k (after, before)
+
+  parts_are : cut_parts z (boot_cut z now k) ≡ boot_erasure z now ∷ []
+  parts_are = erasure_parts z now k valid im (after, before)
 
   -- the image at the stop
   stop_is : after_boot_stores z now k ≡ after_stores x (take made (stores_in_turn z (boot_erasure z now) x))
@@ -162,13 +150,14 @@ module _ (z : Zone) (valid : IsValidZone z) (now : List ℕ) (im : IsImage z now
   abbrev stop : List ℕ
   stop = after_boot_stores z now k
 
-  pairs_are : cut_pairs (boot_cut z now k) ≡ pairs_from (pair_of (words_read z now))
+  pairs_are : cut_pairs z (boot_cut z now k) ≡ pairs_from (pair_of (words_read z now))
       (signing z reading.state ++ erase_stages)
   pairs_are =
-      ap (λ w. pairs_from (pair_of w) (boot_erasure z now ++ [])) (header_words z x valid x_image ∙ x_words)
+      ap (λ w. pairs_from (pair_of w) (cut_stages z (boot_cut z now k))) (erasure_words z now k valid im)
+      ∙ ap (λ parts. pairs_from (pair_of (words_read z now)) (flat_map (λ part. part) parts)) parts_are
       ∙ ap (pairs_from (pair_of (words_read z now))) (append-nil (boot_erasure z now) ∙ erases)
 
-  stood : ((standing_words stop).sig ≡ z.sig) × Contains (cut_pairs (boot_cut z now k)) (pair_of (standing_words stop))
+  stood : ((standing_words stop).sig ≡ z.sig) × Contains (cut_pairs z (boot_cut z now k)) (pair_of (standing_words stop))
   stood =
       let gs : List Stage = signing z reading.state ++ erase_stages in
       let at : stop ≡ after_stores x (take made (stores_in_turn z gs x)) =
@@ -218,12 +207,12 @@ module _ (z : Zone) (valid : IsValidZone z) (now : List ℕ) (im : IsImage z now
         ∙ x_reads (Block q))
 
     log_as : reading.state ≡ Found → BlocksWithinBounds z stop later (words_read z now).size
-        → (header_seen z (words_read z later) (cut_pairs (boot_cut z now k)) ≡ SeenPair 0
+        → (header_seen z (words_read z later) (cut_pairs z (boot_cut z now k)) ≡ SeenPair 0
         → (zone_reading z later).log ≡ reading.log)
-        × (header_seen z (words_read z later) (cut_pairs (boot_cut z now k)) ≡ SeenPair 1
+        × (header_seen z (words_read z later) (cut_pairs z (boot_cut z now k)) ≡ SeenPair 1
         → (zone_reading z later).log ≡ map (λ place. byte_read z now place)
         (range_with_len 0 (words_read z now).size))
-        × (header_seen z (words_read z later) (cut_pairs (boot_cut z now k)) ≡ SeenPair 2
+        × (header_seen z (words_read z later) (cut_pairs z (boot_cut z now k)) ≡ SeenPair 2
         → (zone_reading z later).log ≡ [])
     unfolding pairs_from
     log_as found within =
@@ -231,10 +220,10 @@ module _ (z : Zone) (valid : IsValidZone z) (now : List ℕ) (im : IsImage z now
         let v : Words = words_read z later in
         let d : Pair = record { start = 0; size = 0 } in
         let own = subst (Says z w) found says in
-        let pairs : cut_pairs (boot_cut z now k) ≡ record { start = w.start; size = w.size }
+        let pairs : cut_pairs z (boot_cut z now k) ≡ record { start = w.start; size = w.size }
         ∷ record { start = 0; size = w.size } ∷ record { start = 0; size = 0 } ∷ [] =
         pairs_are ∙ ap (λ s. pairs_from (pair_of w) (signing z s ++ erase_stages)) found in
-        let words : (j : ℕ) → header_seen z v (cut_pairs (boot_cut z now k)) ≡ SeenPair j
+        let words : (j : ℕ) → header_seen z v (cut_pairs z (boot_cut z now k)) ≡ SeenPair j
         → (v.sig ≡ z.sig) × (v.start ≡ (get_or (record { start = w.start; size = w.size }
         ∷ record { start = 0; size = w.size } ∷ record { start = 0; size = 0 } ∷ []) j d).start)
         × (v.size ≡ (get_or (record { start = w.start; size = w.size } ∷ record { start = 0; size = w.size }
@@ -262,9 +251,10 @@ module _ (z : Zone) (valid : IsValidZone z) (now : List ℕ) (im : IsImage z now
 
     cut_reads : BootCutReads z now stop later (boot_cut z now k)
     cut_reads = record {
-      before = header_words z x valid x_image ∙ x_words ∙ sym (reading_words z now);
+      before = erasure_words z now k valid im ∙ sym (reading_words z now);
       header = λ damage. header_reads z (boot_cut z now k) stop later valid stop_image hl x_header
-          (subst (AllByRecursion IsSmall) (sym erases) (signed-small reading.state), tt) stood damage;
+          (subst (AllByRecursion (λ gs. AllByRecursion IsSmall gs)) (sym parts_are)
+          (subst (AllByRecursion IsSmall) (sym erases) (signed-small reading.state), tt)) stood damage;
       log = λ found within. log_as found within;
     }
 

@@ -21,7 +21,7 @@ use Rattle.zone_spec.specs.Calls.{run_stages, append_stages, erase_stages, call_
 use Rattle.zone_spec.specs.Ring.{ReadsAsStands}
 use Rattle.zone_spec.specs.Damage.{IsNotDamagedFurther}
 use Rattle.zone_spec.specs.Pairs.{pairs_from, pair_of}
-use Rattle.zone_spec.specs.Cut.{Cut, cut_pairs}
+use Rattle.zone_spec.specs.Cut.{Cut, cut_parts, cut_pairs}
 use Rattle.zone_spec.specs.Windows.{Window, words_after, header_codeword, windows_from, window_at}
 use Rattle.session_spec.specs.States.{Flight}
 use Rattle.session_spec.specs.Stop.{cut_of}
@@ -457,13 +457,13 @@ header_toward z stop now valid hs hn h =
 
 -- of any cut whose header is one, and whose stages store words that fit
 pub header_reads : (z : Zone) (cut : Cut) (stop now : List ℕ) → IsValidZone z → IsImage z stop → IsImage z now
-    → IsHeader z.parity cut.header → AllByRecursion (λ gs. AllByRecursion IsSmall gs) cut.parts
-    → ((standing_words stop).sig ≡ z.sig) × Contains (cut_pairs cut) (pair_of (standing_words stop))
+    → IsHeader z.parity cut.header → AllByRecursion (λ gs. AllByRecursion IsSmall gs) (cut_parts z cut)
+    → ((standing_words stop).sig ≡ z.sig) × Contains (cut_pairs z cut) (pair_of (standing_words stop))
     → IsNotDamagedFurther z stop now → HeaderReads z cut stop now
 unfolding part_bytes
 header_reads z cut stop now valid hs hn head small stood damage =
-    let windows : AllByRecursion (IsWindow z.parity) (windows_from z cut.header cut.parts) =
-    windows_ok z cut.parts cut.header head small in
+    let windows : AllByRecursion (IsWindow z.parity) (windows_from z cut.header (cut_parts z cut)) =
+    windows_ok z (cut_parts z cut) cut.header head small in
     let mended : IsMended z stop now Header = header_toward z stop now valid hs hn damage in
     record {
       stood = stood;
@@ -526,7 +526,7 @@ is_header z x valid im stands =
 
 -- what stood at the stop of a flight
 call_stood : (z : Zone) (stop told : List ℕ) (f : Flight) → IsValidZone z → IsInFlight z stop told f
-    → ((standing_words stop).sig ≡ z.sig) × Contains (cut_pairs (cut_of z f)) (pair_of (standing_words stop))
+    → ((standing_words stop).sig ≡ z.sig) × Contains (cut_pairs z (cut_of z f)) (pair_of (standing_words stop))
 unfolding call_stores
 call_stood z stop told f valid flies =
     let w : Words = standing_words f.image in
@@ -536,7 +536,8 @@ call_stood z stop told f valid flies =
     let is : standing_words stop ≡ words_after w t.0 = ap standing_words flies.now ∙ t.3 in
     let words : words_in (part_word z f.image Header) ≡ w = header_words z f.image valid flies.size in (
       ap (λ v. v.sig) is ∙ sig_kept w t.0 t.1 (subst (AllByRecursion IsUnsigning) t.2 small.1) ∙ flies.ring.signed,
-      subst (λ v. Contains (pairs_from (pair_of v) gs) (pair_of (standing_words stop))) (sym words)
+      subst (λ v. Contains (pairs_from (pair_of v) (call_stages z v f.call)) (pair_of (standing_words stop)))
+          (sym words)
           (subst (λ v. Contains (pairs_from (pair_of w) gs) (pair_of v)) (sym is)
           (subst (λ hs. Contains (pairs_from (pair_of w) hs) (pair_of (words_after w t.0))) (sym t.2)
           (pairs_have w t.0 t.1))),
@@ -548,16 +549,18 @@ cut_zone_reads z stop now told f valid flies hn damage =
     let words : words_in (part_word z f.image Header) ≡ w = header_words z f.image valid flies.size in
     let hs : IsImage z stop = subst (IsImage z) (sym flies.now)
     (call_image z valid f.image f.call f.made flies.size flies.can) in
-    let parts : List (List Stage) = call_parts z w f.call in
+    let v : Words = words_in (part_word z f.image Header) in
+    let parts : List (List Stage) = call_parts z v f.call in
     record {
       window = window_exists _ f.made (omega (
         arith,
         flies.left,
         length-call z f stop told valid flies,
+        ap (λ v. sum_by (stage_count z) (call_stages z v f.call)) words,
         all_stores-windows z parts (part_word z f.image Header),
       ));
       header = header_reads z (cut_of z f) stop now valid hs hn
-          (is_header z f.image valid flies.size flies.ring.header) (each-small parts (parts-small z valid w f.call))
+          (is_header z f.image valid flies.size flies.ring.header) (each-small parts (parts-small z valid v f.call))
           (call_stood z stop told f valid flies) damage;
       places = old_places z stop now told f valid hs flies hn;
       no_others = no_other_places z valid stop now told f flies;

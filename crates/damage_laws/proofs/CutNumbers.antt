@@ -1,5 +1,5 @@
 -- The numbers that a boot reports of a cut
-use Rattle.std.proofs.Common.{◌≡◌, ◌≢◌, ℕ, zero, suc, ◌+◌, ◌<◌, ◌≤◌, ◌⊎◌, Bool, true, false, cond, ◌||◌, ◌==◌, List, [], ◌∷◌, ◌++◌, length, filter, get_or, refl, sym, ap, ◌∙◌, arith, inl, inr, length-append, append-nil, true≢false, eq-eqb, eqb-true}
+use Rattle.std.proofs.Common.{◌≡◌, ◌≢◌, ℕ, zero, suc, ◌+◌, ◌<◌, ◌≤◌, ◌⊎◌, Bool, true, false, cond, ◌||◌, ◌==◌, List, [], ◌∷◌, ◌++◌, length, filter, flat_map, get_or, refl, sym, ap, ◌∙◌, subst, arith, inl, inr, length-append, append-nil, true≢false, eq-eqb, eqb-true}
 use Rattle.std.specs.Prelude.{Contains, sum_by}
 use Rattle.std.proofs.lemmas.Bool.{cases_eq}
 use Rattle.std.proofs.lemmas.Bool.Decides.{nat_tests}
@@ -15,7 +15,7 @@ use Rattle.zone_spec.specs.Stages.{Stage, stores_in_turn, stage_count}
 use Rattle.zone_spec.specs.Calls.{erase_stages, call_stages, call_stores}
 use Rattle.zone_spec.specs.Boot.{boot_fixes, boot_erasure, boot_stores, signing, keeps}
 use Rattle.zone_spec.specs.Touched.{touched_by, before_runs, runs_of}
-use Rattle.zone_spec.specs.Cut.{Cut, cut_pairs, is_touched}
+use Rattle.zone_spec.specs.Cut.{Cut, cut_stages, cut_pairs, is_touched}
 use Rattle.session_spec.specs.States.{Flight}
 use Rattle.session_spec.specs.Stop.{cut_of}
 use Rattle.session_spec.specs.BootPart.{boot_cut}
@@ -26,7 +26,9 @@ use Rattle.damage_laws.specs.CutErasures.{BootCutReportIsExact}
 use Rattle.ring_laws.proofs.StoreCounts.{length-stores}
 use Rattle.ring_laws.proofs.StoreBytes.{HasBytes, call-all}
 use Rattle.ring_laws.proofs.BootLaw.{booted_bytes, booted_image}
-use Rattle.damage_laws.proofs.Touched.{any_range, call-leaves}
+use Rattle.ring_laws.proofs.HeaderWords.{header_words}
+use Rattle.damage_laws.proofs.Touched.{touches, any_range, call-leaves}
+use Rattle.damage_laws.proofs.Erasures.{erasure_parts}
 use Rattle.damage_laws.proofs.Seen.{seen_is_exact}
 
 -- ---- runs
@@ -193,7 +195,8 @@ length-call z f stop told valid flies = length-stores z valid (call_stages z (st
 pub cut_touched : (z : Zone) (f : Flight) (stop told : List ℕ) → IsValidZone z → IsInFlight z stop told f
     → RunsAreTouched z (cut_of z f) (runs_of (filter (λ b. is_touched z (cut_of z f) b) (range_with_len 0 z.blocks)))
 cut_touched z f stop told valid flies =
-    runs_touched z (cut_of z f) ((call-leaves z valid f.image f.call
+    runs_touched z (cut_of z f) (subst (λ w. (b : ℕ) → touches z (call_stages z w f.call) b ≡ true → b < z.blocks)
+    (sym (header_words z f.image valid flies.size)) (call-leaves z valid f.image f.call
     (omega (arith, flies.ring.ring.0, flies.ring.ring.1)) flies.can).within)
 
 pub cut_report_is_exact : CutReportIsExact
@@ -201,8 +204,10 @@ cut_report_is_exact z f stop told reading valid flies =
     record {
       kind = refl;
       made = refl;
-      total = sym (length-call z f stop told valid flies);
-      header = seen_is_exact z reading.words (cut_pairs (cut_of z f));
+      total =
+          ap (λ w. sum_by (stage_count z) (call_stages z w f.call)) (header_words z f.image valid flies.size)
+          ∙ sym (length-call z f stop told valid flies);
+      header = seen_is_exact z reading.words (cut_pairs z (cut_of z f));
       touched = cut_touched z f stop told valid flies;
       apart = runs_rise (λ b. is_touched z (cut_of z f) b) z.blocks 0;
     }
@@ -229,21 +234,24 @@ boot_cut_report_is_exact z now k reading valid im within =
     let stages : List Stage = boot_erasure z now in
     let total : length (stores_in_turn z stages (after_stores now (boot_fixes z now)))
     ≡ sum_by (stage_count z) stages = length-stores z valid stages (after_stores now (boot_fixes z now))
-    (booted_image z valid now im).1 facts.0 in (
+    (booted_image z valid now im).1 facts.0 in
+    let own : cut_stages z (boot_cut z now k) ≡ stages ++ [] =
+    ap (flat_map (λ part. part)) (erasure_parts z now k valid im within) in
+    let untouched : touched_by z (cut_stages z (boot_cut z now k)) ≡ [] = ap (touched_by z) own ∙ facts.1 in (
       record {
         kind = refl;
         made = refl;
         total = omega (
           arith,
           total,
-          ap (sum_by (stage_count z)) (append-nil stages),
+          ap (sum_by (stage_count z)) (own ∙ append-nil stages),
           length-append (boot_fixes z now) (stores_in_turn z stages (after_stores now (boot_fixes z now))),
         );
-        header = seen_is_exact z reading.words (cut_pairs (boot_cut z now k));
+        header = seen_is_exact z reading.words (cut_pairs z (boot_cut z now k));
         touched = runs_touched z (boot_cut z now k) (λ b e. absurd
-            (true≢false (sym e ∙ ap (λ ts. list_any (λ c. c == b) ts) facts.1)));
+            (true≢false (sym e ∙ ap (λ ts. list_any (λ c. c == b) ts) untouched)));
         apart = runs_rise (λ b. is_touched z (boot_cut z now k) b) z.blocks 0;
       },
-      ap (λ ts. runs_of (filter (λ b. list_any (λ c. c == b) ts) (range_with_len 0 z.blocks))) facts.1
+      ap (λ ts. runs_of (filter (λ b. list_any (λ c. c == b) ts) (range_with_len 0 z.blocks))) untouched
           ∙ ap runs_of (filter_none (range_with_len 0 z.blocks)),
     )

@@ -47,7 +47,8 @@ old_places z stop now told f valid hs flies hn i place at untouched within =
     let b : ℕ = place / z.block in
     let begins : z.block * b ≤ place = omega (arith, block_some z valid) in
     let has : b < z.blocks = block_has z valid b (omega (arith, flies.ring.ring.1)) in
-    let free : touches z (call_stages z w f.call) b ≡ false = untouched in
+    let free : touches z (call_stages z w f.call) b ≡ false =
+    subst (λ v. touches z (call_stages z v f.call) b ≡ false) words untouched in
     let leaves : AllByRecursion (LeavesBlock z b) (call_stages z w f.call) =
     (call-leaves z valid f.image f.call (omega (arith, flies.ring.ring.0, flies.ring.ring.1)) flies.can).each b
     has free in
@@ -345,15 +346,15 @@ module _ (z : Zone) (valid : IsValidZone z) where
   no_other_places stop now told f flies j place seen has free =
       let w : Words = standing_words f.image in
       let words : words_in (part_word z f.image Header) ≡ w = header_words z f.image valid flies.size in
-      let pairs : cut_pairs (cut_of z f) ≡ pairs_from (record { start = w.start; size = w.size })
+      let pairs : cut_pairs z (cut_of z f) ≡ pairs_from (record { start = w.start; size = w.size })
       (call_stages z w f.call) =
-      ap (λ v. pairs_from (record { start = v.start; size = v.size }) (call_stages z w f.call)) words in
+      ap (λ v. pairs_from (record { start = v.start; size = v.size }) (call_stages z v f.call)) words in
       let good : Good (call_stages z w f.call) w.size (record
       { start = (words_read z now).start; size = (words_read z now).size }) =
       seen_good (Good (call_stages z w f.call) w.size) (words_read z now) _ j
       (call_pairs f.image f.call flies.ring.ring.0 flies.ring.ring.1 flies.can)
       (sym (ap (header_seen z (words_read z now)) pairs) ∙ seen) in
       let below : place < w.size = good place (log_side (words_read z now).start (words_read z now).size place has)
-      free in
+      (subst (λ v. touches z (call_stages z v f.call) (place / z.block) ≡ false) words free) in
       subst (λ v. Contains (log_places v.start v.size) place) (sym words)
       (log_has w.start w.size place flies.ring.ring.0 below)

@@ -27,7 +27,7 @@ IsNearHeader z now c = distance (part_word z now Header) c ≤ z.parity / 2
 -- opening words, near the closing codeword the closing words, and else the standing words, or those of another codeword
 -- near it
 pub record HeaderReads (z : Zone) (cut : Cut) (stop now : List ℕ) : Type 0 where
-  pub stood : ((standing_words stop).sig ≡ z.sig) × Contains (cut_pairs cut) (pair_of (standing_words stop))
+  pub stood : ((standing_words stop).sig ≡ z.sig) × Contains (cut_pairs z cut) (pair_of (standing_words stop))
   pub as_at_stop : words_read z now ≡ words_read z stop
   pub opening : (w : Window) (c : List ℕ) → current_window z cut ≡ Some w → w.opening_codeword ≡ Some c
       → IsNearHeader z now c → words_read z now ≡ w.opening

@@ -43,7 +43,7 @@ pub record BootCutReads (z : Zone) (now stop later : List ℕ) (cut : Cut) : Typ
   pub before : words_before cut ≡ (zone_reading z now).words
   pub header : IsNotDamagedFurther z stop later → HeaderReads z cut stop later
   pub log : (zone_reading z now).state ≡ Found → BlocksWithinBounds z stop later (words_read z now).size
-      → let seen = header_seen z (words_read z later) (cut_pairs cut) in let log = (zone_reading z later).log in
+      → let seen = header_seen z (words_read z later) (cut_pairs z cut) in let log = (zone_reading z later).log in
       (seen ≡ SeenPair 0 → log ≡ (zone_reading z now).log)
       × (seen ≡ SeenPair 1 → log ≡ map (λ place. byte_read z now place) (range_with_len 0 (words_read z now).size))
       × (seen ≡ SeenPair 2 → log ≡ [])

@@ -18,12 +18,12 @@ use Rattle.zone_spec.specs.declared.CallKind.TheVariants.{Erase}
 use Rattle.zone_spec.specs.Zones.{IsValidZone}
 use Rattle.zone_spec.specs.Parts.{AreBytes, IsImage}
 use Rattle.zone_spec.specs.Layouts.{IsLayout}
-use Rattle.zone_spec.specs.Reading.{zone_reading}
+use Rattle.zone_spec.specs.Reading.{state_of, zone_reading}
 use Rattle.zone_spec.specs.Stores.{after_stores}
 use Rattle.zone_spec.specs.Stages.{stage_count, stores_in_turn}
 use Rattle.zone_spec.specs.Calls.{erase_stages}
 use Rattle.zone_spec.specs.Pairs.{pairs_from, pair_of}
-use Rattle.zone_spec.specs.Boot.{boot_stores, boot_fixes, boot_erasure, signing, keeps, told_by_boot}
+use Rattle.zone_spec.specs.Boot.{boot_stores, boot_fixes, boot_erasure, signing, told_by_boot}
 use Rattle.zone_spec.specs.Cut.{cut_stages, cut_pairs}
 use Rattle.session_spec.specs.Zones.{zone_bytes}
 use Rattle.session_spec.specs.States.{OffZone, OffState}
@@ -64,46 +64,29 @@ in_order z bytes = (let a = length-append (boot_fixes z bytes)
     (stores_in_turn z (boot_erasure z bytes) (after_stores bytes (boot_fixes z bytes))) in omega (arith, a))
 
 -- ---- the erasure of a zone, as a cut
-erasure_pairs : (w : Words) (z : Zone) (b : Bool) (s : State) → b ≡ false
-    → pairs_from (pair_of w) (cond b [] (signing z s ++ erase_stages) ++ [])
+erasure_pairs : (w : Words) (z : Zone) (s : State) → pairs_from (pair_of w) ((signing z s ++ erase_stages) ++ [])
     ≡ record { start = w.start; size = w.size } ∷ record { start = 0; size = w.size }
     ∷ record { start = 0; size = 0 } ∷ []
 unfolding pairs_from
-erasure_pairs w z true s e = absurd (true≢false e)
-erasure_pairs w z false Unsigned e = refl
-erasure_pairs w z false Empty e = refl
-erasure_pairs w z false Invalid e = refl
-erasure_pairs w z false Found e = refl
-
-not_kept : (z : Zone) (bytes : List ℕ) → length (boot_fixes z bytes) < length (boot_stores z bytes)
-    → keeps z (zone_reading z bytes) ≡ false
-unfolding boot_stores boot_erasure stores_in_turn
-not_kept z bytes more = by (keeps z (zone_reading z bytes)) refl
-  where
-    by : (b : Bool) → keeps z (zone_reading z bytes) ≡ b → b ≡ false
-    by false e = refl
-    by true e = absurd (let n : length (boot_stores z bytes) ≡ length (boot_fixes z bytes) =
-        ap (λ (b : Bool). length (boot_fixes z bytes ++ stores_in_turn z
-        (cond b [] (signing z (zone_reading z bytes).state ++ erase_stages))
-        (after_stores bytes (boot_fixes z bytes)))) e
-        ∙ (let a = length-append (boot_fixes z bytes) (stores_in_turn z [] (after_stores bytes (boot_fixes z bytes)))
-        in omega (arith, a)) in omega (arith, n, more))
+erasure_pairs w z Unsigned = refl
+erasure_pairs w z Empty = refl
+erasure_pairs w z Invalid = refl
+erasure_pairs w z Found = refl
 
 pub erasure_shows : (z : Zone) (bytes : List ℕ) (count : ℕ) → IsValidZone z → IsImage z bytes
     → IsWithinErasure z bytes count
     → cut_of_erasure (zone_reading z bytes).words (count - length (boot_fixes z bytes))
     (length (boot_stores z bytes) - length (boot_fixes z bytes)) ≡ shown_cut z (boot_cut z bytes count)
-unfolding shown_cut boot_erasure
+unfolding shown_cut
 erasure_shows z bytes count valid im within =
     let w : Words = (zone_reading z bytes).words in
     let made : ℕ = count - length (boot_fixes z bytes) in
     let exact = boot_cut_report_is_exact z bytes count (zone_reading z bytes) valid im within in
     let before = (boot_cut_zone_reads z bytes bytes count valid im im within).before in
-    let kept = not_kept z bytes (let a = within.0 in let b = within.1 in omega (arith, a, b)) in
-    let pairs : cut_pairs (boot_cut z bytes count) ≡ record { start = w.start; size = w.size }
+    let pairs : cut_pairs z (boot_cut z bytes count) ≡ record { start = w.start; size = w.size }
     ∷ record { start = 0; size = w.size } ∷ record { start = 0; size = 0 } ∷ [] =
-    ap (λ (v : Words). pairs_from (pair_of v) (cut_stages (boot_cut z bytes count))) before
-    ∙ erasure_pairs w z (keeps z (zone_reading z bytes)) (zone_reading z bytes).state kept in
+    ap (λ (v : Words). pairs_from (pair_of v) ((signing z (state_of z v) ++ erase_stages) ++ [])) before
+    ∙ erasure_pairs w z (state_of z w) in
     ap (λ (n : ℕ). record {
       kind = Erase;
       made = made;
@@ -115,16 +98,16 @@ erasure_shows z bytes count valid im within =
     ∙ ap (λ (ps : List Pair). record {
       kind = Erase;
       made = made;
-      total = sum_by (stage_count z) (cut_stages (boot_cut z bytes count));
+      total = sum_by (stage_count z) (cut_stages z (boot_cut z bytes count));
       pairs = ps;
       runs = [];
     }) (sym pairs)
     ∙ ap (λ (rs : List (ℕ × ℕ)). record {
       kind = Erase;
       made = made;
-      total = sum_by (stage_count z) (cut_stages (boot_cut z bytes count));
+      total = sum_by (stage_count z) (cut_stages z (boot_cut z bytes count));
       pairs =
-          cut_pairs (boot_cut z bytes count);
+          cut_pairs z (boot_cut z bytes count);
       runs = rs;
     }) (sym exact.1)
 

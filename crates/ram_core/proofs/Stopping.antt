@@ -46,19 +46,19 @@ header_at z x long =
 -- a flight's cut shows what the flight tells
 module _ (z : Zone) (bytes : List ℕ) (seen : Flying) (f : Flight) (long : 12 ≤ length bytes)
     (s : StandsForFlight z bytes seen f) where
-  words : seen.words ≡ standing_words f.image
-  words = sym s.image.words
-
   before_long : 12 ≤ length f.image
   before_long = (let a = ap length s.image.underway.image in
       let b = length-after_stores f.image s.image.underway.done in omega (arith, a, b, long))
 
+  words : seen.words ≡ words_in (part_word z f.image Header)
+  words = sym s.image.words ∙ sym (header_at z f.image before_long)
+
   stages : {X : Type 0} (P : Zone → List Stage → X) → P seen.zone (call_stages seen.zone seen.words seen.call)
-      ≡ P z (call_stages z (standing_words f.image) f.call)
+      ≡ P z (call_stages z (words_in (part_word z f.image Header)) f.call)
   stages P =
       ap (λ (y : Zone). P y (call_stages y seen.words seen.call)) s.zone
       ∙ ap (λ (w : Words). P z (call_stages z w seen.call)) words
-      ∙ ap (λ (c : Call). P z (call_stages z (standing_words f.image) c)) s.call
+      ∙ ap (λ (c : Call). P z (call_stages z (words_in (part_word z f.image Header)) c)) s.call
 
   pub flight_shows : cut_of_flight seen ≡ shown_cut z (cut_of z f)
   unfolding shown_cut
@@ -87,21 +87,21 @@ module _ (z : Zone) (bytes : List ℕ) (seen : Flying) (f : Flight) (long : 12 �
       ∙ ap (λ (ps : List Pair). record {
         kind = kind_of f.call;
         made = f.made;
-        total = sum_by (stage_count z) (call_stages z (standing_words f.image) f.call);
+        total = sum_by (stage_count z) (call_stages z (words_in (part_word z f.image Header)) f.call);
         pairs = ps;
         runs =
             touched_runs seen;
       })
       (stages (λ y gs. pairs_from (pair_of seen.words) gs)
-      ∙ ap (λ (w : Words). pairs_from (pair_of w) (call_stages z (standing_words f.image) f.call))
-      (words ∙ sym (header_at z f.image before_long)))
+      ∙ ap (λ (w : Words). pairs_from (pair_of w) (call_stages z (words_in (part_word z f.image Header)) f.call))
+      words)
       ∙ ap (λ (rs : List (ℕ × ℕ)). record {
         kind = kind_of f.call;
         made = f.made;
-        total = sum_by (stage_count z) (call_stages z (standing_words f.image) f.call);
+        total = sum_by (stage_count z) (call_stages z (words_in (part_word z f.image Header)) f.call);
         pairs =
             pairs_from (pair_of (words_in (part_word z f.image Header)))
-            (call_stages z (standing_words f.image) f.call);
+            (call_stages z (words_in (part_word z f.image Header)) f.call);
         runs = rs;
       })
       (stages (λ y gs. runs_of (filter (λ b. list_any (λ c. c == b) (touched_by y gs)) (range_with_len 0 y.blocks))))

@@ -4,7 +4,7 @@ use Rattle.std.specs.List.{range_with_len}
 use Rattle.std.specs.Option.{option_map}
 use Rattle.circular_buffer.specs.Buffer.{Buffer}
 use Rattle.zone_spec.specs.declared.Zone.{Zone}
-use Rattle.zone_spec.specs.Cut.{Cut, cut_stages, cut_pairs, is_touched}
+use Rattle.zone_spec.specs.Cut.{Cut, cut_kind, cut_stages, cut_pairs, is_touched}
 use Rattle.zone_spec.specs.Stages.{stage_count}
 use Rattle.zone_spec.specs.Touched.{runs_of}
 use Rattle.session_spec.specs.States.{OffZone, OffState}
@@ -21,10 +21,10 @@ pub record OffSeen : Type 0 where
 -- what a cut of the definitions shows of itself
 unfoldable pub shown_cut : Zone → Cut → SeenCut
 shown_cut z cut = record {
-  kind = cut.kind;
+  kind = cut_kind cut;
   made = cut.made;
-  total = sum_by (stage_count z) (cut_stages cut);
-  pairs = cut_pairs cut;
+  total = sum_by (stage_count z) (cut_stages z cut);
+  pairs = cut_pairs z cut;
   runs = runs_of (filter (λ b. is_touched z cut b) (range_with_len 0 z.blocks));
 }
 

@@ -8,12 +8,12 @@ use Rattle.zone_spec.specs.Zones.{IsValidZone}
 use Rattle.zone_spec.specs.Parts.{IsImage}
 use Rattle.zone_spec.specs.Reading.{ZoneReading, zone_reading}
 use Rattle.zone_spec.specs.declared.CallKind.TheVariants.{Erase}
-use Rattle.zone_spec.specs.Told.{kind_of}
+use Rattle.zone_spec.specs.Told.{Call, kind_of}
 use Rattle.zone_spec.specs.Calls.{call_stores}
 use Rattle.zone_spec.specs.Boot.{boot_fixes, boot_stores}
 use Rattle.session_spec.specs.BootPart.{boot_cut}
 use Rattle.zone_spec.specs.Verdicts.{verdict_of}
-use Rattle.zone_spec.specs.Cut.{Cut, cut_report}
+use Rattle.zone_spec.specs.Cut.{Cut, ByCall, ByBoot, cut_report}
 use Rattle.session_spec.specs.Zones.{zone_bytes}
 use Rattle.session_spec.specs.States.{OffZone}
 use Rattle.session_spec.specs.Report.{report_cut}
@@ -142,12 +142,12 @@ verdict_differs told log ne = by (bytes_eq log told) refl
 -- ---- reports, and cut zones
 
 -- of each flight that the cut is of
-pub call_reported : (z : Zone) (zone : OffZone) (now : List ℕ) (cut : Cut) → IsValidZone z → IsOffZone z zone
-    → zone.cut ≡ Some cut → cut.by_boot ≡ false → ReportsCall z zone now cut
-call_reported z zone now cut valid sound c own =
+pub call_reported : (z : Zone) (zone : OffZone) (now : List ℕ) (cut : Cut) (call : Call) → IsValidZone z
+    → IsOffZone z zone → zone.cut ≡ Some cut → cut.by ≡ ByCall call → ReportsCall z zone now cut
+call_reported z zone now cut call valid sound c own =
     let reading : ZoneReading = zone_reading z now in
     record {
-      flight = sound.in_flight cut c own;
+      flight = sound.in_flight cut call c own;
       exact = λ told f is. (
         cut_report z reading cut,
         ap (report_cut z reading) c,
@@ -158,7 +158,7 @@ call_reported z zone now cut valid sound c own =
     }
 
 erasure_reported : (z : Zone) (zone : OffZone) (now : List ℕ) (cut : Cut) → IsValidZone z → IsOffZone z zone
-    → zone.cut ≡ Some cut → cut.by_boot ≡ true → ReportsErasure z zone now cut
+    → zone.cut ≡ Some cut → cut.by ≡ ByBoot → ReportsErasure z zone now cut
 erasure_reported z zone now cut valid sound c own =
     let reading : ZoneReading = zone_reading z now in
     record {
@@ -184,7 +184,7 @@ zone_reports z zone now valid sound =
     record {
       verdict = verdict_is_exact zone.told reading.log;
       whole = (none_reported z reading zone.cut, ap (report_cut z reading));
-      cut_call = λ cut c own. call_reported z zone now cut valid sound c own;
+      cut_call = λ cut call c own. call_reported z zone now cut call valid sound c own;
       cut_erasure = λ cut c own. erasure_reported z zone now cut valid sound c own;
     }
 
@@ -198,8 +198,8 @@ report_is_exact layout mem off lies state = (
 pub zone_cuts : (z : Zone) (zone : OffZone) (now : List ℕ) → IsValidZone z → IsOffZone z zone → IsImage z now
     → ReadsCut z zone now
 zone_cuts z zone now valid sound hn = record {
-  call = λ told cut t c own damage.
-      let f = sound.in_flight cut c own in
+  call = λ told cut call t c own damage.
+      let f = sound.in_flight cut call c own in
       let same : f.0 ≡ told = (let e : Some f.0 ≡ Some told = sym f.2.told_is ∙ t in cc) in
       subst (λ k. CutReads z k told zone.stop now) (sym f.2.cut_is)
       (cut_zone_reads z zone.stop now told f.1 valid (subst (λ xs. IsInFlight z zone.stop xs f.1) same f.2.at_stop)

@@ -24,15 +24,15 @@ zone_reads z zone now valid sound hn = record {
       let ring : IsRingForm z zone.stop told = sound.idle told t c in
       idle_log z zone.stop now told valid sound.size hn ring (within Header tt)
       (λ b h. within (Block b) (omega (arith, ring.told_length, ring.ring.1)));
-  places = λ told cut t c own damage.
-      let f = sound.in_flight cut c own in
+  places = λ told cut call t c own damage.
+      let f = sound.in_flight cut call c own in
       let same : f.0 ≡ told = (let e : Some f.0 ≡ Some told = sym f.2.told_is ∙ t in cc) in
       let at : IsInFlight z zone.stop told f.1 = subst (λ xs. IsInFlight z zone.stop xs f.1) same f.2.at_stop in
       subst (λ k. OldPlacesRead z k told zone.stop now × NoOtherPlaces z k now) (sym f.2.cut_is) (
         old_places z zone.stop now told f.1 valid sound.size at hn,
         no_other_places z valid zone.stop now told f.1 at,
       );
-  reported = λ cut c own. call_reported z zone now cut valid sound c own;
+  reported = λ cut call c own. call_reported z zone now cut call valid sound c own;
 }
 
 pub state_reads : (layout : List Zone) (mem : ℕ) (off : OffState) → IsLayout layout mem → IsState layout mem (Off off)

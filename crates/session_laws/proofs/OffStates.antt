@@ -1,10 +1,10 @@
 -- A state off is sound after a stop, a flip and at first, and so is the live state after a boot
-use Rattle.std.proofs.Common.{◌≡◌, ℕ, ◌+◌, ◌<◌, ◌≤◌, List, length, slice_get, get_or, refl, sym, ap, ◌∙◌, subst, arith, Option, Some, None, length-set, length-drop, true≢false}
+use Rattle.std.proofs.Common.{◌≡◌, ℕ, ◌+◌, ◌<◌, ◌≤◌, List, length, slice_get, get_or, refl, sym, ap, ◌∙◌, subst, arith, Option, Some, None, length-set, length-drop}
 use Rattle.std.proofs.lemmas.Nat.{xor_lt}
 use Rattle.zone_spec.specs.declared.Zone.{Zone}
 use Rattle.zone_spec.specs.Parts.{AreBytes, IsImage}
 use Rattle.zone_spec.specs.Ring.{IsRingForm}
-use Rattle.zone_spec.specs.Cut.{Cut}
+use Rattle.zone_spec.specs.Cut.{Cut, ByCall, ByBoot}
 use Rattle.ring_laws.proofs.PartsLaw.{set-bytes}
 use Rattle.ring_laws.proofs.EveryParity.{part-bytes}
 use Rattle.zone_spec.specs.Layouts.{zones_end, IsLayout}
@@ -46,14 +46,14 @@ module _ (layout : List Zone) (mem : ℕ) (lies : IsLayout layout mem) where
             size = sound.size;
             idle = λ told t c. (let s : v.told ≡ told = cc in subst (IsRingForm z v.image) s
                 (subst (Stands z v.image v.told) e sound.stands));
-            in_flight = λ cut c b. (let n : None ≡ Some cut = c in cc);
+            in_flight = λ cut call c b. (let n : None ≡ Some cut = c in cc);
             in_erasure = λ cut c b. (let n : None ≡ Some cut = c in cc);
           })
       by z v (Some f) sound e = subst (λ p. IsOffZone z (record
           { stop = v.image; told = Some v.told; cut = cut_by_stop z p })) (sym e) (record {
             size = sound.size;
             idle = λ told t c. (let n : Some (cut_of z f) ≡ None = c in cc);
-            in_flight = λ cut c b. (
+            in_flight = λ cut call c b. (
               v.told,
               f,
               record {
@@ -62,8 +62,8 @@ module _ (layout : List Zone) (mem : ℕ) (lies : IsLayout layout mem) where
                 at_stop = subst (Stands z v.image v.told) e sound.stands;
               },
             );
-            in_erasure = λ cut c b. absurd (true≢false (let s : cut_of z f ≡ cut = cc in
-                sym b ∙ ap (λ (k : Cut). k.by_boot) (sym s)));
+            in_erasure = λ cut c b. (let s : cut_of z f ≡ cut = cc in
+                let n : ByCall f.call ≡ ByBoot = ap (λ (k : Cut). k.by) s ∙ b in cc);
           })
 
   pub booted-state : (off : OffState) → IsState layout mem (Off off) → IsState layout mem (Live (booted layout off))
@@ -93,7 +93,7 @@ module _ (layout : List Zone) (mem : ℕ) (lies : IsLayout layout mem) where
           size = zone_image z (lies.valid i z h).0 image (omega
               (arith, (lies.valid i z h).1, zone_within layout i z h, lies.within, len)) bytes;
           idle = λ told t c. (let n : None ≡ Some told = t in cc);
-          in_flight = λ cut c b. (let n : None ≡ Some cut = c in cc);
+          in_flight = λ cut call c b. (let n : None ≡ Some cut = c in cc);
           in_erasure = λ cut c b. (let n : None ≡ Some cut = c in cc);
         });
     image = (len, bytes);

@@ -1,12 +1,12 @@
 -- A state off is sound after a boot that was cut
-use Rattle.std.proofs.Common.{ltb-true, lt-ltb, leb-false, ◌≡◌, ℕ, suc, ◌+◌, ◌<◌, Bool, true, false, cond, ◌&&◌, ◌||◌, nat_lt, nat_le, List, [], ◌∷◌, length, take, map, slice_get, refl, sym, ap, ◌∙◌, subst, arith, Some, None, true≢false}
+use Rattle.std.proofs.Common.{ltb-true, lt-ltb, leb-false, ◌≡◌, ℕ, suc, ◌<◌, Bool, true, false, cond, ◌&&◌, ◌||◌, nat_lt, nat_le, List, [], ◌∷◌, length, take, map, slice_get, refl, sym, ap, ◌∙◌, subst, arith, Some, None, true≢false}
 use Rattle.std.specs.List.{AllByRecursion}
 use Rattle.zone_spec.specs.declared.Zone.{Zone}
 use Rattle.zone_spec.specs.Zones.{IsValidZone}
 use Rattle.zone_spec.specs.Parts.{IsImage}
 use Rattle.zone_spec.specs.Ring.{IsRingForm}
 use Rattle.zone_spec.specs.Boot.{boot_stores, boot_fixes, told_by_boot}
-use Rattle.zone_spec.specs.Cut.{Cut}
+use Rattle.zone_spec.specs.Cut.{Cut, ByCall, ByBoot}
 use Rattle.ring_laws.proofs.Images.{length-after_stores}
 use Rattle.ring_laws.proofs.StoreBytes.{IsStore, all-append, all-take, after-bytes}
 use Rattle.ring_laws.proofs.BootRing.{boot_keeps, boot_image, boot_image_all, boot_stores-all}
@@ -51,7 +51,7 @@ module _ (layout : List Zone) (mem : ℕ) (lies : IsLayout layout mem) where
         size = boot_image_all z valid bytes im;
         idle = λ told t c. (let s : told_by_boot z bytes ≡ told = cc in
             subst (IsRingForm z (after_stores bytes (boot_stores z bytes))) s (boot_keeps z valid bytes im));
-        in_flight = λ cut c b. (let n : None ≡ Some cut = c in cc);
+        in_flight = λ cut call c b. (let n : None ≡ Some cut = c in cc);
         in_erasure = λ cut c b. (let n : None ≡ Some cut = c in cc);
       }
       by false e true f =
@@ -63,8 +63,8 @@ module _ (layout : List Zone) (mem : ℕ) (lies : IsLayout layout mem) where
           record {
             size = boot_image z valid bytes im count;
             idle = λ told t c. (let n : Some _ ≡ None = c in cc);
-            in_flight = λ cut c b. absurd (true≢false (let d : boot_cut z bytes count ≡ cut = cc in
-                ap (λ (k : Cut). k.by_boot) d ∙ b));
+            in_flight = λ cut call c b. (let d : boot_cut z bytes count ≡ cut = cc in
+                let n : ByBoot ≡ ByCall call = ap (λ (k : Cut). k.by) d ∙ b in cc);
             in_erasure = λ cut c b. (
               bytes,
               count,

@@ -59,8 +59,8 @@ zone_undamaged z zone now valid sound hn = record {
       (inr (ap (λ x. part_word z x Header) same))).whole
       (λ b h. inr (ap (λ x. part_word z x (Block b)) same)) in
       ap (λ o. verdict_of o (zone_reading z now).log) t ∙ whole;
-  places = λ told cut t c own same.
-      let f = sound.in_flight cut c own in
+  places = λ told cut call t c own same.
+      let f = sound.in_flight cut call c own in
       let e : f.0 ≡ told = (let g : Some f.0 ≡ Some told = sym f.2.told_is ∙ t in cc) in
       subst (λ k. OldPlacesRead z k told zone.stop now) (sym f.2.cut_is)
       (old_places z zone.stop now told f.1 valid sound.size

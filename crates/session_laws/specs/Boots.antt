@@ -1,12 +1,13 @@
 -- What a boot reads and reports of the zones of a sound state, cut ones too
-use Rattle.std.specs.Prelude.{◌≡◌, ℕ, ◌-◌, ◌↔◌, true, false, List, length, Option, Some, None}
+use Rattle.std.specs.Prelude.{◌≡◌, ℕ, ◌-◌, ◌↔◌, List, length, Option, Some, None}
 use Rattle.zone_spec.specs.declared.Zone.{Zone}
 use Rattle.zone_spec.specs.declared.CallKind.TheVariants.{Erase}
 use Rattle.zone_spec.specs.Reading.{zone_reading}
 use Rattle.zone_spec.specs.Boot.{boot_fixes, boot_stores}
+use Rattle.zone_spec.specs.Told.{Call}
 use Rattle.zone_spec.specs.Damage.{IsNotDamagedFurther}
 use Rattle.zone_spec.specs.Verdicts.{verdict_of}
-use Rattle.zone_spec.specs.Cut.{Cut, CutReport}
+use Rattle.zone_spec.specs.Cut.{Cut, ByCall, ByBoot, CutReport}
 use Rattle.zone_spec.specs.Layouts.{IsLayout}
 use Rattle.session_spec.specs.States.{OffZone, OffState, Off}
 use Rattle.session_spec.specs.Report.{zone_report}
@@ -34,8 +35,8 @@ pub record ReportsErasure (z : Zone) (zone : OffZone) (now : List ℕ) (cut : Cu
 pub record ReportsExactly (z : Zone) (zone : OffZone) (now : List ℕ) : Type 0 where
   pub verdict : IsExactVerdict zone.told (zone_reading z now).log (zone_report z zone now).verdict
   pub whole : ((zone_report z zone now).cut ≡ None) ↔ (zone.cut ≡ None)
-  pub cut_call : (cut : Cut) → zone.cut ≡ Some cut → cut.by_boot ≡ false → ReportsCall z zone now cut
-  pub cut_erasure : (cut : Cut) → zone.cut ≡ Some cut → cut.by_boot ≡ true → ReportsErasure z zone now cut
+  pub cut_call : (cut : Cut) (call : Call) → zone.cut ≡ Some cut → cut.by ≡ ByCall call → ReportsCall z zone now cut
+  pub cut_erasure : (cut : Cut) → zone.cut ≡ Some cut → cut.by ≡ ByBoot → ReportsErasure z zone now cut
 
 -- so is the report of each zone of a sound state
 abbrev pub ReportIsExact : Type 0
@@ -51,10 +52,10 @@ pub record ReadsErasure (z : Zone) (zone : OffZone) (now : List ℕ) (cut : Cut)
 
 -- what a zone reads whose call a stop cut, or whose erasure a boot's end cut
 pub record ReadsCut (z : Zone) (zone : OffZone) (now : List ℕ) : Type 0 where
-  pub call : (told : List ℕ) (cut : Cut) → zone.told ≡ Some told → zone.cut ≡ Some cut → cut.by_boot ≡ false
-      → IsNotDamagedFurther z zone.stop now
+  pub call : (told : List ℕ) (cut : Cut) (call : Call) → zone.told ≡ Some told → zone.cut ≡ Some cut
+      → cut.by ≡ ByCall call → IsNotDamagedFurther z zone.stop now
       → CutReads z cut told zone.stop now
-  pub erasure : (cut : Cut) → zone.cut ≡ Some cut → cut.by_boot ≡ true → ReadsErasure z zone now cut
+  pub erasure : (cut : Cut) → zone.cut ≡ Some cut → cut.by ≡ ByBoot → ReadsErasure z zone now cut
 
 -- so reads each zone of a sound state
 abbrev pub CutZonesRead : Type 0

@@ -1,12 +1,12 @@
 -- What holds of every state that a session reaches, and what the told lists are
-use Rattle.std.specs.Prelude.{◌≡◌, ◌≢◌, ℕ, ◌<◌, ◌≤◌, false, List, ◌++◌, length, drop, flat_map, fold, slice_index, bit_xor, Some, None}
+use Rattle.std.specs.Prelude.{◌≡◌, ◌≢◌, ℕ, ◌<◌, ◌≤◌, List, ◌++◌, length, drop, flat_map, fold, slice_index, bit_xor, Some, None}
 use Rattle.zone_spec.specs.declared.Zone.{Zone}
 use Rattle.zone_spec.specs.declared.Verdict.TheVariants.{AsTold}
 use Rattle.zone_spec.specs.Parts.{AreBytes}
 use Rattle.zone_spec.specs.Reading.{zone_reading}
-use Rattle.zone_spec.specs.Told.{Append, told_after, last_items}
+use Rattle.zone_spec.specs.Told.{Call, Append, told_after, last_items}
 use Rattle.zone_spec.specs.Verdicts.{verdict_of}
-use Rattle.zone_spec.specs.Cut.{Cut}
+use Rattle.zone_spec.specs.Cut.{Cut, ByCall}
 use Rattle.zone_spec.specs.Layouts.{IsLayout, zones_end}
 use Rattle.session_spec.specs.Zones.{zone_bytes}
 use Rattle.session_spec.specs.States.{OffZone, OffState, Session, Off}
@@ -47,8 +47,8 @@ AppendsTellLastBytes = (cap : ℕ) (told : List ℕ) (payloads : List (List ℕ)
 pub record ReadsAsAtStop (z : Zone) (zone : OffZone) (now : List ℕ) : Type 0 where
   pub idle : (told : List ℕ) → zone.told ≡ Some told → zone.cut ≡ None → now ≡ zone.stop
       → verdict_of zone.told (zone_reading z now).log ≡ AsTold
-  pub places : (told : List ℕ) (cut : Cut) → zone.told ≡ Some told → zone.cut ≡ Some cut → cut.by_boot ≡ false
-      → now ≡ zone.stop → OldPlacesRead z cut told zone.stop now
+  pub places : (told : List ℕ) (cut : Cut) (call : Call) → zone.told ≡ Some told → zone.cut ≡ Some cut
+      → cut.by ≡ ByCall call → now ≡ zone.stop → OldPlacesRead z cut told zone.stop now
 
 -- so reads each zone of a sound state
 abbrev pub UndamagedReadsTold : Type 0

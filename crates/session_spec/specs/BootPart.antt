@@ -1,11 +1,10 @@
 -- A boot that is cut after some of its stores: told lists, cuts and stops of each zone
-use Rattle.std.specs.Prelude.{ℕ, ◌+◌, ◌-◌, ◌<◌, min, Bool, true, ◌&&◌, ◌||◌, if◌then◌else◌, nat_lt, nat_le, List, [], ◌∷◌, length, take, map, flat_map, Some, None}
+use Rattle.std.specs.Prelude.{ℕ, ◌+◌, ◌-◌, ◌<◌, min, Bool, ◌&&◌, ◌||◌, if◌then◌else◌, nat_lt, nat_le, List, [], ◌∷◌, length, take, map, flat_map, Some, None}
 use Rattle.zone_spec.specs.declared.Zone.{Zone}
-use Rattle.zone_spec.specs.declared.CallKind.TheVariants.{Erase}
 use Rattle.zone_spec.specs.Parts.{Header, part_word}
 use Rattle.zone_spec.specs.Stores.{Store, after_stores}
-use Rattle.zone_spec.specs.Boot.{boot_stores, boot_fixes, boot_erasure, told_by_boot}
-use Rattle.zone_spec.specs.Cut.{Cut}
+use Rattle.zone_spec.specs.Boot.{boot_stores, boot_fixes, told_by_boot}
+use Rattle.zone_spec.specs.Cut.{Cut, ByBoot}
 use Rattle.session_spec.specs.Zones.{zone_bytes}
 use Rattle.session_spec.specs.States.{OffZone, OffState}
 
@@ -30,9 +29,7 @@ IsWithinErasure z bytes count = (length (boot_fixes z bytes) < count) × (count 
 -- with the words that were read
 abbrev pub boot_cut : Zone → List ℕ → ℕ → Cut
 boot_cut z bytes count = record {
-  kind = Erase;
-  by_boot = true;
-  parts = boot_erasure z bytes ∷ [];
+  by = ByBoot;
   header = part_word z (after_stores bytes (boot_fixes z bytes)) Header;
   made = count - length (boot_fixes z bytes);
 }

@@ -55,7 +55,7 @@ pub record IsExactReport (z : Zone) (words : Words) (cut : Cut) (call : CallKind
   pub kind : r.kind ≡ call
   pub made : r.made ≡ stored
   pub total : r.total ≡ all
-  pub header : IsExactSeen z words (cut_pairs cut) r.header
+  pub header : IsExactSeen z words (cut_pairs z cut) r.header
   pub touched : RunsAreTouched z cut r.runs
   pub apart : RisesFrom 0 r.runs
 

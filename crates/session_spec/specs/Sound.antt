@@ -1,14 +1,15 @@
 -- What holds of every state of a session
-use Rattle.std.specs.Prelude.{◌≡◌, ℕ, ◌^◌, ◌<◌, true, false, List, length, take, Option, Some, None}
+use Rattle.std.specs.Prelude.{◌≡◌, ℕ, ◌^◌, ◌<◌, List, length, take, Option, Some, None}
 use Rattle.std.specs.List.{AllByRecursion}
 use Rattle.zone_spec.specs.declared.Zone.{Zone}
 use Rattle.zone_spec.specs.declared.Time.{Time}
 use Rattle.zone_spec.specs.Parts.{AreBytes, IsImage}
 use Rattle.zone_spec.specs.Stores.{after_stores}
+use Rattle.zone_spec.specs.Told.{Call}
 use Rattle.zone_spec.specs.Calls.{call_stores, image_after, CanBegin}
 use Rattle.zone_spec.specs.Ring.{IsRingForm}
 use Rattle.zone_spec.specs.Boot.{boot_stores}
-use Rattle.zone_spec.specs.Cut.{Cut}
+use Rattle.zone_spec.specs.Cut.{Cut, ByCall, ByBoot}
 use Rattle.session_spec.specs.Zones.{EachZone}
 use Rattle.session_spec.specs.States.{Flight, OffZone, LiveZone, Session, Off, Live}
 use Rattle.session_spec.specs.Off.{fresh}
@@ -55,9 +56,9 @@ pub record IsCutErasure (z : Zone) (zone : OffZone) (cut : Cut) (before : List �
 pub record IsOffZone (z : Zone) (zone : OffZone) : Type 0 where
   pub size : IsImage z zone.stop
   pub idle : (told : List ℕ) → zone.told ≡ Some told → zone.cut ≡ None → IsRingForm z zone.stop told
-  pub in_flight : (cut : Cut) → zone.cut ≡ Some cut → cut.by_boot ≡ false
+  pub in_flight : (cut : Cut) (call : Call) → zone.cut ≡ Some cut → cut.by ≡ ByCall call
       → (told : List ℕ) × (f : Flight) × IsCutFlight z zone cut told f
-  pub in_erasure : (cut : Cut) → zone.cut ≡ Some cut → cut.by_boot ≡ true
+  pub in_erasure : (cut : Cut) → zone.cut ≡ Some cut → cut.by ≡ ByBoot
       → (before : List ℕ) × (count : ℕ) × IsCutErasure z zone cut before count
 
 -- the zones of a state are so

@@ -1,21 +1,13 @@
 -- A stop: the machine is off, this moment is the stop of every zone, and each flight becomes a cut
-use Rattle.std.specs.Prelude.{ℕ, false, List, ◌++◌, map, flat_map, zip, Option, Some, None}
+use Rattle.std.specs.Prelude.{ℕ, List, ◌++◌, map, flat_map, zip, Option, Some, None}
 use Rattle.zone_spec.specs.declared.Zone.{Zone}
-use Rattle.zone_spec.specs.Parts.{Header, part_word, standing_words}
-use Rattle.zone_spec.specs.Told.{kind_of}
-use Rattle.zone_spec.specs.Calls.{call_parts}
-use Rattle.zone_spec.specs.Cut.{Cut}
+use Rattle.zone_spec.specs.Parts.{Header, part_word}
+use Rattle.zone_spec.specs.Cut.{Cut, ByCall}
 use Rattle.session_spec.specs.States.{Flight, OffZone, OffState, LiveZone, LiveState, Session, Off, Live}
 
 -- a flight as a cut, also where no store was made
 abbrev pub cut_of : Zone → Flight → Cut
-cut_of z f = record {
-  kind = kind_of f.call;
-  by_boot = false;
-  parts = call_parts z (standing_words f.image) f.call;
-  header = part_word z f.image Header;
-  made = f.made;
-}
+cut_of z f = record { by = ByCall f.call; header = part_word z f.image Header; made = f.made }
 
 -- the cut that a flight becomes, where one stands
 abbrev pub cut_by_stop : Zone → Option Flight → Option Cut

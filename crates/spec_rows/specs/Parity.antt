@@ -94,8 +94,8 @@ CutOfForeignHeader =
     let cut = boot_cut console_of_two foreign_header 2 in
     (cut.header ≡ 0x44 ∷ 0x42 ∷ 0x47 ∷ 0x40 ∷ 5 ∷ 6 ∷ 0 ∷ 0 ∷ 0xb2 ∷ 0x0f ∷ 0 ∷ 0 ∷ 155 ∷ 36 ∷ [])
     × (cut.made ≡ 1)
-    × (sum_by (stage_count console_of_two) (cut_stages cut) ≡ 5)
-    × (cut_pairs cut ≡ record { start = 1541; size = 4018 } ∷ record { start = 0; size = 4018 }
+    × (sum_by (stage_count console_of_two) (cut_stages console_of_two cut) ≡ 5)
+    × (cut_pairs console_of_two cut ≡ record { start = 1541; size = 4018 } ∷ record { start = 0; size = 4018 }
     ∷ record { start = 0; size = 0 } ∷ [])
 
 -- a whole session with one parity byte a part

@@ -7,7 +7,7 @@ use Rattle.zone_spec.specs.declared.Words.{Words}
 use Rattle.code_spec.specs.Code.{nearest, parity_of}
 use Rattle.zone_spec.specs.Parts.{words_in}
 use Rattle.zone_spec.specs.Stages.{Stage, SigWord, StartWord, SizeWord, stage_count}
-use Rattle.zone_spec.specs.Cut.{Cut}
+use Rattle.zone_spec.specs.Cut.{Cut, cut_parts}
 
 -- the words after the stages
 unfoldable pub words_after : Words → List Stage → Words
@@ -55,4 +55,4 @@ window_at made (w ∷ ws) = if nat_le made w.stores then Some w else window_at (
 
 -- the current part of a cut
 abbrev pub current_window : Zone → Cut → Option Window
-current_window z cut = window_at cut.made (windows_from z cut.header cut.parts)
+current_window z cut = window_at cut.made (windows_from z cut.header (cut_parts z cut))

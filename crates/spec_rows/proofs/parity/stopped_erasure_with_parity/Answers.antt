@@ -1,37 +1,32 @@
 use Rattle.std.specs.Prelude.{Some}
-use Rattle.std.proofs.Common.{◌≡◌, ℕ, List, [], ◌∷◌, take, refl, ap, ap₂, ◌∙◌}
-use Rattle.zone_spec.specs.declared.CallKind.TheVariants.{Erase}
+use Rattle.std.proofs.Common.{◌≡◌, ℕ, List, [], take, refl, ap, ap₂, ◌∙◌}
 use Rattle.zone_spec.specs.Parts.{Header, part_word}
 use Rattle.zone_spec.specs.Reading.{ZoneReading, zone_reading}
 use Rattle.zone_spec.specs.Stores.{Store, after_stores}
-use Rattle.zone_spec.specs.Stages.{Stage}
 use Rattle.zone_spec.specs.Boot.{boot_stores}
-use Rattle.zone_spec.specs.Cut.{Cut}
+use Rattle.zone_spec.specs.Cut.{Cut, ByBoot}
 use Rattle.zone_spec.specs.Verdicts.{verdict_of}
 use Rattle.session_spec.specs.Report.{report_cut}
 use Rattle.session_spec.specs.BootPart.{boot_cut}
-use Rattle.std.proofs.Common.{◌-◌, length, true}
-use Rattle.zone_spec.specs.Calls.{erase_stages}
+use Rattle.std.proofs.Common.{◌-◌, length}
 use Rattle.spec_rows.specs.Zones.{console, console_of_sixteen}
 use Rattle.spec_rows.specs.Scenes.{abc}
 use Rattle.spec_rows.specs.Shown.{Shown, shown_by}
 use Rattle.spec_rows.proofs.Computing.{computing}
-use Rattle.spec_rows.proofs.SixteenParityBytes.{three, three-is, three-fixes, three-erasure, erasing-is, erasing-reads}
+use Rattle.spec_rows.proofs.SixteenParityBytes.{three, three-is, three-fixes, erasing-is, erasing-reads}
 use Rattle.spec_rows.proofs.parity.stopped_erasure_with_parity.Goals as goal
 
--- a boot's cut by its corrections and its erasure
-cut_by : List ℕ → List Store → List Stage → Cut
-cut_by bytes fixes stages = record {
-  kind = Erase;
-  by_boot = true;
-  parts = stages ∷ [];
+-- a boot's cut by its corrections
+cut_by : List ℕ → List Store → Cut
+cut_by bytes fixes = record {
+  by = ByBoot;
   header = part_word console_of_sixteen (after_stores bytes fixes) Header;
   made = 1 - length fixes;
 }
 
-cut-is : boot_cut console_of_sixteen three 1 ≡ cut_by three [] erase_stages
+cut-is : boot_cut console_of_sixteen three 1 ≡ cut_by three []
 unfolding cut_by
-cut-is = ap₂ (cut_by three) three-fixes three-erasure
+cut-is = ap (cut_by three) three-fixes
 
 shown_of : Cut → ZoneReading → Shown
 shown_of cut r = shown_by r (record {
