@@ -1,3 +1,4 @@
+pub mod Layouts
 pub mod Plans
 pub mod Shown
 pub mod Images

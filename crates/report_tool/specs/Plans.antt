@@ -1,28 +1,20 @@
 -- The plan by which images are read, and why there is none
-use Rattle.std.specs.Prelude.{◌≡◌, ℕ, Bool, true, false, List, Result, Ok, Err, String, Global, ⊤}
+use Rattle.std.specs.Prelude.{◌≡◌, Bool, List, Ok, Err}
+use Rattle.std.specs.declared.string.String.{String}
+use Rattle.std.specs.declared.alloc.Global.{Global}
 use Rattle.std.specs.Result.{IsOk}
-use Rattle.zone_spec.specs.declared.Zone.{Zone}
 use Rattle.zone_spec.specs.declared.params.Params.{Params}
 use Rattle.zone_spec.specs.declared.params.LayoutFault.{LayoutFault}
-use Rattle.zone_spec.specs.Layout.{layout_of, rounded}
 use Rattle.grammar_spec.specs.ZoneWords.{read_of}
-use Rattle.report_spec.specs.AsGiven.{layout_as_given}
+use Rattle.report_tool.specs.Layouts.{layout_by, memory_by}
 use Rattle.report_tool.specs.declared.plan.Plan.{Plan}
 use Rattle.report_tool.specs.declared.plan.PlanFault.{PlanFault}
 use Rattle.report_tool.specs.declared.plan.PlanFault.TheVariants.{Memory, Word, Layout}
 
--- the layout, with the memory size as given or rounded
-abbrev pub layout_by : Bool → Params → Result (List Zone) LayoutFault
-layout_by true p = layout_as_given p
-layout_by false p = layout_of p
-
-abbrev pub memory_by : Bool → Params → ℕ
-memory_by true p = p.mem
-memory_by false p = rounded p.mem
-
 -- a plan of these parameters
 pub record IsLaid (is_as_given : Bool) (p : Params) (plan : Plan) : Type 0 where
   pub params_same : plan.params ≡ p
+  pub way_same : plan.is_as_given ≡ is_as_given
   pub mem_is : plan.mem ≡ memory_by is_as_given p
   pub zones_are : layout_by is_as_given p ≡ Ok plan.zones.items
 

@@ -1,5 +1,5 @@
 -- Files made in a folder
-use Rattle.std.specs.Prelude.{◌≡◌, ℕ, ◌≤◌, List, [], ◌∷◌, ◌++◌, length, map, take, ⊤, Option, Some, None}
+use Rattle.std.specs.Prelude.{◌≡◌, ℕ, ◌≤◌, List, ◌++◌, length, map, take, ⊤, Option, Some, None}
 use Rattle.zone_spec.specs.Names.{name_text}
 use Rattle.report_spec.specs.Records.{RecordHeld}
 

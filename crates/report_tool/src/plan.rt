@@ -1,9 +1,7 @@
 // How images are read.
-ghost use Rattle.std.specs.Prelude.{◌<◌, ◌^◌, length, MatchResult};
-ghost use Rattle.zone_spec.specs.Layouts.{IsLayout};
+ghost use Rattle.std.specs.Prelude.{◌≡◌, ◌<◌, ◌^◌, true, false, Ok, MatchResult};
 ghost use Rattle.zone_params.specs.Layouts.{IsCause};
-ghost use Rattle.old_log.specs.Saving.{AreNumbered};
-ghost use Rattle.report_tool.specs.Plans.{layout_by, IsLaid, IsPlan, IsPlanFault};
+ghost use Rattle.report_tool.specs.Layouts.{layout_by, memory_by};
 
 use grammar_spec::ParamFault;
 use kernel_layout::layout_as_given;
@@ -25,48 +23,53 @@ pub enum PlanFault {
 #[derive(Drop)]
 pub struct Plan {
     pub(crate) params: Params,
+    pub(crate) is_as_given: bool,
     pub(crate) mem: u32,
     pub(crate) zones: Vec<Zone>,
-    ghost whole: { IsLayout zones.items mem },
-    ghost few: { length zones.items < 2 ^ 32 },
-    ghost numbered: { AreNumbered zones.items },
-}
-
-// The plan of a layout that takes the memory size as it is given.
-fn as_given(alloc: Global, params: &Params) -> Result<Plan, LayoutError>
-    ensures { MatchResult result (IsLaid true params.now) (IsCause (layout_by true params.now)) }
-{
-    let zones = match layout_as_given(alloc, params) {
-        Ok(zones) => zones,
-        Err(e) => return Err(e),
-    };
-    Ok(Plan {
-        params: *params,
-        mem: params.mem as u32,
-        zones,
-    })
-}
-
-// The plan of a layout that rounds the memory size.
-fn rounded(alloc: Global, params: &Params) -> Result<Plan, LayoutError>
-    ensures { MatchResult result (IsLaid false params.now) (IsCause (layout_by false params.now)) }
-{
-    let layout = match layout(alloc, params) {
-        Ok(layout) => layout,
-        Err(e) => return Err(e),
-    };
-    let mem = layout.mem();
-    match Vec::from_slice(alloc, layout.zones()) {
-        Ok(zones) => Ok(Plan {
-            params: *params,
-            mem,
-            zones,
-        }),
-        Err(AllocError) => Err(LayoutError::Memory),
-    }
+    ghost laid: { layout_by is_as_given params ≡ Ok zones.items },
+    ghost sized: { mem ≡ memory_by is_as_given params },
+    ghost tagged: { params.ftrace_sig < 2 ^ 32 },
 }
 
 impl Plan {
+    ghost use Rattle.report_tool.specs.Plans.{IsLaid, IsPlan, IsPlanFault};
+
+    // The plan of a layout that takes the memory size as it is given.
+    fn as_given(alloc: Global, params: Params) -> Result<Plan, LayoutError>
+        ensures { MatchResult result (IsLaid true params) (IsCause (layout_by true params)) }
+    {
+        let zones = match layout_as_given(alloc, &params) {
+            Ok(zones) => zones,
+            Err(e) => return Err(e),
+        };
+        Ok(Plan {
+            params,
+            is_as_given: true,
+            mem: params.mem as u32,
+            zones,
+        })
+    }
+
+    // The plan of a layout that rounds the memory size.
+    fn rounded(alloc: Global, params: Params) -> Result<Plan, LayoutError>
+        ensures { MatchResult result (IsLaid false params) (IsCause (layout_by false params)) }
+    {
+        let layout = match layout(alloc, &params) {
+            Ok(layout) => layout,
+            Err(e) => return Err(e),
+        };
+        let mem = layout.mem();
+        match Vec::from_slice(alloc, layout.zones()) {
+            Ok(zones) => Ok(Plan {
+                params,
+                is_as_given: false,
+                mem,
+                zones,
+            }),
+            Err(AllocError) => Err(LayoutError::Memory),
+        }
+    }
+
     /// The plan of these words (`key=value`, as `zone_params::read_words` reads them). `is_as_given` takes a memory size
     /// that is no power of two as it is, as the kernel does; else it is rounded down.
     pub fn new(alloc: Global, words: &[String], is_as_given: bool) -> Result<Plan, PlanFault>
@@ -77,9 +80,9 @@ impl Plan {
             Err(fault) => return Err(PlanFault::Word(fault)),
         };
         let plan = if is_as_given {
-            as_given(alloc, &params)
+            Plan::as_given(alloc, params)
         } else {
-            rounded(alloc, &params)
+            Plan::rounded(alloc, params)
         };
         match plan {
             Ok(plan) => Ok(plan),

@@ -25,15 +25,15 @@ pub trait Folder {
         ensures cause { HasCause (faults self.old) (faults self.new) result };
 }
 
-fn save_record<F: Folder>(folder: &mut F, record: &HeldRecord) -> Result<(), Failed>
+fn save_record<F: Folder>(folder: &mut F, held: &HeldRecord) -> Result<(), Failed>
     ensures made { OnOk result (Makes (F.made folder.old) (F.made folder.new)
-        ((name_text record.now.name, record.now.content) ∷ [])) }
+        ((name_text held.now.name, held.now.content) ∷ [])) }
     ensures kept { OnErr result (F.made folder.new ≡ F.made folder.old) }
     ensures cause { HasCause (F.faults folder.old) (F.faults folder.new) result }
 {
     let mut name: ArrayString<30> = ArrayString::new();
-    name_text(record.name, &mut name);
-    folder.make(name.as_str(), record.content.as_slice())
+    name_text(held.name, &mut name);
+    folder.make(name.as_str(), held.content.as_slice())
 }
 
 /// Makes a file of each record, in order, under its name in a mounted pstore. Ends at the first fault, and leaves the
@@ -44,8 +44,8 @@ pub fn save<F: Folder>(folder: &mut F, report: &Report) -> Result<(), Failed>
         (λ _. MakesFirst report.now.records (F.made folder.old) (F.made folder.new)) }
     ensures cause { HasCause (F.faults folder.old) (F.faults folder.new) result }
 {
-    for record in report.records() {
-        save_record(folder, record)?;
+    for held in report.records() {
+        save_record(folder, held)?;
     }
     Ok(())
 }

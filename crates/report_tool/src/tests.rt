@@ -47,9 +47,21 @@ fn reported(alloc: Global, format: Format, len: usize) -> Result<Result<Vec<u8>,
 #[test]
 fn each_format(rt: HostRuntime) -> Result<(), Fail> {
     for (format, front, piece) in [
-        (Format::Text, "a.img\nzones 1, records 1\n", "console-ramoops-0\n"),
-        (Format::Json, "{\"parameters\":{\"block_size\":128,", "\"text\":\"a<\\n\""),
-        (Format::Html, "<!doctype html>\n<html lang=\"en\">\n", "<pre>\na&lt;\n</pre>"),
+        (
+            Format::Text,
+            "a.img\nzones 1, records 1\n",
+            "console-ramoops-0\n",
+        ),
+        (
+            Format::Json,
+            "{\"parameters\":{\"block_size\":128,",
+            "\"text\":\"a<\\n\"",
+        ),
+        (
+            Format::Html,
+            "<!doctype html>\n<html lang=\"en\">\n",
+            "<pre>\na&lt;\n</pre>",
+        ),
     ] {
         let Ok(shown) = reported(rt.alloc(), format, 4096)? else {
             return Err(Fail::from("the image was reported"));
@@ -64,7 +76,13 @@ fn each_format(rt: HostRuntime) -> Result<(), Fail> {
 #[test]
 fn a_short_image(rt: HostRuntime) -> Result<(), Fail> {
     let stop = reported(rt.alloc(), Format::Json, 4095)?.err();
-    assert_eq!(rt; stop, Some(Stop::Short { has: 4095, needed: 4096 }));
+    assert_eq!(rt;
+        stop,
+        Some(Stop::Short {
+            has: 4095,
+            needed: 4096
+        })
+    );
     Ok(())
 }
 
@@ -74,10 +92,26 @@ fn plans(rt: HostRuntime) -> Result<(), Fail> {
         ("mem_size=4096", false, None),
         ("mem_size=6000", false, None),
         ("mem_size=6000", true, None),
-        ("mem_size=0", false, Some(PlanFault::Layout(LayoutFault::NoMemory))),
-        ("mem_size=0", true, Some(PlanFault::Layout(LayoutFault::NoMemory))),
-        ("mem_size=x", true, Some(PlanFault::Word(ParamFault::NotANumber(0)))),
-        ("pmsg_size=1", true, Some(PlanFault::Word(ParamFault::Twice(3)))),
+        (
+            "mem_size=0",
+            false,
+            Some(PlanFault::Layout(LayoutFault::NoMemory)),
+        ),
+        (
+            "mem_size=0",
+            true,
+            Some(PlanFault::Layout(LayoutFault::NoMemory)),
+        ),
+        (
+            "mem_size=x",
+            true,
+            Some(PlanFault::Word(ParamFault::NotANumber(0))),
+        ),
+        (
+            "pmsg_size=1",
+            true,
+            Some(PlanFault::Word(ParamFault::Twice(3))),
+        ),
     ] {
         let words = console(rt.alloc(), mem)?;
         let plan = Plan::new(rt.alloc(), &words, is_as_given);
