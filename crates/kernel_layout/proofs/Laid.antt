@@ -137,3 +137,22 @@ pub numbered : (p : Params) → length (zones_as_given p) < 2 ^ 32 → (i : ℕ)
     → slice_get (zones_as_given p) i ≡ Some z → z.name.index < 2 ^ 32
 numbered p h = below-at (2 ^ 32) (zones_as_given p)
     (numbers-below p 0 (rows_as_given p) (2 ^ 32) (omega (arith, h)))
+
+-- ---- what an answer of zones says
+
+pub record IsAnswered (p : Params) (zones : List Zone) : Type 0 where
+  pub of_parameters : first_fault (parameter_faults_as_given p) ≡ None
+  pub of_zones : first_fault (zone_faults (zones_as_given p)) ≡ None
+  pub same : zones_as_given p ≡ zones
+
+by-answer : (a b : Option LayoutFault) (all zones : List Zone) → ok_unless (option_or a b) all ≡ Ok zones
+    → (a ≡ None) × (b ≡ None) × (all ≡ zones)
+by-answer None None all zones h = (refl, refl, cc)
+by-answer None (Some f) all zones h = cc
+by-answer (Some f) b all zones h = cc
+
+pub answered : (p : Params) (zones : List Zone) → layout_as_given p ≡ Ok zones → IsAnswered p zones
+answered p zones h =
+    let parts = by-answer (first_fault (parameter_faults_as_given p)) (first_fault (zone_faults (zones_as_given p)))
+    (zones_as_given p) zones (sym (by-faults p) ∙ h) in
+    record { of_parameters = parts.0; of_zones = parts.1; same = parts.2 }

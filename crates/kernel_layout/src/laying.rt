@@ -1,5 +1,5 @@
 // The zones laid out, one row after another.
-ghost use Rattle.std.specs.Prelude.{◌≡◌, ◌<◌, ◌^◌, ℕ, None, Some, Ok, length, slice_get, IfOk, MatchResult};
+ghost use Rattle.std.specs.Prelude.{◌≡◌, ◌<◌, ◌≤◌, ◌^◌, ℕ, None, Some, Ok, length, slice_get, IfOk, MatchResult};
 ghost use Rattle.zone_spec.specs.declared.Zone.{Zone as ZoneValue};
 ghost use Rattle.zone_spec.specs.Layout.{first_fault, zone_faults};
 ghost use Rattle.zone_spec.specs.Layouts.{IsLayout};
@@ -47,10 +47,11 @@ fn list_zones(
 }
 
 /// The layout of the parameters with the memory size as given, or their first fault. The zones are whole: valid, one
-/// behind another from 0 on, and within the memory.
+/// behind another from 0 on, and within the memory, which has at most 2^24 bytes.
 pub fn layout_as_given(alloc: Global, p: &Params) -> Result<Vec<Zone>, LayoutError>
     ensures layout { MatchResult result (λ zones. as_given p.now ≡ Ok zones.items) (IsCause (as_given p.now)) }
     ensures whole { IfOk result (λ zones. IsLayout zones.items p.now.mem) }
+    ensures memory { IfOk result (λ _. p.now.mem ≤ 2 ^ 24) }
     ensures few { IfOk result (λ zones. length zones.items < 2 ^ 32) }
     ensures numbered { IfOk result (λ zones. (i : ℕ) (z : ZoneValue) → slice_get zones.items i ≡ Some z
         → z.name.index < 2 ^ 32) }

@@ -75,7 +75,14 @@ fn add_rows<'a>(pieces: &mut Vec<Piece<'a>>, bytes: &'a [u8]) -> Result<(), Allo
     Ok(())
 }
 
-/// Adds a heading and the last lines of a record, if there is one.
+fn is_compressed(name: Name) -> bool {
+    match name {
+        Name::Dump { packed, .. } => packed,
+        Name::Console | Name::Pmsg | Name::Ftrace => false,
+    }
+}
+
+/// Adds a heading and the last lines of a record, if there is one. Compressed bytes are not shown.
 fn add_tail<'a>(
     pieces: &mut Vec<Piece<'a>>,
     heading: &'static str,
@@ -84,6 +91,10 @@ fn add_tail<'a>(
     ensures { OnOk result (numbers pieces.new.items ≡ numbers pieces.old.items) }
 {
     match entry {
+        Some(entry) if is_compressed(entry.name) => add(
+            pieces,
+            &[Piece::Own(heading), Piece::Own("  (compressed)\n")],
+        ),
         Some(entry) => {
             add(pieces, &[Piece::Own(heading)])?;
             let bytes = entry.content.as_slice();

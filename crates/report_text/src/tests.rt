@@ -4,6 +4,7 @@ use crate::records::add_time;
 use crate::text;
 use box_io::Bytes;
 use record_report::report_of;
+use std::alloc::Global;
 use std::test::Fail;
 use zone_params::{Params, layout};
 use zone_spec::Time;
@@ -44,24 +45,38 @@ last lines of the console
   one\\x5c\\xff
 ";
 
-// The records of the two zones, one with an escape sequence.
-#[test]
-fn two_records(rt: HostRuntime) -> Result<(), Fail> {
-    let mut bytes = Vec::new(rt.alloc());
+// The text of the two zones, with this time line and an escape sequence in the console.
+fn shown(alloc: Global, line: &[u8]) -> Result<Bytes, Fail> {
+    let mut bytes = Vec::new(alloc);
     bytes.extend_from_slice(&[0x44, 0x42, 0x47, 0x43, 38, 0, 0, 0, 38, 0, 0, 0])?;
-    bytes.extend_from_slice(b"====1764201858.836908-D\nPanic#1 Part1\n")?;
+    bytes.extend_from_slice(line)?;
+    bytes.extend_from_slice(b"Panic#1 Part1\n")?;
     bytes.resize(4096, 0)?;
     bytes.extend_from_slice(&[0x44, 0x42, 0x47, 0x43, 15, 0, 0, 0, 15, 0, 0, 0])?;
     bytes.extend_from_slice(b"\x1b[31mred\none\\\xff\n")?;
     bytes.resize(8192, 0)?;
-    let zones = layout(rt.alloc(), &PARAMS)?;
+    let zones = layout(alloc, &PARAMS)?;
     let image = Bytes::from_vec(bytes);
     if image.len() != zones.mem() as usize {
         return Err(Fail::from("the image has another size"));
     }
-    let report = report_of(rt.alloc(), &zones, image)?;
-    let shown = text(rt.alloc(), b"a\x1bb", zones.zones(), &report)?;
-    assert_eq!(rt; str::from_utf8(shown.as_slice())?, TEXT);
+    let report = report_of(alloc, &zones, image)?;
+    Ok(text(alloc, b"a\x1bb", zones.zones(), &report)?)
+}
+
+#[test]
+fn two_records(rt: HostRuntime) -> Result<(), Fail> {
+    let text = shown(rt.alloc(), b"====1764201858.836908-D\n")?;
+    assert_eq!(rt; str::from_utf8(text.as_slice())?, TEXT);
+    Ok(())
+}
+
+#[test]
+fn a_compressed_dump(rt: HostRuntime) -> Result<(), Fail> {
+    let text = shown(rt.alloc(), b"====1764201858.836908-C\n")?;
+    let text = str::from_utf8(text.as_slice())?;
+    assert!(rt; text.contains("dmesg-ramoops-0.enc.z\n"));
+    assert!(rt; text.contains("last lines of the newest dump\n  (compressed)\n"));
     Ok(())
 }
 

@@ -4,6 +4,7 @@ use Rattle.std.specs.Prelude.{slice_get}
 use Rattle.zone_spec.specs.declared.Zone.{Zone}
 use Rattle.zone_spec.specs.Layouts.{IsLayout}
 use Rattle.zone_params.proofs.LaidOut.{ok_is}
+use Rattle.kernel_layout.proofs.Frames.{has-room}
 use Rattle.kernel_layout.proofs.Laid.{refused, refused-zones, laid-out, whole, few, numbered}
 use Rattle.kernel_layout.proofs.laying.layout_as_given.Goals as goal
 
@@ -26,6 +27,10 @@ returns-in-Ok-clause-whole c = subst (λ (zs : List Zone). IsLayout zs c.args.p.
     (whole c.args.p.now (sym c.parameter_fault.ensures ∙ c.in_default.is)
     c.framed-frame.ensures.tag
     (sym c.zone_fault.ensures ∙ c.in_default-zone_fault.is))
+
+pub returns-in-Ok-clause-memory : goal.returns-in-Ok-clause-memory
+returns-in-Ok-clause-memory c =
+    (has-room c.args.p.now (sym c.parameter_fault.ensures ∙ c.in_default.is)).memory
 
 pub returns-in-Ok-clause-few : goal.returns-in-Ok-clause-few
 returns-in-Ok-clause-few c = subst (λ (zs : List Zone). length zs < 2 ^ 32) (sym c.in-Ok.ensures)

@@ -1,0 +1,68 @@
+// The words of the command line.
+use clap::{Arg, ArgAction, Command};
+use std::alloc::{AllocError, Global};
+
+const FORMATS: [&str; 3] = ["text", "json", "html"];
+
+// What says how the images are laid out.
+fn with_layout(alloc: Global, command: Command<'static>) -> Result<Command<'static>, AllocError> {
+    let param = Arg::new(alloc, "param")
+        .long("param")
+        .value_name("KEY=VALUE")
+        .action(ArgAction::Append)
+        .help("A parameter of the layout, such as mem_size=0x100000; may be given again");
+    let cmdline = Arg::new(alloc, "cmdline")
+        .long("cmdline")
+        .value_name("TEXT")
+        .conflicts_with("cmdline-file")?
+        .help("A kernel's command line, whose ramoops. words are parameters");
+    let file = Arg::new(alloc, "cmdline-file")
+        .long("cmdline-file")
+        .value_name("FILE")
+        .help("A file with a kernel's command line, such as /proc/cmdline");
+    let kernel = Arg::new(alloc, "kernel")
+        .long("kernel")
+        .value_name("X.Y.Z")
+        .help("The version of the kernel that wrote the ftrace zones");
+    let as_given = Arg::new(alloc, "mem-as-given")
+        .long("mem-as-given")
+        .action(ArgAction::SetTrue)
+        .help("Take a mem_size that is no power of two as it is, as the kernel does");
+    command
+        .arg(param)?
+        .arg(cmdline)?
+        .arg(file)?
+        .arg(kernel)?
+        .arg(as_given)
+}
+
+// What is done with the images, and the images.
+fn with_work(alloc: Global, command: Command<'static>) -> Result<Command<'static>, AllocError> {
+    let format = Arg::new(alloc, "format")
+        .long("format")
+        .value_name("FORMAT")
+        .value_parser(FORMATS.as_slice())
+        .default_value("text")
+        .help("How the report is written");
+    let save = Arg::new(alloc, "save").long("save").value_name("DIR").help(
+        "Save each record in this folder under its pstore name; no file is overwritten",
+    );
+    let images = Arg::new(alloc, "image")
+        .value_name("IMAGE")
+        .required(true)
+        .action(ArgAction::Append)
+        .num_args(1..)
+        .help("A file with the memory of a ramoops region");
+    command.arg(format)?.arg(save)?.arg(images)
+}
+
+/// The command, with its help.
+pub fn command(alloc: Global) -> Result<Command<'static>, AllocError> {
+    let command = Command::new(alloc, "oopsreport")
+        .version("0.1")
+        .about("Shows what images of ramoops regions hold. No image is written.")
+        .after_help(
+            "Status: 0 done, 1 an image was not reported or a record not saved, 2 wrong words.",
+        );
+    with_work(alloc, with_layout(alloc, command)?)
+}

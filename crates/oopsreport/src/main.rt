@@ -1,0 +1,143 @@
+//! `oopsreport`: what images of ramoops regions hold, as text, as lines of JSON or as a page. Images are only read.
+#![tactic(auto)]
+
+mod command;
+mod folder;
+mod layout;
+
+use anyhow::{Context, Result, anyhow};
+use box_io::{FileStore, WriterSink};
+use clap::ArgMatches;
+use clap::error::ErrorKind;
+use command::command;
+use folder::Dir;
+use layout::plan;
+use report_tool::{Format, Plan, Stop, report, save};
+use std::alloc::Global;
+use std::io::IsTerminal;
+use std::process::ExitCode;
+use std::rt::Runtime;
+use std::{env, fs, io};
+
+/// The status where an image was not reported or a record was not saved.
+const NOT_DONE: u8 = 1;
+
+/// The status where the words of the command line are wrong.
+const WRONG_WORDS: u8 = 2;
+
+fn format(matches: &ArgMatches<'_>) -> Format {
+    match matches.get_str("format") {
+        Some("json") => Format::Json,
+        Some("html") => Format::Html,
+        _ => Format::Text,
+    }
+}
+
+// Why an image was not reported.
+fn told(stop: Stop) -> anyhow::Error {
+    match stop {
+        Stop::Short { has, needed } => anyhow!("it has {has} bytes, and the layout needs {needed}"),
+        Stop::ImageFault => anyhow!("it could not be read"),
+        Stop::SinkFault => anyhow!("standard output could not be written"),
+        _ => anyhow!("out of memory"),
+    }
+}
+
+// One image: its report, and its records saved where a folder is named.
+fn one_image<R: Runtime>(
+    rt: &R,
+    alloc: Global,
+    plan: &Plan,
+    format: Format,
+    folder: Option<&str>,
+    path: &str,
+) -> Result<()> {
+    fs::metadata(rt, path)?;
+    let mut image = FileStore::new(rt, alloc, path)?;
+    let mut out = WriterSink::new(io::writer(rt));
+    let report = match report(alloc, plan, format, path, &mut image, &mut out) {
+        Ok(report) => report,
+        Err(stop) => return Err(told(stop)),
+    };
+    let Some(folder) = folder else {
+        return Ok(());
+    };
+    let mut dir = Dir::new(rt.clone()?, alloc, folder).context(format_args!("{folder}"))?;
+    match save(&mut dir, &report) {
+        Ok(()) => Ok(()),
+        Err(_) => match dir.error() {
+            Some(e) => Err(anyhow!("a record was not saved in {folder}: {e}")),
+            None => Err(anyhow!("a record was not saved in {folder}")),
+        },
+    }
+}
+
+// All images, one after another, and the status.
+fn all_images<R: Runtime>(
+    rt: &R,
+    alloc: Global,
+    plan: &Plan,
+    matches: &ArgMatches<'_>,
+    shows_progress: bool,
+) -> Result<u8> {
+    let paths = matches.get_strs("image").unwrap_or(&[]);
+    let count = paths.len();
+    let mut status = 0;
+    for (i, path) in paths.iter().enumerate() {
+        if shows_progress && count > 1 {
+            eprint!(rt; "\r{i} of {count} ")?;
+        }
+        let folder = matches.get_str("save");
+        match one_image(rt, alloc, plan, format(matches), folder, path) {
+            Ok(()) => (),
+            Err(e) => {
+                status = NOT_DONE;
+                eprintln!(rt; "oopsreport: {path}: {e:#}")?;
+            }
+        }
+    }
+    if shows_progress && count > 1 {
+        eprintln!(rt; "\r{count} of {count} ")?;
+    }
+    Ok(status)
+}
+
+// Reads the words, and does what they ask.
+fn run<R: Runtime>(rt: &R, alloc: Global, words: &[String], shows_progress: bool) -> Result<u8> {
+    let matches = match command(alloc)?.try_get_matches_from(words) {
+        Ok(matches) => matches,
+        Err(error) => {
+            error.print(rt)?;
+            return Ok(error.exit_code() as u8);
+        }
+    };
+    let images = matches.get_strs("image").unwrap_or(&[]).len();
+    if images > 1 && format(&matches) == Format::Html {
+        let error = command(alloc)?.error(ErrorKind::TooManyValues, "a page shows one image")?;
+        error.print(rt)?;
+        return Ok(WRONG_WORDS);
+    }
+    match plan(rt, alloc, &matches) {
+        Ok(plan) => all_images(rt, alloc, &plan, &matches, shows_progress),
+        Err(e) => {
+            eprintln!(rt; "error: {e:#}")?;
+            Ok(WRONG_WORDS)
+        }
+    }
+}
+
+fn try_run(rt: &HostRuntime) -> Result<u8> {
+    let alloc = rt.alloc();
+    let words: Vec<String> = env::args(rt)?.collect(alloc)?;
+    run(rt, alloc, &words, rt.stderr().is_terminal())
+}
+
+fn main(rt: HostRuntime) -> ExitCode {
+    match try_run(&rt) {
+        Ok(status) => ExitCode::from(status),
+        Err(e) => {
+            let _told = eprintln!(rt; "oopsreport: {e:#}");
+            ExitCode::from(NOT_DONE)
+        }
+    }
+}

@@ -1,0 +1,44 @@
+-- One image, from its store to the sink
+use Rattle.std.specs.Prelude.{◌≡◌, ℕ, ◌≤◌, List, length, take, ⊤, Option, IfSome}
+use Rattle.std.specs.Io.KnownBytes.{Appends}
+use Rattle.box_io.specs.Outside.{Rose}
+use Rattle.record_report.specs.Reports.{ReportHeld, IsReport}
+use Rattle.tool_spec.specs.declared.Stop.{Stop}
+use Rattle.tool_spec.specs.declared.Stop.TheVariants.{Memory, ImageFault, Short, SinkFault}
+use Rattle.tool_frame.specs.Stages.{LoadStop}
+use Rattle.report_tool.specs.declared.plan.Plan.{Plan}
+use Rattle.report_tool.specs.declared.showing.Format.{Format}
+use Rattle.report_tool.specs.Shown.{Shows}
+
+-- the report of an image that a store holds in front
+pub record IsRead (plan : Plan) (holds : Option (List ℕ)) (report : ReportHeld) : Type 0 where
+  pub bytes : List ℕ
+  pub of_bytes : IsReport plan.zones.items bytes report
+  pub held : IfSome holds (λ bs. (plan.mem ≤ length bs) × (bytes ≡ take plan.mem bs))
+
+-- it was read, and written in a format to the sink
+pub record IsReported (format : Format) (path : List ℕ) (plan : Plan) (holds given now : Option (List ℕ))
+    (report : ReportHeld) : Type 0 where
+  pub is_read : IsRead plan holds report
+  pub text : List ℕ
+  pub shown : Shows format path plan report text
+  pub appended : Appends given now text
+
+-- what the sink was given, where the image was not reported: nothing, but where the sink itself failed
+abbrev pub IsGiven : Stop → Option (List ℕ) → Option (List ℕ) → Type 0
+IsGiven SinkFault given now = ⊤
+IsGiven s given now = now ≡ given
+
+abbrev pub IsReportStop : Stop → Plan → Option (List ℕ) → ℕ → ℕ → ℕ → ℕ → Type 0
+IsReportStop Memory plan holds read_before read_now put_before put_now = ⊤
+IsReportStop ImageFault plan holds read_before read_now put_before put_now = Rose read_before read_now
+IsReportStop (Short has needed) plan holds read_before read_now put_before put_now =
+    LoadStop (Short has needed) plan.mem holds read_before read_now
+IsReportStop SinkFault plan holds read_before read_now put_before put_now = Rose put_before put_now
+IsReportStop s plan holds read_before read_now put_before put_now = ⊥
+
+-- why an image was not reported
+pub record IsNotReported (stop : Stop) (plan : Plan) (holds : Option (List ℕ)) (read_before read_now : ℕ)
+    (given now : Option (List ℕ)) (put_before put_now : ℕ) : Type 0 where
+  pub cause : IsReportStop stop plan holds read_before read_now put_before put_now
+  pub sink : IsGiven stop given now

@@ -1,0 +1,60 @@
+// One image, from its store to the sink.
+ghost use Rattle.std.specs.Prelude.{◌≡◌, ◌≤◌, IfOk, IfErr, MatchResult};
+ghost use Rattle.box_io.specs.Outside.{HasCause};
+ghost use Rattle.tool_frame.specs.Stages.{LoadStop};
+ghost use Rattle.report_tool.specs.Images.{IsRead, IsReported, IsNotReported};
+ghost use Rattle.report_tool.specs.Shown.{IsOf, Shows};
+
+use crate::showing::{Format, shown};
+use crate::{Plan, Stop};
+use box_io::{Bytes, Failed, Sink, Store};
+use record_report::{Report, report_of_zones};
+use std::alloc::Global;
+use tool_frame::load;
+
+// Reads an image.
+fn read<M: Store>(alloc: Global, plan: &Plan, image: &mut M) -> Result<Report, Stop>
+    ensures ok { IfOk result (IsRead plan.now (M.holds image.old)) }
+    ensures err { IfErr result (λ s. LoadStop s plan.now.mem (M.holds image.old) (M.faults image.old)
+        (M.faults image.new)) }
+    ensures same { M.holds image.new ≡ M.holds image.old }
+    ensures later { M.faults image.old ≤ M.faults image.new }
+{
+    let bytes = match load(alloc, image, plan.mem) {
+        Ok(bytes) => Bytes::from_vec(bytes),
+        Err(stop) => return Err(stop),
+    };
+    match report_of_zones(alloc, &plan.zones, bytes) {
+        Ok(report) => Ok(report),
+        Err(_) => Err(Stop::Memory),
+    }
+}
+
+/// Reads the image and gives its report to the sink, written in a format and headed by `path`. The image is not written.
+/// Whatever goes wrong, the sink is given nothing before all of the report is written.
+pub fn report<M: Store, W: Sink>(
+    alloc: Global,
+    plan: &Plan,
+    format: Format,
+    path: &str,
+    image: &mut M,
+    out: &mut W,
+) -> Result<Report, Stop>
+    ensures reported { MatchResult result (IsReported format path.now plan.now (M.holds image.old) (W.given out.old)
+        (W.given out.new)) (λ stop. IsNotReported stop plan.now (M.holds image.old) (M.faults image.old)
+        (M.faults image.new) (W.given out.old) (W.given out.new) (W.faults out.old) (W.faults out.new)) }
+    ensures same { M.holds image.new ≡ M.holds image.old }
+    ensures later { (M.faults image.old ≤ M.faults image.new) × (W.faults out.old ≤ W.faults out.new) }
+{
+    let report = match read(alloc, plan, image) {
+        Ok(report) => report,
+        Err(stop) => return Err(stop),
+    };
+    let Ok(bytes) = shown(alloc, plan, format, path, &report) else {
+        return Err(Stop::Memory);
+    };
+    match out.put(&bytes) {
+        Ok(()) => Ok(report),
+        Err(Failed) => Err(Stop::SinkFault),
+    }
+}

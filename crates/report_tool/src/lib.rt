@@ -1,0 +1,19 @@
+//! Reports of images: the plan by which images are read, the report of an image written as text, JSON or HTML, and its
+//! records saved as files.
+//!
+//! Nothing here writes an image: a store is only read.
+#![tactic(auto)]
+
+mod images;
+mod plan;
+mod saving;
+mod showing;
+
+pub use images::report;
+pub use plan::{Plan, PlanFault};
+pub use saving::{Folder, save};
+pub use showing::Format;
+pub use tool_frame::Stop;
+
+#[cfg(test)]
+mod tests;

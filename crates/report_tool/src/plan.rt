@@ -1,0 +1,93 @@
+// How images are read.
+ghost use Rattle.std.specs.Prelude.{◌≡◌, ◌<◌, ◌^◌, true, false, Ok, MatchResult};
+ghost use Rattle.zone_params.specs.Layouts.{IsCause};
+ghost use Rattle.report_tool.specs.Layouts.{layout_by, memory_by};
+
+use grammar_spec::ParamFault;
+use kernel_layout::layout_as_given;
+use std::alloc::{AllocError, Global};
+use zone_params::{LayoutError, layout, read_words};
+use zone_spec::{LayoutFault, Params, Zone};
+
+/// Why there is no plan.
+#[derive(Clone, Copy, Debug, PartialEq, Eq)]
+pub enum PlanFault {
+    Memory,
+    /// The first faulty word, counted from 0.
+    Word(ParamFault),
+    /// The words give parameters that have no layout.
+    Layout(LayoutFault),
+}
+
+/// How images are read: the parameters, the bytes of an image, and its zones.
+#[derive(Drop)]
+pub struct Plan {
+    pub(crate) params: Params,
+    pub(crate) is_as_given: bool,
+    pub(crate) mem: u32,
+    pub(crate) zones: Vec<Zone>,
+    ghost laid: { layout_by is_as_given params ≡ Ok zones.items },
+    ghost sized: { mem ≡ memory_by is_as_given params },
+    ghost tagged: { params.ftrace_sig < 2 ^ 32 },
+}
+
+impl Plan {
+    ghost use Rattle.report_tool.specs.Plans.{IsLaid, IsPlan, IsPlanFault};
+
+    // The plan of a layout that takes the memory size as it is given.
+    fn as_given(alloc: Global, params: Params) -> Result<Plan, LayoutError>
+        ensures { MatchResult result (IsLaid true params) (IsCause (layout_by true params)) }
+    {
+        let zones = match layout_as_given(alloc, &params) {
+            Ok(zones) => zones,
+            Err(e) => return Err(e),
+        };
+        Ok(Plan {
+            params,
+            is_as_given: true,
+            mem: params.mem as u32,
+            zones,
+        })
+    }
+
+    // The plan of a layout that rounds the memory size.
+    fn rounded(alloc: Global, params: Params) -> Result<Plan, LayoutError>
+        ensures { MatchResult result (IsLaid false params) (IsCause (layout_by false params)) }
+    {
+        let layout = match layout(alloc, &params) {
+            Ok(layout) => layout,
+            Err(e) => return Err(e),
+        };
+        let mem = layout.mem();
+        match Vec::from_slice(alloc, layout.zones()) {
+            Ok(zones) => Ok(Plan {
+                params,
+                is_as_given: false,
+                mem,
+                zones,
+            }),
+            Err(AllocError) => Err(LayoutError::Memory),
+        }
+    }
+
+    /// The plan of these words (`key=value`, as `zone_params::read_words` reads them). `is_as_given` takes a memory size
+    /// that is no power of two as it is, as the kernel does; else it is rounded down.
+    pub fn new(alloc: Global, words: &[String], is_as_given: bool) -> Result<Plan, PlanFault>
+        ensures { MatchResult result (IsPlan words.now is_as_given) (IsPlanFault words.now is_as_given) }
+    {
+        let params = match read_words(words) {
+            Ok(params) => params,
+            Err(fault) => return Err(PlanFault::Word(fault)),
+        };
+        let plan = if is_as_given {
+            Plan::as_given(alloc, params)
+        } else {
+            Plan::rounded(alloc, params)
+        };
+        match plan {
+            Ok(plan) => Ok(plan),
+            Err(LayoutError::Fault(fault)) => Err(PlanFault::Layout(fault)),
+            Err(LayoutError::Memory) => Err(PlanFault::Memory),
+        }
+    }
+}

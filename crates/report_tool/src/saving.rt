@@ -1,0 +1,51 @@
+// The records of a report as files.
+ghost use Rattle.std.specs.Prelude.{◌≡◌, ℕ, [], ◌∷◌, List, Option, MatchResult, OnOk, OnErr};
+ghost use Rattle.box_io.specs.Outside.{HasCause};
+ghost use Rattle.zone_spec.specs.Names.{name_text};
+ghost use Rattle.report_tool.specs.Saved.{Makes, MakesFirst, files_of};
+
+use arrayvec::ArrayString;
+use box_io::Failed;
+use pstore_names::{HeldRecord, name_text};
+use record_report::Report;
+
+/// A folder in which files are made.
+pub trait Folder {
+    // The names and contents of the files that were made, in order, where the folder tells them.
+    ghost made: { Self → Option (List (List ℕ × List ℕ)) };
+
+    // How often it has failed.
+    ghost faults: { Self → ℕ };
+
+    /// Makes a file of this name and content. It is a fault where a file of this name stands already, which is then left
+    /// as it is.
+    fn make(&mut self, name: &str, content: &[u8]) -> Result<(), Failed>
+        ensures made { OnOk result (Makes (made self.old) (made self.new) ((name.now, content.now) ∷ [])) }
+        ensures kept { OnErr result (made self.new ≡ made self.old) }
+        ensures cause { HasCause (faults self.old) (faults self.new) result };
+}
+
+fn save_record<F: Folder>(folder: &mut F, held: &HeldRecord) -> Result<(), Failed>
+    ensures made { OnOk result (Makes (F.made folder.old) (F.made folder.new)
+        ((name_text held.now.name, held.now.content) ∷ [])) }
+    ensures kept { OnErr result (F.made folder.new ≡ F.made folder.old) }
+    ensures cause { HasCause (F.faults folder.old) (F.faults folder.new) result }
+{
+    let mut name: ArrayString<30> = ArrayString::new();
+    name_text(held.name, &mut name);
+    folder.make(name.as_str(), held.content.as_slice())
+}
+
+/// Makes a file of each record, in order, under its name in a mounted pstore. Ends at the first fault, and leaves the
+/// files that were made before it.
+pub fn save<F: Folder>(folder: &mut F, report: &Report) -> Result<(), Failed>
+    ensures made { MatchResult result
+        (λ _. Makes (F.made folder.old) (F.made folder.new) (files_of report.now.records))
+        (λ _. MakesFirst report.now.records (F.made folder.old) (F.made folder.new)) }
+    ensures cause { HasCause (F.faults folder.old) (F.faults folder.new) result }
+{
+    for held in report.records() {
+        save_record(folder, held)?;
+    }
+    Ok(())
+}

@@ -1,0 +1,2 @@
+pub mod Cmdline
+pub mod Version

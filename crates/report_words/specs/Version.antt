@@ -1,0 +1,31 @@
+-- The tag that a kernel gives its ftrace zones: its version (fs/pstore/ram.c, ramoops_probe; LINUX_VERSION_CODE)
+use Rattle.std.specs.Prelude.{ℕ, ◌+◌, ◌*◌, min, ◌==◌, ◌&&◌, nat_lt, if◌then◌else◌, List, codes, Option, Some, None}
+use Rattle.std.specs.List.{list_any, before_first, after_first}
+use Rattle.grammar_spec.specs.Numbers.{number_of}
+
+-- a patch level above 255 counts as 255
+abbrev pub version_code : ℕ → ℕ → ℕ → Option ℕ
+version_code major minor patch =
+    if nat_lt major 256 && nat_lt minor 256 then Some (major * 65536 + minor * 256 + min patch 255) else None
+
+abbrev pub code_of : Option ℕ → Option ℕ → Option ℕ → Option ℕ
+code_of (Some major) (Some minor) (Some patch) = version_code major minor patch
+code_of major minor patch = None
+
+-- what stands before the first such byte and behind it, if there is one
+abbrev pub split_at : ℕ → List ℕ → Option (List ℕ × List ℕ)
+split_at c text =
+    if list_any (λ b. b == c) text then Some (before_first (λ b. b == c) text, after_first (λ b. b == c) text) else None
+
+-- what stands behind X and its point: Y, or Y.Z
+abbrev pub minor_code : List ℕ → List ℕ → Option (List ℕ × List ℕ) → Option ℕ
+minor_code major rest None = code_of (number_of major) (number_of rest) (number_of (codes "0"))
+minor_code major rest (Some parts) = code_of (number_of major) (number_of parts.0) (number_of parts.1)
+
+abbrev pub release_code : Option (List ℕ × List ℕ) → Option ℕ
+release_code None = None
+release_code (Some parts) = minor_code parts.0 parts.1 (split_at 46 parts.1)
+
+-- X.Y or X.Y.Z; what stands behind the first `-` is the builder's
+unfoldable pub tag_of : List ℕ → Option ℕ
+tag_of version = release_code (split_at 46 (before_first (λ c. c == 45) version))
