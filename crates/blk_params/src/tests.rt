@@ -29,9 +29,8 @@ fn keys_have_their_defaults(rt: HostRuntime) {
     let p = read_blk_words(&words)
         .ok()
         .expect(&rt, "the words are parameters");
-    assert_eq!(rt;
-        p,
-        BlkParams {
+    assert!(rt;
+        p == BlkParams {
             total: 0,
             kmsg: 65536,
             console: 0,
@@ -50,47 +49,49 @@ fn zones_lie_in_order(rt: HostRuntime) {
     let p = read_blk_words(&words)
         .ok()
         .expect(&rt, "the words are parameters");
-    assert_eq!(rt;
-        blk_layout(&p),
-        Ok(BlkLayout {
-            total: 16384,
-            kmsg: 4096,
-            console: 4096,
-            pmsg: 4096,
-            dumps: 2,
-        })
+    assert!(rt;
+        blk_layout(&p)
+            == Ok(BlkLayout {
+                total: 16384,
+                kmsg: 4096,
+                console: 4096,
+                pmsg: 4096,
+                dumps: 2,
+            })
     );
 }
 
+const FAULTS: &[(&str, u32)] = &[
+    ("total_size=262144", 0),
+    ("total_size=131072", 0),
+    ("total_size=135168", 5),
+    ("total_size=0 kmsg_size=1", 1),
+    ("total_size=16777217", 3),
+    ("total_size=16777216", 0),
+    ("total_size=4097", 9),
+    ("total_size=65536 kmsg_size=4095", 9),
+    ("total_size=4096 kmsg_size=0 console_size=0 pmsg_size=0", 2),
+    (
+        "total_size=4096 kmsg_size=0 console_size=4096 pmsg_size=4096",
+        5,
+    ),
+    (
+        "total_size=8192 kmsg_size=0 console_size=4096 pmsg_size=0",
+        0,
+    ),
+    (
+        "total_size=8192 kmsg_size=8192 console_size=4096 pmsg_size=0",
+        5,
+    ),
+    (
+        "total_size=8192 kmsg_size=8192 console_size=4096 pmsg_size=4096",
+        0,
+    ),
+];
+
 #[test]
 fn faults_come_in_order(rt: HostRuntime) {
-    for (line, want) in [
-        ("total_size=262144", 0),
-        ("total_size=131072", 0),
-        ("total_size=135168", 5),
-        ("total_size=0 kmsg_size=1", 1),
-        ("total_size=16777217", 3),
-        ("total_size=16777216", 0),
-        ("total_size=4097", 9),
-        ("total_size=65536 kmsg_size=4095", 9),
-        ("total_size=4096 kmsg_size=0 console_size=0 pmsg_size=0", 2),
-        (
-            "total_size=4096 kmsg_size=0 console_size=4096 pmsg_size=4096",
-            5,
-        ),
-        (
-            "total_size=8192 kmsg_size=0 console_size=4096 pmsg_size=0",
-            0,
-        ),
-        (
-            "total_size=8192 kmsg_size=8192 console_size=4096 pmsg_size=0",
-            5,
-        ),
-        (
-            "total_size=8192 kmsg_size=8192 console_size=4096 pmsg_size=4096",
-            0,
-        ),
-    ] {
-        assert_eq!(rt; layout_fault_of(rt.alloc(), line), Ok(want), "of {line}");
+    for (line, want) in FAULTS.iter().copied() {
+        assert!(rt; layout_fault_of(rt.alloc(), line) == Ok(want), "of {line}");
     }
 }

@@ -7,6 +7,7 @@ use crate::play;
 use box_io::{Bytes, Calls, MemSink, MemStore};
 use box_script::parse;
 use std::alloc::{AllocError, Global};
+use std::process::Abort;
 use std::test::Fail;
 use tool_spec::{Cause, Stop};
 use zone_blk::BlkLayout;
@@ -56,73 +57,73 @@ fn played(
     Ok(play(alloc, LAYOUT, store, lines.as_slice(), out))
 }
 
-#[derive(Clone, Copy)]
-struct Row {
-    script: &'static str,
-    text: &'static str,
+// Scripts on zeros, and what they put.
+const DONE: &[(&str, &str)] = &[
+    (FIRST, FIRST_TEXT),
+    ("# nothing\n\n", ""),
+    (
+        "boot\nwrite console 616263\ncut 5\nwrite console 6465666768\nboot\nextract console-pstore_blk-0\n",
+        "console-pstore_blk-0 3\nabc\n",
+    ),
+    (
+        "boot\nwrite console 616263\ncut 17\nwrite console 6465666768\nboot\nextract console-pstore_blk-0\n",
+        "console-pstore_blk-0 8\nabcdefgh\n",
+    ),
+    (
+        "boot\nwrite pmsg 61\ncut 0\nboot\nerase pmsg-pstore_blk-0\nlist\nwrite pmsg 62\nboot\nlist\n",
+        "records 0\nrecords 1\npmsg-pstore_blk-0 1\n",
+    ),
+    (
+        "boot\nkdump 7 999999999 C Oops 7879\nboot\nlist\nextract dmesg-pstore_blk-0.enc.z\nerase dmesg-pstore_blk-0.enc.z\nboot\nlist\n",
+        "records 1\ndmesg-pstore_blk-0.enc.z 2 7.999999999\ndmesg-pstore_blk-0.enc.z 2\nxy\nrecords 0\n",
+    ),
+];
+
+// Scripts with a line that is refused, what they put before, the line's number, and why.
+const REFUSED: &[(&str, &str, u32, Cause)] = &[
+    ("write console 61\n", "", 1, Cause::IsOff),
+    ("\nlist\n", "", 2, Cause::IsOff),
+    ("cut 1\n", "", 1, Cause::IsOff),
+    ("stop\n", "", 1, Cause::NotHere),
+    ("boot\nlist\nflip 0 1\n", "records 0\n", 3, Cause::NotHere),
+    ("boot\nwrite ftrace-0 61\n", "", 2, Cause::NoZone),
+    ("boot\nextract dmesg-pstore_blk-0\n", "", 2, Cause::NoRecord),
+    ("boot\nerase pmsg-pstore_blk-0\n", "", 2, Cause::NoRecord),
+];
+
+// Plays a script on zeros, and looks at its end and its text.
+fn assert_played(
+    rt: &(impl Abort + AllocGlobal),
+    script: &str,
+    text: &str,
     end: Result<(), Stop>,
-}
-
-fn done(script: &'static str, text: &'static str) -> Row {
-    Row {
-        script,
-        text,
-        end: Ok(()),
-    }
-}
-
-fn refused(script: &'static str, text: &'static str, line: u32, cause: Cause) -> Row {
-    Row {
-        script,
-        text,
-        end: Err(Stop::Refused { line, cause }),
-    }
-}
-
-// Scripts on zeros, what they put and how they end.
-fn rows() -> [Row; 14] {
-    [
-        done(FIRST, FIRST_TEXT),
-        done("# nothing\n\n", ""),
-        done(
-            "boot\nwrite console 616263\ncut 5\nwrite console 6465666768\nboot\nextract console-pstore_blk-0\n",
-            "console-pstore_blk-0 3\nabc\n",
-        ),
-        done(
-            "boot\nwrite console 616263\ncut 17\nwrite console 6465666768\nboot\nextract console-pstore_blk-0\n",
-            "console-pstore_blk-0 8\nabcdefgh\n",
-        ),
-        done(
-            "boot\nwrite pmsg 61\ncut 0\nboot\nerase pmsg-pstore_blk-0\nlist\nwrite pmsg 62\nboot\nlist\n",
-            "records 0\nrecords 1\npmsg-pstore_blk-0 1\n",
-        ),
-        done(
-            "boot\nkdump 7 999999999 C Oops 7879\nboot\nlist\nextract dmesg-pstore_blk-0.enc.z\nerase dmesg-pstore_blk-0.enc.z\nboot\nlist\n",
-            "records 1\ndmesg-pstore_blk-0.enc.z 2 7.999999999\ndmesg-pstore_blk-0.enc.z 2\nxy\nrecords 0\n",
-        ),
-        refused("write console 61\n", "", 1, Cause::IsOff),
-        refused("\nlist\n", "", 2, Cause::IsOff),
-        refused("cut 1\n", "", 1, Cause::IsOff),
-        refused("stop\n", "", 1, Cause::NotHere),
-        refused("boot\nlist\nflip 0 1\n", "records 0\n", 3, Cause::NotHere),
-        refused("boot\nwrite ftrace-0 61\n", "", 2, Cause::NoZone),
-        refused("boot\nextract dmesg-pstore_blk-0\n", "", 2, Cause::NoRecord),
-        refused("boot\nerase pmsg-pstore_blk-0\n", "", 2, Cause::NoRecord),
-    ]
+) -> Result<(), Fail> {
+    let mut store = zeros(rt.alloc(), 16384, &[])?;
+    let mut out = MemSink::new(rt.alloc(), 1000, Calls::new(rt.alloc(), &[])?)?;
+    assert!(rt;
+        played(rt.alloc(), &mut store, script, &mut out)? == end,
+        "{script}"
+    );
+    assert!(rt; was_put(&out, text), "{script}");
+    Ok(())
 }
 
 #[test]
 fn worked_sessions(rt: HostRuntime) -> Result<(), Fail> {
-    let alloc = rt.alloc();
-    let rows = rows();
-    for (i, row) in rows.iter().enumerate() {
-        let mut store = zeros(alloc, 16384, &[])?;
-        let mut out = MemSink::new(alloc, 1000, Calls::new(alloc, &[])?)?;
-        let end = played(alloc, &mut store, row.script, &mut out)?;
-        assert_eq!(rt; end, row.end, "row {i}");
-        assert_eq!(rt; was_put(&out, row.text), true, "row {i}");
+    for (script, text) in DONE.iter().copied() {
+        assert_played(&rt, script, text, Ok(()))?;
+    }
+    for (script, text, line, cause) in REFUSED.iter().copied() {
+        assert_played(&rt, script, text, Err(Stop::Refused { line, cause }))?;
     }
     Ok(())
+}
+
+fn holds_at(store: &MemStore, at: usize, bytes: &[u8]) -> bool {
+    match store.bytes().get(at..) {
+        Some(rest) => rest.starts_with(bytes),
+        None => false,
+    }
 }
 
 #[test]
@@ -131,16 +132,10 @@ fn bytes_of_the_first_session(rt: HostRuntime) -> Result<(), Fail> {
     let mut store = zeros(alloc, 16384, &[])?;
     let mut out = MemSink::new(alloc, 0, Calls::new(alloc, &[])?)?;
     let script = "boot\nwrite console 616263\nkdump 5 6000 D Panic 78\n";
-    assert_eq!(rt; played(alloc, &mut store, script, &mut out)?, Ok(()));
-    assert_eq!(rt;
-        store.bytes().get(4096..4111),
-        Some(b"\x46\x42\x47\x43\x03\0\0\0\x03\0\0\0abc".as_slice())
-    );
-    assert_eq!(rt;
-        store.bytes().get(8192..8204),
-        Some(b"\x44\x42\x47\x43\x29\0\0\0\0\0\0\0".as_slice())
-    );
-    assert_eq!(rt; store.bytes().get(8244), Some(&0x78));
+    assert!(rt; played(alloc, &mut store, script, &mut out)? == Ok(()));
+    assert!(rt; holds_at(&store, 4096, b"\x46\x42\x47\x43\x03\0\0\0\x03\0\0\0abc"));
+    assert!(rt; holds_at(&store, 8192, b"\x44\x42\x47\x43\x29\0\0\0\0\0\0\0"));
+    assert!(rt; store.bytes().get(8244) == Some(&0x78));
     Ok(())
 }
 
@@ -153,12 +148,12 @@ fn each_call_of_the_store_fails(rt: HostRuntime) -> Result<(), Fail> {
         let mut out = MemSink::new(alloc, 1000, Calls::new(alloc, &[])?)?;
         match played(alloc, &mut store, FIRST, &mut out)? {
             Ok(()) => break,
-            Err(stop) => assert_eq!(rt; stop, Stop::ImageFault, "call {call}"),
+            Err(stop) => assert!(rt; stop == Stop::ImageFault, "call {call}"),
         }
         failed = call;
-        assert_eq!(rt; was_put(&out, ""), true, "call {call}");
+        assert!(rt; was_put(&out, ""), "call {call}");
     }
-    assert_eq!(rt; failed > 4 && failed < 99, true);
+    assert!(rt; failed > 4 && failed < 99);
     Ok(())
 }
 
@@ -169,8 +164,8 @@ fn each_put_fails(rt: HostRuntime) -> Result<(), Fail> {
         let mut store = zeros(alloc, 16384, &[])?;
         let mut out = MemSink::new(alloc, 1000, Calls::new(alloc, &[call])?)?;
         let end = played(alloc, &mut store, FIRST, &mut out)?;
-        assert_eq!(rt; end, Err(Stop::SinkFault), "put {call}");
-        assert_eq!(rt; was_put(&out, text), true, "put {call}");
+        assert!(rt; end == Err(Stop::SinkFault), "put {call}");
+        assert!(rt; was_put(&out, text), "put {call}");
     }
     Ok(())
 }

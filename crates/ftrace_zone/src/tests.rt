@@ -19,6 +19,11 @@ fn list(alloc: Global, words: &[u64]) -> Result<Entries, AllocError> {
     Ok(Entries::from_vec(items))
 }
 
+// The merged entries of two processors.
+const TEXT: &[u8] = b"\x01\0\0\0\0\0\0\0\x02\0\0\0\0\0\0\0\x01\x05\0\0\0\0\0\0\
+    \x01\0\0\0\0\0\0\0\x02\0\0\0\0\0\0\0\0\x05\0\0\0\0\0\0\
+    \x01\0\0\0\0\0\0\0\x02\0\0\0\0\0\0\0\0\x07\0\0\0\0\0\0";
+
 #[test]
 fn two_processors_are_merged(rt: HostRuntime) -> Result<(), Fail> {
     let alloc = rt.alloc();
@@ -29,13 +34,8 @@ fn two_processors_are_merged(rt: HostRuntime) -> Result<(), Fail> {
     let wanted = list(alloc, &words)?;
     assert!(rt; merged.as_slice() == wanted.as_slice());
     let bytes = to_bytes(alloc, &merged)?;
-    let text: [u8; 72] = [
-        1, 0, 0, 0, 0, 0, 0, 0, 2, 0, 0, 0, 0, 0, 0, 0, 1, 5, 0, 0, 0, 0, 0, 0, //
-        1, 0, 0, 0, 0, 0, 0, 0, 2, 0, 0, 0, 0, 0, 0, 0, 0, 5, 0, 0, 0, 0, 0, 0, //
-        1, 0, 0, 0, 0, 0, 0, 0, 2, 0, 0, 0, 0, 0, 0, 0, 0, 7, 0, 0, 0, 0, 0, 0,
-    ];
-    assert!(rt; bytes.as_slice() == text.as_slice());
-    let read = entries(alloc, &text)?;
+    assert!(rt; bytes.as_slice() == TEXT);
+    let read = entries(alloc, TEXT)?;
     assert!(rt; read.as_slice() == merged.as_slice());
     Ok(())
 }
@@ -60,14 +60,15 @@ fn a_ring_keeps_whole_entries(rt: HostRuntime) -> Result<(), Fail> {
     Ok(())
 }
 
+const WORDS: &[(u64, u64, u8)] = &[
+    (0x501, 5, 1),
+    (0xff, 0, 255),
+    (0xffffffffffffff03, 0xffffffffffffff, 3),
+];
+
 #[test]
 fn a_word_is_a_time_and_a_processor(rt: HostRuntime) -> Result<(), Fail> {
-    let rows: [(u64, u64, u8); 3] = [
-        (0x501, 5, 1),
-        (0xff, 0, 255),
-        (0xffffffffffffff03, 0xffffffffffffff, 3),
-    ];
-    for (word, time, cpu) in rows {
+    for (word, time, cpu) in WORDS.iter().copied() {
         assert!(rt; entry(word).time() == time);
         assert!(rt; entry(word).cpu() == cpu);
     }

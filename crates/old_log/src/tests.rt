@@ -3,6 +3,7 @@ use super::*;
 use box_io::Bytes;
 use ram_region::{Region, Spans};
 use std::alloc::{AllocError, Global};
+use std::process::Abort;
 use std::test::Fail;
 use zone_params::types::Layout;
 use zone_params::{Params, layout};
@@ -182,43 +183,82 @@ fn is_reading(
         && reading.log.as_slice() == log
 }
 
+// Looks at how zone i of these bytes reads: its state, start and size, corrected and bad, and log.
+fn assert_reads(
+    rt: &(impl Abort + AllocGlobal),
+    (p, i, bytes): (&Params, usize, &[u8]),
+    state: State,
+    words: (u32, u32),
+    counts: (u32, u32),
+    log: &[u8],
+) {
+    match reading_of(rt.alloc(), p, i, bytes) {
+        Ok(reading) => assert!(rt; is_reading(&reading, state, words, counts, log)),
+        Err(_) => panic!(rt; "no reading"),
+    }
+}
+
 #[test]
 fn a_first_record_reads(rt: HostRuntime) -> Result<(), Fail> {
-    let alloc = rt.alloc();
-    let image = ring(alloc, 3, 3, b"abc".as_slice())?;
-    let console_zone = reading_of(alloc, &console(0), 0, image.as_slice())?;
-    assert!(rt;
-        is_reading(
-            &console_zone,
-            State::Found,
-            (3, 3),
-            (0, 0),
-            b"abc".as_slice()
-        )
+    let image = ring(rt.alloc(), 3, 3, b"abc".as_slice())?;
+    let bytes = image.as_slice();
+    assert_reads(
+        &rt,
+        (&console(0), 0, bytes),
+        State::Found,
+        (3, 3),
+        (0, 0),
+        b"abc",
     );
-    let pmsg_zone = reading_of(alloc, &four(0), 3, image.as_slice())?;
-    assert!(rt; is_reading(&pmsg_zone, State::Found, (3, 3), (0, 0), b"abc".as_slice()));
-    let empty_zone = reading_of(alloc, &console(0), 0, SIGNATURE.as_slice())?;
-    assert!(rt; is_reading(&empty_zone, State::Empty, (0, 0), (0, 0), &[]));
+    assert_reads(
+        &rt,
+        (&four(0), 3, bytes),
+        State::Found,
+        (3, 3),
+        (0, 0),
+        b"abc",
+    );
+    let bytes = SIGNATURE.as_slice();
+    assert_reads(
+        &rt,
+        (&console(0), 0, bytes),
+        State::Empty,
+        (0, 0),
+        (0, 0),
+        &[],
+    );
     Ok(())
 }
 
 #[test]
 fn rings_are_turned(rt: HostRuntime) -> Result<(), Fail> {
-    let alloc = rt.alloc();
-    let ftrace = reading_of(
-        alloc,
-        &two_cpus(),
-        0,
-        ring(alloc, 2, 5, &[1, 2, 3, 4, 5])?.as_slice(),
-    )?;
-    assert!(rt; is_reading(&ftrace, State::Found, (2, 5), (0, 0), &[3, 4, 5, 1, 2]));
-    let mut image = ring(alloc, 1, 4084, &[0x62])?;
-    put(image.as_mut_slice(), 13, &[0x61; 4083]);
-    let full = reading_of(alloc, &console(0), 0, image.as_slice())?;
-    let mut log = Vec::from_elem(alloc, 0x61u8, 4083)?;
+    let image = ring(rt.alloc(), 2, 5, b"\x01\x02\x03\x04\x05")?;
+    let log = b"\x03\x04\x05\x01\x02";
+    assert_reads(
+        &rt,
+        (&two_cpus(), 0, &image),
+        State::Found,
+        (2, 5),
+        (0, 0),
+        log,
+    );
+    Ok(())
+}
+
+#[test]
+fn a_full_ring_is_turned(rt: HostRuntime) -> Result<(), Fail> {
+    let mut log = Vec::from_elem(rt.alloc(), 0x61u8, 4083)?;
+    let mut image = ring(rt.alloc(), 1, 4084, b"b")?;
+    put(image.as_mut_slice(), 13, &log);
     log.push(0x62)?;
-    assert!(rt; is_reading(&full, State::Found, (1, 4084), (0, 0), log.as_slice()));
+    assert_reads(
+        &rt,
+        (&console(0), 0, &image),
+        State::Found,
+        (1, 4084),
+        (0, 0),
+        &log,
+    );
     Ok(())
 }
 
@@ -226,35 +266,32 @@ const NO_RINGS: &[(u32, u32)] = &[(1, 0), (4, 3), (0, 4085), (0xffff_ffff, 0xfff
 
 #[test]
 fn words_that_are_no_ring_are_invalid(rt: HostRuntime) -> Result<(), Fail> {
-    let alloc = rt.alloc();
     for (start, size) in NO_RINGS.iter().copied() {
-        let image = ring(alloc, start, size, b"abc".as_slice())?;
-        let reading = reading_of(alloc, &console(0), 0, image.as_slice())?;
-        assert!(rt; is_reading(&reading, State::Invalid, (start, size), (0, 0), &[]));
+        let image = ring(rt.alloc(), start, size, b"abc".as_slice())?;
+        let zone = (&console(0), 0, image.as_slice());
+        assert_reads(&rt, zone, State::Invalid, (start, size), (0, 0), &[]);
     }
     Ok(())
 }
 
 #[test]
 fn a_zone_without_its_signature_reads_unsigned(rt: HostRuntime) -> Result<(), Fail> {
-    let alloc = rt.alloc();
-    let blank = reading_of(alloc, &console(0), 0, &[])?;
-    assert!(rt; is_reading(&blank, State::Unsigned, (0, 0), (0, 0), &[]));
-    let ones = reading_of(alloc, &console(0), 0, &[0xff; 12])?;
-    assert!(rt;
-        is_reading(
-            &ones,
-            State::Unsigned,
-            (0xffff_ffff, 0xffff_ffff),
-            (0, 0),
-            &[]
-        )
+    assert_reads(
+        &rt,
+        (&console(0), 0, &[]),
+        State::Unsigned,
+        (0, 0),
+        (0, 0),
+        &[],
     );
+    let most = 0xffff_ffff;
+    let ones = (&console(0), 0, [0xff; 12].as_slice());
+    assert_reads(&rt, ones, State::Unsigned, (most, most), (0, 0), &[]);
     // With the parity of start 0 the nearest codeword has another signature.
-    let mut image = ring(alloc, 1541, 4018, &[])?;
-    put(image.as_mut_slice(), 4094, &[0x9b, 0x24]);
-    let foreign = reading_of(alloc, &console(2), 0, image.as_slice())?;
-    assert!(rt; is_reading(&foreign, State::Unsigned, (1541, 4018), (1, 0), &[]));
+    let mut image = ring(rt.alloc(), 1541, 4018, &[])?;
+    put(image.as_mut_slice(), 4094, b"\x9b\x24");
+    let zone = (&console(2), 0, image.as_slice());
+    assert_reads(&rt, zone, State::Unsigned, (1541, 4018), (1, 0), &[]);
     Ok(())
 }
 

@@ -89,7 +89,7 @@ fn reserve(
     assert!(rt; before < 1000);
     match shared.reserve(bytes) {
         Ok(ticket) => {
-            assert_eq!(rt; ticket, before);
+            assert!(rt; ticket == before);
             None
         }
         Err((why, back)) => {
@@ -99,32 +99,43 @@ fn reserve(
     }
 }
 
+// Whether this call is open, and no other.
+fn is_open_alone(shared: &Shared, ticket: u64, place: u32, length: u32, stored: u32) -> bool {
+    let open = OpenCall {
+        ticket,
+        place,
+        length,
+        stored,
+    };
+    shared.open_calls().as_slice() == [open].as_slice()
+}
+
+// Whether so many calls were reserved, and the ring has this start and size.
+fn stands(shared: &Shared, reserved: u64, start: u32, size: u32) -> bool {
+    let words = shared.words();
+    (shared.reserved(), words.start, words.size) == (reserved, start, size)
+}
+
 #[test]
 fn two_reservations(rt: HostRuntime) -> Result<(), Fail> {
     let alloc = rt.alloc();
     let mut shared = opened(&rt, alloc, 4096, 0)?;
-    assert_eq!(rt; reserve(&rt, alloc, &mut shared, b"aa"), None);
-    assert_eq!(rt; reserve(&rt, alloc, &mut shared, b"bb"), None);
+    assert!(rt; reserve(&rt, alloc, &mut shared, b"aa") == None);
+    assert!(rt; reserve(&rt, alloc, &mut shared, b"bb") == None);
     assert!(rt; shared.step(1) == Ok(Next::Stored));
     assert!(rt; shared.step(1) == Ok(Next::Done));
     assert!(rt; shared.step(0) == Ok(Next::Stored));
     assert!(rt; shared.step(1).is_err(), "a finished call");
     assert!(rt; shared.step(2).is_err(), "a ticket that was never given");
-    let open = [OpenCall {
-        ticket: 0,
-        place: 0,
-        length: 2,
-        stored: 1,
-    }];
-    assert_eq!(rt; shared.open_calls().as_slice(), open.as_slice());
-    let words = shared.words();
-    assert_eq!(rt; (shared.reserved(), words.start, words.size), (2, 4, 4));
+    assert!(rt; is_open_alone(&shared, 0, 0, 2, 1));
+    assert!(rt; stands(&shared, 2, 4, 4));
     let image = shared.close();
-    let begins = [
-        0x44, 0x42, 0x47, 0x43, 4, 0, 0, 0, 4, 0, 0, 0, 0x61, 0, 0x62, 0x62,
-    ];
     assert!(rt; image.len() == 8192);
-    assert!(rt; &image.as_slice()[..16] == begins.as_slice());
+    assert!(rt;
+        image
+            .as_slice()
+            .starts_with(b"DBGC\x04\0\0\0\x04\0\0\0a\0bb")
+    );
     Ok(())
 }
 
@@ -133,25 +144,18 @@ fn two_reservations(rt: HostRuntime) -> Result<(), Fail> {
 fn a_crowded_ring(rt: HostRuntime) -> Result<(), Fail> {
     let alloc = rt.alloc();
     let mut shared = opened(&rt, alloc, 4096, 0)?;
-    assert_eq!(rt; reserve(&rt, alloc, &mut shared, b"x"), None);
-    assert_eq!(rt; reserve(&rt, alloc, &mut shared, &[0x2e; 4083]), None);
+    assert!(rt; reserve(&rt, alloc, &mut shared, b"x") == None);
+    assert!(rt; reserve(&rt, alloc, &mut shared, &[0x2e; 4083]) == None);
     for _ in 0..4082 {
         assert!(rt; shared.step(1) == Ok(Next::Stored));
     }
     assert!(rt; shared.step(1) == Ok(Next::Done));
     let crowded = SharedRefusal::Crowded { held: 4084 };
-    assert_eq!(rt; reserve(&rt, alloc, &mut shared, b"a"), Some(crowded));
+    assert!(rt; reserve(&rt, alloc, &mut shared, b"a") == Some(crowded));
     assert!(rt; shared.step(0) == Ok(Next::Done));
-    assert_eq!(rt; reserve(&rt, alloc, &mut shared, b"a"), None);
-    let open = [OpenCall {
-        ticket: 2,
-        place: 0,
-        length: 1,
-        stored: 0,
-    }];
-    assert_eq!(rt; shared.open_calls().as_slice(), open.as_slice());
-    let words = shared.words();
-    assert_eq!(rt; (shared.reserved(), words.start, words.size), (3, 1, 4084));
+    assert!(rt; reserve(&rt, alloc, &mut shared, b"a") == None);
+    assert!(rt; is_open_alone(&shared, 2, 0, 1, 0));
+    assert!(rt; stands(&shared, 3, 1, 4084));
     let image = shared.close();
     assert!(rt; image.len() == 8192);
     assert!(rt;
@@ -166,32 +170,21 @@ fn seats_run_out(rt: HostRuntime) -> Result<(), Fail> {
     let alloc = rt.alloc();
     let mut shared = opened(&rt, alloc, 4096, 0)?;
     for _ in 0..64 {
-        assert_eq!(rt; reserve(&rt, alloc, &mut shared, b"ab"), None);
+        assert!(rt; reserve(&rt, alloc, &mut shared, b"ab") == None);
     }
     let seatless = Some(SharedRefusal::NoSeat);
-    assert_eq!(rt;
-        reserve(&rt, alloc, &mut shared, &[1; 4096]),
-        seatless,
+    assert!(rt;
+        reserve(&rt, alloc, &mut shared, &[1; 4096]) == seatless,
         "before crowded"
     );
     assert!(rt; shared.step(7) == Ok(Next::Stored));
-    assert_eq!(rt; reserve(&rt, alloc, &mut shared, b"a"), seatless);
+    assert!(rt; reserve(&rt, alloc, &mut shared, b"a") == seatless);
     assert!(rt; shared.step(7) == Ok(Next::Done));
-    assert_eq!(rt; reserve(&rt, alloc, &mut shared, b"a"), None);
-    assert_eq!(rt; shared.open_calls().len(), 64);
+    assert!(rt; reserve(&rt, alloc, &mut shared, b"a") == None);
+    assert!(rt; shared.open_calls().len() == 64);
     let image = shared.close();
     assert!(rt; image.len() == 8192);
     Ok(())
-}
-
-// One row of the table: after `done` steps of this order, how many bytes each call has stored, and the data places
-// 240 to 243 and 0 to 4. The ring has 244 places and begins at 241; the calls are `abc`, `de` and `fgh`.
-#[derive(Drop)]
-struct Row {
-    order: [u64; 8],
-    done: usize,
-    stored: [u32; 3],
-    places: [u8; 9],
 }
 
 const IN_TURN: [u64; 8] = [0, 0, 0, 1, 1, 2, 2, 2];
@@ -202,95 +195,85 @@ const BY_BYTES: [u64; 8] = [0, 1, 2, 0, 1, 2, 0, 2];
 
 const MIDDLE_LAST: [u64; 8] = [2, 0, 2, 0, 2, 0, 1, 1];
 
-fn stopped(order: [u64; 8], done: usize, stored: [u32; 3], places: &[u8; 9]) -> Row {
-    Row {
-        order,
-        done,
-        stored,
-        places: *places,
-    }
-}
-
-// The bytes that stand, with `.` for one that no call has stored.
-fn rows() -> [Row; 32] {
-    [
-        stopped(IN_TURN, 1, [1, 0, 0], b".a......."),
-        stopped(IN_TURN, 2, [2, 0, 0], b".ab......"),
-        stopped(IN_TURN, 3, [3, 0, 0], b".abc....."),
-        stopped(IN_TURN, 4, [3, 1, 0], b".abcd...."),
-        stopped(IN_TURN, 5, [3, 2, 0], b".abcde..."),
-        stopped(IN_TURN, 6, [3, 2, 1], b".abcdef.."),
-        stopped(IN_TURN, 7, [3, 2, 2], b".abcdefg."),
-        stopped(IN_TURN, 8, [3, 2, 3], b".abcdefgh"),
-        stopped(BACKWARDS, 1, [0, 0, 1], b"......f.."),
-        stopped(BACKWARDS, 2, [0, 0, 2], b"......fg."),
-        stopped(BACKWARDS, 3, [0, 0, 3], b"......fgh"),
-        stopped(BACKWARDS, 4, [0, 1, 3], b"....d.fgh"),
-        stopped(BACKWARDS, 5, [0, 2, 3], b"....defgh"),
-        stopped(BACKWARDS, 6, [1, 2, 3], b".a..defgh"),
-        stopped(BACKWARDS, 7, [2, 2, 3], b".ab.defgh"),
-        stopped(BACKWARDS, 8, [3, 2, 3], b".abcdefgh"),
-        stopped(BY_BYTES, 1, [1, 0, 0], b".a......."),
-        stopped(BY_BYTES, 2, [1, 1, 0], b".a..d...."),
-        stopped(BY_BYTES, 3, [1, 1, 1], b".a..d.f.."),
-        stopped(BY_BYTES, 4, [2, 1, 1], b".ab.d.f.."),
-        stopped(BY_BYTES, 5, [2, 2, 1], b".ab.def.."),
-        stopped(BY_BYTES, 6, [2, 2, 2], b".ab.defg."),
-        stopped(BY_BYTES, 7, [3, 2, 2], b".abcdefg."),
-        stopped(BY_BYTES, 8, [3, 2, 3], b".abcdefgh"),
-        stopped(MIDDLE_LAST, 1, [0, 0, 1], b"......f.."),
-        stopped(MIDDLE_LAST, 2, [1, 0, 1], b".a....f.."),
-        stopped(MIDDLE_LAST, 3, [1, 0, 2], b".a....fg."),
-        stopped(MIDDLE_LAST, 4, [2, 0, 2], b".ab...fg."),
-        stopped(MIDDLE_LAST, 5, [2, 0, 3], b".ab...fgh"),
-        stopped(MIDDLE_LAST, 6, [3, 0, 3], b".abc..fgh"),
-        stopped(MIDDLE_LAST, 7, [3, 1, 3], b".abcd.fgh"),
-        stopped(MIDDLE_LAST, 8, [3, 2, 3], b".abcdefgh"),
-    ]
-}
+// After so many steps of an order, how many bytes each call has stored, and the data places 240 to 243 and 0 to 4, with
+// `.` for one that no call has stored. The ring has 244 places and begins at 241; the calls are `abc`, `de` and `fgh`.
+const ROWS: &[([u64; 8], usize, [u32; 3], &[u8])] = &[
+    (IN_TURN, 1, [1, 0, 0], b".a......."),
+    (IN_TURN, 2, [2, 0, 0], b".ab......"),
+    (IN_TURN, 3, [3, 0, 0], b".abc....."),
+    (IN_TURN, 4, [3, 1, 0], b".abcd...."),
+    (IN_TURN, 5, [3, 2, 0], b".abcde..."),
+    (IN_TURN, 6, [3, 2, 1], b".abcdef.."),
+    (IN_TURN, 7, [3, 2, 2], b".abcdefg."),
+    (IN_TURN, 8, [3, 2, 3], b".abcdefgh"),
+    (BACKWARDS, 1, [0, 0, 1], b"......f.."),
+    (BACKWARDS, 2, [0, 0, 2], b"......fg."),
+    (BACKWARDS, 3, [0, 0, 3], b"......fgh"),
+    (BACKWARDS, 4, [0, 1, 3], b"....d.fgh"),
+    (BACKWARDS, 5, [0, 2, 3], b"....defgh"),
+    (BACKWARDS, 6, [1, 2, 3], b".a..defgh"),
+    (BACKWARDS, 7, [2, 2, 3], b".ab.defgh"),
+    (BACKWARDS, 8, [3, 2, 3], b".abcdefgh"),
+    (BY_BYTES, 1, [1, 0, 0], b".a......."),
+    (BY_BYTES, 2, [1, 1, 0], b".a..d...."),
+    (BY_BYTES, 3, [1, 1, 1], b".a..d.f.."),
+    (BY_BYTES, 4, [2, 1, 1], b".ab.d.f.."),
+    (BY_BYTES, 5, [2, 2, 1], b".ab.def.."),
+    (BY_BYTES, 6, [2, 2, 2], b".ab.defg."),
+    (BY_BYTES, 7, [3, 2, 2], b".abcdefg."),
+    (BY_BYTES, 8, [3, 2, 3], b".abcdefgh"),
+    (MIDDLE_LAST, 1, [0, 0, 1], b"......f.."),
+    (MIDDLE_LAST, 2, [1, 0, 1], b".a....f.."),
+    (MIDDLE_LAST, 3, [1, 0, 2], b".a....fg."),
+    (MIDDLE_LAST, 4, [2, 0, 2], b".ab...fg."),
+    (MIDDLE_LAST, 5, [2, 0, 3], b".ab...fgh"),
+    (MIDDLE_LAST, 6, [3, 0, 3], b".abc..fgh"),
+    (MIDDLE_LAST, 7, [3, 1, 3], b".abcd.fgh"),
+    (MIDDLE_LAST, 8, [3, 2, 3], b".abcdefgh"),
+];
 
 const PAYLOADS: [&[u8]; 3] = [b"abc", b"de", b"fgh"];
 
 const PLACES: [u32; 3] = [241, 0, 2];
 
-fn check_open(rt: &impl Abort, shared: &Shared, row: &Row) {
+fn check_open(rt: &impl Abort, shared: &Shared, stored: [u32; 3]) {
     let calls = shared.open_calls();
     let mut seen = 0;
     for (i, payload) in PAYLOADS.iter().enumerate() {
         let length = payload.len() as u32;
-        if row.stored[i] < length {
+        if stored[i] < length {
             let wanted = OpenCall {
                 ticket: i as u64,
                 place: PLACES[i],
                 length,
-                stored: row.stored[i],
+                stored: stored[i],
             };
             assert!(rt; calls.as_slice().get(seen) == Some(&wanted));
             seen += 1;
         }
     }
-    assert_eq!(rt; calls.len(), seen);
+    assert!(rt; calls.len() == seen);
 }
 
 #[test]
 fn three_calls_in_four_orders(rt: HostRuntime) -> Result<(), Fail> {
     let alloc = rt.alloc();
-    for row in rows() {
+    for (order, done, stored, places) in ROWS.iter().copied() {
         let mut shared = opened(&rt, alloc, 256, 241)?;
         for payload in PAYLOADS {
-            assert_eq!(rt; reserve(&rt, alloc, &mut shared, payload), None);
+            assert!(rt; reserve(&rt, alloc, &mut shared, payload) == None);
         }
-        for ticket in row.order.iter().take(row.done) {
+        for ticket in order.iter().take(done) {
             assert!(rt; shared.step(*ticket).is_ok());
         }
-        check_open(&rt, &shared, &row);
+        check_open(&rt, &shared, stored);
         let words = shared.words();
-        assert_eq!(rt; (words.start, words.size), (5, 244));
+        assert!(rt; (words.start, words.size) == (5, 244));
         let image = shared.close();
-        for (i, wanted) in row.places.iter().enumerate() {
+        for (i, wanted) in places.iter().enumerate() {
             let stands = image.as_slice().get(12 + (240 + i) % 244).copied();
             let byte = if *wanted == b'.' { 0 } else { *wanted };
-            assert_eq!(rt; stands, Some(byte), "place {i} after {:?}", row.done);
+            assert!(rt; stands == Some(byte), "place {i} after {done}");
         }
     }
     Ok(())
