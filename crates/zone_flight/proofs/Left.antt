@@ -107,8 +107,8 @@ least f Finished st gs e = let n : ◌≡◌ {A = ℕ} 0 1 = cc in absurd (omega
 
 -- a phase whose stores are those of the next stage
 pub enters_by : (f g : Flying) (p q : Phase) (st : Stage) → f.place.phase ≡ p
-    → AlwaysStored f → IsDone f → g.place.phase ≡ q → g.place.number ≡ 0 → g.zone ≡ f.zone → g.words ≡ f.words → g.call ≡ f.call
-    → g.made ≡ f.made
+    → AlwaysStored f → IsDone f → g.place.phase ≡ q → g.place.number ≡ 0 → g.zone ≡ f.zone → g.words ≡ f.words
+    → g.call ≡ f.call → g.made ≡ f.made
     → ((image : List ℕ) → stores_of g image q ≡ stage_stores f.zone st image) → stage_count f.zone st ≡ phase_len g q
     → behind f p ≡ st ∷ behind g q → Enters f g
 enters_by f g p q st e all done eg ng zone words call made stores count next = record {

@@ -66,8 +66,8 @@ module _ (f : Flying) (n : ℕ) (old : CutRegion) (i : ℕ) (new : CutRegion) wh
       ∙ ap (λ m. take n (drop m (word_store at w))) first ∙ ap (λ m. take m (drop 0 (word_store at w))) one) k
 
   -- of a run the next bytes
-  pub stored_bytes : (p : Phase) (at : ℕ) (xs ys : List ℕ) → f.place.phase ≡ p → stores_of f (span old i) p ≡ byte_stores at xs
-      → take n (drop f.place.number xs) ≡ ys
+  pub stored_bytes : (p : Phase) (at : ℕ) (xs ys : List ℕ) → f.place.phase ≡ p
+      → stores_of f (span old i) p ≡ byte_stores at xs → take n (drop f.place.number xs) ≡ ys
       → new ≡ with_span old i (put (span old i) (at + f.place.number) ys) → Stores f n old i new
   stored_bytes p at xs ys e all part k =
       stored p (byte_stores (at + f.place.number) ys) e

@@ -42,7 +42,8 @@ returns-in-First-clause-enters c =
     let f : Flying = seen c.args.self.now in
     let w : IsWithin f First = subst (IsWithin f) c.in-First.is c.requires.sound.within in
     subst (Enters f) (sym c.enter_block.ensures)
-    (enter_first_parity f (all_stored f c.requires.done) c.requires.done (f.place.start / f.zone.block) c.in-First.is refl
+    (enter_first_parity f (all_stored f c.requires.done) c.requires.done (f.place.start / f.zone.block)
+    c.in-First.is refl
     (end_above f.zone.block f.place.start (first_len f) (block_some f.zone.block c.requires.sound.valid.block).0
     (omega (arith, c.requires.sound.below, w))))
 
