@@ -5,7 +5,7 @@ use std::alloc::{AllocError, Global};
 const FORMATS: [&str; 3] = ["text", "json", "html"];
 
 // What says how the images are laid out.
-fn with_layout(alloc: Global, command: Command<'static>) -> Result<Command<'static>, AllocError> {
+fn with_layout<'a>(alloc: Global, command: Command<'a>) -> Result<Command<'a>, AllocError> {
     let param = Arg::new(alloc, "param")
         .long("param")
         .value_name("KEY=VALUE")
@@ -37,7 +37,7 @@ fn with_layout(alloc: Global, command: Command<'static>) -> Result<Command<'stat
 }
 
 // What is done with the images, and the images.
-fn with_work(alloc: Global, command: Command<'static>) -> Result<Command<'static>, AllocError> {
+fn with_work<'a>(alloc: Global, command: Command<'a>) -> Result<Command<'a>, AllocError> {
     let format = Arg::new(alloc, "format")
         .long("format")
         .value_name("FORMAT")
@@ -57,7 +57,7 @@ fn with_work(alloc: Global, command: Command<'static>) -> Result<Command<'static
 }
 
 /// The command, with its help.
-pub fn command(alloc: Global) -> Result<Command<'static>, AllocError> {
+pub fn command<'a>(alloc: Global) -> Result<Command<'a>, AllocError> {
     let command = Command::new(alloc, "oopsreport")
         .version("0.1")
         .about("Shows what images of ramoops regions hold. No image is written.")
