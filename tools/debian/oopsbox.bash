@@ -8,7 +8,7 @@ _oopsbox()
         mapfile -t COMPREPLY < <(compgen -f -- "$word")
         compopt -o filenames
     elif [ "$COMP_CWORD" -eq 2 ]; then
-        mapfile -t COMPREPLY < <(compgen -W "list extract erase layout run blank make move blk-run" -- "$word")
+        mapfile -t COMPREPLY < <(compgen -W "list extract erase layout run blank make move shared-run salvage rescue blk-run" -- "$word")
     else
         [ "${COMP_WORDS[2]}" = move ] && keys="$keys to"
         mapfile -t COMPREPLY < <(compgen -W "$keys" -- "$word")

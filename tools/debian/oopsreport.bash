@@ -1,0 +1,26 @@
+# Completion of oopsreport for bash: its options and what they take, and files.
+_oopsreport()
+{
+    local word=${COMP_WORDS[COMP_CWORD]}
+    local keys="mem_size= record_size= console_size= ftrace_size= pmsg_size= ecc= cpus= ftrace_sig= block_size=
+        ecc_dump= ecc_console= ecc_ftrace= ecc_pmsg="
+    case ${COMP_WORDS[COMP_CWORD - 1]} in
+        --param)
+            mapfile -t COMPREPLY < <(compgen -W "$keys" -- "$word")
+            compopt -o nospace ;;
+        --format) mapfile -t COMPREPLY < <(compgen -W "text json html" -- "$word") ;;
+        --cmdline | --kernel) COMPREPLY=() ;;
+        --save)
+            mapfile -t COMPREPLY < <(compgen -d -- "$word")
+            compopt -o filenames ;;
+        *)
+            if [[ $word == -* ]]; then
+                mapfile -t COMPREPLY < <(compgen -W "--param --cmdline --cmdline-file --kernel --mem-as-given --format
+                    --save --help --version" -- "$word")
+            else
+                mapfile -t COMPREPLY < <(compgen -f -- "$word")
+                compopt -o filenames
+            fi ;;
+    esac
+}
+complete -F _oopsreport oopsreport
