@@ -1,6 +1,7 @@
 // The plan that the words of the command line ask for.
 use anyhow::{Context, Result, anyhow};
 use clap::ArgMatches;
+use grammar_spec::ParamFault;
 use report_tool::{Plan, PlanFault};
 use report_words::{add_layout_words, add_tag, ftrace_tag};
 use std::alloc::Global;
@@ -37,6 +38,19 @@ fn add_params(alloc: Global, words: &mut Vec<String>, matches: &ArgMatches<'_>) 
     Ok(())
 }
 
+// What is wrong with a word.
+fn told(words: &[String], fault: ParamFault) -> anyhow::Error {
+    let (place, what) = match fault {
+        ParamFault::UnknownKey(place) => (place, "is no parameter of the layout"),
+        ParamFault::Twice(place) => (place, "gives a parameter again"),
+        ParamFault::NotANumber(place) => (place, "gives no number below 4294967296"),
+    };
+    match words.get(place as usize) {
+        Some(word) => anyhow!("{word} {what}"),
+        None => anyhow!("word {place} {what}"),
+    }
+}
+
 /// The plan by which the images are read.
 pub fn plan<R: Runtime>(rt: &R, alloc: Global, matches: &ArgMatches<'_>) -> Result<Plan> {
     let mut words = Vec::new(alloc);
@@ -45,9 +59,7 @@ pub fn plan<R: Runtime>(rt: &R, alloc: Global, matches: &ArgMatches<'_>) -> Resu
     match Plan::new(alloc, &words, matches.get_flag("mem-as-given")) {
         Ok(plan) => Ok(plan),
         Err(PlanFault::Memory) => Err(anyhow!("out of memory")),
-        Err(PlanFault::Word(fault)) => Err(anyhow!(
-            "{fault} (words of the layout are counted from 0)"
-        )),
+        Err(PlanFault::Word(fault)) => Err(told(&words, fault)),
         Err(PlanFault::Layout(fault)) => Err(anyhow!("layout fault {}: {fault}", fault.number())),
     }
 }

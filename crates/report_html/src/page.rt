@@ -21,9 +21,17 @@ const HEAD: &str = "<!doctype html>\n<html lang=\"en\">\n<head>\n<meta charset=\
 @media (prefers-color-scheme: dark) { :root { --fg: #e4e4e4; --bg: #17191c; \
 --clean: #58b072; --corrected: #e0b04a; --bad: #e4604f; --unused: #3b4148; } }\n\
 body { font: 15px/1.5 system-ui, sans-serif; color: var(--fg); background: var(--bg); margin: 2rem; }\n\
-svg { width: 100%; height: 120px; }\n.clean, .found { fill: var(--clean); }\n.corrected { fill: var(--corrected); }\n\
-.bad, .invalid { fill: var(--bad); }\n.unused, .empty, .unsigned { fill: var(--unused); }\n\
+svg { width: 100%; height: 120px; }\nrect { stroke: var(--bg); vector-effect: non-scaling-stroke; }\n\
+.clean, .found { fill: var(--clean); color: var(--clean); }\n\
+.corrected { fill: var(--corrected); color: var(--corrected); }\n\
+.bad, .invalid { fill: var(--bad); color: var(--bad); }\n\
+.unused, .empty, .unsigned { fill: var(--unused); color: var(--unused); }\n\
 pre { white-space: pre-wrap; overflow-wrap: anywhere; }\n</style>\n</head>\n<body>\n<h1>";
+
+const LEGEND: &str = "</svg>\n<p>The zones, and below them their blocks: \
+<span class=\"clean\">&#9632;</span> found or clean, \
+<span class=\"corrected\">&#9632;</span> corrected, <span class=\"bad\">&#9632;</span> invalid or bad, \
+<span class=\"unused\">&#9632;</span> empty, unsigned or unused.</p>\n";
 
 /// Adds what names a record.
 fn record_name(pieces: &mut Vec<Piece<'_>>, name: Name) -> Result<(), AllocError>
@@ -107,7 +115,7 @@ fn add_picture(
     for (i, (own_zone, parts)) in zones.iter().zip(report.parts()).enumerate() {
         zone(pieces, own_zone, state_at(report.logs(), i), parts)?;
     }
-    own(pieces, "</svg>\n")
+    own(pieces, LEGEND)
 }
 
 /// The pieces of the page of a report. `title` is what the page is headed with, such as the image's path.
