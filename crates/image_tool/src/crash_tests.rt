@@ -146,7 +146,7 @@ fn worked_crashes(rt: HostRuntime) -> Result<(), Fail> {
         let script = joined(alloc, crash.script)?;
         let image = Vec::from_elem(alloc, 0u8, crash.size)?;
         let ran = outcome(alloc, &line, &script, &image, NONE)?;
-        assert_eq!(rt; ran.status, crash.status, "crash {i}");
+        assert!(rt; ran.status == crash.status, "crash {i}");
         assert!(rt; ran.text.ends_with(crash.ending), "crash {i}");
     }
     Ok(())

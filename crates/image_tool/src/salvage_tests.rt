@@ -40,11 +40,25 @@ fn assert_told(
     let alloc = rt.alloc();
     let line = format!(in alloc; "image {command}")?;
     let ran = outcome(alloc, &line, b"wipe".as_slice(), image, NONE)?;
-    assert_eq!(rt; ran.status, status);
-    assert_eq!(rt; ran.text.as_slice(), text.as_bytes());
+    assert!(rt; ran.status == status);
+    assert!(rt; ran.text.as_slice() == text.as_bytes());
     assert!(rt; ran.image.as_slice() == image, "the dump");
     Ok(())
 }
+
+const RESCUES: &[(&str, u8, &str)] = &[
+    ("8292 console", 0, "abc"),
+    ("8294 console", 10, "line 1 refused: no ring\n"),
+    ("8293 console", 10, "line 1 refused: no ring\n"),
+    ("16484 console", 10, "line 1 refused: no ring\n"),
+    ("4294967295 console", 10, "line 1 refused: no ring\n"),
+    ("8292 ftrace-0", 10, "line 1 refused: no zone\n"),
+    ("8294 dump-2", 10, "line 1 refused: no zone\n"),
+    ("08292 console", 2, USAGE),
+    ("4294967296 console", 2, USAGE),
+    ("8292 dump", 2, USAGE),
+    ("8292 console-0", 2, USAGE),
+];
 
 // An image that stands 100 bytes behind the beginning of the dump.
 #[test]
@@ -58,19 +72,7 @@ fn a_ring_at_an_odd_distance(rt: HostRuntime) -> Result<(), Fail> {
     let salvage = format!(in alloc; "salvage {PLAIN}")?;
     let text = "salvage rings 1\nring at 8292 shape dump-0 start 3 size 3 corrected 0\n";
     assert_told(&rt, &salvage, &image, 0, text)?;
-    for (place, status, text) in [
-        ("8292 console", 0, "abc"),
-        ("8294 console", 10, "line 1 refused: no ring\n"),
-        ("8293 console", 10, "line 1 refused: no ring\n"),
-        ("16484 console", 10, "line 1 refused: no ring\n"),
-        ("4294967295 console", 10, "line 1 refused: no ring\n"),
-        ("8292 ftrace-0", 10, "line 1 refused: no zone\n"),
-        ("8294 dump-2", 10, "line 1 refused: no zone\n"),
-        ("08292 console", 2, USAGE),
-        ("4294967296 console", 2, USAGE),
-        ("8292 dump", 2, USAGE),
-        ("8292 console-0", 2, USAGE),
-    ] {
+    for (place, status, text) in RESCUES.iter().copied() {
         let rescue = format!(in alloc; "rescue {place} {PLAIN}")?;
         assert_told(&rt, &rescue, &image, status, text)?;
     }
@@ -91,20 +93,25 @@ fn a_ring_with_a_damaged_header(rt: HostRuntime) -> Result<(), Fail> {
     Ok(())
 }
 
+const NONE_FOUND: &str = "salvage rings 0\n";
+
+const LAST: &str = "salvage rings 1\nring at 2 shape pmsg start 3 size 3 corrected 0\n";
+
+const BOTH: &str = "salvage rings 2\nring at 0 shape console start 3 size 3 corrected 0\n\
+    ring at 0 shape pmsg start 3 size 3 corrected 0\n";
+
+const SALVAGES: &[(usize, usize, &str)] = &[
+    (0, 0, NONE_FOUND),
+    (2047, 0, NONE_FOUND),
+    (2050, 2, LAST),
+    (4096, 0, BOTH),
+];
+
 #[test]
 fn short_files_and_last_places(rt: HostRuntime) -> Result<(), Fail> {
     let alloc = rt.alloc();
-    let none = "salvage rings 0\n";
-    let last = "salvage rings 1\nring at 2 shape pmsg start 3 size 3 corrected 0\n";
-    let both = "salvage rings 2\nring at 0 shape console start 3 size 3 corrected 0\n\
-        ring at 0 shape pmsg start 3 size 3 corrected 0\n";
     let salvage = format!(in alloc; "salvage {TWO_SHAPES}")?;
-    for (len, at, text) in [
-        (0, 0, none),
-        (2047, 0, none),
-        (2050, 2, last),
-        (4096, 0, both),
-    ] {
+    for (len, at, text) in SALVAGES.iter().copied() {
         let image = dump(alloc, len, &[(at, RING)])?;
         assert_told(&rt, &salvage, &image, 0, text)?;
     }
@@ -124,8 +131,8 @@ fn a_dump_that_fails(rt: HostRuntime) -> Result<(), Fail> {
     for image in [[1].as_slice(), &[2]] {
         let fails = Fails { image, ..NONE };
         let ran = outcome(alloc, &line, &[], RING, fails)?;
-        assert_eq!(rt; ran.status, 6);
-        assert_eq!(rt; ran.text.as_slice(), b"image fault\n".as_slice());
+        assert!(rt; ran.status == 6);
+        assert!(rt; ran.text.as_slice() == b"image fault\n".as_slice());
     }
     Ok(())
 }

@@ -1,6 +1,7 @@
 // Worked sessions as whole scripts, and images that fail between their pieces.
-use crate::tests::{Ended, Fails, NONE, outcome, outcome_by};
+use crate::tests::{Ended, Fails, NONE, left_by, outcome_by};
 use std::alloc::{AllocError, Global};
+use std::process::Abort;
 use std::test::Fail;
 
 /// Bytes that stand so many times, one group after the other.
@@ -495,22 +496,35 @@ fn zeros(alloc: Global, params: &str) -> Result<Vec<u8>, AllocError> {
     Vec::from_elem(alloc, 0u8, size)
 }
 
+// Whether the image has all these bytes at their places.
+fn has_all(image: &[u8], places: &[(usize, &[u8])]) -> bool {
+    places.iter().all(|(at, bytes)| has_at(image, *at, bytes))
+}
+
+// Runs a script on an image of zeros, looks at its text, and gives the image that it leaves.
+fn left_by_zeros(
+    rt: &(impl Abort + AllocGlobal),
+    params: &str,
+    script: &[u8],
+    text: &[u8],
+) -> Result<Vec<u8>, Fail> {
+    let line = format!(in rt.alloc(); "image run {params}")?;
+    let image = zeros(rt.alloc(), params)?;
+    Ok(left_by(rt, &line, script, &image, NONE, 0, text))
+}
+
+fn assert_session(rt: &(impl Abort + AllocGlobal), i: usize, session: Session) -> Result<(), Fail> {
+    let script = joined(rt.alloc(), session.script)?;
+    let text = joined(rt.alloc(), session.text)?;
+    let image = left_by_zeros(rt, session.params, &script, &text)?;
+    assert!(rt; has_all(&image, session.image), "session {i}");
+    Ok(())
+}
+
 #[test]
 fn worked_sessions(rt: HostRuntime) -> Result<(), Fail> {
-    let alloc = rt.alloc();
-    for (i, session) in SESSIONS.iter().enumerate() {
-        let line = format!(in alloc; "image run {}", session.params)?;
-        let script = joined(alloc, session.script)?;
-        let image = zeros(alloc, session.params)?;
-        let ran = outcome(alloc, &line, &script, &image, NONE)?;
-        assert_eq!(rt; ran.status, 0, "session {i}");
-        let text = joined(alloc, session.text)?;
-        assert_eq!(rt; ran.text.as_slice(), text.as_slice(), "session {i}");
-        let is_left = session
-            .image
-            .iter()
-            .all(|(at, bytes)| has_at(&ran.image, *at, bytes));
-        assert!(rt; is_left, "session {i}");
+    for (i, session) in SESSIONS.iter().copied().enumerate() {
+        assert_session(&rt, i, session)?;
     }
     Ok(())
 }
@@ -539,8 +553,8 @@ fn is_all(image: &[u8], from: usize, byte: u8) -> bool {
 #[test]
 fn an_image_of_two_pieces_is_written(rt: HostRuntime) -> Result<(), Fail> {
     let ran = in_two_pieces(rt.alloc(), NONE)?;
-    assert_eq!(rt; ran.status, 0);
-    assert_eq!(rt; ran.text.as_slice(), PIECES_TEXT);
+    assert!(rt; ran.status == 0);
+    assert!(rt; ran.text.as_slice() == PIECES_TEXT);
     assert!(rt; has_at(&ran.image, 0, b"DBGC\x03\0\0\0\x03\0\0\0abc\xee"));
     assert!(rt; has_at(&ran.image, 65_536, b"DBGC\0\0\0\0\xf4\xff\0\0aa"));
     assert!(rt; is_all(&ran.image, 65_548, b'a'));
@@ -562,8 +576,8 @@ fn an_image_fails_at_its_second_piece(rt: HostRuntime) -> Result<(), Fail> {
     };
     for fails in [second, first_and_script] {
         let ran = in_two_pieces(rt.alloc(), fails)?;
-        assert_eq!(rt; ran.status, 6);
-        assert_eq!(rt; ran.text.as_slice(), b"image fault\n".as_slice());
+        assert!(rt; ran.status == 6);
+        assert!(rt; ran.text.as_slice() == b"image fault\n".as_slice());
         assert!(rt; is_all(&ran.image, 0, 0xee));
     }
     Ok(())
@@ -579,7 +593,7 @@ fn an_image_is_left_with_its_first_piece(rt: HostRuntime) -> Result<(), Fail> {
         ..NONE
     };
     let ran = in_two_pieces(alloc, fails)?;
-    assert_eq!(rt; ran.status, 6);
+    assert!(rt; ran.status == 6);
     assert!(rt; ran.text.starts_with(PIECES_TEXT));
     assert!(rt;
         ran.text

@@ -19,11 +19,31 @@ fn assert_ends(
     let line = format!(in alloc; "image shared-run {words}")?;
     let zeros = Vec::from_elem(alloc, 0u8, 4096)?;
     let ran = outcome(alloc, &line, script, &zeros, NONE)?;
-    assert_eq!(rt; ran.status, status);
-    assert_eq!(rt; ran.text.as_slice(), text.as_bytes());
+    assert!(rt; ran.status == status);
+    assert!(rt; ran.text.as_slice() == text.as_bytes());
     assert!(rt; ran.image.as_slice().starts_with(front), "the image");
     Ok(())
 }
+
+const PARITY: &str =
+    "mem_size=4096 record_size=0 console_size=0 ftrace_size=4096 pmsg_size=0 ecc_ftrace=2";
+
+const WITHOUT: &str = "mem_size=4096 record_size=0 ftrace_size=0 pmsg_size=0";
+
+const REFUSALS: &[(&str, &[u8], u8, &str)] = &[
+    (PLAIN, b"store 0 1\n", 10, "line 1 refused: idle\n"),
+    (PLAIN, b"\nboot\n", 10, "line 2 refused: not here\n"),
+    (
+        PLAIN,
+        b"reserve 61\nstore 0 9\nstore 0 0\n",
+        10,
+        "line 3 refused: idle\n",
+    ),
+    (PLAIN, b"reserve\n", 9, "bad line 1\n"),
+    (WITHOUT, b"", 3, "layout fault 12\n"),
+    (PARITY, b"", 3, "layout fault 12\n"),
+    ("mem_size=0", b"", 3, "layout fault 1\n"),
+];
 
 #[test]
 fn two_writers_and_refusals(rt: HostRuntime) -> Result<(), Fail> {
@@ -31,28 +51,8 @@ fn two_writers_and_refusals(rt: HostRuntime) -> Result<(), Fail> {
     let script = b"reserve 6161\nreserve 6262\nstore 1 2\nstore 0 1\n".as_slice();
     let front = b"DBGC\x04\0\0\0\x04\0\0\0a\0bb\0\0".as_slice();
     assert_ends(&rt, PLAIN, script, 0, done, front)?;
-    let parity = format!(in rt.alloc(); "{PLAIN} ecc_ftrace=2")?;
-    let without = "mem_size=4096 record_size=0 ftrace_size=0 pmsg_size=0";
     let zeros = [0u8; 16];
-    for (words, script, status, text) in [
-        (
-            PLAIN,
-            b"store 0 1\n".as_slice(),
-            10,
-            "line 1 refused: idle\n",
-        ),
-        (PLAIN, b"\nboot\n", 10, "line 2 refused: not here\n"),
-        (
-            PLAIN,
-            b"reserve 61\nstore 0 9\nstore 0 0\n",
-            10,
-            "line 3 refused: idle\n",
-        ),
-        (PLAIN, b"reserve\n", 9, "bad line 1\n"),
-        (without, b"", 3, "layout fault 12\n"),
-        (parity.as_str(), b"", 3, "layout fault 12\n"),
-        ("mem_size=0", b"", 3, "layout fault 1\n"),
-    ] {
+    for (words, script, status, text) in REFUSALS.iter().copied() {
         assert_ends(&rt, words, script, status, text, &zeros)?;
     }
     Ok(())

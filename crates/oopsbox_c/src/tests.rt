@@ -1,5 +1,6 @@
 // Each call once on its happy path, and its refusals.
 use crate::*;
+use std::alloc::Global;
 use std::test::Fail;
 
 const ONE_CONSOLE: &[u8] = b"mem_size=4096 record_size=0 ftrace_size=0 pmsg_size=0";
@@ -13,136 +14,109 @@ fn image() -> [u8; 4096] {
     image
 }
 
+// The answer of a decoding of one byte, the byte then, and the number of corrected bytes.
+fn decoded(byte: u8, parity: &[u8], places: &mut [u8]) -> (u32, u8, u32) {
+    let mut message = [byte];
+    let mut corrected = 7;
+    let answer = oopsbox_rs_decode(&mut message, parity, places, &mut corrected);
+    (answer, message[0], corrected)
+}
+
 #[test]
 fn a_block_is_corrected(rt: HostRuntime) -> Result<(), Fail> {
-    let mut message = [1];
     let mut parity = [0; 2];
-    assert_eq!(rt; oopsbox_rs_encode(&message, &mut parity), 0);
-    assert_eq!(rt; parity, [3, 2]);
-    message[0] = 0;
-    let mut places = [9; 1];
-    let mut corrected = 7;
-    assert_eq!(rt;
-        oopsbox_rs_decode(&mut message, &parity, &mut places, &mut corrected),
-        0
-    );
-    assert_eq!(rt; (message, places, corrected), ([1], [0], 1));
-    message[0] = 0;
-    assert_eq!(rt;
-        oopsbox_rs_decode(&mut message, &[2, 2], &mut places, &mut corrected),
-        15
-    );
-    assert_eq!(rt; (message, corrected), ([0], 0));
-    assert_eq!(rt;
-        oopsbox_rs_decode(&mut message, &[2, 2], &mut [], &mut corrected),
-        12
-    );
-    assert_eq!(rt;
-        oopsbox_rs_decode(&mut message, &[], &mut places, &mut corrected),
-        13
-    );
-    assert_eq!(rt; oopsbox_rs_encode(&message, &mut []), 13);
+    assert!(rt; oopsbox_rs_encode(&[1], &mut parity) == 0);
+    assert!(rt; parity == [3, 2]);
+    assert!(rt; oopsbox_rs_encode(&[1], &mut []) == 13);
+    let mut places = [9];
+    assert!(rt; decoded(0, &parity, &mut places) == (0, 1, 1));
+    assert!(rt; places == [0]);
+    assert!(rt; decoded(0, &[2, 2], &mut places) == (15, 0, 0));
+    assert!(rt; decoded(0, &[2, 2], &mut []).0 == 12);
+    assert!(rt; decoded(0, &[], &mut places).0 == 13);
     Ok(())
+}
+
+// The answer of a layout, with what it tells.
+fn laid(alloc: Global, params: &[u8], places: &mut [ZonePlace]) -> (u32, LayoutAnswer) {
+    let mut answer = LayoutAnswer::default();
+    let status = oopsbox_layout(alloc, params, places, &mut answer);
+    (status, answer)
 }
 
 #[test]
 fn a_text_has_a_layout(rt: HostRuntime) -> Result<(), Fail> {
-    let alloc = rt.alloc();
     let mut places = [ZonePlace::default(); 2];
-    let mut answer = LayoutAnswer::default();
-    assert_eq!(rt;
-        oopsbox_layout(alloc, ONE_CONSOLE, &mut places, &mut answer),
-        0
-    );
-    assert_eq!(rt;
-        (answer.zones, answer.mem, answer.fault, answer.word),
-        (1, 4096, 0, 0)
-    );
-    assert_eq!(rt;
-        (places[0].kind, places[0].size, places[0].cap),
-        (1, 4096, 4084)
-    );
-    assert_eq!(rt; places[1], ZonePlace::default());
-    assert_eq!(rt;
-        oopsbox_layout(alloc, ONE_CONSOLE, &mut [], &mut answer),
-        12
-    );
-    assert_eq!(rt;
-        oopsbox_layout(alloc, b"mem_size=1 ecx=1", &mut places, &mut answer),
-        3
-    );
-    assert_eq!(rt; (answer.fault, answer.word), (1, 2));
-    assert_eq!(rt;
-        oopsbox_layout(alloc, b"mem_size=0", &mut places, &mut answer),
-        3
-    );
-    assert_eq!(rt; (answer.fault, answer.word), (1, 0));
-    assert_eq!(rt;
-        oopsbox_layout(alloc, b"\xff", &mut places, &mut answer),
-        13
-    );
+    let (status, answer) = laid(rt.alloc(), ONE_CONSOLE, &mut places);
+    assert!(rt; status == 0);
+    assert!(rt; (answer.zones, answer.mem, answer.fault, answer.word) == (1, 4096, 0, 0));
+    assert!(rt; (places[0].kind, places[0].size, places[0].cap) == (1, 4096, 4084));
+    assert!(rt; places[1] == ZonePlace::default());
+    assert!(rt; laid(rt.alloc(), ONE_CONSOLE, &mut []).0 == 12);
     Ok(())
 }
 
 #[test]
+fn a_text_at_fault_has_no_layout(rt: HostRuntime) -> Result<(), Fail> {
+    for (params, status, fault, word) in [
+        (b"mem_size=1 ecx=1".as_slice(), 3, 1, 2),
+        (b"mem_size=0", 3, 1, 0),
+        (b"\xff", 13, 0, 0),
+    ] {
+        let (found, answer) = laid(rt.alloc(), params, &mut [ZonePlace::default(); 2]);
+        assert!(rt; found == status);
+        assert!(rt; (answer.fault, answer.word) == (fault, word));
+    }
+    Ok(())
+}
+
+// The answer of a zone's reading, with what it tells.
+fn zone(alloc: Global, params: &[u8], i: u32, image: &[u8], log: &mut [u8]) -> (u32, ZoneAnswer) {
+    let mut answer = ZoneAnswer::default();
+    let status = oopsbox_zone(alloc, params, i, image, log, &mut answer);
+    (status, answer)
+}
+
+#[test]
 fn a_zone_is_read(rt: HostRuntime) -> Result<(), Fail> {
+    let mut log = [b'-'; 4];
+    let (status, answer) = zone(rt.alloc(), ONE_CONSOLE, 0, &image(), &mut log);
+    assert!(rt; status == 0);
+    assert!(rt; (answer.state, answer.size, answer.log) == (3, 3, 3));
+    assert!(rt; log == [b'a', b'b', b'c', b'-']);
+    Ok(())
+}
+
+#[test]
+fn a_zone_may_not_be_read(rt: HostRuntime) -> Result<(), Fail> {
     let alloc = rt.alloc();
     let image = image();
-    let mut log = [b'-'; 4];
-    let mut answer = ZoneAnswer::default();
-    assert_eq!(rt;
-        oopsbox_zone(alloc, ONE_CONSOLE, 0, &image, &mut log, &mut answer),
-        0
-    );
-    assert_eq!(rt; (answer.state, answer.size, answer.log), (3, 3, 3));
-    assert_eq!(rt; log, [b'a', b'b', b'c', b'-']);
-    assert_eq!(rt;
-        oopsbox_zone(alloc, ONE_CONSOLE, 0, &image, &mut log[..2], &mut answer),
-        12
-    );
-    assert_eq!(rt;
-        oopsbox_zone(alloc, ONE_CONSOLE, 1, &image, &mut log, &mut answer),
-        13
-    );
-    assert_eq!(rt;
-        oopsbox_zone(alloc, ONE_CONSOLE, 0, &[0; 4095], &mut log, &mut answer),
-        4
-    );
-    assert_eq!(rt;
-        oopsbox_zone(alloc, b"mem_size=0", 0, &image, &mut log, &mut answer),
-        3
-    );
+    assert!(rt; zone(alloc, ONE_CONSOLE, 0, &image, &mut [0; 2]).0 == 12);
+    assert!(rt; zone(alloc, ONE_CONSOLE, 1, &image, &mut [0; 4]).0 == 13);
+    assert!(rt; zone(alloc, ONE_CONSOLE, 0, &[0; 4095], &mut [0; 4]).0 == 4);
+    assert!(rt; zone(alloc, b"mem_size=0", 0, &image, &mut [0; 4]).0 == 3);
     Ok(())
+}
+
+// The answer of a run, with the lengths of image and text.
+fn ran(alloc: Global, words: &[u8], length: u64, text: &mut [u8]) -> (u32, u64, u64) {
+    let mut lengths = Lengths {
+        image: length,
+        text: 0,
+    };
+    let status = oopsbox_run(alloc, words, b"", &mut image(), text, &mut lengths);
+    (status, lengths.image, lengths.text)
 }
 
 #[test]
 fn the_tool_runs(rt: HostRuntime) -> Result<(), Fail> {
     let alloc = rt.alloc();
-    let mut image = image();
     let mut text = [b'-'; 64];
-    let mut lengths = Lengths {
-        image: 4096,
-        text: 0,
-    };
-    assert_eq!(rt;
-        oopsbox_run(alloc, LIST, b"", &mut image, &mut text, &mut lengths),
-        0
-    );
-    assert_eq!(rt; (lengths.image, lengths.text), (4096, 30));
+    assert!(rt; ran(alloc, LIST, 4096, &mut text) == (0, 4096, 30));
     assert!(rt; text.starts_with(b"records 1\nconsole-ramoops-0 3\n-".as_slice()));
-    assert_eq!(rt;
-        oopsbox_run(alloc, LIST, b"", &mut image, &mut [0; 29], &mut lengths),
-        12
-    );
-    assert_eq!(rt; lengths.text, 30);
-    assert_eq!(rt;
-        oopsbox_run(alloc, b"image", b"", &mut image, &mut text, &mut lengths),
-        2
-    );
-    lengths.image = 4097;
-    assert_eq!(rt;
-        oopsbox_run(alloc, LIST, b"", &mut image, &mut text, &mut lengths),
-        13
-    );
+    let (status, _, needed) = ran(alloc, LIST, 4096, &mut [0; 29]);
+    assert!(rt; (status, needed) == (12, 30));
+    assert!(rt; ran(alloc, b"image", 4096, &mut text).0 == 2);
+    assert!(rt; ran(alloc, LIST, 4097, &mut text).0 == 13);
     Ok(())
 }

@@ -6,6 +6,7 @@ use box_io::Bytes;
 use old_log::Logs;
 use ram_core::{Ask, Live, Off, Refusal};
 use std::alloc::{AllocError, Global};
+use std::process::Abort;
 use std::test::Fail;
 use tool_spec::Cause;
 use zone_params::{layout, read_words};
@@ -49,76 +50,95 @@ fn off(alloc: Global) -> Result<Off, Fail> {
     Ok(Off::fresh(alloc, layout, image)?)
 }
 
-fn booted(alloc: Global) -> Result<Live, Fail> {
-    match off(alloc)?.boot() {
-        Ok((live, _, _)) => Ok(live),
-        Err((_, refused)) => Err(Fail::from(refused)),
+fn booted(rt: &(impl Abort + AllocGlobal)) -> Live {
+    match off(rt.alloc()) {
+        Ok(off) => match off.boot() {
+            Ok((live, _, _)) => live,
+            Err(_) => panic!(rt; "no memory"),
+        },
+        Err(_) => panic!(rt; "no memory"),
     }
+}
+
+fn copied(rt: &(impl Abort + AllocGlobal), bytes: &[u8]) -> Bytes
+    ensures { result ≡ bytes.now }
+{
+    Bytes::copy_of(rt.alloc(), bytes).expect(rt, "no memory")
+}
+
+fn append(rt: &(impl Abort + AllocGlobal), live: &mut Live, bytes: &[u8]) {
+    assert!(rt; make(live, Ask::Append(CONSOLE, copied(rt, bytes))) == Ok(()));
+    assert!(rt; live.left(CONSOLE) == Ok(0));
 }
 
 #[test]
-fn calls_are_made_by_their_stores(rt: HostRuntime) -> Result<(), Fail> {
-    let alloc = rt.alloc();
-    let mut live = booted(alloc)?;
-    let abc = Bytes::copy_of(alloc, b"abc".as_slice())?;
-    assert_eq!(rt; make(&mut live, Ask::Append(CONSOLE, abc)), Ok(()));
-    assert_eq!(rt; live.left(CONSOLE), Ok(0));
-    let def = Bytes::copy_of(alloc, b"def".as_slice())?;
-    assert_eq!(rt; begin(&mut live, Ask::Append(CONSOLE, def)), Ok(CONSOLE));
-    assert_eq!(rt; live.left(CONSOLE), Ok(5));
-    assert_eq!(rt; step(&mut live, CONSOLE, 1), Ok(()));
-    assert_eq!(rt; step(&mut live, CONSOLE, 0), Ok(()));
-    assert_eq!(rt; live.left(CONSOLE), Ok(4));
-    assert_eq!(rt; begin(&mut live, Ask::Erase(CONSOLE)), Err(Refusal::Busy));
-    assert_eq!(rt; finish(&mut live, CONSOLE), Ok(()));
-    assert_eq!(rt; live.told(CONSOLE).map(|told| told.len()), Ok(6));
-    assert_eq!(rt; step(&mut live, CONSOLE, 0), Err(Refusal::Idle));
-    assert_eq!(rt; finish(&mut live, CONSOLE), Err(Refusal::Idle));
-    assert_eq!(rt; step(&mut live, PMSG, 1), Err(Refusal::NoZone));
-    assert_eq!(rt;
-        make(&mut live, Ask::Append(CONSOLE, Bytes::empty(alloc))),
-        Ok(())
-    );
-    assert_eq!(rt; live.left(CONSOLE), Ok(0));
-    Ok(())
+fn calls_are_made_by_their_stores(rt: HostRuntime) {
+    let mut live = booted(&rt);
+    append(&rt, &mut live, b"abc");
+    let def = copied(&rt, b"def");
+    assert!(rt; begin(&mut live, Ask::Append(CONSOLE, def)) == Ok(CONSOLE));
+    assert!(rt; live.left(CONSOLE) == Ok(5));
+    assert!(rt; step(&mut live, CONSOLE, 1) == Ok(()));
+    assert!(rt; step(&mut live, CONSOLE, 0) == Ok(()));
+    assert!(rt; live.left(CONSOLE) == Ok(4));
+    assert!(rt; finish(&mut live, CONSOLE) == Ok(()));
+    assert!(rt; live.told(CONSOLE).map(|told| told.len()) == Ok(6));
+    append(&rt, &mut live, b"");
 }
 
-// A store after a boot, with its text.
-fn boot_line(alloc: Global, off: Off) -> Result<(Live, Logs, Vec<u8>), Fail> {
-    match state_lines::boot(alloc, off) {
-        Ok(booted) => Ok(booted),
-        Err(_) => Err(Fail::from(AllocError)),
+#[test]
+fn calls_are_refused(rt: HostRuntime) {
+    let mut live = booted(&rt);
+    assert!(rt; step(&mut live, CONSOLE, 0) == Err(Refusal::Idle));
+    assert!(rt; finish(&mut live, CONSOLE) == Err(Refusal::Idle));
+    assert!(rt; step(&mut live, PMSG, 1) == Err(Refusal::NoZone));
+    let abc = copied(&rt, b"abc");
+    assert!(rt; begin(&mut live, Ask::Append(CONSOLE, abc)) == Ok(CONSOLE));
+    assert!(rt; begin(&mut live, Ask::Erase(CONSOLE)) == Err(Refusal::Busy));
+}
+
+// A store after a boot, which puts this text.
+fn boot_line(rt: &(impl Abort + AllocGlobal), off: Off, wanted: &[u8]) -> (Live, Logs) {
+    match state_lines::boot(rt.alloc(), off) {
+        Ok((live, logs, text)) => {
+            assert!(rt; text.as_slice() == wanted);
+            (live, logs)
+        }
+        Err(_) => panic!(rt; "no memory"),
     }
+}
+
+const UNSIGNED: &[u8] = b"boot console unsigned start 0 size 0 corrected 0 bad 0 nothing told\n";
+
+const FOUND: &[u8] = b"boot console found start 3 size 3 corrected 0 bad 0 as told\n";
+
+// The logs of a second boot, after a write of `abc`.
+fn written(rt: &(impl Abort + AllocGlobal)) -> Logs {
+    let first = match off(rt.alloc()) {
+        Ok(off) => off,
+        Err(_) => panic!(rt; "no memory"),
+    };
+    let (mut live, logs) = boot_line(rt, first, UNSIGNED);
+    assert!(rt; live_lines::write(&mut live, CONSOLE, copied(rt, b"abc")) == Ok(()));
+    let (_, logs) = boot_line(rt, state_lines::stop(live, logs), FOUND);
+    logs
 }
 
 #[test]
 fn lines_are_done(rt: HostRuntime) -> Result<(), Fail> {
-    let alloc = rt.alloc();
-    let mut first = off(alloc)?;
-    assert_eq!(rt; first.flip(4096, 1), Err(Refusal::OutOfImage));
-    let (mut live, logs, text) = boot_line(alloc, first)?;
-    assert_eq!(rt;
-        text.as_slice(),
-        b"boot console unsigned start 0 size 0 corrected 0 bad 0 nothing told\n".as_slice()
-    );
-    let abc = Bytes::copy_of(alloc, b"abc".as_slice())?;
-    assert_eq!(rt; live_lines::write(&mut live, CONSOLE, abc), Ok(()));
-    let lost = Bytes::copy_of(alloc, b"abc".as_slice())?;
-    assert_eq!(rt;
-        live_lines::write(&mut live, PMSG, lost),
-        Err(LineError::Refused(Cause::NoZone))
-    );
-    let second = state_lines::stop(live, logs);
-    let (_, logs, text) = boot_line(alloc, second)?;
-    assert_eq!(rt;
-        text.as_slice(),
-        b"boot console found start 3 size 3 corrected 0 bad 0 as told\n".as_slice()
-    );
-    let listed = state_lines::list(alloc, &logs)?;
-    assert_eq!(rt;
-        listed.as_slice(),
-        b"records 1\nconsole-ramoops-0 3\n".as_slice()
-    );
+    let logs = written(&rt);
+    let listed = state_lines::list(rt.alloc(), &logs)?;
+    assert!(rt; listed.as_slice() == b"records 1\nconsole-ramoops-0 3\n".as_slice());
+    Ok(())
+}
+
+#[test]
+fn lines_are_refused(rt: HostRuntime) -> Result<(), Fail> {
+    let mut first = off(rt.alloc())?;
+    assert!(rt; first.flip(4096, 1) == Err(Refusal::OutOfImage));
+    let (mut live, _) = boot_line(&rt, first, UNSIGNED);
+    let lost = copied(&rt, b"abc");
+    assert!(rt; live_lines::write(&mut live, PMSG, lost) == Err(LineError::Refused(Cause::NoZone)));
     Ok(())
 }
 
@@ -129,44 +149,39 @@ fn fault<T: Drop>(answer: Result<T, LineError>) -> Option<LineError> {
     }
 }
 
+const NO_NAMES: &[&[u8]] = &[
+    b"pmsg-ramoops-0",
+    b"console-ramoops-1",
+    b"console-ramoops-0 ",
+    b"\xffconsole",
+    b"",
+];
+
+// Looks at a name that no record has.
+fn assert_unlisted(rt: &(impl Abort + AllocGlobal), logs: &Logs, name: &[u8]) {
+    let none = Some(LineError::Refused(Cause::NoRecord));
+    let text = copied(rt, name);
+    assert!(rt; fault(record_lines::extract(rt.alloc(), logs, &text)) == none);
+    assert!(rt; fault(record_lines::content_of(rt.alloc(), logs, name)) == none);
+}
+
 #[test]
 fn a_record_is_found_by_its_name(rt: HostRuntime) -> Result<(), Fail> {
     let alloc = rt.alloc();
-    let (mut live, logs, _) = boot_line(alloc, off(alloc)?)?;
-    let console = Bytes::copy_of(alloc, b"console-ramoops-0".as_slice())?;
-    let none = Some(LineError::Refused(Cause::NoRecord));
-    assert_eq!(rt; fault(record_lines::extract(alloc, &logs, &console)), none);
-    assert_eq!(rt;
-        fault(record_lines::content_of(alloc, &logs, b"console-ramoops-0")),
-        none
-    );
-    let abc = Bytes::copy_of(alloc, b"abc".as_slice())?;
-    assert_eq!(rt; live_lines::write(&mut live, CONSOLE, abc), Ok(()));
-    let second = state_lines::stop(live, logs);
-    let (_, logs, _) = boot_line(alloc, second)?;
-    let text = match record_lines::extract(alloc, &logs, &console) {
-        Ok(text) => text,
-        Err(_) => return Err(Fail::from(AllocError)),
-    };
-    assert_eq!(rt; text.as_slice(), b"console-ramoops-0 3\nabc\n".as_slice());
-    let content = match record_lines::content_of(alloc, &logs, b"console-ramoops-0") {
-        Ok(content) => content,
-        Err(_) => return Err(Fail::from(AllocError)),
-    };
-    assert_eq!(rt; content.as_slice(), b"abc".as_slice());
-    for name in [
-        b"pmsg-ramoops-0".as_slice(),
-        b"console-ramoops-1".as_slice(),
-        b"console-ramoops-0 ".as_slice(),
-        b"\xffconsole".as_slice(),
-        b"".as_slice(),
-    ] {
-        let name = Bytes::copy_of(alloc, name)?;
-        assert_eq!(rt; fault(record_lines::extract(alloc, &logs, &name)), none);
-        assert_eq!(rt;
-            fault(record_lines::content_of(alloc, &logs, name.as_slice())),
-            none
-        );
+    let (_, blank) = boot_line(&rt, off(alloc)?, UNSIGNED);
+    assert_unlisted(&rt, &blank, b"console-ramoops-0");
+    let logs = written(&rt);
+    let console = copied(&rt, b"console-ramoops-0");
+    match record_lines::extract(alloc, &logs, &console) {
+        Ok(text) => assert!(rt; text.as_slice() == b"console-ramoops-0 3\nabc\n".as_slice()),
+        Err(_) => panic!(rt; "no text"),
+    }
+    match record_lines::content_of(alloc, &logs, b"console-ramoops-0") {
+        Ok(content) => assert!(rt; content.as_slice() == b"abc".as_slice()),
+        Err(_) => panic!(rt; "no content"),
+    }
+    for name in NO_NAMES.iter().copied() {
+        assert_unlisted(&rt, &logs, name);
     }
     Ok(())
 }
