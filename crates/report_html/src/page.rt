@@ -61,15 +61,15 @@ fn record_time(pieces: &mut Vec<Piece<'_>>, time: Option<Time>) -> Result<(), Al
 }
 
 /// Adds a record.
-fn add_record<'a>(pieces: &mut Vec<Piece<'a>>, record: &'a RecordReport) -> Result<(), AllocError>
-    ensures { OnOk result (foreigns pieces.new.items ≡ foreigns pieces.old.items ++ record.entry.now.content ∷ []) }
+fn add_record<'a>(pieces: &mut Vec<Piece<'a>>, held: &'a RecordReport) -> Result<(), AllocError>
+    ensures { OnOk result (foreigns pieces.new.items ≡ foreigns pieces.old.items ++ held.entry.now.content ∷ []) }
 {
     own(pieces, "<details><summary>")?;
-    record_name(pieces, record.name)?;
-    field(pieces, ", bytes: ", record.content.len() as u64)?;
-    record_time(pieces, record.time)?;
+    record_name(pieces, held.name)?;
+    field(pieces, ", bytes: ", held.content.len() as u64)?;
+    record_time(pieces, held.time)?;
     own(pieces, "</summary><pre>\n")?;
-    foreign(pieces, record.content.as_slice())?;
+    foreign(pieces, held.content.as_slice())?;
     own(pieces, "</pre></details>\n")
 }
 
@@ -79,8 +79,8 @@ fn add_records<'a>(
 ) -> Result<(), AllocError>
     ensures { OnOk result (foreigns pieces.new.items ≡ foreigns pieces.old.items ++ contents records.entry.now) }
 {
-    for record in records {
-        add_record(pieces, record)?;
+    for held in records {
+        add_record(pieces, held)?;
     }
     Ok(())
 }

@@ -24,10 +24,19 @@ pub record IsReported (format : Format) (path : List ℕ) (plan : Plan) (holds g
   pub shown : Shows format path plan report text
   pub appended : Appends given now text
 
+-- it was read, and the sink failed after it had taken some front of what the format shows
+pub record IsCutShort (format : Format) (path : List ℕ) (plan : Plan) (holds given now : Option (List ℕ))
+    : Type 0 where
+  pub report : ReportHeld
+  pub is_read : IsRead plan holds report
+  pub text : List ℕ
+  pub shown : Shows format path plan report text
+  pub appended : AppendsFront given now text
+
 -- what the sink was given, where the image was not reported: nothing, but where the sink itself failed
-abbrev pub IsGiven : Stop → Option (List ℕ) → Option (List ℕ) → Type 0
-IsGiven SinkFault given now = ⊤
-IsGiven s given now = now ≡ given
+abbrev pub IsGiven : Stop → Format → List ℕ → Plan → Option (List ℕ) → Option (List ℕ) → Option (List ℕ) → Type 0
+IsGiven SinkFault format path plan holds given now = IsCutShort format path plan holds given now
+IsGiven s format path plan holds given now = now ≡ given
 
 abbrev pub IsReportStop : Stop → Plan → Option (List ℕ) → ℕ → ℕ → ℕ → ℕ → Type 0
 IsReportStop Memory plan holds read_before read_now put_before put_now = ⊤
@@ -38,7 +47,7 @@ IsReportStop SinkFault plan holds read_before read_now put_before put_now = Rose
 IsReportStop s plan holds read_before read_now put_before put_now = ⊥
 
 -- why an image was not reported
-pub record IsNotReported (stop : Stop) (plan : Plan) (holds : Option (List ℕ)) (read_before read_now : ℕ)
-    (given now : Option (List ℕ)) (put_before put_now : ℕ) : Type 0 where
+pub record IsNotReported (format : Format) (path : List ℕ) (plan : Plan) (stop : Stop) (holds : Option (List ℕ))
+    (read_before read_now : ℕ) (given now : Option (List ℕ)) (put_before put_now : ℕ) : Type 0 where
   pub cause : IsReportStop stop plan holds read_before read_now put_before put_now
-  pub sink : IsGiven stop given now
+  pub sink : IsGiven stop format path plan holds given now

@@ -20,18 +20,13 @@ fn read<M: Store>(alloc: Global, plan: &Plan, image: &mut M) -> Result<Report, S
     ensures same { M.holds image.new ≡ M.holds image.old }
     ensures later { M.faults image.old ≤ M.faults image.new }
 {
-    let bytes = match load(alloc, image, plan.mem) {
-        Ok(bytes) => Bytes::from_vec(bytes),
-        Err(stop) => return Err(stop),
-    };
-    match report_of_zones(alloc, &plan.zones, bytes) {
-        Ok(report) => Ok(report),
-        Err(_) => Err(Stop::Memory),
-    }
+    let bytes = load(alloc, image, plan.mem)?;
+    let report = report_of_zones(alloc, &plan.zones, Bytes::from_vec(bytes))?;
+    Ok(report)
 }
 
 /// Reads the image and gives its report to the sink, written in a format and headed by `path`. The image is not written.
-/// Whatever goes wrong, the sink is given nothing before all of the report is written.
+/// The sink is given nothing before all of the report is made.
 pub fn report<M: Store, W: Sink>(
     alloc: Global,
     plan: &Plan,
@@ -41,18 +36,13 @@ pub fn report<M: Store, W: Sink>(
     out: &mut W,
 ) -> Result<Report, Stop>
     ensures reported { MatchResult result (IsReported format path.now plan.now (M.holds image.old) (W.given out.old)
-        (W.given out.new)) (λ stop. IsNotReported stop plan.now (M.holds image.old) (M.faults image.old)
+        (W.given out.new)) (λ stop. IsNotReported format path.now plan.now stop (M.holds image.old) (M.faults image.old)
         (M.faults image.new) (W.given out.old) (W.given out.new) (W.faults out.old) (W.faults out.new)) }
     ensures same { M.holds image.new ≡ M.holds image.old }
     ensures later { (M.faults image.old ≤ M.faults image.new) × (W.faults out.old ≤ W.faults out.new) }
 {
-    let report = match read(alloc, plan, image) {
-        Ok(report) => report,
-        Err(stop) => return Err(stop),
-    };
-    let Ok(bytes) = shown(alloc, plan, format, path, &report) else {
-        return Err(Stop::Memory);
-    };
+    let report = read(alloc, plan, image)?;
+    let bytes = shown(alloc, plan, format, path, &report)?;
     match out.put(&bytes) {
         Ok(()) => Ok(report),
         Err(Failed) => Err(Stop::SinkFault),

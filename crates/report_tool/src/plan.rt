@@ -38,10 +38,7 @@ impl Plan {
     fn as_given(alloc: Global, params: Params) -> Result<Plan, LayoutError>
         ensures { MatchResult result (IsLaid true params) (IsCause (layout_by true params)) }
     {
-        let zones = match layout_as_given(alloc, &params) {
-            Ok(zones) => zones,
-            Err(e) => return Err(e),
-        };
+        let zones = layout_as_given(alloc, &params)?;
         Ok(Plan {
             params,
             is_as_given: true,
@@ -54,10 +51,7 @@ impl Plan {
     fn rounded(alloc: Global, params: Params) -> Result<Plan, LayoutError>
         ensures { MatchResult result (IsLaid false params) (IsCause (layout_by false params)) }
     {
-        let layout = match layout(alloc, &params) {
-            Ok(layout) => layout,
-            Err(e) => return Err(e),
-        };
+        let layout = layout(alloc, &params)?;
         let mem = layout.mem();
         match Vec::from_slice(alloc, layout.zones()) {
             Ok(zones) => Ok(Plan {
