@@ -7,8 +7,8 @@ pub report_of_zones-requires-clause-whole : goal.report_of_zones-requires-clause
 report_of_zones-requires-clause-whole g c =
     let w = whole_by c.args.plan.now.is_as_given c.args.plan.now.params c.args.plan.now.zones.items
     c.args.plan.now.tagged c.args.plan.now.laid in
-    let long : length c.from_vec-bytes.result ≡ c.args.plan.now.mem =
-    ap length c.from_vec-bytes.ensures ∙ sym c.in-Ok.bytes.ok.0 ∙ c.in-Ok.ensures.ok.0 in
+    let long : length c.from_vec.result ≡ c.args.plan.now.mem =
+    ap length c.from_vec.ensures ∙ sym c.in_ok-bytes.bytes.ok.0 ∙ c.in_ok-bytes.ensures.ok.0 in
     rw (c.deref.ensures.value, long ∙ c.args.plan.now.sized) w.layout
 
 pub report_of_zones-requires-clause-few : goal.report_of_zones-requires-clause-few
