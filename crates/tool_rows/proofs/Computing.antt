@@ -11,6 +11,12 @@ use Rattle.spec_rows.proofs.Computing.{computing_all}
 use Rattle.kmsg_spec.specs.Bodies.{last_lines}
 use Rattle.tool_spec.specs.Scripts.{store_line, line_done}
 use Rattle.tool_spec.specs.Generated.{draw, draws}
+use Rattle.tool_spec.specs.Commands.{with_to}
+use Rattle.tool_spec.specs.SharedScripts.{with_steps, shared_line}
+use Rattle.shared_spec.specs.Calls.{since_oldest_open}
+use Rattle.shared_spec.specs.Machine.{open_calls_from}
+use Rattle.shared_spec.specs.Runs.{shared_after}
+use Rattle.salvage_spec.specs.Rings.{shapes, ring_in, ring_at, rings}
 use Rattle.blk_spec.specs.Layout.{layout_of}
 use Rattle.blk_spec.specs.Writes.{after_writes, bytes_in, first_bytes}
 use Rattle.blk_spec.specs.Rings.{kept_writes, append_writes, words_after}
@@ -34,3 +40,13 @@ unfolding computing_tool layout_of after_writes bytes_in first_bytes kept_writes
     saved_ring listed_dump dumps_listed greatest_counter dump_content load_writes names_of content_of time_of cause_of
     session_after operation_of blk_line_done
 computing_blk = 0
+
+-- these too: for moves and shared zones
+unfoldable pub computing_calls : ℕ
+unfolding computing_tool with_to with_steps shared_line since_oldest_open open_calls_from shared_after
+computing_calls = 0
+
+-- these too: for the rings of a dump
+unfoldable pub computing_rings : ℕ
+unfolding computing_tool shapes ring_in ring_at rings
+computing_rings = 0

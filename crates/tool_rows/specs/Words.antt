@@ -1,5 +1,5 @@
 -- Words in a line, and what becomes of them
-use Rattle.std.specs.Prelude.{ℕ, List, [], ◌++◌, ◌==◌, length, codes, flat_map, Result, Ok, Err}
+use Rattle.std.specs.Prelude.{ℕ, List, [], ◌++◌, ◌==◌, length, codes, flat_map, Option, None, Result, Ok, Err}
 use Rattle.std.specs.List.{slice_split}
 use Rattle.blk_spec.specs.declared.BlkLayout.{BlkLayout}
 use Rattle.grammar_spec.specs.Fields.{Text}
@@ -43,6 +43,16 @@ planned_shown (Err stop) image script = stop_shown stop
 -- what the tool shows of these words, on an image and a script
 abbrev pub told : Text → List ℕ → List ℕ → Text × ℕ
 told line image script = planned_shown (plan_of (words line)) image script
+
+-- the bytes that it then writes to the front of the image; a block store's lines write as they are done
+abbrev pub planned_written : Result Plan Stop → List ℕ → List ℕ → Option (List ℕ)
+planned_written (Ok (OfRam plan)) image script = (wanted plan image script).writes
+planned_written (Ok (OfBlk layout)) store script = None
+planned_written (Ok (OfMove plan)) image script = (wanted_move plan image).writes
+planned_written (Err stop) image script = None
+
+abbrev pub written : Text → List ℕ → List ℕ → Option (List ℕ)
+written line image script = planned_written (plan_of (words line)) image script
 
 abbrev pub lone : Text
 lone = codes "mem_size=4096 record_size=0 ftrace_size=0 pmsg_size=0"

@@ -1,7 +1,7 @@
-//! Worked rows of the tool's definitions: each function's contract is a row, whose expected text stands in `specs/`.
+//! Worked rows of the tool's definitions: each function's contract is a row, whose expected values stand in `specs/`.
 #![tactic(auto)]
 
-ghost use Rattle.tool_rows.specs.Rows.{FirstDraws, FirstConsoleRecord, CutAfterSizeWord, StoppedBoots, DumpsWithKeptZone, FirstCrash, WorkedLayouts, WorkedRefusals, WorkedFaults, CommandsWithoutScript, FirstBlockSession, CutBlockWrite, BlockRefusals};
+ghost use Rattle.tool_rows.specs.Rows.{FirstDraws, FirstConsoleRecord, CutAfterSizeWord, StoppedBoots, DumpsWithKeptZone, FirstCrash, WorkedLayouts, WorkedRefusals, WorkedFaults, CommandsWithoutScript, FirstBlockSession, CutBlockWrite, BlockRefusals, FirstMove, MoveToParity, MoveOfTwoZones, MoveOfUnlistedDump, MoveRefusals, TwoWriters, LaterWriter, SharedRefusals, RingInDump, TwoShapesAtOnePlace, NoRingInDump, CorrectedRing};
 
 /// The first draws of a generated session.
 pub fn first_draws()
@@ -66,4 +66,64 @@ pub fn cut_block_write()
 /// Lines that the block store refuses.
 pub fn block_refusals()
     ensures { BlockRefusals }
+{}
+
+/// A move of a dump and of a console that runs round its ring; pmsg is left.
+pub fn first_move()
+    ensures { FirstMove }
+{}
+
+/// A move to zones with parity: the longest log that fits, and one byte more.
+pub fn move_to_parity()
+    ensures { MoveToParity }
+{}
+
+/// A move of a record of two zones.
+pub fn move_of_two_zones()
+    ensures { MoveOfTwoZones }
+{}
+
+/// A move of a dump zone without a time line.
+pub fn move_of_unlisted_dump()
+    ensures { MoveOfUnlistedDump }
+{}
+
+/// Words, parameters, layouts and images that a move refuses.
+pub fn move_refusals()
+    ensures { MoveRefusals }
+{}
+
+/// Two writers of a shared zone, of which one is not done.
+pub fn two_writers()
+    ensures { TwoWriters }
+{}
+
+/// A writer of a shared zone that has a log.
+pub fn later_writer()
+    ensures { LaterWriter }
+{}
+
+/// Lines and layouts that `shared-run` refuses, and lines that it does not.
+pub fn shared_refusals()
+    ensures { SharedRefusals }
+{}
+
+/// A ring between the places of a dump, and its log.
+pub fn ring_in_dump()
+    ensures { RingInDump }
+{}
+
+/// A place of a dump at which two shapes fit.
+pub fn two_shapes_at_one_place()
+    ensures { TwoShapesAtOnePlace }
+{}
+
+/// Dumps with what is almost a ring.
+pub fn no_ring_in_dump()
+    ensures { NoRingInDump }
+{}
+
+/// A ring of a dump whose header and log are corrected.
+pub fn corrected_ring()
+    ensures { CorrectedRing }
 {}

@@ -1,0 +1,14 @@
+use Rattle.std.proofs.Common.{[], ◌∷◌, refl, ap, ◌∙◌}
+use Rattle.tool_spec.specs.Texts.{rings_text}
+use Rattle.tool_spec.specs.Commands.{shows, wanted_ring}
+use Rattle.tool_rows.specs.Words.{shown}
+use Rattle.tool_rows.proofs.Computing.{computing_tool}
+use Rattle.tool_rows.proofs.Corrected.{rings-are, read-is}
+use Rattle.tool_rows.proofs.corrected_ring.Goals as goal
+
+pub returns : goal.returns
+unfolding computing_tool
+returns c = (
+  ap (λ rings. shown (shows (rings_text rings ∷ []))) rings-are ∙ refl,
+  ap (λ reading. shown (wanted_ring reading)) read-is ∙ refl,
+)

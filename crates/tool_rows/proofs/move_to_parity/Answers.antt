@@ -1,0 +1,7 @@
+use Rattle.std.proofs.Common.{refl}
+use Rattle.tool_rows.proofs.Computing.{computing_calls}
+use Rattle.tool_rows.proofs.move_to_parity.Goals as goal
+
+pub returns : goal.returns
+unfolding computing_calls
+returns c = refl

@@ -1,0 +1,7 @@
+use Rattle.std.proofs.Common.{refl}
+use Rattle.tool_rows.proofs.Computing.{computing_rings}
+use Rattle.tool_rows.proofs.ring_in_dump.Goals as goal
+
+pub returns : goal.returns
+unfolding computing_rings
+returns c = (refl, refl, refl, refl, refl, refl)

@@ -1,0 +1,7 @@
+use Rattle.std.proofs.Common.{refl}
+use Rattle.tool_rows.proofs.Computing.{computing_rings}
+use Rattle.tool_rows.proofs.two_shapes_at_one_place.Goals as goal
+
+pub returns : goal.returns
+unfolding computing_rings
+returns c = refl
