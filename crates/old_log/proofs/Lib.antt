@@ -1,5 +1,6 @@
 pub mod Images
 pub mod Fronts
+pub mod States
 pub mod Saves
 pub mod Storing
 pub mod Corrections

@@ -1,5 +1,5 @@
 -- A block more behind those that were read
-use Rattle.std.proofs.Common.{◌≡◌, ℕ, ◌+◌, ◌-◌, ◌*◌, ◌/◌, ◌%◌, ◌<◌, ◌≤◌, min, List, [], ◌++◌, length, take, drop, slice_range, sym, ap, ap₂, ◌∙◌, subst, arith, mul_comm, Bool, Option, Some}
+use Rattle.std.proofs.Common.{◌≡◌, ℕ, ◌+◌, ◌-◌, ◌*◌, ◌/◌, ◌%◌, ◌<◌, ◌≤◌, min, List, [], ◌++◌, length, take, drop, slice_range, sym, ap, ap₂, ◌∙◌, subst, arith, mul_comm, Bool, true, Option, Some, map, ◌∷◌}
 use Rattle.std.specs.List.{range_with_len, sum_by}
 use Rattle.std.proofs.lemmas.List.{take-take}
 use Rattle.std.proofs.Math.Nat.{mul-le-mul_left}
@@ -12,10 +12,13 @@ use Rattle.zone_spec.specs.Parts.{AreBytes, Part, Block, part_bytes, part_word}
 use Rattle.zone_spec.specs.PartReadings.{part_reading, reading_by}
 use Rattle.ring_laws.proofs.PartsLaw.{block_some}
 use Rattle.ring_laws.proofs.PartWords.{part_bytes-word, reading_near}
+use Rattle.report_spec.specs.declared.PartState.{PartState}
+use Rattle.report_spec.specs.Parts.{part_state}
 use Rattle.old_log.specs.declared.reading.Front.{Front}
-use Rattle.old_log.specs.Reads.{bytes_read, corrected_below, bad_below}
+use Rattle.old_log.specs.Reads.{bytes_read, corrected_below, bad_below, states_below}
 use Rattle.old_log.specs.Fronts.{ReadsTo}
 use Rattle.old_log.proofs.Fronts.{bytes_read-next, bytes_read-none, sum_by-next, ceil-is, ceil-most}
+use Rattle.old_log.proofs.States.{block-next}
 
 -- a part that stands as a codeword reads as it stands
 pub codeword-nearest : (r : ℕ) (w : List ℕ) → IsCodeword r w → nearest r w ≡ Some w
@@ -36,12 +39,14 @@ codeword-reads z x p h =
 
 module _ (z : Zone) (x : List ℕ) (size b : ℕ) (valid : IsValidZone z) (long : length x ≡ z.size) (bytes : AreBytes x)
     (within : size ≤ z.cap) (block : z.block * b < size) where
-  pub pushed : (old new : Front) (k m : ℕ) → ReadsTo z x size b old
+  pub pushed : (old new : Front) (k m : ℕ) (s : PartState) → ReadsTo z x size b old
       → new.bytes.items ≡ old.bytes.items ++ take (min z.block (size - z.block * b)) (part_reading z x (Block b)).bytes
       → new.counts.corrected ≡ old.counts.corrected + k → k ≡ (part_reading z x (Block b)).corrected → k < 256
       → new.counts.bad ≡ old.counts.bad + m → m ≡ (part_reading z x (Block b)).bad → m ≤ 1
+      → s ≡ part_state (part_reading z x (Block b)) → new.states.are_wanted ≡ old.states.are_wanted
+      → (old.states.are_wanted ≡ true → new.states.kept.items ≡ old.states.kept.items ++ s ∷ [])
       → ReadsTo z x size (b + 1) new
-  pushed old new k m before items ec ek few eb em one = record {
+  pushed old new k m s before items ec ek few eb em one es same kept = record {
     bytes = items ∙ ap (λ (l : List ℕ). l ++ take (min z.block (size - z.block * b)) (part_reading z x (Block b)).bytes)
         before.bytes ∙ sym (bytes_read-next z x b size valid long bytes within block).1;
     corrected = ec ∙ ap₂ (λ (n l : ℕ). n + l) before.corrected ek
@@ -49,7 +54,10 @@ module _ (z : Zone) (x : List ℕ) (size b : ℕ) (valid : IsValidZone z) (long 
     bad = eb ∙ ap₂ (λ (n l : ℕ). n + l) before.bad em
         ∙ sym (sum_by-next (λ (j : ℕ). (part_reading z x (Block j)).bad) b);
     few = (let f = before.few in omega (arith, f, ec, few));
-    some = (let s = before.some in omega (arith, s, eb, one));
+    some = (let most = before.some in omega (arith, most, eb, one));
+    states = λ wanted.
+        let asked : old.states.are_wanted ≡ true = sym same ∙ wanted in
+        block-next z x b old.states.kept.items new.states.kept.items s (before.states asked) es (kept asked);
   }
 
   -- the bytes of a block as they stand, as far as they lie below size
@@ -68,13 +76,14 @@ module _ (z : Zone) (x : List ℕ) (size b : ℕ) (valid : IsValidZone z) (long 
       ∙ ap (λ (l : List ℕ). take n l) (sym (codeword-reads z x (Block b) clean).0)
 
 pub reads-none : (z : Zone) (x : List ℕ) (size : ℕ) (front : Front) → [] ≡ front.bytes.items
-    → front.counts.corrected ≡ 0 → front.counts.bad ≡ 0 → ReadsTo z x size 0 front
-reads-none z x size front items c b = record {
+    → front.counts.corrected ≡ 0 → front.counts.bad ≡ 0 → front.states.kept.items ≡ [] → ReadsTo z x size 0 front
+reads-none z x size front items c b s = record {
   bytes = sym items ∙ bytes_read-none z x (min (z.block * 0) size) (grind arith);
   corrected = c;
   bad = b;
   few = omega (arith, c);
   some = omega (arith, b);
+  states = λ wanted. s;
 }
 
 -- ---- pairs
@@ -126,6 +135,10 @@ module _ (z : Zone) (x : List ℕ) (size n : ℕ) (front : Front) (valid : IsVal
   pub whole-bad : front.counts.bad ≡ bad_below z x size
   whole-bad = reads.bad ∙ ap (λ (m : ℕ). sum_by (λ (b : ℕ). (part_reading z x (Block b)).bad) (range_with_len 0 m))
       is-last
+
+  pub whole-states : front.states.are_wanted ≡ true → front.states.kept.items ≡ states_below z x size
+  whole-states wanted = reads.states wanted
+      ∙ ap (λ (m : ℕ). map (λ b. part_state (part_reading z x (Block b))) (range_with_len 0 m)) is-last
 
   pub whole-few : (front.counts.corrected ≤ 255 * size) × (front.counts.bad ≤ size)
   whole-few =

@@ -1,10 +1,12 @@
--- The bytes at the front of a zone's data as their blocks read, and what the blocks count
+-- The bytes at the front of a zone's data as their blocks read, what the blocks count, and their states
 use Rattle.std.specs.Prelude.{ℕ, ◌+◌, ◌-◌, ◌*◌, ◌/◌, min, List, map, sum_by}
 use Rattle.std.specs.List.{range_with_len}
 use Rattle.zone_spec.specs.declared.Zone.{Zone}
 use Rattle.zone_spec.specs.Parts.{Block}
 use Rattle.zone_spec.specs.PartReadings.{part_reading}
 use Rattle.zone_spec.specs.Reading.{byte_read, blocks_below}
+use Rattle.report_spec.specs.declared.PartState.{PartState}
+use Rattle.report_spec.specs.Parts.{part_state}
 use Rattle.rs_errors.specs.declared.Decoded.{Decoded}
 use Rattle.rs_errors.specs.declared.Decoded.TheVariants.{Clean, Fixed, Bad}
 
@@ -31,6 +33,10 @@ corrected_below z image n = sum_by (λ b. (part_reading z image (Block b)).corre
 -- how many of these blocks could not be read
 abbrev pub bad_below : Zone → List ℕ → ℕ → ℕ
 bad_below z image n = sum_by (λ b. (part_reading z image (Block b)).bad) (blocks_below z n)
+
+-- how these blocks read
+abbrev pub states_below : Zone → List ℕ → ℕ → List PartState
+states_below z image n = map (λ b. part_state (part_reading z image (Block b))) (blocks_below z n)
 
 -- where the last block ends that begins below n
 unfoldable pub read_end : Zone → ℕ → ℕ

@@ -3,11 +3,13 @@
 #![tactic(auto)]
 
 mod logs;
+mod parts;
 mod reading;
 mod settling;
 
 pub use logs::Logs;
-pub use reading::{Reading, keeps, read_zone, read_zone_by};
+pub use parts::ZoneParts;
+pub use reading::{Reading, keeps, read_parts, read_parts_by, read_zone, read_zone_by};
 pub use settling::{Settled, settle, settle_by};
 pub use zone_spec::{State, Words};
 

@@ -1,17 +1,20 @@
 // The reading of a zone, and whether a boot keeps the zone that has it.
-ghost use Rattle.std.specs.Prelude.{◌≡◌, ◌+◌, ◌*◌, ◌≤◌, ◌<◌, ◌^◌, ◌↔◌, length, IsTrue, IfOk};
+ghost use Rattle.std.specs.Prelude.{◌≡◌, ◌+◌, ◌*◌, ◌≤◌, ◌<◌, ◌^◌, ◌↔◌, length, true, IsTrue, IfOk};
 ghost use Rattle.code_spec.specs.Code.{IsCodeword};
 ghost use Rattle.zone_spec.specs.Parts.{Block, part_word};
 ghost use Rattle.zone_spec.specs.Zones.{IsValidZone};
 ghost use Rattle.zone_spec.specs.Reading.{zone_reading, state_of as state_for, log_read, IsRing};
 ghost use Rattle.zone_spec.specs.Boot.{keeps as keeps_zone, is_kept as is_kept_zone};
-ghost use Rattle.old_log.specs.Reads.{bytes_read, corrected_of, bad_of, corrected_below, bad_below};
+ghost use Rattle.report_spec.specs.Parts.{part_states};
+ghost use Rattle.old_log.specs.Reads.{bytes_read, corrected_of, bad_of, corrected_below, bad_below, states_below};
 
+use crate::parts::{BlockStates, ZoneParts, part_state};
 use arrayvec::ArrayVec;
 use block_ecc::{Coder, Decoded, Fix};
 use box_io::Bytes;
 use dump_records::read_line;
 use ram_region::Span;
+use report_spec::PartState;
 use std::alloc::{AllocError, Global};
 use std::marker::Model;
 use zone_spec::{Kind, State, Words, Zone};
@@ -85,11 +88,12 @@ fn state_of(zone: &Zone, words: Words) -> State
     }
 }
 
-/// The front of a zone's data as its blocks read, and what these blocks count.
+/// The front of a zone's data as its blocks read, what these blocks count, and their states if they are wanted.
 #[derive(Drop)]
 struct Front {
     bytes: Vec<u8>,
     counts: Counts,
+    states: BlockStates,
 }
 
 impl Front {
@@ -109,13 +113,15 @@ impl Front {
         requires block { zone.now.block * b < size }
         requires clean { IsCodeword zone.now.parity (part_word zone.now span.now (Block b)) }
         requires before { ReadsTo zone.now span.now size b self.old }
-        ensures { IfOk result (λ _. ReadsTo zone.now span.now size (b + 1) self.new) }
+        ensures reads { IfOk result (λ _. ReadsTo zone.now span.now size (b + 1) self.new) }
+        ensures wanted { IfOk result (λ _. self.new.states.are_wanted ≡ self.old.states.are_wanted) }
     {
         let _len = span.len();
         let at = 12 + zone.block * b;
         let len = zone.block.min(size - zone.block * b);
         let bytes = &span.bytes()[at as usize..at as usize + len as usize];
         self.bytes.extend_from_slice(bytes)?;
+        self.states.push(PartState::Read(0))?;
         Ok(())
     }
 
@@ -134,7 +140,8 @@ impl Front {
         requires within { size ≤ zone.now.cap }
         requires block { zone.now.block * b < size }
         requires before { ReadsTo zone.now span.now size b self.old }
-        ensures { IfOk result (λ _. ReadsTo zone.now span.now size (b + 1) self.new) }
+        ensures reads { IfOk result (λ _. ReadsTo zone.now span.now size (b + 1) self.new) }
+        ensures wanted { IfOk result (λ _. self.new.states.are_wanted ≡ self.old.states.are_wanted) }
     {
         let _len = span.len();
         let mut block: ArrayVec<u8, 255> = ArrayVec::new();
@@ -146,6 +153,7 @@ impl Front {
         let more = counts_of(outcome);
         self.counts.corrected += more.corrected;
         self.counts.bad += more.bad;
+        self.states.push(part_state(outcome))?;
         Ok(())
     }
 
@@ -166,7 +174,8 @@ impl Front {
         requires block { zone.now.block * b < size }
         requires clean { IsTrue is_clean ↔ IsCodeword zone.now.parity (part_word zone.now span.now (Block b)) }
         requires before { ReadsTo zone.now span.now size b self.old }
-        ensures { IfOk result (λ _. ReadsTo zone.now span.now size (b + 1) self.new) }
+        ensures reads { IfOk result (λ _. ReadsTo zone.now span.now size (b + 1) self.new) }
+        ensures wanted { IfOk result (λ _. self.new.states.are_wanted ≡ self.old.states.are_wanted) }
     {
         if is_clean {
             self.push_standing(span, zone, b, size)
@@ -190,7 +199,8 @@ impl Front {
         requires within { size ≤ zone.now.cap }
         requires whole { zone.now.block * (2 * count) ≤ size }
         requires none { ReadsTo zone.now span.now size 0 self.old }
-        ensures { IfOk result (λ _. ReadsTo zone.now span.now size (2 * count) self.new) }
+        ensures reads { IfOk result (λ _. ReadsTo zone.now span.now size (2 * count) self.new) }
+        ensures wanted { IfOk result (λ _. self.new.states.are_wanted ≡ self.old.states.are_wanted) }
     {
         for pair in 0..count {
             let b = 2 * pair;
@@ -202,46 +212,55 @@ impl Front {
     }
 }
 
-/// The first `size` data bytes as their blocks read, and what these blocks count.
+/// The first `size` data bytes as their blocks read, what these blocks count, and their states if they are wanted.
 fn read_bytes(
     alloc: Global,
     coder: &Coder,
     span: &Span,
     zone: &Zone,
     size: u32,
-) -> Result<(Vec<u8>, Counts), AllocError>
+    with_states: bool,
+) -> Result<Front, AllocError>
     requires coder { coder.now ≡ zone.now.parity }
     requires valid { IsValidZone zone.now }
     requires len { length span.now ≡ zone.now.size }
     requires within { size ≤ zone.now.cap }
-    ensures bytes { IfOk result (λ r. r.0.items ≡ bytes_read zone.now span.now size) }
-    ensures corrected { IfOk result (λ r. r.1.corrected ≡ corrected_below zone.now span.now size) }
-    ensures bad { IfOk result (λ r. r.1.bad ≡ bad_below zone.now span.now size) }
-    ensures few { IfOk result (λ r. (r.1.corrected ≤ 255 * size) × (r.1.bad ≤ size)) }
+    ensures bytes { IfOk result (λ r. r.bytes.items ≡ bytes_read zone.now span.now size) }
+    ensures corrected { IfOk result (λ r. r.counts.corrected ≡ corrected_below zone.now span.now size) }
+    ensures bad { IfOk result (λ r. r.counts.bad ≡ bad_below zone.now span.now size) }
+    ensures few { IfOk result (λ r. (r.counts.corrected ≤ 255 * size) × (r.counts.bad ≤ size)) }
+    ensures states { IfOk result (λ r. with_states ≡ true → r.states.kept.items
+        ≡ states_below zone.now span.now size) }
 {
     let bytes = Vec::with_capacity(alloc, size as usize)?;
     let counts = Counts {
         corrected: 0,
         bad: 0,
     };
-    let mut front = Front { bytes, counts };
+    let count = size.div_ceil(zone.block);
+    let states = BlockStates::new(alloc, with_states, count)?;
+    let mut front = Front {
+        bytes,
+        counts,
+        states,
+    };
     let pairs = size / zone.block / 2;
     front.push_pairs(coder, span, zone, pairs, size)?;
-    for b in 2 * pairs..size.div_ceil(zone.block) {
+    for b in 2 * pairs..count {
         front.push_read(coder, span, zone, b, size)?;
     }
-    let Front { bytes, counts } = front;
-    Ok((bytes, counts))
+    Ok(front)
 }
 
-/// The log of a ring, and what its blocks count. The log's bytes are the only memory taken.
+/// The log of a ring, what its blocks count, and their states if they are wanted. No other memory is taken.
 fn read_log(
     alloc: Global,
     coder: &Coder,
     span: &Span,
     zone: &Zone,
     words: Words,
-) -> Result<(Bytes, Counts), AllocError>
+    with_states: bool,
+) -> Result<(Bytes, Counts, Vec<PartState>), AllocError>
     requires coder { coder.now ≡ zone.now.parity }
     requires valid { IsValidZone zone.now }
     requires len { length span.now ≡ zone.now.size }
@@ -250,10 +269,61 @@ fn read_log(
     ensures corrected { IfOk result (λ r. r.1.corrected ≡ corrected_below zone.now span.now words.size) }
     ensures bad { IfOk result (λ r. r.1.bad ≡ bad_below zone.now span.now words.size) }
     ensures few { IfOk result (λ r. (r.1.corrected ≤ 255 * words.size) × (r.1.bad ≤ words.size)) }
+    ensures states { IfOk result (λ r. with_states ≡ true → r.2.items ≡ states_below zone.now span.now words.size) }
 {
-    let (mut log, counts) = read_bytes(alloc, coder, span, zone, words.size)?;
+    let front = read_bytes(alloc, coder, span, zone, words.size, with_states)?;
+    let Front {
+        bytes: mut log,
+        counts,
+        states,
+    } = front;
     log.rotate_left(words.start as usize);
-    Ok((Bytes::from_vec(log), counts))
+    Ok((Bytes::from_vec(log), counts, states.kept))
+}
+
+/// The reading of a zone, and how its parts read if that is wanted.
+fn read_whole(
+    alloc: Global,
+    coder: &Coder,
+    span: &Span,
+    zone: &Zone,
+    with_states: bool,
+) -> Result<(Reading, ZoneParts), AllocError>
+    requires coder { coder.now ≡ zone.now.parity }
+    requires valid { IsValidZone zone.now }
+    requires size { length span.now ≡ zone.now.size }
+    ensures reading { IfOk result (λ r. r.0 ≡ zone_reading zone.now span.now) }
+    ensures parts { IfOk result (λ r. with_states ≡ true → r.1 ≡ part_states zone.now span.now) }
+{
+    let mut fixes: ArrayVec<Fix, 63> = ArrayVec::new();
+    let front = coder.read_header(span, zone, &mut fixes);
+    let counts = counts_of(front.outcome);
+    let header = part_state(front.outcome);
+    let words = front.words;
+    match state_of(zone, words) {
+        State::Found => {
+            let (log, more, blocks) = read_log(alloc, coder, span, zone, words, with_states)?;
+            let reading = Reading {
+                state: State::Found,
+                words,
+                log,
+                corrected: counts.corrected + more.corrected,
+                bad: counts.bad + more.bad,
+            };
+            Ok((reading, ZoneParts { header, blocks }))
+        }
+        state => {
+            let reading = Reading {
+                state,
+                words,
+                log: Bytes::empty(alloc),
+                corrected: counts.corrected,
+                bad: counts.bad,
+            };
+            let blocks = Vec::new(alloc);
+            Ok((reading, ZoneParts { header, blocks }))
+        }
+    }
 }
 
 /// Reads a zone as a boot does, and stores nothing. The log is the only memory taken. A caller with many zones makes one
@@ -269,29 +339,24 @@ pub fn read_zone_by(
     requires size { length span.now ≡ zone.now.size }
     ensures { IfOk result (λ r. r ≡ zone_reading zone.now span.now) }
 {
-    let mut fixes: ArrayVec<Fix, 63> = ArrayVec::new();
-    let header = coder.read_header(span, zone, &mut fixes);
-    let counts = counts_of(header.outcome);
-    let words = header.words;
-    match state_of(zone, words) {
-        State::Found => {
-            let (log, more) = read_log(alloc, coder, span, zone, words)?;
-            Ok(Reading {
-                state: State::Found,
-                words,
-                log,
-                corrected: counts.corrected + more.corrected,
-                bad: counts.bad + more.bad,
-            })
-        }
-        state => Ok(Reading {
-            state,
-            words,
-            log: Bytes::empty(alloc),
-            corrected: counts.corrected,
-            bad: counts.bad,
-        }),
-    }
+    let (reading, _parts) = read_whole(alloc, coder, span, zone, false)?;
+    Ok(reading)
+}
+
+/// The same, and how the header and each used block read. Each part is decoded once.
+pub fn read_parts_by(
+    alloc: Global,
+    coder: &Coder,
+    span: &Span,
+    zone: &Zone,
+) -> Result<(Reading, ZoneParts), AllocError>
+    requires coder { coder.now ≡ zone.now.parity }
+    requires valid { IsValidZone zone.now }
+    requires size { length span.now ≡ zone.now.size }
+    ensures reading { IfOk result (λ r. r.0 ≡ zone_reading zone.now span.now) }
+    ensures parts { IfOk result (λ r. r.1 ≡ part_states zone.now span.now) }
+{
+    read_whole(alloc, coder, span, zone, true)
 }
 
 /// Reads a zone as a boot does, with an encoder of its own.
@@ -301,6 +366,20 @@ pub fn read_zone(alloc: Global, span: &Span, zone: &Zone) -> Result<Reading, All
     ensures { IfOk result (λ r. r ≡ zone_reading zone.now span.now) }
 {
     read_zone_by(alloc, &Coder::new(zone), span, zone)
+}
+
+/// Reads a zone and its parts, with an encoder of its own.
+pub fn read_parts(
+    alloc: Global,
+    span: &Span,
+    zone: &Zone,
+) -> Result<(Reading, ZoneParts), AllocError>
+    requires valid { IsValidZone zone.now }
+    requires size { length span.now ≡ zone.now.size }
+    ensures reading { IfOk result (λ r. r.0 ≡ zone_reading zone.now span.now) }
+    ensures parts { IfOk result (λ r. r.1 ≡ part_states zone.now span.now) }
+{
+    read_parts_by(alloc, &Coder::new(zone), span, zone)
 }
 
 /// Tells whether a boot leaves the zone with this reading without erasing it (`fs/pstore/ram.c`). That an ftrace ring

@@ -8,9 +8,8 @@ ghost use Rattle.zone_params.specs.Laid.{params_of, zones_of};
 ghost use Rattle.old_log.specs.Saving.{AreNumbered};
 ghost use Rattle.record_report.specs.Reports.{SpansFit, ReadsTo, IsReport};
 
-use crate::parts::{ZoneParts, parts};
 use box_io::Bytes;
-use old_log::{Logs, read_zone};
+use old_log::{Logs, ZoneParts, read_parts};
 use pstore_names::{HeldRecord, held_records};
 use ram_region::{Region, Span, Spans};
 use std::alloc::{AllocError, Global};
@@ -76,8 +75,8 @@ impl Readings {
         requires room { length self.old.logs.readings < length self.old.logs.zones }
         ensures { IfOk result (λ _. Adds self.old self.new zone.now span.now) }
     {
-        let reading = read_zone(alloc, span, zone)?;
-        self.parts.push(parts(alloc, span, zone, &reading)?)?;
+        let (reading, parts) = read_parts(alloc, span, zone)?;
+        self.parts.push(parts)?;
         self.logs.push(reading);
         Ok(())
     }
@@ -100,8 +99,7 @@ fn read_zones(alloc: Global, zones: &[Zone], spans: &Spans) -> Result<Readings, 
     Ok(readings)
 }
 
-/// The report of an image by a whole list of zones. A zone's header is decoded twice. Its blocks are decoded once if
-/// the zone was found and nothing but its header was corrected, else twice. Takes time linear in the image.
+/// The report of an image by a whole list of zones. Each part is decoded once. Takes time linear in the image.
 pub fn report_of_zones(alloc: Global, zones: &[Zone], image: Bytes) -> Result<Report, AllocError>
     requires whole { IsLayout zones.now (length image) }
     requires few { length zones.now < 2 ^ 32 }

@@ -2,7 +2,7 @@
 use Rattle.std.proofs.Common.{◌≡◌, ◌≤◌, ◌<◌, ℕ, ◌*◌, ◌/◌, refl, subst, ◌∙◌, sym, arith}
 use Rattle.ring_laws.proofs.PartsLaw.{block_some}
 use Rattle.old_log.proofs.Fronts.{below-ceil}
-use Rattle.old_log.proofs.Pushing.{pairs-below, reads-none, whole-bytes, whole-corrected, whole-bad, whole-few, loop-end}
+use Rattle.old_log.proofs.Pushing.{pairs-below, reads-none, whole-bytes, whole-corrected, whole-bad, whole-few, whole-states, loop-end}
 use Rattle.old_log.proofs.reading.read_bytes.Goals as goal
 
 pub push_pairs-requires-clause-whole : goal.push_pairs-requires-clause-whole
@@ -11,11 +11,12 @@ push_pairs-requires-clause-whole c = pairs-below c.args.zone.now.block c.args.si
 
 pub push_pairs-requires-clause-none : goal.push_pairs-requires-clause-none
 push_pairs-requires-clause-none c = reads-none _ _ _ _ (sym c.in_ok-bytes.ensures.items) refl refl
+    c.in_ok-states.ensures.none
 
 pub push_read-requires-clause-block : goal.push_read-requires-clause-block
 push_read-requires-clause-block c =
     below-ceil c.args.size c.args.zone.now.block c.loop-b.b (block_some c.args.zone.now c.requires.valid)
-    (subst (λ (n : ℕ). c.loop-b.b < n) c.div_ceil-b-end.ensures c.loop-b-test.true)
+    (subst (λ (n : ℕ). c.loop-b.b < n) c.div_ceil-count.ensures c.loop-b-test.true)
 
 pub returns : goal.returns
 returns c =
@@ -25,13 +26,15 @@ returns c =
     let b = c.loop-b.b in
     let some = block_some z c.requires.valid in
     let low = c.loop-b.auto.b-end (subst (λ (k : ℕ). 2 * (n / z.block / 2) ≤ k)
-    (sym c.div_ceil-b-end.ensures) (loop-end n z.block _ some refl)) in
+    (sym c.div_ceil-count.ensures) (loop-end n z.block _ some refl)) in
     let high = c.loop-b-test.false in
-    let last : b ≡ c.div_ceil-b-end.result = omega (arith, low, high) in
-    let end = last ∙ c.div_ceil-b-end.ensures in
+    let last : b ≡ c.div_ceil-count.result = omega (arith, low, high) in
+    let end = last ∙ c.div_ceil-count.ensures in
+    let reads = c.loop-b.invariant.0 in
     record {
-      bytes = whole-bytes z x n b _ c.requires.valid c.loop-b.invariant end;
-      corrected = whole-corrected z x n b _ c.requires.valid c.loop-b.invariant end;
-      bad = whole-bad z x n b _ c.requires.valid c.loop-b.invariant end;
-      few = whole-few z x n b _ c.requires.valid c.loop-b.invariant end;
+      bytes = whole-bytes z x n b _ c.requires.valid reads end;
+      corrected = whole-corrected z x n b _ c.requires.valid reads end;
+      bad = whole-bad z x n b _ c.requires.valid reads end;
+      few = whole-few z x n b _ c.requires.valid reads end;
+      states = λ wanted. whole-states z x n b _ c.requires.valid reads end (c.loop-b.invariant.1 ∙ wanted);
     }

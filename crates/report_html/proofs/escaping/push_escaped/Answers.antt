@@ -1,14 +1,23 @@
-use Rattle.std.proofs.Common.{◌++◌, ◌∙◌, List, ℕ, ap, sym, arith}
+-- The runs stand one after another
+use Rattle.std.proofs.Common.{◌≡◌, ◌+◌, ◌≤◌, ◌∙◌, ◌++◌, List, ℕ, take, length, sym, ap, arith}
 use Rattle.std.specs.Prelude.{flat_map}
-use Rattle.std.proofs.lemmas.List.Concat.{flat_map-append}
-use Rattle.pstore_names.proofs.Steps.{collected-all}
+use Rattle.std.proofs.lemmas.List.{take_all}
 use Rattle.report_spec.specs.Escaped.{escaped_byte}
 use Rattle.report_html.proofs.Texts.{escaped-is}
+use Rattle.report_html.proofs.Runs.{run-next}
 use Rattle.report_html.proofs.escaping.push_escaped.Goals as goal
+
+pub loop-at-preserved : goal.loop-at-preserved
+loop-at-preserved c = record {
+  items = run-next c.args.bytes.now c.loop-at.at (c.loop-at.at + c.min.result) c.args.out.now.items
+      c.loop-at.out.items c.push_run.new.out.items (omega arith) c.loop-at.invariant.items c.in_ok-push_run.ensures;
+  within = (let least = c.min.ensures in let below = c.loop-at-test.true in omega (arith, least, below));
+}
 
 pub returns : goal.returns
 returns c =
-    collected-all (λ (bs : List ℕ). flat_map escaped_byte bs) (flat_map-append escaped_byte) c.args.bytes.now
-    c.loop-b.b-index c.args.out.now.items c.loop-b.out.items (let past = c.loop-b-test.false in omega (arith, past))
-    c.loop-b.invariant
-    ∙ ap (λ (bs : List ℕ). c.args.out.now.items ++ bs) (sym (escaped-is c.args.bytes.now))
+    let bytes : List ℕ = c.args.bytes.now in
+    c.loop-at.invariant.items
+    ∙ ap (λ (bs : List ℕ). c.args.out.now.items ++ flat_map escaped_byte bs)
+    (take_all c.loop-at.at bytes (let past = c.loop-at-test.false in omega (arith, past)))
+    ∙ ap (λ (bs : List ℕ). c.args.out.now.items ++ bs) (sym (escaped-is bytes))

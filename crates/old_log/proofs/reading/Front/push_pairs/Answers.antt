@@ -1,4 +1,4 @@
-use Rattle.std.proofs.Common.{arith}
+use Rattle.std.proofs.Common.{arith, ◌∙◌}
 use Rattle.ring_laws.proofs.PartsLaw.{block_some}
 use Rattle.old_log.proofs.Pushing.{pair-room, next-pair}
 use Rattle.old_log.proofs.reading.Front.push_pairs.Goals as goal
@@ -21,5 +21,7 @@ push-requires-in-loop-pair-clause-block c =
     (block_some c.args.zone.now c.requires.valid) c.loop-pair-test.true c.requires.whole).2
 
 pub loop-pair-preserved : goal.loop-pair-preserved
-loop-pair-preserved c = next-pair c.args.zone.now c.args.span.now c.args.size c.loop-pair.pair _
-    c.in_ok-push-2.ensures
+loop-pair-preserved c = (
+  next-pair c.args.zone.now c.args.span.now c.args.size c.loop-pair.pair _ c.in_ok-push-2.ensures.reads,
+  c.in_ok-push-2.ensures.wanted ∙ c.in_ok-push.ensures.wanted ∙ c.loop-pair.invariant.1,
+)

@@ -1,6 +1,10 @@
+-- The header is corrected, and the data of a zone that was found by its log and the bytes after it
 use Rattle.std.proofs.Common.{◌≡◌, ◌+◌, ◌-◌, List, ℕ, ◌++◌, length, drop, slice_range, ap, sym, ◌∙◌, subst, arith, length-take}
 use Rattle.zone_spec.specs.Parts.{AreBytes}
-use Rattle.zone_spec.specs.Reading.{ZoneReading}
+use Rattle.zone_spec.specs.declared.Zone.{Zone}
+use Rattle.zone_spec.specs.declared.State.{State}
+use Rattle.zone_spec.specs.declared.State.TheVariants.{Found}
+use Rattle.zone_spec.specs.Reading.{ZoneReading, zone_reading, log_read, IsRing}
 use Rattle.zone_spec.specs.PartReadings.{words_read}
 use Rattle.zone_spec.specs.declared.Words.{Words}
 use Rattle.ram_region.specs.CutRegion.{span}
@@ -38,130 +42,98 @@ tail_read-tail-requires-clause-within c =
     let most = ring.1 in
     omega (arith, size, most)
 
-pub correct_data-requires-clause-start : goal.correct_data-requires-clause-start
-correct_data-requires-clause-start c =
-    let z = c.args.zone.now in
-    let x : List ℕ = span c.args.spans.now c.args.i in
-    let read = c.reading.view_is ∙ c.requires.reading in
-    let is_found = found z x c.reading.inside.words c.as_slice-in-Found.result.now c.reading.inside.state
-    (ap (λ (r : ZoneReading). r.state) read) c.in-Found.is (ap (λ (r : ZoneReading). r.words) read)
-    (c.as_slice-in-Found.ensures ∙ ap (λ (r : ZoneReading). r.log) read) in
-    let long = (log-unturned z x c.reading.inside.words c.as_slice-in-Found.result.now is_found.0 is_found.1).1 in
-    let ring = is_found.0.0 in
-    omega (arith, long, ring)
+-- the log of a ring and the bytes after it, as they read
+record IsReadBy (z : Zone) (x : List ℕ) (w : Words) (log tail : List ℕ) : Type 0 where
+  ring : IsRing w z.cap
+  is_log : log ≡ log_read z x w
+  long : length log ≡ w.size
+  behind : bytes_read z x w.size ++ tail ≡ bytes_read z x (read_end z w.size)
 
-pub correct_data-requires-clause-place : goal.correct_data-requires-clause-place
-correct_data-requires-clause-place c =
+read-by : (z : Zone) (x y log tail items : List ℕ) (w : Words) (s : State) → s ≡ (zone_reading z x).state → s ≡ Found
+    → w ≡ (zone_reading z x).words → log ≡ (zone_reading z x).log → tail ≡ items → y ≡ x
+    → bytes_read z y w.size ++ items ≡ bytes_read z y (read_end z w.size) → IsReadBy z x w log tail
+read-by z x y log tail items w s es is ew el tails there reads =
+    let held = found z x w log s es is ew el in
+    record {
+      ring = held.0;
+      is_log = held.1;
+      long = (log-unturned z x w log held.0 held.1).1;
+      behind = ap (λ (l : List ℕ). bytes_read z x w.size ++ l) tails
+          ∙ subst (λ (v : List ℕ). bytes_read z v w.size ++ items ≡ bytes_read z v (read_end z w.size)) there reads;
+    }
+
+pub correct_data-requires : goal.correct_data-requires
+correct_data-requires c =
     let z = c.args.zone.now in
     let x : List ℕ = span c.args.spans.now c.args.i in
     let read = c.reading.view_is ∙ c.requires.reading in
-    let is_found = found z x c.reading.inside.words c.as_slice-in-Found.result.now c.reading.inside.state
-    (ap (λ (r : ZoneReading). r.state) read) c.in-Found.is (ap (λ (r : ZoneReading). r.words) read)
-    (c.as_slice-in-Found.ensures ∙ ap (λ (r : ZoneReading). r.log) read) in
-    let long = (log-unturned z x c.reading.inside.words c.as_slice-in-Found.result.now is_found.0 is_found.1).1 in
-    let there = span-is c.args.spans.now c.args.i c.all-in-Found.result.now c.index-all-i-in-Found.result
-    c.all-in-Found.ensures c.index-all-i-in-Found.is c.requires.span in
-    let n : ℕ = c.reading.inside.words.size in
-    let behind : bytes_read z x n ++ c.as_slice-in-Found-2.result.now ≡ bytes_read z x (read_end z n) =
-    ap (λ (l : List ℕ). bytes_read z x n ++ l) c.as_slice-in-Found-2.ensures.value
-    ∙ subst (λ (y : List ℕ). bytes_read z y n ++ c.tail_read-tail.result.items ≡ bytes_read z y (read_end z n)) there
+    let by = read-by z x _ c.as_slice-in-Found.result.now c.as_slice-in-Found-2.result.now _ c.reading.inside.words
+    c.reading.inside.state (ap (λ (r : ZoneReading). r.state) read) c.in-Found.is
+    (ap (λ (r : ZoneReading). r.words) read) (c.as_slice-in-Found.ensures ∙ ap (λ (r : ZoneReading). r.log) read)
+    c.as_slice-in-Found-2.ensures.value (span-is c.args.spans.now c.args.i c.all-in-Found.result.now
+    c.index-all-i-in-Found.result c.all-in-Found.ensures c.index-all-i-in-Found.is c.requires.span)
     c.tail_read-tail.ensures in
-    let fits = made-fits 0 _ _ c.requires.span c.correct.ensures in
-    let few = c.as_slice.ensures.fits in
-    let same = fits.1 in
-    let count = fits.2 in
-    let begun = c.requires.begun in
-    let len = c.requires.len in
-    let at_most = c.requires.valid.at_most in
-    let room = data-room z x n c.as_slice-in-Found-2.result.now behind in
+    let ring = by.ring.0 in
+    let long = by.long in
+    let room = data-room z x c.reading.inside.words.size c.as_slice-in-Found-2.result.now by.behind in
     let cap = c.requires.valid.cap in
-    omega (arith, long, room, cap, same, len)
-
-pub correct_data-requires-clause-small : goal.correct_data-requires-clause-small
-correct_data-requires-clause-small c =
+    let at_most = c.requires.valid.at_most in
     let fits = made-fits 0 _ _ c.requires.span c.correct.ensures in
     let few = c.as_slice.ensures.fits in
     let same = fits.1 in
     let count = fits.2 in
     let begun = c.requires.begun in
     let len = c.requires.len in
-    let at_most = c.requires.valid.at_most in
-    omega (arith, same, len, at_most)
+    record {
+      span = fits.0;
+      start = omega (arith, long, ring);
+      place = omega (arith, long, room, cap, same, len);
+      small = omega (arith, same, len, at_most);
+      room = omega (arith, few, count, begun);
+    }
 
-pub correct_data-requires-clause-room : goal.correct_data-requires-clause-room
-correct_data-requires-clause-room c =
-    let fits = made-fits 0 _ _ c.requires.span c.correct.ensures in
-    let few = c.as_slice.ensures.fits in
-    let same = fits.1 in
-    let count = fits.2 in
-    let begun = c.requires.begun in
-    let len = c.requires.len in
-    let at_most = c.requires.valid.at_most in
-    omega (arith, few, count, begun)
-
-pub returns-in-Found-clause-stores : goal.returns-in-Found-clause-stores
-returns-in-Found-clause-stores c =
+pub returns-in-Found : goal.returns-in-Found
+returns-in-Found c =
     let z = c.args.zone.now in
     let x : List ℕ = span c.args.spans.now c.args.i in
+    let w = c.reading.inside.words in
+    let log : List ℕ = c.as_slice-in-Found.result.now in
+    let tail : List ℕ = c.as_slice-in-Found-2.result.now in
+    let out : List ℕ = c.as_slice.result.now in
     let read = c.reading.view_is ∙ c.requires.reading in
-    let is_found = found z x c.reading.inside.words c.as_slice-in-Found.result.now c.reading.inside.state
-    (ap (λ (r : ZoneReading). r.state) read) c.in-Found.is (ap (λ (r : ZoneReading). r.words) read)
-    (c.as_slice-in-Found.ensures ∙ ap (λ (r : ZoneReading). r.log) read) in
-    let there = span-is c.args.spans.now c.args.i c.all-in-Found.result.now c.index-all-i-in-Found.result
-    c.all-in-Found.ensures c.index-all-i-in-Found.is c.requires.span in
-    let n : ℕ = c.reading.inside.words.size in
-    let behind : bytes_read z x n ++ c.as_slice-in-Found-2.result.now ≡ bytes_read z x (read_end z n) =
-    ap (λ (l : List ℕ). bytes_read z x n ++ l) c.as_slice-in-Found-2.ensures.value
-    ∙ subst (λ (y : List ℕ). bytes_read z y n ++ c.tail_read-tail.result.items ≡ bytes_read z y (read_end z n)) there
+    let by = read-by z x _ log tail _ w
+    c.reading.inside.state (ap (λ (r : ZoneReading). r.state) read) c.in-Found.is
+    (ap (λ (r : ZoneReading). r.words) read) (c.as_slice-in-Found.ensures ∙ ap (λ (r : ZoneReading). r.log) read)
+    c.as_slice-in-Found-2.ensures.value (span-is c.args.spans.now c.args.i c.all-in-Found.result.now
+    c.index-all-i-in-Found.result c.all-in-Found.ensures c.index-all-i-in-Found.is c.requires.span)
     c.tail_read-tail.ensures in
     let was : AreBytes x = subst AreBytes (span-is c.args.spans.now c.args.i c.all.result.now c.index-all-i.result
     c.all.ensures c.index-all-i.is c.requires.span) c.len-len.ensures.bytes in
-    let out : List ℕ = c.as_slice.result.now in
-    let header = header-fixes z x c.reading.inside.words out c.requires.valid c.requires.len was
+    let header = header-fixes z x w out c.requires.valid c.requires.len was
     (ap (λ (r : ZoneReading). r.words) read) (c.as_slice.ensures.value ∙ c.bytes_of.ensures) in
     let keep = makes-keep 12 c.requires.span c.correct.ensures
     (fix-below 12 0 (slice_range x 0 (0 + length out)) out
     (let h = header.1 in omega (arith, h, length-take ((0 + length out) - 0) (drop 0 x)))) in
-    makes-same (boot_fixes-found z x c.reading.inside.state n (ap (λ (r : ZoneReading). r.state) read) c.in-Found.is
-    (ap (λ (r : ZoneReading). r.words.size) read))
-    (makes-append c.requires.span (makes-same header.0 c.correct.ensures)
-    (makes-same (zone-data z x (span c.correct.new.spans c.args.i) c.reading.inside.words
-    c.as_slice-in-Found.result.now c.as_slice-in-Found-2.result.now c.requires.valid c.requires.len was is_found.0
-    is_found.1 behind keep) c.correct_data.ensures))
-
-pub returns-in-Found-clause-few : goal.returns-in-Found-clause-few
-returns-in-Found-clause-few c =
-    let z = c.args.zone.now in
-    let x : List ℕ = span c.args.spans.now c.args.i in
-    let read = c.reading.view_is ∙ c.requires.reading in
-    let is_found = found z x c.reading.inside.words c.as_slice-in-Found.result.now c.reading.inside.state
-    (ap (λ (r : ZoneReading). r.state) read) c.in-Found.is (ap (λ (r : ZoneReading). r.words) read)
-    (c.as_slice-in-Found.ensures ∙ ap (λ (r : ZoneReading). r.log) read) in
-    let long = (log-unturned z x c.reading.inside.words c.as_slice-in-Found.result.now is_found.0 is_found.1).1 in
-    let there = span-is c.args.spans.now c.args.i c.all-in-Found.result.now c.index-all-i-in-Found.result
-    c.all-in-Found.ensures c.index-all-i-in-Found.is c.requires.span in
-    let n : ℕ = c.reading.inside.words.size in
-    let behind : bytes_read z x n ++ c.as_slice-in-Found-2.result.now ≡ bytes_read z x (read_end z n) =
-    ap (λ (l : List ℕ). bytes_read z x n ++ l) c.as_slice-in-Found-2.ensures.value
-    ∙ subst (λ (y : List ℕ). bytes_read z y n ++ c.tail_read-tail.result.items ≡ bytes_read z y (read_end z n)) there
-    c.tail_read-tail.ensures in
-    let fits = made-fits 0 _ _ c.requires.span c.correct.ensures in
     let few = c.as_slice.ensures.fits in
-    let same = fits.1 in
-    let count = fits.2 in
+    let count = (made-fits 0 _ _ c.requires.span c.correct.ensures).2 in
     let begun = c.requires.begun in
-    let len = c.requires.len in
     let at_most = c.requires.valid.at_most in
-    let room = data-room z x n c.as_slice-in-Found-2.result.now behind in
+    let room = data-room z x w.size tail by.behind in
     let cap = c.requires.valid.cap in
-    let ring = is_found.0.0 in
-    let bytes : List ℕ = unturned c.reading.inside.words.start c.as_slice-in-Found.result.now
-    ++ c.as_slice-in-Found-2.result.now in
-    let all = data-length c.reading.inside.words.start c.as_slice-in-Found.result.now
-    c.as_slice-in-Found-2.result.now (omega (arith, long, ring)) in
+    let ring = by.ring.0 in
+    let long = by.long in
+    let bytes : List ℕ = unturned w.start log ++ tail in
+    let all = data-length w.start log tail (omega (arith, long, ring)) in
     let most = fix-length 12 (slice_range (span c.correct.new.spans c.args.i) 12 (12 + length bytes)) bytes in
     let more = c.correct_data.ensures.count in
-    omega (arith, long, room, cap, few, count, begun, at_most, all, most, more)
+    record {
+      stores = makes-same (boot_fixes-found z x c.reading.inside.state w.size (ap (λ (r : ZoneReading). r.state) read)
+          c.in-Found.is (ap (λ (r : ZoneReading). r.words.size) read))
+          (makes-append c.requires.span (makes-same header.0 c.correct.ensures)
+          (makes-same (zone-data z x (span c.correct.new.spans c.args.i) w log tail c.requires.valid c.requires.len was
+          by.ring by.is_log by.behind keep) c.correct_data.ensures));
+      few = omega (arith, long, room, cap, few, count, begun, at_most, all, most, more);
+    }
 
 pub returns-in_default : goal.returns-in_default
 returns-in_default c =
