@@ -1,5 +1,5 @@
 -- Parameters that lack nothing but room in rounded memory lack nothing in the frame, and its zones are theirs
-use Rattle.std.proofs.Common.{◌≡◌, ℕ, zero, suc, ◌+◌, ◌*◌, ◌/◌, ◌^◌, ◌≤◌, ◌==◌, Bool, true, false, ◌&&◌, ◌||◌, if◌then◌else◌, nat_lt, List, [], ◌∷◌, ◌++◌, map, Some, None, refl, ap, ap₂, ◌∙◌, arith}
+use Rattle.std.proofs.Common.{◌≡◌, ℕ, zero, suc, ◌+◌, ◌*◌, ◌/◌, ◌^◌, ◌<◌, ◌≤◌, ◌==◌, Bool, true, false, ◌&&◌, ◌||◌, if◌then◌else◌, nat_lt, List, [], ◌∷◌, ◌++◌, map, Some, None, refl, ap, ap₂, ◌∙◌, arith}
 use Rattle.std.specs.List.{All, AllByRecursion, range_with_len}
 use Rattle.std.proofs.Math.Nat.{div-le_self}
 use Rattle.std.proofs.lemmas.Bool.{ltb-false, le-ltb}
@@ -11,8 +11,9 @@ use Rattle.zone_spec.specs.declared.params.Params.{Params}
 use Rattle.zone_spec.specs.declared.params.Row.{Row}
 use Rattle.zone_spec.specs.declared.params.LayoutFault.{LayoutFault}
 use Rattle.zone_spec.specs.Layout.{power_within, rounded, even, rows, zone_at, zones_from, parameter_faults, first_fault, dump_memory}
-use Rattle.report_spec.specs.AsGiven.{dump_memory_as_given, dump_count_as_given, rows_as_given, parameter_faults_as_given}
-use Rattle.zone_params.proofs.Faultless.{faultless, each_clear, or_clear, Within, all_taken, shared, even_le, one_within, ftrace_within}
+use Rattle.report_spec.specs.AsGiven.{dump_memory_as_given, dump_count_as_given, rows_as_given, zones_as_given, parameter_faults_as_given}
+use Rattle.zone_params.specs.Rows.{all_taken, AreSmall}
+use Rattle.zone_params.proofs.Faultless.{faultless, each_clear, or_clear, Within, shared, even_le, one_within, ftrace_within}
 use Rattle.kernel_layout.specs.Framed.{framed}
 
 rounded-most : rounded (2 ^ 24) ≡ 2 ^ 24
@@ -152,6 +153,22 @@ pub sizes-small : (p : Params) → first_fault (parameter_faults_as_given p) ≡
     → All (λ (row : Row). row.size ≤ 2 ^ 24) (rows_as_given p)
 sizes-small p h = All-from_recursion (λ (row : Row). row.size ≤ 2 ^ 24) (rows_as_given p) (fit p h).sizes
 
-pub counts-small : (p : Params) → first_fault (parameter_faults_as_given p) ≡ None
-    → All (λ (row : Row). row.count ≤ 2 ^ 24 + 64) (rows_as_given p)
-counts-small p h = All-from_recursion (λ (row : Row). row.count ≤ 2 ^ 24 + 64) (rows_as_given p) (fit p h).counts
+pub rows-small : (p : Params) → first_fault (parameter_faults_as_given p) ≡ None → AreSmall (rows_as_given p)
+rows-small p h =
+    let f = fit p h in
+    let room = has-room p h in
+    let c = f.counts in
+    record {
+      sizes = sizes-small p h;
+      counts = All-from_recursion (λ (row : Row). row.count < 2 ^ 32) (rows_as_given p) (
+        omega (arith, c.0),
+        (omega (arith, c.1.0), (omega (arith, c.1.1.0), (omega (arith, c.1.1.1.0), tt))),
+      );
+      total = omega (arith, f.total, room.memory);
+    }
+
+-- the zones that are laid out in the frame are the parameters' own
+pub zones-laid : (p frame : Params) (rows : List Row) (zones : List Zone) → zones ≡ zones_from frame 0 rows
+    → frame ≡ framed p → rows ≡ rows_as_given p → zones ≡ zones_as_given p
+zones-laid p frame rows zones laid e r =
+    laid ∙ ap₂ (λ (q : Params) (rs : List Row). zones_from q 0 rs) e r ∙ zones-same p 0 (rows_as_given p)

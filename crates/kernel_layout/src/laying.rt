@@ -10,7 +10,7 @@ ghost use Rattle.report_spec.specs.AsGiven.{parameter_faults_as_given, rows_as_g
 use crate::rows::{framed, parameter_fault, rows};
 use std::alloc::{AllocError, Global};
 use zone_params::rows::{first, has_small, has_tight};
-use zone_params::{LayoutError, add_row};
+use zone_params::{LayoutError, list_zones};
 use zone_spec::{LayoutFault, Params, Row, Zone};
 
 /// The first fault of the zones of these rows.
@@ -24,26 +24,6 @@ fn zone_fault(p: &Params, frame: &Params, rows: &[Row]) -> Option<LayoutFault>
         (has_small(rows), LayoutFault::ZoneTooSmall),
         (has_tight(frame, rows), LayoutFault::EccInvalid),
     ])
-}
-
-fn list_zones(
-    alloc: Global,
-    p: &Params,
-    frame: &Params,
-    rows: &[Row],
-) -> Result<Vec<Zone>, AllocError>
-    requires faultless { first_fault (parameter_faults_as_given p.now) ≡ None }
-    requires frame { frame.now ≡ framed p.now }
-    requires rows { rows.now ≡ rows_as_given p.now }
-    ensures { IfOk result (λ zones. zones.items ≡ zones_as_given p.now) }
-{
-    let mut zones = Vec::new(alloc);
-    let mut at = 0;
-    for row in rows {
-        add_row(&mut zones, frame, *row, at)?;
-        at += row.count * row.size;
-    }
-    Ok(zones)
 }
 
 /// The layout of the parameters with the memory size as given, or their first fault. The zones are whole: valid, one
@@ -64,7 +44,7 @@ pub fn layout_as_given(alloc: Global, p: &Params) -> Result<Vec<Zone>, LayoutErr
     if let Some(fault) = zone_fault(p, &frame, &rows) {
         return Err(LayoutError::Fault(fault));
     }
-    match list_zones(alloc, p, &frame, &rows) {
+    match list_zones(alloc, &frame, &rows) {
         Ok(zones) => Ok(zones),
         Err(_) => Err(LayoutError::Memory),
     }

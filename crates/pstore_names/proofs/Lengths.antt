@@ -1,5 +1,5 @@
 -- A time line lies within its log
-use Rattle.std.proofs.Common.{◌≡◌, ℕ, ◌+◌, ◌≤◌, Bool, true, false, List, [], ◌∷◌, ◌++◌, length, take, drop, refl, sym, ap, arith, Option, Some, None, length-take, length-drop}
+use Rattle.std.proofs.Common.{◌≡◌, ℕ, ◌+◌, ◌≤◌, Bool, true, false, List, [], ◌∷◌, ◌++◌, length, take, drop, refl, sym, ap, ◌∙◌, arith, Option, Some, None, length-take, length-drop}
 use Rattle.std.specs.Prelude.{codes, if◌then◌else◌}
 use Rattle.std.proofs.lemmas.Slice.Eq.{bytes_eq-Decides}
 use Rattle.zone_spec.specs.declared.TimeLine.{TimeLine}
@@ -37,7 +37,7 @@ ending-fits secs micros rest line e = by-plain (begins_with (10 ∷ []) rest) (b
     by-plain false false false p q r same = cc
 
 -- the rest is what the digits leave
-pub line-fits : (log : List ℕ) (line : TimeLine) → Some line ≡ read_line log → line.len ≤ length log
+line-fits : (log : List ℕ) (line : TimeLine) → Some line ≡ read_line log → line.len ≤ length log
 unfolding read_line
 line-fits log line e =
     let secs = digits_of (drop 4 log) in
@@ -51,3 +51,8 @@ line-fits log line e =
         → 1 ≤ length rest
     ending-some secs micros [] line e = cc
     ending-some secs micros (c ∷ rest) line e = omega arith
+
+-- the same of a line that was found
+pub line-within : (log : List ℕ) (found : Option TimeLine) (line : TimeLine) → found ≡ read_line log
+    → found ≡ Some line → line.len ≤ length log
+line-within log found line read was = line-fits log line (sym was ∙ read)

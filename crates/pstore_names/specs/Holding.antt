@@ -3,7 +3,7 @@ use Rattle.std.specs.Prelude.{ℕ, ◌++◌, List, [], ◌∷◌, map, Option, S
 use Rattle.zone_spec.specs.declared.Name.{Name}
 use Rattle.zone_spec.specs.Records.{Listed}
 use Rattle.report_spec.specs.Records.{RecordHeld}
-use Rattle.pstore_names.specs.declared.holding.Dump.{Dump}
+use Rattle.pstore_names.specs.declared.zones.Dump.{Dump}
 
 -- a dump that one zone makes, as a list of at most one record
 abbrev pub dumps_in : Option Dump → List Listed

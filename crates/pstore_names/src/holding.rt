@@ -5,15 +5,14 @@ ghost use Rattle.old_log.specs.Saving.{saved};
 ghost use Rattle.report_spec.specs.Records.{record_held, records_held};
 ghost use Rattle.pstore_names.specs.Counts.{notice_with};
 ghost use Rattle.pstore_names.specs.Tables.{zones_counted};
-ghost use Rattle.pstore_names.specs.Holding.{dumps_in, noted};
+ghost use Rattle.pstore_names.specs.Holding.{noted};
 
 use crate::merging::merged_entries;
 use crate::notices::{Counts, counts_of, write_counted};
 use crate::table::{dump_counts, numbers_rise};
-use crate::zones::{first_log, log_at};
+use crate::zones::{dump_in, first_log, log_at};
 use arrayvec::ArrayString;
 use box_io::Bytes;
-use dump_records::read_line;
 use old_log::Logs;
 use std::alloc::{AllocError, Global};
 use std::marker::Model;
@@ -33,31 +32,6 @@ impl Model for HeldRecord {
     ghost Value = { RecordHeld };
 
     ghost view = { λ r. record { name = r.name; time = r.time; content = r.content } };
-}
-
-/// A dump that one zone makes, without its notice.
-#[derive(Clone, Copy)]
-struct Dump<'a> {
-    name: Name,
-    time: Time,
-    content: &'a [u8],
-}
-
-/// The dump of zone `i`, where the zone makes one.
-fn dump_in(logs: &Logs, i: u32) -> Option<Dump<'_>>
-    requires { i < length logs.now.readings }
-    ensures { (s : Saved) → slice_get (saved logs.now) i ≡ Some s → dumps_in result ≡ dumps_of (s ∷ []) }
-{
-    let log = log_at(logs, i, Kind::Dump)?;
-    let line = read_line(log)?;
-    Some(Dump {
-        name: Name::Dump {
-            index: logs.name(i).index,
-            packed: line.packed,
-        },
-        time: line.time,
-        content: &log[line.len as usize..],
-    })
 }
 
 /// The record with this content and the notice of these counts after it.

@@ -12,8 +12,7 @@ use crate::fitting::{fits, fits_by};
 use crate::merging::merged_len;
 use crate::notices::{Counts, counts_of};
 use crate::table::{dump_counts, numbers_rise};
-use crate::zones::{first_log, log_at};
-use dump_records::read_line;
+use crate::zones::{dump_in, first_log, log_at};
 use old_log::Logs;
 use std::alloc::{AllocError, Global};
 use zone_params::types::Layout;
@@ -69,16 +68,10 @@ fn dump_move(logs: &Logs, layout: &Layout, i: u32, is_alone: bool) -> Option<Mov
         → option_to_list result ≡ map (move_of (zones_of layout.now) (zones_counted is_alone s (saved logs.now)))
         (dumps_of (s ∷ [])) }
 {
-    let log = log_at(logs, i, Kind::Dump)?;
-    let line = read_line(log)?;
-    let name = Name::Dump {
-        index: logs.name(i).index,
-        packed: line.packed,
-    };
-    let content = &log[line.len as usize..];
-    let counts = dump_counts(logs, i, name, is_alone);
-    let fits = fits_by(logs, layout, i, name, is_alone);
-    Some(with_counts(name, content.len() as u128, counts, fits))
+    let dump = dump_in(logs, i)?;
+    let counts = dump_counts(logs, i, dump.name, is_alone);
+    let fits = fits_by(logs, layout, i, dump.name, is_alone);
+    Some(with_counts(dump.name, dump.content.len() as u128, counts, fits))
 }
 
 /// What is told of zone `i`, where its log is a record of this kind.

@@ -8,8 +8,7 @@ ghost use Rattle.pstore_names.specs.Tables.{entry_of, numbers_rise, zones_counte
 
 use crate::merging::merged_len;
 use crate::notices::{Counts, counts_at, counts_of, notice_len};
-use crate::zones::{first_log, is_kind, log_at};
-use dump_records::read_line;
+use crate::zones::{dump_in, first_log, is_kind, log_at};
 use old_log::Logs;
 use std::alloc::{AllocError, Global};
 use zone_spec::{Kind, Name, Time};
@@ -103,14 +102,15 @@ fn dump_entry(logs: &Logs, i: u32, is_alone: bool) -> Option<Entry>
     ensures { (s : Saved) → slice_get (saved logs.now) i ≡ Some s
         → option_to_list result ≡ map (entry_of (zones_counted is_alone s (saved logs.now))) (dumps_of (s ∷ [])) }
 {
-    let log = log_at(logs, i, Kind::Dump)?;
-    let line = read_line(log)?;
-    let name = Name::Dump {
-        index: logs.name(i).index,
-        packed: line.packed,
-    };
-    let content = &log[line.len as usize..];
-    Some(dump_counted(logs, i, name, content.len() as u128, line.time, is_alone))
+    let dump = dump_in(logs, i)?;
+    Some(dump_counted(
+        logs,
+        i,
+        dump.name,
+        dump.content.len() as u128,
+        dump.time,
+        is_alone,
+    ))
 }
 
 /// The entry of zone `i`, where its log is a record of this kind.

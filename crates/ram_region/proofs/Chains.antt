@@ -7,12 +7,13 @@ use Rattle.std.proofs.Math.ListN.{get_or-eq_default}
 use Rattle.core.proofs.str.Laws.{order}
 use Rattle.std.specs.List.{concat}
 use denote.RawPtr.{Ptr, ◌+ₚ◌}
-use Rattle.core.specs.Mem.Slots.{slots_ptr, slots_len, IsFull}
+use Rattle.core.specs.Mem.Slots.{slots_items, slots_ptr, slots_len, IsFull}
 use Rattle.ram_region.specs.declared.spans.Piece.{Piece}
 use Rattle.core.specs.declared.slots.Slots.{Slots}
 use Rattle.std.specs.Prelude.{slice_range}
 use Rattle.zone_spec.specs.Parts.{AreBytes}
 use Rattle.ram_region.specs.Chain.{piece_bytes, all_bytes, all_len, SamePlace, Chain, Laid}
+use Rattle.ram_region.specs.CutRegion.{CutRegion, span, with_span}
 
 pub chain-set : (p q : Ptr) (ss : List Piece) (i : ℕ) (s s' : Piece) → i < length ss → s ≡ get_or ss i s
     → SamePlace s s' → Chain p ss q → Chain p (set ss i s') q
@@ -47,6 +48,40 @@ bytes-at (x ∷ xs) (suc i) s lt e = bytes-at xs i s (omega arith) e
 pub bytes-length : (ss : List Piece) → length (all_bytes ss) ≡ length ss
 bytes-length [] = refl
 bytes-length (x ∷ xs) = let e = bytes-length xs in omega (arith, e)
+
+-- a piece of a region that is written in its place, where the region is seen as `cut`
+pub record IsWritten (ss : List Piece) (rest : List ℕ) (cut : CutRegion) (i : ℕ) (s s' : Piece) : Type 0 where
+  pub seen : record { spans = all_bytes ss; rest = rest } ≡ cut
+  pub within : i < length cut.spans
+  pub at : s ≡ get_or ss i s
+  pub place : SamePlace s s'
+
+piece-within : (ss : List Piece) (rest : List ℕ) (cut : CutRegion) (i : ℕ) (s s' : Piece) → IsWritten ss rest cut i s s'
+    → i < length ss
+piece-within ss rest cut i s s' w =
+    let spans = ap (λ (v : CutRegion). length v.spans) w.seen in
+    omega (arith, bytes-length ss, spans, w.within)
+
+-- the pieces lie as before
+pub written-laid : (p : Ptr) (n : ℕ) (ss : List Piece) (rest : Slots ℕ) (cut : CutRegion) (i : ℕ) (s s' : Piece)
+    → IsWritten ss (slots_items rest) cut i s s' → Laid p n ss rest → Laid p n (set ss i s') rest
+written-laid p n ss rest cut i s s' w laid =
+    let lt = piece-within ss (slots_items rest) cut i s s' w in
+    record {
+      chain = chain-set p (slots_ptr rest) ss i s s' lt w.at w.place laid.chain;
+      full = laid.full;
+      long = ap (λ (m : ℕ). m + slots_len rest) (len-set ss i s s' lt w.at w.place) ∙ laid.long;
+    }
+
+-- and only the span's bytes are others
+pub written-seen : (ss : List Piece) (rest : List ℕ) (cut : CutRegion) (i : ℕ) (s s' : Piece) (f : List ℕ → List ℕ)
+    → IsWritten ss rest cut i s s' → piece_bytes s' ≡ f (piece_bytes s)
+    → record { spans = all_bytes (set ss i s'); rest = rest } ≡ with_span cut i (f (span cut i))
+written-seen ss rest cut i s s' f w e =
+    let old = bytes-at ss i s (piece-within ss rest cut i s s' w) w.at in
+    ap (λ (l : List (List ℕ)). record { spans = l; rest = rest })
+    (bytes-set ss i s' ∙ ap (λ (b : List ℕ). set (all_bytes ss) i b) (e ∙ ap f (sym old)))
+    ∙ ap (λ (v : CutRegion). with_span v i (f (span v i))) w.seen
 
 pub bytes-append : (ss ts : List Piece) → all_bytes (ss ++ ts) ≡ all_bytes ss ++ all_bytes ts
 bytes-append [] ts = refl

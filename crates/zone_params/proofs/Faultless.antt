@@ -12,6 +12,7 @@ use Rattle.zone_spec.specs.declared.params.Params.{Params}
 use Rattle.zone_spec.specs.declared.params.Row.{Row}
 use Rattle.zone_spec.specs.declared.params.LayoutFault.{LayoutFault}
 use Rattle.zone_spec.specs.Layout.{rounded, even, dump_memory, dump_count, one_row, rows, parity_bytes, ecc_of, zone_at, zones_from, parameter_faults, first_fault}
+use Rattle.zone_params.specs.Rows.{taken, all_taken}
 use Rattle.zone_params.proofs.Rounding.{rounded_le}
 
 clear : (b : Bool) (f : LayoutFault) (r : Option LayoutFault) → (if b then Some f else r) ≡ None
@@ -100,10 +101,6 @@ even_le n = omega arith
 pub shared : (m k : ℕ) → k * even (m / k) ≤ m
 shared m k = omega (arith, mul-div-le m k, mul-le-mul_left k (even_le (m / k)))
 
--- what a row's zones take together
-abbrev pub taken : Row → ℕ
-taken row = row.count * row.size
-
 -- a row lies within so much memory
 pub record Within (row : Row) (most : ℕ) : Type 0 where
   pub all : taken row ≤ most
@@ -154,10 +151,6 @@ ftrace_within p cpus = record {
     most : (b : Bool) → (if b then 0 else p.cpus) ≤ rounded p.ftrace + 64
     most true = omega arith
     most false = omega arith
-
-abbrev pub all_taken : List Row → ℕ
-all_taken [] = 0
-all_taken (row ∷ rows) = taken row + all_taken rows
 
 -- each row within the memory
 abbrev pub AreWithin : ℕ → List Row → Type 0

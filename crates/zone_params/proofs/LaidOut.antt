@@ -11,7 +11,8 @@ use Rattle.zone_spec.specs.declared.params.Params.{Params}
 use Rattle.zone_spec.specs.declared.params.Row.{Row}
 use Rattle.zone_spec.specs.declared.params.LayoutFault.{LayoutFault}
 use Rattle.zone_spec.specs.Layout.{rows, zone_at, zones_from, parameter_faults, zone_faults, first_fault, ok_unless, layout_of}
-use Rattle.zone_params.proofs.Faultless.{IsFaultless, rows_within, mem_small, taken, all_taken}
+use Rattle.zone_params.specs.Rows.{taken, all_taken, AreSmall}
+use Rattle.zone_params.proofs.Faultless.{IsFaultless, rows_within, mem_small, sizes_small, rows_total}
 
 pub first_append : (xs ys : List (Bool × LayoutFault)) → first_fault (xs ++ ys)
     ≡ option_or (first_fault xs) (first_fault ys)
@@ -86,7 +87,7 @@ pub rows_end : (p : Params) (at : ℕ) (rows : List Row) (i : ℕ) → length ro
 unfolding zones_from
 rows_end p at rows i h = rw (drop_of_length-le rows h) refl
 
-pub counts_small : (p : Params) → IsFaultless p → All (λ (row : Row). row.count < 2 ^ 32) (rows p)
+counts_small : (p : Params) → IsFaultless p → All (λ (row : Row). row.count < 2 ^ 32) (rows p)
 counts_small p f = All-from_recursion (λ (row : Row). row.count < 2 ^ 32) (rows p)
     (let w = rows_within p f in let small = mem_small p f in (
       omega (arith, w.0.count),
@@ -95,6 +96,13 @@ counts_small p f = All-from_recursion (λ (row : Row). row.count < 2 ^ 32) (rows
         (omega (arith, w.1.1.0.count), (omega (arith, w.1.1.1.0.count), tt)),
       ),
     ))
+
+pub rows_small : (p : Params) → IsFaultless p → AreSmall (rows p)
+rows_small p f = record {
+  sizes = sizes_small p f;
+  counts = counts_small p f;
+  total = omega (arith, rows_total p f, mem_small p f);
+}
 
 -- one more zone of a row
 pub one_more : (make : ℕ → Zone) (old so_far new : List Zone) (zone : Zone) (n : ℕ) → new ≡ so_far ++ zone ∷ []

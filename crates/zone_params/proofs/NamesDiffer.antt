@@ -13,7 +13,7 @@ use Rattle.zone_spec.specs.Layouts.{is_zone}
 use Rattle.zone_spec.specs.Records.{is_of}
 use Rattle.zone_params.specs.Laid.{NamesDiffer}
 use Rattle.zone_params.proofs.LaidOut.{of_row}
-use Rattle.zone_params.proofs.Faultless.{taken}
+use Rattle.zone_params.specs.Rows.{taken}
 use Rattle.param_words.proofs.Texts.{if_true}
 use Rattle.zone_params.proofs.WholeLayout.{no_fault}
 

@@ -11,7 +11,7 @@ use Rattle.zone_spec.specs.declared.params.Row.{Row}
 use Rattle.zone_spec.specs.Layout.{zone_at, zones_from, rows, layout_of}
 use Rattle.zone_spec.specs.Layouts.{is_zone, zone_place}
 use Rattle.zone_spec.specs.Records.{is_of}
-use Rattle.zone_params.proofs.Faultless.{taken}
+use Rattle.zone_params.specs.Rows.{taken}
 use Rattle.zone_params.proofs.LaidOut.{drop_next}
 use Rattle.zone_params.proofs.WholeLayout.{all_count, length_zones, no_fault, layout_short}
 use Rattle.param_words.proofs.Texts.{if_true, if_false}

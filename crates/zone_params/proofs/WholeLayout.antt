@@ -17,7 +17,8 @@ use Rattle.zone_spec.specs.declared.params.LayoutFault.{LayoutFault}
 use Rattle.zone_spec.specs.Zones.{IsValidZone}
 use Rattle.zone_spec.specs.Layouts.{zones_end, IsLayout}
 use Rattle.zone_spec.specs.Layout.{rounded, rows, zone_at, zones_from, parameter_faults, zone_faults, first_fault, ok_unless, layout_of, parity_bytes, ecc_of, tag_of}
-use Rattle.zone_params.proofs.Faultless.{IsFaultless, faultless, rows_total, mem_small, rows_within, taken, all_taken, parity_at_most, parity_within, block_at_most, each_clear, or_clear, small_rows, any_in_rows}
+use Rattle.zone_params.specs.Rows.{taken, all_taken}
+use Rattle.zone_params.proofs.Faultless.{IsFaultless, faultless, rows_total, mem_small, rows_within, parity_at_most, parity_within, block_at_most, each_clear, or_clear, small_rows, any_in_rows}
 use Rattle.zone_params.proofs.LaidOut.{by_faults, of_row}
 
 -- what an answer of zones says of the faults

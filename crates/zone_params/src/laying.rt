@@ -1,9 +1,10 @@
 // The zones laid out, one row after another.
 ghost use Rattle.std.specs.Prelude.{◌≡◌, ◌≤◌, ◌<◌, ◌+◌, ◌*◌, ◌^◌, ◌++◌, map, None, OnOk, Ok, IfOk, MatchResult};
 ghost use Rattle.std.specs.List.{range_with_len};
-ghost use Rattle.zone_spec.specs.Layout.{layout_of, zones_of as zones_in, rows as rows_of, zone_at as zone_of, first_fault, parameter_faults};
+ghost use Rattle.zone_spec.specs.Layout.{layout_of, zones_from, zone_at as zone_of, first_fault, parameter_faults};
 ghost use Rattle.zone_params.specs.Laid.{params_of, zones_of};
 ghost use Rattle.zone_params.specs.Layouts.{IsCause};
+ghost use Rattle.zone_params.specs.Rows.{AreSmall};
 
 use crate::types::Layout;
 use crate::{LayoutError, rows};
@@ -11,7 +12,7 @@ use std::alloc::{AllocError, Global};
 use zone_spec::{Params, Row, Zone};
 
 /// Adds the zones of a row, from this place on, after those that stand.
-pub fn add_row(zones: &mut Vec<Zone>, p: &Params, row: Row, at: u64) -> Result<(), AllocError>
+fn add_row(zones: &mut Vec<Zone>, p: &Params, row: Row, at: u64) -> Result<(), AllocError>
     requires faultless { first_fault (parameter_faults p.now) ≡ None }
     requires within { at + row.count * row.size ≤ 2 ^ 24 }
     requires size { row.size ≤ 2 ^ 24 }
@@ -26,10 +27,11 @@ pub fn add_row(zones: &mut Vec<Zone>, p: &Params, row: Row, at: u64) -> Result<(
     Ok(())
 }
 
-fn list_zones(alloc: Global, p: &Params, rows: &[Row]) -> Result<Vec<Zone>, AllocError>
+/// The zones of rows, one behind another from 0 on.
+pub fn list_zones(alloc: Global, p: &Params, rows: &[Row]) -> Result<Vec<Zone>, AllocError>
     requires faultless { first_fault (parameter_faults p.now) ≡ None }
-    requires rows { rows.now ≡ rows_of p.now }
-    ensures { IfOk result (λ zones. zones.items ≡ zones_in p.now) }
+    requires rows { AreSmall rows.now }
+    ensures { IfOk result (λ zones. zones.items ≡ zones_from p.now 0 rows.now) }
 {
     let mut zones = Vec::new(alloc);
     let mut at = 0;

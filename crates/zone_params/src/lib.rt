@@ -10,7 +10,7 @@ pub mod types;
 
 pub use faults::LayoutError;
 pub use grammar_spec::ParamFault;
-pub use laying::{add_row, layout};
+pub use laying::{layout, list_zones};
 pub use params::read_words;
 pub use zone_spec::{Kind, LayoutFault, Params, Zone, ZoneName};
 

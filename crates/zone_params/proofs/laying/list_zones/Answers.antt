@@ -1,32 +1,23 @@
-use Rattle.std.proofs.Common.{◌∙◌, ◌^◌, ◌<◌, ◌≤◌, ◌++◌, List, sym, ap, arith}
-use Rattle.std.specs.List.{All}
+-- The zones of the rows, one row after another
+use Rattle.std.proofs.Common.{◌∙◌, ◌++◌, List, sym, ap, arith}
 use Rattle.std.proofs.lemmas.List.{append-nil}
 use Rattle.zone_spec.specs.declared.Kind.TheVariants.{Dump}
 use Rattle.zone_spec.specs.declared.Zone.{Zone}
-use Rattle.zone_spec.specs.declared.params.Row.{Row}
 use Rattle.zone_spec.specs.Layout.{zones_from}
-use Rattle.zone_params.proofs.Faultless.{faultless, mem_small, rows_total, sizes_small}
-use Rattle.zone_params.proofs.LaidOut.{rows_next, taken_step, rows_end, counts_small}
+use Rattle.zone_params.proofs.LaidOut.{rows_next, taken_step, rows_end}
 use Rattle.zone_params.proofs.laying.list_zones.Goals as goal
 
 pub loop-row-init : goal.loop-row-init
 loop-row-init c = record {
   zones = ap (λ (xs : List Zone). xs ++ zones_from c.args.p.now 0 c.args.rows.now) c.new-zones.ensures.items;
-  within = rw c.requires.rows (let f = faultless c.args.p.now c.requires.faultless in
-      omega (arith, rows_total c.args.p.now f, mem_small c.args.p.now f));
+  within = omega (arith, c.requires.rows.total);
 }
 
 pub add_row-requires-clause-size : goal.add_row-requires-clause-size
-add_row-requires-clause-size c =
-    let each : All (λ (row : Row). row.size ≤ 2 ^ 24) c.args.rows.now =
-    rw c.requires.rows (sizes_small c.args.p.now (faultless c.args.p.now c.requires.faultless)) in
-    each c.loop-row.row-index _ c.loop-row-test.true
+add_row-requires-clause-size c = c.requires.rows.sizes c.loop-row.row-index _ c.loop-row-test.true
 
 pub add_row-requires-clause-count : goal.add_row-requires-clause-count
-add_row-requires-clause-count c =
-    let each : All (λ (row : Row). row.count < 2 ^ 32) c.args.rows.now =
-    rw c.requires.rows (counts_small c.args.p.now (faultless c.args.p.now c.requires.faultless)) in
-    each c.loop-row.row-index _ c.loop-row-test.true
+add_row-requires-clause-count c = c.requires.rows.counts c.loop-row.row-index _ c.loop-row-test.true
 
 pub loop-row-preserved : goal.loop-row-preserved
 loop-row-preserved c = record {
@@ -46,4 +37,4 @@ pub returns : goal.returns
 returns c =
     sym (append-nil c.loop-row.zones.items) ∙ sym (ap (λ (xs : List Zone). c.loop-row.zones.items ++ xs)
     (rows_end c.args.p.now c.loop-row.at c.args.rows.now c.loop-row.row-index c.loop-row-test.false))
-    ∙ c.loop-row.invariant.zones ∙ ap (λ (rs : List Row). zones_from c.args.p.now 0 rs) c.requires.rows
+    ∙ c.loop-row.invariant.zones

@@ -1,9 +1,9 @@
+-- The zones so far, and then those of the rows that are left
 use Rattle.std.proofs.Common.{◌≡◌, ◌+◌, ◌^◌, ◌≤◌, ◌++◌, drop}
 use Rattle.zone_spec.specs.Layout.{zones_from}
-use Rattle.zone_params.proofs.Faultless.{all_taken}
+use Rattle.zone_params.specs.Rows.{all_taken}
 use Rattle.zone_params.proofs.laying.list_zones.Given as goal
 
--- the zones so far, and then those of the rows that are left
 abbrev pub invariant-loop-row : goal.invariant-loop-row
 invariant-loop-row l = record {
   zones : l.zones.items ++ zones_from l.p l.at (drop l.row-index l.rows) ≡ zones_from l.p 0 l.rows;

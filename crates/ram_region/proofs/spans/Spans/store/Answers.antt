@@ -1,32 +1,23 @@
-use Rattle.std.proofs.Common.{◌≡◌, ℕ, ◌+◌, ◌<◌, length, ap, ◌∙◌, arith}
-use Rattle.std.proofs.lemmas.Grind.{common_steps}
-use Rattle.core.specs.Mem.Slots.{slots_len}
-use Rattle.ram_region.specs.CutRegion.{CutRegion}
-use Rattle.ram_region.specs.Chain.{all_bytes, SamePlace}
-use Rattle.ram_region.proofs.Chains.{chain-set, len-set, bytes-set, bytes-at, bytes-length}
+-- One piece of the region is written in its place
+use Rattle.std.proofs.Common.{List, ℕ}
+use Rattle.std.specs.Prelude.{slice_set}
+use Rattle.core.specs.Mem.Slots.{slots_items}
+use Rattle.ram_region.proofs.Chains.{IsWritten, written-laid, written-seen}
 use Rattle.ram_region.proofs.spans.Spans.store.Goals as goal
+use Rattle.ram_region.proofs.spans.Spans.store.Goals.{After-store}
+
+written : (c : goal.After-store) → IsWritten c.self.inside.list.items (slots_items c.self.inside.rest) c.args.self.now
+    c.args.i c.index_mut.result.now c.store.new.self
+written c = record {
+  seen = c.self.view_is;
+  within = c.requires.span;
+  at = c.index_mut.ensures.value;
+  place = c.store.ensures.place;
+}
 
 pub invariant_of-self : goal.invariant_of-self
-invariant_of-self c =
-    let e : all_bytes c.self.inside.list.items ≡ c.args.self.now.spans =
-    ap (λ (v : CutRegion). v.spans) c.self.view_is in
-    let within : c.args.i < length c.self.inside.list.items = grind (arith, common_steps, bytes-length) in
-    let same : SamePlace c.index_mut.result.now c.store.new.self = c.store.ensures.place in
-    let old = c.self.invariant in
-    record {
-      chain = chain-set _ _ c.self.inside.list.items c.args.i c.index_mut.result.now c.store.new.self within
-          c.index_mut.ensures.value same old.chain;
-      full = old.full;
-      long = ap (λ (n : ℕ). n + slots_len c.self.inside.rest)
-          (len-set c.self.inside.list.items c.args.i c.index_mut.result.now c.store.new.self within
-          c.index_mut.ensures.value same) ∙ old.long;
-    }
+invariant_of-self c = written-laid _ _ _ _ _ _ _ _ (written (goal.at.invariant_of-self c).After-store) c.self.invariant
 
 pub returns : goal.returns
-returns c =
-    let e : all_bytes c.self.inside.list.items ≡ c.args.self.now.spans =
-    ap (λ (v : CutRegion). v.spans) c.self.view_is in
-    let within : c.args.i < length c.self.inside.list.items = grind (arith, common_steps, bytes-length) in
-    let b = bytes-set c.self.inside.list.items c.args.i c.store.new.self in
-    let a = bytes-at c.self.inside.list.items c.args.i c.index_mut.result.now within c.index_mut.ensures.value in
-    grind (arith, common_steps, b, a, c.store.ensures.bytes, c.self.view_is)
+returns c = written-seen _ _ _ _ _ _ (λ (xs : List ℕ). slice_set xs c.args.at c.args.b)
+    (written (goal.at.returns c).After-store) c.store.ensures.bytes
