@@ -1,5 +1,5 @@
 -- Calls on a loaded store as operations of the session, and these as lines
-use Rattle.std.proofs.Common.{◌≡◌, ℕ, Bool, true, false, if◌then◌else◌, List, [], Option, Some, None, Result, Ok, Err, refl, sym, ap, ◌∙◌}
+use Rattle.std.proofs.Common.{◌≡◌, ℕ, Bool, true, false, if◌then◌else◌, List, [], Option, Some, None, Result, Ok, Err, refl, sym, ap, ◌∙◌, subst}
 use Rattle.std.specs.Prelude.{MatchResult}
 use Rattle.box_io.specs.Outside.{Rose}
 use Rattle.blk_spec.specs.declared.BlkLayout.{BlkLayout}
@@ -75,13 +75,13 @@ module _ (b : BlkState) (operation : Operation) (refusal : Option BlkFault) (ws 
             (record { session = record { store = after; blk = Some n }; text = [] })) (sym same));
       }
 
-  pub call_fails : (fault : BlkFault) (new : BlkState) (before now : Option (List ℕ)) (faults later : ℕ)
+  fails : (fault : BlkFault) (new : BlkState) (before now : Option (List ℕ)) (faults later : ℕ)
       → Answers (Err fault) refusal ws next b new before now → (fault ≡ StoreFaultThere → Rose faults later)
       → OperationFails (error_of fault) b.layout (Some b) operation before now faults later
-  call_fails NoZoneThere new before now faults later a rose = (a.2, λ bytes. performed bytes ∙ rw a.0 refl)
-  call_fails NoRecordThere new before now faults later a rose = (a.2, λ bytes. performed bytes ∙ rw a.0 refl)
-  call_fails MemoryThere new before now faults later a rose = a.2
-  call_fails StoreFaultThere new before now faults later a rose = (
+  fails NoZoneThere new before now faults later a rose = (a.2, λ bytes. performed bytes ∙ rw a.0 refl)
+  fails NoRecordThere new before now faults later a rose = (a.2, λ bytes. performed bytes ∙ rw a.0 refl)
+  fails MemoryThere new before now faults later a rose = a.2
+  fails StoreFaultThere new before now faults later a rose = (
     rose refl,
     rw is.writes (front-reached b.cut new.cut ws before now a.1),
     λ bytes. record {
@@ -90,6 +90,14 @@ module _ (b : BlkState) (operation : Operation) (refusal : Option BlkFault) (ws 
           ∙ rw a.0 refl;
     },
   )
+
+  pub call_fails : (fault : BlkFault) (error : LineError) → error ≡ error_of fault → (new : BlkState)
+      (before now : Option (List ℕ)) (faults later : ℕ) → Answers (Err fault) refusal ws next b new before now
+      → (fault ≡ StoreFaultThere → Rose faults later)
+      → OperationFails error b.layout (Some b) operation before now faults later
+  call_fails fault error same new before now faults later a rose =
+      subst (λ (e : LineError). OperationFails e b.layout (Some b) operation before now faults later) (sym same)
+      (fails fault new before now faults later a rose)
 
 -- ---- lines
 

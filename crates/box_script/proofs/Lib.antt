@@ -8,3 +8,4 @@ pub mod Loop
 pub mod Numbers
 pub mod Round
 pub mod Solid
+pub mod Taken

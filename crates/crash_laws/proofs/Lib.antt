@@ -2,7 +2,7 @@ mod Items
 mod Calls
 mod Entries
 mod Told
-mod Stops
+pub mod Stops
 mod CutBoots
 mod Keeping
 pub mod Scripts

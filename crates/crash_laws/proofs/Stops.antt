@@ -36,7 +36,7 @@ use Rattle.std.proofs.lemmas.Bool.{ltb-true, leb-true}
 
 -- ---- a zone's bytes among those of all
 
-zone_in : (layout : List Zone) (zones : List LiveZone) (rest : List ℕ) (i : ℕ) (z : Zone) (v : LiveZone)
+pub zone_in : (layout : List Zone) (zones : List LiveZone) (rest : List ℕ) (i : ℕ) (z : Zone) (v : LiveZone)
     → ((j : ℕ) (y : Zone) (w : LiveZone) → slice_get layout j ≡ Some y → slice_get zones j ≡ Some w
     → length w.image ≡ y.size) → slice_get layout i ≡ Some z → slice_get zones i ≡ Some v
     → take z.size (drop (zones_end (take i layout)) (flat_map (λ (zone : LiveZone). zone.image) zones ++ rest))

@@ -1,8 +1,6 @@
-use Rattle.std.proofs.Common.{Some, Err, subst, sym, ap}
+use Rattle.std.proofs.Common.{Some, Err, ap}
 use Rattle.blk_spec.specs.States.{append_refusal, append_of, appended}
 use Rattle.blk_spec.specs.Session.{Append}
-use Rattle.blk_session.specs.declared.errors.LineError.{LineError}
-use Rattle.blk_session.specs.Lines.{OperationFails}
 use Rattle.blk_session.proofs.Operations.{append_call, call_done, call_fails}
 use Rattle.blk_session.proofs.calls.append.Goals as goal
 
@@ -16,14 +14,10 @@ returns-in-Ok-clause-done g c =
 
 pub returns-in-Err-clause-done : goal.returns-in-Err-clause-done
 returns-in-Err-clause-done g c =
-    subst (λ (e : LineError). OperationFails e c.args.blk.now.layout (Some c.args.blk.now)
-    (Append c.args.ring c.args.payload.now) (g.S.Store.holds c.args.store.now)
-    (g.S.Store.holds c.append.new.store) (g.S.Store.faults c.args.store.now) (g.S.Store.faults c.append.new.store))
-    (sym c.line_error.ensures)
-    (call_fails c.args.blk.now (Append c.args.ring c.args.payload.now) (append_refusal c.args.blk.now c.args.ring)
+    call_fails c.args.blk.now (Append c.args.ring c.args.payload.now) (append_refusal c.args.blk.now c.args.ring)
     (append_of c.args.blk.now c.args.ring c.args.payload.now)
     (appended c.args.blk.now c.args.ring c.args.payload.now)
     (append_call c.args.blk.now c.args.ring c.args.payload.now)
-    c.in-Err.fault c.append.new.self (g.S.Store.holds c.args.store.now) (g.S.Store.holds c.append.new.store)
-    (g.S.Store.faults c.args.store.now) (g.S.Store.faults c.append.new.store)
-    c.in-Err.ensures.answer (λ e. c.in-Err.ensures.cause (ap Err e)))
+    c.in-Err.fault c.line_error.result c.line_error.ensures c.append.new.self (g.S.Store.holds c.args.store.now)
+    (g.S.Store.holds c.append.new.store) (g.S.Store.faults c.args.store.now) (g.S.Store.faults c.append.new.store)
+    c.in-Err.ensures.answer (λ e. c.in-Err.ensures.cause (ap Err e))

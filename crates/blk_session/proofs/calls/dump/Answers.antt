@@ -1,8 +1,6 @@
-use Rattle.std.proofs.Common.{Some, Err, subst, sym, ap}
+use Rattle.std.proofs.Common.{Some, Err, ap}
 use Rattle.blk_spec.specs.States.{dump_refusal, dump_of, dumped}
 use Rattle.blk_spec.specs.Session.{Dump as DumpNow}
-use Rattle.blk_session.specs.declared.errors.LineError.{LineError}
-use Rattle.blk_session.specs.Lines.{OperationFails}
 use Rattle.blk_session.proofs.Operations.{dump_call, call_done, call_fails}
 use Rattle.blk_session.proofs.calls.dump.Goals as goal
 
@@ -16,14 +14,10 @@ returns-in-Ok-clause-done g c =
 
 pub returns-in-Err-clause-done : goal.returns-in-Err-clause-done
 returns-in-Err-clause-done g c =
-    subst (λ (e : LineError). OperationFails e c.args.blk.now.layout (Some c.args.blk.now)
-    (DumpNow c.args.time c.args.packed c.args.reason c.args.body.now) (g.S.Store.holds c.args.store.now)
-    (g.S.Store.holds c.dump.new.store) (g.S.Store.faults c.args.store.now) (g.S.Store.faults c.dump.new.store))
-    (sym c.line_error.ensures)
-    (call_fails c.args.blk.now (DumpNow c.args.time c.args.packed c.args.reason c.args.body.now)
+    call_fails c.args.blk.now (DumpNow c.args.time c.args.packed c.args.reason c.args.body.now)
     (dump_refusal c.args.blk.now) (dump_of c.args.blk.now c.args.time c.args.packed c.args.reason c.args.body.now)
     (dumped c.args.blk.now c.args.reason) (dump_call c.args.blk.now c.args.time c.args.packed c.args.reason
     c.args.body.now)
-    c.in-Err.fault c.dump.new.self (g.S.Store.holds c.args.store.now) (g.S.Store.holds c.dump.new.store)
-    (g.S.Store.faults c.args.store.now) (g.S.Store.faults c.dump.new.store)
-    c.in-Err.ensures.answer (λ e. c.in-Err.ensures.cause (ap Err e)))
+    c.in-Err.fault c.line_error.result c.line_error.ensures c.dump.new.self (g.S.Store.holds c.args.store.now)
+    (g.S.Store.holds c.dump.new.store) (g.S.Store.faults c.args.store.now) (g.S.Store.faults c.dump.new.store)
+    c.in-Err.ensures.answer (λ e. c.in-Err.ensures.cause (ap Err e))

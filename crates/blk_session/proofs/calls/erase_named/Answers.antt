@@ -1,8 +1,6 @@
-use Rattle.std.proofs.Common.{Some, Err, subst, sym, ap}
+use Rattle.std.proofs.Common.{Some, Err, ap}
 use Rattle.blk_spec.specs.States.{erase_refusal, erase_of, erased}
 use Rattle.blk_spec.specs.Session.{Erase as EraseRecord}
-use Rattle.blk_session.specs.declared.errors.LineError.{LineError}
-use Rattle.blk_session.specs.Lines.{OperationFails}
 use Rattle.blk_session.proofs.Operations.{erase_call, call_done, call_fails}
 use Rattle.blk_session.proofs.calls.erase_named.Goals as goal
 
@@ -15,13 +13,9 @@ returns-in-Ok-clause-done g c =
 
 pub returns-in-Err-clause-done : goal.returns-in-Err-clause-done
 returns-in-Err-clause-done g c =
-    subst (λ (e : LineError). OperationFails e c.args.blk.now.layout (Some c.args.blk.now)
-    (EraseRecord (Some c.args.name)) (g.S.Store.holds c.args.store.now) (g.S.Store.holds c.erase.new.store)
-    (g.S.Store.faults c.args.store.now) (g.S.Store.faults c.erase.new.store))
-    (sym c.line_error.ensures)
-    (call_fails c.args.blk.now (EraseRecord (Some c.args.name)) (erase_refusal c.args.blk.now c.args.name)
+    call_fails c.args.blk.now (EraseRecord (Some c.args.name)) (erase_refusal c.args.blk.now c.args.name)
     (erase_of c.args.blk.now c.args.name) (erased c.args.blk.now c.args.name)
     (erase_call c.args.blk.now c.args.name)
-    c.in-Err.fault c.erase.new.self (g.S.Store.holds c.args.store.now) (g.S.Store.holds c.erase.new.store)
-    (g.S.Store.faults c.args.store.now) (g.S.Store.faults c.erase.new.store)
-    c.in-Err.ensures.answer (λ e. c.in-Err.ensures.cause (ap Err e)))
+    c.in-Err.fault c.line_error.result c.line_error.ensures c.erase.new.self (g.S.Store.holds c.args.store.now)
+    (g.S.Store.holds c.erase.new.store) (g.S.Store.faults c.args.store.now) (g.S.Store.faults c.erase.new.store)
+    c.in-Err.ensures.answer (λ e. c.in-Err.ensures.cause (ap Err e))
