@@ -2,11 +2,13 @@
  * oopsbox.h - the crash log store of Linux (ramoops) as a library.
  *
  * Every call works on memory of the caller's, keeps nothing between calls, and can run in several threads at once. All
- * numbers are in the machine's own order; bytes of a region are as the kernel stores them. docs/LIBRARY.md has examples.
+ * numbers are in the machine's own order; bytes of a region are as the kernel stores them. docs/LIBRARY.md has
+ * examples.
  *
  * A call is undefined only if a pointer is not what it should be: the first byte of so many bytes (or so many structs)
  * that stand there for the whole call, and that nothing else reads or writes meanwhile if the call may write them. Two
- * slices of one call do not overlap. A slice of length 0 may have any pointer, NULL too. All other arguments are tested.
+ * slices of one call do not overlap. A slice of length 0 may have any pointer, NULL too. All other arguments are
+ * tested.
  *
  * Link with -loopsbox.
  */
@@ -25,13 +27,13 @@ enum {
 	OOPSBOX_DONE = 0,      /* all was done */
 	OOPSBOX_FAULT = 3,     /* the parameters are faulty, or have no layout */
 	OOPSBOX_SHORT = 4,     /* the image ends before the zone does */
-	OOPSBOX_ROOM = 12,     /* a slice of the caller's is too short; the lengths that are needed were told */
+	OOPSBOX_ROOM = 12,     /* a slice of the caller's is too short; each call says which length it needs */
 	OOPSBOX_ARGUMENT = 13, /* an argument is outside its range; nothing was written */
 	OOPSBOX_MEMORY = 14,   /* malloc answered NULL; nothing was written */
 	OOPSBOX_BAD = 15       /* no codeword is near enough */
 };
 
-/* ---- one block of the Reed-Solomon code; these two calls allocate nothing ------------------------------------------ */
+/* ---- one block of the Reed-Solomon code; these two calls allocate nothing ---------------------------------------- */
 
 /*
  * Makes parity[0 .. parity_len) the parity of data[0 .. data_len).
@@ -55,7 +57,7 @@ uint32_t oopsbox_rs_encode(const uint8_t *data, size_t data_len, uint8_t *parity
 uint32_t oopsbox_rs_decode(uint8_t *data, size_t data_len, const uint8_t *parity, size_t parity_len, uint8_t *places,
 			   size_t places_len, uint32_t *corrected);
 
-/* ---- layouts and zones -------------------------------------------------------------------------------------------- */
+/* ---- layouts and zones ------------------------------------------------------------------------------------------- */
 
 enum { OOPSBOX_DUMP = 0, OOPSBOX_CONSOLE = 1, OOPSBOX_FTRACE = 2, OOPSBOX_PMSG = 3 };
 enum { OOPSBOX_UNSIGNED = 0, OOPSBOX_EMPTY = 1, OOPSBOX_INVALID = 2, OOPSBOX_FOUND = 3 };
@@ -82,12 +84,14 @@ struct oopsbox_layout_answer {
 
 /*
  * The zones of the parameters in params[0 .. params_len), in the order in which they lie. Parameters are words
- * key=value, as on a kernel's command line, each two with one space between: "mem_size=65536 ecc=1". It allocates.
+ * key=value, as on a kernel's command line, each two with one space between: "mem_size=65536 ecc=1". A text without
+ * bytes is one word without bytes, and so an unknown key. It allocates.
  *
  * OOPSBOX_DONE: answer->zones places were written, *answer too; the other places are as they were.
  * OOPSBOX_ROOM: places_len, a number of structs, is below answer->zones; *answer was written, and no place.
- * OOPSBOX_FAULT: *answer tells the fault (a word's: 1 unknown key, 2 twice, 3 no number; the layout's: word is 0).
- * OOPSBOX_ARGUMENT: params is not UTF-8. OOPSBOX_MEMORY: no memory. Nothing was written.
+ * OOPSBOX_FAULT: *answer tells the fault (a word's: 1 unknown key, 2 twice, 3 no number; the layout's: word is 0), its
+ * zones and mem are 0, and no place was written.
+ * OOPSBOX_ARGUMENT: params is not UTF-8. OOPSBOX_MEMORY: no memory. On both nothing was written.
  */
 uint32_t oopsbox_layout(const uint8_t *params, size_t params_len, struct oopsbox_zone_place *places, size_t places_len,
 			struct oopsbox_layout_answer *answer);
@@ -109,12 +113,13 @@ struct oopsbox_zone_answer {
  * OOPSBOX_DONE: *answer and the first answer->log bytes of log were written.
  * OOPSBOX_ROOM: log_len is below answer->log; *answer was written, and log is as it was.
  * OOPSBOX_FAULT: the parameters have no layout (oopsbox_layout says why). OOPSBOX_SHORT: the image ends before the zone
- * does. OOPSBOX_ARGUMENT: params is not UTF-8, or there is no such zone. OOPSBOX_MEMORY: no memory. Nothing was written.
+ * does. OOPSBOX_ARGUMENT: params is not UTF-8, or there is no such zone. OOPSBOX_MEMORY: no memory. On all of these
+ * nothing was written.
  */
 uint32_t oopsbox_zone(const uint8_t *params, size_t params_len, uint32_t index, const uint8_t *image, size_t image_len,
 		      uint8_t *log, size_t log_len, struct oopsbox_zone_answer *answer);
 
-/* ---- the whole tool ----------------------------------------------------------------------------------------------- */
+/* ---- the whole tool ---------------------------------------------------------------------------------------------- */
 
 struct oopsbox_lengths {
 	uint64_t image; /* how many bytes the image has */
@@ -133,9 +138,10 @@ struct oopsbox_lengths {
  * first lengths->image bytes of image what the image then holds; the rest of both is as it was. 5 never comes; 6 and 7
  * come only where malloc answered NULL for the image or the text.
  * OOPSBOX_ROOM: image_len is below lengths->image or text_len below lengths->text, which tell what the run needs; image
- * and text are as they were. Call again with room: the run is the same.
- * OOPSBOX_ARGUMENT: lengths->image is above image_len, or words is not UTF-8. OOPSBOX_MEMORY: no memory. Nothing was
- * written.
+ * and text are as they were. Call again with room, and set lengths->image to the bytes that there are again: then the
+ * run is the same.
+ * OOPSBOX_ARGUMENT: lengths->image is above image_len, or words is not UTF-8. OOPSBOX_MEMORY: no memory. On both
+ * nothing was written.
  */
 uint32_t oopsbox_run(const uint8_t *words, size_t words_len, const uint8_t *script, size_t script_len, uint8_t *image,
 		     size_t image_len, uint8_t *text, size_t text_len, struct oopsbox_lengths *lengths);

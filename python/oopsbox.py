@@ -92,7 +92,7 @@ def rs_encode(data, parity_length):
 def rs_decode(data, parity):
     """Corrects data by its parity. Answers the data and the places, from 0, that were wrong, of parity too.
 
-    Raises Error with status 15 if more than half as many bytes as parity are wrong.
+    Raises Error with status 15 if no codeword differs in at most half as many bytes as there is parity.
     """
     target, source, places = _buffer(data), _buffer(parity), _buffer(b"", len(parity))
     corrected = ctypes.c_uint32()
@@ -106,7 +106,10 @@ def rs_decode(data, parity):
 
 
 def layout(parameters):
-    """The zones of the parameters, in the order in which they lie. Raises Error with the fault if there is no layout."""
+    """The zones of the parameters, in the order in which they lie. Raises Error with the fault if there is no layout.
+
+    A zone's kind is "dump", "console", "ftrace" or "pmsg"; its other fields are those of the C header.
+    """
     words, answer, room = _words(parameters), _LayoutAnswer(), 16
     while True:
         places = (_Place * room)()
@@ -129,7 +132,8 @@ def layout(parameters):
 def run(command, parameters, image=b"", script=b""):
     """Runs a command of the program on an image in memory, as run("list", "mem_size=65536", image).
 
-    Answers the program's exit status, what it would print, and what the image then holds.
+    Answers the program's exit status, 0 to 10, what it would print, and what the image then holds. Raises Error only if
+    the words are no text (13) or malloc answers NULL (14).
     """
     words, script = _words("image " + command + " " + parameters if parameters else "image " + command), bytes(script)
     image_room, text_room = len(image), 65536
@@ -153,12 +157,15 @@ def _done(answer):
 
 
 def boot(parameters, image):
-    """What a boot prints of each zone, and the image that it leaves."""
+    """What a boot prints of each zone, and the image that it leaves, as a Run of status 0. Else raises Error."""
     return _done(run("run", parameters, image, b"boot\n"))
 
 
 def records(image, parameters):
-    """The records that the next boot would list of the image: name, time (of a dump, as text) and content."""
+    """The records that the next boot would list of the image: name, time (of a dump, as text) and content.
+
+    Raises Error with the program's exit status if the image is too short or the parameters are faulty.
+    """
     found = []
     for line in _done(run("list", parameters, image)).text.decode().splitlines()[1:]:
         name, _, time = (line.split(" ") + [None])[:3]

@@ -8,9 +8,13 @@ _oopsbox()
         mapfile -t COMPREPLY < <(compgen -f -- "$word")
         compopt -o filenames
     elif [ "$COMP_CWORD" -eq 2 ]; then
-        mapfile -t COMPREPLY < <(compgen -W "list extract erase layout run blank make move shared-run salvage rescue blk-run" -- "$word")
+        mapfile -t COMPREPLY < <(compgen -W "list extract erase layout run blank make move shared-run salvage rescue
+            blk-run" -- "$word")
     else
-        [ "${COMP_WORDS[2]}" = move ] && keys="$keys to"
+        case ${COMP_WORDS[2]} in
+            move) keys="$keys to" ;;
+            blk-run) keys="total_size= kmsg_size= console_size= pmsg_size=" ;;
+        esac
         mapfile -t COMPREPLY < <(compgen -W "$keys" -- "$word")
         compopt -o nospace
     fi
