@@ -10,6 +10,3 @@ pub use logs::Logs;
 pub use reading::{Reading, keeps, read_zone, read_zone_by};
 pub use settling::{Settled, settle, settle_by};
 pub use zone_spec::{State, Words};
-
-#[cfg(test)]
-mod tests;

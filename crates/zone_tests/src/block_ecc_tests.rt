@@ -3,8 +3,8 @@
 ghost use Rattle.std.specs.Prelude.{◌≡◌, length, IfOk, IfSome};
 ghost use Rattle.zone_spec.specs.Zones.{IsValidZone};
 
-use crate::{Coder, Decoded, Fix, block_parity, header_parity, read_block, read_header};
 use arrayvec::ArrayVec;
+use block_ecc::{Coder, Decoded, Fix, block_parity, header_parity, read_block, read_header};
 use box_io::Bytes;
 use ram_region::{Region, Spans};
 use std::alloc::{AllocError, Global};

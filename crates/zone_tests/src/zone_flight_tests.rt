@@ -2,12 +2,12 @@ ghost use Rattle.std.specs.Prelude.{◌≡◌, ◌<◌, ◌≤◌, length};
 ghost use Rattle.zone_spec.specs.Zones.{IsValidZone};
 ghost use Rattle.ram_region.specs.CutRegion.{span};
 
-use crate::{Call, CallKind, Flight, Line36, Step};
 use arrayvec::ArrayString;
 use box_io::Bytes;
 use ram_region::{Region, Spans};
 use ring_header::RingWords;
 use std::process::Abort;
+use zone_flight::{Call, CallKind, Flight, Line36, Step};
 use zone_params::layout;
 use zone_spec::{Kind, Params, Words, Zone, ZoneName};
 

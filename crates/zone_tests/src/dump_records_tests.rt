@@ -1,5 +1,5 @@
-use crate::{Cursor, Time, TimeLine, line, read_line};
 use arrayvec::ArrayString;
+use dump_records::{Cursor, Time, TimeLine, line, read_line};
 use std::test::Fail;
 
 // A line's seconds, microseconds, flag and length.

@@ -1,5 +1,5 @@
 use Rattle.std.proofs.lemmas.Option.{slice_get-get_or}
-use Rattle.old_log.proofs.tests.settled.Goals as goal
+use Rattle.zone_tests.proofs.old_log_tests.settled.Goals as goal
 
 pub read_zone-requires-clause-valid : goal.read_zone-requires-clause-valid
 read_zone-requires-clause-valid c =

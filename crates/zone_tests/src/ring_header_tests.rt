@@ -1,4 +1,4 @@
-use crate::RingWords;
+use ring_header::RingWords;
 use std::test::Fail;
 use zone_spec::Words;
 

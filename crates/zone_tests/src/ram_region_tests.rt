@@ -1,8 +1,8 @@
 ghost use Rattle.std.specs.Prelude.{◌≡◌, length};
 ghost use Rattle.ram_region.specs.CutRegion.{span};
 
-use crate::{Probe, Region, Spans};
 use box_io::Bytes;
+use ram_region::{Probe, Region, Spans};
 use std::test::Fail;
 use zone_params::{Params, layout};
 use zone_spec::{Kind, Zone, ZoneName};
@@ -84,7 +84,7 @@ fn cuts_stores_and_joins(rt: HostRuntime) -> Result<(), Fail> {
     Ok(())
 }
 
-#[tactic(auto, using(crate::proofs::Cuts::stores))]
+#[tactic(auto, using(ram_region::proofs::Cuts::stores))]
 fn store_in_all(spans: &mut Spans)
     requires spans { length spans.old.spans ≡ 4 }
     requires first { length (span spans.old 0) ≡ 596 }

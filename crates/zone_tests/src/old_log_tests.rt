@@ -1,6 +1,6 @@
 // Worked images: how they read, which readings are kept, and what a boot cut after each number of stores leaves.
-use super::*;
 use box_io::Bytes;
+use old_log::*;
 use ram_region::{Region, Spans};
 use std::alloc::{AllocError, Global};
 use std::process::Abort;

@@ -1,5 +1,5 @@
-use crate::types::Entries;
-use crate::{Entry, entries, merge, to_bytes};
+use ftrace_zone::types::Entries;
+use ftrace_zone::{Entry, entries, merge, to_bytes};
 use std::alloc::{AllocError, Global};
 use std::test::Fail;
 
