@@ -1,5 +1,5 @@
 // The kernel's layouts.
-use super::*;
+use kernel_layout::*;
 use std::test::Fail;
 use zone_params::LayoutError;
 use zone_spec::{Kind, LayoutFault, Params};

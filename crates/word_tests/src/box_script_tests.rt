@@ -1,4 +1,4 @@
-use crate::{Line, Lines, ParseFault, parse, print};
+use box_script::{Line, Lines, ParseFault, parse, print};
 use std::alloc::Global;
 use zone_spec::{Kind, Time, ZoneName};
 

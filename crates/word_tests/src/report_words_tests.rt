@@ -1,5 +1,5 @@
 // Worked command lines and versions.
-use super::*;
+use report_words::*;
 use std::test::Fail;
 
 #[test]

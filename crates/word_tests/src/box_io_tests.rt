@@ -1,7 +1,7 @@
 // The objects in memory where they work and where they fail, and the adapters over real ones.
 ghost use Rattle.std.specs.Prelude.{◌≡◌, IfOk};
 
-use super::*;
+use box_io::*;
 use std::alloc::{AllocError, Global};
 use std::process::Abort;
 use std::test::Fail;

@@ -1,5 +1,5 @@
-use super::*;
 use std::alloc::{AllocError, Global};
+use zone_params::*;
 
 fn words_of(alloc: Global, line: &str) -> Result<Vec<String>, AllocError> {
     let mut words = Vec::new(alloc);

@@ -1,4 +1,4 @@
-use super::*;
+use param_words::*;
 use std::alloc::{AllocError, Global};
 
 const PREFIXED: Keys = Keys {
