@@ -2,10 +2,10 @@
 // leaves.
 ghost use Rattle.ram_core.specs.Asks.{CanBeAsked};
 
-use super::*;
 use arrayvec::ArrayVec;
 use box_io::Bytes;
 use old_log::Logs;
+use ram_core::*;
 use std::process::Abort;
 use std::test::Fail;
 use zone_params::layout;

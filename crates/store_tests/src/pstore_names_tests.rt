@@ -1,8 +1,8 @@
 // Worked readings: the names that they list, and the contents, lengths and times.
-use super::*;
 use arrayvec::ArrayString;
 use box_io::Bytes;
 use old_log::{Logs, Reading, State, Words};
+use pstore_names::*;
 use std::alloc::{AllocError, Global};
 use std::test::Fail;
 use zone_params::types::Layout;

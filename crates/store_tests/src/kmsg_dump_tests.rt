@@ -1,7 +1,8 @@
 // What the clauses do not say: that a log and a body find memory, and worked bodies.
 ghost use Rattle.std.specs.Prelude.{◌≤◌};
 
-use super::*;
+use kmsg_dump::*;
+use memchr::memchr;
 use std::test::Fail;
 
 // Pushes a line if it has no newline, and answers whether it was kept.

@@ -1,5 +1,5 @@
-use super::*;
 use box_io::Bytes;
+use box_salvage::*;
 use std::alloc::{AllocError, Global};
 use std::process::Abort;
 use std::test::Fail;

@@ -4,8 +4,8 @@ ghost use Rattle.std.specs.Prelude.{◌≡◌, length, IfOk};
 ghost use Rattle.zone_spec.specs.Layout.{rounded};
 ghost use Rattle.zone_params.specs.Laid.{params_of};
 
-use crate::{Next, OpenCall, Shared, SharedRefusal, can_open};
 use box_io::Bytes;
+use shared_ring::{Next, OpenCall, Shared, SharedRefusal, can_open};
 use std::alloc::{AllocError, Global};
 use std::process::Abort;
 use std::test::Fail;
