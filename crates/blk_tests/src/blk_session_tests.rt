@@ -3,7 +3,7 @@ ghost use Rattle.std.specs.Prelude.{◌≡◌, Some, IfOk};
 ghost use Rattle.box_io.specs.Memory.{store_holds};
 ghost use Rattle.blk_spec.specs.Answers.{HasRoom};
 
-use crate::play;
+use blk_session::play;
 use box_io::{Bytes, Calls, MemSink, MemStore};
 use box_script::parse;
 use std::alloc::{AllocError, Global};

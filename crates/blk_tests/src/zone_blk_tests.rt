@@ -4,11 +4,11 @@ ghost use Rattle.box_io.specs.Memory.{store_holds};
 ghost use Rattle.blk_spec.specs.Answers.{HasRoom};
 ghost use Rattle.blk_spec.specs.Layout.{IsLayout};
 
-use super::*;
 use box_io::{Bytes, Calls, MemStore};
 use std::alloc::{AllocError, Global};
 use std::process::Abort;
 use std::test::Fail;
+use zone_blk::*;
 
 const LAYOUT: BlkLayout = BlkLayout {
     total: 16384,

@@ -1,4 +1,4 @@
-use super::*;
+use blk_params::*;
 use std::alloc::{AllocError, Global};
 
 fn words_of(alloc: Global, line: &str) -> Result<Vec<String>, AllocError> {
