@@ -1,5 +1,5 @@
 // Faults of the outside, the order of causes, and hostile bytes: what is answered, put and left.
-use crate::tests::{CONSOLE, FIRST_RECORD, FIRST_TEXT, Fails, NONE, outcome_by};
+use crate::run_tests::{CONSOLE, FIRST_RECORD, FIRST_TEXT, Fails, NONE, outcome_by};
 use std::alloc::{AllocError, Global};
 use std::process::Abort;
 use std::test::Fail;

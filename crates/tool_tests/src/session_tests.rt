@@ -1,5 +1,5 @@
 // Worked sessions as whole scripts, and images that fail between their pieces.
-use crate::tests::{Ended, Fails, NONE, left_by, outcome_by};
+use crate::run_tests::{Ended, Fails, NONE, left_by, outcome_by};
 use std::alloc::{AllocError, Global};
 use std::process::Abort;
 use std::test::Fail;
@@ -273,12 +273,45 @@ const SESSIONS: &[Session] = &[
         ],
         image: &[],
     },
+    // A write past the end of the ring touches the last block and the first four.
+    Session {
+        params: CONSOLE,
+        script: &[
+            (b"boot\nwrite console ", 1),
+            (b"61", 4000),
+            (b"\nbegin write console ", 1),
+            (b"62", 500),
+            (b"\nstep console 2\nstop\nboot\n", 1),
+        ],
+        text: &[
+            (ONE_UNSIGNED, 1),
+            (
+                b"boot console found start 416 size 4084 corrected 0 bad 0 differs told 4000 read 4084 first 3584\n\
+                  cut console write 2 of 502 header pair 2 blocks 0-3,31\n",
+                1,
+            ),
+        ],
+        image: &[],
+    },
+    // A header that is no codeword, with words that are no ring.
+    Session {
+        params: CONSOLE_WITH_PARITY,
+        script: &[(
+            b"flip 0 68\nflip 1 66\nflip 2 71\nflip 3 67\nflip 4 5\nflip 8 245\nflip 9 15\nboot\n",
+            1,
+        )],
+        text: &[(
+            b"boot console invalid start 5 size 4085 corrected 0 bad 1 nothing told\n",
+            1,
+        )],
+        image: &[],
+    },
     // The record of a dump is erased, and that of the next is kept.
     Session {
         params: FOUR,
         script: &[(
             b"boot\ndump 1700000000 123 D 6f6e65\ndump 1700000001 0 D 74776f\nstop\nboot\n\
-              erase dmesg-ramoops-0\nlist\n",
+              list\nerase dmesg-ramoops-0\nlist\nextract dmesg-ramoops-1\n",
             1,
         )],
         text: &[
@@ -290,7 +323,11 @@ const SESSIONS: &[Session] = &[
             ),
             (CONSOLE_EMPTY, 1),
             (PMSG_EMPTY, 1),
-            (b"records 1\ndmesg-ramoops-1 3 1700000001.000000\n", 1),
+            (
+                b"records 2\ndmesg-ramoops-0 3 1700000000.000123\ndmesg-ramoops-1 3 1700000001.000000\n\
+                  records 1\ndmesg-ramoops-1 3 1700000001.000000\ndmesg-ramoops-1 3\ntwo\n",
+                1,
+            ),
         ],
         image: &[
             (0, b"DBGC\0\0\0\0\0\0\0\0====1700000000.000123-D\n"),

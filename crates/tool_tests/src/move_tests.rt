@@ -1,5 +1,5 @@
 // Images that are moved to other parameters.
-use crate::tests::{NONE, left_by, outcome};
+use crate::run_tests::{NONE, left_by, outcome};
 use std::process::Abort;
 use std::test::Fail;
 

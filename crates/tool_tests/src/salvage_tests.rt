@@ -1,5 +1,5 @@
 // Rings in memory dumps.
-use crate::tests::{Fails, NONE, outcome};
+use crate::run_tests::{Fails, NONE, outcome};
 use std::alloc::{AllocError, Global};
 use std::process::Abort;
 use std::test::Fail;

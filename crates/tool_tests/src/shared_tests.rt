@@ -1,5 +1,5 @@
 // Scripts on a shared zone.
-use crate::tests::{NONE, outcome};
+use crate::run_tests::{NONE, outcome};
 use std::alloc::{AllocError, Global};
 use std::process::Abort;
 use std::test::Fail;

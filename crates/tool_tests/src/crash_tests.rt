@@ -1,5 +1,5 @@
 // Crashes of a script's kernel, and its message log.
-use crate::tests::{NONE, outcome};
+use crate::run_tests::{NONE, outcome};
 use std::alloc::{AllocError, Global};
 use std::test::Fail;
 

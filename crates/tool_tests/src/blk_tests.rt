@@ -1,5 +1,5 @@
 // Whole runs of scripts on the block store, over the objects in memory.
-use crate::tests::{Fails, NONE, left_by, outcome};
+use crate::run_tests::{Fails, NONE, left_by, outcome};
 use std::test::Fail;
 
 // A page of pmsg, one of console, and two of dumps.

@@ -1,5 +1,5 @@
 // The commands that speak of the records of an image, and of one that is made.
-use crate::tests::{NONE, left_by};
+use crate::run_tests::{NONE, left_by};
 use std::alloc::{AllocError, Global};
 use std::process::Abort;
 use std::test::Fail;

@@ -1,8 +1,8 @@
 // Whole runs over the objects in memory: what is put, what is stored and what is answered.
 ghost use Rattle.std.specs.Prelude.{◌≡◌, IfOk};
 
-use crate::run;
 use box_io::{Bytes, Calls, MemSink, MemSource, MemStore};
+use image_tool::run;
 use std::alloc::{AllocError, Global};
 use std::process::Abort;
 use std::test::Fail;

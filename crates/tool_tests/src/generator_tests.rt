@@ -1,5 +1,5 @@
 // Images made of a number, with parity.
-use crate::tests::{NONE, left_by, outcome};
+use crate::run_tests::{NONE, left_by, outcome};
 use std::test::Fail;
 
 // The number that stands after a word of a line.
