@@ -8,6 +8,3 @@ pub use parts::ZoneParts;
 pub use pstore_names::HeldRecord as RecordReport;
 pub use report::{Report, report_of, report_of_zones};
 pub use report_spec::PartState;
-
-#[cfg(test)]
-mod tests;

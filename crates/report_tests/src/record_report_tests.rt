@@ -1,6 +1,6 @@
 // Worked images: what their reports hold.
-use super::*;
 use box_io::Bytes;
+use record_report::*;
 use std::alloc::Global;
 use std::test::Fail;
 use zone_params::{Params, layout};

@@ -1,7 +1,7 @@
 // Lines of worked images.
-use super::*;
 use box_io::Bytes;
 use record_report::report_of;
+use report_json::*;
 use std::alloc::Global;
 use std::test::Fail;
 use zone_params::{Params, layout};

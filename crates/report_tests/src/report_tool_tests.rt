@@ -1,9 +1,9 @@
 // Worked images, reported and saved.
 ghost use Rattle.std.specs.Prelude.{None};
 
-use super::*;
 use box_io::{Bytes, Calls, Failed, MemSink, MemStore};
 use grammar_spec::ParamFault;
+use report_tool::*;
 use std::alloc::Global;
 use std::test::Fail;
 use zone_spec::LayoutFault;

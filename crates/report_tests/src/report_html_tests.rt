@@ -1,7 +1,7 @@
 // Pages and escaped bytes.
-use super::*;
 use box_io::Bytes;
 use record_report::report_of;
+use report_html::*;
 use std::test::Fail;
 use zone_params::{Params, layout};
 

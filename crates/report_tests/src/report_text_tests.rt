@@ -1,13 +1,10 @@
-// Texts of worked images, and dates.
-use crate::pieces::render;
-use crate::records::add_time;
-use crate::text;
+// Texts of worked images, and dates in them.
 use box_io::Bytes;
 use record_report::report_of;
+use report_text::text;
 use std::alloc::Global;
 use std::test::Fail;
 use zone_params::{Params, layout};
-use zone_spec::Time;
 
 // A dump of 4096 bytes, and a console.
 const PARAMS: Params = Params {
@@ -47,8 +44,9 @@ last lines of the console
 
 // The text of the two zones, with this time line and an escape sequence in the console.
 fn shown(alloc: Global, line: &[u8]) -> Result<Bytes, Fail> {
+    let used = u8::try_from(line.len().saturating_add(14))?;
     let mut bytes = Vec::new(alloc);
-    bytes.extend_from_slice(&[0x44, 0x42, 0x47, 0x43, 38, 0, 0, 0, 38, 0, 0, 0])?;
+    bytes.extend_from_slice(&[0x44, 0x42, 0x47, 0x43, used, 0, 0, 0, used, 0, 0, 0])?;
     bytes.extend_from_slice(line)?;
     bytes.extend_from_slice(b"Panic#1 Part1\n")?;
     bytes.resize(4096, 0)?;
@@ -80,19 +78,29 @@ fn a_compressed_dump(rt: HostRuntime) -> Result<(), Fail> {
     Ok(())
 }
 
+// Time lines, and the date of each.
+const DATES: &[(&[u8], &str)] = &[
+    (b"====0.5-D\n", "1970-01-01 00:00:00.000005 UTC"),
+    (
+        b"====951827696.999999999-D\n",
+        "2000-02-29 12:34:56.999999999 UTC",
+    ),
+    (b"====253402300800.0-D\n", "253402300800.000000 s"),
+    (
+        b"====9223372036854775807.0-D\n",
+        "9223372036854775807.000000 s",
+    ),
+];
+
 #[test]
 fn dates(rt: HostRuntime) -> Result<(), Fail> {
-    let rows = [
-        (0, 5, "1970-01-01 00:00:00.000005 UTC"),
-        (951827696, 999999999, "2000-02-29 12:34:56.999999999 UTC"),
-        (253402300800, 0, "253402300800.000000 s"),
-        (9223372036854775807, 0, "9223372036854775807.000000 s"),
-    ];
-    for (secs, micros, date) in rows {
-        let mut pieces = Vec::new(rt.alloc());
-        add_time(&mut pieces, Time { secs, micros })?;
-        let shown = render(rt.alloc(), pieces.as_slice())?;
-        assert_eq!(rt; str::from_utf8(shown.as_slice())?, date);
+    for (line, date) in DATES.iter().copied() {
+        let text = shown(rt.alloc(), line)?;
+        let row = format!(in rt.alloc(); "        14  {date}  dmesg-ramoops-0\n")?;
+        assert!(rt;
+            str::from_utf8(text.as_slice())?.contains(row.as_str()),
+            "{date}"
+        );
     }
     Ok(())
 }
