@@ -9,6 +9,3 @@ pub use grammar_spec::ParamFault;
 pub use layout::blk_layout;
 pub use words::read_blk_words;
 pub use zone_spec::LayoutFault;
-
-#[cfg(test)]
-mod tests;

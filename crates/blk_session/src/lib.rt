@@ -11,6 +11,3 @@ mod texts;
 pub use errors::LineError;
 pub use lines::do_line;
 pub use playing::play;
-
-#[cfg(test)]
-mod tests;

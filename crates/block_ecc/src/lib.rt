@@ -337,6 +337,3 @@ pub fn header_parity(span: &Span, zone: &Zone, out: &mut ArrayVec<u8, 127>)
 {
     Coder::new(zone).header_parity(span, zone, out);
 }
-
-#[cfg(test)]
-mod tests;

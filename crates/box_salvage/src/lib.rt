@@ -11,6 +11,3 @@ mod shape;
 pub use old_log::Reading;
 pub use salvage_spec::{FoundRing, RingFault};
 pub use scan::Scan;
-
-#[cfg(test)]
-mod tests;

@@ -13,6 +13,3 @@ pub use grammar_spec::Line;
 pub use lines::Lines;
 pub use printing::{print, printed_is_read};
 pub use reading::{ParseFault, parse};
-
-#[cfg(test)]
-mod tests;

@@ -13,9 +13,6 @@ pub use cursor::Cursor;
 use itoa::Buffer;
 pub use zone_spec::{Time, TimeLine};
 
-#[cfg(test)]
-mod tests;
-
 /// Writes the line of a time of at most 2^63 - 1 seconds and fewer than 1,000,000 microseconds. `packed` says that
 /// the dump is compressed (`fs/pstore/ram.c`, `ramoops_write_kmsg_hdr`).
 pub fn line(time: Time, packed: bool, out: &mut ArrayString<36>)

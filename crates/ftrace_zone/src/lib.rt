@@ -13,9 +13,6 @@ use box_io::Bytes;
 use std::alloc::{AllocError, Global};
 use types::Entries;
 
-#[cfg(test)]
-mod tests;
-
 /// An entry of an ftrace log: the address of a function, that of its caller, and a word whose low 8 bits are the
 /// processor and whose other bits are the time (`include/linux/pstore.h`, `struct pstore_ftrace_record`).
 #[derive(Clone, Copy, Debug, PartialEq, Eq)]

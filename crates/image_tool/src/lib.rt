@@ -16,24 +16,3 @@ mod work;
 pub use ram_generator::Draws;
 pub use tool_frame::{Cause, Stop};
 pub use work::run;
-
-#[cfg(test)]
-mod blk_tests;
-#[cfg(test)]
-mod crash_tests;
-#[cfg(test)]
-mod fault_tests;
-#[cfg(test)]
-mod generator_tests;
-#[cfg(test)]
-mod move_tests;
-#[cfg(test)]
-mod record_tests;
-#[cfg(test)]
-mod salvage_tests;
-#[cfg(test)]
-mod session_tests;
-#[cfg(test)]
-mod shared_tests;
-#[cfg(test)]
-mod tests;

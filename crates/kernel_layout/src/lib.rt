@@ -8,6 +8,3 @@ mod rows;
 
 pub use laws::powers_of_two_are_laid_out_alike;
 pub use laying::layout_as_given;
-
-#[cfg(test)]
-mod tests;

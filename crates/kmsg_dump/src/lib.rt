@@ -18,9 +18,6 @@ use memchr::memchr;
 use std::alloc::{AllocError, Global};
 use std::marker::Model;
 
-#[cfg(test)]
-mod tests;
-
 /// The last whole lines that a kernel logged, as many as fit in its limit, each with its newline.
 #[derive(Drop)]
 pub struct KLog {

@@ -12,6 +12,3 @@ pub use parts::ZoneParts;
 pub use reading::{Reading, keeps, read_parts, read_parts_by, read_zone, read_zone_by};
 pub use settling::{Settled, settle, settle_by};
 pub use zone_spec::{State, Words};
-
-#[cfg(test)]
-mod tests;

@@ -7,6 +7,3 @@ mod words;
 pub use grammar_spec::ParamFault;
 pub use numbers::number;
 pub use words::Keys;
-
-#[cfg(test)]
-mod tests;

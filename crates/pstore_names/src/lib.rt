@@ -23,6 +23,3 @@ pub use notices::{Counts, counts_at, counts_of, is_in};
 pub use records::{ContentFault, content, length, time};
 pub use table::{Entry, listed};
 pub use zone_spec::{Name, Time};
-
-#[cfg(test)]
-mod tests;

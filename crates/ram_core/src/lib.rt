@@ -23,6 +23,3 @@ pub use report::{Cut, Report, ZoneReport};
 pub use told::Told;
 pub use zone_flight::Step;
 pub use zone_spec::{CallKind, HeaderSeen, Pair, Refusal, Verdict};
-
-#[cfg(test)]
-mod tests;

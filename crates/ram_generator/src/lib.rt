@@ -14,6 +14,3 @@ use damage::{draw_all, make_damage};
 pub use draws::Draws;
 pub use generating::generate;
 use turns::{CutAppend, Targets};
-
-#[cfg(test)]
-mod tests;

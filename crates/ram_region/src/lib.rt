@@ -10,6 +10,3 @@ mod spans;
 
 pub use probe::Probe;
 pub use spans::{Region, Span, Spans};
-
-#[cfg(test)]
-mod tests;

@@ -22,6 +22,3 @@ pub use machine::{LineError, Machine};
 pub use playing::play;
 pub use record_lines::content_of;
 pub use texts::{listing, move_text};
-
-#[cfg(test)]
-mod tests;

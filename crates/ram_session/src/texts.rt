@@ -7,6 +7,3 @@ mod records;
 pub use boots::{boot_text, part_text};
 pub use moves::move_text;
 pub use records::{extract_text, listing};
-
-#[cfg(test)]
-mod tests;

@@ -7,6 +7,3 @@ pub use old_log::ZoneParts;
 pub use pstore_names::HeldRecord as RecordReport;
 pub use report::{Report, report_of, report_of_zones};
 pub use report_spec::PartState;
-
-#[cfg(test)]
-mod tests;

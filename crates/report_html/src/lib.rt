@@ -15,6 +15,3 @@ pub use escaping::push_escaped;
 pub use laws::escaped_is_text;
 pub use page::html;
 pub use pieces::{Piece, render};
-
-#[cfg(test)]
-mod tests;

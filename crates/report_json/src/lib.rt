@@ -7,6 +7,3 @@ mod records;
 mod zones;
 
 pub use line::json;
-
-#[cfg(test)]
-mod tests;

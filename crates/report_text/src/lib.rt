@@ -15,6 +15,3 @@ mod zones;
 
 pub use pieces::Piece;
 pub use whole::text;
-
-#[cfg(test)]
-mod tests;

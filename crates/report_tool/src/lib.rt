@@ -14,6 +14,3 @@ pub use plan::{Plan, PlanFault};
 pub use saving::{Folder, save};
 pub use showing::Format;
 pub use tool_frame::Stop;
-
-#[cfg(test)]
-mod tests;

@@ -7,6 +7,3 @@ mod version;
 
 pub use cmdline::add_layout_words;
 pub use version::{add_tag, ftrace_tag};
-
-#[cfg(test)]
-mod tests;

@@ -11,9 +11,6 @@ use std::iter::FusedIterator;
 use std::marker::Model;
 use zone_spec::Words;
 
-#[cfg(test)]
-mod tests;
-
 /// What the words of a header say (`fs/pstore/ram_core.c`).
 pub trait RingWords {
     /// Words that are a ring of a capacity.

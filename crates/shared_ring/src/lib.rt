@@ -12,6 +12,3 @@ mod shared;
 pub use opening::can_open;
 pub use shared::Shared;
 pub use shared_spec::{Next, NoCall, OpenCall, SharedRefusal};
-
-#[cfg(test)]
-mod tests;

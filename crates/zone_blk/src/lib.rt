@@ -13,6 +13,3 @@ pub use blk::Blk;
 pub use blk_params::{BlkLayout, BlkParams, LayoutFault, ParamFault, blk_layout, read_blk_words};
 pub use blk_spec::{BlkFault, BlkName, BlkRing, BlkTime, Reason};
 pub use names::{BlkNames, blk_find};
-
-#[cfg(test)]
-mod tests;

@@ -11,6 +11,3 @@ mod progress;
 pub use call::{Call, Line36, Step};
 pub use flight::Flight;
 pub use zone_spec::{CallKind, Pair};
-
-#[cfg(test)]
-mod tests;

@@ -13,6 +13,3 @@ pub use grammar_spec::ParamFault;
 pub use laying::{layout, list_zones};
 pub use params::read_words;
 pub use zone_spec::{Kind, LayoutFault, Params, Zone, ZoneName};
-
-#[cfg(test)]
-mod tests;

@@ -1,0 +1,9 @@
+//! Tests of the block store, a module for each crate.
+#![tactic(auto)]
+
+#[cfg(test)]
+mod blk_params_tests;
+#[cfg(test)]
+mod blk_session_tests;
+#[cfg(test)]
+mod zone_blk_tests;

@@ -1,0 +1,13 @@
+//! Tests of reports, a module for each crate.
+#![tactic(auto)]
+
+#[cfg(test)]
+mod record_report_tests;
+#[cfg(test)]
+mod report_html_tests;
+#[cfg(test)]
+mod report_json_tests;
+#[cfg(test)]
+mod report_text_tests;
+#[cfg(test)]
+mod report_tool_tests;

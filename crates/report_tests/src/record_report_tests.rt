@@ -1,0 +1,94 @@
+// Worked images: what their reports hold.
+use box_io::Bytes;
+use record_report::*;
+use std::alloc::Global;
+use std::test::Fail;
+use zone_params::{Params, layout};
+use zone_spec::Name;
+
+const HEADER_OF_3: [u8; 12] = [0x44, 0x42, 0x47, 0x43, 3, 0, 0, 0, 3, 0, 0, 0];
+
+// With 16 parity bytes: of that header, and of a block that is `abc` and zeros.
+const PARITY_OF_3: [u8; 16] = [
+    0xc2, 0xf9, 0xf8, 0x14, 0x2e, 0x2d, 0x27, 0xfa, 0x23, 0x8b, 0x36, 0x44, 0x1e, 0xcb, 0xbb, 0xbf,
+];
+
+const PARITY_OF_ABC: [u8; 16] = [
+    0x1f, 0x26, 0x9b, 0x69, 0xe2, 0x69, 0x57, 0x21, 0x4c, 0x75, 0xf6, 0x85, 0xb7, 0xc5, 0x2c, 0x42,
+];
+
+// One console zone of 4096 bytes: 29 blocks, their parity from 3616 on, the header's from 4080 on.
+fn console() -> Params {
+    Params {
+        mem: 4096,
+        dump: 0,
+        console: 4096,
+        ftrace: 0,
+        pmsg: 0,
+        ecc: 16,
+        cpus: 1,
+        ftrace_sig: 0,
+        block: 128,
+        ecc_dump: 16,
+        ecc_console: 16,
+        ecc_ftrace: 16,
+        ecc_pmsg: 16,
+    }
+}
+
+fn put(bytes: &mut Vec<u8>, at: usize, piece: &[u8]) {
+    for (i, b) in piece.iter().enumerate() {
+        if let Some(place) = bytes.get_mut(at.wrapping_add(i)) {
+            *place = *b;
+        }
+    }
+}
+
+// The report of the console zone with this record's text.
+fn reported(alloc: Global, text: &[u8]) -> Result<Report, Fail> {
+    let mut bytes = vec![in alloc; 0u8; 4096]?;
+    put(&mut bytes, 0, &HEADER_OF_3);
+    put(&mut bytes, 12, text);
+    put(&mut bytes, 3616, &PARITY_OF_ABC);
+    put(&mut bytes, 4080, &PARITY_OF_3);
+    let zones = layout(alloc, &console())?;
+    let image = Bytes::from_vec(bytes);
+    if image.len() != zones.mem() as usize {
+        return Err(Fail::from("the image has another size"));
+    }
+    Ok(report_of(alloc, &zones, image)?)
+}
+
+// A found console zone, its one used block as told or with so many wrong bytes.
+#[test]
+fn blocks_as_they_read(rt: HostRuntime) -> Result<(), Fail> {
+    let rows: [(&[u8], PartState, u32, u32); 4] = [
+        (b"abc", PartState::Read(0), 0, 0),
+        (b"abd", PartState::Read(1), 1, 0),
+        (b"abcdefghijk", PartState::Read(8), 8, 0),
+        (b"abcdefghijkl", PartState::Bad, 0, 1),
+    ];
+    for (text, block, corrected, bad) in rows {
+        let report = reported(rt.alloc(), text)?;
+        let parts = report.parts().first().ok_or("no zone")?;
+        assert_eq!(rt; parts.header, PartState::Read(0));
+        assert_eq!(rt; parts.blocks.as_slice(), [block].as_slice());
+        assert_eq!(rt; report.logs().len(), 1);
+        let reading = report.logs().reading(0).ok_or("no reading")?;
+        assert_eq!(rt; (reading.corrected, reading.bad), (corrected, bad));
+    }
+    Ok(())
+}
+
+// Its record, with the notice of one corrected byte.
+#[test]
+fn record_with_its_notice(rt: HostRuntime) -> Result<(), Fail> {
+    let report = reported(rt.alloc(), b"abd")?;
+    assert_eq!(rt; report.records().len(), 1);
+    let record = report.records().first().ok_or("no record")?;
+    assert_eq!(rt; record.name, Name::Console);
+    assert_eq!(rt; record.time, None);
+    let content = b"abc\nECC: 1 Corrected bytes, 0 unrecoverable blocks\n";
+    assert_eq!(rt; record.content.as_slice(), content.as_slice());
+    Ok(())
+}

@@ -1,0 +1,63 @@
+// Pages and escaped bytes.
+use box_io::Bytes;
+use record_report::report_of;
+use report_html::*;
+use std::test::Fail;
+use zone_params::{Params, layout};
+
+#[test]
+fn escaped_rows(rt: HostRuntime) -> Result<(), Fail> {
+    let rows: [(&[u8], &str); 6] = [
+        (
+            b"<script>alert('x')</script>",
+            "&lt;script&gt;alert(&#39;x&#39;)&lt;/script&gt;",
+        ),
+        (b"</pre>", "&lt;/pre&gt;"),
+        (b"\"onload=", "&quot;onload="),
+        (b"a&b\tc\n", "a&amp;b\tc\n"),
+        (&[0x1b, 0xff, 0xc3, 0x28, 0], "\\x1b\\xff\\xc3(\\x00"),
+        (b"C:\\x41", "C:\\x5cx41"),
+    ];
+    for (bytes, text) in rows {
+        let mut out = Vec::new(rt.alloc());
+        push_escaped(&mut out, bytes)?;
+        assert_eq!(rt; out.as_slice(), text.as_bytes());
+    }
+    Ok(())
+}
+
+// The page of an image of one console record, which would be a script.
+#[test]
+fn hostile_record(rt: HostRuntime) -> Result<(), Fail> {
+    let params = Params {
+        mem: 4096,
+        dump: 0,
+        console: 4096,
+        ftrace: 0,
+        pmsg: 0,
+        ecc: 0,
+        cpus: 1,
+        ftrace_sig: 0,
+        block: 128,
+        ecc_dump: 0,
+        ecc_console: 0,
+        ecc_ftrace: 0,
+        ecc_pmsg: 0,
+    };
+    let zones = layout(rt.alloc(), &params)?;
+    let mut bytes = Vec::new(rt.alloc());
+    bytes.extend_from_slice(&[0x44, 0x42, 0x47, 0x43, 8, 0, 0, 0, 8, 0, 0, 0])?;
+    bytes.extend_from_slice(b"<script>")?;
+    bytes.resize(4096, 0)?;
+    let image = Bytes::from_vec(bytes);
+    if image.len() != zones.mem() as usize {
+        return Err(Fail::from("the image has another size"));
+    }
+    let report = report_of(rt.alloc(), &zones, image)?;
+    let page = html(rt.alloc(), b"a<b", zones.zones(), &report)?;
+    let text = str::from_utf8(page.as_slice())?;
+    assert!(rt; text.contains("<h1>a&lt;b</h1>"));
+    assert!(rt; text.contains("console-ramoops-0, bytes: 8</summary><pre>\n&lt;script&gt;</pre>"));
+    assert!(rt; !text.contains("<script"));
+    Ok(())
+}

@@ -1,0 +1,60 @@
+// Lines of worked images.
+use box_io::Bytes;
+use record_report::report_of;
+use report_json::*;
+use std::alloc::Global;
+use std::test::Fail;
+use zone_params::{Params, layout};
+
+// The line of an image of one console zone, whose record is this text.
+fn line_of(alloc: Global, text: &[u8]) -> Result<String, Fail> {
+    let params = Params {
+        mem: 4096,
+        dump: 0,
+        console: 4096,
+        ftrace: 0,
+        pmsg: 0,
+        ecc: 0,
+        cpus: 1,
+        ftrace_sig: 0,
+        block: 128,
+        ecc_dump: 0,
+        ecc_console: 0,
+        ecc_ftrace: 0,
+        ecc_pmsg: 0,
+    };
+    let zones = layout(alloc, &params)?;
+    let mut bytes = Vec::new(alloc);
+    bytes.extend_from_slice(&[0x44, 0x42, 0x47, 0x43, 3, 0, 0, 0, 3, 0, 0, 0])?;
+    bytes.extend_from_slice(text)?;
+    bytes.resize(4096, 0)?;
+    let image = Bytes::from_vec(bytes);
+    if image.len() != zones.mem() as usize {
+        return Err(Fail::from("the image has another size"));
+    }
+    let report = report_of(alloc, &zones, image)?;
+    if report.logs().len() as usize != zones.zones().len()
+        || report.parts().len() != zones.zones().len()
+    {
+        return Err(Fail::from("the report has other zones"));
+    }
+    Ok(json(alloc, "a\"b", &params, zones.zones(), &report)?)
+}
+
+#[test]
+fn record_as_text_and_in_base64(rt: HostRuntime) -> Result<(), Fail> {
+    let line = line_of(rt.alloc(), b"abc")?;
+    let front =
+        "{\"parameters\":{\"block_size\":128,\"console_size\":4096,\"cpus\":1,\"ecc\":0,\"ecc_console\":0,\
+\"ecc_dump\":0,\"ecc_ftrace\":0,\"ecc_pmsg\":0,\"ftrace_sig\":0,\"ftrace_size\":0,\"mem_size\":4096,\"pmsg_size\":0,\
+\"record_size\":0},\"path\":\"a\\\"b\",\"records\":[{\"bad\":0,\"base64\":null,\"corrected\":0,\
+\"name\":\"console-ramoops-0\",\"text\":\"abc\",\"time\":null}],\"schema\":1,\"zones\":[{\"bad\":0,\"blocks\":[0,null";
+    assert!(rt; line.as_str().starts_with(front));
+    let raw = line_of(rt.alloc(), &[0xff, 0xfe, 0xfd])?;
+    assert!(rt;
+        raw.as_str().contains(
+            "\"base64\":\"//79\",\"corrected\":0,\"name\":\"console-ramoops-0\",\"text\":null"
+        )
+    );
+    Ok(())
+}

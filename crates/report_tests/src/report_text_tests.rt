@@ -1,0 +1,106 @@
+// Texts of worked images, and dates in them.
+use box_io::Bytes;
+use record_report::report_of;
+use report_text::text;
+use std::alloc::Global;
+use std::test::Fail;
+use zone_params::{Params, layout};
+
+// A dump of 4096 bytes, and a console.
+const PARAMS: Params = Params {
+    mem: 8192,
+    dump: 4096,
+    console: 4096,
+    ftrace: 0,
+    pmsg: 0,
+    ecc: 0,
+    cpus: 1,
+    ftrace_sig: 0,
+    block: 128,
+    ecc_dump: 0,
+    ecc_console: 0,
+    ecc_ftrace: 0,
+    ecc_pmsg: 0,
+};
+
+const TEXT: &str = "a\\x1bb
+zones 2, records 2
+
+zone          state        place     size      start       used corrected   bad
+dump        0 found            0     4096         38         38         0     0
+console     0 found         4096     4096         15         15         0     0
+
+     bytes  time                            record
+        14  2025-11-27 00:04:18.836908 UTC  dmesg-ramoops-0
+        15                                  console-ramoops-0
+
+last lines of the newest dump
+  Panic#1 Part1
+
+last lines of the console
+  \\x1b[31mred
+  one\\x5c\\xff
+";
+
+// The text of the two zones, with this time line and an escape sequence in the console.
+fn shown(alloc: Global, line: &[u8]) -> Result<Bytes, Fail> {
+    let used = u8::try_from(line.len().saturating_add(14))?;
+    let mut bytes = Vec::new(alloc);
+    bytes.extend_from_slice(&[0x44, 0x42, 0x47, 0x43, used, 0, 0, 0, used, 0, 0, 0])?;
+    bytes.extend_from_slice(line)?;
+    bytes.extend_from_slice(b"Panic#1 Part1\n")?;
+    bytes.resize(4096, 0)?;
+    bytes.extend_from_slice(&[0x44, 0x42, 0x47, 0x43, 15, 0, 0, 0, 15, 0, 0, 0])?;
+    bytes.extend_from_slice(b"\x1b[31mred\none\\\xff\n")?;
+    bytes.resize(8192, 0)?;
+    let zones = layout(alloc, &PARAMS)?;
+    let image = Bytes::from_vec(bytes);
+    if image.len() != zones.mem() as usize {
+        return Err(Fail::from("the image has another size"));
+    }
+    let report = report_of(alloc, &zones, image)?;
+    Ok(text(alloc, b"a\x1bb", zones.zones(), &report)?)
+}
+
+#[test]
+fn two_records(rt: HostRuntime) -> Result<(), Fail> {
+    let text = shown(rt.alloc(), b"====1764201858.836908-D\n")?;
+    assert_eq!(rt; str::from_utf8(text.as_slice())?, TEXT);
+    Ok(())
+}
+
+#[test]
+fn a_compressed_dump(rt: HostRuntime) -> Result<(), Fail> {
+    let text = shown(rt.alloc(), b"====1764201858.836908-C\n")?;
+    let text = str::from_utf8(text.as_slice())?;
+    assert!(rt; text.contains("dmesg-ramoops-0.enc.z\n"));
+    assert!(rt; text.contains("last lines of the newest dump\n  (compressed)\n"));
+    Ok(())
+}
+
+// Time lines, and the date of each.
+const DATES: &[(&[u8], &str)] = &[
+    (b"====0.5-D\n", "1970-01-01 00:00:00.000005 UTC"),
+    (
+        b"====951827696.999999999-D\n",
+        "2000-02-29 12:34:56.999999999 UTC",
+    ),
+    (b"====253402300800.0-D\n", "253402300800.000000 s"),
+    (
+        b"====9223372036854775807.0-D\n",
+        "9223372036854775807.000000 s",
+    ),
+];
+
+#[test]
+fn dates(rt: HostRuntime) -> Result<(), Fail> {
+    for (line, date) in DATES.iter().copied() {
+        let text = shown(rt.alloc(), line)?;
+        let row = format!(in rt.alloc(); "        14  {date}  dmesg-ramoops-0\n")?;
+        assert!(rt;
+            str::from_utf8(text.as_slice())?.contains(row.as_str()),
+            "{date}"
+        );
+    }
+    Ok(())
+}

@@ -1,0 +1,179 @@
+// Worked images, reported and saved.
+ghost use Rattle.std.specs.Prelude.{None};
+
+use box_io::{Bytes, Calls, Failed, MemSink, MemStore};
+use grammar_spec::ParamFault;
+use report_tool::*;
+use std::alloc::Global;
+use std::test::Fail;
+use zone_spec::LayoutFault;
+
+// The words of a layout of a console alone.
+fn console(alloc: Global, mem: &str) -> Result<Vec<String>, Fail> {
+    let mut words = Vec::new(alloc);
+    for word in [mem, "record_size=0", "ftrace_size=0", "pmsg_size=0"] {
+        words.push(String::from_str(alloc, word)?)?;
+    }
+    Ok(words)
+}
+
+// A store with the console's header, three bytes of log, and zeros.
+fn store(alloc: Global, len: usize) -> Result<MemStore, Fail> {
+    let mut bytes = Vec::new(alloc);
+    bytes.extend_from_slice(&[0x44, 0x42, 0x47, 0x43, 3, 0, 0, 0, 3, 0, 0, 0, 97, 60, 10])?;
+    bytes.resize(len, 0)?;
+    let fails = Calls::new(alloc, &[])?;
+    let bytes = Bytes::from_vec(bytes);
+    if bytes.len() > 8192 {
+        return Err(Fail::from("the image is too long"));
+    }
+    Ok(MemStore::new(bytes, 8192, fails)?)
+}
+
+// The report of a store of so many bytes, in a format.
+fn reported(alloc: Global, format: Format, len: usize) -> Result<Result<Vec<u8>, Stop>, Fail> {
+    let words = console(alloc, "mem_size=4096")?;
+    let Ok(plan) = Plan::new(alloc, &words, false) else {
+        return Err(Fail::from("the words have a layout"));
+    };
+    let mut image = store(alloc, len)?;
+    let mut out = MemSink::new(alloc, 65536, Calls::new(alloc, &[])?)?;
+    match report(alloc, &plan, format, "a.img", &mut image, &mut out) {
+        Ok(_) => Ok(Ok(Vec::from_slice(alloc, out.bytes())?)),
+        Err(stop) => Ok(Err(stop)),
+    }
+}
+
+#[test]
+fn each_format(rt: HostRuntime) -> Result<(), Fail> {
+    for (format, front, piece) in [
+        (
+            Format::Text,
+            "a.img\nzones 1, records 1\n",
+            "console-ramoops-0\n",
+        ),
+        (
+            Format::Json,
+            "{\"parameters\":{\"block_size\":128,",
+            "\"text\":\"a<\\n\"",
+        ),
+        (
+            Format::Html,
+            "<!doctype html>\n<html lang=\"en\">\n",
+            "<pre>\na&lt;\n</pre>",
+        ),
+    ] {
+        let Ok(shown) = reported(rt.alloc(), format, 4096)? else {
+            return Err(Fail::from("the image was reported"));
+        };
+        let shown = str::from_utf8(&shown)?;
+        assert!(rt; shown.starts_with(front));
+        assert!(rt; shown.contains(piece));
+    }
+    Ok(())
+}
+
+#[test]
+fn a_short_image(rt: HostRuntime) -> Result<(), Fail> {
+    let stop = reported(rt.alloc(), Format::Json, 4095)?.err();
+    assert_eq!(rt;
+        stop,
+        Some(Stop::Short {
+            has: 4095,
+            needed: 4096
+        })
+    );
+    Ok(())
+}
+
+#[test]
+fn plans(rt: HostRuntime) -> Result<(), Fail> {
+    for (mem, is_as_given, fault) in [
+        ("mem_size=4096", false, None),
+        ("mem_size=6000", false, None),
+        ("mem_size=6000", true, None),
+        (
+            "mem_size=0",
+            false,
+            Some(PlanFault::Layout(LayoutFault::NoMemory)),
+        ),
+        (
+            "mem_size=0",
+            true,
+            Some(PlanFault::Layout(LayoutFault::NoMemory)),
+        ),
+        (
+            "mem_size=x",
+            true,
+            Some(PlanFault::Word(ParamFault::NotANumber(0))),
+        ),
+        (
+            "pmsg_size=1",
+            true,
+            Some(PlanFault::Word(ParamFault::Twice(3))),
+        ),
+    ] {
+        let words = console(rt.alloc(), mem)?;
+        let plan = Plan::new(rt.alloc(), &words, is_as_given);
+        assert_eq!(rt; plan.err(), fault, "of {mem}");
+    }
+    Ok(())
+}
+
+// A folder that writes down what it is told to make, and fails at the call after the last that it is to do.
+#[derive(Drop)]
+struct Seen {
+    files: Vec<u8>,
+    left: u32,
+    faults: u64,
+}
+
+impl Folder for Seen {
+    ghost made = { λ _. None };
+
+    ghost faults = { λ s. s.faults };
+
+    fn make(&mut self, name: &str, content: &[u8]) -> Result<(), Failed> {
+        if self.left == 0
+            || self.files.extend_from_slice(name.as_bytes()).is_err()
+            || self.files.push(b'=').is_err()
+            || self.files.extend_from_slice(content).is_err()
+        {
+            self.faults = self.faults.saturating_add(1);
+            return Err(Failed);
+        }
+        self.left -= 1;
+        Ok(())
+    }
+}
+
+// What a folder of so many files is told to make of the report.
+fn saved(alloc: Global, left: u32) -> Result<(Vec<u8>, bool), Fail> {
+    let words = console(alloc, "mem_size=4096")?;
+    let Ok(plan) = Plan::new(alloc, &words, false) else {
+        return Err(Fail::from("the words have a layout"));
+    };
+    let mut image = store(alloc, 4096)?;
+    let mut out = MemSink::new(alloc, 65536, Calls::new(alloc, &[])?)?;
+    let Ok(report) = report(alloc, &plan, Format::Text, "a.img", &mut image, &mut out) else {
+        return Err(Fail::from("the image was reported"));
+    };
+    let mut folder = Seen {
+        files: Vec::new(alloc),
+        left,
+        faults: 0,
+    };
+    let is_saved = save(&mut folder, &report).is_ok();
+    Ok((folder.files, is_saved))
+}
+
+#[test]
+fn records_as_files(rt: HostRuntime) -> Result<(), Fail> {
+    let (files, is_saved) = saved(rt.alloc(), 9)?;
+    assert!(rt; is_saved);
+    assert_eq!(rt; files.as_slice(), b"console-ramoops-0=a<\n".as_slice());
+    let (files, is_saved) = saved(rt.alloc(), 0)?;
+    assert!(rt; !is_saved);
+    assert!(rt; files.is_empty());
+    Ok(())
+}

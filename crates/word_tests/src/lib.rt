@@ -1,0 +1,15 @@
+//! Tests of words and lines, a module for each crate: parameters, layouts and scripts.
+#![tactic(auto)]
+
+#[cfg(test)]
+mod box_io_tests;
+#[cfg(test)]
+mod box_script_tests;
+#[cfg(test)]
+mod kernel_layout_tests;
+#[cfg(test)]
+mod param_words_tests;
+#[cfg(test)]
+mod report_words_tests;
+#[cfg(test)]
+mod zone_params_tests;

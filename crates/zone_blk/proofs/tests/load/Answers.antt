@@ -1,4 +1,0 @@
-use Rattle.zone_blk.proofs.tests.load.Goals as goal
-
-pub returns-clause-room : goal.returns-clause-room
-returns-clause-room c = c.load.ensures.room 16384 c.requires.room

@@ -1,0 +1,17 @@
+//! Tests of one zone, a module for each crate: its region, parts, calls, readings and records.
+#![tactic(auto)]
+
+#[cfg(test)]
+mod block_ecc_tests;
+#[cfg(test)]
+mod dump_records_tests;
+#[cfg(test)]
+mod ftrace_zone_tests;
+#[cfg(test)]
+mod old_log_tests;
+#[cfg(test)]
+mod ram_region_tests;
+#[cfg(test)]
+mod ring_header_tests;
+#[cfg(test)]
+mod zone_flight_tests;
