@@ -1,12 +1,24 @@
 // The plan that the words of the command line ask for.
-use anyhow::{Context, Result, anyhow};
+use anyhow::{Context, anyhow};
 use clap::ArgMatches;
 use grammar_spec::ParamFault;
 use report_tool::{Plan, PlanFault};
 use report_words::{add_layout_words, add_tag, ftrace_tag};
-use std::alloc::Global;
+use std::alloc::{AllocError, Global};
 use std::fs;
 use std::rt::Runtime;
+
+/// Why there is no plan: a want of memory, or what is wrong with the words.
+pub enum NoPlan {
+    Memory,
+    Words(anyhow::Error),
+}
+
+impl From<AllocError> for NoPlan {
+    fn from(_: AllocError) -> NoPlan {
+        NoPlan::Memory
+    }
+}
 
 // The words of a kernel's command line, given as text or in a file.
 fn add_cmdline<R: Runtime>(
@@ -14,25 +26,36 @@ fn add_cmdline<R: Runtime>(
     alloc: Global,
     words: &mut Vec<String>,
     matches: &ArgMatches<'_>,
-) -> Result<()> {
+) -> Result<(), NoPlan> {
     if let Some(text) = matches.get_str("cmdline") {
         add_layout_words(alloc, words, text.trim())?;
     }
     if let Some(path) = matches.get_str("cmdline-file") {
-        let text = fs::read_to_string(rt, path).context(format_args!("{path}"))?;
+        let text = fs::read_to_string(rt, path)
+            .context(format_args!("{path}"))
+            .map_err(NoPlan::Words)?;
         add_layout_words(alloc, words, text.as_str().trim())?;
     }
     Ok(())
 }
 
-fn add_params(alloc: Global, words: &mut Vec<String>, matches: &ArgMatches<'_>) -> Result<()> {
+fn add_params(
+    alloc: Global,
+    words: &mut Vec<String>,
+    matches: &ArgMatches<'_>,
+) -> Result<(), NoPlan> {
     for word in matches.get_strs("param").unwrap_or(&[]) {
-        words.push(String::from_str(alloc, word)?)?;
+        words
+            .push(String::from_str(alloc, word)?)
+            .map_err(AllocError::from)?;
     }
     if let Some(version) = matches.get_str("kernel") {
         match ftrace_tag(version) {
             Some(tag) => add_tag(alloc, words, tag)?,
-            None => return Err(anyhow!("--kernel {version} is no version X.Y or X.Y.Z")),
+            None => {
+                let fault = anyhow!("--kernel {version} is no version X.Y or X.Y.Z");
+                return Err(NoPlan::Words(fault));
+            }
         }
     }
     Ok(())
@@ -52,14 +75,15 @@ fn told(words: &[String], fault: ParamFault) -> anyhow::Error {
 }
 
 /// The plan by which the images are read.
-pub fn plan<R: Runtime>(rt: &R, alloc: Global, matches: &ArgMatches<'_>) -> Result<Plan> {
+pub fn plan<R: Runtime>(rt: &R, alloc: Global, matches: &ArgMatches<'_>) -> Result<Plan, NoPlan> {
     let mut words = Vec::new(alloc);
     add_cmdline(rt, alloc, &mut words, matches)?;
     add_params(alloc, &mut words, matches)?;
-    match Plan::new(alloc, &words, matches.get_flag("mem-as-given")) {
-        Ok(plan) => Ok(plan),
-        Err(PlanFault::Memory) => Err(anyhow!("out of memory")),
-        Err(PlanFault::Word(fault)) => Err(told(&words, fault)),
-        Err(PlanFault::Layout(fault)) => Err(anyhow!("layout fault {}: {fault}", fault.number())),
-    }
+    Plan::new(alloc, &words, matches.get_flag("mem-as-given")).map_err(|fault| match fault {
+        PlanFault::Memory => NoPlan::Memory,
+        PlanFault::Word(fault) => NoPlan::Words(told(&words, fault)),
+        PlanFault::Layout(fault) => {
+            NoPlan::Words(anyhow!("layout fault {}: {fault}", fault.number()))
+        }
+    })
 }

@@ -11,9 +11,9 @@ use clap::ArgMatches;
 use clap::error::ErrorKind;
 use command::command;
 use folder::Dir;
-use layout::plan;
+use layout::{NoPlan, plan};
 use report_tool::{Format, Plan, Stop, report, save};
-use std::alloc::Global;
+use std::alloc::{AllocError, Global};
 use std::io::IsTerminal;
 use std::process::ExitCode;
 use std::rt::Runtime;
@@ -39,7 +39,7 @@ fn told(stop: Stop) -> anyhow::Error {
         Stop::Short { has, needed } => anyhow!("it has {has} bytes, and the layout needs {needed}"),
         Stop::ImageFault => anyhow!("it could not be read"),
         Stop::SinkFault => anyhow!("standard output could not be written"),
-        _ => anyhow!("out of memory"),
+        _ => AllocError.into(),
     }
 }
 
@@ -119,7 +119,8 @@ fn run<R: Runtime>(rt: &R, alloc: Global, words: &[String], shows_progress: bool
     }
     match plan(rt, alloc, &matches) {
         Ok(plan) => all_images(rt, alloc, &plan, &matches, shows_progress),
-        Err(e) => {
+        Err(NoPlan::Memory) => Err(AllocError.into()),
+        Err(NoPlan::Words(e)) => {
             eprintln!(rt; "error: {e:#}")?;
             Ok(WRONG_WORDS)
         }

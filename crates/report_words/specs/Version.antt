@@ -26,6 +26,10 @@ abbrev pub release_code : Option (List ℕ × List ℕ) → Option ℕ
 release_code None = None
 release_code (Some parts) = minor_code parts.0 parts.1 (split_at 46 parts.1)
 
--- X.Y or X.Y.Z; what stands behind the first `-` is the builder's
+-- what stands behind the first `-` is the builder's, and so is what stands behind a `+` before it
+abbrev pub release_of : List ℕ → List ℕ
+release_of version = before_first (λ c. c == 43) (before_first (λ c. c == 45) version)
+
+-- X.Y or X.Y.Z
 unfoldable pub tag_of : List ℕ → Option ℕ
-tag_of version = release_code (split_at 46 (before_first (λ c. c == 45) version))
+tag_of version = release_code (split_at 46 (release_of version))

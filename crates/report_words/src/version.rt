@@ -4,7 +4,7 @@ ghost use Rattle.std.specs.List.{before_first};
 ghost use Rattle.std.specs.Option.{option_map};
 ghost use Rattle.grammar_spec.specs.Numbers.{number_of};
 ghost use Rattle.grammar_spec.specs.Words.{texts};
-ghost use Rattle.report_words.specs.Version.{version_code, code_of, split_at, tag_of};
+ghost use Rattle.report_words.specs.Version.{version_code, code_of, split_at, release_of, tag_of};
 
 use param_words::number;
 use std::alloc::{AllocError, Global};
@@ -33,19 +33,29 @@ fn split_at_point(text: &str) -> Option<(&str, &str)>
     text.split_once('.')
 }
 
-// What stands before the first `-`, or all of the version.
+// What stands before the first `+`, or all of the text.
+fn before_plus(text: &str) -> &str
+    ensures { result.now ≡ before_first (λ c. c == 43) text.now }
+{
+    match text.split_once('+') {
+        Some((front, _)) => front,
+        None => text,
+    }
+}
+
+// The version without what its builder added.
 fn release(version: &str) -> &str
-    ensures { result.now ≡ before_first (λ c. c == 45) version.now }
+    ensures { result.now ≡ release_of version.now }
 {
     match version.split_once('-') {
-        Some((release, _)) => release,
-        None => version,
+        Some((release, _)) => before_plus(release),
+        None => before_plus(version),
     }
 }
 
 /// The tag of the ftrace zones that a kernel of this version writes (`fs/pstore/ram.c`, `ramoops_probe`:
 /// `LINUX_VERSION_CODE`), or `None` where the text is no version. A version is `X.Y` or `X.Y.Z`, as `uname -r` prints
-/// it; what stands behind the first `-` is the builder's. X and Y are below 256.
+/// it; what stands behind the first `-` or `+` is the builder's. X and Y are below 256.
 pub fn ftrace_tag(version: &str) -> Option<u32>
     ensures { result ≡ tag_of version.now }
 {
