@@ -50,7 +50,7 @@ use Rattle.tool_spec.specs.declared.Cause.{Cause}
 use Rattle.tool_spec.specs.declared.Stop.{Stop}
 use Rattle.tool_spec.specs.declared.Stop.TheVariants.{TooLong, NoSharedZone}
 use Rattle.tool_frame.proofs.Play.{text_at}
-use Rattle.tool_frame.proofs.Script.{run_wanted}
+use Rattle.image_tool.proofs.ScriptEnds.{run_wanted}
 use Rattle.tool_laws.proofs.Sound.{states_sound}
 use Rattle.crash_laws.specs.Listings.{LaterBootListsCrash}
 use Rattle.crash_laws.proofs.Scripts.{left_fields}

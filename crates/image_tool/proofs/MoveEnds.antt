@@ -13,10 +13,11 @@ use Rattle.tool_spec.specs.Commands.{MovePlan, OfMove, laid_mem, after_boot, sto
 use Rattle.tool_spec.specs.Answers.{Outside, IfHolds, NoScript}
 use Rattle.tool_spec.specs.PlanAnswers.{statuses}
 use Rattle.tool_spec.specs.declared.Stop.{Stop}
-use Rattle.tool_spec.specs.declared.Stop.TheVariants.{Memory, Usage, Param, Layout, NoSharedZone, Short, ScriptFault, ImageFault, SinkFault, TooLong, BadLine, Refused}
+use Rattle.tool_spec.specs.declared.Stop.TheVariants.{Memory, Short, ImageFault, SinkFault}
 use Rattle.tool_frame.specs.Stages.{LoadStop}
 use Rattle.tool_frame.specs.Ended.{Ended, ImageEnds}
 use Rattle.tool_frame.proofs.Script.{Quiet, quiet_memory, put_nothing, ended_as, nat_lt-true, nat_lt-false}
+use Rattle.tool_frame.proofs.StageStops.{load_stops}
 use Rattle.image_tool.specs.Records.{SavedFrom}
 
 abbrev pub MoveEnds : MovePlan → Outside → Outside → End → Type 0
@@ -41,30 +42,22 @@ stop_short plan a b has needed q h = record {
 
 pub move_unread : (plan : MovePlan) (a b : Outside) (s : Stop) (f g : ℕ) → NoScript a b → Quiet a b
     → LoadStop s (laid_mem plan.from) a.holds f g → MoveEnds plan a b (Err s)
-move_unread plan a b Memory f g none q h = record {
-  can = refl;
-  whole = record { told = λ bytes t. quiet_memory (wanted_move plan bytes) a b q };
-  script = none;
-}
-move_unread plan a b ImageFault f g none q h = record {
-  can = refl;
-  whole = record { told = λ bytes t. inl (q.given, q.holds) };
-  script = none;
-}
-move_unread plan a b (Short has needed) f g none q h = record {
-  can = refl;
-  whole = stop_short plan a b has needed q h;
-  script = none;
-}
-move_unread plan a b Usage f g none q h = absurd h
-move_unread plan a b (Param x y) f g none q h = absurd h
-move_unread plan a b (Layout x) f g none q h = absurd h
-move_unread plan a b NoSharedZone f g none q h = absurd h
-move_unread plan a b ScriptFault f g none q h = absurd h
-move_unread plan a b SinkFault f g none q h = absurd h
-move_unread plan a b TooLong f g none q h = absurd h
-move_unread plan a b (BadLine x) f g none q h = absurd h
-move_unread plan a b (Refused x y) f g none q h = absurd h
+move_unread plan a b s f g none q h = load_stops (λ t. MoveEnds plan a b (Err t)) (laid_mem plan.from) a.holds f g
+    (record {
+      can = refl;
+      whole = record { told = λ bytes t. quiet_memory (wanted_move plan bytes) a b q };
+      script = none;
+    })
+    (λ rose. record {
+      can = refl;
+      whole = record { told = λ bytes t. inl (q.given, q.holds) };
+      script = none;
+    })
+    (λ has needed size. record {
+      can = refl;
+      whole = stop_short plan a b has needed q size;
+      script = none;
+    }) s h
 
 -- ---- an image that was read
 

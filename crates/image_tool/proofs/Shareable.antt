@@ -30,6 +30,7 @@ use Rattle.session_spec.specs.Stop.{stopped, live_image}
 use Rattle.session_spec.specs.Operations.{Boot, Stop as StopStore}
 use Rattle.session_spec.specs.Sound.{IsState, IsLiveZone}
 use Rattle.session_laws.proofs.Operations.{fresh_is_sound, operations_keep_states_sound}
+use Rattle.crash_laws.proofs.Stops.{zone_in}
 use Rattle.shared_spec.specs.Machine.{CanShare}
 use Rattle.shared_spec.specs.Histories.{History, CanOpen, shared_zone, image_left}
 use Rattle.tool_spec.specs.Commands.{after_boot, wanted_shared_lines, wanted_ran, stops}
@@ -162,43 +163,6 @@ module _ (p : Params) (zones : List Zone) (laid : layout_of p ≡ Ok zones) (pla
       (rows_place shared_name (rows p), here.0, here.1)
 
 -- ---- the zone stands in the image
-
-front_of : (xs ys : List ℕ) (n : ℕ) → n ≡ length xs → take n (xs ++ ys) ≡ xs
-front_of [] ys n e = ap (λ (k : ℕ). take k ys) e
-front_of (x ∷ xs) ys n e =
-    ap (λ (k : ℕ). take k (x ∷ (xs ++ ys))) e ∙ ap (λ (us : List ℕ). x ∷ us) (front_of xs ys (length xs) refl)
-
-behind_of : (xs ys : List ℕ) (m n : ℕ) → m ≡ length xs + n → drop m (xs ++ ys) ≡ drop n ys
-behind_of [] ys m n e = let same : m ≡ n = omega arith in ap (λ (k : ℕ). drop k ys) same
-behind_of (x ∷ xs) ys m n e =
-    let same : m ≡ suc (length xs + n) = omega arith in
-    ap (λ (k : ℕ). drop k (x ∷ (xs ++ ys))) same ∙ behind_of xs ys (length xs + n) n refl
-
-zone_in : (layout : List Zone) (zones : List LiveZone) (rest : List ℕ) (i : ℕ) (z : Zone) (v : LiveZone)
-    → ((j : ℕ) (y : Zone) (w : LiveZone) → slice_get layout j ≡ Some y → slice_get zones j ≡ Some w
-    → length w.image ≡ y.size) → slice_get layout i ≡ Some z → slice_get zones i ≡ Some v
-    → take z.size (drop (zones_end (take i layout)) (flat_map (λ (zone : LiveZone). zone.image) zones ++ rest))
-    ≡ v.image
-zone_in [] zones rest i z v each hz hv = absurd (cc)
-zone_in (y ∷ ys) [] rest i z v each hz hv = absurd (cc)
-zone_in (y ∷ ys) (w ∷ ws) rest zero z v each hz hv =
-    let a : y ≡ z = cc in
-    let b : w ≡ v = cc in
-    let more = flat_map (λ (zone : LiveZone). zone.image) ws in
-    let size : z.size ≡ length w.image = ap (λ (u : Zone). u.size) (sym a) ∙ sym (each 0 y w refl refl) in
-    ap (λ (xs : List ℕ). take z.size xs) (append_assoc w.image more rest)
-    ∙ front_of w.image (more ++ rest) z.size size ∙ ap (λ (u : LiveZone). u.image) b
-zone_in (y ∷ ys) (w ∷ ws) rest (suc i) z v each hz hv =
-    let more = flat_map (λ (zone : LiveZone). zone.image) ws in
-    let here : length w.image ≡ y.size = each 0 y w refl refl in
-    let from : zones_end (take (suc i) (y ∷ ys)) ≡ length w.image + zones_end (take i ys) =
-    omega (arith, here, sum_by-cons (λ (u : Zone). u.size) y (take i ys)) in
-    ap (λ (xs : List ℕ). take z.size (drop (zones_end (take (suc i) (y ∷ ys))) xs)) (append_assoc w.image more rest)
-    ∙ ap (λ (xs : List ℕ). take z.size xs) (behind_of w.image (more ++ rest)
-    (zones_end (take (suc i) (y ∷ ys))) (zones_end (take i ys)) from)
-    ∙ zone_in ys ws rest i z v (λ j u x p q. each (suc j) u x p q) hz hv
-
--- a byte outside a zone is none of its bytes
 
 open_unless : (kind : Kind) (w : Words) (cap : ℕ) → kind ≡ Ftrace → IsOpenUnlessDump kind w cap → IsOpen w cap
 open_unless Ftrace w cap e h = h

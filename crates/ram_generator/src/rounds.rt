@@ -69,11 +69,8 @@ fn leave_out(zones: &mut Vec<Zone>, name: Option<ZoneName>)
     let Some(name) = name else {
         return;
     };
-    match place(zones, name) {
-        Some(i) => {
-            let _zone = zones.remove(i);
-        }
-        None => {}
+    if let Some(i) = place(zones, name) {
+        zones.remove(i);
     }
 }
 

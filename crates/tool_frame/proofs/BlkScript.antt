@@ -1,5 +1,7 @@
 -- How the stages of a script on the block store end its work
-use Rattle.std.proofs.Common.{◌≡◌, ℕ, ◌<◌, ◌≤◌, List, [], length, Option, Some, Result, Ok, Err, IfSome, refl, sym, ◌∙◌, arith, inl, inr, IsOk}
+use Rattle.std.proofs.Common.{◌≡◌, ℕ, ◌<◌, ◌≤◌, List, [], length, Option, Some, Result, Ok, Err, IfSome, refl, sym, ◌∙◌, arith, inl, inr}
+use Rattle.std.specs.Bool.{⊤}
+use Rattle.box_io.specs.Outside.{Rose}
 use Rattle.blk_spec.specs.declared.BlkLayout.{BlkLayout}
 use Rattle.grammar_spec.specs.Lines.{script_of}
 use Rattle.grammar_spec.specs.declared.line.Line.{Line}
@@ -7,12 +9,15 @@ use Rattle.tool_spec.specs.Ends.{End}
 use Rattle.tool_spec.specs.Commands.{script_limit, stops}
 use Rattle.tool_spec.specs.Answers.{Outside, NoScript}
 use Rattle.tool_spec.specs.BlkAnswers.{blk_lines, lines_or_bad, LinesEnd}
+use Rattle.tool_spec.specs.declared.Cause.{Cause}
 use Rattle.tool_spec.specs.declared.Stop.{Stop}
 use Rattle.tool_spec.specs.declared.Stop.TheVariants.{Memory, Usage, Param, Layout, NoSharedZone, Short, ScriptFault, ImageFault, SinkFault, TooLong, BadLine, Refused}
 use Rattle.tool_frame.specs.Stages.{SizeStop, ScriptStop, ParseStop}
 use Rattle.tool_frame.specs.Ended.{CausedAt, ScriptEnds, LinesEnded, LinesOrStopEnded, KeptBefore, BlkEnds}
-use Rattle.tool_frame.proofs.ReadParts.{Read, read_of, room_of, unread_fault, unread_short, read_memory, read_fault, read_long, read_bad, read_unput, read_unsaved, read_refused, read_done}
+use Rattle.tool_frame.proofs.ReadParts.{Read, read_of, room_of, unread_memory, unread_fault, unread_short, read_memory, read_fault, read_long, read_bad, read_unput, read_unsaved, read_refused, read_done}
 use Rattle.tool_frame.proofs.Script.{Quiet, nat_lt-true, nat_lt-false, quiet_memory, put_nothing}
+use Rattle.tool_frame.proofs.StageStops.{load_stops, script_stops, parse_stops}
+use Rattle.tool_frame.proofs.Sizes.{size_load}
 use Rattle.tool_frame.specs.Playing.{BlkPlayCaused}
 
 -- ---- which lines are wanted
@@ -84,22 +89,18 @@ stop_short layout a b has needed none q h = record {
 -- the store's size was not told, or it is too short
 pub size_stopped : (layout : BlkLayout) (a b : Outside) (s : Stop) (f g : ℕ) → NoScript a b → Quiet a b
     → SizeStop s layout.total a.holds f g → BlkEnds layout a b (Err s)
-size_stopped layout a b ImageFault f g none q h = record {
-  whole = record { told = λ bytes script t l. image_lines layout bytes (blk_lines layout bytes script) a b q t };
-  read = unread_fault layout.total a b none;
-  kept = tt;
-}
-size_stopped layout a b (Short has needed) f g none q h = stop_short layout a b has needed none q h
-size_stopped layout a b Memory f g none q h = absurd h
-size_stopped layout a b Usage f g none q h = absurd h
-size_stopped layout a b (Param x y) f g none q h = absurd h
-size_stopped layout a b (Layout x) f g none q h = absurd h
-size_stopped layout a b NoSharedZone f g none q h = absurd h
-size_stopped layout a b ScriptFault f g none q h = absurd h
-size_stopped layout a b SinkFault f g none q h = absurd h
-size_stopped layout a b TooLong f g none q h = absurd h
-size_stopped layout a b (BadLine x) f g none q h = absurd h
-size_stopped layout a b (Refused x y) f g none q h = absurd h
+size_stopped layout a b s f g none q h = load_stops (λ t. BlkEnds layout a b (Err t)) layout.total a.holds f g
+    (record {
+      whole = record { told = λ bytes script t l. memory_lines layout bytes (blk_lines layout bytes script) a b q t };
+      read = unread_memory layout.total a b none;
+      kept = tt;
+    })
+    (λ rose. record {
+      whole = record { told = λ bytes script t l. image_lines layout bytes (blk_lines layout bytes script) a b q t };
+      read = unread_fault layout.total a b none;
+      kept = tt;
+    })
+    (λ has needed size. stop_short layout a b has needed none q size) s (size_load s layout.total a.holds f g h)
 
 -- what follows was done on a store with room
 module _ (layout : BlkLayout) (a b : Outside) (room : IfSome a.holds (λ bs. layout.total ≤ length bs)) where
@@ -125,22 +126,13 @@ module _ (layout : BlkLayout) (a b : Outside) (room : IfSome a.holds (λ bs. lay
 
   -- the script was not read
   pub script_stopped : (s : Stop) (f g : ℕ) → Quiet a b → ScriptStop s a.left f g → BlkEnds layout a b (Err s)
-  script_stopped Memory f g q h = memory_ended q
-  script_stopped ScriptFault f g q h = record {
-    whole = record { told = λ bytes script t l. script_lines layout bytes (blk_lines layout bytes script) a b q t };
-    read = read_fault layout.total a b room q.given;
-    kept = q.holds;
-  }
-  script_stopped TooLong f g q h = stop_long q h
-  script_stopped Usage f g q h = absurd h
-  script_stopped (Param x y) f g q h = absurd h
-  script_stopped (Layout x) f g q h = absurd h
-  script_stopped NoSharedZone f g q h = absurd h
-  script_stopped (Short x y) f g q h = absurd h
-  script_stopped ImageFault f g q h = absurd h
-  script_stopped SinkFault f g q h = absurd h
-  script_stopped (BadLine x) f g q h = absurd h
-  script_stopped (Refused x y) f g q h = absurd h
+  script_stopped s f g q h = script_stops (λ t. BlkEnds layout a b (Err t)) a.left f g (memory_ended q)
+      (λ rose. record {
+        whole = record { told = λ bytes script t l. script_lines layout bytes (blk_lines layout bytes script) a b q t };
+        read = read_fault layout.total a b room q.given;
+        kept = q.holds;
+      })
+      (stop_long q) s h
 
   module _ (text : List ℕ) (read : Read a b text) where
     -- the lines of a script that was read
@@ -163,18 +155,8 @@ module _ (layout : BlkLayout) (a b : Outside) (room : IfSome a.holds (λ bs. lay
 
     -- the script has a bad line
     pub parse_stopped : (s : Stop) → Quiet a b → ParseStop s (script_of text) → BlkEnds layout a b (Err s)
-    parse_stopped Memory q h = memory_ended q
-    parse_stopped (BadLine n) q h = stop_bad n q h
-    parse_stopped Usage q h = absurd h
-    parse_stopped (Param x y) q h = absurd h
-    parse_stopped (Layout x) q h = absurd h
-    parse_stopped NoSharedZone q h = absurd h
-    parse_stopped (Short x y) q h = absurd h
-    parse_stopped ScriptFault q h = absurd h
-    parse_stopped ImageFault q h = absurd h
-    parse_stopped SinkFault q h = absurd h
-    parse_stopped TooLong q h = absurd h
-    parse_stopped (Refused x y) q h = absurd h
+    parse_stopped s q h = parse_stops (λ t. BlkEnds layout a b (Err t)) (script_of text) (memory_ended q)
+        (λ n. stop_bad n q) s h
 
 -- ---- lines
 
@@ -196,56 +178,43 @@ lines_played (Err ScriptFault) layout bytes lines a b p = absurd p.stops
 lines_played (Err TooLong) layout bytes lines a b p = absurd p.stops
 lines_played (Err (BadLine x)) layout bytes lines a b p = absurd p.stops
 
+-- the ends that lines have, and no others
+played_ends : (P : End → Type 0) (g g' h h' : ℕ) → ((u : ⊤) → P (Ok u)) → P (Err Memory)
+    → (Rose g g' → P (Err ImageFault)) → (Rose h h' → P (Err SinkFault))
+    → ((n : ℕ) (cause : Cause) → P (Err (Refused n cause))) → (e : End) → BlkPlayCaused e g g' h h' → P e
+played_ends P g g' h h' done memory image sink refused (Ok u) c = done u
+played_ends P g g' h h' done memory image sink refused (Err Memory) c = memory
+played_ends P g g' h h' done memory image sink refused (Err ImageFault) c = image c
+played_ends P g g' h h' done memory image sink refused (Err SinkFault) c = sink c
+played_ends P g g' h h' done memory image sink refused (Err (Refused n cause)) c = refused n cause
+played_ends P g g' h h' done memory image sink refused (Err Usage) c = absurd c
+played_ends P g g' h h' done memory image sink refused (Err (Param x y)) c = absurd c
+played_ends P g g' h h' done memory image sink refused (Err (Layout x)) c = absurd c
+played_ends P g g' h h' done memory image sink refused (Err NoSharedZone) c = absurd c
+played_ends P g g' h h' done memory image sink refused (Err (Short x y)) c = absurd c
+played_ends P g g' h h' done memory image sink refused (Err ScriptFault) c = absurd c
+played_ends P g g' h h' done memory image sink refused (Err TooLong) c = absurd c
+played_ends P g g' h h' done memory image sink refused (Err (BadLine x)) c = absurd c
+
 -- lines end no other way than after their reading
 module _ (mem : ℕ) (a b : Outside) (room : IfSome a.holds (λ bs. mem ≤ length bs)) (text : List ℕ)
     (read : Read a b text) (lines : List Line) (ok : script_of text ≡ Ok lines) where
   played_read : (e : End) (g g' h h' : ℕ) → BlkPlayCaused e g g' h h' → ScriptEnds mem a b e
-  played_read (Ok u) g g' h h' c = read_done mem a b room text read lines ok
-  played_read (Err Memory) g g' h h' c = read_memory mem a b room
-  played_read (Err ImageFault) g g' h h' c = read_unsaved mem a b room text read
-  played_read (Err SinkFault) g g' h h' c = read_unput mem a b room text read
-  played_read (Err (Refused n cause)) g g' h h' c = read_refused mem a b room text read lines ok n cause
-  played_read (Err Usage) g g' h h' c = absurd c
-  played_read (Err (Param x y)) g g' h h' c = absurd c
-  played_read (Err (Layout x)) g g' h h' c = absurd c
-  played_read (Err NoSharedZone) g g' h h' c = absurd c
-  played_read (Err (Short x y)) g g' h h' c = absurd c
-  played_read (Err ScriptFault) g g' h h' c = absurd c
-  played_read (Err TooLong) g g' h h' c = absurd c
-  played_read (Err (BadLine x)) g g' h h' c = absurd c
+  played_read e g g' h h' c = played_ends (λ d. ScriptEnds mem a b d) g g' h h'
+      (λ u. read_done mem a b room text read lines ok) (read_memory mem a b room)
+      (λ rose. read_unsaved mem a b room text read) (λ rose. read_unput mem a b room text read)
+      (λ n cause. read_refused mem a b room text read lines ok n cause) e c
 
 played_kept : (e : End) (g g' h h' : ℕ) (before now : Option (List ℕ)) → BlkPlayCaused e g g' h h'
     → KeptBefore before now e
-played_kept (Ok u) g g' h h' before now c = tt
-played_kept (Err Memory) g g' h h' before now c = tt
-played_kept (Err ImageFault) g g' h h' before now c = tt
-played_kept (Err SinkFault) g g' h h' before now c = tt
-played_kept (Err (Refused n cause)) g g' h h' before now c = tt
-played_kept (Err Usage) g g' h h' before now c = absurd c
-played_kept (Err (Param x y)) g g' h h' before now c = absurd c
-played_kept (Err (Layout x)) g g' h h' before now c = absurd c
-played_kept (Err NoSharedZone) g g' h h' before now c = absurd c
-played_kept (Err (Short x y)) g g' h h' before now c = absurd c
-played_kept (Err ScriptFault) g g' h h' before now c = absurd c
-played_kept (Err TooLong) g g' h h' before now c = absurd c
-played_kept (Err (BadLine x)) g g' h h' before now c = absurd c
+played_kept e g g' h h' before now c = played_ends (λ d. KeptBefore before now d) g g' h h' (λ u. tt) tt (λ rose. tt)
+    (λ rose. tt) (λ n cause. tt) e c
 
 -- a fault is named only if its count rose since the moment before the lines, at which no count was lower
 pub played_caused : (e : End) (f f' g0 g g' h0 h h' : ℕ) → g0 ≤ g → h0 ≤ h → BlkPlayCaused e g g' h h'
     → CausedAt f f' g0 g' h0 h' e
-played_caused (Ok u) f f' g0 g g' h0 h h' p q c = tt
-played_caused (Err Memory) f f' g0 g g' h0 h h' p q c = tt
-played_caused (Err ImageFault) f f' g0 g g' h0 h h' p q c = omega (arith, c)
-played_caused (Err SinkFault) f f' g0 g g' h0 h h' p q c = omega (arith, c)
-played_caused (Err (Refused n cause)) f f' g0 g g' h0 h h' p q c = tt
-played_caused (Err Usage) f f' g0 g g' h0 h h' p q c = absurd c
-played_caused (Err (Param x y)) f f' g0 g g' h0 h h' p q c = absurd c
-played_caused (Err (Layout x)) f f' g0 g g' h0 h h' p q c = absurd c
-played_caused (Err NoSharedZone) f f' g0 g g' h0 h h' p q c = absurd c
-played_caused (Err (Short x y)) f f' g0 g g' h0 h h' p q c = absurd c
-played_caused (Err ScriptFault) f f' g0 g g' h0 h h' p q c = absurd c
-played_caused (Err TooLong) f f' g0 g g' h0 h h' p q c = absurd c
-played_caused (Err (BadLine x)) f f' g0 g g' h0 h h' p q c = absurd c
+played_caused e f f' g0 g g' h0 h h' p q c = played_ends (λ d. CausedAt f f' g0 g' h0 h' d) g g' h h' (λ u. tt) tt
+    (λ rose. omega (arith, p, rose)) (λ rose. omega (arith, q, rose)) (λ n cause. tt) e c
 
 -- lines were played on a store that holds what it held
 pub play_ended : (layout : BlkLayout) (a b : Outside) (text : List ℕ) (lines : List Line) (e : End)

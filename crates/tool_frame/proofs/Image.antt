@@ -1,21 +1,15 @@
 -- How the stages of a command that reads the image, and no script, end it
-use Rattle.std.proofs.Common.{◌≡◌, ℕ, ◌<◌, ◌≤◌, List, [], length, take, Option, Err, IfSome, refl, sym, ap, ◌∙◌, arith, inl, true, false, true≢false, nat_lt}
-use Rattle.std.proofs.lemmas.Bool.Decides.{nat_tests}
+use Rattle.std.proofs.Common.{◌≡◌, ℕ, ◌<◌, ◌≤◌, List, [], length, take, Option, Err, IfSome, refl, sym, ap, ◌∙◌, arith, inl, true, false, true≢false}
 use Rattle.tool_spec.specs.Ends.{End}
 use Rattle.tool_spec.specs.Commands.{RamCommand, RunScript, ListRecords, ExtractRecord, EraseRecord, ShowLayout, BlankImage, MakeImage, FindRings, ReadRing, RamPlan, wanted, wanted_of, reads_image, front_of, mem_of, stops, RunShared}
 use Rattle.tool_spec.specs.Answers.{Outside, IfHolds}
 use Rattle.tool_spec.specs.PlanAnswers.{ram_statuses, IsAmong}
 use Rattle.tool_spec.specs.declared.Stop.{Stop}
-use Rattle.tool_spec.specs.declared.Stop.TheVariants.{Memory, Usage, Param, Layout, NoSharedZone, Short, ScriptFault, ImageFault, SinkFault, TooLong, BadLine, Refused}
+use Rattle.tool_spec.specs.declared.Stop.TheVariants.{Short}
 use Rattle.tool_frame.specs.Stages.{LoadStop}
 use Rattle.tool_frame.specs.Ended.{Ended, CanEnd}
-use Rattle.tool_frame.proofs.Script.{Quiet, quiet_memory, put_nothing, ended_as}
-
-nat_lt-true : {a b : ℕ} → a < b → nat_lt a b ≡ true
-nat_lt-true h = grind (arith, nat_tests)
-
-nat_lt-false : {a b : ℕ} → b ≤ a → nat_lt a b ≡ false
-nat_lt-false h = grind (arith, nat_tests)
+use Rattle.tool_frame.proofs.Script.{Quiet, quiet_memory, put_nothing, ended_as, nat_lt-true, nat_lt-false}
+use Rattle.tool_frame.proofs.StageStops.{load_stops}
 
 short_wanted : (plan : RamPlan) (c : RamCommand) (bytes : List ℕ) → plan.command ≡ c → reads_image c ≡ true
     → length bytes < mem_of plan → wanted plan bytes [] ≡ stops (Short (length bytes) (mem_of plan))
@@ -57,19 +51,11 @@ stop_short plan c a b has needed is reads q h = record {
 pub image_stopped : (plan : RamPlan) (c : RamCommand) (a b : Outside) (s : Stop) (f g : ℕ) → plan.command ≡ c
     → reads_image c ≡ true → Quiet a b → LoadStop s (mem_of plan) a.holds f g
     → IfHolds a (λ bytes. Ended (wanted plan bytes []) a b (Err s))
-image_stopped plan c a b Memory f g is reads q h = record
-    { told = λ bytes t. quiet_memory (wanted plan bytes []) a b q }
-image_stopped plan c a b ImageFault f g is reads q h = record { told = λ bytes t. inl (q.given, q.holds) }
-image_stopped plan c a b (Short has needed) f g is reads q h = stop_short plan c a b has needed is reads q h
-image_stopped plan c a b Usage f g is reads q h = absurd h
-image_stopped plan c a b (Param x y) f g is reads q h = absurd h
-image_stopped plan c a b (Layout x) f g is reads q h = absurd h
-image_stopped plan c a b NoSharedZone f g is reads q h = absurd h
-image_stopped plan c a b ScriptFault f g is reads q h = absurd h
-image_stopped plan c a b SinkFault f g is reads q h = absurd h
-image_stopped plan c a b TooLong f g is reads q h = absurd h
-image_stopped plan c a b (BadLine x) f g is reads q h = absurd h
-image_stopped plan c a b (Refused x y) f g is reads q h = absurd h
+image_stopped plan c a b s f g is reads q h = load_stops
+    (λ t. IfHolds a (λ bytes. Ended (wanted plan bytes []) a b (Err t))) (mem_of plan) a.holds f g
+    (record { told = λ bytes t. quiet_memory (wanted plan bytes []) a b q })
+    (λ rose. record { told = λ bytes t. inl (q.given, q.holds) })
+    (λ has needed size. stop_short plan c a b has needed is reads q size) s h
 
 -- a command that reads the image can want memory, find it too short, and fail to read it
 can_read : (c : RamCommand) → reads_image c ≡ true
@@ -87,18 +73,9 @@ can_read (ReadRing at name) reads = absurd (true≢false (sym reads))
 
 pub load_can : (plan : RamPlan) (c : RamCommand) (s : Stop) (mem : ℕ) (holds : Option (List ℕ)) (f g : ℕ)
     → plan.command ≡ c → reads_image c ≡ true → LoadStop s mem holds f g → CanEnd plan (Err s)
-load_can plan c Memory mem holds f g is reads h = rw is ((can_read c reads).0)
-load_can plan c (Short x y) mem holds f g is reads h = rw is ((can_read c reads).1)
-load_can plan c ImageFault mem holds f g is reads h = rw is ((can_read c reads).2)
-load_can plan c Usage mem holds f g is reads h = absurd h
-load_can plan c (Param x y) mem holds f g is reads h = absurd h
-load_can plan c (Layout x) mem holds f g is reads h = absurd h
-load_can plan c NoSharedZone mem holds f g is reads h = absurd h
-load_can plan c ScriptFault mem holds f g is reads h = absurd h
-load_can plan c SinkFault mem holds f g is reads h = absurd h
-load_can plan c TooLong mem holds f g is reads h = absurd h
-load_can plan c (BadLine x) mem holds f g is reads h = absurd h
-load_can plan c (Refused x y) mem holds f g is reads h = absurd h
+load_can plan c s mem holds f g is reads h = load_stops (λ t. CanEnd plan (Err t)) mem holds f g
+    (rw is ((can_read c reads).0)) (λ rose. rw is ((can_read c reads).2))
+    (λ has needed size. rw is ((can_read c reads).1)) s h
 
 -- the image was read, and what is wanted of it was done
 pub image_done : (plan : RamPlan) (c : RamCommand) (a b : Outside) (image : List ℕ) (e : End) → plan.command ≡ c

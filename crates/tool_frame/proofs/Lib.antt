@@ -4,6 +4,7 @@ pub mod Parted
 pub mod Answered
 pub mod Image
 pub mod Play
+pub mod StageStops
 pub mod Script
 pub mod ReadParts
 pub mod Tool

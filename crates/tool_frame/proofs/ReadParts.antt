@@ -1,5 +1,7 @@
 -- How the stages of a command that reads an image of a size and then a script end, as far as each is told alone
 use Rattle.std.proofs.Common.{◌≡◌, ℕ, ◌<◌, ◌≤◌, List, length, Option, Some, Ok, Err, IfSome, refl, sym, arith, inl, inr, IsOk}
+use Rattle.std.specs.Prelude.{vec_len}
+use Rattle.std.specs.Global.{Vec}
 use Rattle.std.specs.Io.KnownBytes.{IsAtEnd}
 use Rattle.grammar_spec.specs.Lines.{script_of}
 use Rattle.grammar_spec.specs.declared.line.Line.{Line}
@@ -46,6 +48,11 @@ pub record Read (a b : Outside) (text : List ℕ) : Type 0 where
   pub read : IfSome a.left (λ bs. text ≡ bs)
   pub few : length text ≤ script_limit
   pub end : IsAtEnd b.left
+
+-- the same of a vector
+pub read_whole : (a b : Outside) (v : Vec ℕ) → (vec_len v ≤ script_limit) × IfSome a.left (λ bs. v.items ≡ bs)
+    → IsAtEnd b.left → Read a b v.items
+read_whole a b v h end = record { read = h.1; few = omega (arith, h.0, v.ok); end = end }
 
 pub read_of : (a b : Outside) (text script : List ℕ) → Read a b text → a.left ≡ Some script → text ≡ script
 read_of a b text script r l = rw l at r.read

@@ -1,24 +1,20 @@
--- How the stages of a script's run end it
-use Rattle.std.proofs.Common.{◌≡◌, ℕ, ◌<◌, ◌≤◌, List, [], length, take, Option, Some, None, Ok, Err, IfSome, refl, sym, ◌∙◌, arith, inl, inr, true, false, nat_lt}
+-- How the stages of a command that reads an image and a script end it, whatever it wants of the lines
+use Rattle.std.proofs.Common.{◌≡◌, ℕ, ◌<◌, ◌≤◌, List, [], length, take, Option, Some, None, Result, Ok, Err, IfSome, refl, sym, ◌∙◌, arith, inl, true, false, nat_lt}
 use Rattle.std.proofs.lemmas.Bool.Decides.{nat_tests}
 use Rattle.std.specs.Io.KnownBytes.{Appends}
-use Rattle.box_io.specs.Outside.{Writes, WritesFront}
-use Rattle.zone_spec.specs.declared.Zone.{Zone}
-use Rattle.session_spec.specs.States.{Session}
-use Rattle.session_spec.specs.Stop.{session_image}
 use Rattle.grammar_spec.specs.Lines.{script_of}
 use Rattle.grammar_spec.specs.declared.line.Line.{Line}
-use Rattle.tool_spec.specs.Ends.{End}
-use Rattle.tool_spec.specs.Scripts.{ran}
-use Rattle.tool_spec.specs.Commands.{RunScript, RamPlan, Wanted, wanted, wanted_run, wanted_script, wanted_lines, mem_of, stops, script_limit}
+use Rattle.tool_spec.specs.Ends.{End, status_of}
+use Rattle.tool_spec.specs.Commands.{RunScript, RamPlan, Wanted, wanted, mem_of, stops, script_limit}
 use Rattle.tool_spec.specs.Answers.{Outside, NoScript}
+use Rattle.tool_spec.specs.PlanAnswers.{ram_statuses, IsAmong}
 use Rattle.tool_spec.specs.declared.Stop.{Stop}
-use Rattle.tool_spec.specs.declared.Stop.TheVariants.{Memory, Usage, Param, Layout, NoSharedZone, Short, ScriptFault, ImageFault, SinkFault, TooLong, BadLine, Refused}
+use Rattle.tool_spec.specs.declared.Stop.TheVariants.{Memory, Short, ScriptFault, ImageFault, TooLong, BadLine}
 use Rattle.tool_frame.specs.Stages.{LoadStop, ScriptStop, ParseStop}
-use Rattle.tool_frame.specs.Playing.{Played, PlayStop}
-use Rattle.tool_frame.specs.Ended.{Ended, RunEnds}
+use Rattle.tool_frame.specs.Ended.{Ended, RunEnds, ScriptEnds, CausedAt}
 use Rattle.tool_frame.proofs.Answered.{nothing_put}
-use Rattle.tool_frame.proofs.ReadParts.{Read, read_of, unread_memory, unread_fault, unread_short, read_memory, read_fault, read_long, read_bad, read_unput, read_unsaved, read_refused, read_done}
+use Rattle.tool_frame.proofs.ReadParts.{Read, read_of, unread_memory, unread_fault, unread_short, read_memory, read_fault, read_long, read_bad}
+use Rattle.tool_frame.proofs.StageStops.{load_stops, script_stops, parse_stops}
 use Rattle.tool_frame.proofs.Tool.{no_texts}
 
 pub nat_lt-true : {a b : ℕ} → a < b → nat_lt a b ≡ true
@@ -27,60 +23,10 @@ nat_lt-true h = grind (arith, nat_tests)
 pub nat_lt-false : {a b : ℕ} → b ≤ a → nat_lt a b ≡ false
 nat_lt-false h = grind (arith, nat_tests)
 
--- ---- what is wanted
-
-short_wanted : (plan : RamPlan) (bytes script : List ℕ) → plan.command ≡ RunScript → length bytes < mem_of plan
-    → wanted plan bytes script ≡ stops (Short (length bytes) (mem_of plan))
-short_wanted plan bytes script is h = rw (is, nat_lt-true h) refl
-
-pub run_wanted : (plan : RamPlan) (bytes script : List ℕ) → plan.command ≡ RunScript → mem_of plan ≤ length bytes
-    → wanted plan bytes script ≡ wanted_run plan.zones (take (mem_of plan) bytes) script
-run_wanted plan bytes script is h = rw (is, nat_lt-false h) refl
-
-long_wanted : (layout : List Zone) (image script : List ℕ) → script_limit < length script
-    → wanted_run layout image script ≡ stops TooLong
-long_wanted layout image script h = rw (nat_lt-true h) refl
-
-script_wanted : (layout : List Zone) (image script : List ℕ) → length script ≤ script_limit
-    → wanted_run layout image script ≡ wanted_script layout image (script_of script)
-script_wanted layout image script h = rw (nat_lt-false h) refl
-
--- ---- stages
-
 -- nothing was put or written yet
 pub record Quiet (a b : Outside) : Type 0 where
   pub given : b.given ≡ a.given
   pub holds : b.holds ≡ a.holds
-
--- an image that was read
-pub record Loaded (plan : RamPlan) (a : Outside) (image : List ℕ) : Type 0 where
-  pub is : plan.command ≡ RunScript
-  pub read : IfSome a.holds (λ bs. (mem_of plan ≤ length bs) × (image ≡ take (mem_of plan) bs))
-
-loaded_of : (plan : RamPlan) (a : Outside) (image bytes : List ℕ) → Loaded plan a image → a.holds ≡ Some bytes
-    → (mem_of plan ≤ length bytes) × (image ≡ take (mem_of plan) bytes)
-loaded_of plan a image bytes l t = rw t at l.read
-
--- the image has room for what is read of it
-room_in : (plan : RamPlan) (a : Outside) (image : List ℕ) → Loaded plan a image
-    → IfSome a.holds (λ bs. mem_of plan ≤ length bs)
-room_in plan a image l = by (mem_of plan) a.holds l.read
-  where
-    by : (mem : ℕ) (holds : Option (List ℕ)) → IfSome holds (λ bs. (mem ≤ length bs) × (image ≡ take mem bs))
-        → IfSome holds (λ bs. mem ≤ length bs)
-    by mem None h = tt
-    by mem (Some bs) h = h.0
-
--- what is wanted of the lines that were read
-lines_wanted : (plan : RamPlan) (a b : Outside) (image text bytes script : List ℕ) (lines : List Line)
-    → Loaded plan a image → Read a b text → script_of text ≡ Ok lines → a.holds ≡ Some bytes → a.left ≡ Some script
-    → wanted plan bytes script ≡ wanted_lines (ran plan.zones image lines)
-lines_wanted plan a b image text bytes script lines l r e t s =
-    let i = loaded_of plan a image bytes l t in
-    let same : script ≡ text = sym (read_of a b text script r s) in
-    let few : length script ≤ script_limit = rw same r.few in
-    run_wanted plan bytes script l.is i.0 ∙ script_wanted plan.zones (take (mem_of plan) bytes) script few
-    ∙ rw (same, e, ← i.1) refl
 
 pub quiet_memory : (w : Wanted) (a b : Outside) → Quiet a b → Ended w a b (Err Memory)
 quiet_memory w a b q = (rw q.given (no_texts w a.given), q.holds)
@@ -91,173 +37,155 @@ put_nothing a b q = rw q.given (nothing_put a.given)
 pub ended_as : (w v : Wanted) (a b : Outside) (e : End) → w ≡ v → Ended v a b e → Ended w a b e
 ended_as w v a b e same h = rw same h
 
--- ---- stops
+-- ---- what is wanted
 
-stop_short : (plan : RamPlan) (a b : Outside) (has needed : ℕ) → plan.command ≡ RunScript → NoScript a b
-    → Quiet a b → (needed ≡ mem_of plan) × (has < mem_of plan) × IfSome a.holds (λ bs. has ≡ length bs)
-    → RunEnds plan a b (Err (Short has needed))
-stop_short plan a b has needed is none q h = record {
-  can = rw is refl;
-  whole = record {
-    told = λ bytes script t l.
-        let size : has ≡ length bytes = rw t at h.2 in
-        let few : length bytes < mem_of plan = rw size at h.1 in
-        ended_as (wanted plan bytes script) (stops (Short (length bytes) (mem_of plan))) a b (Err (Short has needed))
-        (short_wanted plan bytes script is few) (rw (size, h.0) refl, put_nothing a b q, q.holds);
-  };
-  read = unread_short (mem_of plan) a b has needed none q.given h;
-}
+-- a command that wants this of an image and of the lines of a script, and with the statuses of a script
+pub record IsScripted (plan : RamPlan) (want : List ℕ → Result (List Line) ℕ → Wanted) : Type 0 where
+  pub statuses : ram_statuses plan.command ≡ ram_statuses RunScript
+  pub short : (bytes script : List ℕ) → length bytes < mem_of plan
+      → wanted plan bytes script ≡ stops (Short (length bytes) (mem_of plan))
+  pub long : (bytes script : List ℕ) → mem_of plan ≤ length bytes → script_limit < length script
+      → wanted plan bytes script ≡ stops TooLong
+  pub lines : (bytes script : List ℕ) → mem_of plan ≤ length bytes → length script ≤ script_limit
+      → wanted plan bytes script ≡ want (take (mem_of plan) bytes) (script_of script)
+  pub bad : (image : List ℕ) (n : ℕ) → want image (Err n) ≡ stops (BadLine n)
 
-pub load_stopped : (plan : RamPlan) (a b : Outside) (s : Stop) (f g : ℕ) → plan.command ≡ RunScript → NoScript a b
-    → Quiet a b → LoadStop s (mem_of plan) a.holds f g → RunEnds plan a b (Err s)
-load_stopped plan a b Memory f g is none q h = record {
-  can = rw is refl;
-  whole = record { told = λ bytes script t l. quiet_memory (wanted plan bytes script) a b q };
-  read = unread_memory (mem_of plan) a b none;
-}
-load_stopped plan a b ImageFault f g is none q h = record {
-  can = rw is refl;
-  whole = record { told = λ bytes script t l. inl (q.given, q.holds) };
-  read = unread_fault (mem_of plan) a b none;
-}
-load_stopped plan a b (Short has needed) f g is none q h = stop_short plan a b has needed is none q h
-load_stopped plan a b Usage f g is none q h = absurd h
-load_stopped plan a b (Param x y) f g is none q h = absurd h
-load_stopped plan a b (Layout x) f g is none q h = absurd h
-load_stopped plan a b NoSharedZone f g is none q h = absurd h
-load_stopped plan a b ScriptFault f g is none q h = absurd h
-load_stopped plan a b SinkFault f g is none q h = absurd h
-load_stopped plan a b TooLong f g is none q h = absurd h
-load_stopped plan a b (BadLine x) f g is none q h = absurd h
-load_stopped plan a b (Refused x y) f g is none q h = absurd h
+-- an image that was read
+pub record Loaded (plan : RamPlan) (a : Outside) (image : List ℕ) : Type 0 where
+  pub read : IfSome a.holds (λ bs. (mem_of plan ≤ length bs) × (image ≡ take (mem_of plan) bs))
 
--- what follows was done on an image that was read
-module _ (plan : RamPlan) (a b : Outside) (image : List ℕ) (l : Loaded plan a image) where
-  room : IfSome a.holds (λ bs. mem_of plan ≤ length bs)
-  room = room_in plan a image l
+loaded_of : (plan : RamPlan) (a : Outside) (image bytes : List ℕ) → Loaded plan a image → a.holds ≡ Some bytes
+    → (mem_of plan ≤ length bytes) × (image ≡ take (mem_of plan) bytes)
+loaded_of plan a image bytes l t = rw t at l.read
 
-  out_of_memory : Quiet a b → RunEnds plan a b (Err Memory)
-  out_of_memory q = record {
-    can = rw l.is refl;
-    whole = record { told = λ bytes script t s. quiet_memory (wanted plan bytes script) a b q };
-    read = read_memory (mem_of plan) a b room;
-  }
+-- the image has room for what is read of it
+pub room_in : (plan : RamPlan) (a : Outside) (image : List ℕ) → Loaded plan a image
+    → IfSome a.holds (λ bs. mem_of plan ≤ length bs)
+room_in plan a image l = by (mem_of plan) a.holds l.read
+  where
+    by : (mem : ℕ) (holds : Option (List ℕ)) → IfSome holds (λ bs. (mem ≤ length bs) × (image ≡ take mem bs))
+        → IfSome holds (λ bs. mem ≤ length bs)
+    by mem None h = tt
+    by mem (Some bs) h = h.0
 
-  stop_long : Quiet a b → IfSome a.left (λ bs. script_limit < length bs) → RunEnds plan a b (Err TooLong)
-  stop_long q h = record {
-    can = rw l.is refl;
+-- ---- stages
+
+module _ (plan : RamPlan) (want : List ℕ → Result (List Line) ℕ → Wanted) (is : IsScripted plan want)
+    (a b : Outside) where
+  stop_short : (has needed : ℕ) → NoScript a b → Quiet a b
+      → (needed ≡ mem_of plan) × (has < mem_of plan) × IfSome a.holds (λ bs. has ≡ length bs)
+      → RunEnds plan a b (Err (Short has needed))
+  stop_short has needed none q h = record {
+    can = rw is.statuses refl;
     whole = record {
-      told = λ bytes script t s.
-          let i = loaded_of plan a image bytes l t in
-          let long : script_limit < length script = rw s at h in
-          ended_as (wanted plan bytes script) (stops TooLong) a b (Err TooLong)
-          (run_wanted plan bytes script l.is i.0 ∙ long_wanted plan.zones (take (mem_of plan) bytes) script long)
-          (refl, put_nothing a b q, q.holds);
+      told = λ bytes script t l.
+          let size : has ≡ length bytes = rw t at h.2 in
+          let few : length bytes < mem_of plan = rw size at h.1 in
+          ended_as (wanted plan bytes script) (stops (Short (length bytes) (mem_of plan))) a b (Err (Short has needed))
+          (is.short bytes script few) (rw (size, h.0) refl, put_nothing a b q, q.holds);
     };
-    read = read_long (mem_of plan) a b room q.given h;
+    read = unread_short (mem_of plan) a b has needed none q.given h;
   }
 
-  pub script_stopped : (s : Stop) (f g : ℕ) → Quiet a b → ScriptStop s a.left f g → RunEnds plan a b (Err s)
-  script_stopped Memory f g q h = out_of_memory q
-  script_stopped ScriptFault f g q h = record {
-    can = rw l.is refl;
-    whole = record { told = λ bytes script t s. (q.given, q.holds) };
-    read = read_fault (mem_of plan) a b room q.given;
-  }
-  script_stopped TooLong f g q h = stop_long q h
-  script_stopped Usage f g q h = absurd h
-  script_stopped (Param x y) f g q h = absurd h
-  script_stopped (Layout x) f g q h = absurd h
-  script_stopped NoSharedZone f g q h = absurd h
-  script_stopped (Short x y) f g q h = absurd h
-  script_stopped ImageFault f g q h = absurd h
-  script_stopped SinkFault f g q h = absurd h
-  script_stopped (BadLine x) f g q h = absurd h
-  script_stopped (Refused x y) f g q h = absurd h
+  pub load_stopped : (s : Stop) (f g : ℕ) → NoScript a b → Quiet a b → LoadStop s (mem_of plan) a.holds f g
+      → RunEnds plan a b (Err s)
+  load_stopped s f g none q h = load_stops (λ t. RunEnds plan a b (Err t)) (mem_of plan) a.holds f g
+      (record {
+        can = rw is.statuses refl;
+        whole = record { told = λ bytes script t l. quiet_memory (wanted plan bytes script) a b q };
+        read = unread_memory (mem_of plan) a b none;
+      })
+      (λ rose. record {
+        can = rw is.statuses refl;
+        whole = record { told = λ bytes script t l. inl (q.given, q.holds) };
+        read = unread_fault (mem_of plan) a b none;
+      })
+      (λ has needed size. stop_short has needed none q size) s h
 
-  module _ (text : List ℕ) (r : Read a b text) where
-    stop_bad : (n : ℕ) → Quiet a b → script_of text ≡ Err n → RunEnds plan a b (Err (BadLine n))
-    stop_bad n q h = record {
-      can = rw l.is refl;
+  -- what follows was done on an image that was read
+  module _ (image : List ℕ) (l : Loaded plan a image) where
+    room : IfSome a.holds (λ bs. mem_of plan ≤ length bs)
+    room = room_in plan a image l
+
+    pub out_of_memory : Quiet a b → RunEnds plan a b (Err Memory)
+    out_of_memory q = record {
+      can = rw is.statuses refl;
+      whole = record { told = λ bytes script t s. quiet_memory (wanted plan bytes script) a b q };
+      read = read_memory (mem_of plan) a b room;
+    }
+
+    stop_long : Quiet a b → IfSome a.left (λ bs. script_limit < length bs) → RunEnds plan a b (Err TooLong)
+    stop_long q h = record {
+      can = rw is.statuses refl;
       whole = record {
         told = λ bytes script t s.
             let i = loaded_of plan a image bytes l t in
-            let same : script ≡ text = sym (read_of a b text script r s) in
-            let few : length script ≤ script_limit = rw same r.few in
-            ended_as (wanted plan bytes script) (stops (BadLine n)) a b (Err (BadLine n))
-            (run_wanted plan bytes script l.is i.0 ∙ script_wanted plan.zones (take (mem_of plan) bytes) script few
-            ∙ rw (same, h) refl) (refl, put_nothing a b q, q.holds);
+            let long : script_limit < length script = rw s at h in
+            ended_as (wanted plan bytes script) (stops TooLong) a b (Err TooLong) (is.long bytes script i.0 long)
+            (refl, put_nothing a b q, q.holds);
       };
-      read = read_bad (mem_of plan) a b room text r n h q.given;
+      read = read_long (mem_of plan) a b room q.given h;
     }
 
-    pub parse_stopped : (s : Stop) → Quiet a b → ParseStop s (script_of text) → RunEnds plan a b (Err s)
-    parse_stopped Memory q h = out_of_memory q
-    parse_stopped (BadLine n) q h = stop_bad n q h
-    parse_stopped Usage q h = absurd h
-    parse_stopped (Param x y) q h = absurd h
-    parse_stopped (Layout x) q h = absurd h
-    parse_stopped NoSharedZone q h = absurd h
-    parse_stopped (Short x y) q h = absurd h
-    parse_stopped ScriptFault q h = absurd h
-    parse_stopped ImageFault q h = absurd h
-    parse_stopped SinkFault q h = absurd h
-    parse_stopped TooLong q h = absurd h
-    parse_stopped (Refused x y) q h = absurd h
+    pub script_stopped : (s : Stop) (f g : ℕ) → Quiet a b → ScriptStop s a.left f g → RunEnds plan a b (Err s)
+    script_stopped s f g q h = script_stops (λ t. RunEnds plan a b (Err t)) a.left f g (out_of_memory q)
+        (λ rose. record {
+          can = rw is.statuses refl;
+          whole = record { told = λ bytes script t s. (q.given, q.holds) };
+          read = read_fault (mem_of plan) a b room q.given;
+        })
+        (stop_long q) s h
 
-    -- ---- lines
+    module _ (text : List ℕ) (r : Read a b text) where
+      -- what is wanted of a script that was read
+      lines_wanted : (bytes script : List ℕ) (read : Result (List Line) ℕ) → script_of text ≡ read
+          → a.holds ≡ Some bytes → a.left ≡ Some script → wanted plan bytes script ≡ want image read
+      lines_wanted bytes script read e t s =
+          let i = loaded_of plan a image bytes l t in
+          let same : script ≡ text = sym (read_of a b text script r s) in
+          let few : length script ≤ script_limit = rw same r.few in
+          is.lines bytes script i.0 few ∙ rw (same, e, ← i.1) refl
 
-    module _ (lines : List Line) (ok : script_of text ≡ Ok lines) where
-      -- the work as it is wanted of these lines
-      of_lines : (e : End) → Ended (wanted_lines (ran plan.zones image lines)) a b e
-          → (bytes script : List ℕ) → a.holds ≡ Some bytes → a.left ≡ Some script
-          → Ended (wanted plan bytes script) a b e
-      of_lines e h bytes script t s = ended_as (wanted plan bytes script) (wanted_lines (ran plan.zones image lines))
-          a b e (lines_wanted plan a b image text bytes script lines l r ok t s) h
-
-      pub play_stopped : (s : Stop) (f g : ℕ) → b.holds ≡ a.holds
-          → PlayStop s plan.zones image lines a.given b.given f g → RunEnds plan a b (Err s)
-      play_stopped Memory f g kept h = record {
-        can = rw l.is refl;
-        whole = record { told = of_lines (Err Memory) (h, kept) };
-        read = read_memory (mem_of plan) a b room;
+      stop_bad : (n : ℕ) → Quiet a b → script_of text ≡ Err n → RunEnds plan a b (Err (BadLine n))
+      stop_bad n q h = record {
+        can = rw is.statuses refl;
+        whole = record {
+          told = λ bytes script t s. ended_as (wanted plan bytes script) (stops (BadLine n)) a b (Err (BadLine n))
+              (lines_wanted bytes script (Err n) h t s ∙ is.bad image n) (refl, put_nothing a b q, q.holds);
+        };
+        read = read_bad (mem_of plan) a b room text r n h q.given;
       }
-      play_stopped SinkFault f g kept h = record {
-        can = rw l.is refl;
-        whole = record { told = of_lines (Err SinkFault) (h.1, kept) };
-        read = read_unput (mem_of plan) a b room text r;
+
+      pub parse_stopped : (s : Stop) → Quiet a b → ParseStop s (script_of text) → RunEnds plan a b (Err s)
+      parse_stopped s q h = parse_stops (λ t. RunEnds plan a b (Err t)) (script_of text) (out_of_memory q)
+          (λ n. stop_bad n q) s h
+
+      -- the lines ended so
+      pub lines_ended : (lines : List Line) → script_of text ≡ Ok lines → (w : Wanted) → want image (Ok lines) ≡ w
+          → (e : End) → IsAmong (ram_statuses RunScript) (status_of e) → ScriptEnds (mem_of plan) a b e → Ended w a b e
+          → RunEnds plan a b e
+      lines_ended lines ok w same e can read h = record {
+        can = rw is.statuses can;
+        whole = record {
+          told = λ bytes script t s. ended_as (wanted plan bytes script) w a b e
+              (lines_wanted bytes script (Ok lines) ok t s ∙ same) h;
+        };
+        read = read;
       }
-      play_stopped (Refused n c) f g kept h = record {
-        can = rw l.is refl;
-        whole = record { told = of_lines (Err (Refused n c)) (h.0, h.1, kept) };
-        read = read_refused (mem_of plan) a b room text r lines ok n c;
-      }
-      play_stopped Usage f g kept h = absurd h
-      play_stopped (Param x y) f g kept h = absurd h
-      play_stopped (Layout x) f g kept h = absurd h
-      play_stopped NoSharedZone f g kept h = absurd h
-      play_stopped (Short x y) f g kept h = absurd h
-      play_stopped ScriptFault f g kept h = absurd h
-      play_stopped ImageFault f g kept h = absurd h
-      play_stopped TooLong f g kept h = absurd h
-      play_stopped (BadLine x) f g kept h = absurd h
 
-      -- all lines were done, and the image written, whole or in part
-      module _ (last : List ℕ) (session : Session) (p : Played plan.zones image lines session a.given b.given)
-          (same : last ≡ session_image session) where
-        all_done : (wanted_lines (ran plan.zones image lines)).end ≡ Ok tt
-        all_done = rw p.none refl
+-- ---- causes
 
-        pub play_saved : Writes a.holds b.holds 0 last → RunEnds plan a b (Ok tt)
-        play_saved wrote = record {
-          can = rw l.is refl;
-          whole = record { told = of_lines (Ok tt) (all_done, p.texts, rw p.state (rw same at wrote)) };
-          read = read_done (mem_of plan) a b room text r lines ok;
-        }
+pub load_caused : (s : Stop) (mem : ℕ) (holds : Option (List ℕ)) (f f' g g' h h' : ℕ) → LoadStop s mem holds g g'
+    → CausedAt f f' g g' h h' (Err s)
+load_caused s mem holds f f' g g' h h' is =
+    load_stops (λ t. CausedAt f f' g g' h h' (Err t)) mem holds g g' tt (λ rose. rose) (λ has needed size. tt) s is
 
-        pub play_unsaved : WritesFront a.holds b.holds 0 last → RunEnds plan a b (Err ImageFault)
-        play_unsaved wrote = record {
-          can = rw l.is refl;
-          whole = record { told = of_lines (Err ImageFault) (inr (all_done, p.texts, rw p.state (rw same at wrote))) };
-          read = read_unsaved (mem_of plan) a b room text r;
-        }
+pub script_caused : (s : Stop) (left : Option (List ℕ)) (f f' g g' h h' : ℕ) → ScriptStop s left f f'
+    → CausedAt f f' g g' h h' (Err s)
+script_caused s left f f' g g' h h' is =
+    script_stops (λ t. CausedAt f f' g g' h h' (Err t)) left f f' tt (λ rose. rose) (λ long. tt) s is
+
+pub parse_caused : (s : Stop) (read : Result (List Line) ℕ) (f f' g g' h h' : ℕ) → ParseStop s read
+    → CausedAt f f' g g' h h' (Err s)
+parse_caused s read f f' g g' h h' is =
+    parse_stops (λ t. CausedAt f f' g g' h h' (Err t)) read tt (λ n bad. tt) s is

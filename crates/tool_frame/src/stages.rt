@@ -88,10 +88,8 @@ pub fn load<M: Store>(alloc: Global, image: &mut M, mem: u32) -> Result<Vec<u8>,
     ensures same { M.holds image.new ≡ M.holds image.old }
     ensures later { M.faults image.old ≤ M.faults image.new }
 {
-    match check_size(image, mem) {
-        Ok(()) => read_pieces(alloc, image, mem),
-        Err(stop) => Err(stop),
-    }
+    check_size(image, mem)?;
+    read_pieces(alloc, image, mem)
 }
 
 /// Reads the first bytes of a store, `limit` at most, however many it has.

@@ -133,10 +133,7 @@ fn move_image(words: &[String]) -> Option<Asked<'_>>
     ensures { MatchOption result (with_to (texts words.now) ≡ None)
         (λ a. with_to (texts words.now) ≡ Some (asked_seen a)) }
 {
-    let place = match find_to(words) {
-        Some(place) => place,
-        None => return None,
-    };
+    let place = find_to(words)?;
     let to = &words[place + 1..];
     if find_to(to).is_some() {
         return None;

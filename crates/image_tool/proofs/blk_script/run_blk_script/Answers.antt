@@ -1,4 +1,6 @@
+-- How each stage of a script on the block store ends it
 use Rattle.std.proofs.Common.{arith}
+use Rattle.tool_frame.proofs.ReadParts.{read_whole}
 use Rattle.tool_frame.proofs.BlkScript.{play_ended, played_caused}
 use Rattle.image_tool.proofs.blk_script.run_blk_script.Goals as goal
 
@@ -13,11 +15,7 @@ returns g c = record {
   kept = λ w. absurd w;
   ended = play_ended c.args.layout _ _ c.in-Ok-read_script.text.items c.in-Ok-lines.lines c.play.result
       (g.M.Store.holds c.check_size.new.image) _ _ _ _ c.in-Ok.ensures.ok
-      (record {
-        read = c.in-Ok-read_script.ensures.ok.1;
-        few = omega (arith, c.in-Ok-read_script.ensures.ok.0, c.in-Ok-read_script.text.ok);
-        end = c.in-Ok-read_script.ensures.end;
-      })
+      (read_whole _ _ c.in-Ok-read_script.text c.in-Ok-read_script.ensures.ok c.in-Ok-read_script.ensures.end)
       (rw c.deref.ensures.value at c.in-Ok-lines.ensures.read) c.check_size.ensures.same c.play.ensures.caused
       (rw c.as_slice.ensures at c.play.ensures.played);
 }

@@ -1,10 +1,11 @@
+-- How each stage of a script on an image ends it
 use Rattle.std.proofs.Common.{refl, arith, Err}
 use Rattle.zone_spec.specs.Layout.{rounded}
 use Rattle.zone_params.specs.Laid.{params_of, zones_of}
 use Rattle.tool_spec.specs.Commands.{RunScript}
 use Rattle.tool_frame.specs.Words.{plan_for}
-use Rattle.tool_frame.proofs.Script.{play_stopped, play_saved, play_unsaved}
-use Rattle.image_tool.proofs.ScriptEnds.{play_caused}
+use Rattle.tool_frame.proofs.ReadParts.{read_whole}
+use Rattle.image_tool.proofs.ScriptEnds.{play_caused, play_stopped, play_saved, play_unsaved}
 use Rattle.image_tool.proofs.WorkEnds.{kept_same}
 use Rattle.image_tool.proofs.script.run_script.Goals as goal
 
@@ -13,14 +14,10 @@ returns-in-Err-play g c = record {
   later = record { source = omega arith; store = omega arith; sink = omega arith };
   caused = play_caused _ _ _ _ _ _ _ _ _ _ _ _ (c.in-Err-play.ensures.played _ _ _ c.in-Ok-fresh_store.ensures);
   kept = λ w. kept_same (Err c.in-Err-play.stop) _ _ c.in-Ok.ensures.same;
-  ended = play_stopped (plan_for RunScript c.args.layout) _ _ c.in-Ok.bytes.items
-      (record { is = refl; read = rw c.mem.ensures at c.in-Ok.ensures.ok.1 })
+  ended = play_stopped (plan_for RunScript c.args.layout) refl _ _ c.in-Ok.bytes.items
+      (record { read = rw c.mem.ensures at c.in-Ok.ensures.ok.1 })
       c.in-Ok-read_script.text.items
-      (record {
-        read = c.in-Ok-read_script.ensures.ok.1;
-        few = omega (arith, c.in-Ok-read_script.ensures.ok.0, c.in-Ok-read_script.text.ok);
-        end = c.in-Ok-read_script.ensures.end;
-      })
+      (read_whole _ _ c.in-Ok-read_script.text c.in-Ok-read_script.ensures.ok c.in-Ok-read_script.ensures.end)
       c.in-Ok-lines.lines (rw c.deref.ensures.value at c.in-Ok-lines.ensures.read) _ _ _ c.in-Ok.ensures.same
       (c.in-Err-play.ensures.played _ _ _ c.in-Ok-fresh_store.ensures);
 }
@@ -33,14 +30,10 @@ returns-in-Ok-save g c =
       later = record { source = omega arith; store = omega arith; sink = omega arith };
       caused = tt;
       kept = λ w. tt;
-      ended = play_saved (plan_for RunScript c.args.layout) _ _ c.in-Ok.bytes.items
-          (record { is = refl; read = rw c.mem.ensures at c.in-Ok.ensures.ok.1 })
+      ended = play_saved (plan_for RunScript c.args.layout) refl _ _ c.in-Ok.bytes.items
+          (record { read = rw c.mem.ensures at c.in-Ok.ensures.ok.1 })
           c.in-Ok-read_script.text.items
-          (record {
-            read = c.in-Ok-read_script.ensures.ok.1;
-            few = omega (arith, c.in-Ok-read_script.ensures.ok.0, c.in-Ok-read_script.text.ok);
-            end = c.in-Ok-read_script.ensures.end;
-          })
+          (read_whole _ _ c.in-Ok-read_script.text c.in-Ok-read_script.ensures.ok c.in-Ok-read_script.ensures.end)
           c.in-Ok-lines.lines (rw c.deref.ensures.value at c.in-Ok-lines.ensures.read)
           c.into_image.result played.session played.played
           (c.into_image.ensures (zones_of c.args.layout) (rounded (params_of c.args.layout).mem)
@@ -55,14 +48,10 @@ returns g c =
       later = record { source = omega arith; store = omega arith; sink = omega arith };
       caused = omega (arith, c.in-Err-save.ensures.cause.failed);
       kept = λ w. tt;
-      ended = play_unsaved (plan_for RunScript c.args.layout) _ _ c.in-Ok.bytes.items
-          (record { is = refl; read = rw c.mem.ensures at c.in-Ok.ensures.ok.1 })
+      ended = play_unsaved (plan_for RunScript c.args.layout) refl _ _ c.in-Ok.bytes.items
+          (record { read = rw c.mem.ensures at c.in-Ok.ensures.ok.1 })
           c.in-Ok-read_script.text.items
-          (record {
-            read = c.in-Ok-read_script.ensures.ok.1;
-            few = omega (arith, c.in-Ok-read_script.ensures.ok.0, c.in-Ok-read_script.text.ok);
-            end = c.in-Ok-read_script.ensures.end;
-          })
+          (read_whole _ _ c.in-Ok-read_script.text c.in-Ok-read_script.ensures.ok c.in-Ok-read_script.ensures.end)
           c.in-Ok-lines.lines (rw c.deref.ensures.value at c.in-Ok-lines.ensures.read)
           c.into_image.result played.session played.played
           (c.into_image.ensures (zones_of c.args.layout) (rounded (params_of c.args.layout).mem)

@@ -2,7 +2,9 @@
 use Rattle.std.proofs.Common.{refl, arith, Err}
 use Rattle.tool_spec.specs.Commands.{RunShared}
 use Rattle.tool_frame.specs.Words.{plan_for}
-use Rattle.image_tool.proofs.SharedEnds.{load_stopped, script_stopped, parse_stopped, load_caused, script_caused, parse_caused, share_ended, share_caused, text_unput, image_saved, image_unsaved}
+use Rattle.tool_frame.proofs.ReadParts.{read_whole}
+use Rattle.tool_frame.proofs.Script.{load_stopped, script_stopped, parse_stopped, load_caused, script_caused, parse_caused}
+use Rattle.image_tool.proofs.SharedEnds.{shared_scripted, share_ended, share_caused, text_unput, image_saved, image_unsaved}
 use Rattle.image_tool.proofs.WorkEnds.{kept_same}
 use Rattle.image_tool.proofs.sharing.run_shared_script.Goals as goal
 
@@ -11,15 +13,12 @@ returns-in-Err-share g c = record {
   later = record { source = omega arith; store = omega arith; sink = omega arith };
   caused = share_caused _ _ _ _ _ _ _ _ c.in-Err-share.ensures;
   kept = λ w. kept_same (Err c.in-Err-share.stop) _ _ c.in-Ok.ensures.same;
-  ended = share_ended (plan_for RunShared c.args.booted) _ _ c.in-Ok.bytes.items
-      (record { is = refl; read = rw c.mem.ensures at c.in-Ok.ensures.ok.1 })
+  ended = share_ended (plan_for RunShared c.args.booted) refl _ _ c.in-Ok.bytes.items
+      (record { read = rw c.mem.ensures at c.in-Ok.ensures.ok.1 })
       c.in-Ok-read_script.text.items
-      (record {
-        read = c.in-Ok-read_script.ensures.ok.1;
-        few = omega (arith, c.in-Ok-read_script.ensures.ok.0, c.in-Ok-read_script.text.ok);
-        end = c.in-Ok-read_script.ensures.end;
-      })
-      c.in-Ok-lines.lines (rw c.deref.ensures.value at c.in-Ok-lines.ensures.read) c.in-Err-share.stop (record { given = refl; holds = c.in-Ok.ensures.same }) c.in-Err-share.ensures;
+      (read_whole _ _ c.in-Ok-read_script.text c.in-Ok-read_script.ensures.ok c.in-Ok-read_script.ensures.end)
+      c.in-Ok-lines.lines (rw c.deref.ensures.value at c.in-Ok-lines.ensures.read) c.in-Err-share.stop
+      (record { given = refl; holds = c.in-Ok.ensures.same }) c.in-Err-share.ensures;
 }
 
 pub returns-in-Err-put : goal.returns-in-Err-put
@@ -27,14 +26,10 @@ returns-in-Err-put g c = record {
   later = record { source = omega arith; store = omega arith; sink = omega arith };
   caused = omega (arith, c.in-Err-put.ensures.cause.failed);
   kept = λ w. c.in-Ok.ensures.same;
-  ended = text_unput (plan_for RunShared c.args.booted) _ _ c.in-Ok.bytes.items
-      (record { is = refl; read = rw c.mem.ensures at c.in-Ok.ensures.ok.1 })
+  ended = text_unput (plan_for RunShared c.args.booted) refl _ _ c.in-Ok.bytes.items
+      (record { read = rw c.mem.ensures at c.in-Ok.ensures.ok.1 })
       c.in-Ok-read_script.text.items
-      (record {
-        read = c.in-Ok-read_script.ensures.ok.1;
-        few = omega (arith, c.in-Ok-read_script.ensures.ok.0, c.in-Ok-read_script.text.ok);
-        end = c.in-Ok-read_script.ensures.end;
-      })
+      (read_whole _ _ c.in-Ok-read_script.text c.in-Ok-read_script.ensures.ok c.in-Ok-read_script.ensures.end)
       c.in-Ok-lines.lines (rw c.deref.ensures.value at c.in-Ok-lines.ensures.read)
       c.in-Ok-share.done.0.items c.in-Ok-share.done.1 c.in-Ok-share.ensures c.in-Ok.ensures.same
       (rw c.deref-2.ensures.value at c.in-Err-put.ensures.bytes);
@@ -45,14 +40,10 @@ returns-in-Ok-save g c = record {
   later = record { source = omega arith; store = omega arith; sink = omega arith };
   caused = tt;
   kept = λ w. tt;
-  ended = image_saved (plan_for RunShared c.args.booted) _ _ c.in-Ok.bytes.items
-      (record { is = refl; read = rw c.mem.ensures at c.in-Ok.ensures.ok.1 })
+  ended = image_saved (plan_for RunShared c.args.booted) refl _ _ c.in-Ok.bytes.items
+      (record { read = rw c.mem.ensures at c.in-Ok.ensures.ok.1 })
       c.in-Ok-read_script.text.items
-      (record {
-        read = c.in-Ok-read_script.ensures.ok.1;
-        few = omega (arith, c.in-Ok-read_script.ensures.ok.0, c.in-Ok-read_script.text.ok);
-        end = c.in-Ok-read_script.ensures.end;
-      })
+      (read_whole _ _ c.in-Ok-read_script.text c.in-Ok-read_script.ensures.ok c.in-Ok-read_script.ensures.end)
       c.in-Ok-lines.lines (rw c.deref.ensures.value at c.in-Ok-lines.ensures.read)
       c.in-Ok-share.done.0.items c.in-Ok-share.done.1 c.in-Ok-share.ensures
       (rw c.deref-2.ensures.value at c.in-Ok-put.ensures.bytes)
@@ -64,14 +55,10 @@ returns g c = record {
   later = record { source = omega arith; store = omega arith; sink = omega arith };
   caused = omega (arith, c.in-Err-save.ensures.cause.failed);
   kept = λ w. tt;
-  ended = image_unsaved (plan_for RunShared c.args.booted) _ _ c.in-Ok.bytes.items
-      (record { is = refl; read = rw c.mem.ensures at c.in-Ok.ensures.ok.1 })
+  ended = image_unsaved (plan_for RunShared c.args.booted) refl _ _ c.in-Ok.bytes.items
+      (record { read = rw c.mem.ensures at c.in-Ok.ensures.ok.1 })
       c.in-Ok-read_script.text.items
-      (record {
-        read = c.in-Ok-read_script.ensures.ok.1;
-        few = omega (arith, c.in-Ok-read_script.ensures.ok.0, c.in-Ok-read_script.text.ok);
-        end = c.in-Ok-read_script.ensures.end;
-      })
+      (read_whole _ _ c.in-Ok-read_script.text c.in-Ok-read_script.ensures.ok c.in-Ok-read_script.ensures.end)
       c.in-Ok-lines.lines (rw c.deref.ensures.value at c.in-Ok-lines.ensures.read)
       c.in-Ok-share.done.0.items c.in-Ok-share.done.1 c.in-Ok-share.ensures
       (rw c.deref-2.ensures.value at c.in-Ok-put.ensures.bytes)
@@ -83,7 +70,7 @@ returns-in-Err g c = record {
   later = record { source = omega arith; store = omega arith; sink = omega arith };
   caused = load_caused c.in-Err.stop c.mem.result (g.M.Store.holds c.args.image.now) _ _ _ _ _ _ c.in-Err.ensures.err;
   kept = λ w. kept_same (Err c.in-Err.stop) _ _ c.in-Err.ensures.same;
-  ended = load_stopped (plan_for RunShared c.args.booted) _ _ c.in-Err.stop _ _ refl
+  ended = load_stopped (plan_for RunShared c.args.booted) _ (shared_scripted _ refl) _ _ c.in-Err.stop _ _
       (record { left = refl; source = refl }) (record { given = refl; holds = c.in-Err.ensures.same })
       (rw c.mem.ensures at c.in-Err.ensures.err);
 }
@@ -94,8 +81,8 @@ returns-in-Err-read_script g c = record {
   caused = script_caused c.in-Err-read_script.stop (g.S.Source.left c.args.script.now) _ _ _ _ _ _
       c.in-Err-read_script.ensures.err;
   kept = λ w. kept_same (Err c.in-Err-read_script.stop) _ _ c.in-Ok.ensures.same;
-  ended = script_stopped (plan_for RunShared c.args.booted) _ _ c.in-Ok.bytes.items
-      (record { is = refl; read = rw c.mem.ensures at c.in-Ok.ensures.ok.1 }) c.in-Err-read_script.stop _ _
+  ended = script_stopped (plan_for RunShared c.args.booted) _ (shared_scripted _ refl) _ _ c.in-Ok.bytes.items
+      (record { read = rw c.mem.ensures at c.in-Ok.ensures.ok.1 }) c.in-Err-read_script.stop _ _
       (record { given = refl; holds = c.in-Ok.ensures.same }) c.in-Err-read_script.ensures.err;
 }
 
@@ -104,14 +91,10 @@ returns-in-Err-lines g c = record {
   later = record { source = omega arith; store = omega arith; sink = omega arith };
   caused = parse_caused c.in-Err-lines.stop _ _ _ _ _ _ _ c.in-Err-lines.ensures.read;
   kept = λ w. kept_same (Err c.in-Err-lines.stop) _ _ c.in-Ok.ensures.same;
-  ended = parse_stopped (plan_for RunShared c.args.booted) _ _ c.in-Ok.bytes.items
-      (record { is = refl; read = rw c.mem.ensures at c.in-Ok.ensures.ok.1 })
+  ended = parse_stopped (plan_for RunShared c.args.booted) _ (shared_scripted _ refl) _ _ c.in-Ok.bytes.items
+      (record { read = rw c.mem.ensures at c.in-Ok.ensures.ok.1 })
       c.in-Ok-read_script.text.items
-      (record {
-        read = c.in-Ok-read_script.ensures.ok.1;
-        few = omega (arith, c.in-Ok-read_script.ensures.ok.0, c.in-Ok-read_script.text.ok);
-        end = c.in-Ok-read_script.ensures.end;
-      })
+      (read_whole _ _ c.in-Ok-read_script.text c.in-Ok-read_script.ensures.ok c.in-Ok-read_script.ensures.end)
       c.in-Err-lines.stop (record { given = refl; holds = c.in-Ok.ensures.same })
       (rw c.deref.ensures.value at c.in-Err-lines.ensures.read);
 }

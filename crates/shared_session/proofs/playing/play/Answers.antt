@@ -1,23 +1,10 @@
-use Rattle.std.proofs.Common.{◌≡◌, ◌<◌, ℕ, List, [], ◌∷◌, Option, Some, get_or, length, length-append, refl, rules, arith}
-use Rattle.std.specs.Iterator.{Yields}
-use Rattle.std.specs.Vec.Iter.{into_iter_items, into_iter_len, into_iter_steps}
-use Rattle.std.specs.declared.vec.IntoIter.{IntoIter}
+-- The lines that are left of a script at each turn of its loop
+use Rattle.std.proofs.Common.{[], ◌∷◌, length-append, refl, rules, arith}
 use Rattle.std.proofs.lemmas.Iterator.Adapters.{YieldsList-from_vec}
-use Rattle.std.proofs.lemmas.Iterator.Consumers.{YieldsList-turn, YieldsList-end}
-use Rattle.grammar_spec.specs.declared.line.Line.{Line}
+use Rattle.std.proofs.lemmas.Iterator.Consumers.{YieldsList-end}
+use Rattle.box_script.proofs.Taken.{line_taken}
 use Rattle.shared_session.proofs.Played.{plays_none, plays_next, plays_stop, plays_all, few_reserved, field_at}
 use Rattle.shared_session.proofs.playing.play.Goals as goal
-
--- the line that is taken behind so many others is the one at that place
-line_taken : {Z : Type 0} (lines : List Line) (start : IntoIter Line Z) → into_iter_items start ≡ lines
-    → into_iter_len start ≡ length lines → (taken : List Line) (here : IntoIter Line Z)
-    → Yields into_iter_steps start taken here → (given : Option Line) (next : IntoIter Line Z) (line : Line)
-    → given ≡ Some line → into_iter_steps here given next → (number : ℕ) → number ≡ length taken
-    → (number < length lines) × (line ≡ get_or lines number line)
-line_taken lines start items len taken here by given next line is steps number counted =
-    let turn = YieldsList-turn (YieldsList-from_vec {s = start} lines items len) taken here by given next line is
-    steps in
-    rw counted turn
 
 pub loop-line-init : goal.loop-line-init
 loop-line-init c = record { counted = refl; played = plays_none c.args.shared.now c.args.lines }
@@ -58,8 +45,8 @@ loop-line-preserved c =
 
 pub returns : goal.returns
 returns c z image left =
-    let end = YieldsList-end (YieldsList-from_vec {s = c.into_iter-line-iterator.result} c.args.lines (search rules) (search rules))
-    c.loop-line.yielded c.loop-line.line-iterator c.loop-line.yielded_by c.next.result c.next.new.self
+    let end = YieldsList-end (YieldsList-from_vec {s = c.into_iter-line-iterator.result} c.args.lines (search rules)
+    (search rules)) c.loop-line.yielded c.loop-line.line-iterator c.loop-line.yielded_by c.next.result c.next.new.self
     c.in-None.is c.next.ensures.steps in
     plays_all c.args.shared.now c.args.lines c.loop-line.number c.loop-line.shared
     (omega (arith, end.1, c.loop-line.invariant.counted)) c.loop-line.invariant.played z image left
