@@ -1,5 +1,5 @@
 -- How the move of an image ends
-use Rattle.std.proofs.Common.{◌≡◌, ℕ, ◌<◌, ◌≤◌, List, [], ◌∷◌, length, take, Option, Some, Ok, Err, IfSome, refl, sym, ap, ap₂, ◌∙◌, append-nil, inl, inr}
+use Rattle.std.proofs.Common.{◌≡◌, ℕ, ◌<◌, ◌≤◌, List, [], ◌∷◌, length, take, Some, Ok, Err, IfSome, refl, sym, ap, ap₂, ◌∙◌, append-nil, inl, inr}
 use Rattle.std.specs.Io.KnownBytes.{Appends}
 use Rattle.box_io.specs.Outside.{AppendsFront, Writes, WritesFront}
 use Rattle.zone_spec.specs.Records.{Saved}

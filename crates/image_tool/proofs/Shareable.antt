@@ -1,20 +1,18 @@
 -- After a boot and a stop of any image the zone ftrace-0 can be shared where it has no parity
-use Rattle.std.proofs.Common.{◌≡◌, ℕ, zero, suc, ◌+◌, ◌-◌, ◌*◌, ◌<◌, ◌≤◌, Bool, true, false, ◌||◌, ◌==◌, cond, if◌then◌else◌, ◌/◌, nat_lt, List, [], ◌∷◌, ◌++◌, map, flat_map, append_assoc, length, take, drop, get_or, refl, sym, ap, ap₂, ◌∙◌, subst, arith, Some, None, Option, Ok, Err}
-use Rattle.std.specs.Prelude.{slice_get, position}
+use Rattle.std.proofs.Common.{◌≡◌, ℕ, zero, suc, ◌+◌, ◌-◌, ◌*◌, ◌<◌, Bool, true, false, ◌||◌, ◌==◌, cond, if◌then◌else◌, ◌/◌, nat_lt, List, [], ◌∷◌, ◌++◌, map, length, take, drop, get_or, refl, sym, ap, ap₂, ◌∙◌, subst, arith, Some, None, Ok, Err}
+use Rattle.std.specs.Prelude.{slice_get}
 use Rattle.std.specs.List.{AllByRecursion, range_with_len, position_or_len}
 use Rattle.std.proofs.lemmas.Bool.{lt-ltb, and_parts, ltb-false, ne_eqb}
 use Rattle.std.proofs.lemmas.List.Quantifiers.{position-Some}
-use Rattle.std.proofs.lemmas.Option.{slice_get_within}
 use Rattle.zone_spec.specs.declared.Kind.{Kind}
 use Rattle.zone_spec.specs.declared.Kind.TheVariants.{Dump, Console, Ftrace, Pmsg}
 use Rattle.zone_spec.specs.declared.Zone.{Zone}
 use Rattle.zone_spec.specs.declared.Words.{Words}
 use Rattle.zone_spec.specs.declared.params.Params.{Params}
 use Rattle.zone_spec.specs.declared.params.Row.{Row}
-use Rattle.std.proofs.lemmas.List.Sums.{sum_by-cons}
 use Rattle.ram_core.proofs.Lists.{get-of-map}
 use Rattle.zone_spec.specs.Layout.{rounded, even, dump_memory, dump_count, rows, zone_at, zones_from, layout_of, parity_bytes, ecc_of}
-use Rattle.zone_spec.specs.Layouts.{IsLayout, is_zone, zone_place, zones_end}
+use Rattle.zone_spec.specs.Layouts.{IsLayout, is_zone, zone_place}
 use Rattle.zone_spec.specs.Parts.{AreBytes, standing_words}
 use Rattle.zone_spec.specs.Ring.{IsRingForm, IsOpen, IsOpenUnlessDump}
 use Rattle.zone_spec.specs.Records.{is_of}
@@ -23,7 +21,7 @@ use Rattle.zone_params.proofs.Faultless.{faultless}
 use Rattle.zone_params.proofs.Rounding.{rounded_pos}
 use Rattle.zone_params.proofs.RowPlaces.{rows_place, place_in_rows}
 use Rattle.session_spec.specs.Zones.{zone_bytes}
-use Rattle.session_spec.specs.States.{LiveZone, LiveState, Off as OffOf, Live as LiveOf}
+use Rattle.session_spec.specs.States.{LiveState, Off as OffOf, Live as LiveOf}
 use Rattle.session_spec.specs.Off.{fresh}
 use Rattle.session_spec.specs.Boot.{booted, booted_zone}
 use Rattle.session_spec.specs.Stop.{stopped, live_image}

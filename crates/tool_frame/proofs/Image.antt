@@ -1,5 +1,5 @@
 -- How the stages of a command that reads the image, and no script, end it
-use Rattle.std.proofs.Common.{◌≡◌, ℕ, ◌<◌, ◌≤◌, List, [], length, take, Option, Err, IfSome, refl, sym, ap, ◌∙◌, arith, inl, true, false, true≢false}
+use Rattle.std.proofs.Common.{◌≡◌, ℕ, ◌<◌, ◌≤◌, List, [], length, take, Option, Err, IfSome, refl, sym, ap, ◌∙◌, inl, true, true≢false}
 use Rattle.tool_spec.specs.Ends.{End}
 use Rattle.tool_spec.specs.Commands.{RamCommand, RunScript, ListRecords, ExtractRecord, EraseRecord, ShowLayout, BlankImage, MakeImage, FindRings, ReadRing, RamPlan, wanted, wanted_of, reads_image, front_of, mem_of, stops, RunShared}
 use Rattle.tool_spec.specs.Answers.{Outside, IfHolds}

@@ -9,7 +9,7 @@ use Rattle.tool_spec.specs.Commands.{RunScript, RamPlan, Wanted, wanted, mem_of,
 use Rattle.tool_spec.specs.Answers.{Outside, NoScript}
 use Rattle.tool_spec.specs.PlanAnswers.{ram_statuses, IsAmong}
 use Rattle.tool_spec.specs.declared.Stop.{Stop}
-use Rattle.tool_spec.specs.declared.Stop.TheVariants.{Memory, Short, ScriptFault, ImageFault, TooLong, BadLine}
+use Rattle.tool_spec.specs.declared.Stop.TheVariants.{Memory, Short, TooLong, BadLine}
 use Rattle.tool_frame.specs.Stages.{LoadStop, ScriptStop, ParseStop}
 use Rattle.tool_frame.specs.Ended.{Ended, RunEnds, ScriptEnds, CausedAt}
 use Rattle.tool_frame.proofs.Answered.{nothing_put}
