@@ -19,7 +19,6 @@ use Rattle.ram_core.specs.Reports.{report_seen, report_zone}
 use Rattle.old_log.specs.Saving.{SavedLogs}
 use Rattle.ram_core.specs.Booting.{SpansFit, held_after, Adds, PreparesTo, AreLogs}
 use Rattle.ram_core.proofs.Lists.{get-pushed}
-use Rattle.ram_region.proofs.Cutting.{no_zone}
 
 -- a log fits its zone
 pub log_fits : (z : Zone) (image : List ℕ) → length (zone_reading z image).log ≤ z.cap

@@ -1,6 +1,6 @@
 -- The states that a machine stands for as it is told logs
-use Rattle.std.proofs.Common.{◌≡◌, ◌≢◌, ℕ, zero, suc, ◌+◌, ◌<◌, ◌≤◌, Bool, true, false, cond, ◌&&◌, ◌==◌, List, [], ◌∷◌, ◌++◌, length, map, take, slice_get, get_or, set, refl, sym, ap, ap₂, ◌∙◌, subst, arith, Option, Some, None, append-nil, true≢false, eqb-true, not, is_some, ◌%◌}
-use Rattle.std.specs.Prelude.{flat_map, fold, zip}
+use Rattle.std.proofs.Common.{◌≡◌, ◌≢◌, ℕ, zero, suc, ◌+◌, ◌<◌, Bool, true, false, cond, ◌&&◌, ◌==◌, List, [], ◌∷◌, ◌++◌, length, map, take, slice_get, get_or, set, refl, sym, ap, ap₂, ◌∙◌, subst, arith, Option, Some, None, append-nil, true≢false, eqb-true, not, is_some, ◌%◌}
+use Rattle.std.specs.Prelude.{fold, zip}
 use Rattle.std.proofs.lemmas.List.{take_more}
 use Rattle.std.proofs.lemmas.List.Quantifiers.{position-Some}
 use Rattle.std.proofs.lemmas.Option.{slice_get-get_or}

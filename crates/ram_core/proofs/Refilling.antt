@@ -9,19 +9,19 @@ use Rattle.zone_spec.specs.Ring.{IsRingForm, IsOpen}
 use Rattle.zone_spec.specs.Calls.{CanBegin, call_stores}
 use Rattle.zone_spec.specs.Told.{Call, Append}
 use Rattle.session_spec.specs.Zones.{dump_zones}
-use Rattle.session_spec.specs.States.{Flight, LiveZone, LiveState, Live}
+use Rattle.session_spec.specs.States.{Flight, LiveZone, LiveState}
 use Rattle.session_spec.specs.ZoneCalls.{begun, finished}
 use Rattle.session_spec.specs.LiveZones.{is_dump, flies_dump, with_zone}
 use Rattle.session_spec.specs.Moved.{is_blank, with_log}
-use Rattle.session_spec.specs.Sound.{IsLiveZone, IsState}
+use Rattle.session_spec.specs.Sound.{IsLiveZone}
 use Rattle.session_laws.proofs.Zones.{begun-sound}
 use Rattle.session_laws.proofs.LiveStates.{with_zone-sound}
 use Rattle.old_log.proofs.Storing.{span-is}
-use Rattle.ram_region.specs.CutRegion.{CutRegion, span}
+use Rattle.ram_region.specs.CutRegion.{span}
 use Rattle.zone_flight.specs.Flying.{Flying}
 use Rattle.ram_core.specs.declared.zones.HeldZone.{HeldZone}
 use Rattle.ram_core.specs.LiveSeen.{LiveSeen, StandsForZone, StandsLive, ChangesZone}
-use Rattle.ram_core.specs.Running.{IsHeld, IsRunning}
+use Rattle.ram_core.specs.Running.{IsRunning}
 use Rattle.ram_core.specs.Refilling.{IsBlankAt, SaysBlank}
 use Rattle.ram_core.proofs.Changes.{Changes, changed_stands}
 use Rattle.ram_core.proofs.Begun.{here}

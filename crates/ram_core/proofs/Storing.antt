@@ -144,6 +144,17 @@ module _ (k : ℕ) (z : Zone) (f g : Flying) (old new : List ℕ) (steps : Steps
   dump_kind Erase = refl
   dump_kind (Dump line body) = refl
 
+  -- whether a flight of a dump ends by a step, if the test that it goes on says `t`
+  abbrev turns : Flight → LiveZone → Bool → Bool
+  turns h live t = is_dump h.call && not (is_some (LiveZone.flight (cond t (record live {
+    image = image_after z h.call h.image (h.made + k);
+    flight = Some (record h { made = h.made + k });
+  }) (record {
+    image = image_after z h.call h.image (total_stores z h);
+    told = told_after z.cap h.call live.told;
+    flight = None;
+  }))))
+
   not_last : (live : LiveZone) (o : Option Flight) → StandsForSome z old (Some f) o → g.made ≢ total_of g
       → (flies_dump o && not (is_some (stepped_by o z k live).flight)) ≡ false
   not_last live None s some = absurd s
@@ -153,17 +164,7 @@ module _ (k : ℕ) (z : Zone) (f g : Flying) (old new : List ℕ) (steps : Steps
       none true = refl
       none false = refl
 
-      by : (t : Bool) → nat_lt (h.made + k) (total_stores z h) ≡ t
-          → (is_dump h.call && not (is_some (LiveZone.flight
-          (cond t (record live {
-            image = image_after z h.call h.image (h.made + k);
-            flight = Some (record h { made = h.made + k });
-          })
-          (record {
-            image = image_after z h.call h.image (total_stores z h);
-            told = told_after z.cap h.call live.told;
-            flight = None;
-          }))))) ≡ false
+      by : (t : Bool) → nat_lt (h.made + k) (total_stores z h) ≡ t → turns h live t ≡ false
       by true e = none (is_dump h.call)
       by false e = absurd (some (comes_to_end h s e ∙ sym (total_is h s)))
 
@@ -181,17 +182,7 @@ module _ (k : ℕ) (z : Zone) (f g : Flying) (old new : List ℕ) (steps : Steps
       whole true = refl
       whole false = refl
 
-      by : (t : Bool) → nat_lt (h.made + k) (total_stores z h) ≡ t
-          → (is_dump h.call && not (is_some (LiveZone.flight
-          (cond t (record live {
-            image = image_after z h.call h.image (h.made + k);
-            flight = Some (record h { made = h.made + k });
-          })
-          (record {
-            image = image_after z h.call h.image (total_stores z h);
-            told = told_after z.cap h.call live.told;
-            flight = None;
-          }))))) ≡ is_dump_kind kind
+      by : (t : Bool) → nat_lt (h.made + k) (total_stores z h) ≡ t → turns h live t ≡ is_dump_kind kind
       by true test = absurd ((goes_on h s test).1 all)
       by false test = whole (is_dump h.call) ∙ dump_kind h.call
           ∙ ap (λ (c : Call). is_dump_kind (kind_of c)) (sym s.call ∙ sym steps.same.call) ∙ ap is_dump_kind (sym e)

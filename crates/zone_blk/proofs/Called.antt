@@ -1,5 +1,5 @@
 -- The listed record that a text names: no two names have one text
-use Rattle.std.proofs.Common.{◌≡◌, ◌≢◌, ℕ, zero, suc, ◌+◌, ◌*◌, ◌^◌, ◌<◌, ◌≤◌, Bool, true, false, not, ◌||◌, ◌&&◌, ◌==◌, if◌then◌else◌, List, [], ◌∷◌, ◌++◌, codes, length, map, get_or, Option, Some, None, refl, sym, ap, ap₂, subst, ◌∙◌, arith, append_assoc, eq-eqb}
+use Rattle.std.proofs.Common.{◌≡◌, ◌≢◌, ℕ, zero, suc, ◌*◌, ◌^◌, ◌<◌, ◌≤◌, Bool, true, false, not, ◌||◌, ◌&&◌, ◌==◌, if◌then◌else◌, List, [], ◌∷◌, ◌++◌, codes, map, get_or, Option, Some, None, refl, sym, ap, ap₂, subst, ◌∙◌, arith, append_assoc, eq-eqb}
 use Rattle.std.specs.Prelude.{decimal, bytes_eq, nat_lt}
 use Rattle.std.specs.List.{All, find, list_any, list_all}
 use Rattle.std.specs.Str.{IsAscii, IsUtf8}
@@ -14,12 +14,8 @@ use Rattle.std.proofs.lemmas.Str.Ascii.{IsAscii-nil, IsAscii-cons}
 use borrow.Author.Tests.{ltb-true}
 use Rattle.blk_spec.specs.declared.BlkName.{BlkName}
 use Rattle.blk_spec.specs.declared.BlkName.TheVariants.{Dump, Console, Pmsg}
-use Rattle.blk_spec.specs.Layout.{IsLayout}
-use Rattle.blk_spec.specs.declared.BlkLayout.{BlkLayout}
-use Rattle.blk_spec.specs.Reading.{BlkDump}
 use Rattle.blk_spec.specs.Names.{name_text, IsName, IsNameOf, is_name, dump_name}
-use Rattle.blk_spec.specs.States.{BlkState, names_of, name_if, is_listed}
-use Rattle.zone_blk.specs.Loading.{IsIn}
+use Rattle.blk_spec.specs.States.{BlkState, names_of, name_if}
 use Rattle.zone_blk.specs.Answering.{IsLoadedState}
 use Rattle.zone_blk.specs.Decimals.{dump_ending}
 use Rattle.zone_blk.proofs.Texts.{ending, front, plain-not-packed}

@@ -1,5 +1,5 @@
 -- A zone's header and its log read as the whole zone does
-use Rattle.std.proofs.Common.{◌≡◌, ℕ, ◌+◌, ◌-◌, ◌≤◌, ◌<◌, ◌==◌, Bool, true, false, ◌&&◌, nat_lt, List, length, take, drop, ◌++◌, ◌⊎◌, inl, inr, get_or, Option, Some, None, IfSome, refl, sym, ap, ◌∙◌, arith}
+use Rattle.std.proofs.Common.{◌≡◌, ℕ, ◌+◌, ◌-◌, ◌≤◌, ◌<◌, true, false, ◌&&◌, nat_lt, List, length, take, drop, ◌++◌, ◌⊎◌, Option, Some, None, IfSome, refl, sym, ap, ◌∙◌, arith}
 use Rattle.std.specs.List.{slice_range}
 use Rattle.std.proofs.lemmas.List.{take-take, drop-drop, drop-take, get_or-take}
 use Rattle.zone_spec.specs.declared.Words.{Words}

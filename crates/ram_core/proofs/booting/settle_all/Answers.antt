@@ -1,4 +1,4 @@
-use Rattle.std.proofs.Common.{◌≡◌, ◌<◌, ℕ, List, length, get_or, slice_get, Some, sym, ap, ◌∙◌, arith, rules}
+use Rattle.std.proofs.Common.{List, slice_get, ap, ◌∙◌, arith, rules}
 use Rattle.zone_spec.specs.declared.Zone.{Zone}
 use Rattle.zone_params.specs.Laid.{zones_of}
 use Rattle.ram_core.proofs.Settling.{settles_next, next_zone, zone_is}

@@ -1,4 +1,4 @@
-use Rattle.std.proofs.Common.{◌<◌, length, take, arith, subst, List}
+use Rattle.std.proofs.Common.{arith, subst, List}
 use Rattle.std.proofs.lemmas.List.{take_all}
 use Rattle.zone_spec.specs.Records.{Saved}
 use Rattle.old_log.specs.Saving.{saved}

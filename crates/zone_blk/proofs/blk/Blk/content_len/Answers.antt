@@ -1,4 +1,4 @@
-use Rattle.std.proofs.Common.{◌∙◌, sym, ap, length, List, ℕ}
+use Rattle.std.proofs.Common.{◌∙◌, sym, ap, length, List}
 use Rattle.std.specs.List.{find}
 use Rattle.std.specs.Option.{option_map}
 use Rattle.blk_spec.specs.declared.BlkName.{BlkName}

@@ -1,7 +1,5 @@
 -- A text names a listed record where it is a name's text and that name is listed
-use Rattle.std.proofs.Common.{◌≡◌, Bool, true, false, if◌then◌else◌, Option, Some, None, sym, ap, subst, ◌∙◌}
-use Rattle.blk_spec.specs.declared.BlkName.{BlkName}
-use Rattle.blk_spec.specs.Names.{is_name}
+use Rattle.std.proofs.Common.{Bool, if◌then◌else◌, Some, None, sym, ap, subst, ◌∙◌}
 use Rattle.blk_spec.specs.States.{names_of}
 use Rattle.zone_blk.specs.Answering.{IsLoadedState}
 use Rattle.zone_blk.proofs.Called.{all-names, found, found-none}
