@@ -12,6 +12,7 @@ use old_log::Logs;
 use pstore_names::{Counts, counts_at, counts_of, name_text};
 use record_report::RecordReport;
 use serde_json::{Value, json};
+use simdutf8::compat::from_utf8;
 use std::alloc::{AllocError, Global};
 use zone_spec::{Name, Time};
 
@@ -74,7 +75,7 @@ fn record_value(alloc: Global, logs: &Logs, held: &RecordReport) -> Result<Value
     ensures { IfOk result (λ v. view v ≡ record_data (saved logs.now) held.now) }
 {
     let bytes = held.content.as_slice();
-    match str::from_utf8(bytes) {
+    match from_utf8(bytes) {
         Ok(text) => {
             let text = Value::try_from_str(alloc, text)?;
             let base64 = null_value();

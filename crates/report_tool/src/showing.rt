@@ -25,7 +25,7 @@ fn json_line(alloc: Global, plan: &Plan, path: &str, report: &Report) -> Result<
     ensures { IfOk result (λ line. Shows Format.Json path.now plan.now report.now line.items) }
 {
     let line = json(alloc, path, &plan.params, &plan.zones, report)?;
-    let mut bytes = Vec::from_slice(alloc, line.as_bytes())?;
+    let mut bytes = line.into_bytes();
     bytes.push(b'\n')?;
     Ok(bytes)
 }
