@@ -125,6 +125,7 @@ fn all_stay(alloc: Global, logs: &Logs, layout: &Layout) -> Result<Vec<bool>, Al
 /// Forgets the logs of all records that do not fit, and of the zones that are in no record.
 pub fn forget_unfit(alloc: Global, logs: &mut Logs, layout: &Layout) -> Result<(), AllocError>
     ensures forgotten { OnOk result (saved logs.new ≡ fitting (zones_of layout.now) (saved logs.old)) }
+    ensures zones { logs.new.zones ≡ logs.old.zones }
     ensures unchanged { OnErr result (logs.new ≡ logs.old) }
 {
     let all = all_stay(alloc, logs, layout)?;

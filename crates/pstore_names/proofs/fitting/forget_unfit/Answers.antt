@@ -28,5 +28,6 @@ pub returns : goal.returns
 returns c = record {
   forgotten = forgets_all (zones_of c.args.layout.now) c.args.logs.now c.loop-i.logs c.loop-i.i c.loop-i.invariant
       (omega (arith, c.len-i-end.ensures.saved, c.loop-i-test.false));
+  zones = c.loop-i.invariant.zones;
   unchanged = tt;
 }
