@@ -42,3 +42,8 @@ zones-next zones readings parts n values more d are is same = record {
 pub if_ok : {A E : Type 0} (r : Result A E) (P Q : A → Type 0) → ((a : A) → P a → Q a) → IfOk r P → IfOk r Q
 if_ok (Ok a) P Q h p = h a p
 if_ok (Err e) P Q h p = p
+
+pub if_both : {A E : Type 0} (r : Result A E) (P Q R : A → Type 0) → ((a : A) → P a → Q a → R a) → IfOk r P
+    → IfOk r Q → IfOk r R
+if_both (Ok a) P Q R h p q = h a p q
+if_both (Err e) P Q R h p q = p

@@ -1,6 +1,8 @@
 -- The data of a report's line, schema 1
 use Rattle.std.specs.Prelude.{◌≡◌, ℕ, ◌-◌, ◌<◌, Bool, if◌then◌else◌, List, [], ◌++◌, length, map, slice_get, Option, Some, None, option_to_list, replicate, codes}
 use Rattle.std.specs.Str.{is_utf8}
+use Rattle.json.specs.Lex.{tokens}
+use Rattle.json.specs.Print.{print}
 use Rattle.base64.specs.Engines.{standard}
 use Rattle.base64.specs.GeneralPurpose.{encode_of}
 use Rattle.serde_json.specs.Data.{Data, null, number, unsigned, string, array, object, member, no_members}
@@ -151,10 +153,11 @@ abbrev pub line_data : List ℕ → Params → List Data → List Data → Data
 line_data path params zones records =
     line_with path (parameters_data params) (array (items_of records)) (array (items_of zones))
 
--- the line of a report: the tokens of this data, in order
+-- the line of a report: the tokens of this data, in order, with nothing between them
 pub record IsLine (path : List ℕ) (params : Params) (zones : List Zone) (report : ReportHeld) (text : List ℕ)
     : Type 0 where
   pub values : List Data
   pub each_zone : AreZones zones report.logs.readings report.parts (length zones) values
   pub in_order : IsInOrder text (line_data path params values
       (map (record_data (saved report.logs)) report.records))
+  pub compact : text ≡ print (tokens text)

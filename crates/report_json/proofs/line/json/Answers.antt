@@ -6,7 +6,7 @@ use Rattle.serde_json.specs.Written.{IsInOrder}
 use Rattle.old_log.specs.Saving.{SavedLogs, saved}
 use Rattle.report_spec.specs.Parts.{PartStates}
 use Rattle.report_json.specs.Schema.{line_with, parameters_data, record_data, AreZones}
-use Rattle.report_json.proofs.Places.{if_ok}
+use Rattle.report_json.proofs.Places.{if_both}
 use Rattle.report_json.proofs.line.json.Goals as goal
 
 pub returns : goal.returns
@@ -27,11 +27,12 @@ returns c =
     (c.from-records.ensures ∙ ap (λ (ds : List Data). array (items_of ds)) records)
     ∙ ap (line_with c.args.path.now parameters
     (array (items_of (map (record_data (saved held.logs)) held.records)))) c.from-zones.ensures in
-    if_ok c.to_string.result _ _ (λ text order. record {
+    if_both c.to_string.result _ _ _ (λ text order compact. record {
       values = values;
       each_zone = subst (λ (ps : List PartStates). AreZones c.args.zones.now held.logs.readings ps
           (length c.args.zones.now) values) c.parts.ensures
           (subst (λ (l : SavedLogs). AreZones c.args.zones.now l.readings c.parts.result.now
           (length c.args.zones.now) values) c.logs-2.ensures c.in_ok-zone_list.ensures);
       in_order = subst (IsInOrder (string_bytes text)) line order;
-    }) c.to_string.ensures.order
+      compact = compact;
+    }) c.to_string.ensures.order c.to_string.ensures.compact
