@@ -2,6 +2,7 @@
 use box_io::Bytes;
 use old_log::*;
 use ram_region::{Region, Spans};
+use report_spec::PartState;
 use std::alloc::{AllocError, Global};
 use std::process::Abort;
 use std::test::Fail;
@@ -108,6 +109,23 @@ fn read(alloc: Global, layout: &Layout, spans: &Spans, i: usize) -> Result<Readi
     if i < zones.len() && i < all.len() {
         if all[i].len() == zones[i].size {
             return read_zone(alloc, &all[i], &zones[i]);
+        }
+    }
+    Err(AllocError)
+}
+
+// The reading of zone i and its parts.
+fn read_with_parts(
+    alloc: Global,
+    layout: &Layout,
+    spans: &Spans,
+    i: usize,
+) -> Result<(Reading, ZoneParts), AllocError> {
+    let zones = layout.zones();
+    let all = spans.all();
+    if i < zones.len() && i < all.len() {
+        if all[i].len() == zones[i].size {
+            return read_parts(alloc, &all[i], &zones[i]);
         }
     }
     Err(AllocError)
@@ -339,6 +357,25 @@ fn nine_flips_in_a_block_are_not_corrected(rt: HostRuntime) -> Result<(), Fail> 
     put(log.as_mut_slice(), 0, damaged.as_slice());
     let reading = reading_of(alloc, &four(1), 2, image.as_slice())?;
     assert!(rt; is_reading(&reading, State::Found, (200, 200), (0, 1), log.as_slice()));
+    Ok(())
+}
+
+// Two blocks that read, the first with one wrong byte; the header as it stands.
+#[test]
+fn parts_as_they_read(rt: HostRuntime) -> Result<(), Fail> {
+    let alloc = rt.alloc();
+    let log = Vec::from_elem(alloc, 0x61u8, 200)?;
+    let mut bytes = ring(alloc, 200, 200, log.as_slice())?;
+    put(bytes.as_mut_slice(), 3616, PARITY_OF_128.as_slice());
+    put(bytes.as_mut_slice(), 3632, PARITY_OF_72.as_slice());
+    put(bytes.as_mut_slice(), 4080, PARITY_OF_200.as_slice());
+    put(bytes.as_mut_slice(), 12, &[0x60]);
+    let (layout, spans) = image(alloc, &four(1), 2, bytes.as_slice())?;
+    let (reading, parts) = read_with_parts(alloc, &layout, &spans, 2)?;
+    assert!(rt; is_reading(&reading, State::Found, (200, 200), (1, 0), log.as_slice()));
+    assert_eq!(rt; parts.header, PartState::Read(0));
+    let blocks = [PartState::Read(1), PartState::Read(0)];
+    assert_eq!(rt; parts.blocks.as_slice(), blocks.as_slice());
     Ok(())
 }
 
