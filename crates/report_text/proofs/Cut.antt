@@ -1,9 +1,11 @@
 -- Rows that are cut, one byte after another
-use Rattle.std.proofs.Common.{◌≡◌, ℕ, ◌+◌, ◌-◌, ◌<◌, ◌≤◌, Bool, true, false, List, [], ◌∷◌, ◌++◌, length, take, drop, get_or, refl, ap, ap₂, sym, ◌∙◌, arith, append_assoc, append-nil, ◌==◌}
-use Rattle.std.specs.Prelude.{if◌then◌else◌, nat_lt, slice_range, flat_map}
+use Rattle.std.proofs.Common.{◌≡◌, ℕ, ◌+◌, ◌-◌, ◌<◌, ◌≤◌, Bool, true, false, List, [], ◌∷◌, ◌++◌, length, take, drop, get_or, subst, refl, ap, ap₂, sym, ◌∙◌, arith, append_assoc, append-nil, ◌==◌}
+use Rattle.std.specs.Prelude.{if◌then◌else◌, nat_lt, slice_range}
 use Rattle.std.proofs.Common.{length-drop}
 use Rattle.std.proofs.lemmas.Bool.{lt-ltb, le-ltb}
-use Rattle.std.proofs.lemmas.List.{drop_more, take_more, get_or-drop}
+use Rattle.std.proofs.lemmas.List.{drop_more, take_more, take_all, get_or-drop}
+use Rattle.std.proofs.Math.ListN.{drop_of_length-le}
+use Rattle.std.proofs.lemmas.Bool.{ne_eqb}
 use Rattle.report_text.specs.Pieces.{Part}
 use Rattle.report_text.specs.Tails.{columns, rows_from, row_parts, rows_parts, row_unless_empty}
 
@@ -93,3 +95,78 @@ begun-more bytes from i d f h =
     ∙ take_more (drop from bytes) (i - from) d (omega (arith, length-drop from bytes, f, h))
     ∙ ap (λ (b : ℕ). slice_range bytes from i ++ b ∷ []) (get_or-drop from bytes (i - from) d
     ∙ ap (λ (k : ℕ). get_or bytes k d) (let z : from + (i - from) ≡ i = omega (arith, f) in z))
+
+-- ---- one byte more, and the end
+
+here : (done : List Part) (bs : List ℕ) (from i taken d : ℕ) (all : List Part) → i < length bs
+    → IsLeft done (slice_range bs from i) taken (drop i bs) all
+    → IsLeft done (slice_range bs from i) taken (get_or bs i d ∷ drop (i + 1) bs) all
+here done bs from i taken d all h l =
+    subst (λ (xs : List ℕ). IsLeft done (slice_range bs from i) taken xs all) (drop_more bs i d h) l
+
+begins : (done : List Part) (row begun : List ℕ) (taken filled : ℕ) (bytes : List ℕ) (all : List Part)
+    → begun ≡ row → filled ≡ taken → IsLeft done row taken bytes all → IsLeft done begun filled bytes all
+begins done row begun taken filled bytes all e f l = record {
+  is = ap₂ (λ (r : List ℕ) (t : ℕ). done ++ rows_parts (rows_from r t bytes)) e f ∙ l.is;
+}
+
+pub newline-step : (done new : List Part) (bs : List ℕ) (from i taken d begun filled : ℕ) (all : List Part)
+    → i < length bs → IsLeft done (slice_range bs from i) taken (drop i bs) all → get_or bs i d ≡ 10
+    → new ≡ done ++ row_parts (slice_range bs from i) → begun ≡ i + 1 → filled ≡ 0
+    → IsLeft new (slice_range bs begun (i + 1)) filled (drop (i + 1) bs) all
+newline-step done new bs from i taken d begun filled all h l e f eb ef =
+    begins new [] (slice_range bs begun (i + 1)) 0 filled (drop (i + 1) bs) all
+    (ap (λ (k : ℕ). slice_range bs k (i + 1)) eb ∙ none-begun bs (i + 1)) ef
+    (at-newline done new (slice_range bs from i) taken (get_or bs i d) (drop (i + 1) bs) all
+    (here done bs from i taken d all h l) (ap (λ (b : ℕ). b == 10) e) f)
+
+pub full-step : (done new : List Part) (bs : List ℕ) (from i taken d next begun filled : ℕ) (all : List Part)
+    → i < length bs → IsLeft done (slice_range bs from i) taken (drop i bs) all → (get_or bs i d ≡ 10 → ⊥)
+    → next ≡ columns (get_or bs i d) → 76 < taken + next
+    → new ≡ done ++ row_parts (slice_range bs from i) → begun ≡ i → filled ≡ next
+    → IsLeft new (slice_range bs begun (i + 1)) filled (drop (i + 1) bs) all
+full-step done new bs from i taken d next begun filled all h l other e full f eb ef =
+    begins new (get_or bs i d ∷ []) (slice_range bs begun (i + 1)) (columns (get_or bs i d)) filled
+    (drop (i + 1) bs) all (ap (λ (k : ℕ). slice_range bs k (i + 1)) eb ∙ one-begun bs i d h) (ef ∙ e)
+    (at-full done new (slice_range bs from i) taken (get_or bs i d) (drop (i + 1) bs) all
+    (here done bs from i taken d all h l) (ne_eqb (get_or bs i d) 10 other)
+    (subst (λ (k : ℕ). 76 < taken + k) e full) f)
+
+pub byte-step : (done new : List Part) (bs : List ℕ) (from i taken d next begun filled : ℕ) (all : List Part)
+    → i < length bs → from ≤ i → IsLeft done (slice_range bs from i) taken (drop i bs) all
+    → (get_or bs i d ≡ 10 → ⊥) → next ≡ columns (get_or bs i d) → taken + next ≤ 76 → new ≡ done → begun ≡ from
+    → filled ≡ taken + next → IsLeft new (slice_range bs begun (i + 1)) filled (drop (i + 1) bs) all
+byte-step done new bs from i taken d next begun filled all h p l other e room f eb ef =
+    begins new (slice_range bs from i ++ get_or bs i d ∷ []) (slice_range bs begun (i + 1))
+    (taken + columns (get_or bs i d)) filled (drop (i + 1) bs) all
+    (ap (λ (k : ℕ). slice_range bs k (i + 1)) eb ∙ begun-more bs from i d p h)
+    (ef ∙ ap (λ (k : ℕ). taken + k) e)
+    (at-byte new (slice_range bs from i) taken (get_or bs i d) (drop (i + 1) bs) all
+    (here new bs from i taken d all h
+    (subst (λ (ps : List Part). IsLeft ps (slice_range bs from i) taken (drop i bs) all) (sym f) l))
+    (ne_eqb (get_or bs i d) 10 other) (subst (λ (k : ℕ). taken + k ≤ 76) e room))
+
+pub last-step : (done new : List Part) (bs : List ℕ) (from i taken d : ℕ) (all : List Part) → length bs ≤ i
+    → from < length bs → IsLeft done (slice_range bs from i) taken (drop i bs) all
+    → new ≡ done ++ row_parts (slice_range bs from (length bs)) → new ≡ all
+last-step done new bs from i taken d all past h l e =
+    let row : slice_range bs from i ≡ get_or bs from d ∷ drop (from + 1) bs =
+    take_all (i - from) (drop from bs) (omega (arith, length-drop from bs, past)) ∙ drop_more bs from d h in
+    let left : IsLeft done (get_or bs from d ∷ drop (from + 1) bs) taken [] all = record {
+      is = sym (ap₂ (λ (r xs : List ℕ). done ++ rows_parts (rows_from r taken xs)) row (drop_of_length-le bs past))
+          ∙ l.is;
+    } in
+    at-last done new (get_or bs from d) (drop (from + 1) bs) taken all left
+    (e ∙ ap (λ (r : List ℕ). done ++ row_parts r)
+    (take_all (length bs - from) (drop from bs) (omega (arith, length-drop from bs)) ∙ drop_more bs from d h))
+
+pub end-step : (done : List Part) (bs : List ℕ) (from i taken : ℕ) (all : List Part) → length bs ≤ i → length bs ≤ from
+    → IsLeft done (slice_range bs from i) taken (drop i bs) all → done ≡ all
+end-step done bs from i taken all past none l =
+    let row : slice_range bs from i ≡ [] =
+    ap (λ (xs : List ℕ). take (i - from) xs) (drop_of_length-le bs none) ∙ take_all (i - from) [] (omega arith) in
+    let left : IsLeft done [] taken [] all = record {
+      is = sym (ap₂ (λ (r xs : List ℕ). done ++ rows_parts (rows_from r taken xs)) row (drop_of_length-le bs past))
+          ∙ l.is;
+    } in
+    at-end done taken all left

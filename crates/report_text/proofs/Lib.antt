@@ -5,3 +5,4 @@ pub mod Rendered
 pub mod RecordRows
 pub mod Tailed
 pub mod Cut
+pub mod Ends

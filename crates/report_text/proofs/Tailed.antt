@@ -1,8 +1,9 @@
 -- The last lines of bytes, found from their end on
-use Rattle.std.proofs.Common.{◌≡◌, ℕ, zero, suc, ◌+◌, ◌<◌, ◌≤◌, Bool, true, false, ◌&&◌, not, List, [], ◌∷◌, length, drop, get_or, refl, ap, sym, ◌∙◌, arith, ◌==◌}
-use Rattle.std.specs.Prelude.{if◌then◌else◌, nat_lt}
-use Rattle.std.proofs.lemmas.Bool.{lt-ltb, le-ltb}
+use Rattle.std.proofs.Common.{◌≡◌, ℕ, zero, suc, ◌+◌, ◌-◌, ◌<◌, ◌≤◌, Bool, true, false, ◌&&◌, not, List, [], ◌∷◌, length, drop, get_or, refl, ap, sym, ◌∙◌, arith, ◌==◌}
+use Rattle.std.specs.Prelude.{if◌then◌else◌}
+use Rattle.std.proofs.lemmas.Bool.{lt-ltb, le-ltb, ne_eqb}
 use Rattle.std.proofs.lemmas.List.{drop_more}
+use Rattle.std.proofs.Math.Seq.{drop-length}
 use Rattle.report_text.specs.Tails.{is_empty, breaks, last_lines}
 
 few-lines : (bs : List ℕ) → breaks bs < 10 → last_lines bs ≡ bs
@@ -56,6 +57,9 @@ break-here bs i d h e =
     ∙ ap (λ (b : ℕ). (if (b == 10) && not (is_empty (drop (i + 1) bs)) then 1 else 0) + breaks (drop (i + 1) bs)) e
     ∙ ap (λ (t : Bool). (if not t then 1 else 0) + breaks (drop (i + 1) bs)) (empty-drop (i + 1) bs h)
 
+none-more : (n : ℕ) → 0 + n ≡ n
+none-more n = omega arith
+
 and-none : (a : Bool) → a && false ≡ false
 and-none true = refl
 and-none false = refl
@@ -68,6 +72,7 @@ none-last bs i d h e =
     ∙ ap (λ (t : Bool). (if (get_or bs i d == 10) && not t then 1 else 0) + breaks (drop (i + 1) bs))
     (empty-end (i + 1) bs e)
     ∙ ap (λ (t : Bool). (if t then 1 else 0) + breaks (drop (i + 1) bs)) (and-none (get_or bs i d == 10))
+    ∙ none-more (breaks (drop (i + 1) bs))
 
 -- another byte than a newline
 pub none-here : (bs : List ℕ) (i : ℕ) (d : ℕ) → i < length bs → (get_or bs i d == 10) ≡ false
@@ -75,3 +80,53 @@ pub none-here : (bs : List ℕ) (i : ℕ) (d : ℕ) → i < length bs → (get_o
 none-here bs i d h e =
     ap breaks (drop_more bs i d h) ∙ one-more (get_or bs i d) (drop (i + 1) bs)
     ∙ ap (λ (t : Bool). (if t && not (is_empty (drop (i + 1) bs)) then 1 else 0) + breaks (drop (i + 1) bs)) e
+    ∙ none-more (breaks (drop (i + 1) bs))
+
+-- ---- one place further to the front
+
+pub none-behind : (bs : List ℕ) → 0 ≡ breaks (drop (length bs) bs)
+unfolding breaks
+none-behind bs = ap breaks (sym (drop-length bs))
+
+behind : (bs : List ℕ) (i : ℕ) → 0 < i → breaks (drop (i - 1 + 1) bs) ≡ breaks (drop i bs)
+behind bs i h = ap (λ (k : ℕ). breaks (drop k bs)) (let back : i - 1 + 1 ≡ i = omega (arith, h) in back)
+
+-- the tenth line begins behind this newline
+pub tenth : (bs : List ℕ) (i lines d : ℕ) → 0 < i → lines ≡ breaks (drop i bs) → lines < 10 → lines + 1 ≡ 10
+    → i - 1 + 1 < length bs → get_or bs (i - 1) d ≡ 10 → drop (i - 1 + 1) bs ≡ last_lines bs
+tenth bs i lines d h e few ten within is =
+    let here = break-here bs (i - 1) d within is in
+    let next = behind bs i h in
+    let same : i - 1 + 1 ≡ suc (i - 1) = omega arith in
+    let start : breaks (drop (suc (i - 1)) bs) ≡ breaks (drop (i - 1 + 1) bs) =
+    ap (λ (k : ℕ). breaks (drop k bs)) (sym same) in
+    ap (λ (k : ℕ). drop k bs) same
+    ∙ last-from (i - 1) bs (omega (arith, start, next, e, few)) (omega (arith, here, next, e, ten))
+
+pub line-more : (bs : List ℕ) (i lines d : ℕ) → 0 < i → lines ≡ breaks (drop i bs) → i - 1 + 1 < length bs
+    → get_or bs (i - 1) d ≡ 10 → lines + 1 ≡ breaks (drop (i - 1) bs)
+line-more bs i lines d h e within is =
+    let here = break-here bs (i - 1) d within is in
+    let next = behind bs i h in
+    omega (arith, here, next, e)
+
+pub no-line : (bs : List ℕ) (i lines d : ℕ) → 0 < i → i ≤ length bs → lines ≡ breaks (drop i bs)
+    → (get_or bs (i - 1) d ≡ 10 → ⊥) → lines ≡ breaks (drop (i - 1) bs)
+no-line bs i lines d h within e other =
+    let here = none-here bs (i - 1) d (omega (arith, h, within)) (ne_eqb (get_or bs (i - 1) d) 10 other) in
+    let next = behind bs i h in
+    omega (arith, here, next, e)
+
+pub no-line-at-end : (bs : List ℕ) (i lines d : ℕ) → 0 < i → i ≤ length bs → lines ≡ breaks (drop i bs)
+    → length bs ≤ i - 1 + 1 → lines ≡ breaks (drop (i - 1) bs)
+no-line-at-end bs i lines d h within e last =
+    let here = none-last bs (i - 1) d (omega (arith, h, within)) last in
+    let next = behind bs i h in
+    omega (arith, here, next, e)
+
+-- no place is left, with fewer than ten lines
+pub whole-last : (bs : List ℕ) (i lines : ℕ) → i ≤ 0 → lines ≡ breaks (drop i bs) → lines < 10 → bs ≡ last_lines bs
+whole-last bs i lines h e few =
+    let front : i ≡ 0 = omega (arith, h) in
+    let same : breaks (drop i bs) ≡ breaks bs = ap (λ (k : ℕ). breaks (drop k bs)) front in
+    last-all bs (omega (arith, e, same, few))

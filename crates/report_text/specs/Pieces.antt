@@ -1,5 +1,5 @@
 -- The pieces of a text
-use Rattle.std.specs.Prelude.{ℕ, ◌-◌, ◌++◌, List, [], ◌∷◌, length, take, min, map, flat_map, codes, decimal}
+use Rattle.std.specs.Prelude.{ℕ, ◌-◌, ◌++◌, List, length, take, min, map, flat_map, codes, decimal}
 use Rattle.report_spec.specs.Visible.{visible}
 use Rattle.report_text.specs.declared.pieces.Piece.{Piece}
 use Rattle.report_text.specs.declared.pieces.Piece.TheVariants.{Own, Number, Date, Foreign}

@@ -113,10 +113,10 @@ fn add_tail<'a>(
     }
 }
 
-fn is_console(name: Name) -> bool
-    ensures { result ≡ is_console name }
+fn is_console(entry: &RecordReport) -> bool
+    ensures { result ≡ is_console entry.now.name }
 {
-    match name {
+    match entry.name {
         Name::Console => true,
         Name::Dump { .. } | Name::Pmsg | Name::Ftrace => false,
     }
@@ -126,7 +126,7 @@ fn console(records: &[RecordReport]) -> Option<&RecordReport>
     ensures { option_copied result ≡ console_of records.now }
 {
     for entry in records {
-        if is_console(entry.name) {
+        if is_console(entry) {
             return Some(entry);
         }
     }

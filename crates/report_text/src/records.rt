@@ -29,24 +29,24 @@ fn add_date(pieces: &mut Vec<Piece<'_>>, date: DateTime, micros: u32) -> Result<
     ensures { OnOk result (parts pieces.new.items ≡ parts pieces.old.items ++ dated date micros) }
 {
     add(
-            pieces,
-            &[
-                Piece::Date(4, u64::from(date.year().unsigned_abs())),
-                Piece::Own("-"),
-                Piece::Date(2, u64::from(date.month().unsigned_abs())),
-                Piece::Own("-"),
-                Piece::Date(2, u64::from(date.day().unsigned_abs())),
-                Piece::Own(" "),
-                Piece::Date(2, u64::from(date.hour().unsigned_abs())),
-                Piece::Own(":"),
-                Piece::Date(2, u64::from(date.minute().unsigned_abs())),
-                Piece::Own(":"),
-                Piece::Date(2, u64::from(date.second().unsigned_abs())),
-                Piece::Own("."),
-                Piece::Date(6, u64::from(micros)),
-                Piece::Own(" UTC"),
-            ],
-        )
+        pieces,
+        &[
+            Piece::Date(4, u64::from(date.year().unsigned_abs())),
+            Piece::Own("-"),
+            Piece::Date(2, u64::from(date.month().unsigned_abs())),
+            Piece::Own("-"),
+            Piece::Date(2, u64::from(date.day().unsigned_abs())),
+            Piece::Own(" "),
+            Piece::Date(2, u64::from(date.hour().unsigned_abs())),
+            Piece::Own(":"),
+            Piece::Date(2, u64::from(date.minute().unsigned_abs())),
+            Piece::Own(":"),
+            Piece::Date(2, u64::from(date.second().unsigned_abs())),
+            Piece::Own("."),
+            Piece::Date(6, u64::from(micros)),
+            Piece::Own(" UTC"),
+        ],
+    )
 }
 
 fn add_seconds(pieces: &mut Vec<Piece<'_>>, time: Time) -> Result<(), AllocError>
@@ -72,10 +72,7 @@ pub fn add_time(pieces: &mut Vec<Piece<'_>>, time: Time) -> Result<(), AllocErro
     }
 }
 
-fn add_time_or_blanks(
-    pieces: &mut Vec<Piece<'_>>,
-    time: Option<Time>,
-) -> Result<(), AllocError>
+fn add_time_or_blanks(pieces: &mut Vec<Piece<'_>>, time: Option<Time>) -> Result<(), AllocError>
     ensures { OnOk result (Adds (IsTime time) (parts pieces.old.items) (parts pieces.new.items)) }
 {
     match time {

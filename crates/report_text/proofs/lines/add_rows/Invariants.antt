@@ -1,5 +1,5 @@
 -- The row that is begun is a range of the bytes so far, and with the rows that are left all will be added
-use Rattle.std.proofs.Common.{◌≡◌, ◌≤◌, ◌++◌, [], drop}
+use Rattle.std.proofs.Common.{◌≤◌, ◌++◌, [], drop}
 use Rattle.std.specs.Prelude.{slice_range}
 use Rattle.report_text.specs.Pieces.{parts}
 use Rattle.report_text.specs.Tails.{rows_from, rows_parts}

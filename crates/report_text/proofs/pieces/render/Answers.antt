@@ -1,5 +1,5 @@
 -- The text of all pieces is that of their parts
-use Rattle.std.proofs.Common.{◌≡◌, ◌∙◌, List, ap, arith}
+use Rattle.std.proofs.Common.{◌∙◌, List, ap, arith}
 use Rattle.std.specs.Prelude.{flat_map}
 use Rattle.std.proofs.lemmas.List.{take_all}
 use Rattle.report_text.specs.declared.pieces.Piece.{Piece}
