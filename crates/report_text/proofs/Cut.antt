@@ -84,7 +84,8 @@ at-last done new b row taken all l e =
 pub none-begun : (bytes : List ℕ) (i : ℕ) → slice_range bytes i i ≡ []
 none-begun bytes i = ap (λ (n : ℕ). take n (drop i bytes)) (let z : i - i ≡ 0 = omega arith in z)
 
-pub one-begun : (bytes : List ℕ) (i : ℕ) (d : ℕ) → i < length bytes → slice_range bytes i (i + 1) ≡ get_or bytes i d ∷ []
+pub one-begun : (bytes : List ℕ) (i : ℕ) (d : ℕ) → i < length bytes
+    → slice_range bytes i (i + 1) ≡ get_or bytes i d ∷ []
 one-begun bytes i d h =
     ap₂ (λ (n : ℕ) (xs : List ℕ). take n xs) (let z : i + 1 - i ≡ 1 = omega arith in z) (drop_more bytes i d h)
 

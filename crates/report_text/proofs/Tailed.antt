@@ -49,7 +49,7 @@ one-more : (b : ℕ) (bs : List ℕ) → breaks (b ∷ bs) ≡ (if (b == 10) && 
 unfolding breaks
 one-more b bs = refl
 
--- a newline with a byte behind it
+-- a newline with a byte after it
 pub break-here : (bs : List ℕ) (i : ℕ) (d : ℕ) → i + 1 < length bs → get_or bs i d ≡ 10
     → breaks (drop i bs) ≡ 1 + breaks (drop (i + 1) bs)
 break-here bs i d h e =
@@ -91,7 +91,7 @@ none-behind bs = ap breaks (sym (drop-length bs))
 behind : (bs : List ℕ) (i : ℕ) → 0 < i → breaks (drop (i - 1 + 1) bs) ≡ breaks (drop i bs)
 behind bs i h = ap (λ (k : ℕ). breaks (drop k bs)) (let back : i - 1 + 1 ≡ i = omega (arith, h) in back)
 
--- the tenth line begins behind this newline
+-- the tenth line begins after this newline
 pub tenth : (bs : List ℕ) (i lines d : ℕ) → 0 < i → lines ≡ breaks (drop i bs) → lines < 10 → lines + 1 ≡ 10
     → i - 1 + 1 < length bs → get_or bs (i - 1) d ≡ 10 → drop (i - 1 + 1) bs ≡ last_lines bs
 tenth bs i lines d h e few ten within is =

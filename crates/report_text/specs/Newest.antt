@@ -18,6 +18,7 @@ later_than (Some t) (Some u) = is_later t u
 abbrev pub is_newer : RecordHeld → Option RecordHeld → Bool
 is_newer r held = later_than r.time (option_and_then (λ (h : RecordHeld). h.time) held)
 
+-- the record that is held, or one that is newer
 abbrev pub newer_of : Option RecordHeld → RecordHeld → Option RecordHeld
 newer_of held r = if is_newer r held then Some r else held
 

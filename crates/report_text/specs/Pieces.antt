@@ -4,8 +4,8 @@ use Rattle.report_spec.specs.Visible.{visible}
 use Rattle.report_text.specs.declared.pieces.Piece.{Piece}
 use Rattle.report_text.specs.declared.pieces.Piece.TheVariants.{Own, Number, Date, Foreign}
 
--- a part of a text: its own words; a number after blanks, or one of a date after zeros, that fill so many columns;
--- foreign bytes
+-- a part of a text: its own words; a number, with blanks before it up to so many columns; a number of a date, with
+-- zeros before it; or foreign bytes
 pub data Part : Type 0 where
   Words : (text : List ℕ) → Part
   Count : (columns n : ℕ) → Part
@@ -26,7 +26,7 @@ part_text (Bytes bytes) = visible bytes
 abbrev pub parts_text : List Part → List ℕ
 parts_text parts = flat_map part_text parts
 
--- what a piece is a part of a text
+-- the part of a text that a piece is
 abbrev pub part_of : Piece → Part
 part_of (Own text) = Words text.now
 part_of (Number columns n) = Count columns n

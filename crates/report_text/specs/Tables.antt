@@ -49,7 +49,7 @@ zone_row zone =
 
 -- ---- records
 
--- a time of a calendar's date, in UTC
+-- a date and a time of day, in UTC
 abbrev pub dated : DateTime → ℕ → List Part
 dated date micros =
     Digits 4 (unsigned_abs date.date.year) ∷ Words (codes "-") ∷ Digits 2 date.date.month ∷ Words (codes "-")
@@ -57,11 +57,12 @@ dated date micros =
     ∷ Digits 2 date.time.minute ∷ Words (codes ":") ∷ Digits 2 date.time.second ∷ Words (codes ".")
     ∷ Digits 6 micros ∷ Words (codes " UTC") ∷ []
 
+-- seconds and microseconds
 abbrev pub undated : Time → List Part
 undated time =
     Digits 1 time.secs ∷ Words (codes ".") ∷ Digits 6 time.micros ∷ Words (codes " s") ∷ []
 
--- the date of the seconds since 1970
+-- the calendar's date of so many seconds since 1970
 pub record IsDated (time : Time) (shown : List Part) : Type 0 where
   pub date : DateTime
   pub of_seconds : civil_nanos date ≡ pos (time.secs * 1_000_000_000)

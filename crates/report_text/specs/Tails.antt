@@ -12,7 +12,7 @@ abbrev pub is_empty : List ℕ → Bool
 is_empty [] = true
 is_empty (b ∷ bs) = false
 
--- how many newlines have a byte behind them
+-- how many newlines have a byte after them
 unfoldable pub breaks : List ℕ → ℕ
 breaks [] = 0
 breaks (b ∷ bs) = (if (b == 10) && not (is_empty bs) then 1 else 0) + breaks bs
@@ -32,7 +32,8 @@ abbrev pub row_unless_empty : List ℕ → List (List ℕ)
 row_unless_empty [] = []
 row_unless_empty (b ∷ bs) = (b ∷ bs) ∷ []
 
--- the rows of bytes behind a row that is begun and takes so many columns: each line is cut before it takes more than 76
+-- the rows of a row that is begun and takes so many columns, and of the bytes after it: a line is cut before it takes
+-- more than 76
 unfoldable pub rows_from : List ℕ → ℕ → List ℕ → List (List ℕ)
 rows_from row taken [] = row_unless_empty row
 rows_from row taken (b ∷ bs) =

@@ -14,6 +14,7 @@ heading_parts title r =
     Bytes title ∷ Words (10 ∷ codes "zones ") ∷ Count 1 (length r.logs.zones) ∷ Words (codes ", records ")
     ∷ Count 1 (length r.records) ∷ Words (10 ∷ 10 ∷ []) ∷ []
 
+-- a head, and a row for each zone
 abbrev pub zone_table : SavedLogs → List Part
 zone_table logs =
     Words (codes "zone          state        place     size      start       used corrected   bad" ++ 10 ∷ [])

@@ -1,4 +1,4 @@
--- The lines behind each place are counted
+-- The lines after each place are counted
 use Rattle.std.proofs.Common.{arith}
 use Rattle.report_text.proofs.Tailed.{none-behind, tenth, line-more, no-line, no-line-at-end, whole-last}
 use Rattle.report_text.proofs.lines.tail_start.Goals as goal

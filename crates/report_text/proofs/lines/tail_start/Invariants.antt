@@ -1,4 +1,4 @@
--- The lines so far are those behind this place, fewer than are wanted
+-- The lines so far are those after this place, fewer than are wanted
 use Rattle.std.proofs.Common.{◌≡◌, ◌<◌, ◌≤◌, drop, length}
 use Rattle.report_text.specs.Tails.{breaks}
 use Rattle.report_text.proofs.lines.tail_start.Given as goal
