@@ -1,17 +1,18 @@
 -- A record that is newer than the one held leaves no other newer
 use Rattle.std.proofs.Common.{◌≡◌, ℕ, Bool, true, false, ◌||◌, List, [], ◌∷◌, ◌++◌, ◌⊎◌, ◌+◌, inl, inr, take, subst, refl, ap, ap₂, sym, ◌∙◌, arith, Option, Some, None}
-use Rattle.std.specs.Prelude.{slice_get, IsSome, IfSome}
+use Rattle.std.specs.Prelude.{slice_get, IsSome, IfSome, get_or, if◌then◌else◌}
 use Rattle.std.specs.Option.{option_copied}
 use Rattle.std.specs.Borrow.{Bor}
-use Rattle.std.proofs.lemmas.Option.{slice_get_within}
+use Rattle.std.proofs.lemmas.Option.{slice_get_within, slice_get-get_or}
 use Rattle.std.proofs.lemmas.List.Folds.{list_any-append}
 use Rattle.pstore_names.proofs.Steps.{item-at}
 use Rattle.std.specs.List.{list_any}
+use Rattle.std.proofs.lemmas.List.Sums.{fold_more}
 use Rattle.std.proofs.lemmas.Bool.Decides.{nat_tests}
 use Rattle.zone_spec.specs.declared.Time.{Time}
 use Rattle.zone_params.proofs.Faultless.{or_clear}
 use Rattle.report_spec.specs.Records.{RecordHeld}
-use Rattle.report_text.specs.Newest.{is_later, later_than, is_newer}
+use Rattle.report_text.specs.Newest.{is_later, later_than, is_newer, newer_of, newest}
 
 no-later : (t s u : Time) → is_later t u ≡ false → is_later s u ≡ true → is_later t s ≡ false
 no-later t s u e f = grind (arith, nat_tests, e, f)
@@ -57,6 +58,22 @@ newest-more records i x old new at was how =
           (sym h.1) (both (Some x) (none-newer x old (take i records) h.0 was) (not-newer x))
       | inr h ↦ subst (λ (held : Option RecordHeld). list_any (λ r. is_newer r held) (take (i + 1) records) ≡ false)
           (sym h.1) (both old was h.0)
+    ]
+
+-- the newest of one record more
+pub newest-held : (records : List RecordHeld) (i : ℕ) (x : RecordHeld) (old new : Option RecordHeld)
+    → slice_get records i ≡ Some x → old ≡ newest (take i records)
+    → ((is_newer x old ≡ true) × (new ≡ Some x)) ⊎ ((is_newer x old ≡ false) × (new ≡ old))
+    → new ≡ newest (take (i + 1) records)
+newest-held records i x old new at was how =
+    let within = slice_get_within records i x at in
+    let own : Some (get_or records i x) ≡ Some x = sym (slice_get-get_or records i x within) ∙ at in
+    let same : get_or records i x ≡ x = cc in
+    let step : newest (take (i + 1) records) ≡ newer_of old x =
+    fold_more newer_of None records i x within ∙ ap₂ newer_of (sym was) same in
+    elim how [
+      | inl h ↦ h.1 ∙ sym (step ∙ ap (λ (b : Bool). if b then Some x else old) h.0)
+      | inr h ↦ h.1 ∙ sym (step ∙ ap (λ (b : Bool). if b then Some x else old) h.0)
     ]
 
 time-of : (a b : Option Time) → later_than a b ≡ true → IsSome a

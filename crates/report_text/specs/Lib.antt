@@ -1,3 +1,5 @@
 pub mod Pieces
-pub mod Counts
+pub mod Tables
+pub mod Tails
 pub mod Newest
+pub mod Whole

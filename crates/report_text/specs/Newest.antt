@@ -1,6 +1,7 @@
 -- The newest dump
-use Rattle.std.specs.Prelude.{Bool, true, false, ◌&&◌, ◌||◌, ◌==◌, nat_lt, Option, Some, None}
+use Rattle.std.specs.Prelude.{Bool, true, false, ◌&&◌, ◌||◌, ◌==◌, nat_lt, if◌then◌else◌, List, Option, Some, None}
 use Rattle.std.specs.Option.{option_and_then}
+use Rattle.std.specs.List.{fold}
 use Rattle.zone_spec.specs.declared.Time.{Time}
 use Rattle.report_spec.specs.Records.{RecordHeld}
 
@@ -16,3 +17,11 @@ later_than (Some t) (Some u) = is_later t u
 -- whether a record has a later time than the one that is held
 abbrev pub is_newer : RecordHeld → Option RecordHeld → Bool
 is_newer r held = later_than r.time (option_and_then (λ (h : RecordHeld). h.time) held)
+
+-- the record that is held, or one that is newer
+abbrev pub newer_of : Option RecordHeld → RecordHeld → Option RecordHeld
+newer_of held r = if is_newer r held then Some r else held
+
+-- the first of the records with the latest time
+abbrev pub newest : List RecordHeld → Option RecordHeld
+newest records = fold newer_of None records

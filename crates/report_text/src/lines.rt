@@ -1,6 +1,9 @@
 // The last lines of a record.
-ghost use Rattle.std.specs.Prelude.{◌≡◌, ◌≤◌, length, OnOk};
-ghost use Rattle.report_text.specs.Pieces.{numbers};
+ghost use Rattle.std.specs.Prelude.{◌≡◌, ◌≤◌, ◌++◌, [], drop, length, OnOk};
+ghost use Rattle.std.specs.Option.{option_copied};
+ghost use Rattle.report_text.specs.Pieces.{parts};
+ghost use Rattle.report_text.specs.Tails.{last_lines, rows_from, row_parts, rows_parts, columns, is_packed, is_console, tail_parts};
+ghost use Rattle.report_text.specs.Whole.{console_of, tails};
 
 use crate::newest::newest_dump;
 use crate::pieces::{Piece, add};
@@ -15,7 +18,8 @@ const COLUMNS: usize = 76;
 
 /// Where the last lines begin.
 fn tail_start(bytes: &[u8]) -> usize
-    ensures { result ≤ length bytes.now }
+    ensures within { result ≤ length bytes.now }
+    ensures last { drop result bytes.now ≡ last_lines bytes.now }
 {
     let mut lines = 0;
     for i in (0..bytes.len()).rev() {
@@ -31,7 +35,8 @@ fn tail_start(bytes: &[u8]) -> usize
 
 /// The columns that a byte takes at most.
 fn columns(b: u8) -> usize
-    ensures { result ≤ 8 }
+    ensures columns { result ≡ columns b }
+    ensures few { result ≤ 8 }
 {
     match b {
         b'\t' => 8,
@@ -41,7 +46,7 @@ fn columns(b: u8) -> usize
 }
 
 fn add_row<'a>(pieces: &mut Vec<Piece<'a>>, row: &'a [u8]) -> Result<(), AllocError>
-    ensures { OnOk result (numbers pieces.new.items ≡ numbers pieces.old.items) }
+    ensures { OnOk result (parts pieces.new.items ≡ parts pieces.old.items ++ row_parts row.entry.now) }
 {
     add(
         pieces,
@@ -51,7 +56,8 @@ fn add_row<'a>(pieces: &mut Vec<Piece<'a>>, row: &'a [u8]) -> Result<(), AllocEr
 
 /// Adds the lines of these bytes in rows that fit a terminal.
 fn add_rows<'a>(pieces: &mut Vec<Piece<'a>>, bytes: &'a [u8]) -> Result<(), AllocError>
-    ensures { OnOk result (numbers pieces.new.items ≡ numbers pieces.old.items) }
+    ensures { OnOk result (parts pieces.new.items
+        ≡ parts pieces.old.items ++ rows_parts (rows_from [] 0 bytes.entry.now)) }
 {
     let mut from = 0;
     let mut taken = 0;
@@ -75,7 +81,9 @@ fn add_rows<'a>(pieces: &mut Vec<Piece<'a>>, bytes: &'a [u8]) -> Result<(), Allo
     Ok(())
 }
 
-fn is_compressed(name: Name) -> bool {
+fn is_compressed(name: Name) -> bool
+    ensures { result ≡ is_packed name }
+{
     match name {
         Name::Dump { packed, .. } => packed,
         Name::Console | Name::Pmsg | Name::Ftrace => false,
@@ -88,7 +96,8 @@ fn add_tail<'a>(
     heading: &'static str,
     entry: Option<&'a RecordReport>,
 ) -> Result<(), AllocError>
-    ensures { OnOk result (numbers pieces.new.items ≡ numbers pieces.old.items) }
+    ensures { OnOk result (parts pieces.new.items
+        ≡ parts pieces.old.items ++ tail_parts heading.entry.now (option_copied entry.entry)) }
 {
     match entry {
         Some(entry) if is_compressed(entry.name) => add(
@@ -104,9 +113,20 @@ fn add_tail<'a>(
     }
 }
 
-fn console(records: &[RecordReport]) -> Option<&RecordReport> {
+fn is_console(entry: &RecordReport) -> bool
+    ensures { result ≡ is_console entry.now.name }
+{
+    match entry.name {
+        Name::Console => true,
+        Name::Dump { .. } | Name::Pmsg | Name::Ftrace => false,
+    }
+}
+
+fn console(records: &[RecordReport]) -> Option<&RecordReport>
+    ensures { option_copied result ≡ console_of records.now }
+{
     for entry in records {
-        if entry.name == Name::Console {
+        if is_console(entry) {
             return Some(entry);
         }
     }
@@ -118,7 +138,7 @@ pub fn add_tails<'a>(
     pieces: &mut Vec<Piece<'a>>,
     records: &'a [RecordReport],
 ) -> Result<(), AllocError>
-    ensures { OnOk result (numbers pieces.new.items ≡ numbers pieces.old.items) }
+    ensures { OnOk result (parts pieces.new.items ≡ parts pieces.old.items ++ tails records.entry.now) }
 {
     add_tail(
         pieces,

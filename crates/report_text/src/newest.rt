@@ -2,7 +2,7 @@
 ghost use Rattle.std.specs.Prelude.{◌≡◌, false, IfSome, IsSome};
 ghost use Rattle.std.specs.Option.{option_copied};
 ghost use Rattle.std.specs.List.{list_any};
-ghost use Rattle.report_text.specs.Newest.{is_later, later_than, is_newer};
+ghost use Rattle.report_text.specs.Newest.{is_later, later_than, is_newer, newest};
 
 use record_report::RecordReport;
 use zone_spec::Time;
@@ -36,6 +36,7 @@ fn is_newer(entry: &RecordReport, newest: Option<&RecordReport>) -> bool
 
 /// The first of the records with the latest time, or `None` where none has a time: dumps alone have one.
 pub fn newest_dump(records: &[RecordReport]) -> Option<&RecordReport>
+    ensures first { option_copied result ≡ newest records.now }
     ensures newest { list_any (λ r. is_newer r (option_copied result)) records.now ≡ false }
     ensures dated { IfSome result (λ r. IsSome r.now.time) }
 {

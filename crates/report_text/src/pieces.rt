@@ -2,7 +2,7 @@
 ghost use Rattle.std.specs.Prelude.{◌≡◌, ◌++◌, [], ◌∷◌, List, flat_map, true, IfOk, OnOk};
 ghost use Rattle.std.specs.List.{list_all};
 ghost use Rattle.report_spec.specs.Visible.{is_visible, visible};
-ghost use Rattle.report_text.specs.Pieces.{filled, piece_text, numbers};
+ghost use Rattle.report_text.specs.Pieces.{filled, piece_text, parts, parts_text};
 
 use crate::visible::push_visible;
 use itoa::Buffer;
@@ -58,7 +58,7 @@ fn push_piece(out: &mut Vec<u8>, piece: Piece<'_>) -> Result<(), AllocError>
 
 /// The text of the pieces, end to end.
 pub fn render(alloc: Global, pieces: &[Piece<'_>]) -> Result<Vec<u8>, AllocError>
-    ensures text { IfOk result (λ text. text.items ≡ flat_map piece_text pieces.now) }
+    ensures text { IfOk result (λ text. text.items ≡ parts_text (parts pieces.now)) }
     ensures visible { IfOk result (λ text. list_all is_visible text.items ≡ true) }
 {
     let mut out = Vec::new(alloc);
@@ -70,7 +70,7 @@ pub fn render(alloc: Global, pieces: &[Piece<'_>]) -> Result<Vec<u8>, AllocError
 
 /// Adds pieces.
 pub fn add<'a>(pieces: &mut Vec<Piece<'a>>, more: &[Piece<'a>]) -> Result<(), AllocError>
-    ensures { OnOk result (numbers pieces.new.items ≡ numbers pieces.old.items ++ numbers more.now) }
+    ensures { OnOk result (parts pieces.new.items ≡ parts pieces.old.items ++ parts more.now) }
 {
     pieces.extend_from_slice(more)
 }

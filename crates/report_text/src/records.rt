@@ -1,8 +1,9 @@
 // The table of the records.
-ghost use Rattle.std.specs.Prelude.{◌≡◌, ◌++◌, ◌*◌, ◌<◌, flat_map, pos, IfSome, IsSome, OnOk};
+ghost use Rattle.std.specs.Prelude.{◌≡◌, ◌++◌, ◌*◌, ◌<◌, pos, Some, IfSome, IsSome, OnOk};
 ghost use Rattle.jiff.specs.Words.{civil_nanos};
-ghost use Rattle.report_text.specs.Pieces.{numbers};
-ghost use Rattle.report_text.specs.Counts.{name_numbers, record_numbers};
+ghost use Rattle.report_text.specs.Pieces.{parts};
+ghost use Rattle.report_text.specs.Tables.{Adds, IsTime, IsRecordRow, dated, undated, name_parts};
+ghost use Rattle.report_text.specs.Whole.{IsRecordTable};
 
 use crate::pieces::{Piece, add};
 use jiff::Timestamp;
@@ -24,44 +25,64 @@ fn date_of(secs: u64) -> Option<DateTime>
     Some(Offset::UTC.to_datetime(timestamp))
 }
 
-pub fn add_time(pieces: &mut Vec<Piece<'_>>, time: Time) -> Result<(), AllocError>
-    ensures { OnOk result (numbers pieces.new.items ≡ numbers pieces.old.items) }
+fn add_date(pieces: &mut Vec<Piece<'_>>, date: DateTime, micros: u32) -> Result<(), AllocError>
+    ensures { OnOk result (parts pieces.new.items ≡ parts pieces.old.items ++ dated date micros) }
 {
-    let micros = Piece::Date(6, u64::from(time.micros));
+    add(
+        pieces,
+        &[
+            Piece::Date(4, u64::from(date.year().unsigned_abs())),
+            Piece::Own("-"),
+            Piece::Date(2, u64::from(date.month().unsigned_abs())),
+            Piece::Own("-"),
+            Piece::Date(2, u64::from(date.day().unsigned_abs())),
+            Piece::Own(" "),
+            Piece::Date(2, u64::from(date.hour().unsigned_abs())),
+            Piece::Own(":"),
+            Piece::Date(2, u64::from(date.minute().unsigned_abs())),
+            Piece::Own(":"),
+            Piece::Date(2, u64::from(date.second().unsigned_abs())),
+            Piece::Own("."),
+            Piece::Date(6, u64::from(micros)),
+            Piece::Own(" UTC"),
+        ],
+    )
+}
+
+fn add_seconds(pieces: &mut Vec<Piece<'_>>, time: Time) -> Result<(), AllocError>
+    ensures { OnOk result (parts pieces.new.items ≡ parts pieces.old.items ++ undated time) }
+{
+    add(
+        pieces,
+        &[
+            Piece::Date(1, time.secs),
+            Piece::Own("."),
+            Piece::Date(6, u64::from(time.micros)),
+            Piece::Own(" s"),
+        ],
+    )
+}
+
+pub fn add_time(pieces: &mut Vec<Piece<'_>>, time: Time) -> Result<(), AllocError>
+    ensures { OnOk result (Adds (IsTime (Some time)) (parts pieces.old.items) (parts pieces.new.items)) }
+{
     match date_of(time.secs) {
-        Some(date) => add(
-            pieces,
-            &[
-                Piece::Date(4, u64::from(date.year().unsigned_abs())),
-                Piece::Own("-"),
-                Piece::Date(2, u64::from(date.month().unsigned_abs())),
-                Piece::Own("-"),
-                Piece::Date(2, u64::from(date.day().unsigned_abs())),
-                Piece::Own(" "),
-                Piece::Date(2, u64::from(date.hour().unsigned_abs())),
-                Piece::Own(":"),
-                Piece::Date(2, u64::from(date.minute().unsigned_abs())),
-                Piece::Own(":"),
-                Piece::Date(2, u64::from(date.second().unsigned_abs())),
-                Piece::Own("."),
-                micros,
-                Piece::Own(" UTC"),
-            ],
-        ),
-        None => add(
-            pieces,
-            &[
-                Piece::Date(1, time.secs),
-                Piece::Own("."),
-                micros,
-                Piece::Own(" s"),
-            ],
-        ),
+        Some(date) => add_date(pieces, date, time.micros),
+        None => add_seconds(pieces, time),
+    }
+}
+
+fn add_time_or_blanks(pieces: &mut Vec<Piece<'_>>, time: Option<Time>) -> Result<(), AllocError>
+    ensures { OnOk result (Adds (IsTime time) (parts pieces.old.items) (parts pieces.new.items)) }
+{
+    match time {
+        Some(time) => add_time(pieces, time),
+        None => add(pieces, &[Piece::Own("                              ")]),
     }
 }
 
 fn add_name(pieces: &mut Vec<Piece<'_>>, name: Name) -> Result<(), AllocError>
-    ensures { OnOk result (numbers pieces.new.items ≡ numbers pieces.old.items ++ name_numbers name) }
+    ensures { OnOk result (parts pieces.new.items ≡ parts pieces.old.items ++ name_parts name) }
 {
     match name {
         Name::Dump { index, packed } => add(
@@ -79,22 +100,18 @@ fn add_name(pieces: &mut Vec<Piece<'_>>, name: Name) -> Result<(), AllocError>
 }
 
 fn add_record(pieces: &mut Vec<Piece<'_>>, entry: &RecordReport) -> Result<(), AllocError>
-    ensures { OnOk result (numbers pieces.new.items ≡ numbers pieces.old.items ++ record_numbers entry.now) }
+    ensures { OnOk result (Adds (IsRecordRow entry.now) (parts pieces.old.items) (parts pieces.new.items)) }
 {
     let bytes = entry.content.len() as u64;
     add(pieces, &[Piece::Number(10, bytes), Piece::Own("  ")])?;
-    match entry.time {
-        Some(time) => add_time(pieces, time)?,
-        None => add(pieces, &[Piece::Own("                              ")])?,
-    }
+    add_time_or_blanks(pieces, entry.time)?;
     add(pieces, &[Piece::Own("  ")])?;
     add_name(pieces, entry.name)
 }
 
 /// Adds a row for each record: the length of its content, a dump's time, and its name.
 pub fn add_records(pieces: &mut Vec<Piece<'_>>, records: &[RecordReport]) -> Result<(), AllocError>
-    ensures { OnOk result (numbers pieces.new.items
-        ≡ numbers pieces.old.items ++ flat_map record_numbers records.now) }
+    ensures { OnOk result (Adds (IsRecordTable records.now) (parts pieces.old.items) (parts pieces.new.items)) }
 {
     add(pieces, &[Piece::Own(HEAD)])?;
     for entry in records {

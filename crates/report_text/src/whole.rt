@@ -2,8 +2,8 @@
 ghost use Rattle.std.specs.Prelude.{◌≡◌, length, true, IfOk};
 ghost use Rattle.std.specs.List.{list_all};
 ghost use Rattle.report_spec.specs.Visible.{is_visible};
-ghost use Rattle.report_text.specs.Pieces.{numbers};
-ghost use Rattle.report_text.specs.Counts.{counts, ShowsCounts};
+ghost use Rattle.report_text.specs.Pieces.{parts};
+ghost use Rattle.report_text.specs.Whole.{AreParts, IsTextOf};
 
 use crate::lines::add_tails;
 use crate::pieces::{Piece, add, render};
@@ -22,7 +22,7 @@ fn all_pieces<'a>(
 ) -> Result<Vec<Piece<'a>>, AllocError>
     requires zones { zones.now ≡ report.now.logs.zones }
     requires readings { length report.now.logs.readings ≡ length zones.now }
-    ensures { IfOk result (λ pieces. numbers pieces.items ≡ counts report.entry.now) }
+    ensures { IfOk result (λ pieces. AreParts title.entry.now report.entry.now (parts pieces.items)) }
 {
     let records = report.records();
     let mut pieces = Vec::new(alloc);
@@ -43,8 +43,9 @@ fn all_pieces<'a>(
     Ok(pieces)
 }
 
-/// The text of the report of these zones, headed by `title`, such as the image's path. Its numbers are the report's. No
-/// byte of it but printable ASCII, tabs and newlines, whatever the title and the records are.
+/// The text of the report of these zones, headed by `title`, such as the image's path: the zones, the records, and the
+/// last lines of the newest dump and of the console. No byte of it but printable ASCII, tabs and newlines, whatever the
+/// title and the records are.
 pub fn text(
     alloc: Global,
     title: &[u8],
@@ -53,7 +54,7 @@ pub fn text(
 ) -> Result<Bytes, AllocError>
     requires zones { zones.now ≡ report.now.logs.zones }
     requires readings { length report.now.logs.readings ≡ length zones.now }
-    ensures counts { IfOk result (ShowsCounts report.now) }
+    ensures text { IfOk result (IsTextOf title.now report.now) }
     ensures visible { IfOk result (λ text. list_all is_visible text ≡ true) }
 {
     let pieces = all_pieces(alloc, title, zones, report)?;

@@ -2,8 +2,9 @@
 ghost use Rattle.std.specs.Prelude.{◌≡◌, ◌++◌, length, flat_map, OnOk};
 ghost use Rattle.std.specs.Option.{option_copied};
 ghost use Rattle.old_log.specs.Saving.{saved};
-ghost use Rattle.report_text.specs.Pieces.{numbers};
-ghost use Rattle.report_text.specs.Counts.{zone_numbers, reading_numbers};
+ghost use Rattle.report_text.specs.Pieces.{parts};
+ghost use Rattle.report_text.specs.Tables.{kind_words, state_words, read_words, reading_parts, zone_row};
+ghost use Rattle.report_text.specs.Whole.{zone_table};
 
 use crate::pieces::{Piece, add};
 use old_log::{Logs, Reading};
@@ -13,7 +14,9 @@ use zone_spec::{Kind, State, Zone};
 const HEAD: &str =
     "zone          state        place     size      start       used corrected   bad\n";
 
-fn kind_text(kind: Kind) -> &'static str {
+fn kind_text(kind: Kind) -> &'static str
+    ensures { result.now ≡ kind_words kind }
+{
     match kind {
         Kind::Dump => "dump    ",
         Kind::Console => "console ",
@@ -22,7 +25,9 @@ fn kind_text(kind: Kind) -> &'static str {
     }
 }
 
-fn state_text(state: State) -> &'static str {
+fn state_text(state: State) -> &'static str
+    ensures { result.now ≡ state_words state }
+{
     match state {
         State::Unsigned => " unsigned ",
         State::Empty => " empty    ",
@@ -31,8 +36,17 @@ fn state_text(state: State) -> &'static str {
     }
 }
 
+fn read_text(reading: Option<&Reading>) -> &'static str
+    ensures { result.now ≡ read_words (option_copied reading.entry) }
+{
+    match reading {
+        Some(reading) => state_text(reading.state),
+        None => " not read ",
+    }
+}
+
 fn add_reading(pieces: &mut Vec<Piece<'_>>, reading: &Reading) -> Result<(), AllocError>
-    ensures { OnOk result (numbers pieces.new.items ≡ numbers pieces.old.items ++ reading_numbers reading.now) }
+    ensures { OnOk result (parts pieces.new.items ≡ parts pieces.old.items ++ reading_parts reading.now) }
 {
     add(
         pieces,
@@ -50,15 +64,15 @@ fn add_zone(
     zone: &Zone,
     reading: Option<&Reading>,
 ) -> Result<(), AllocError>
-    ensures { OnOk result (numbers pieces.new.items
-        ≡ numbers pieces.old.items ++ zone_numbers (zone.now, option_copied reading.entry)) }
+    ensures { OnOk result (parts pieces.new.items
+        ≡ parts pieces.old.items ++ zone_row (zone.now, option_copied reading.entry)) }
 {
     add(
         pieces,
         &[
             Piece::Own(kind_text(zone.name.kind)),
             Piece::Number(5, u64::from(zone.name.index)),
-            Piece::Own(reading.map_or(" not read ", |r| state_text(r.state))),
+            Piece::Own(read_text(reading)),
             Piece::Number(9, u64::from(zone.at)),
             Piece::Number(9, u64::from(zone.size)),
         ],
@@ -73,8 +87,7 @@ fn add_zone(
 pub fn add_zones(pieces: &mut Vec<Piece<'_>>, zones: &[Zone], logs: &Logs) -> Result<(), AllocError>
     requires zones { zones.now ≡ logs.now.zones }
     requires readings { length logs.now.readings ≡ length zones.now }
-    ensures { OnOk result (numbers pieces.new.items
-        ≡ numbers pieces.old.items ++ flat_map zone_numbers (saved logs.now)) }
+    ensures { OnOk result (parts pieces.new.items ≡ parts pieces.old.items ++ zone_table logs.now) }
 {
     add(pieces, &[Piece::Own(HEAD)])?;
     for i in 0..logs.len() {

@@ -3,7 +3,7 @@ use Rattle.std.specs.Prelude.{◌≡◌, ℕ, true, List, [], ◌∷◌, ◌++�
 use Rattle.std.specs.List.{list_all}
 use Rattle.report_spec.specs.Visible.{is_visible}
 use Rattle.record_report.specs.Reports.{ReportHeld}
-use Rattle.report_text.specs.Counts.{ShowsCounts}
+use Rattle.report_text.specs.Whole.{IsTextOf}
 use Rattle.report_json.specs.Schema.{IsLine}
 use Rattle.report_html.specs.Pages.{IsPage}
 use Rattle.report_tool.specs.declared.plan.Plan.{Plan}
@@ -16,9 +16,9 @@ pub record IsOf (plan : Plan) (report : ReportHeld) : Type 0 where
   pub readings_len : length report.logs.readings ≡ length plan.zones.items
   pub parts_len : length report.parts ≡ length plan.zones.items
 
--- a text for a terminal: its numbers are the report's, and each of its bytes is visible
-pub record IsVisibleText (report : ReportHeld) (text : List ℕ) : Type 0 where
-  pub numbers_are : ShowsCounts report text
+-- a text for a terminal, each byte of which is visible
+pub record IsVisibleText (path : List ℕ) (report : ReportHeld) (text : List ℕ) : Type 0 where
+  pub is_text : IsTextOf path report text
   pub visible : list_all is_visible text ≡ true
 
 -- a line of JSON, and a newline
@@ -28,6 +28,6 @@ pub record IsJsonLine (path : List ℕ) (plan : Plan) (report : ReportHeld) (tex
   pub text_is : text ≡ line ++ 10 ∷ []
 
 abbrev pub Shows : Format → List ℕ → Plan → ReportHeld → List ℕ → Type 0
-Shows Text path plan report text = IsVisibleText report text
+Shows Text path plan report text = IsVisibleText path report text
 Shows Json path plan report text = IsJsonLine path plan report text
 Shows Html path plan report text = IsPage path report.records text

@@ -6,7 +6,7 @@ use Rattle.std.specs.Borrow.{Bor}
 use Rattle.std.proofs.lemmas.Option.{slice_get-get_or}
 use Rattle.report_spec.specs.Records.{RecordHeld}
 use Rattle.report_text.specs.Newest.{is_newer}
-use Rattle.report_text.proofs.Later.{newest-more, newer-dated, dated-held}
+use Rattle.report_text.proofs.Later.{newest-more, newest-held, newer-dated, dated-held}
 use Rattle.report_text.proofs.newest.newest_dump.Goals as goal
 use Rattle.report_text.proofs.newest.newest_dump.Goals.{then-is_newer, else-is_newer}
 
@@ -22,6 +22,9 @@ loop-entry-preserved c =
           let newer : is_newer x (option_copied c.loop-entry.newest) ≡ true =
           sym c.is_newer.ensures ∙ w.if-is_newer.true in
           record {
+            first = newest-held records c.loop-entry.entry-index x (option_copied c.loop-entry.newest)
+                (option_copied c.if-is_newer.newest) at c.loop-entry.invariant.first
+                (inl (newer, ap option_copied w.newest-is));
             newest = newest-more records c.loop-entry.entry-index x (option_copied c.loop-entry.newest)
                 (option_copied c.if-is_newer.newest) at c.loop-entry.invariant.newest
                 (inl (newer, ap option_copied w.newest-is));
@@ -29,6 +32,9 @@ loop-entry-preserved c =
                 (newer-dated x (option_copied c.loop-entry.newest) newer);
           }
       | else-is_newer w ↦ record {
+        first = newest-held records c.loop-entry.entry-index x (option_copied c.loop-entry.newest)
+            (option_copied c.if-is_newer.newest) at c.loop-entry.invariant.first
+            (inr (sym c.is_newer.ensures ∙ w.if-is_newer.false, ap option_copied w.newest-is));
         newest = newest-more records c.loop-entry.entry-index x (option_copied c.loop-entry.newest)
             (option_copied c.if-is_newer.newest) at c.loop-entry.invariant.newest
             (inr (sym c.is_newer.ensures ∙ w.if-is_newer.false, ap option_copied w.newest-is));

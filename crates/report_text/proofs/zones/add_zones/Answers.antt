@@ -1,4 +1,4 @@
--- Each zone adds its row's numbers
+-- Each zone adds its row
 use Rattle.std.proofs.Common.{◌≡◌, ◌<◌, ◌∙◌, List, length, get_or, ap, sym, arith, Some, None}
 use Rattle.std.specs.Prelude.{flat_map, slice_get}
 use Rattle.std.specs.Option.{option_copied, option_map}
@@ -10,8 +10,8 @@ use Rattle.zone_spec.specs.Records.{Saved}
 use Rattle.old_log.specs.Saving.{saved}
 use Rattle.old_log.proofs.Saves.{zip-at}
 use Rattle.pstore_names.proofs.Steps.{collected-more}
-use Rattle.report_text.specs.Pieces.{numbers}
-use Rattle.report_text.specs.Counts.{zone_numbers}
+use Rattle.report_text.specs.Pieces.{parts}
+use Rattle.report_text.specs.Tables.{zone_row}
 use Rattle.report_text.proofs.Rows.{row-of}
 use Rattle.report_text.proofs.zones.add_zones.Goals as goal
 
@@ -29,8 +29,8 @@ loop-i-preserved c =
     ∙ slice_get-get_or c.args.zones.now c.loop-i.i no_zone (let n = c.requires.readings in omega (arith, some, n)) in
     let beside = zip-at logs.zones logs.readings c.loop-i.i z (get_or logs.readings c.loop-i.i None) here
     (slice_get-get_or logs.readings c.loop-i.i None some) in
-    collected-more (λ (ss : List Saved). flat_map zone_numbers ss) (flat_map-append zone_numbers) zones c.loop-i.i
-    (numbers c.add.new.pieces.items) (numbers c.loop-i.pieces.items) (numbers c.add_zone.new.pieces.items)
-    (zone_numbers (z, r)) within
+    collected-more (λ (ss : List Saved). flat_map zone_row ss) (flat_map-append zone_row) zones c.loop-i.i
+    (parts c.add.new.pieces.items) (parts c.loop-i.pieces.items) (parts c.add_zone.new.pieces.items)
+    (zone_row (z, r)) within
     (λ s at. row-of c.args.zones.now zones c.loop-i.i z r s (ap (option_map (λ (t : Saved). t.0)) beside)
     c.reading.ensures at) c.loop-i.invariant c.in_ok-add_zone.ensures

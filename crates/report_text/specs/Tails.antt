@@ -1,0 +1,72 @@
+-- The last lines of a record
+use Rattle.std.specs.Prelude.{ℕ, ◌+◌, Bool, true, false, ◌&&◌, not, ◌==◌, nat_lt, if◌then◌else◌, List, [], ◌∷◌, ◌++◌, flat_map, codes, Option, Some, None}
+use Rattle.zone_spec.specs.declared.Name.{Name}
+use Rattle.zone_spec.specs.declared.Name.TheVariants.{Dump, Console, Pmsg, Ftrace}
+use Rattle.report_spec.specs.Escaped.{is_plain}
+use Rattle.report_spec.specs.Records.{RecordHeld}
+use Rattle.report_text.specs.Pieces.{Part, Words, Bytes}
+
+-- ---- the last ten lines
+
+abbrev pub is_empty : List ℕ → Bool
+is_empty [] = true
+is_empty (b ∷ bs) = false
+
+-- how many newlines have a byte after them
+unfoldable pub breaks : List ℕ → ℕ
+breaks [] = 0
+breaks (b ∷ bs) = (if (b == 10) && not (is_empty bs) then 1 else 0) + breaks bs
+
+-- the longest end of bytes that has at most ten lines
+unfoldable pub last_lines : List ℕ → List ℕ
+last_lines [] = []
+last_lines (b ∷ bs) = if nat_lt (breaks (b ∷ bs)) 10 then b ∷ bs else last_lines bs
+
+-- ---- rows that fit a terminal
+
+-- the columns that a byte takes at most
+abbrev pub columns : ℕ → ℕ
+columns b = if b == 9 then 8 else (if is_plain b then 1 else 4)
+
+abbrev pub row_unless_empty : List ℕ → List (List ℕ)
+row_unless_empty [] = []
+row_unless_empty (b ∷ bs) = (b ∷ bs) ∷ []
+
+-- the rows of a row that is begun and takes so many columns, and of the bytes after it: a line is cut before it takes
+-- more than 76
+unfoldable pub rows_from : List ℕ → ℕ → List ℕ → List (List ℕ)
+rows_from row taken [] = row_unless_empty row
+rows_from row taken (b ∷ bs) =
+    if b == 10 then row ∷ rows_from [] 0 bs
+    else (if nat_lt 76 (taken + columns b) then row ∷ rows_from (b ∷ []) (columns b) bs
+    else rows_from (row ++ b ∷ []) (taken + columns b) bs)
+
+abbrev pub row_parts : List ℕ → List Part
+row_parts row = Words (codes "  ") ∷ Bytes row ∷ Words (10 ∷ []) ∷ []
+
+abbrev pub rows_parts : List (List ℕ) → List Part
+rows_parts rows = flat_map row_parts rows
+
+-- ---- a record's end
+
+abbrev pub is_packed : Name → Bool
+is_packed (Dump index packed) = packed
+is_packed Console = false
+is_packed Pmsg = false
+is_packed Ftrace = false
+
+abbrev pub is_console : Name → Bool
+is_console (Dump index packed) = false
+is_console Console = true
+is_console Pmsg = false
+is_console Ftrace = false
+
+-- compressed bytes are not shown
+abbrev pub tail_rows : Bool → List ℕ → List Part
+tail_rows true bytes = Words (codes "  (compressed)" ++ 10 ∷ []) ∷ []
+tail_rows false bytes = rows_parts (rows_from [] 0 (last_lines bytes))
+
+-- a heading and the last lines of a record, if there is one
+abbrev pub tail_parts : List ℕ → Option RecordHeld → List Part
+tail_parts heading None = []
+tail_parts heading (Some r) = Words heading ∷ tail_rows (is_packed r.name) r.content

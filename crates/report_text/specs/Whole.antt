@@ -1,0 +1,45 @@
+-- The whole text of a report
+use Rattle.std.specs.Prelude.{◌≡◌, ℕ, List, [], ◌∷◌, ◌++◌, length, flat_map, find, codes, Option}
+use Rattle.old_log.specs.Saving.{SavedLogs, saved}
+use Rattle.report_spec.specs.Records.{RecordHeld}
+use Rattle.record_report.specs.Reports.{ReportHeld}
+use Rattle.report_text.specs.Newest.{newest}
+use Rattle.report_text.specs.Pieces.{Part, Words, Count, Bytes, parts_text}
+use Rattle.report_text.specs.Tables.{zone_row, AreRecordRows}
+use Rattle.report_text.specs.Tails.{is_console, tail_parts}
+
+-- the title, and how many zones and records there are
+abbrev pub heading_parts : List ℕ → ReportHeld → List Part
+heading_parts title r =
+    Bytes title ∷ Words (10 ∷ codes "zones ") ∷ Count 1 (length r.logs.zones) ∷ Words (codes ", records ")
+    ∷ Count 1 (length r.records) ∷ Words (10 ∷ 10 ∷ []) ∷ []
+
+-- a head, and a row for each zone
+abbrev pub zone_table : SavedLogs → List Part
+zone_table logs =
+    Words (codes "zone          state        place     size      start       used corrected   bad" ++ 10 ∷ [])
+    ∷ flat_map zone_row (saved logs)
+
+-- a head, and a row for each record
+abbrev pub IsRecordTable : List RecordHeld → List Part → Type 0
+IsRecordTable records table = (rows : List Part) × AreRecordRows records rows
+    × (table ≡ Words (10 ∷ codes "     bytes  time                            record" ++ 10 ∷ []) ∷ rows)
+
+abbrev pub console_of : List RecordHeld → Option RecordHeld
+console_of records = find (λ (r : RecordHeld). is_console r.name) records
+
+-- the last lines of the newest dump and of the console
+abbrev pub tails : List RecordHeld → List Part
+tails records =
+    tail_parts (10 ∷ codes "last lines of the newest dump" ++ 10 ∷ []) (newest records)
+    ++ tail_parts (10 ∷ codes "last lines of the console" ++ 10 ∷ []) (console_of records)
+
+abbrev pub AreParts : List ℕ → ReportHeld → List Part → Type 0
+AreParts title r parts = (table : List Part) × IsRecordTable r.records table
+    × (parts ≡ heading_parts title r ++ zone_table r.logs ++ table ++ tails r.records)
+
+-- the text under this title
+pub record IsTextOf (title : List ℕ) (report : ReportHeld) (text : List ℕ) : Type 0 where
+  pub parts : List Part
+  pub are : AreParts title report parts
+  pub text_is : text ≡ parts_text parts
