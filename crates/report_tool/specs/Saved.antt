@@ -1,5 +1,5 @@
 -- Files made in a folder
-use Rattle.std.specs.Prelude.{◌≡◌, ℕ, ◌≤◌, List, ◌++◌, length, map, take, ⊤, Option, Some, None}
+use Rattle.std.specs.Prelude.{◌≡◌, ℕ, ◌<◌, List, ◌++◌, length, map, take, ⊤, Option, Some, None}
 use Rattle.zone_spec.specs.Names.{name_text}
 use Rattle.report_spec.specs.Records.{RecordHeld}
 
@@ -17,8 +17,8 @@ Makes (Some before) (Some now) files = now ≡ before ++ files
 abbrev pub files_of : List RecordHeld → Files
 files_of records = map (λ (r : RecordHeld). (name_text r.name, r.content)) records
 
--- the files of the first records were made
+-- the files of the first records were made, and at least one was not
 pub record MakesFirst (records : List RecordHeld) (before now : Option Files) : Type 0 where
   pub count : ℕ
-  pub within : count ≤ length records
+  pub within : count < length records
   pub made : Makes before now (files_of (take count records))
