@@ -54,11 +54,11 @@ pub record RanOn (end : End) (words script : List ℕ) (old new : Slices) : Type
   pub run : IsRun (fields_of words) script (take old.lengths.image old.image) status image put
   pub handed : HandsOut end status image put old.image old.text new.image new.text new.lengths
 
--- or nothing was touched
+-- or nothing was touched; memory is wanted only where the arguments are within their ranges
 abbrev pub RunEnds : End → List ℕ → List ℕ → Slices → Slices → Type 0
 RunEnds (Ran n) words script old new = RanOn (Ran n) words script old new
 RunEnds Room words script old new = RanOn Room words script old new
 RunEnds Argument words script old new = (new ≡ old)
     × ((length old.image < old.lengths.image) ⊎ (¬ (IsUtf8 words)))
-RunEnds Memory words script old new = new ≡ old
+RunEnds Memory words script old new = (new ≡ old) × (old.lengths.image ≤ length old.image) × IsUtf8 words
 RunEnds other words script old new = ⊥

@@ -78,12 +78,12 @@ pub record HasNoLayout (text : List ℕ) (fault : LayoutFault) : Type 0 where
   pub read : read_of (fields_of text) ≡ Ok params
   pub laid : layout_of params ≡ Err fault
 
--- why a text has no layout
+-- why a text has no layout; memory is wanted only where the text is one
 abbrev pub IsNoLayout : NoLayout → List ℕ → Type 0
 IsNoLayout NotText text = ¬ (IsUtf8 text)
 IsNoLayout (Word fault) text = IsUtf8 text × (read_of (fields_of text) ≡ Err fault)
 IsNoLayout (NoSuchLayout fault) text = HasNoLayout text fault
-IsNoLayout NoMemory text = ⊤
+IsNoLayout NoMemory text = IsUtf8 text
 
 -- the first n places are those of the zones, and the others are as they were
 pub record PlacesTo (n : ℕ) (zones : List Zone) (old new : List ZonePlace) : Type 0 where
