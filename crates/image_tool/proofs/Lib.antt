@@ -13,3 +13,4 @@ pub mod Shareable
 pub mod DumpEnds
 pub mod RingTexts
 pub mod MoveReads
+pub mod Due

@@ -266,15 +266,15 @@ module _ (zones : List Zone) (image last : List ℕ) (lines : List Line)
       ∙ ap₂ (λ (t o : List ℕ). record { texts = t ∷ []; end = Ok tt; writes = Some o })
       (sym (shown r.history p.left)) (sym (closed r.history p.left))
 
-  refused_as : (n : ℕ) (cause : Cause) → StopsAt z last lines n cause
+  refused_as : (v : SharedSeen) (n : ℕ) (cause : Cause) → StopsAt z last lines v n cause
       → wanted_shared_lines zones image (Ok lines) ≡ stops (Refused n cause)
-  refused_as n cause s =
+  refused_as v n cause s =
       let r = shared_ran z last lines in
       ran_wanted ∙ ap (wanted_ran r) s.refused ∙ ap (λ k. stops (Refused k cause)) s.count
 
   pub share_stopped : (stop : Stop) (v : SharedSeen) → Plays z last lines v (Err stop)
       → SharesLines (wanted_shared_lines zones image (Ok lines)) (Err stop)
-  share_stopped (Refused n cause) v p = refused_as n cause p
+  share_stopped (Refused n cause) v p = refused_as v n cause p
   share_stopped Memory v p = absurd p
   share_stopped Usage v p = absurd p
   share_stopped (Param x y) v p = absurd p

@@ -4,5 +4,6 @@ pub mod Records
 pub mod Dumps
 pub mod Moves
 pub mod Headline
+pub mod Due
 pub mod Runs
 pub mod Shares

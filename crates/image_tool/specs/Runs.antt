@@ -6,6 +6,7 @@ use Rattle.tool_spec.specs.Answers.{Outside}
 use Rattle.tool_spec.specs.PlanAnswers.{Untouched, ToolAnswers}
 use Rattle.tool_spec.specs.Complete.{Completes}
 use Rattle.image_tool.specs.Headline.{RunReads}
+use Rattle.image_tool.specs.Due.{LastLine}
 
 -- from one moment of the outside to another, with this status
 pub record Runs (words : List Text) (a b : Outside) (status : ℕ) : Type 0 where
@@ -13,6 +14,8 @@ pub record Runs (words : List Text) (a b : Outside) (status : ℕ) : Type 0 wher
   pub untouched : Untouched (plan_of words) a b status
   -- the status, the text and the image that are wanted, or why not
   pub answers : ToolAnswers (plan_of words) a b status
+  -- the last line, whatever the outside tells
+  pub last : LastLine (plan_of words) a b status
   -- if nothing is refused and nothing failed, all is done, or memory is out
   pub complete : Completes words a b status
   -- what each boot of a script reads, and the text that it puts; what a boot lists after a move

@@ -8,6 +8,7 @@ ghost use Rattle.tool_spec.specs.Commands.{ShowLayout, BlankImage, shows, leaves
 ghost use Rattle.tool_spec.specs.PlanAnswers.{ram_statuses, IsAmong};
 ghost use Rattle.tool_frame.specs.Ended.{EndedAt, CausedAt, KeptAt};
 ghost use Rattle.zone_params.specs.Laid.{params_of, zones_of};
+ghost use Rattle.image_tool.specs.Due.{PutsNone};
 
 use crate::layout_text::layout_text;
 use box_io::{Failed, Sink, Store};
@@ -24,6 +25,7 @@ pub fn show_layout<O: Sink>(alloc: Global, layout: &Layout, out: &mut O) -> Resu
     ensures ended { (holds : Option (List ℕ)) → EndedAt (shows
         (layout_text (params_of layout.now) (zones_of layout.now) ∷ [])) (O.given out.old) (O.given out.new)
         holds holds result }
+    ensures put { PutsNone (O.given out.old) (O.given out.new) result }
 {
     let text = match layout_text(alloc, layout) {
         Ok(text) => text,

@@ -4,6 +4,7 @@ ghost use Rattle.tool_spec.specs.Commands.{MakeImage};
 ghost use Rattle.tool_spec.specs.Answers.{outside};
 ghost use Rattle.tool_frame.specs.Ended.{CausedAt, KeptAt, MakeEnds};
 ghost use Rattle.image_tool.specs.Plans.{plan_for};
+ghost use Rattle.image_tool.specs.Due.{PutsFirst};
 
 use box_io::{Failed, Sink, Store};
 use ram_generator::generate;
@@ -26,6 +27,7 @@ pub fn make<M: Store, O: Sink>(
     ensures ended { (left : Option (List ℕ)) (f : ℕ) → MakeEnds (plan_for (MakeImage n) layout)
         (outside left f (M.holds image.old) (M.faults image.old) (O.given out.old) (O.faults out.old))
         (outside left f (M.holds image.new) (M.faults image.new) (O.given out.new) (O.faults out.new)) result }
+    ensures put { PutsFirst (O.given out.old) (O.given out.new) result }
 {
     let (made, text) = match generate(alloc, layout, n) {
         Ok(made) => made,

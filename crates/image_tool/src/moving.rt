@@ -9,6 +9,7 @@ ghost use Rattle.tool_spec.specs.PlanAnswers.{statuses};
 ghost use Rattle.tool_spec.specs.Answers.{outside};
 ghost use Rattle.tool_frame.specs.Words.{move_for};
 ghost use Rattle.tool_frame.specs.Ended.{CausedAt, KeptAt, ImageEnds};
+ghost use Rattle.image_tool.specs.Due.{PutsFirst};
 
 use crate::records::read_logs;
 use box_io::{Failed, Sink, Store};
@@ -45,6 +46,7 @@ pub fn move_image<M: Store, O: Sink>(
         ImageEnds (statuses (OfMove plan)) (wanted_move plan)
         (outside left f (M.holds image.old) (M.faults image.old) (O.given out.old) (O.faults out.old))
         (outside left f (M.holds image.new) (M.faults image.new) (O.given out.new) (O.faults out.new)) result }
+    ensures put { PutsFirst (O.given out.old) (O.given out.new) result }
 {
     let size = from.mem();
     let logs = match read_logs(alloc, from, image) {

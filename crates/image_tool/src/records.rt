@@ -6,6 +6,7 @@ ghost use Rattle.tool_spec.specs.Commands.{ListRecords, ExtractRecord, EraseReco
 ghost use Rattle.tool_spec.specs.Answers.{outside};
 ghost use Rattle.tool_frame.specs.Ended.{CausedAt, KeptAt, RamReadEnds, RamImageEnds};
 ghost use Rattle.image_tool.specs.Plans.{plan_for};
+ghost use Rattle.image_tool.specs.Due.{PutsNone};
 ghost use Rattle.tool_frame.specs.Stages.{LoadStop};
 ghost use Rattle.image_tool.specs.Records.{SavedFrom, stop_for};
 
@@ -67,6 +68,7 @@ pub fn list<M: Store, O: Sink>(
     ensures ended { (left : Option (List ℕ)) (f : ℕ) → RamReadEnds (plan_for ListRecords layout)
         (outside left f (M.holds image.old) (M.faults image.old) (O.given out.old) (O.faults out.old))
         (outside left f (M.holds image.new) (M.faults image.new) (O.given out.new) (O.faults out.new)) result }
+    ensures put { PutsNone (O.given out.old) (O.given out.new) result }
 {
     let logs = match read_logs(alloc, layout, image) {
         Ok(logs) => logs,
@@ -97,6 +99,7 @@ pub fn extract<M: Store, O: Sink>(
     ensures ended { (left : Option (List ℕ)) (f : ℕ) → RamReadEnds (plan_for (ExtractRecord name.now) layout)
         (outside left f (M.holds image.old) (M.faults image.old) (O.given out.old) (O.faults out.old))
         (outside left f (M.holds image.new) (M.faults image.new) (O.given out.new) (O.faults out.new)) result }
+    ensures put { PutsNone (O.given out.old) (O.given out.new) result }
 {
     let logs = match read_logs(alloc, layout, image) {
         Ok(logs) => logs,

@@ -7,6 +7,7 @@ ghost use Rattle.tool_spec.specs.Answers.{outside};
 ghost use Rattle.tool_frame.specs.Ended.{CausedAt, RamReadEnds};
 ghost use Rattle.tool_frame.specs.Stages.{FrontStop};
 ghost use Rattle.image_tool.specs.Plans.{plan_for};
+ghost use Rattle.image_tool.specs.Due.{PutsNone};
 ghost use Rattle.image_tool.specs.Dumps.{ScansFrom, ring_stop as stop_for};
 
 use box_io::{Bytes, Failed, Sink, Store};
@@ -105,6 +106,7 @@ pub fn salvage<M: Store, O: Sink>(
     ensures ended { (left : Option (List ℕ)) (f : ℕ) → RamReadEnds (plan_for FindRings layout)
         (outside left f (M.holds image.old) (M.faults image.old) (O.given out.old) (O.faults out.old))
         (outside left f (M.holds image.new) (M.faults image.new) (O.given out.new) (O.faults out.new)) result }
+    ensures put { PutsNone (O.given out.old) (O.given out.new) result }
 {
     let scan = match read_dump(alloc, layout, image) {
         Ok(scan) => scan,
@@ -140,6 +142,7 @@ pub fn rescue<M: Store, O: Sink>(
     ensures ended { (left : Option (List ℕ)) (f : ℕ) → RamReadEnds (plan_for (ReadRing at name) layout)
         (outside left f (M.holds image.old) (M.faults image.old) (O.given out.old) (O.faults out.old))
         (outside left f (M.holds image.new) (M.faults image.new) (O.given out.new) (O.faults out.new)) result }
+    ensures put { PutsNone (O.given out.old) (O.given out.new) result }
 {
     let scan = match read_dump(alloc, layout, image) {
         Ok(scan) => scan,

@@ -4,6 +4,7 @@ ghost use Rattle.tool_spec.specs.Commands.{RunScript, OfRam};
 ghost use Rattle.tool_spec.specs.Answers.{outside};
 ghost use Rattle.tool_frame.specs.Words.{plan_for};
 ghost use Rattle.tool_frame.specs.Ended.{WorkDone};
+ghost use Rattle.image_tool.specs.Due.{PutsLines};
 
 use crate::stores::fresh_store;
 use box_io::{Failed, Sink, Source, Store};
@@ -20,11 +21,12 @@ pub fn run_script<S: Source, M: Store, O: Sink>(
     image: &mut M,
     out: &mut O,
 ) -> Result<(), Stop>
-    ensures { let before = outside (S.left script.old) (S.faults script.old) (M.holds image.old)
+    ensures work { let before = outside (S.left script.old) (S.faults script.old) (M.holds image.old)
         (M.faults image.old) (O.given out.old) (O.faults out.old) in
         let after = outside (S.left script.new) (S.faults script.new) (M.holds image.new)
         (M.faults image.new) (O.given out.new) (O.faults out.new) in
         WorkDone (Ok (OfRam (plan_for RunScript layout))) before after result }
+    ensures put { PutsLines (O.given out.old) (O.given out.new) result }
 {
     let bytes = match load(alloc, image, layout.mem()) {
         Ok(bytes) => bytes,

@@ -8,6 +8,7 @@ ghost use Rattle.tool_spec.specs.Answers.{outside};
 ghost use Rattle.tool_frame.specs.Words.{plan_for, CanShareIn};
 ghost use Rattle.tool_frame.specs.Ended.{WorkDone};
 ghost use Rattle.image_tool.specs.Shares.{SharesLines, IsBooted};
+ghost use Rattle.image_tool.specs.Due.{PutsFirst};
 
 use crate::stores::fresh_store;
 use box_io::{Bytes, Failed, Sink, Source, Store};
@@ -78,11 +79,12 @@ pub fn run_shared_script<S: Source, M: Store, O: Sink>(
     out: &mut O,
 ) -> Result<(), Stop>
     requires { CanShareIn booted layout }
-    ensures { let before = outside (S.left script.old) (S.faults script.old) (M.holds image.old)
+    ensures work { let before = outside (S.left script.old) (S.faults script.old) (M.holds image.old)
         (M.faults image.old) (O.given out.old) (O.faults out.old) in
         let after = outside (S.left script.new) (S.faults script.new) (M.holds image.new)
         (M.faults image.new) (O.given out.new) (O.faults out.new) in
         WorkDone (Ok (OfRam (plan_for RunShared booted))) before after result }
+    ensures put { PutsFirst (O.given out.old) (O.given out.new) result }
 {
     let bytes = match load(alloc, image, booted.mem()) {
         Ok(bytes) => bytes,

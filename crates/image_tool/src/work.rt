@@ -6,6 +6,7 @@ ghost use Rattle.tool_spec.specs.Answers.{outside};
 ghost use Rattle.tool_frame.specs.Words.{plan_for, ram_command_seen, texts};
 ghost use Rattle.tool_frame.specs.Ended.{WorkDone};
 ghost use Rattle.image_tool.specs.Runs.{Runs};
+ghost use Rattle.image_tool.specs.Due.{PutsBefore, PutsByPlan};
 
 use crate::blk_script::run_blk_script;
 use crate::images::{blank, show_layout};
@@ -30,11 +31,12 @@ fn do_command<S: Source, M: Store, O: Sink>(
     image: &mut M,
     out: &mut O,
 ) -> Result<(), Stop>
-    ensures { let before = outside (S.left script.old) (S.faults script.old) (M.holds image.old)
+    ensures work { let before = outside (S.left script.old) (S.faults script.old) (M.holds image.old)
         (M.faults image.old) (O.given out.old) (O.faults out.old) in
         let after = outside (S.left script.new) (S.faults script.new) (M.holds image.new)
         (M.faults image.new) (O.given out.new) (O.faults out.new) in
         WorkDone (Ok (OfRam (plan_for (ram_command_seen command.entry) layout))) before after result }
+    ensures put { PutsBefore (ram_command_seen command.entry) (O.given out.old) (O.given out.new) result }
 {
     match command {
         RamCommand::Run => run_script(alloc, layout, script, image, out),
@@ -57,11 +59,12 @@ fn do_work<S: Source, M: Store, O: Sink>(
     image: &mut M,
     out: &mut O,
 ) -> Result<(), Stop>
-    ensures { let before = outside (S.left script.old) (S.faults script.old) (M.holds image.old)
+    ensures work { let before = outside (S.left script.old) (S.faults script.old) (M.holds image.old)
         (M.faults image.old) (O.given out.old) (O.faults out.old) in
         let after = outside (S.left script.new) (S.faults script.new) (M.holds image.new)
         (M.faults image.new) (O.given out.new) (O.faults out.new) in
         WorkDone (plan_of (texts words.now)) before after result }
+    ensures put { PutsByPlan (plan_of (texts words.now)) (O.given out.old) (O.given out.new) result }
 {
     match read_plan(alloc, words) {
         Ok(Plan::Ram(command, layout)) => do_command(alloc, command, layout, script, image, out),

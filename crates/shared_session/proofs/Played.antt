@@ -156,11 +156,11 @@ plays_next first lines i line old new below is so_far does z image l =
       left = d.left;
     }
 
-pub plays_stop : (first : SharedSeen) (lines : List Line) (i : ℕ) (line : Line) (old : SharedSeen) (cause : Cause)
+pub plays_stop : (first : SharedSeen) (lines : List Line) (i : ℕ) (line : Line) (old new : SharedSeen) (cause : Cause)
     → i < length lines → line ≡ get_or lines i line → PlaysSoFar first lines i old
-    → ((h : History) → IsLeftBy h old → shared_line h line ≡ Err cause)
-    → (z : Zone) (image : List ℕ) → IsLeftBy (just_opened z image) first → StopsAt z image lines (i + 1) cause
-plays_stop first lines i line old cause below is so_far does z image l =
+    → ((h : History) → IsLeftBy h old → shared_line h line ≡ Err cause) → new ≡ old
+    → (z : Zone) (image : List ℕ) → IsLeftBy (just_opened z image) first → StopsAt z image lines new (i + 1) cause
+plays_stop first lines i line old new cause below is so_far does same z image l =
     let p = so_far z image l in
     let r = shared_ran z image (take i lines) in
     let now : next_shared r (get_or lines i line) ≡ record p.ran { refused = Some cause } =
@@ -172,6 +172,8 @@ plays_stop first lines i line old cause below is so_far does z image l =
     record {
       refused = ap (λ (x : SharedRan). x.refused) all;
       count = ap (λ (x : SharedRan). x.count + 1) all ∙ ap (λ n. n + 1) p.count;
+      left = subst (λ (x : SharedRan). IsLeftBy x.history new) (sym all)
+          (subst (λ (v : SharedSeen). IsLeftBy p.ran.history v) (sym same) p.left);
     }
 
 pub plays_all : (first : SharedSeen) (lines : List Line) (i : ℕ) (v : SharedSeen) → length lines ≤ i

@@ -29,12 +29,14 @@ pub record PlaysAll (z : Zone) (image : List ℕ) (lines : List Line) (v : Share
   pub none : (shared_ran z image lines).refused ≡ None
   pub left : IsLeftBy (shared_ran z image lines).history v
 
--- the line of this number was refused, and those before it were done
-pub record StopsAt (z : Zone) (image : List ℕ) (lines : List Line) (n : ℕ) (cause : Cause) : Type 0 where
+-- the line of this number was refused, and those before it were done and leave this
+pub record StopsAt (z : Zone) (image : List ℕ) (lines : List Line) (v : SharedSeen) (n : ℕ)
+    (cause : Cause) : Type 0 where
   pub refused : (shared_ran z image lines).refused ≡ Some cause
   pub count : (shared_ran z image lines).count + 1 ≡ n
+  pub left : IsLeftBy (shared_ran z image lines).history v
 
 abbrev pub Plays : Zone → List ℕ → List Line → SharedSeen → Result (Unit {0}) Stop → Type 0
 Plays z image lines v (Ok u) = PlaysAll z image lines v
-Plays z image lines v (Err (Refused n cause)) = StopsAt z image lines n cause
+Plays z image lines v (Err (Refused n cause)) = StopsAt z image lines v n cause
 Plays z image lines v (Err other) = ⊥

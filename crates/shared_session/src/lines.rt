@@ -1,5 +1,5 @@
 // The lines of a script on a shared zone.
-ghost use Rattle.std.specs.Prelude.{◌≡◌, ◌^◌, ◌<◌, length, is_some, MatchResult, Err};
+ghost use Rattle.std.specs.Prelude.{◌≡◌, ◌^◌, ◌<◌, length, is_some, MatchResult, OnErr, Err};
 ghost use Rattle.grammar_spec.specs.Printed.{HasFields};
 ghost use Rattle.shared_spec.specs.Calls.{open_call};
 ghost use Rattle.shared_spec.specs.Machine.{refusal};
@@ -17,9 +17,10 @@ use tool_spec::Cause;
 fn reserve(shared: &mut Shared, payload: Bytes) -> Result<(), Cause>
     requires some { 0 < length payload }
     requires few { shared.old.reserved < 2 ^ 63 }
-    ensures { (h : History) → IsLeftBy h shared.old
+    ensures done { (h : History) → IsLeftBy h shared.old
         → let wanted = reserves h payload (refusal h.zone (shared_zone h).calls (length payload)) in
         MatchResult result (λ _. IsLeft wanted shared.new) (λ cause. wanted ≡ Err cause) }
+    ensures unchanged { OnErr result (shared.new ≡ shared.old) }
 {
     match shared.reserve(payload) {
         Ok(_) => Ok(()),
@@ -43,9 +44,10 @@ fn store_bytes(shared: &mut Shared, ticket: u64, count: u32)
 
 // The same, if the call is open.
 fn store_next(shared: &mut Shared, ticket: u64, count: u32) -> Result<(), Cause>
-    ensures { (h : History) → IsLeftBy h shared.old
+    ensures done { (h : History) → IsLeftBy h shared.old
         → let wanted = stores h ticket count (open_call (shared_zone h).calls ticket) in
         MatchResult result (λ _. IsLeft wanted shared.new) (λ cause. wanted ≡ Err cause) }
+    ensures unchanged { OnErr result (shared.new ≡ shared.old) }
 {
     if !shared.is_open(ticket) {
         return Err(Cause::Idle);
@@ -58,8 +60,9 @@ fn store_next(shared: &mut Shared, ticket: u64, count: u32) -> Result<(), Cause>
 pub fn do_line(shared: &mut Shared, line: Line) -> Result<(), Cause>
     requires fields { HasFields line }
     requires few { shared.old.reserved < 2 ^ 63 }
-    ensures { (h : History) → IsLeftBy h shared.old → MatchResult result
+    ensures done { (h : History) → IsLeftBy h shared.old → MatchResult result
         (λ _. IsLeft (shared_line h line) shared.new) (λ cause. shared_line h line ≡ Err cause) }
+    ensures unchanged { OnErr result (shared.new ≡ shared.old) }
 {
     match line {
         Line::Blank => Ok(()),

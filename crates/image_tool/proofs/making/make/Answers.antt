@@ -2,6 +2,7 @@ use Rattle.std.proofs.Common.{refl}
 use Rattle.tool_spec.specs.Commands.{MakeImage}
 use Rattle.image_tool.specs.Plans.{plan_for}
 use Rattle.image_tool.proofs.MakeEnds.{make_unput, make_saved, make_unsaved}
+use Rattle.image_tool.proofs.Due.{text_put}
 use Rattle.image_tool.proofs.making.make.Goals as goal
 
 pub returns-in-Err-put-clause-ended : goal.returns-in-Err-put-clause-ended
@@ -21,3 +22,6 @@ returns-clause-ended g c = λ left f. make_unsaved (plan_for (MakeImage c.args.n
     c.args.n _ _ refl (record { left = refl; source = refl }) c.in-Ok.made.1.items c.in-Ok.ensures.summary
     c.in-Ok.made.0 c.in-Ok.ensures.image (rw c.deref.ensures.value at c.in-Ok-put.ensures.bytes)
     (rw c.as_slice.ensures at c.in-Err-save.ensures.bytes)
+
+pub returns-clause-put : goal.returns-clause-put
+returns-clause-put g c = text_put _ _ _ c.in-Ok-put.ensures.bytes

@@ -1,9 +1,10 @@
-use Rattle.std.proofs.Common.{◌≡◌, [], ◌∙◌, List, ℕ, ap, ap₂, refl, sym}
+use Rattle.std.proofs.Common.{◌≡◌, [], ◌∙◌, List, ℕ, ap, ap₂, refl, sym, Err}
 use Rattle.zone_params.specs.Laid.{zones_of}
 use Rattle.old_log.specs.Saving.{saved}
 use Rattle.tool_spec.specs.Texts.{move_text}
 use Rattle.tool_frame.specs.Words.{move_for}
 use Rattle.image_tool.proofs.MoveEnds.{move_unread, move_memory, move_unput, move_saved, move_unsaved}
+use Rattle.image_tool.proofs.Due.{first_put, text_put}
 use Rattle.image_tool.proofs.moving.move_image.Goals as goal
 
 pub returns-in-Err-put-clause-ended : goal.returns-in-Err-put-clause-ended
@@ -35,3 +36,9 @@ pub returns-in-Err-moved-clause-ended : goal.returns-in-Err-moved-clause-ended
 returns-in-Err-moved-clause-ended g c = λ left f. move_memory (move_for c.args.from c.args.to) _ _ c.in-Ok.logs
     (record { left = refl; source = refl }) c.in-Ok.ensures.read
     (record { given = refl; holds = c.in-Ok.ensures.same })
+
+pub returns-in-Err-clause-put : goal.returns-in-Err-clause-put
+returns-in-Err-clause-put g c = first_put (Err c.in-Err.stop) _ _ refl
+
+pub returns-clause-put : goal.returns-clause-put
+returns-clause-put g c = text_put _ _ _ c.in-Ok-put.ensures.bytes

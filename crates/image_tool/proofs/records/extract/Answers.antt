@@ -4,6 +4,7 @@ use Rattle.ram_session.specs.Records.{IsContent}
 use Rattle.tool_spec.specs.Commands.{ExtractRecord}
 use Rattle.image_tool.specs.Plans.{plan_for}
 use Rattle.image_tool.proofs.RecordEnds.{extract_put, extract_front, extract_stopped}
+use Rattle.image_tool.proofs.Due.{none_put}
 use Rattle.image_tool.proofs.records.extract.Goals as goal
 
 pub returns-in-Err-content_of-clause-ended : goal.returns-in-Err-content_of-clause-ended
@@ -25,3 +26,9 @@ returns-clause-ended g c = λ left f. extract_front (plan_for (ExtractRecord c.a
     _ _ _ c.args.name.now refl c.in-Ok.ensures.read c.in-Ok-content_of.content
     (rw c.as_bytes.ensures.value at c.in-Ok-content_of.ensures) c.in-Ok.ensures.same
     (record { left = refl; source = refl }) (rw c.as_slice.ensures at c.in-Err-put.ensures.bytes)
+
+pub returns-in-Err-clause-put : goal.returns-in-Err-clause-put
+returns-in-Err-clause-put g c = none_put (Err c.in-Err.stop) _ _ refl
+
+pub returns-in-Err-content_of-clause-put : goal.returns-in-Err-content_of-clause-put
+returns-in-Err-content_of-clause-put g c = none_put (Err c.stop_of.result) _ _ refl

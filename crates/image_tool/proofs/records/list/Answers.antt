@@ -1,7 +1,8 @@
-use Rattle.std.proofs.Common.{refl}
+use Rattle.std.proofs.Common.{refl, Err}
 use Rattle.tool_spec.specs.Commands.{ListRecords}
 use Rattle.image_tool.specs.Plans.{plan_for}
 use Rattle.image_tool.proofs.RecordEnds.{list_put, list_front}
+use Rattle.image_tool.proofs.Due.{none_put}
 use Rattle.image_tool.proofs.records.list.Goals as goal
 
 pub returns-in-Ok-put-clause-ended : goal.returns-in-Ok-put-clause-ended
@@ -13,3 +14,6 @@ pub returns-clause-ended : goal.returns-clause-ended
 returns-clause-ended g c = λ left f. list_front (plan_for ListRecords c.args.layout)
     _ _ _ c.in-Ok.ensures.read refl c.in-Ok-listing.text.items c.in-Ok-listing.ensures c.in-Ok.ensures.same
     (record { left = refl; source = refl }) (rw c.deref.ensures.value at c.in-Err-put.ensures.bytes)
+
+pub returns-in-Err-clause-put : goal.returns-in-Err-clause-put
+returns-in-Err-clause-put g c = none_put (Err c.in-Err.stop) _ _ refl

@@ -1,11 +1,12 @@
 -- The reading of a ring, put or refused
-use Rattle.std.proofs.Common.{refl, sym, subst}
+use Rattle.std.proofs.Common.{refl, sym, subst, Err}
 use Rattle.std.specs.Io.KnownBytes.{Appends}
 use Rattle.box_io.specs.Outside.{AppendsFront}
 use Rattle.zone_spec.specs.Reading.{ZoneReading}
 use Rattle.tool_spec.specs.Commands.{ReadRing}
 use Rattle.image_tool.specs.Plans.{plan_for}
 use Rattle.image_tool.proofs.DumpEnds.{ring_put, ring_front, ring_refused}
+use Rattle.image_tool.proofs.Due.{none_put}
 use Rattle.image_tool.proofs.salvaging.rescue.Goals as goal
 
 pub returns-in-Err-ring_at-clause-ended : goal.returns-in-Err-ring_at-clause-ended
@@ -27,3 +28,9 @@ returns-clause-ended g c = λ left f.
     c.args.at c.args.name refl c.in-Ok-ring_at.reading c.in-Ok-ring_at.ensures c.in-Ok.ensures.same
     (record { left = refl; source = refl }) (subst (λ (r : ZoneReading). AppendsFront (g.O.Sink.given c.args.out.now) (g.O.Sink.given c.put.new.self) r.log)
     c.reading.view_is (rw c.as_slice.ensures at c.in-Err-put.ensures.bytes))
+
+pub returns-in-Err-clause-put : goal.returns-in-Err-clause-put
+returns-in-Err-clause-put g c = none_put (Err c.in-Err.stop) _ _ refl
+
+pub returns-in-Err-ring_at-clause-put : goal.returns-in-Err-ring_at-clause-put
+returns-in-Err-ring_at-clause-put g c = none_put (Err c.ring_stop.result) _ _ refl

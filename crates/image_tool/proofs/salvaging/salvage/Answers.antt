@@ -1,9 +1,10 @@
 -- The rings of a dump, put
-use Rattle.std.proofs.Common.{◌≡◌, ap, sym, ◌∙◌, refl}
+use Rattle.std.proofs.Common.{◌≡◌, ap, sym, ◌∙◌, refl, Err}
 use Rattle.tool_spec.specs.Texts.{rings_text}
 use Rattle.tool_spec.specs.Commands.{FindRings}
 use Rattle.image_tool.specs.Plans.{plan_for}
 use Rattle.image_tool.proofs.DumpEnds.{rings_memory, rings_put, rings_front}
+use Rattle.image_tool.proofs.Due.{none_put}
 use Rattle.image_tool.proofs.salvaging.salvage.Goals as goal
 
 pub returns-in-Err-all_rings-clause-ended : goal.returns-in-Err-all_rings-clause-ended
@@ -29,3 +30,6 @@ returns-clause-ended g c = λ left f.
     c.in-Ok-all_rings.rings.items c.in-Ok-rings_text.text.items c.in-Ok-all_rings.ensures
     (c.in-Ok-rings_text.ensures ∙ ap rings_text c.deref.ensures.value) c.in-Ok.ensures.same
     (record { left = refl; source = refl }) (rw c.deref-2.ensures.value at c.in-Err-put.ensures.bytes)
+
+pub returns-in-Err-clause-put : goal.returns-in-Err-clause-put
+returns-in-Err-clause-put g c = none_put (Err c.in-Err.stop) _ _ refl

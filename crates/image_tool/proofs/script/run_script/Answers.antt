@@ -7,10 +7,11 @@ use Rattle.tool_frame.specs.Words.{plan_for}
 use Rattle.tool_frame.proofs.ReadParts.{read_whole}
 use Rattle.image_tool.proofs.ScriptEnds.{play_caused, play_stopped, play_saved, play_unsaved}
 use Rattle.image_tool.proofs.WorkEnds.{kept_same}
+use Rattle.image_tool.proofs.Due.{no_text, text_put, lines_put}
 use Rattle.image_tool.proofs.script.run_script.Goals as goal
 
-pub returns-in-Err-play : goal.returns-in-Err-play
-returns-in-Err-play g c = record {
+pub returns-in-Err-play-clause-work : goal.returns-in-Err-play-clause-work
+returns-in-Err-play-clause-work g c = record {
   later = record { source = omega arith; store = omega arith; sink = omega arith };
   caused = play_caused _ _ _ _ _ _ _ _ _ _ _ _ (c.in-Err-play.ensures.played _ _ _ c.in-Ok-fresh_store.ensures);
   kept = λ w. kept_same (Err c.in-Err-play.stop) _ _ c.in-Ok.ensures.same;
@@ -22,8 +23,8 @@ returns-in-Err-play g c = record {
       (c.in-Err-play.ensures.played _ _ _ c.in-Ok-fresh_store.ensures);
 }
 
-pub returns-in-Ok-save : goal.returns-in-Ok-save
-returns-in-Ok-save g c =
+pub returns-in-Ok-save-clause-work : goal.returns-in-Ok-save-clause-work
+returns-in-Ok-save-clause-work g c =
     let played = c.in-Ok-play.ensures.played (zones_of c.args.layout) (rounded (params_of c.args.layout).mem)
     c.in-Ok.bytes.items c.in-Ok-fresh_store.ensures in
     record {
@@ -40,8 +41,8 @@ returns-in-Ok-save g c =
           played.session played.stands) (rw (c.as_slice-2.ensures, c.in-Ok.ensures.same) at c.in-Ok-save.ensures.bytes);
     }
 
-pub returns : goal.returns
-returns g c =
+pub returns-clause-work : goal.returns-clause-work
+returns-clause-work g c =
     let played = c.in-Ok-play.ensures.played (zones_of c.args.layout) (rounded (params_of c.args.layout).mem)
     c.in-Ok.bytes.items c.in-Ok-fresh_store.ensures in
     record {
@@ -58,3 +59,25 @@ returns g c =
           played.session played.stands)
           (rw (c.as_slice-2.ensures, c.in-Ok.ensures.same) at c.in-Err-save.ensures.bytes);
     }
+
+pub returns-in-Err-clause-put : goal.returns-in-Err-clause-put
+returns-in-Err-clause-put g c = no_text _
+
+pub returns-in-Err-read_script-clause-put : goal.returns-in-Err-read_script-clause-put
+returns-in-Err-read_script-clause-put g c = no_text _
+
+pub returns-in-Err-lines-clause-put : goal.returns-in-Err-lines-clause-put
+returns-in-Err-lines-clause-put g c = no_text _
+
+pub returns-in-Err-fresh_store-clause-put : goal.returns-in-Err-fresh_store-clause-put
+returns-in-Err-fresh_store-clause-put g c = no_text _
+
+pub returns-in-Err-play-clause-put : goal.returns-in-Err-play-clause-put
+returns-in-Err-play-clause-put g c = lines_put c.in-Err-play.stop _ _ _ _ _ _ _
+    (c.in-Err-play.ensures.played _ _ _ c.in-Ok-fresh_store.ensures)
+
+pub returns-clause-put : goal.returns-clause-put
+returns-clause-put g c =
+    let played = c.in-Ok-play.ensures.played (zones_of c.args.layout) (rounded (params_of c.args.layout).mem)
+    c.in-Ok.bytes.items c.in-Ok-fresh_store.ensures in
+    text_put _ _ _ played.played.texts

@@ -6,10 +6,11 @@ use Rattle.tool_frame.proofs.ReadParts.{read_whole}
 use Rattle.tool_frame.proofs.Script.{load_stopped, script_stopped, parse_stopped, load_caused, script_caused, parse_caused}
 use Rattle.image_tool.proofs.SharedEnds.{shared_scripted, share_ended, share_caused, text_unput, image_saved, image_unsaved}
 use Rattle.image_tool.proofs.WorkEnds.{kept_same}
+use Rattle.image_tool.proofs.Due.{first_put, text_put}
 use Rattle.image_tool.proofs.sharing.run_shared_script.Goals as goal
 
-pub returns-in-Err-share : goal.returns-in-Err-share
-returns-in-Err-share g c = record {
+pub returns-in-Err-share-clause-work : goal.returns-in-Err-share-clause-work
+returns-in-Err-share-clause-work g c = record {
   later = record { source = omega arith; store = omega arith; sink = omega arith };
   caused = share_caused _ _ _ _ _ _ _ _ c.in-Err-share.ensures;
   kept = λ w. kept_same (Err c.in-Err-share.stop) _ _ c.in-Ok.ensures.same;
@@ -21,8 +22,8 @@ returns-in-Err-share g c = record {
       (record { given = refl; holds = c.in-Ok.ensures.same }) c.in-Err-share.ensures;
 }
 
-pub returns-in-Err-put : goal.returns-in-Err-put
-returns-in-Err-put g c = record {
+pub returns-in-Err-put-clause-work : goal.returns-in-Err-put-clause-work
+returns-in-Err-put-clause-work g c = record {
   later = record { source = omega arith; store = omega arith; sink = omega arith };
   caused = omega (arith, c.in-Err-put.ensures.cause.failed);
   kept = λ w. c.in-Ok.ensures.same;
@@ -35,8 +36,8 @@ returns-in-Err-put g c = record {
       (rw c.deref-2.ensures.value at c.in-Err-put.ensures.bytes);
 }
 
-pub returns-in-Ok-save : goal.returns-in-Ok-save
-returns-in-Ok-save g c = record {
+pub returns-in-Ok-save-clause-work : goal.returns-in-Ok-save-clause-work
+returns-in-Ok-save-clause-work g c = record {
   later = record { source = omega arith; store = omega arith; sink = omega arith };
   caused = tt;
   kept = λ w. tt;
@@ -50,8 +51,8 @@ returns-in-Ok-save g c = record {
       (rw (c.as_slice.ensures, c.in-Ok.ensures.same) at c.in-Ok-save.ensures.bytes);
 }
 
-pub returns : goal.returns
-returns g c = record {
+pub returns-clause-work : goal.returns-clause-work
+returns-clause-work g c = record {
   later = record { source = omega arith; store = omega arith; sink = omega arith };
   caused = omega (arith, c.in-Err-save.ensures.cause.failed);
   kept = λ w. tt;
@@ -65,8 +66,8 @@ returns g c = record {
       (rw (c.as_slice.ensures, c.in-Ok.ensures.same) at c.in-Err-save.ensures.bytes);
 }
 
-pub returns-in-Err : goal.returns-in-Err
-returns-in-Err g c = record {
+pub returns-in-Err-clause-work : goal.returns-in-Err-clause-work
+returns-in-Err-clause-work g c = record {
   later = record { source = omega arith; store = omega arith; sink = omega arith };
   caused = load_caused c.in-Err.stop c.mem.result (g.M.Store.holds c.args.image.now) _ _ _ _ _ _ c.in-Err.ensures.err;
   kept = λ w. kept_same (Err c.in-Err.stop) _ _ c.in-Err.ensures.same;
@@ -75,8 +76,8 @@ returns-in-Err g c = record {
       (rw c.mem.ensures at c.in-Err.ensures.err);
 }
 
-pub returns-in-Err-read_script : goal.returns-in-Err-read_script
-returns-in-Err-read_script g c = record {
+pub returns-in-Err-read_script-clause-work : goal.returns-in-Err-read_script-clause-work
+returns-in-Err-read_script-clause-work g c = record {
   later = record { source = omega arith; store = omega arith; sink = omega arith };
   caused = script_caused c.in-Err-read_script.stop (g.S.Source.left c.args.script.now) _ _ _ _ _ _
       c.in-Err-read_script.ensures.err;
@@ -86,8 +87,8 @@ returns-in-Err-read_script g c = record {
       (record { given = refl; holds = c.in-Ok.ensures.same }) c.in-Err-read_script.ensures.err;
 }
 
-pub returns-in-Err-lines : goal.returns-in-Err-lines
-returns-in-Err-lines g c = record {
+pub returns-in-Err-lines-clause-work : goal.returns-in-Err-lines-clause-work
+returns-in-Err-lines-clause-work g c = record {
   later = record { source = omega arith; store = omega arith; sink = omega arith };
   caused = parse_caused c.in-Err-lines.stop _ _ _ _ _ _ _ c.in-Err-lines.ensures.read;
   kept = λ w. kept_same (Err c.in-Err-lines.stop) _ _ c.in-Ok.ensures.same;
@@ -98,3 +99,18 @@ returns-in-Err-lines g c = record {
       c.in-Err-lines.stop (record { given = refl; holds = c.in-Ok.ensures.same })
       (rw c.deref.ensures.value at c.in-Err-lines.ensures.read);
 }
+
+pub returns-in-Err-clause-put : goal.returns-in-Err-clause-put
+returns-in-Err-clause-put g c = first_put (Err c.in-Err.stop) _ _ refl
+
+pub returns-in-Err-read_script-clause-put : goal.returns-in-Err-read_script-clause-put
+returns-in-Err-read_script-clause-put g c = first_put (Err c.in-Err-read_script.stop) _ _ refl
+
+pub returns-in-Err-lines-clause-put : goal.returns-in-Err-lines-clause-put
+returns-in-Err-lines-clause-put g c = first_put (Err c.in-Err-lines.stop) _ _ refl
+
+pub returns-in-Err-share-clause-put : goal.returns-in-Err-share-clause-put
+returns-in-Err-share-clause-put g c = first_put (Err c.in-Err-share.stop) _ _ refl
+
+pub returns-clause-put : goal.returns-clause-put
+returns-clause-put g c = text_put _ _ _ c.in-Ok-put.ensures.bytes

@@ -3,37 +3,38 @@ use Rattle.tool_spec.specs.Commands.{ShowLayout, BlankImage}
 use Rattle.tool_frame.specs.Words.{plan_for}
 use Rattle.tool_frame.specs.declared.words.RamCommand.TheVariants.{Run, List, Extract, Erase, Layout, Blank, Make, Salvage, Rescue}
 use Rattle.image_tool.proofs.WorkEnds.{arm_done, kept_same, layout_shown, blank_left}
+use Rattle.image_tool.proofs.Due.{arm_put, none_put}
 use Rattle.image_tool.proofs.work.do_command.Goals as goal
 
-pub returns-in-Run : goal.returns-in-Run
-returns-in-Run g c = arm_done _ Run c.args.layout _ _ _ c.in-Run.is c.run_script.ensures
+pub returns-in-Run-clause-work : goal.returns-in-Run-clause-work
+returns-in-Run-clause-work g c = arm_done _ Run c.args.layout _ _ _ c.in-Run.is c.run_script.ensures.work
 
-pub returns-in-List : goal.returns-in-List
-returns-in-List g c = arm_done _ List c.args.layout _ _ _ c.in-List.is (record {
+pub returns-in-List-clause-work : goal.returns-in-List-clause-work
+returns-in-List-clause-work g c = arm_done _ List c.args.layout _ _ _ c.in-List.is (record {
   later = record { source = omega arith; store = c.list.ensures.later.0; sink = c.list.ensures.later.1 };
   caused = c.list.ensures.caused _ _;
   kept = λ w. kept_same _ _ _ c.list.ensures.same;
   ended = c.list.ensures.ended _ _;
 })
 
-pub returns-in-Extract : goal.returns-in-Extract
-returns-in-Extract g c = arm_done _ (Extract c.in-Extract.name) c.args.layout _ _ _ c.in-Extract.is (record {
+pub returns-in-Extract-clause-work : goal.returns-in-Extract-clause-work
+returns-in-Extract-clause-work g c = arm_done _ (Extract c.in-Extract.name) c.args.layout _ _ _ c.in-Extract.is (record {
   later = record { source = omega arith; store = c.extract.ensures.later.0; sink = c.extract.ensures.later.1 };
   caused = c.extract.ensures.caused _ _;
   kept = λ w. kept_same _ _ _ c.extract.ensures.same;
   ended = c.extract.ensures.ended _ _;
 })
 
-pub returns-in-Erase : goal.returns-in-Erase
-returns-in-Erase g c = arm_done _ (Erase c.in-Erase.name) c.args.layout _ _ _ c.in-Erase.is (record {
+pub returns-in-Erase-clause-work : goal.returns-in-Erase-clause-work
+returns-in-Erase-clause-work g c = arm_done _ (Erase c.in-Erase.name) c.args.layout _ _ _ c.in-Erase.is (record {
   later = record { source = omega arith; store = c.erase.ensures.later; sink = omega arith };
   caused = c.erase.ensures.caused _ _ _ _;
   kept = λ w. c.erase.ensures.kept;
   ended = c.erase.ensures.ended _ _ _ _;
 })
 
-pub returns-in-Layout : goal.returns-in-Layout
-returns-in-Layout g c = arm_done _ Layout c.args.layout _ _ _ c.in-Layout.is (record {
+pub returns-in-Layout-clause-work : goal.returns-in-Layout-clause-work
+returns-in-Layout-clause-work g c = arm_done _ Layout c.args.layout _ _ _ c.in-Layout.is (record {
   later = record { source = omega arith; store = omega arith; sink = c.show_layout.ensures.later };
   caused = c.show_layout.ensures.caused _ _ _ _;
   kept = λ w. kept_same _ _ _ refl;
@@ -41,8 +42,8 @@ returns-in-Layout g c = arm_done _ Layout c.args.layout _ _ _ c.in-Layout.is (re
       (record { holds = refl; store = refl }) c.show_layout.ensures.can (c.show_layout.ensures.ended _);
 })
 
-pub returns-in-Blank : goal.returns-in-Blank
-returns-in-Blank g c = arm_done _ Blank c.args.layout _ _ _ c.in-Blank.is (record {
+pub returns-in-Blank-clause-work : goal.returns-in-Blank-clause-work
+returns-in-Blank-clause-work g c = arm_done _ Blank c.args.layout _ _ _ c.in-Blank.is (record {
   later = record { source = omega arith; store = c.blank.ensures.later; sink = omega arith };
   caused = c.blank.ensures.caused _ _ _ _;
   kept = λ w. c.blank.ensures.kept;
@@ -51,26 +52,53 @@ returns-in-Blank g c = arm_done _ Blank c.args.layout _ _ _ c.in-Blank.is (recor
       c.blank.ensures.written;
 })
 
-pub returns-in-Make : goal.returns-in-Make
-returns-in-Make g c = arm_done _ (Make c.in-Make.n) c.args.layout _ _ _ c.in-Make.is (record {
+pub returns-in-Make-clause-work : goal.returns-in-Make-clause-work
+returns-in-Make-clause-work g c = arm_done _ (Make c.in-Make.n) c.args.layout _ _ _ c.in-Make.is (record {
   later = record { source = omega arith; store = c.make.ensures.later.0; sink = c.make.ensures.later.1 };
   caused = c.make.ensures.caused _ _;
   kept = λ w. c.make.ensures.kept;
   ended = c.make.ensures.ended _ _;
 })
 
-pub returns-in-Salvage : goal.returns-in-Salvage
-returns-in-Salvage g c = arm_done _ Salvage c.args.layout _ _ _ c.in-Salvage.is (record {
+pub returns-in-Salvage-clause-work : goal.returns-in-Salvage-clause-work
+returns-in-Salvage-clause-work g c = arm_done _ Salvage c.args.layout _ _ _ c.in-Salvage.is (record {
   later = record { source = omega arith; store = c.salvage.ensures.later.0; sink = c.salvage.ensures.later.1 };
   caused = c.salvage.ensures.caused _ _;
   kept = λ w. kept_same _ _ _ c.salvage.ensures.same;
   ended = c.salvage.ensures.ended _ _;
 })
 
-pub returns-in-Rescue : goal.returns-in-Rescue
-returns-in-Rescue g c = arm_done _ (Rescue c.in-Rescue.at c.in-Rescue.name) c.args.layout _ _ _ c.in-Rescue.is (record {
+pub returns-in-Rescue-clause-work : goal.returns-in-Rescue-clause-work
+returns-in-Rescue-clause-work g c = arm_done _ (Rescue c.in-Rescue.at c.in-Rescue.name) c.args.layout _ _ _ c.in-Rescue.is (record {
   later = record { source = omega arith; store = c.rescue.ensures.later.0; sink = c.rescue.ensures.later.1 };
   caused = c.rescue.ensures.caused _ _;
   kept = λ w. kept_same _ _ _ c.rescue.ensures.same;
   ended = c.rescue.ensures.ended _ _;
 })
+
+pub returns-in-Run-clause-put : goal.returns-in-Run-clause-put
+returns-in-Run-clause-put g c = arm_put _ Run _ _ _ c.in-Run.is c.run_script.ensures.put
+
+pub returns-in-List-clause-put : goal.returns-in-List-clause-put
+returns-in-List-clause-put g c = arm_put _ List _ _ _ c.in-List.is c.list.ensures.put
+
+pub returns-in-Extract-clause-put : goal.returns-in-Extract-clause-put
+returns-in-Extract-clause-put g c = arm_put _ (Extract c.in-Extract.name) _ _ _ c.in-Extract.is c.extract.ensures.put
+
+pub returns-in-Erase-clause-put : goal.returns-in-Erase-clause-put
+returns-in-Erase-clause-put g c = arm_put _ (Erase c.in-Erase.name) _ _ _ c.in-Erase.is (none_put _ _ _ refl)
+
+pub returns-in-Layout-clause-put : goal.returns-in-Layout-clause-put
+returns-in-Layout-clause-put g c = arm_put _ Layout _ _ _ c.in-Layout.is c.show_layout.ensures.put
+
+pub returns-in-Blank-clause-put : goal.returns-in-Blank-clause-put
+returns-in-Blank-clause-put g c = arm_put _ Blank _ _ _ c.in-Blank.is (none_put _ _ _ refl)
+
+pub returns-in-Make-clause-put : goal.returns-in-Make-clause-put
+returns-in-Make-clause-put g c = arm_put _ (Make c.in-Make.n) _ _ _ c.in-Make.is c.make.ensures.put
+
+pub returns-in-Salvage-clause-put : goal.returns-in-Salvage-clause-put
+returns-in-Salvage-clause-put g c = arm_put _ Salvage _ _ _ c.in-Salvage.is c.salvage.ensures.put
+
+pub returns-in-Rescue-clause-put : goal.returns-in-Rescue-clause-put
+returns-in-Rescue-clause-put g c = arm_put _ (Rescue c.in-Rescue.at c.in-Rescue.name) _ _ _ c.in-Rescue.is c.rescue.ensures.put

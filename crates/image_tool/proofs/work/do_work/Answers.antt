@@ -1,11 +1,12 @@
-use Rattle.std.proofs.Common.{refl, arith}
+use Rattle.std.proofs.Common.{refl, arith, Err}
 use Rattle.tool_spec.specs.Commands.{OfMove, plan_of}
 use Rattle.tool_frame.specs.Words.{texts, move_for}
 use Rattle.image_tool.proofs.WorkEnds.{none_done, plan_done}
+use Rattle.image_tool.proofs.Due.{plan_put, plan_same}
 use Rattle.image_tool.proofs.work.do_work.Goals as goal
 
-pub returns-in-Err : goal.returns-in-Err
-returns-in-Err g c = none_done (plan_of (texts c.args.words.now)) c.in-Err.stop _ _ c.in-Err.ensures.plan
+pub returns-in-Err-clause-work : goal.returns-in-Err-clause-work
+returns-in-Err-clause-work g c = none_done (plan_of (texts c.args.words.now)) c.in-Err.stop _ _ c.in-Err.ensures.plan
     c.in-Err.ensures.stops
     (record {
       script = record { left = refl; source = refl };
@@ -13,8 +14,8 @@ returns-in-Err g c = none_done (plan_of (texts c.args.words.now)) c.in-Err.stop 
       given = refl;
     }) refl
 
-pub returns-in-Ok-Move : goal.returns-in-Ok-Move
-returns-in-Ok-Move g c = plan_done (plan_of (texts c.args.words.now))
+pub returns-in-Ok-Move-clause-work : goal.returns-in-Ok-Move-clause-work
+returns-in-Ok-Move-clause-work g c = plan_done (plan_of (texts c.args.words.now))
     (OfMove (move_for c.in-Ok-Move.from c.in-Ok-Move.to)) _ _ _
     (rw c.in-Ok-Move.field-0-is at c.in-Ok-Move.ensures.plan)
     (record {
@@ -27,3 +28,11 @@ returns-in-Ok-Move g c = plan_done (plan_of (texts c.args.words.now))
       kept = λ w. c.move_image.ensures.kept;
       ended = c.move_image.ensures.ended _ _;
     })
+
+pub returns-in-Ok-Move-clause-put : goal.returns-in-Ok-Move-clause-put
+returns-in-Ok-Move-clause-put g c = plan_put (plan_of (texts c.args.words.now))
+    (OfMove (move_for c.in-Ok-Move.from c.in-Ok-Move.to)) _ _ _
+    (rw c.in-Ok-Move.field-0-is at c.in-Ok-Move.ensures.plan) c.move_image.ensures.put
+
+pub returns-in-Err-clause-put : goal.returns-in-Err-clause-put
+returns-in-Err-clause-put g c = plan_same (plan_of (texts c.args.words.now)) (Err c.in-Err.stop) _

@@ -29,8 +29,9 @@ returns-in-Err c z image left =
     let turn = line_taken c.args.lines c.into_iter-line-iterator.result (search rules) (search rules)
     c.loop-line.yielded c.loop-line.line-iterator c.loop-line.yielded_by c.next.result c.next.new.self
     c.in-Some.line c.in-Some.is c.next.ensures.steps c.loop-line.number c.loop-line.invariant.counted in
-    plays_stop c.args.shared.now c.args.lines c.loop-line.number c.in-Some.line c.loop-line.shared c.in-Err.cause
-    turn.0 turn.1 c.loop-line.invariant.played c.in-Err.ensures z image left
+    plays_stop c.args.shared.now c.args.lines c.loop-line.number c.in-Some.line c.loop-line.shared
+    c.do_line.new.shared c.in-Err.cause turn.0 turn.1 c.loop-line.invariant.played c.in-Err.ensures.done
+    c.in-Err.ensures.unchanged z image left
 
 pub loop-line-preserved : goal.loop-line-preserved
 loop-line-preserved c =
@@ -40,7 +41,7 @@ loop-line-preserved c =
     record {
       counted = omega (arith, c.loop-line.invariant.counted, length-append c.loop-line.yielded (c.in-Some.line ∷ []));
       played = plays_next c.args.shared.now c.args.lines c.loop-line.number c.in-Some.line c.loop-line.shared
-          c.do_line.new.shared turn.0 turn.1 c.loop-line.invariant.played c.in-Ok.ensures;
+          c.do_line.new.shared turn.0 turn.1 c.loop-line.invariant.played c.in-Ok.ensures.done;
     }
 
 pub returns : goal.returns
