@@ -1,10 +1,10 @@
 -- The last line follows from what the work put before it
-use Rattle.std.proofs.Common.{◌≡◌, ◌⊎◌, ℕ, List, [], ◌++◌, take, Option, Result, Ok, Err, refl, inl, inr}
+use Rattle.std.proofs.Common.{◌≡◌, ℕ, List, [], take, Option, Result, Ok, Err, refl, inl, inr}
 use Rattle.std.proofs.KnownBytes.{Appends-nil, Appends-trans}
 use Rattle.std.specs.Io.KnownBytes.{Appends}
 use Rattle.zone_spec.specs.declared.Zone.{Zone}
 use Rattle.grammar_spec.specs.declared.line.Line.{Line}
-use Rattle.tool_spec.specs.Ends.{End, status_of, last_line}
+use Rattle.tool_spec.specs.Ends.{End, last_line}
 use Rattle.tool_spec.specs.Commands.{RamCommand, RunScript, ListRecords, ExtractRecord, EraseRecord, ShowLayout, BlankImage, MakeImage, FindRings, ReadRing, RunShared, Plan, OfRam, OfBlk, OfMove}
 use Rattle.tool_spec.specs.Scripts.{ran}
 use Rattle.tool_spec.specs.Answers.{Outside, front, whole}
@@ -12,7 +12,7 @@ use Rattle.tool_frame.specs.Ends.{LastPut, Finished}
 use Rattle.tool_frame.specs.Playing.{PlayStop}
 use Rattle.tool_frame.specs.Words.{ram_command_seen}
 use Rattle.tool_frame.specs.declared.words.RamCommand.{RamCommand as ReadRamCommand}
-use Rattle.image_tool.specs.Due.{PutsText, PutsNone, PutsFirst, PutsLines, PutsBefore, PutsByPlan, EndsIn, IsLine, LineAlone, LineOrText, LineAtEnd, CommandLine, LastLine}
+use Rattle.image_tool.specs.Due.{PutsText, PutsNone, PutsFirst, PutsLines, PutsBefore, PutsByPlan, LineAlone, LineOrText, LineAtEnd, CommandLine, LastLine}
 use Rattle.tool_spec.specs.declared.Stop.{Stop}
 use Rattle.tool_spec.specs.declared.Stop.TheVariants.{Memory, Usage, Param, Layout, NoSharedZone, Short, ScriptFault, ImageFault, SinkFault, TooLong, BadLine, Refused}
 

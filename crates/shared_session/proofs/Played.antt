@@ -1,9 +1,8 @@
 -- A script's lines, done one by one in the zone
-use Rattle.std.proofs.Common.{◌≡◌, ℕ, zero, suc, ◌+◌, ◌<◌, ◌≤◌, ◌^◌, List, [], ◌∷◌, ◌++◌, length, take, get_or, refl, sym, ap, ◌∙◌, subst, arith, Some, None, Option, Result, Ok, Err, length-append, length-set}
+use Rattle.std.proofs.Common.{◌≡◌, ℕ, zero, suc, ◌+◌, ◌<◌, ◌≤◌, ◌^◌, List, [], ◌∷◌, length, take, get_or, refl, sym, ap, ◌∙◌, subst, arith, Some, None, Option, Result, Ok, Err, length-append, length-set}
 use Rattle.std.proofs.lemmas.List.Sums.{fold_more}
 use Rattle.std.proofs.lemmas.List.Folds.{fold_stuck}
 use Rattle.std.proofs.lemmas.Grind.{common_steps}
-use Rattle.std.specs.List.{fold}
 use Rattle.zone_spec.specs.declared.Zone.{Zone}
 use Rattle.shared_spec.specs.declared.SharedRefusal.{SharedRefusal}
 use Rattle.shared_spec.specs.declared.SharedRefusal.TheVariants.{NoSeat as NoSeatThere, Crowded as CrowdedThere}

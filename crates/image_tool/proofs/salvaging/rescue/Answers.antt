@@ -1,5 +1,5 @@
 -- The reading of a ring, put or refused
-use Rattle.std.proofs.Common.{refl, sym, subst, Err}
+use Rattle.std.proofs.Common.{refl, subst, Err}
 use Rattle.std.specs.Io.KnownBytes.{Appends}
 use Rattle.box_io.specs.Outside.{AppendsFront}
 use Rattle.zone_spec.specs.Reading.{ZoneReading}

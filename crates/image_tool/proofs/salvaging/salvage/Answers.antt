@@ -1,5 +1,5 @@
 -- The rings of a dump, put
-use Rattle.std.proofs.Common.{◌≡◌, ap, sym, ◌∙◌, refl, Err}
+use Rattle.std.proofs.Common.{ap, ◌∙◌, refl, Err}
 use Rattle.tool_spec.specs.Texts.{rings_text}
 use Rattle.tool_spec.specs.Commands.{FindRings}
 use Rattle.image_tool.specs.Plans.{plan_for}

@@ -1,4 +1,3 @@
-use Rattle.std.proofs.Common.{length}
 use Rattle.shared_session.proofs.Done.{blank_done, some_bytes, reserve_done, store_done, other_line}
 use Rattle.shared_session.proofs.lines.do_line.Goals as goal
 
