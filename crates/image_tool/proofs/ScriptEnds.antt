@@ -16,7 +16,7 @@ use Rattle.tool_spec.specs.declared.Stop.{Stop}
 use Rattle.tool_spec.specs.declared.Stop.TheVariants.{Memory, Usage, Param, Layout, NoSharedZone, Short, ScriptFault, ImageFault, SinkFault, TooLong, BadLine, Refused}
 use Rattle.std.specs.Io.KnownBytes.{Appends}
 use Rattle.tool_frame.specs.Playing.{Played, PlayStop}
-use Rattle.tool_frame.specs.Ended.{Ended, CausedAt, PutTexts, PutSome, RunEnds, ScriptEnds}
+use Rattle.tool_frame.specs.Ended.{Ended, CausedAt, PutTexts, PutSome, RunEnds, ScriptEnds, WrittenAt}
 use Rattle.tool_frame.proofs.ReadParts.{Read, read_memory, read_unput, read_unsaved, read_refused, read_done}
 use Rattle.tool_frame.proofs.Script.{nat_lt-true, nat_lt-false, IsScripted, Loaded, room_in, lines_ended}
 
@@ -71,17 +71,18 @@ module _ (plan : RamPlan) (is : plan.command ≡ RunScript) (a b : Outside) (ima
   room = room_in plan a image l
 
   run_ended : (e : End) → IsAmong (ram_statuses RunScript) (status_of e) → ScriptEnds (mem_of plan) a b e
-      → Ended (wanted_lines (ran plan.zones image lines)) a b e → RunEnds plan a b e
-  run_ended e can read h = lines_ended plan (wanted_script plan.zones) (scripted plan is) a b image l text r lines ok
-      (wanted_lines (ran plan.zones image lines)) refl e can read h
+      → Ended (wanted_lines (ran plan.zones image lines)) a b e
+      → WrittenAt (wanted_lines (ran plan.zones image lines)) a b e → RunEnds plan a b e
+  run_ended e can read h written = lines_ended plan (wanted_script plan.zones) (scripted plan is) a b image l text r lines ok
+      (wanted_lines (ran plan.zones image lines)) refl e can read h written
 
   pub play_stopped : (s : Stop) (f g : ℕ) → b.holds ≡ a.holds
       → PlayStop s plan.zones image lines a.given b.given f g → RunEnds plan a b (Err s)
   play_stopped s f g kept h = play_stops (λ t. RunEnds plan a b (Err t)) plan.zones image lines a.given b.given f g
-      (λ put. run_ended (Err Memory) refl (read_memory (mem_of plan) a b room) (put, kept))
-      (λ put. run_ended (Err SinkFault) refl (read_unput (mem_of plan) a b room text r) (put.1, kept))
+      (λ put. run_ended (Err Memory) refl (read_memory (mem_of plan) a b room) (put, kept) tt)
+      (λ put. run_ended (Err SinkFault) refl (read_unput (mem_of plan) a b room text r) (put.1, kept) tt)
       (λ n c put. run_ended (Err (Refused n c)) refl (read_refused (mem_of plan) a b room text r lines ok n c)
-      (put.0, put.1, kept)) s h
+      (put.0, put.1, kept) tt) s h
 
   -- all lines were done, and the image written, whole or in part
   module _ (last : List ℕ) (session : Session) (p : Played plan.zones image lines session a.given b.given)
@@ -91,8 +92,8 @@ module _ (plan : RamPlan) (is : plan.command ≡ RunScript) (a b : Outside) (ima
 
     pub play_saved : Writes a.holds b.holds 0 last → RunEnds plan a b (Ok tt)
     play_saved wrote = run_ended (Ok tt) refl (read_done (mem_of plan) a b room text r lines ok)
-        (all_done, p.texts, rw p.state (rw same at wrote))
+        (all_done, p.texts, rw p.state (rw same at wrote)) tt
 
     pub play_unsaved : WritesFront a.holds b.holds 0 last → RunEnds plan a b (Err ImageFault)
     play_unsaved wrote = run_ended (Err ImageFault) refl (read_unsaved (mem_of plan) a b room text r)
-        (inr (all_done, p.texts, rw p.state (rw same at wrote)))
+        (inr (all_done, p.texts, rw p.state (rw same at wrote))) (all_done, p.texts, rw p.state (rw same at wrote))

@@ -12,7 +12,7 @@ use Rattle.tool_spec.specs.PlanAnswers.{ram_statuses, IsAmong}
 use Rattle.tool_spec.specs.declared.Cause.{Cause}
 use Rattle.tool_spec.specs.declared.Stop.{Stop}
 use Rattle.tool_spec.specs.declared.Stop.TheVariants.{Memory, Usage, Param, Layout, NoSharedZone, Short, ScriptFault, ImageFault, SinkFault, TooLong, BadLine, Refused}
-use Rattle.tool_frame.specs.Ended.{Ended, RunEnds, ScriptEnds, CausedAt}
+use Rattle.tool_frame.specs.Ended.{Ended, RunEnds, ScriptEnds, CausedAt, WrittenAt}
 use Rattle.image_tool.specs.Shares.{SharesLines}
 use Rattle.tool_frame.proofs.ReadParts.{Read, read_unput, read_unsaved, read_refused, read_done}
 use Rattle.tool_frame.proofs.Script.{Quiet, nat_lt-true, nat_lt-false, put_nothing, IsScripted, Loaded, room_in, out_of_memory, lines_ended}
@@ -62,9 +62,9 @@ module _ (plan : RamPlan) (is : plan.command ≡ RunShared) (a b : Outside) (ima
 
   shared_ended : (w : Wanted) → wanted_shared_lines plan.zones image (Ok lines) ≡ w → (e : End)
       → IsAmong (ram_statuses RunScript) (status_of e) → ScriptEnds (mem_of plan) a b e → Ended w a b e
-      → RunEnds plan a b e
-  shared_ended w same e can read h = lines_ended plan (wanted_shared_lines plan.zones) (shared_scripted plan is) a b
-      image l text r lines ok w same e can read h
+      → WrittenAt w a b e → RunEnds plan a b e
+  shared_ended w same e can read h written = lines_ended plan (wanted_shared_lines plan.zones) (shared_scripted plan is) a b
+      image l text r lines ok w same e can read h written
 
   -- the lines were not all done
   pub share_ended : (s : Stop) → Quiet a b
@@ -72,7 +72,7 @@ module _ (plan : RamPlan) (is : plan.command ≡ RunShared) (a b : Outside) (ima
   share_ended s q h = share_stops (λ t. RunEnds plan a b (Err t)) (wanted_shared_lines plan.zones image (Ok lines))
       (out_of_memory plan (wanted_shared_lines plan.zones) (shared_scripted plan is) a b image l q)
       (λ n c same. shared_ended (stops (Refused n c)) same (Err (Refused n c)) refl
-      (read_refused (mem_of plan) a b room text r lines ok n c) (refl, put_nothing a b q, q.holds)) s h
+      (read_refused (mem_of plan) a b room text r lines ok n c) (refl, put_nothing a b q, q.holds) tt) s h
 
   -- all lines were done, and leave this text and this image
   module _ (shown : Text) (last : List ℕ) (same : wanted_shared_lines plan.zones image (Ok lines)
@@ -82,13 +82,13 @@ module _ (plan : RamPlan) (is : plan.command ≡ RunShared) (a b : Outside) (ima
 
     pub text_unput : b.holds ≡ a.holds → AppendsFront a.given b.given shown → RunEnds plan a b (Err SinkFault)
     text_unput kept put = shared_ended w same (Err SinkFault) refl (read_unput (mem_of plan) a b room text r)
-        (record { count = 1; bytes = rw (append-nil shown) put }, kept)
+        (record { count = 1; bytes = rw (append-nil shown) put }, kept) tt
 
     pub image_saved : Appends a.given b.given shown → Writes a.holds b.holds 0 last → RunEnds plan a b (Ok tt)
     image_saved put wrote = shared_ended w same (Ok tt) refl (read_done (mem_of plan) a b room text r lines ok)
-        (refl, rw (append-nil shown) put, wrote)
+        (refl, rw (append-nil shown) put, wrote) tt
 
     pub image_unsaved : Appends a.given b.given shown → WritesFront a.holds b.holds 0 last
         → RunEnds plan a b (Err ImageFault)
     image_unsaved put wrote = shared_ended w same (Err ImageFault) refl (read_unsaved (mem_of plan) a b room text r)
-        (inr (refl, rw (append-nil shown) put, wrote))
+        (inr (refl, rw (append-nil shown) put, wrote)) (refl, rw (append-nil shown) put, wrote)

@@ -195,11 +195,13 @@ ram_memory RunScript plan a b h = record {
   can = ram_can_want plan.command;
   whole = record { told = λ bytes script t l. out_of_memory (wanted plan bytes script) a b h };
   read = unread_memory (mem_of plan) a b h.script;
+  image_fault = inl h.script;
 }
 ram_memory RunShared plan a b h = record {
   can = ram_can_want plan.command;
   whole = record { told = λ bytes script t l. out_of_memory (wanted plan bytes script) a b h };
   read = unread_memory (mem_of plan) a b h.script;
+  image_fault = inl h.script;
 }
 ram_memory ListRecords plan a b h = read_memory _ (wanted_of_image plan) a b (ram_can_want plan.command) h
 ram_memory (ExtractRecord name) plan a b h = read_memory _ (wanted_of_image plan) a b (ram_can_want plan.command) h

@@ -1,5 +1,5 @@
 -- How the stages of a command that reads an image and a script end it, whatever it wants of the lines
-use Rattle.std.proofs.Common.{◌≡◌, ℕ, ◌<◌, ◌≤◌, List, [], length, take, Option, Some, None, Result, Ok, Err, IfSome, refl, sym, ◌∙◌, arith, inl, true, false, nat_lt}
+use Rattle.std.proofs.Common.{◌≡◌, ℕ, ◌<◌, ◌≤◌, List, [], length, take, Option, Some, None, Result, Ok, Err, IfSome, refl, sym, ◌∙◌, arith, inl, inr, true, false, nat_lt}
 use Rattle.std.proofs.lemmas.Bool.Decides.{nat_tests}
 use Rattle.std.specs.Io.KnownBytes.{Appends}
 use Rattle.grammar_spec.specs.Lines.{script_of}
@@ -11,7 +11,7 @@ use Rattle.tool_spec.specs.PlanAnswers.{ram_statuses, IsAmong}
 use Rattle.tool_spec.specs.declared.Stop.{Stop}
 use Rattle.tool_spec.specs.declared.Stop.TheVariants.{Memory, Short, TooLong, BadLine}
 use Rattle.tool_frame.specs.Stages.{LoadStop, ScriptStop, ParseStop}
-use Rattle.tool_frame.specs.Ended.{Ended, RunEnds, ScriptEnds, CausedAt}
+use Rattle.tool_frame.specs.Ended.{Ended, RunEnds, ScriptEnds, CausedAt, WrittenAt}
 use Rattle.tool_frame.proofs.Answered.{nothing_put}
 use Rattle.tool_frame.proofs.ReadParts.{Read, read_of, unread_memory, unread_fault, unread_short, read_memory, read_fault, read_long, read_bad}
 use Rattle.tool_frame.proofs.StageStops.{load_stops, script_stops, parse_stops}
@@ -36,6 +36,9 @@ put_nothing a b q = rw q.given (nothing_put a.given)
 
 pub ended_as : (w v : Wanted) (a b : Outside) (e : End) → w ≡ v → Ended v a b e → Ended w a b e
 ended_as w v a b e same h = rw same h
+
+written_as : (w v : Wanted) (a b : Outside) (e : End) → w ≡ v → WrittenAt v a b e → WrittenAt w a b e
+written_as w v a b e same h = rw same h
 
 -- ---- what is wanted
 
@@ -85,6 +88,7 @@ module _ (plan : RamPlan) (want : List ℕ → Result (List Line) ℕ → Wanted
           (is.short bytes script few) (rw (size, h.0) refl, put_nothing a b q, q.holds);
     };
     read = unread_short (mem_of plan) a b has needed none q.given h;
+    image_fault = inl none;
   }
 
   pub load_stopped : (s : Stop) (f g : ℕ) → NoScript a b → Quiet a b → LoadStop s (mem_of plan) a.holds f g
@@ -94,11 +98,13 @@ module _ (plan : RamPlan) (want : List ℕ → Result (List Line) ℕ → Wanted
         can = rw is.statuses refl;
         whole = record { told = λ bytes script t l. quiet_memory (wanted plan bytes script) a b q };
         read = unread_memory (mem_of plan) a b none;
+        image_fault = inl none;
       })
       (λ rose. record {
         can = rw is.statuses refl;
         whole = record { told = λ bytes script t l. inl (q.given, q.holds) };
         read = unread_fault (mem_of plan) a b none;
+        image_fault = inl none;
       })
       (λ has needed size. stop_short has needed none q size) s h
 
@@ -112,6 +118,7 @@ module _ (plan : RamPlan) (want : List ℕ → Result (List Line) ℕ → Wanted
       can = rw is.statuses refl;
       whole = record { told = λ bytes script t s. quiet_memory (wanted plan bytes script) a b q };
       read = read_memory (mem_of plan) a b room;
+      image_fault = inr (record { told = λ bytes script t s. tt });
     }
 
     stop_long : Quiet a b → IfSome a.left (λ bs. script_limit < length bs) → RunEnds plan a b (Err TooLong)
@@ -125,6 +132,7 @@ module _ (plan : RamPlan) (want : List ℕ → Result (List Line) ℕ → Wanted
             (refl, put_nothing a b q, q.holds);
       };
       read = read_long (mem_of plan) a b room q.given h;
+      image_fault = inr (record { told = λ bytes script t s. tt });
     }
 
     pub script_stopped : (s : Stop) (f g : ℕ) → Quiet a b → ScriptStop s a.left f g → RunEnds plan a b (Err s)
@@ -133,6 +141,7 @@ module _ (plan : RamPlan) (want : List ℕ → Result (List Line) ℕ → Wanted
           can = rw is.statuses refl;
           whole = record { told = λ bytes script t s. (q.given, q.holds) };
           read = read_fault (mem_of plan) a b room q.given;
+          image_fault = inr (record { told = λ bytes script t s. tt });
         })
         (stop_long q) s h
 
@@ -154,6 +163,7 @@ module _ (plan : RamPlan) (want : List ℕ → Result (List Line) ℕ → Wanted
               (lines_wanted bytes script (Err n) h t s ∙ is.bad image n) (refl, put_nothing a b q, q.holds);
         };
         read = read_bad (mem_of plan) a b room text r n h q.given;
+        image_fault = inr (record { told = λ bytes script t s. tt });
       }
 
       pub parse_stopped : (s : Stop) → Quiet a b → ParseStop s (script_of text) → RunEnds plan a b (Err s)
@@ -163,14 +173,18 @@ module _ (plan : RamPlan) (want : List ℕ → Result (List Line) ℕ → Wanted
       -- the lines ended so
       pub lines_ended : (lines : List Line) → script_of text ≡ Ok lines → (w : Wanted) → want image (Ok lines) ≡ w
           → (e : End) → IsAmong (ram_statuses RunScript) (status_of e) → ScriptEnds (mem_of plan) a b e → Ended w a b e
-          → RunEnds plan a b e
-      lines_ended lines ok w same e can read h = record {
+          → WrittenAt w a b e → RunEnds plan a b e
+      lines_ended lines ok w same e can read h written = record {
         can = rw is.statuses can;
         whole = record {
           told = λ bytes script t s. ended_as (wanted plan bytes script) w a b e
               (lines_wanted bytes script (Ok lines) ok t s ∙ same) h;
         };
         read = read;
+        image_fault = inr (record {
+          told = λ bytes script t s. written_as (wanted plan bytes script) w a b e
+              (lines_wanted bytes script (Ok lines) ok t s ∙ same) written;
+        });
       }
 
 -- ---- causes

@@ -341,13 +341,6 @@ module _ (a m b : Outside) (on : GoesOn a m b) (status : ℕ) where
     used = use_at e c h.used f;
   }
 
-  run_answers : (plan : RamPlan) (e : End) → Caused a m e → RunEnds plan a m e
-      → Finished e m.given b.given m.sink_faults b.sink_faults status → RunAnswers plan a b status
-  run_answers plan e c h f = record {
-    whole = record { told = λ bytes text t l. answers a m b on _ status e c (h.whole.told bytes text t l) f };
-    read = script_read (mem_of plan) e c h.read f;
-  }
-
   -- what the last line put
   abbrev PutsMore : Type 0
   PutsMore = (more : Text) × Appends m.given b.given more
@@ -412,6 +405,19 @@ module _ (a m b : Outside) (on : GoesOn a m b) (status : ℕ) where
   written_at w (Err TooLong) c h f = not_six w 8 (λ z. absurd (omega arith)) (put_status TooLong f)
   written_at w (Err (BadLine x)) c h f = not_six w 9 (λ z. absurd (omega arith)) (put_status (BadLine x) f)
   written_at w (Err (Refused x y)) c h f = not_six w 10 (λ z. absurd (omega arith)) (put_status (Refused x y) f)
+
+  run_answers : (plan : RamPlan) (e : End) → Caused a m e → RunEnds plan a m e
+      → Finished e m.given b.given m.sink_faults b.sink_faults status → RunAnswers plan a b status
+  run_answers plan e c h f = record {
+    whole = record { told = λ bytes text t l. answers a m b on _ status e c (h.whole.told bytes text t l) f };
+    read = script_read (mem_of plan) e c h.read f;
+    image_fault = λ six. elim h.image_fault [
+      | inl k ↦ inl (script_on a m b k on.script)
+      | inr k ↦ inr (record {
+        told = λ bytes text t l. written_at (wanted plan bytes text) e c (k.told bytes text t l) f six;
+      })
+    ];
+  }
 
   make_answers : (plan : RamPlan) (e : End) → Caused a m e → MakeEnds plan a m e
       → Finished e m.given b.given m.sink_faults b.sink_faults status → MakeAnswers plan a b status

@@ -95,11 +95,19 @@ pub record ScriptEnds (mem : ℕ) (a b : Outside) (e : End) : Type 0 where
 abbrev pub CanEnd : RamPlan → End → Type 0
 CanEnd plan e = IsAmong (ram_statuses plan.command) (status_of e)
 
+-- the image fails only as it is written
+abbrev pub WrittenAt : Wanted → Outside → Outside → End → Type 0
+WrittenAt w a b (Err ImageFault) = (w.end ≡ Ok tt) × Appends a.given b.given (whole w.texts)
+    × WritesSome w.writes a.holds b.holds
+WrittenAt w a b e = ⊤
+
 -- how each command's work ends, as far as the outside tells what it uses
 pub record RunEnds (plan : RamPlan) (a b : Outside) (e : End) : Type 0 where
   pub can : CanEnd plan e
   pub whole : IfTold a (λ bytes script. Ended (wanted plan bytes script) a b e)
   pub read : ScriptEnds (mem_of plan) a b e
+  -- before the script is read the image may fail as it is read too
+  pub image_fault : NoScript a b ⊎ IfTold a (λ bytes script. WrittenAt (wanted plan bytes script) a b e)
 
 -- with these statuses, where this is wanted of the image
 pub record ImageEnds (all : List ℕ) (want : List ℕ → Wanted) (a b : Outside) (e : End) : Type 0 where
@@ -119,12 +127,6 @@ RamImageEnds plan a b e = ImageEnds (ram_statuses plan.command) (wanted_of_image
 
 abbrev pub RamReadEnds : RamPlan → Outside → Outside → End → Type 0
 RamReadEnds plan a b e = ReadEnds (ram_statuses plan.command) (wanted_of_image plan) a b e
-
--- the image fails only as it is written
-abbrev pub WrittenAt : Wanted → Outside → Outside → End → Type 0
-WrittenAt w a b (Err ImageFault) = (w.end ≡ Ok tt) × Appends a.given b.given (whole w.texts)
-    × WritesSome w.writes a.holds b.holds
-WrittenAt w a b e = ⊤
 
 pub record MakeEnds (plan : RamPlan) (a b : Outside) (e : End) : Type 0 where
   pub can : CanEnd plan e

@@ -194,6 +194,9 @@ pub record ScriptRead (mem : ℕ) (a b : Outside) (status : ℕ) : Type 0 where
 pub record RunAnswers (plan : RamPlan) (a b : Outside) (status : ℕ) : Type 0 where
   pub whole : IfTold a (λ bytes script. Answers (wanted plan bytes script) a b status)
   pub read : ScriptRead (mem_of plan) a b status
+  -- the image failed before the script was read, or as it was written back
+  pub image_fault : status ≡ 6 → NoScript a b
+      ⊎ IfTold a (λ bytes script. SavedInPart (wanted plan bytes script) a b (last_line ImageFault))
 
 -- a command that reads the image, of which it wants this, and leaves the script
 pub record ImageAnswers (want : List ℕ → Wanted) (a b : Outside) (status : ℕ) : Type 0 where

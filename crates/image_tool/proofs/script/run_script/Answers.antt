@@ -5,7 +5,8 @@ use Rattle.zone_params.specs.Laid.{params_of, zones_of}
 use Rattle.tool_spec.specs.Commands.{RunScript}
 use Rattle.tool_frame.specs.Words.{plan_for}
 use Rattle.tool_frame.proofs.ReadParts.{read_whole}
-use Rattle.image_tool.proofs.ScriptEnds.{play_caused, play_stopped, play_saved, play_unsaved}
+use Rattle.tool_frame.proofs.Script.{out_of_memory, parse_stopped, parse_caused}
+use Rattle.image_tool.proofs.ScriptEnds.{scripted, play_caused, play_stopped, play_saved, play_unsaved}
 use Rattle.image_tool.proofs.WorkEnds.{kept_same}
 use Rattle.image_tool.proofs.Due.{no_text, text_put, lines_put}
 use Rattle.image_tool.proofs.script.run_script.Goals as goal
@@ -59,6 +60,29 @@ returns-clause-work g c =
           played.session played.stands)
           (rw (c.as_slice-2.ensures, c.in-Ok.ensures.same) at c.in-Err-save.ensures.bytes);
     }
+
+pub returns-in-Err-lines-clause-work : goal.returns-in-Err-lines-clause-work
+returns-in-Err-lines-clause-work g c = record {
+  later = record { source = omega arith; store = omega arith; sink = omega arith };
+  caused = parse_caused c.in-Err-lines.stop _ _ _ _ _ _ _ c.in-Err-lines.ensures.read;
+  kept = λ w. kept_same (Err c.in-Err-lines.stop) _ _ c.in-Ok.ensures.same;
+  ended = parse_stopped (plan_for RunScript c.args.layout) _ (scripted _ refl) _ _ c.in-Ok.bytes.items
+      (record { read = rw c.mem.ensures at c.in-Ok.ensures.ok.1 })
+      c.in-Ok-read_script.text.items
+      (read_whole _ _ c.in-Ok-read_script.text c.in-Ok-read_script.ensures.ok c.in-Ok-read_script.ensures.end)
+      c.in-Err-lines.stop (record { given = refl; holds = c.in-Ok.ensures.same })
+      (rw c.deref.ensures.value at c.in-Err-lines.ensures.read);
+}
+
+pub returns-in-Err-fresh_store-clause-work : goal.returns-in-Err-fresh_store-clause-work
+returns-in-Err-fresh_store-clause-work g c = record {
+  later = record { source = omega arith; store = omega arith; sink = omega arith };
+  caused = tt;
+  kept = λ w. c.in-Ok.ensures.same;
+  ended = out_of_memory (plan_for RunScript c.args.layout) _ (scripted _ refl) _ _ c.in-Ok.bytes.items
+      (record { read = rw c.mem.ensures at c.in-Ok.ensures.ok.1 })
+      (record { given = refl; holds = c.in-Ok.ensures.same });
+}
 
 pub returns-in-Err-clause-put : goal.returns-in-Err-clause-put
 returns-in-Err-clause-put g c = no_text _
