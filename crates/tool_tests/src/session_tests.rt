@@ -53,7 +53,8 @@ const ALPHABET: &[u8] = b"6162636465666768696a6b6c6d6e6f707172737475767778797a";
 // An entry with the function 1, the caller 2 and the time 0x500, as the digits of a payload.
 const ENTRY: &[u8] = b"010000000000000002000000000000000005000000000000";
 
-const SESSIONS: &[Session] = &[
+// Calls that are cut.
+const CUTS: &[Session] = &[
     // A write that is cut after its size word.
     Session {
         params: CONSOLE,
@@ -161,6 +162,10 @@ const SESSIONS: &[Session] = &[
         ],
         image: &[],
     },
+];
+
+// Damage, and headers that read as others.
+const DAMAGES: &[Session] = &[
     // As much damage to a block as half its parity bears.
     Session {
         params: FOUR_WITH_PARITY,
@@ -306,6 +311,10 @@ const SESSIONS: &[Session] = &[
         )],
         image: &[],
     },
+];
+
+// Records of dumps and of ftrace.
+const RECORDS: &[Session] = &[
     // The record of a dump is erased, and that of the next is kept.
     Session {
         params: FOUR,
@@ -438,6 +447,10 @@ const SESSIONS: &[Session] = &[
         ],
         image: &[],
     },
+];
+
+// Boots that are stopped.
+const BOOTS: &[Session] = &[
     // A first boot that is stopped after the store of the signature, and one that may make more stores than it has.
     Session {
         params: CONSOLE,
@@ -558,12 +571,31 @@ fn assert_session(rt: &(impl Abort + AllocGlobal), i: usize, session: Session) -
     Ok(())
 }
 
-#[test]
-fn worked_sessions(rt: HostRuntime) -> Result<(), Fail> {
-    for (i, session) in SESSIONS.iter().copied().enumerate() {
-        assert_session(&rt, i, session)?;
+fn assert_sessions(rt: &(impl Abort + AllocGlobal), sessions: &[Session]) -> Result<(), Fail> {
+    for (i, session) in sessions.iter().copied().enumerate() {
+        assert_session(rt, i, session)?;
     }
     Ok(())
+}
+
+#[test]
+fn worked_cuts(rt: HostRuntime) -> Result<(), Fail> {
+    assert_sessions(&rt, CUTS)
+}
+
+#[test]
+fn worked_damages(rt: HostRuntime) -> Result<(), Fail> {
+    assert_sessions(&rt, DAMAGES)
+}
+
+#[test]
+fn worked_records(rt: HostRuntime) -> Result<(), Fail> {
+    assert_sessions(&rt, RECORDS)
+}
+
+#[test]
+fn worked_boots(rt: HostRuntime) -> Result<(), Fail> {
+    assert_sessions(&rt, BOOTS)
 }
 
 const TWO_PIECES: &str =
