@@ -107,28 +107,29 @@ plan_same (Err s) e given = none_put e given given refl
 
 -- ---- the last line
 
-module _ (a m b : Outside) (status : ℕ) where
-  line_put : (s : Stop) → LastPut s m.given b.given m.sink_faults b.sink_faults status → m.given ≡ a.given
+-- the output was given this before the last line, and had failed so often
+module _ (a b : Outside) (given : Option (List ℕ)) (faults status : ℕ) where
+  line_put : (s : Stop) → LastPut s given b.given faults b.sink_faults status → given ≡ a.given
       → LineAlone a b status
   line_put s last same none seven = elim last.shown [
     | inl k ↦ record { stop = s; is = k.0; put = rw same at k.1 }
     | inr k ↦ absurd (seven k.0)
   ]
 
-  text_line : (s : Stop) → LastPut s m.given b.given m.sink_faults b.sink_faults status → PutsText a.given m.given
+  text_line : (s : Stop) → LastPut s given b.given faults b.sink_faults status → PutsText a.given given
       → LineAtEnd a b status
   text_line s last h none seven = elim last.shown [
     | inl k ↦ record {
       stop = s;
       is = k.0;
       before = h.text;
-      put = Appends-trans a.given m.given b.given h.text (last_line s) h.put k.1;
+      put = Appends-trans a.given given b.given h.text (last_line s) h.put k.1;
     }
     | inr k ↦ absurd (seven k.0)
   ]
 
-  alone : (e : End) → PutsNone a.given m.given e
-      → Finished e m.given b.given m.sink_faults b.sink_faults status → LineAlone a b status
+  alone : (e : End) → PutsNone a.given given e
+      → Finished e given b.given faults b.sink_faults status → LineAlone a b status
   alone (Ok u) h f none seven = absurd (none f.answer)
   alone (Err SinkFault) h f none seven = absurd (seven f.answer)
   alone (Err Memory) h f none seven = line_put Memory f h none seven
@@ -144,7 +145,7 @@ module _ (a m b : Outside) (status : ℕ) where
   alone (Err (Refused x y)) h f none seven = line_put (Refused x y) f h none seven
 
   -- an image that failed behind the text
-  unsaved : LastPut ImageFault m.given b.given m.sink_faults b.sink_faults status → PutsText a.given m.given
+  unsaved : LastPut ImageFault given b.given faults b.sink_faults status → PutsText a.given given
       → LineOrText a b status
   unsaved last h none seven =
       let line = text_line ImageFault last h none seven in
@@ -153,8 +154,8 @@ module _ (a m b : Outside) (status : ℕ) where
         | inr k ↦ absurd (seven k.0)
       ]
 
-  first : (e : End) → PutsFirst a.given m.given e
-      → Finished e m.given b.given m.sink_faults b.sink_faults status → LineOrText a b status
+  first : (e : End) → PutsFirst a.given given e
+      → Finished e given b.given faults b.sink_faults status → LineOrText a b status
   first (Err ImageFault) h f none seven = unsaved f h none seven
   first (Ok u) h f none seven = inl (alone (Ok u) h f none seven)
   first (Err SinkFault) h f none seven = inl (alone (Err SinkFault) h f none seven)
@@ -169,8 +170,8 @@ module _ (a m b : Outside) (status : ℕ) where
   first (Err (BadLine x)) h f none seven = inl (alone (Err (BadLine x)) h f none seven)
   first (Err (Refused x y)) h f none seven = inl (alone (Err (Refused x y)) h f none seven)
 
-  after_lines : (e : End) → PutsLines a.given m.given e
-      → Finished e m.given b.given m.sink_faults b.sink_faults status → LineAtEnd a b status
+  after_lines : (e : End) → PutsLines a.given given e
+      → Finished e given b.given faults b.sink_faults status → LineAtEnd a b status
   after_lines (Ok u) h f none seven = absurd (none f.answer)
   after_lines (Err SinkFault) h f none seven = absurd (seven f.answer)
   after_lines (Err Memory) h f none seven = text_line Memory f h none seven
@@ -185,8 +186,8 @@ module _ (a m b : Outside) (status : ℕ) where
   after_lines (Err (BadLine x)) h f none seven = text_line (BadLine x) f h none seven
   after_lines (Err (Refused x y)) h f none seven = text_line (Refused x y) f h none seven
 
-  by_command : (c : RamCommand) (e : End) → PutsBefore c a.given m.given e
-      → Finished e m.given b.given m.sink_faults b.sink_faults status → CommandLine c a b status
+  by_command : (c : RamCommand) (e : End) → PutsBefore c a.given given e
+      → Finished e given b.given faults b.sink_faults status → CommandLine c a b status
   by_command RunScript e h f = after_lines e h f
   by_command (MakeImage n) e h f = first e h f
   by_command RunShared e h f = first e h f
@@ -198,8 +199,8 @@ module _ (a m b : Outside) (status : ℕ) where
   by_command FindRings e h f = alone e h f
   by_command (ReadRing at name) e h f = alone e h f
 
-  pub last_line_put : (r : Result Plan Stop) (e : End) → PutsByPlan r a.given m.given e
-      → Finished e m.given b.given m.sink_faults b.sink_faults status → LastLine r a b status
+  pub last_line_put : (r : Result Plan Stop) (e : End) → PutsByPlan r a.given given e
+      → Finished e given b.given faults b.sink_faults status → LastLine r a b status
   last_line_put (Ok (OfRam plan)) e h f = by_command plan.command e h f
   last_line_put (Ok (OfBlk layout)) e h f = tt
   last_line_put (Ok (OfMove plan)) e h f = first e h f
