@@ -4,7 +4,7 @@ use Rattle.zone_spec.specs.declared.Zone.{Zone}
 use Rattle.zone_params.specs.Laid.{zones_of}
 use Rattle.ram_region.proofs.Cutting.{no_zone}
 use Rattle.ram_core.specs.OffSeen.{known_or, known_all}
-use Rattle.ram_core.proofs.Preparing.{SpanAt, span_at, known_got, prepares_next}
+use Rattle.ram_core.proofs.Preparing.{span_at, known_got, prepares_next}
 use Rattle.ram_core.proofs.booting.prepare.Goals as goal
 
 pub add-requires-clause-valid : goal.add-requires-clause-valid

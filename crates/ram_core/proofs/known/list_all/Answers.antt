@@ -1,4 +1,4 @@
-use Rattle.std.proofs.Common.{◌≡◌, length, sym, ap, ◌∙◌, arith}
+use Rattle.std.proofs.Common.{sym, ap, ◌∙◌, arith}
 use Rattle.ram_core.specs.OffSeen.{known_all}
 use Rattle.ram_core.proofs.Listed.{all_listed, all_more}
 use Rattle.ram_core.proofs.known.list_all.Goals as goal

@@ -1,5 +1,4 @@
-use Rattle.std.proofs.Common.{◌≡◌, ◌≤◌, ◌-◌, List, length, sym, ap, ◌∙◌, subst, arith}
-use Rattle.zone_params.specs.Laid.{zones_of}
+use Rattle.std.proofs.Common.{◌-◌, List, length, sym, ap, ◌∙◌, subst, arith}
 use Rattle.ram_core.specs.OffSeen.{OffSeen, known_all}
 use Rattle.ram_core.specs.Booted.{BootedInPart}
 use Rattle.ram_core.specs.Booting.{IsOpen}
