@@ -10,10 +10,9 @@ use Rattle.zone_spec.specs.Notices.{content, is_in}
 use Rattle.session_spec.specs.States.{LiveZone, LiveState}
 use Rattle.session_spec.specs.Boot.{booted_zone}
 use Rattle.session_spec.specs.Erasures.{saved_logs, erased}
-use Rattle.session_spec.specs.Stop.{stopped}
+use Rattle.session_spec.specs.Stop.{live_image}
 use Rattle.old_log.specs.Saving.{SavedLogs, saved}
 use Rattle.ram_core.specs.LiveSeen.{LiveSeen, StandsLive}
-use Rattle.ram_core.specs.OffSeen.{OffSeen, StandsOff}
 use Rattle.grammar_spec.specs.Fields.{Text}
 use Rattle.tool_spec.specs.Ends.{End}
 use Rattle.tool_spec.specs.Texts.{listing}
@@ -168,16 +167,15 @@ no_flights image (z ∷ layout) test = ap (λ (b : Bool). b
 
 module _ (plan : RamPlan) (a b : Outside) (live : LiveSeen) (logs : SavedLogs) (name : Text)
     (is : plan.command ≡ EraseRecord name) (booted : BootedFrom plan.zones (mem_of plan) a.holds live logs) where
-  module _ (w : LiveSeen) (logs' : SavedLogs) (off : OffSeen) (bytes : List ℕ)
-      (erase : ErasesNamed live logs name w logs') (stop : (layout : List Zone) (mem : ℕ) (s : LiveState)
-      → StandsLive layout mem w s → StandsOff layout mem off (stopped layout s)) (image : bytes ≡ off.image)
+  module _ (w : LiveSeen) (logs' : SavedLogs) (bytes : List ℕ) (erase : ErasesNamed live logs name w logs')
+      (left : (layout : List Zone) (mem : ℕ) (s : LiveState) → StandsLive layout mem w s → bytes ≡ live_image s)
       (given : b.given ≡ a.given) where
     erase_wanted : wanted_of plan.params plan.zones booted.image [] (EraseRecord name) ≡ leaves bytes
     erase_wanted =
         let s = after_boot plan.zones booted.image in
         let e = erase plan.zones (mem_of plan) s booted.lies booted.stands booted.logs_are booted.state in
-        let left = stop plan.zones (mem_of plan) (erased plan.zones s e.record_is.name) e.stands in
-        ap (wanted_erase plan.zones s) e.named ∙ ap (λ (bs : List ℕ). leaves bs) (sym (image ∙ left.image))
+        ap (wanted_erase plan.zones s) e.named ∙ ap (λ (bs : List ℕ). leaves bs)
+        (sym (left plan.zones (mem_of plan) (erased plan.zones s e.record_is.name) e.stands))
 
     pub erase_saved : NoScript a b → Writes a.holds b.holds 0 bytes → RamImageEnds plan a b (Ok tt)
     erase_saved none wrote = leaves_script plan a b _ (rw is refl) none

@@ -133,7 +133,7 @@ pub fn erase<M: Store>(alloc: Global, layout: Layout, name: &str, image: &mut M)
         Ok(()) => {}
         Err(e) => return Err(stop_of(e)),
     }
-    match save(image, live.stop().into_image().as_slice()) {
+    match save(image, live.into_image().as_slice()) {
         Ok(()) => Ok(()),
         Err(Failed) => Err(Stop::ImageFault),
     }

@@ -32,7 +32,7 @@ fn booted_image(alloc: Global, layout: Layout, image: Vec<u8>) -> Result<Bytes, 
 {
     let off = fresh_store(alloc, layout, image)?;
     match off.boot() {
-        Ok((live, _, _)) => Ok(live.stop().into_image()),
+        Ok((live, _, _)) => Ok(live.into_image()),
         Err(_) => Err(AllocError),
     }
 }

@@ -32,7 +32,7 @@ use Rattle.old_log.specs.Saving.{SavedLogs, saved}
 use Rattle.ram_core.specs.declared.zones.HeldZone.{HeldZone}
 use Rattle.ram_core.specs.declared.known.KnownZone.{KnownZone}
 use Rattle.ram_core.specs.declared.report.ZoneReport.{ZoneReport as RustZoneReport}
-use Rattle.ram_core.specs.OffSeen.{OffSeen, shown_cut, StandsForKnown, StandsOff}
+use Rattle.ram_core.specs.OffSeen.{OffSeen, shown_cut, known_all, StandsForKnown, StandsOff}
 use Rattle.ram_core.specs.LiveSeen.{LiveSeen, StandsForZone, StandsLive}
 use Rattle.ram_core.specs.Running.{IsHeld, IsRunning}
 use Rattle.ram_core.specs.Reports.{report_seen, report_cut, report_zone}
@@ -43,6 +43,7 @@ use Rattle.ram_core.specs.declared.booting.Prepared.{Prepared}
 use Rattle.ram_core.specs.Booting.{SpansFit, held_after, PreparesTo, AreLogs, SettlesTo, IsOpen, seen_off}
 use Rattle.ram_core.specs.Booted.{Booted}
 use Rattle.ram_core.specs.Resting.{IsResting}
+use Rattle.ram_core.proofs.Listed.{all_len}
 use Rattle.ram_core.proofs.Lists.{same_items, get-of-map}
 
 module _ (layout : List Zone) (mem : ℕ) (image : List ℕ) (lies : IsLayout layout mem) (size : length image ≡ mem)
@@ -214,6 +215,9 @@ module _ (v : OffSeen) (o : OpenOff) (is : IsOpen v o) where
   abbrev M : ℕ
   M = rounded (params_of o.layout).mem
 
+  abbrev K : List KnownZone
+  K = known_all (length L) o.zones.items
+
   pub open_fits : SpansFit L o.spans.spans
   open_fits = subst (λ (c : CutRegion). SpansFit L c.spans) (sym is.spans)
       (cut_fits L M v.image is.lies is.size is.bytes)
@@ -224,13 +228,13 @@ module _ (v : OffSeen) (o : OpenOff) (is : IsOpen v o) where
 
   -- closed again the machine is as it was
   pub open_closed : seen_off o ≡ v
-  open_closed = ap (λ (im : List ℕ). record { layout = L; mem = M; image = im; zones = o.zones.items }) open_whole
+  open_closed = ap (λ (im : List ℕ). record { layout = L; mem = M; image = im; zones = K }) open_whole
       ∙ sym is.seen
 
   pub open_rests : IsResting (seen_off o)
   open_rests = subst IsResting (sym open_closed) is.resting
 
-  pub logs_from : (p : Prepared) → PreparesTo L o.spans.spans o.zones.items (length L) p
+  pub logs_from : (p : Prepared) → PreparesTo L o.spans.spans K (length L) p
       → AreLogs L o.spans.spans p.logs
   logs_from p prepared = record {
     zones = prepared.zones;
@@ -247,10 +251,10 @@ module _ (v : OffSeen) (o : OpenOff) (is : IsOpen v o) where
       (logs_are L M v.image is.lies is.size is.bytes s stands.image logs
       (subst (λ (c : CutRegion). AreLogs L c.spans logs) is.spans are))
 
-  module _ (p : Prepared) (prepared : PreparesTo L o.spans.spans o.zones.items (length L) p) (new : CutRegion)
+  module _ (p : Prepared) (prepared : PreparesTo L o.spans.spans K (length L) p) (new : CutRegion)
       (settled : SettlesTo L o.spans new (length L)) where
-    own_prepared : PreparesTo L (cut_at L v.image).spans o.zones.items (length L) p
-    own_prepared = subst (λ (c : CutRegion). PreparesTo L c.spans o.zones.items (length L) p) is.spans prepared
+    own_prepared : PreparesTo L (cut_at L v.image).spans K (length L) p
+    own_prepared = subst (λ (c : CutRegion). PreparesTo L c.spans K (length L) p) is.spans prepared
 
     own_settled : SettlesTo L (cut_at L v.image) new (length L)
     own_settled = subst (λ (c : CutRegion). SettlesTo L c new (length L)) is.spans settled
@@ -267,7 +271,7 @@ module _ (v : OffSeen) (o : OpenOff) (is : IsOpen v o) where
       layout = L;
       mem = M;
       image = v.image;
-      zones = o.zones.items;
+      zones = K;
     }) s
         → Booted L M s (record { layout = L; mem = M; spans = new; zones = p.held.items; cursor = 0 }) (saved p.logs)
         (map report_seen p.reports.items)
@@ -276,7 +280,7 @@ module _ (v : OffSeen) (o : OpenOff) (is : IsOpen v o) where
           own_held s stands.image;
       logs = logs_are L M v.image is.lies is.size is.bytes s stands.image p.logs
           (subst (λ (c : CutRegion). AreLogs L c.spans p.logs) is.spans (logs_from p prepared));
-      reports = reports_are L M v.image is.lies is.size is.bytes o.zones.items s stands.image is.known stands.count
+      reports = reports_are L M v.image is.lies is.size is.bytes K s stands.image (all_len (length L) o.zones.items is.known) stands.count
           stands.zones p.reports.items own_prepared.reports_len
           (λ i z b k r ez eb ek er. own_prepared.reports i z b k r (slice_get_within L i z ez) ez eb ek er);
       reads = λ sound. sound_state_reads_zones L M s is.lies sound;
@@ -286,12 +290,12 @@ module _ (v : OffSeen) (o : OpenOff) (is : IsOpen v o) where
         → Booted layout mem s (record { layout = L; mem = M; spans = new; zones = p.held.items; cursor = 0 })
         (saved p.logs) (map report_seen p.reports.items)
     boot_is layout mem s stands =
-        let st : StandsOff layout mem (record { layout = L; mem = M; image = v.image; zones = o.zones.items }) s =
+        let st : StandsOff layout mem (record { layout = L; mem = M; image = v.image; zones = K }) s =
         subst (λ (x : OffSeen). StandsOff layout mem x s) is.seen stands in
         let after : LiveSeen = record { layout = L; mem = M; spans = new; zones = p.held.items; cursor = 0 } in
         subst (λ (l : List Zone). Booted l mem s after (saved p.logs) (map report_seen p.reports.items)) st.same_layout
         (subst (λ (m : ℕ). Booted L m s after (saved p.logs) (map report_seen p.reports.items)) st.same_mem
         (booted_own s (subst (λ (l : List Zone). StandsOff l M
-        (record { layout = L; mem = M; image = v.image; zones = o.zones.items }) s) (sym st.same_layout)
-        (subst (λ (m : ℕ). StandsOff layout m (record { layout = L; mem = M; image = v.image; zones = o.zones.items })
+        (record { layout = L; mem = M; image = v.image; zones = K }) s) (sym st.same_layout)
+        (subst (λ (m : ℕ). StandsOff layout m (record { layout = L; mem = M; image = v.image; zones = K })
         s) (sym st.same_mem) st))))

@@ -1,5 +1,6 @@
 pub mod Lists
 pub mod Prefixes
+pub mod Listed
 pub mod Starting
 pub mod Storing
 pub mod Changes

@@ -43,7 +43,7 @@ use Rattle.ram_core.specs.declared.booting.BootProgress.{BootProgress}
 use Rattle.ram_core.specs.declared.zones.HeldZone.{HeldZone}
 use Rattle.ram_core.specs.declared.known.KnownZone.{KnownZone}
 use Rattle.ram_core.specs.SeenCut.{cut_of_erasure}
-use Rattle.ram_core.specs.OffSeen.{OffSeen, shown_cut, StandsForKnown, StandsOff}
+use Rattle.ram_core.specs.OffSeen.{OffSeen, shown_cut, known_all, StandsForKnown, StandsOff}
 use Rattle.zone_spec.specs.Layout.{rounded}
 use Rattle.zone_params.specs.Laid.{params_of, zones_of}
 use Rattle.ram_core.specs.declared.off.OpenOff.{OpenOff}
@@ -53,6 +53,7 @@ use Rattle.ram_core.specs.Resting.{IsResting}
 use Rattle.ram_core.specs.Parting.{stores_before, left_for, Passes, PartsTo}
 use Rattle.ram_core.specs.Parted.{parted, AreInOrder, IsParted}
 use Rattle.ram_core.specs.Booted.{PartsZone, BootedInPart}
+use Rattle.ram_core.proofs.Listed.{all_len, all_listed}
 use Rattle.ram_core.proofs.Lists.{same_items}
 use Rattle.ram_core.proofs.Boots.{cut_fits, span_is, span_got}
 use Rattle.ram_core.proofs.Parting.{before_next, before_none}
@@ -344,6 +345,9 @@ module _ (v : OffSeen) (o : OpenOff) (is : IsOpen v o) where
   abbrev M : ℕ
   M = rounded (params_of o.layout).mem
 
+  abbrev K : List KnownZone
+  K = known_all (length L) o.zones.items
+
   module _ (new : CutRegion) (limit : ℕ) (progress : BootProgress) (passed : List Passed)
       (parts : PartsTo L o.spans new limit (length L) progress passed) where
     own_parts : PartsTo L (cut_at L v.image) new limit (length L) progress passed
@@ -355,13 +359,29 @@ module _ (v : OffSeen) (o : OpenOff) (is : IsOpen v o) where
     pub part_order : AreInOrder passed
     part_order = order L M v.image is.lies is.size is.bytes new limit progress passed own_parts
 
-    module _ (p : Prepared) (prepared : PreparesTo L o.spans.spans o.zones.items (length L) p)
-        (known : List KnownZone) (passes : IsParted passed progress.is_whole p.held.items o.zones.items known) where
+    module _ (p : Prepared) (prepared : PreparesTo L o.spans.spans K (length L) p)
+        (listed : List KnownZone) (passes : IsParted passed progress.is_whole p.held.items
+        (known_all (length p.held.items) o.zones.items) listed) where
+      abbrev known : List KnownZone
+      known = known_all (length L) listed
+
+      listed_passes : IsParted passed progress.is_whole p.held.items K listed
+      listed_passes = subst (λ (n : ℕ). IsParted passed progress.is_whole p.held.items
+          (known_all n o.zones.items) listed) prepared.held_len passes
+
+      -- each zone is listed
+      pub part_listed : length listed ≡ length L
+      part_listed = listed_passes.len ∙ all_len (length L) o.zones.items is.known
+
+      own_passes : IsParted passed progress.is_whole p.held.items K known
+      own_passes = subst (λ (ks : List KnownZone). IsParted passed progress.is_whole p.held.items K ks)
+          (sym (all_listed (length L) listed part_listed)) listed_passes
+
       parted_own : (s : OffState) → StandsOff L M (record {
         layout = L;
         mem = M;
         image = v.image;
-        zones = o.zones.items;
+        zones = K;
       }) s
           → BootedInPart L M s limit (record {
             layout = L;
@@ -372,10 +392,10 @@ module _ (v : OffSeen) (o : OpenOff) (is : IsOpen v o) where
       parted_own s stands =
           record {
             off = parted_stands L M v.image is.lies is.size is.bytes new limit progress passed own_parts p.held.items
-                o.zones.items known prepared.held_len is.known
-                (λ i z b h ez eb eh. (subst (λ (c : CutRegion). PreparesTo L c.spans o.zones.items (length L) p)
+                K known prepared.held_len (all_len (length L) o.zones.items is.known)
+                (λ i z b h ez eb eh. (subst (λ (c : CutRegion). PreparesTo L c.spans K (length L) p)
                 is.spans prepared).held i z b h (slice_get_within L i z ez) ez eb eh)
-                passes s stands.image stands.count stands.zones;
+                own_passes s stands.image stands.count stands.zones;
             count = made_is L M v.image is.lies is.size is.bytes new limit progress passed own_parts
                 ∙ ap (λ (im : List ℕ). min limit (boot_count L im)) stands.image;
             sound = λ sound. (cut_boot_keeps_stops L M s limit is.lies sound).0;
@@ -391,7 +411,7 @@ module _ (v : OffSeen) (o : OpenOff) (is : IsOpen v o) where
             zones = known;
           }) (limit - progress.left)
       part_is layout mem s stands =
-          let before : OffSeen = record { layout = L; mem = M; image = v.image; zones = o.zones.items } in
+          let before : OffSeen = record { layout = L; mem = M; image = v.image; zones = K } in
           let after : OffSeen = record { layout = L; mem = M; image = concat new.spans ++ new.rest; zones = known } in
           let st : StandsOff layout mem before s = subst (λ (x : OffSeen). StandsOff layout mem x s) is.seen stands in
           subst (λ (l : List Zone). BootedInPart l mem s limit after (limit - progress.left)) st.same_layout
@@ -407,7 +427,7 @@ module _ (v : OffSeen) (o : OpenOff) (is : IsOpen v o) where
         zones = known;
       })
       part_rests =
-          let rest : IsResting (record { layout = L; mem = M; image = v.image; zones = o.zones.items }) =
+          let rest : IsResting (record { layout = L; mem = M; image = v.image; zones = K }) =
           subst IsResting is.seen is.resting in
           let parted = parted_own rest.state rest.stands in
           record {

@@ -1,8 +1,10 @@
 -- What a boot reads zone by zone
-use Rattle.std.proofs.Common.{◌≡◌, ℕ, ◌+◌, ◌<◌, ◌≤◌, ◌^◌, List, [], ◌∷◌, ◌++◌, length, slice_get, get_or, refl, sym, ap, ◌∙◌, subst, arith, inl, inr, Some, length-append}
+use Rattle.std.proofs.Common.{◌≡◌, ℕ, ◌+◌, ◌<◌, ◌≤◌, ◌^◌, List, [], ◌∷◌, ◌++◌, length, slice_get, get_or, refl, sym, ap, ◌∙◌, subst, arith, inl, inr, Option, Some, None, Bor, length-append}
 use Rattle.std.proofs.lemmas.Bool.{cases_lt}
 use Rattle.std.proofs.lemmas.List.{length-map}
-use Rattle.std.proofs.lemmas.Option.{slice_get-get_or, slice_get_read, slice_get_within}
+use Rattle.std.proofs.lemmas.Option.{slice_get-get_or, slice_get_past, slice_get_read, slice_get_within}
+use Rattle.std.specs.Option.{option_copied}
+use Rattle.std.specs.Slice.{IsItemAt}
 use Rattle.circular_buffer.proofs.Places.{slice_get-append_left, slice_get-last}
 use Rattle.zone_spec.specs.declared.Zone.{Zone}
 use Rattle.zone_spec.specs.declared.Words.{Words}
@@ -18,6 +20,8 @@ use Rattle.ram_core.specs.declared.known.KnownZone.{KnownZone}
 use Rattle.ram_core.specs.Reports.{report_seen, report_zone}
 use Rattle.old_log.specs.Saving.{SavedLogs}
 use Rattle.ram_core.specs.Booting.{SpansFit, held_after, Adds, PreparesTo, AreLogs}
+use Rattle.ram_core.specs.OffSeen.{known_or, known_all}
+use Rattle.ram_core.proofs.Listed.{all_at}
 use Rattle.ram_core.proofs.Lists.{get-pushed}
 
 -- a log fits its zone
@@ -104,27 +108,16 @@ span_at layout zs d spans all i bytes fit ezs eall below eb =
     omega (arith, a, b, below')) eb in
     record { zone = ez; span = gb; size = fit.sizes i (get_or zs i d) bytes ez gb }
 
--- the zone, the span and what is known at a place, by what a boot reads
-pub record At (layout : List Zone) (spans : List (List ℕ)) (known : List KnownZone) (i : ℕ) (z : Zone)
-    (bytes : List ℕ) (k : KnownZone) : Type 0 where
-  pub zone : slice_get layout i ≡ Some z
-  pub span : slice_get spans i ≡ Some bytes
-  pub known_zone : slice_get known i ≡ Some k
-  pub size : length bytes ≡ z.size
+item_copied : (known : List KnownZone) (i : ℕ) (k : Option (Bor KnownZone)) → IsItemAt known i k
+    → option_copied k ≡ slice_get known i
+item_copied known i None at = sym (slice_get_past known i at.3)
+item_copied known i (Some k) at = sym (slice_get_read known (length known) i k.now refl at.3.0 at.1)
 
-pub at_place : (layout zs : List Zone) (d : Zone) (spans all : List (List ℕ)) (known : List KnownZone) (i : ℕ)
-    (bytes : List ℕ) (k : KnownZone) → SpansFit layout spans → length known ≡ length layout
-    → zs ≡ layout → all ≡ spans → i < length zs → bytes ≡ get_or all i bytes → k ≡ get_or known i k
-    → At layout spans known i (get_or zs i d) bytes k
-at_place layout zs d spans all known i bytes k fit len ezs eall below eb ek =
-    let below' : i < length layout = subst (λ (l : List Zone). i < length l) ezs below in
-    let at = span_at layout zs d spans all i bytes fit ezs eall below eb in
-    record {
-      zone = at.zone;
-      span = at.span;
-      known_zone = slice_get_read known (length known) i k refl (omega (arith, len, below')) ek;
-      size = at.size;
-    }
+-- what is known at a place
+pub known_got : (count : ℕ) (known : List KnownZone) (i : ℕ) (k : Option (Bor KnownZone)) → i < count
+    → IsItemAt known i k → slice_get (known_all count known) i ≡ Some (known_or (option_copied k))
+known_got count known i k below at = all_at count known i below
+    ∙ ap (λ (o : Option KnownZone). Some (known_or o)) (sym (item_copied known i k at))
 
 -- ---- the logs alone
 

@@ -144,6 +144,10 @@ image_is v s stands =
         let h = slice_get-some v.zones i (let m = stands.kept in omega (arith, below, m)) in
         (stands.zones i z.0 b h.0 l z.1 eb h.1 el).image
 
+pub image_left : (v : LiveSeen) (image : List ℕ) → image ≡ concat v.spans.spans ++ v.spans.rest
+    → (layout : List Zone) (mem : ℕ) (s : LiveState) → StandsLive layout mem v s → image ≡ live_image s
+image_left v image is layout mem s stands = is ∙ image_is v s (own layout mem v s stands)
+
 module _ (v : LiveSeen) (running : IsRunning v) where
   -- every zone's bytes have room for a header
   long_here : (i : ℕ) (z : Zone) → slice_get v.layout i ≡ Some z → 12 ≤ length (span v.spans i)

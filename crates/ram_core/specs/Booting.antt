@@ -12,7 +12,7 @@ use Rattle.zone_spec.specs.Parts.{AreBytes}
 use Rattle.zone_spec.specs.Layout.{rounded}
 use Rattle.zone_spec.specs.Layouts.{IsLayout}
 use Rattle.zone_params.specs.Laid.{params_of, zones_of}
-use Rattle.ram_core.specs.OffSeen.{OffSeen}
+use Rattle.ram_core.specs.OffSeen.{OffSeen, known_all}
 use Rattle.ram_core.specs.Resting.{IsResting}
 use Rattle.ram_core.specs.LiveSeen.{LiveSeen}
 use Rattle.ram_core.specs.declared.off.OpenOff.{OpenOff}
@@ -60,6 +60,10 @@ pub record PreparesTo (layout : List Zone) (spans : List (List ℕ)) (known : Li
 abbrev pub Prepares : List Zone → List (List ℕ) → List KnownZone → Prepared → Type 0
 Prepares layout spans known p = PreparesTo layout spans known (length layout) p
 
+-- of an open machine
+abbrev pub PreparesOpen : OpenOff → Prepared → Type 0
+PreparesOpen o p = Prepares (zones_of o.layout) o.spans.spans (known_all (length (zones_of o.layout)) o.zones.items) p
+
 -- the logs are the readings of the layout's zones
 pub record AreLogs (layout : List Zone) (spans : List (List ℕ)) (logs : SavedLogs) : Type 0 where
   pub zones : logs.zones ≡ layout
@@ -84,13 +88,13 @@ pub record IsOpen (v : OffSeen) (o : OpenOff) : Type 0 where
     layout = zones_of o.layout;
     mem = rounded (params_of o.layout).mem;
     image = v.image;
-    zones = o.zones.items;
+    zones = known_all (length (zones_of o.layout)) o.zones.items;
   }
   pub spans : o.spans ≡ cut_at (zones_of o.layout) v.image
   pub lies : IsLayout (zones_of o.layout) (rounded (params_of o.layout).mem)
   pub size : length v.image ≡ rounded (params_of o.layout).mem
   pub bytes : AreBytes v.image
-  pub known : length o.zones.items ≡ length (zones_of o.layout)
+  pub known : length o.zones.items ≤ length (zones_of o.layout)
   pub resting : IsResting v
 
 -- what a contract sees of the machine when the image is whole again
@@ -99,7 +103,7 @@ seen_off o = record {
   layout = zones_of o.layout;
   mem = rounded (params_of o.layout).mem;
   image = concat o.spans.spans ++ o.spans.rest;
-  zones = o.zones.items;
+  zones = known_all (length (zones_of o.layout)) o.zones.items;
 }
 
 -- and when a boot has finished

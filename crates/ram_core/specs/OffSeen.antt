@@ -1,5 +1,5 @@
 -- What a contract sees of a machine that is off, and the states that it stands for
-use Rattle.std.specs.Prelude.{◌≡◌, ℕ, List, length, slice_get, filter, sum_by, Some, None}
+use Rattle.std.specs.Prelude.{◌≡◌, ℕ, ◌-◌, ◌++◌, List, length, replicate, slice_get, filter, sum_by, Option, Some, None}
 use Rattle.std.specs.List.{range_with_len}
 use Rattle.std.specs.Option.{option_map}
 use Rattle.circular_buffer.specs.Buffer.{Buffer}
@@ -42,6 +42,19 @@ pub record StandsOff (layout : List Zone) (mem : ℕ) (v : OffSeen) (s : OffStat
   pub count : length s.zones ≡ length layout
   pub zones : (i : ℕ) (z : Zone) (known : KnownZone) (zone : OffZone) → slice_get layout i ≡ Some z
       → slice_get v.zones i ≡ Some known → slice_get s.zones i ≡ Some zone → StandsForKnown z known zone
+
+-- a zone of which nothing is known
+abbrev pub unknown : KnownZone
+unknown = record { told = None; cut = None }
+
+-- what is known of a zone, or nothing
+abbrev pub known_or : Option KnownZone → KnownZone
+known_or None = unknown
+known_or (Some known) = known
+
+-- what is known of so many zones, of which those behind the list are unknown
+unfoldable pub known_all : ℕ → List KnownZone → List KnownZone
+known_all count known = known ++ replicate (count - length known) unknown
 
 -- nothing is known of the zones
 abbrev pub AreUnknown : List KnownZone → Type 0

@@ -10,6 +10,7 @@ ghost use Rattle.zone_params.specs.Laid.{zones_of, params_of};
 ghost use Rattle.zone_spec.specs.Layout.{rounded};
 ghost use Rattle.ram_region.specs.CutRegion.{span, with_span};
 ghost use Rattle.circular_buffer.specs.Buffer.{buffer};
+ghost use Rattle.ram_core.specs.OffSeen.{known_all};
 ghost use Rattle.ram_core.specs.Booting.{SpansFit, Prepares, AreLogs, Settles};
 ghost use Rattle.ram_core.specs.Parting.{PartsTo};
 ghost use Rattle.std.specs.Vec.{vec_capacity};
@@ -70,6 +71,8 @@ fn read_with(
 }
 
 impl Prepared {
+    ghost use Rattle.ram_core.specs.OffSeen.{known_or};
+    ghost use Rattle.std.specs.Option.{option_copied};
     ghost use Rattle.ram_core.specs.Booting.{Adds};
 
     // Reads the next zone, whose bytes are the span's.
@@ -78,12 +81,13 @@ impl Prepared {
         alloc: Global,
         zone: &Zone,
         span: &Span,
-        known: &KnownZone,
+        known: Option<&KnownZone>,
     ) -> Result<(), AllocError>
         requires valid { IsValidZone zone.now }
         requires size { length span.now ≡ zone.now.size }
         requires room { length self.old.logs.readings < length self.old.logs.zones }
-        ensures { IfOk result (λ _. Adds self.old self.new zone.now span.now known.now) }
+        ensures { IfOk result (λ _. Adds self.old self.new zone.now span.now
+            (known_or (option_copied known.entry))) }
     {
         let _len = span.len();
         let reading = read_with(alloc, &mut self.coders, span, zone)?;
@@ -116,9 +120,9 @@ pub(crate) fn prepare(
     spans: &Spans,
     known: &[KnownZone],
 ) -> Result<Prepared, AllocError>
-    requires spans { SpansFit (zones_of layout.now) spans.now.spans }
-    requires known { length known.now ≡ length (zones_of layout.now) }
-    ensures { IfOk result (λ p. Prepares (zones_of layout.now) spans.now.spans known.now p) }
+    requires { SpansFit (zones_of layout.now) spans.now.spans }
+    ensures { IfOk result (λ p. Prepares (zones_of layout.now) spans.now.spans
+        (known_all (length (zones_of layout.now)) known.now) p) }
 {
     let zones = layout.zones();
     let mut prepared = Prepared {
@@ -128,7 +132,7 @@ pub(crate) fn prepare(
         coders: Coders::new(alloc),
     };
     for (i, zone) in zones.iter().enumerate() {
-        prepared.add(alloc, zone, &spans.all()[i], &known[i])?;
+        prepared.add(alloc, zone, &spans.all()[i], known.get(i))?;
     }
     Ok(prepared)
 }

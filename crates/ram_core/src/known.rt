@@ -1,5 +1,7 @@
 // What is known of a zone while the machine is off.
 ghost use Rattle.std.specs.Prelude.{◌≡◌, ◌≤◌, ◌<◌, ℕ, length, slice_get, Some};
+ghost use Rattle.std.specs.Vec.{vec_capacity};
+ghost use Rattle.ram_core.specs.OffSeen.{known_all};
 ghost use Rattle.ram_core.specs.SeenCut.{cut_of_flight, cut_of_erasure};
 ghost use Rattle.ram_core.specs.Parted.{AreInOrder, IsParted};
 
@@ -105,13 +107,22 @@ impl KnownZone {
     }
 }
 
-/// What is known of all zones after a boot that passed them so, and would keep these lists.
-pub(crate) fn pass_all(
-    known: &mut [KnownZone],
-    held: Vec<HeldZone>,
-    passed: &[Passed],
-    is_whole: bool,
-)
+// Lists so many zones, where there is room for them. Of those behind the end of the list nothing is known.
+fn list_all(known: &mut Vec<KnownZone>, count: usize)
+    requires within { length known.old.items ≤ count }
+    requires room { count ≤ vec_capacity known.old }
+    ensures { known.new.items ≡ known_all count known.old.items }
+{
+    while known.len() < count {
+        known.push_reserved(KnownZone {
+            told: None,
+            cut: None,
+        });
+    }
+}
+
+// What is known of all zones, each of which is listed, after a boot that passed them so, and would keep these lists.
+fn pass_all(known: &mut [KnownZone], held: Vec<HeldZone>, passed: &[Passed], is_whole: bool)
     requires held { length held.items ≡ length known.old }
     requires passed { length passed.now ≡ length known.old }
     requires order { AreInOrder passed.now }
@@ -122,4 +133,22 @@ pub(crate) fn pass_all(
         let i = held.len();
         known[i].pass(zone.into_told(), &passed[i], is_whole);
     }
+}
+
+/// What is known of all zones after a boot that passed them so, and would keep these lists. Takes no memory.
+pub(crate) fn pass_known(
+    known: &mut Vec<KnownZone>,
+    held: Vec<HeldZone>,
+    passed: &[Passed],
+    is_whole: bool,
+)
+    requires within { length known.old.items ≤ length held.items }
+    requires room { length held.items ≤ vec_capacity known.old }
+    requires passed { length passed.now ≡ length held.items }
+    requires order { AreInOrder passed.now }
+    ensures { IsParted passed.now is_whole held.items (known_all (length held.items) known.old.items)
+        known.new.items }
+{
+    list_all(known, held.len());
+    pass_all(known, held, passed, is_whole);
 }

@@ -15,7 +15,7 @@ ghost use Rattle.ram_core.specs.Storing.{is_next, is_last_of_dump, stores_left_o
 ghost use Rattle.session_spec.specs.ZoneCalls.{stores_left, finished};
 ghost use Rattle.ram_core.specs.Cursors.{cursor_at, cursor_after, IsTurning};
 ghost use Rattle.zone_spec.specs.declared.Zone.{Zone as AZone};
-ghost use Rattle.session_spec.specs.Stop.{stopped as stopped_state};
+ghost use Rattle.session_spec.specs.Stop.{stopped as stopped_state, live_image};
 ghost use Rattle.std.specs.Vec.{vec_capacity};
 ghost use Rattle.ram_core.specs.Stopped.{stop_zone};
 ghost use Rattle.ram_core.specs.OffSeen.{StandsOff};
@@ -25,6 +25,7 @@ use crate::coders::Coders;
 use crate::known::KnownZone;
 use crate::zones::{HeldZone, Stored, advance, start};
 use crate::{Ask, Off, Refused, Told};
+use box_io::Bytes;
 use dump_records::Cursor;
 use ram_region::Spans;
 use std::alloc::Global;
@@ -471,9 +472,16 @@ impl Live {
         }
     }
 
+    /// The bytes of the image, as a stop would leave it. Takes no memory.
+    pub fn into_image(self) -> Bytes
+        ensures { (layout : List AZone) (mem : ℕ) (s : LiveState) → StandsLive layout mem self s
+            → result ≡ live_image s }
+    {
+        self.spans.join().into_bytes()
+    }
+
     /// The machine is off: this moment is the stop of every zone, and each flight becomes a cut, also with no store
-    /// made.
-    /// Takes no memory.
+    /// made. Takes no memory.
     pub fn stop(self) -> Off
         ensures { (layout : List AZone) (mem : ℕ) (s : LiveState) → StandsLive layout mem self s
             → StandsOff layout mem result (stopped_state layout s) }

@@ -1,5 +1,5 @@
 // The machine while it is off.
-ghost use Rattle.std.specs.Prelude.{◌≡◌, ◌≤◌, ◌<◌, ◌^◌, ◌++◌, ℕ, List, [], length, map, IfOk, IfErr, OnOk, OnErr};
+ghost use Rattle.std.specs.Prelude.{◌≡◌, ◌≤◌, ◌<◌, ◌^◌, ◌++◌, ℕ, List, [], length, map, IfOk, IfErr, OnOk, OnErr, IsOk};
 ghost use Rattle.zone_spec.specs.declared.Zone.{Zone as AZone};
 ghost use Rattle.zone_spec.specs.Layout.{rounded};
 ghost use Rattle.zone_params.specs.Laid.{params_of, zones_of};
@@ -7,8 +7,8 @@ ghost use Rattle.session_spec.specs.States.{OffState};
 ghost use Rattle.session_spec.specs.Off.{fresh as fresh_state, flipped};
 ghost use Rattle.session_spec.specs.Boot.{booted};
 ghost use Rattle.session_spec.specs.Erasures.{saved_logs};
-ghost use Rattle.ram_core.specs.OffSeen.{OffSeen, StandsOff, AreUnknown};
-ghost use Rattle.ram_core.specs.Booting.{IsOpen, SpansFit, Prepares, AreLogs, seen_off, seen_booted};
+ghost use Rattle.ram_core.specs.OffSeen.{OffSeen, StandsOff};
+ghost use Rattle.ram_core.specs.Booting.{IsOpen, SpansFit, PreparesOpen, AreLogs, seen_off, seen_booted};
 ghost use Rattle.std.specs.List.{concat};
 ghost use Rattle.old_log.specs.Saving.{saved};
 ghost use Rattle.ram_core.specs.Running.{IsRunning};
@@ -19,7 +19,7 @@ ghost use Rattle.std.specs.Vec.{vec_capacity};
 
 use crate::booting::{Passed, Prepared, prepare, read_logs, settle_all, settle_part};
 use crate::coders::Coders;
-use crate::known::{KnownZone, pass_all};
+use crate::known::{KnownZone, pass_known};
 use crate::live::{count_dump_flights, first_dump};
 use crate::zones::HeldZone;
 use crate::{Live, Report};
@@ -37,14 +37,15 @@ pub struct Off {
     pub(crate) alloc: Global,
     pub(crate) layout: Layout,
     pub(crate) image: Bytes,
+    // Of the zones behind the end of the list nothing is known.
     pub(crate) zones: Vec<KnownZone>,
 }
 
 impl Model for Off {
-    ghost use Rattle.std.specs.Prelude.{◌≡◌, length};
+    ghost use Rattle.std.specs.Prelude.{◌≡◌, ◌≤◌, length};
     ghost use Rattle.zone_spec.specs.Layout.{rounded};
     ghost use Rattle.zone_params.specs.Laid.{params_of, zones_of};
-    ghost use Rattle.ram_core.specs.OffSeen.{OffSeen};
+    ghost use Rattle.ram_core.specs.OffSeen.{OffSeen, known_all};
     ghost use Rattle.ram_core.specs.Resting.{IsResting};
 
     ghost Value = { OffSeen };
@@ -53,16 +54,16 @@ impl Model for Off {
       layout = zones_of o.layout;
       mem = rounded (params_of o.layout).mem;
       image = o.image;
-      zones = o.zones.items;
+      zones = known_all (length (zones_of o.layout)) o.zones.items;
     } };
 
     ghost invariant = { λ o. (length o.image ≡ rounded (params_of o.layout).mem)
-        × (length o.zones.items ≡ length (zones_of o.layout))
+        × (length o.zones.items ≤ length (zones_of o.layout))
         × IsResting (record {
           layout = zones_of o.layout;
           mem = rounded (params_of o.layout).mem;
           image = o.image;
-          zones = o.zones.items;
+          zones = known_all (length (zones_of o.layout)) o.zones.items;
         }) };
 }
 
@@ -79,7 +80,7 @@ impl OpenOff {
     // The image whole again.
     fn close(self) -> Off
         requires size { length (concat self.spans.spans ++ self.spans.rest) ≡ rounded (params_of self.layout).mem }
-        requires known { length self.zones.items ≡ length (zones_of self.layout) }
+        requires known { length self.zones.items ≤ length (zones_of self.layout) }
         requires resting { IsResting (seen_off self) }
         ensures { result ≡ seen_off self }
     {
@@ -105,24 +106,28 @@ impl OpenOff {
         read_logs(self.alloc, &self.layout, &self.spans)
     }
 
-    // All that a boot reads and takes before its first store.
-    fn prepare(&self) -> Result<Prepared, AllocError>
-        requires spans { SpansFit (zones_of self.now.layout) self.now.spans.spans }
-        requires known { length self.now.zones.items ≡ length (zones_of self.now.layout) }
-        ensures prepared { IfOk result (λ p. Prepares (zones_of self.now.layout)
-            self.now.spans.spans self.now.zones.items p) }
+    // All that a boot reads and takes before its first store, with room for what is known of each zone after it.
+    fn prepare(&mut self) -> Result<Prepared, AllocError>
+        requires spans { SpansFit (zones_of self.old.layout) self.old.spans.spans }
+        requires known { length self.old.zones.items ≤ length (zones_of self.old.layout) }
+        ensures same { (v : OffSeen) → IsOpen v self.old → IsOpen v self.new }
+        ensures prepared { IfOk result (PreparesOpen self.new) }
+        ensures room { OnOk result (length (zones_of self.new.layout) ≤ vec_capacity self.new.zones) }
     {
+        let count = self.layout.zones().len();
+        self.zones.reserve_exact(count - self.zones.len())?;
         prepare(self.alloc, &self.layout, &self.spans, &self.zones)
     }
 
     // The same for a boot that is cut, with room for how it passes the zones.
-    fn prepare_part(&self) -> Result<(Prepared, Vec<Passed>), AllocError>
-        requires spans { SpansFit (zones_of self.now.layout) self.now.spans.spans }
-        requires known { length self.now.zones.items ≡ length (zones_of self.now.layout) }
-        ensures prepared { IfOk result (λ r. Prepares (zones_of self.now.layout)
-            self.now.spans.spans self.now.zones.items r.0) }
+    fn prepare_part(&mut self) -> Result<(Prepared, Vec<Passed>), AllocError>
+        requires spans { SpansFit (zones_of self.old.layout) self.old.spans.spans }
+        requires known { length self.old.zones.items ≤ length (zones_of self.old.layout) }
+        ensures same { (v : OffSeen) → IsOpen v self.old → IsOpen v self.new }
+        ensures prepared { IfOk result (λ r. PreparesOpen self.new r.0) }
+        ensures room { OnOk result (length (zones_of self.new.layout) ≤ vec_capacity self.new.zones) }
         ensures none { IfOk result (λ r. r.1.items ≡ []) }
-        ensures room { IfOk result (λ r. length (zones_of self.now.layout) ≤ vec_capacity r.1) }
+        ensures passed_room { IfOk result (λ r. length (zones_of self.new.layout) ≤ vec_capacity r.1) }
     {
         let prepared = self.prepare()?;
         let passed = Vec::with_capacity(self.alloc, self.layout.zones().len())?;
@@ -133,7 +138,7 @@ impl OpenOff {
     // next stop tells of them.
     fn live(self, zones: Vec<HeldZone>, coders: Coders) -> Live
         requires running { IsRunning (seen_booted self zones.items) }
-        requires known { length self.zones.items ≡ length (zones_of self.layout) }
+        requires room { length (zones_of self.layout) ≤ vec_capacity self.zones }
         requires few { length (zones_of self.layout) < 2 ^ 32 }
         ensures { result ≡ seen_booted self zones.items }
     {
@@ -161,41 +166,27 @@ impl OpenOff {
 // The room of a list.
 fn emptied(mut known: Vec<KnownZone>) -> Vec<KnownZone>
     ensures none { result.items ≡ [] }
-    ensures room { length known.items ≤ vec_capacity result }
+    ensures room { vec_capacity result ≡ vec_capacity known }
 {
     known.clear();
     known
 }
 
-// Zones of which nothing is known.
-fn unknown(alloc: Global, count: usize) -> Result<Vec<KnownZone>, AllocError>
-    ensures len { IfOk result (λ zones. length zones.items ≡ count) }
-    ensures none { IfOk result (λ zones. AreUnknown zones.items) }
-{
-    let mut zones = Vec::with_capacity(alloc, count)?;
-    'zones: for _ in 0..count {
-        zones.push(KnownZone {
-            told: None,
-            cut: None,
-        })?;
-    }
-    Ok(zones)
-}
-
 impl Off {
-    /// An image of the layout's `mem` bytes, of which nothing is known.
+    /// An image of the layout's `mem` bytes, of which nothing is known. Takes no memory.
     pub fn fresh(alloc: Global, layout: Layout, image: Bytes) -> Result<Off, AllocError>
         requires { length image ≡ rounded (params_of layout).mem }
-        ensures { IfOk result (λ off. StandsOff (zones_of layout) (rounded (params_of layout).mem) off
+        ensures stands { IfOk result (λ off. StandsOff (zones_of layout) (rounded (params_of layout).mem) off
             (fresh_state (zones_of layout) image)) }
+        ensures made { IsOk result }
     {
         let _len = image.len();
-        let zones = unknown(alloc, layout.zones().len())?;
+        let _zones = layout.zones();
         Ok(Off {
             alloc,
             layout,
             image,
-            zones,
+            zones: Vec::new(alloc),
         })
     }
 
@@ -331,7 +322,7 @@ impl Off {
                     limit,
                     &mut passed,
                 );
-                pass_all(&mut open.zones, held, &passed, progress.is_whole);
+                pass_known(&mut open.zones, held, &passed, progress.is_whole);
                 Ok((open.close(), limit - progress.left))
             }
             Err(refused) => Err((open.close(), refused)),

@@ -1,11 +1,12 @@
 // What a boot tells of each zone.
 ghost use Rattle.std.specs.Prelude.{◌≡◌, ◌≤◌, ◌^◌, ◌<◌, ◌==◌, ◌&&◌, nat_eq, position, length, ℕ, Some, IfSome};
 ghost use Rattle.std.specs.List.{common_prefix_len};
-ghost use Rattle.std.specs.Option.{option_map};
+ghost use Rattle.std.specs.Option.{option_map, option_copied};
 ghost use Rattle.circular_buffer.specs.Buffer.{Buffer};
 ghost use Rattle.zone_spec.specs.declared.Pair.{Pair as APair};
 ghost use Rattle.zone_spec.specs.Verdicts.{verdict_of};
 ghost use Rattle.zone_spec.specs.Pairs.{header_seen as header_seen_in};
+ghost use Rattle.ram_core.specs.OffSeen.{known_or};
 ghost use Rattle.ram_core.specs.Reports.{cut_seen, report_seen, report_cut, report_zone};
 
 use crate::Told;
@@ -157,8 +158,7 @@ fn cut_of(zone: &Zone, reading: &Reading, cut: &HeldCut) -> Cut
     }
 }
 
-/// What a boot tells of a zone, by its reading and by what was known of it.
-pub(crate) fn report_of(zone: &Zone, known: &KnownZone, reading: &Reading) -> ZoneReport
+fn report_known(zone: &Zone, known: &KnownZone, reading: &Reading) -> ZoneReport
     requires { length reading.now.log < 2 ^ 32 }
     ensures { report_seen result ≡ report_zone zone.now known.now reading.now }
 {
@@ -168,6 +168,21 @@ pub(crate) fn report_of(zone: &Zone, known: &KnownZone, reading: &Reading) -> Zo
         cut: match &known.cut {
             Some(cut) => Some(cut_of(zone, reading, cut)),
             None => None,
+        },
+    }
+}
+
+/// What a boot tells of a zone, by its reading and by what was known of it, if anything was.
+pub(crate) fn report_of(zone: &Zone, known: Option<&KnownZone>, reading: &Reading) -> ZoneReport
+    requires { length reading.now.log < 2 ^ 32 }
+    ensures { report_seen result ≡ report_zone zone.now (known_or (option_copied known.entry)) reading.now }
+{
+    match known {
+        Some(known) => report_known(zone, known, reading),
+        None => ZoneReport {
+            name: zone.name,
+            verdict: Verdict::NothingTold,
+            cut: None,
         },
     }
 }

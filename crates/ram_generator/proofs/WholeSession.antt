@@ -6,10 +6,9 @@ use Rattle.zone_spec.specs.Layouts.{IsLayout}
 use Rattle.session_spec.specs.States.{LiveState, Session, Live}
 use Rattle.session_spec.specs.Off.{fresh}
 use Rattle.session_spec.specs.Boot.{booted}
-use Rattle.session_spec.specs.Stop.{stopped, session_image}
+use Rattle.session_spec.specs.Stop.{live_image, session_image}
 use Rattle.session_spec.specs.Report.{ZoneReport}
 use Rattle.ram_core.specs.LiveSeen.{LiveSeen, StandsLive}
-use Rattle.ram_core.specs.OffSeen.{OffSeen, StandsOff}
 use Rattle.tool_spec.specs.Generated.{Generated, first_boot, rounds, generated, summary}
 use Rattle.ram_generator.specs.declared.counts.Counts.{Counts}
 use Rattle.ram_generator.specs.Counting.{none_counted, counted}
@@ -34,10 +33,10 @@ pub all_runs : (layout : List Zone) (mem n : ℕ) (v w : LiveSeen) (c : Counts) 
     → RunsIdle layout mem w c (generated layout mem n)
 all_runs layout mem n v w c told lies up runs = runs mem (first_boot layout mem) lies (first_runs layout mem v told up)
 
-pub image_left : (layout : List Zone) (mem : ℕ) (v : LiveSeen) (off : OffSeen) (c : Counts) (g : Generated)
-    → RunsIdle layout mem v c g → ((s : LiveState) → StandsLive layout mem v s
-    → StandsOff layout mem off (stopped layout s)) → off.image ≡ session_image g.session
-image_left layout mem v off c g r stops = (stops r.now r.stands).image
+pub image_left : (layout : List Zone) (mem : ℕ) (v : LiveSeen) (image : List ℕ) (c : Counts) (g : Generated)
+    → RunsIdle layout mem v c g → ((s : LiveState) → StandsLive layout mem v s → image ≡ live_image s)
+    → image ≡ session_image g.session
+image_left layout mem v image c g r same = same r.now r.stands
     ∙ sym (ap (λ (h : Generated). session_image h.session) r.is)
 
 pub text_left : (layout : List Zone) (mem n : ℕ) (v : LiveSeen) (c : Counts) (g : Generated) (text : List ℕ)

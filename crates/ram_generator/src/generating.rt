@@ -76,5 +76,5 @@ pub fn generate(alloc: Global, layout: Layout, n: u32) -> Result<(Bytes, Vec<u8>
     let mut counts = Counts::none();
     let live = rounds(alloc, &plan, &mut draws, &mut counts, live)?;
     let text = summary(alloc, n, zones, &counts)?;
-    Ok((live.stop().into_image(), text))
+    Ok((live.into_image(), text))
 }

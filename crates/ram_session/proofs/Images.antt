@@ -2,9 +2,9 @@
 use Rattle.std.proofs.Common.{◌≡◌, ℕ, List, refl, sym, ◌∙◌}
 use Rattle.zone_spec.specs.declared.Zone.{Zone}
 use Rattle.session_spec.specs.States.{LiveState, Session, Off as OffOf, Live as LiveOf}
-use Rattle.session_spec.specs.Stop.{stopped, session_image}
+use Rattle.session_spec.specs.Stop.{live_image as image_of, session_image}
 use Rattle.old_log.specs.Saving.{SavedLogs}
-use Rattle.ram_core.specs.OffSeen.{OffSeen, StandsOff}
+use Rattle.ram_core.specs.OffSeen.{OffSeen}
 use Rattle.ram_core.specs.LiveSeen.{LiveSeen, StandsLive}
 use Rattle.ram_session.specs.Sessions.{Stands}
 use Rattle.ram_session.specs.Machines.{store_of}
@@ -21,8 +21,8 @@ pub off_image : (off : OffSeen) (bytes : List ℕ) → bytes ≡ off.image → I
 off_image off bytes same layout mem (OffOf s) stands = same ∙ stands.image
 off_image off bytes same layout mem (LiveOf s) stands = absurd stands
 
-pub live_image : (live : LiveSeen) (logs : SavedLogs) (kernel : Kernel) (off : OffSeen) (bytes : List ℕ)
-    → ((layout : List Zone) (mem : ℕ) (s : LiveState) → StandsLive layout mem live s
-    → StandsOff layout mem off (stopped layout s)) → bytes ≡ off.image → IsImageOf (Live live logs kernel) bytes
-live_image live logs kernel off bytes stop same layout mem (OffOf s) stands = absurd stands
-live_image live logs kernel off bytes stop same layout mem (LiveOf s) stands = same ∙ (stop layout mem s stands.0).image
+pub live_image : (live : LiveSeen) (logs : SavedLogs) (kernel : Kernel) (bytes : List ℕ)
+    → ((layout : List Zone) (mem : ℕ) (s : LiveState) → StandsLive layout mem live s → bytes ≡ image_of s)
+    → IsImageOf (Live live logs kernel) bytes
+live_image live logs kernel bytes same layout mem (OffOf s) stands = absurd stands
+live_image live logs kernel bytes same layout mem (LiveOf s) stands = same layout mem s stands.0

@@ -862,3 +862,21 @@ fn a_refused_stopped_boot_leaves_all(rt: HostRuntime) -> Result<(), Fail> {
     assert!(rt; is_recorded(&logs, &report));
     Ok(())
 }
+
+// The same for the first boot of a store, which is made without memory.
+#[test]
+fn a_refused_first_boot_can_be_asked_for_again(rt: HostRuntime) -> Result<(), Fail> {
+    let off = zeros(&rt, &four(1));
+    let (_, logs, report) = match off.boot() {
+        Ok(booted) => booted,
+        Err((off, _refused)) => {
+            println!(rt; "boot refused")?;
+            boot(&rt, off)
+        }
+    };
+    for i in 0u8..4 {
+        assert!(rt; tells(&report, usize::from(i), Verdict::NothingTold));
+        assert!(rt; reads(&logs, u32::from(i), &[]));
+    }
+    Ok(())
+}

@@ -14,14 +14,14 @@ returns-in-Err-erase-clause-ended g c = λ left given f h. erase_stopped
 pub returns-in-Ok-save-clause-ended : goal.returns-in-Ok-save-clause-ended
 returns-in-Ok-save-clause-ended g c = λ left given f h. erase_saved
     (plan_for (EraseRecord c.args.name.now) c.args.layout)
-    _ _ _ _ c.args.name.now refl c.in-Ok.ensures.booted _ _ c.stop.result c.into_image.result
-    (rw c.as_bytes.ensures.value at c.in-Ok-erase.ensures.erased) c.stop.ensures c.into_image.ensures refl
+    _ _ _ _ c.args.name.now refl c.in-Ok.ensures.booted _ _ c.into_image.result
+    (rw c.as_bytes.ensures.value at c.in-Ok-erase.ensures.erased) c.into_image.ensures refl
     (record { left = refl; source = refl }) (rw (c.as_slice-2.ensures, c.in-Ok.ensures.same)
     at c.in-Ok-save.ensures.bytes)
 
 pub returns-clause-ended : goal.returns-clause-ended
 returns-clause-ended g c = λ left given f h. erase_unsaved (plan_for (EraseRecord c.args.name.now) c.args.layout)
-    _ _ _ _ c.args.name.now refl c.in-Ok.ensures.booted _ _ c.stop.result c.into_image.result
-    (rw c.as_bytes.ensures.value at c.in-Ok-erase.ensures.erased) c.stop.ensures c.into_image.ensures refl
+    _ _ _ _ c.args.name.now refl c.in-Ok.ensures.booted _ _ c.into_image.result
+    (rw c.as_bytes.ensures.value at c.in-Ok-erase.ensures.erased) c.into_image.ensures refl
     (record { left = refl; source = refl }) (rw (c.as_slice-2.ensures, c.in-Ok.ensures.same)
     at c.in-Err-save.ensures.bytes)

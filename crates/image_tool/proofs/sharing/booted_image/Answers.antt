@@ -1,4 +1,4 @@
-use Rattle.std.proofs.Common.{refl, ◌∙◌}
+use Rattle.std.proofs.Common.{refl}
 use Rattle.zone_spec.specs.Layout.{rounded}
 use Rattle.zone_params.specs.Laid.{params_of, zones_of}
 use Rattle.session_spec.specs.Off.{fresh}
@@ -12,7 +12,7 @@ returns-in-Ok c =
     let mem = rounded (params_of c.args.layout).mem in
     let f = c.in_ok-off.ensures in
     let b = c.in-Ok.ensures.booted layout mem (fresh layout c.args.image.items) f.stands in
-    let is = c.into_image.ensures ∙ (c.stop.ensures layout mem (booted layout (fresh layout c.args.image.items)) b.live).image in
+    let is = c.into_image.ensures layout mem (booted layout (fresh layout c.args.image.items)) b.live in
     record {
       is = is;
       size = (is_booted_size (params_of c.args.layout) layout mem c.args.image.items f.lies f.size f.bytes _ is refl);

@@ -28,7 +28,7 @@ runs c =
     c.in_ok-image.ensures ∙ ap (λ (n : ℕ). replicate n 0) c.mem.ensures in
     let off : StandsOff (zones c) (mem c) c.in_ok-off.off (fresh (zones c) (replicate (mem c) 0)) =
     subst (λ (bytes : List ℕ). StandsOff (zones c) (mem c) c.in_ok-off.off (fresh (zones c) bytes))
-    image c.in_ok-off.ensures in
+    image c.in_ok-off.ensures.stands in
     let up = c.in_ok-live.ensures (zones c) (mem c) (fresh (zones c) (replicate (mem c) 0)) (lies c) off
     (length-replicate (mem c) 0) in
     let ran = rw (c.in_ok-plan.ensures.zones, c.zones.ensures.value, c.none-counts.ensures, c.new-draws.ensures)
@@ -36,9 +36,8 @@ runs c =
     all_runs (zones c) (mem c) c.args.n c.in_ok-live.live c.in_ok-live-2.live c.rounds.new.counts _ (lies c) up ran
 
 pub returns-clause-image : goal.returns-clause-image
-returns-clause-image c = c.into_image.ensures ∙ image_left (zones c) (mem c)
-    c.in_ok-live-2.live c.stop.result c.rounds.new.counts (generated (zones c) (mem c) c.args.n) (runs c)
-    (λ s stands. c.stop.ensures (zones c) (mem c) s stands)
+returns-clause-image c = image_left (zones c) (mem c) c.in_ok-live-2.live c.into_image.result c.rounds.new.counts
+    (generated (zones c) (mem c) c.args.n) (runs c) (λ s stands. c.into_image.ensures (zones c) (mem c) s stands)
 
 pub returns-clause-summary : goal.returns-clause-summary
 returns-clause-summary c = text_left (zones c) (mem c) c.args.n c.in_ok-live-2.live c.rounds.new.counts

@@ -3,7 +3,7 @@ use Rattle.std.specs.Prelude.{slice_index, slice_set, bit_xor}
 use Rattle.std.proofs.lemmas.List.{length-set}
 use Rattle.zone_spec.specs.Layout.{rounded}
 use Rattle.zone_params.specs.Laid.{params_of, zones_of}
-use Rattle.ram_core.specs.OffSeen.{OffSeen, StandsOff}
+use Rattle.ram_core.specs.OffSeen.{OffSeen, known_all, StandsOff}
 use Rattle.ram_core.proofs.Resting.{flipped_stands, flipped_rests}
 use Rattle.ram_core.proofs.off.Off.flip.Goals as goal
 
@@ -17,7 +17,7 @@ invariant_of-self c =
         layout = zones_of c.self.inside.layout;
         mem = rounded (params_of c.self.inside.layout).mem;
         image = c.self.inside.image;
-        zones = c.self.inside.zones.items;
+        zones = known_all (length (zones_of c.self.inside.layout)) c.self.inside.zones.items;
       }) c.args.at c.args.mask c.set.new.self (omega (arith, c.ranges.mask.fits)) is c.self.invariant.2,
     )
 
@@ -27,7 +27,7 @@ returns-clause-flipped c layout mem s stands =
       layout = zones_of c.self.inside.layout;
       mem = rounded (params_of c.self.inside.layout).mem;
       image = c.self.inside.image;
-      zones = c.self.inside.zones.items;
+      zones = known_all (length (zones_of c.self.inside.layout)) c.self.inside.zones.items;
     }) s c.args.at c.args.mask c.set.new.self
     (c.set.ensures ∙ ap (λ (b : List ℕ). slice_set c.self.inside.image c.args.at
     (bit_xor (slice_index b c.args.at) c.args.mask)) c.as_slice-bytes.ensures)
