@@ -35,11 +35,11 @@ stop_text (BadLine x) layout blk line number b c h = absurd h
 
 module _ (layout : BlkLayout) (blk : Option BlkState) (line : Line) (a b : Seen) (so_far : PutsText a.given b.given)
   where
-  pub next_text : (next : Option BlkState) (c : Seen) → Puts layout blk line next b c → PutsText a.given c.given
-  next_text next c puts =
-      text_more a.given b.given c.given so_far (record { text = puts.text; put = puts.put })
+    pub next_text : (next : Option BlkState) (c : Seen) → Puts layout blk line next b c → PutsText a.given c.given
+    next_text next c puts =
+        text_more a.given b.given c.given so_far (record { text = puts.text; put = puts.put })
 
-  pub stopped_text : (stop : Stop) (number : ℕ) (c : Seen) → LineStops stop layout blk line number b c
-      → PutsText a.given c.given
-  stopped_text stop number c h =
-      text_more a.given b.given c.given so_far (stop_text stop layout blk line number b c h)
+    pub stopped_text : (stop : Stop) (number : ℕ) (c : Seen) → LineStops stop layout blk line number b c
+        → PutsText a.given c.given
+    stopped_text stop number c h =
+        text_more a.given b.given c.given so_far (stop_text stop layout blk line number b c h)

@@ -49,5 +49,10 @@ pub some-reached : (c d : BlkCut) (ws : List Write) (before now : Option (List �
     → 0 < bytes_in (reaching c ws)
 some-reached c d ws before now f =
     let tried : f.tried ≤ bytes_in ws = tried-within f.made f.others ws f.failed f.tried f.parts f.within in
-    omega (arith, f.some, through-all c f.tried (bytes_in ws) tried, bytes-first (through c (bytes_in ws)) ws,
-      through-within c (bytes_in ws))
+    omega (
+      arith,
+      f.some,
+      through-all c f.tried (bytes_in ws) tried,
+      bytes-first (through c (bytes_in ws)) ws,
+      through-within c (bytes_in ws),
+    )
