@@ -1,5 +1,5 @@
 -- Lines of calls on a loaded store
-use Rattle.std.proofs.Common.{◌≡◌, ℕ, Bool, List, [], Option, Some, None, IfSome, Ok, Err, refl, sym, ap, ◌∙◌}
+use Rattle.std.proofs.Common.{◌≡◌, ℕ, Bool, List, [], Option, Some, None, IfSome, Ok, Err, refl, sym, ap, ◌∙◌, inl}
 use Rattle.box_io.specs.Outside.{Rose}
 use Rattle.zone_spec.specs.declared.ZoneName.{ZoneName}
 use Rattle.blk_spec.specs.declared.BlkLayout.{BlkLayout}
@@ -107,4 +107,5 @@ load_fails layout StoreFaultThere before now faults later l rose old h = (
   rw (load_line layout old h) l,
   λ bytes. record
       { wants = record { session = load_session layout bytes; text = [] }; is = loads layout old bytes h },
+  inl refl,
 )

@@ -4,3 +4,4 @@ pub mod Named
 pub mod CallLines
 pub mod OtherLines
 pub mod ScriptLines
+pub mod LineTexts

@@ -1,5 +1,5 @@
 -- Calls on a loaded store as operations of the session, and these as lines
-use Rattle.std.proofs.Common.{◌≡◌, ℕ, Bool, true, false, if◌then◌else◌, List, [], Option, Some, None, Result, Ok, Err, refl, sym, ap, ◌∙◌, subst}
+use Rattle.std.proofs.Common.{◌≡◌, ℕ, Bool, true, false, if◌then◌else◌, List, [], Option, Some, None, Result, Ok, Err, refl, sym, ap, ◌∙◌, subst, inr}
 use Rattle.std.specs.Prelude.{MatchResult}
 use Rattle.box_io.specs.Outside.{Rose}
 use Rattle.blk_spec.specs.declared.BlkLayout.{BlkLayout}
@@ -21,7 +21,7 @@ use Rattle.tool_spec.specs.BlkScripts.{blk_line_done, operation_of, performs, pe
 use Rattle.blk_session.specs.declared.errors.LineError.{LineError}
 use Rattle.blk_session.specs.declared.errors.LineError.TheVariants.{Memory, StoreFault, Refused}
 use Rattle.blk_session.specs.Lines.{LineDone, LineFails, OperationDone, OperationFails, error_of}
-use Rattle.blk_session.proofs.Writes.{front-reached}
+use Rattle.blk_session.proofs.Writes.{front-reached, some-reached}
 
 -- ---- calls
 
@@ -89,6 +89,7 @@ module _ (b : BlkState) (operation : Operation) (refusal : Option BlkFault) (ws 
       is = performed bytes
           ∙ rw a.0 refl;
     },
+    rw is.writes (some-reached b.cut new.cut ws before now a.1),
   )
 
   pub call_fails : (fault : BlkFault) (error : LineError) → error ≡ error_of fault → (new : BlkState)
@@ -148,6 +149,7 @@ module _ (layout : BlkLayout) (old : Option BlkState) (line : Line) (operation :
     rw is h.1,
     λ bytes. let w = h.2 bytes in
         record { wants = w.wants; is = line_is bytes ∙ w.is },
+    inr (rw is h.3),
   )
   line_fails (Refused cause) before now faults later h = (h.0, λ bytes. line_is bytes ∙ h.1 bytes)
 

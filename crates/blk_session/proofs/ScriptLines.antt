@@ -192,6 +192,7 @@ module _ (layout : BlkLayout) (bytes : List ℕ) (lines : List Line) (i : ℕ) (
               no_more (blk_ran layout bytes (take (i + 1) lines)).texts
                   (blk_ran layout bytes lines).texts (extends_ran layout bytes lines (i + 1)),
             );
+            needs = rw p.session h.1.3;
             texts = refl;
             kept = f.kept;
             within = f.within;

@@ -1,5 +1,5 @@
 -- The first bytes of writes of which first bytes are taken
-use Rattle.std.proofs.Common.{◌≡◌, ℕ, ◌-◌, ◌≤◌, min, List, [], ◌∷◌, length, take, refl, sym, ap, ◌∙◌, arith, length-take}
+use Rattle.std.proofs.Common.{◌≡◌, ℕ, ◌-◌, ◌<◌, ◌≤◌, min, List, [], ◌∷◌, length, take, refl, sym, ap, ◌∙◌, arith, length-take}
 use Rattle.std.proofs.lemmas.List.{take-take}
 use Rattle.std.specs.Prelude.{Option}
 use Rattle.blk_spec.specs.declared.BlkCut.{BlkCut}
@@ -43,3 +43,16 @@ front-reached c d ws before now f =
       store = f.store ∙ ap (λ (vs : List Write). store_after vs before)
           (sym (first-first f.kept (through c (bytes_in ws)) ws most));
     }
+
+-- and some byte of it reaches the store
+pub some-reached : (c d : BlkCut) (ws : List Write) (before now : Option (List ℕ)) → FailsWithin ws c d before now
+    → 0 < bytes_in (reaching c ws)
+some-reached c d ws before now f =
+    let tried : f.tried ≤ bytes_in ws = tried-within f.made f.others ws f.failed f.tried f.parts f.within in
+    omega (
+      arith,
+      f.some,
+      through-all c f.tried (bytes_in ws) tried,
+      bytes-first (through c (bytes_in ws)) ws,
+      through-within c (bytes_in ws),
+    )

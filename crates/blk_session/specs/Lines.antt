@@ -1,18 +1,19 @@
 -- How a line of a script is done on the block store
-use Rattle.std.specs.Prelude.{◌≡◌, ⊤, ℕ, List, Option, Some, None, Result, Ok, Err}
+use Rattle.std.specs.Prelude.{◌≡◌, ⊤, ℕ, ◌<◌, List, Option, Some, None, Result, Ok, Err}
 use Rattle.std.specs.Option.{option_map}
 use Rattle.std.specs.Global.{Vec}
 use Rattle.box_io.specs.Outside.{Rose}
 use Rattle.blk_spec.specs.declared.BlkLayout.{BlkLayout}
 use Rattle.blk_spec.specs.declared.BlkFault.{BlkFault}
 use Rattle.blk_spec.specs.declared.BlkFault.TheVariants.{NoZone as NoZoneThere, NoRecord as NoRecordThere, StoreFault as StoreFaultThere, Memory as MemoryThere}
+use Rattle.blk_spec.specs.Writes.{bytes_in}
 use Rattle.blk_spec.specs.States.{BlkState}
 use Rattle.blk_spec.specs.Session.{Operation}
 use Rattle.blk_spec.specs.Answers.{HasFront}
 use Rattle.grammar_spec.specs.Fields.{Text}
 use Rattle.grammar_spec.specs.declared.line.Line.{Line}
 use Rattle.grammar_spec.specs.declared.line.Line.TheVariants.{Write, List as ListLine, Extract, Erase, KDump, CutAfter}
-use Rattle.tool_spec.specs.BlkScripts.{BlkDone, blk_line_done, line_writes, performs, writes_by, blk_named, blk_extract_text}
+use Rattle.tool_spec.specs.BlkScripts.{BlkDone, blk_line_done, line_writes, NeedsStore, performs, writes_by, blk_named, blk_extract_text}
 use Rattle.tool_spec.specs.declared.Cause.{Cause}
 use Rattle.tool_spec.specs.declared.Cause.TheVariants.{NoZone, NoRecord}
 use Rattle.blk_session.specs.declared.errors.LineError.{LineError}
@@ -37,18 +38,19 @@ pub record IsWanted (wanted : Result BlkDone Cause) : Type 0 where
   pub wants : BlkDone
   pub is : wanted ≡ Ok wants
 
--- why a line was not done: a refused one and one without memory leave the store, and where it failed within the line it
--- has some first bytes of what the line writes
+-- why a line was not done: a refused one and one without memory leave the store, and where it failed within the line,
+-- which needs it, it has some first bytes of what the line writes
 abbrev pub LineFails : LineError → BlkLayout → Option BlkState → Line → Option (List ℕ) → Option (List ℕ) → ℕ → ℕ
     → Type 0
 LineFails Memory layout old line before now faults faults' = now ≡ before
 LineFails StoreFault layout old line before now faults faults' =
     Rose faults faults' × HasFront (line_writes layout old line) before now
     × ((bytes : List ℕ) → IsWanted (blk_line_done layout (record { store = bytes; blk = old }) line))
+    × NeedsStore layout old line
 LineFails (Refused cause) layout old line before now faults faults' =
     (now ≡ before) × ((bytes : List ℕ) → blk_line_done layout (record { store = bytes; blk = old }) line ≡ Err cause)
 
--- the same of an operation of the session
+-- the same of an operation of the session; the store fails only within bytes that reach it
 abbrev pub OperationDone : BlkLayout → Option BlkState → Operation → Option BlkState → Text → Option (List ℕ)
     → Option (List ℕ) → Type 0
 OperationDone layout old operation new text before now =
@@ -61,6 +63,7 @@ OperationFails Memory layout old operation before now faults faults' = now ≡ b
 OperationFails StoreFault layout old operation before now faults faults' =
     Rose faults faults' × HasFront (writes_by layout old operation) before now
     × ((bytes : List ℕ) → IsWanted (performs layout (record { store = bytes; blk = old }) operation))
+    × (0 < bytes_in (writes_by layout old operation))
 OperationFails (Refused cause) layout old operation before now faults faults' =
     (now ≡ before) × ((bytes : List ℕ) → performs layout (record { store = bytes; blk = old }) operation ≡ Err cause)
 

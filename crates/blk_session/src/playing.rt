@@ -4,7 +4,7 @@ ghost use Rattle.blk_spec.specs.Layout.{IsLayout};
 ghost use Rattle.blk_spec.specs.Answers.{HasRoom};
 ghost use Rattle.grammar_spec.specs.Printed.{HasFields, AllHaveFields};
 ghost use Rattle.tool_spec.specs.BlkAnswers.{LinesEnd};
-ghost use Rattle.tool_frame.specs.Playing.{BlkPlayCaused};
+ghost use Rattle.tool_frame.specs.Playing.{PutsText, BlkPlayCaused};
 ghost use Rattle.blk_session.specs.Stops.{stop_of};
 ghost use Rattle.blk_session.specs.Playing.{seen, Puts, LineStops, Later};
 
@@ -80,6 +80,7 @@ pub fn play<S: Store, O: Sink>(
     ensures later { (S.faults store.old ≤ S.faults store.new) × (O.faults out.old ≤ O.faults out.new) }
     ensures caused { BlkPlayCaused result (S.faults store.old) (S.faults store.new) (O.faults out.old)
         (O.faults out.new) }
+    ensures put { PutsText (O.given out.old) (O.given out.new) }
     ensures played { (bytes : List ℕ) → S.holds store.old ≡ Some bytes
         → LinesEnd result layout bytes lines.now (O.given out.old) (O.given out.new) (S.holds store.new) }
 {

@@ -9,10 +9,10 @@ use Rattle.tool_spec.specs.Commands.{RamCommand, RunScript, ListRecords, Extract
 use Rattle.tool_spec.specs.Scripts.{ran}
 use Rattle.tool_spec.specs.Answers.{Outside, front, whole}
 use Rattle.tool_frame.specs.Ends.{LastPut, Finished}
-use Rattle.tool_frame.specs.Playing.{PlayStop}
+use Rattle.tool_frame.specs.Playing.{PutsText, PlayStop}
 use Rattle.tool_frame.specs.Words.{ram_command_seen}
 use Rattle.tool_frame.specs.declared.words.RamCommand.{RamCommand as ReadRamCommand}
-use Rattle.image_tool.specs.Due.{PutsText, PutsNone, PutsFirst, PutsLines, PutsBefore, PutsByPlan, LineAlone, LineOrText, LineAtEnd, CommandLine, LastLine}
+use Rattle.image_tool.specs.Due.{PutsNone, PutsFirst, PutsLines, PutsBefore, PutsByPlan, LineAlone, LineOrText, LineAtEnd, CommandLine, LastLine}
 use Rattle.tool_spec.specs.declared.Stop.{Stop}
 use Rattle.tool_spec.specs.declared.Stop.TheVariants.{Memory, Usage, Param, Layout, NoSharedZone, Short, ScriptFault, ImageFault, SinkFault, TooLong, BadLine, Refused}
 
@@ -73,6 +73,11 @@ lines_put ImageFault layout image lines old new before now h = absurd h
 lines_put TooLong layout image lines old new before now h = absurd h
 lines_put (BadLine x) layout image lines old new before now h = absurd h
 
+-- whatever way the lines ended
+pub ended_put : (e : End) (given given' : Option (List ℕ)) → PutsText given given' → PutsLines given given' e
+ended_put (Ok u) given given' h = tt
+ended_put (Err s) given given' h = h
+
 -- the command, and the plan, that was read
 pub arm_put : (c k : ReadRamCommand) (given given' : Option (List ℕ)) (e : End) → c ≡ k
     → PutsBefore (ram_command_seen k) given given' e → PutsBefore (ram_command_seen c) given given' e
@@ -101,7 +106,7 @@ before_same (ReadRing at name) e given = none_put e given given refl
 
 pub plan_same : (r : Result Plan Stop) (e : End) (given : Option (List ℕ)) → PutsByPlan r given given e
 plan_same (Ok (OfRam plan)) e given = before_same plan.command e given
-plan_same (Ok (OfBlk layout)) e given = tt
+plan_same (Ok (OfBlk layout)) e given = lines_same e given
 plan_same (Ok (OfMove plan)) e given = first_put e given given refl
 plan_same (Err s) e given = none_put e given given refl
 
@@ -202,6 +207,6 @@ module _ (a b : Outside) (given : Option (List ℕ)) (faults status : ℕ) where
   pub last_line_put : (r : Result Plan Stop) (e : End) → PutsByPlan r a.given given e
       → Finished e given b.given faults b.sink_faults status → LastLine r a b status
   last_line_put (Ok (OfRam plan)) e h f = by_command plan.command e h f
-  last_line_put (Ok (OfBlk layout)) e h f = tt
+  last_line_put (Ok (OfBlk layout)) e h f = after_lines e h f
   last_line_put (Ok (OfMove plan)) e h f = first e h f
   last_line_put (Err s) e h f = alone e h f

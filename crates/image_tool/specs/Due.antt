@@ -6,14 +6,10 @@ use Rattle.tool_spec.specs.Ends.{End, status_of, last_line}
 use Rattle.tool_spec.specs.Commands.{RamCommand, RunScript, MakeImage, RunShared, Plan, OfRam, OfBlk, OfMove}
 use Rattle.tool_spec.specs.Answers.{Outside}
 use Rattle.tool_spec.specs.declared.Stop.{Stop}
+use Rattle.tool_frame.specs.Playing.{PutsText}
 use Rattle.tool_spec.specs.declared.Stop.TheVariants.{ImageFault, SinkFault}
 
 -- ---- the work of a command, before its last line
-
--- some text was put
-pub record PutsText (old new : Option (List ℕ)) : Type 0 where
-  pub text : Text
-  pub put : Appends old new text
 
 -- nothing was put, but where all was done or the output failed
 abbrev pub PutsNone : Option (List ℕ) → Option (List ℕ) → End → Type 0
@@ -39,7 +35,7 @@ PutsBefore other given given' e = PutsNone given given' e
 
 abbrev pub PutsByPlan : Result Plan Stop → Option (List ℕ) → Option (List ℕ) → End → Type 0
 PutsByPlan (Ok (OfRam plan)) given given' e = PutsBefore plan.command given given' e
-PutsByPlan (Ok (OfBlk layout)) given given' e = ⊤
+PutsByPlan (Ok (OfBlk layout)) given given' e = PutsLines given given' e
 PutsByPlan (Ok (OfMove plan)) given given' e = PutsFirst given given' e
 PutsByPlan (Err s) given given' e = PutsNone given given' e
 
@@ -76,9 +72,9 @@ CommandLine (MakeImage n) a b status = LineOrText a b status
 CommandLine RunShared a b status = LineOrText a b status
 CommandLine other a b status = LineAlone a b status
 
--- what each command puts last; a script on the block store is not spoken of here
+-- what each command puts last
 abbrev pub LastLine : Result Plan Stop → Outside → Outside → ℕ → Type 0
 LastLine (Ok (OfRam plan)) a b status = CommandLine plan.command a b status
-LastLine (Ok (OfBlk layout)) a b status = ⊤
+LastLine (Ok (OfBlk layout)) a b status = LineAtEnd a b status
 LastLine (Ok (OfMove plan)) a b status = LineOrText a b status
 LastLine (Err s) a b status = LineAlone a b status

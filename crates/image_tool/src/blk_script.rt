@@ -4,6 +4,7 @@ ghost use Rattle.blk_spec.specs.Layout.{IsLayout};
 ghost use Rattle.tool_spec.specs.Commands.{OfBlk};
 ghost use Rattle.tool_spec.specs.Answers.{outside};
 ghost use Rattle.tool_frame.specs.Ended.{WorkDone};
+ghost use Rattle.image_tool.specs.Due.{PutsLines};
 
 use blk_params::BlkLayout;
 use blk_session::play;
@@ -20,11 +21,12 @@ pub fn run_blk_script<S: Source, M: Store, O: Sink>(
     out: &mut O,
 ) -> Result<(), Stop>
     requires { IsLayout layout }
-    ensures { let before = outside (S.left script.old) (S.faults script.old) (M.holds image.old)
+    ensures work { let before = outside (S.left script.old) (S.faults script.old) (M.holds image.old)
         (M.faults image.old) (O.given out.old) (O.faults out.old) in
         let after = outside (S.left script.new) (S.faults script.new) (M.holds image.new)
         (M.faults image.new) (O.given out.new) (O.faults out.new) in
         WorkDone (Ok (OfBlk layout)) before after result }
+    ensures put { PutsLines (O.given out.old) (O.given out.new) result }
 {
     match check_size(image, layout.total) {
         Ok(()) => {}

@@ -7,16 +7,44 @@ use Rattle.grammar_spec.specs.Fields.{Text}
 use Rattle.grammar_spec.specs.declared.line.Line.{Line}
 use Rattle.tool_spec.specs.Ends.{End, status_of, last_line}
 use Rattle.tool_spec.specs.Commands.{stops}
-use Rattle.tool_spec.specs.Answers.{Outside, RoseFor, IsFree}
+use Rattle.tool_spec.specs.Answers.{Outside, NoScript, RoseFor, IsFree}
 use Rattle.tool_spec.specs.BlkScripts.{blk_ran}
-use Rattle.tool_spec.specs.BlkAnswers.{blk_lines, blk_end, AllDone, StoppedFor, StoppedUnput, LinesAnswers, LinesOrStopAnswers, BlkAnswers}
+use Rattle.tool_spec.specs.BlkAnswers.{blk_lines, blk_end, BlkStop, AllDone, StoppedFor, StoppedUnput, LinesAnswers, LinesOrStopAnswers, BlkAnswers}
 use Rattle.tool_spec.specs.declared.Stop.{Stop}
 use Rattle.tool_spec.specs.declared.Cause.{Cause}
 use Rattle.tool_spec.specs.declared.Stop.TheVariants.{Memory, Usage, Param, Layout, NoSharedZone, Short, ScriptFault, ImageFault, SinkFault, TooLong, BadLine, Refused}
 use Rattle.tool_frame.specs.Ends.{LastPut, Finished}
-use Rattle.tool_frame.specs.Ended.{Caused, StoppedAt, LinesEnded, LinesOrStopEnded, KeptBefore, BlkEnds}
+use Rattle.tool_frame.specs.Ended.{Caused, StoppedAt, LinesEnded, LinesOrStopEnded, UnreadAt, KeptBefore, BlkEnds}
 use Rattle.tool_frame.proofs.Answered.{GoesOn, rose_on, sink_rose, answers, appends_on}
-use Rattle.tool_frame.proofs.Tool.{status_is, script_read}
+use Rattle.tool_frame.proofs.Tool.{script_on, status_is, script_read}
+
+-- the status of an end, or 7
+abbrev IsStatus : End → Outside → Outside → ℕ → Type 0
+IsStatus e a b status = (status ≡ status_of e) ⊎ ((status ≡ 7) × RoseFor SinkFault a b)
+
+-- ---- an image that failed before the script was read
+
+module _ (a m b : Outside) (on : GoesOn a m b) (status : ℕ) where
+  not_six : (n : ℕ) → n ≢ 6 → (status ≡ n) ⊎ ((status ≡ 7) × RoseFor SinkFault a b) → status ≡ 6 → NoScript a b
+  not_six n other is six = elim is [
+    | inl k ↦ absurd (other (sym k ∙ six))
+    | inr k ↦ absurd (omega (arith, k.0, six))
+  ]
+
+  unread_at : (e : End) → UnreadAt a m e → IsStatus e a b status → status ≡ 6 → NoScript a b
+  unread_at (Err ImageFault) h is six = script_on a m b h on.script
+  unread_at (Ok u) h is six = not_six 0 (λ z. absurd (omega arith)) is six
+  unread_at (Err Memory) h is six = not_six 1 (λ z. absurd (omega arith)) is six
+  unread_at (Err Usage) h is six = not_six 2 (λ z. absurd (omega arith)) is six
+  unread_at (Err (Param x y)) h is six = not_six 3 (λ z. absurd (omega arith)) is six
+  unread_at (Err (Layout x)) h is six = not_six 3 (λ z. absurd (omega arith)) is six
+  unread_at (Err NoSharedZone) h is six = not_six 3 (λ z. absurd (omega arith)) is six
+  unread_at (Err (Short x y)) h is six = not_six 4 (λ z. absurd (omega arith)) is six
+  unread_at (Err ScriptFault) h is six = not_six 5 (λ z. absurd (omega arith)) is six
+  unread_at (Err SinkFault) h is six = not_six 7 (λ z. absurd (omega arith)) is six
+  unread_at (Err TooLong) h is six = not_six 8 (λ z. absurd (omega arith)) is six
+  unread_at (Err (BadLine x)) h is six = not_six 9 (λ z. absurd (omega arith)) is six
+  unread_at (Err (Refused x y)) h is six = not_six 10 (λ z. absurd (omega arith)) is six
 
 -- ---- good lines
 
@@ -28,12 +56,30 @@ module _ (layout : BlkLayout) (bytes : List ℕ) (a m b : Outside) (on : GoesOn 
     all_done : b.given ≡ m.given → AllDone layout bytes lines a.given m.given m.holds → AllDone layout bytes lines a.given b.given b.holds
     all_done told d = record { none = d.none; texts = rw told d.texts; holds = on.image.holds ∙ d.holds }
 
+    -- the last line leaves the script and the store
+    stop_on : (s : Stop) (text : Text) → BlkStop s layout bytes lines text a m → BlkStop s layout bytes lines text a b
+    stop_on ImageFault text h = elim h [
+      | inl k ↦ inl (script_on a m b k.0 on.script, rw on.image.holds k.1)
+      | inr k ↦ inr (rw on.image.holds k)
+    ]
+    stop_on Memory text h = rw on.image.holds h
+    stop_on ScriptFault text h = rw on.image.holds h
+    stop_on SinkFault text h = rw on.image.holds h
+    stop_on (Refused n cause) text h = rw on.image.holds h
+    stop_on Usage text h = absurd h
+    stop_on (Param x y) text h = absurd h
+    stop_on (Layout x) text h = absurd h
+    stop_on NoSharedZone text h = absurd h
+    stop_on (Short x y) text h = absurd h
+    stop_on TooLong text h = absurd h
+    stop_on (BadLine x) text h = absurd h
+
     -- a last line after lines that stopped
     put_last : (s : Stop) → StoppedAt s layout bytes lines a m → Appends m.given b.given (last_line s)
         → StoppedFor s layout bytes lines a b
     put_last s k put = record {
       text = k.text;
-      stops = rw on.image.holds k.stops;
+      stops = stop_on s k.text k.stops;
       put = appends_on a.given m.given b.given k.text (last_line s) k.put put;
     }
 
@@ -44,7 +90,7 @@ module _ (layout : BlkLayout) (bytes : List ℕ) (a m b : Outside) (on : GoesOn 
           stop = s;
           rose = rose;
           text = k.text;
-          stops = rw on.image.holds k.stops;
+          stops = stop_on s k.text k.stops;
           part = put.count;
           put = appends_on a.given m.given b.given k.text (take put.count (last_line s)) k.put put.bytes;
         }
@@ -55,7 +101,7 @@ module _ (layout : BlkLayout) (bytes : List ℕ) (a m b : Outside) (on : GoesOn 
       stop = SinkFault;
       rose = rose;
       text = k.text;
-      stops = rw on.image.holds k.stops;
+      stops = stop_on SinkFault k.text k.stops;
       part = 0;
       put = rw (told, append-nil k.text) k.put;
     }
@@ -168,13 +214,10 @@ module _ (layout : BlkLayout) (bytes : List ℕ) (a m b : Outside) (on : GoesOn 
   lines_or_stop : (r : Result (List Line) Stop) (e : End) → Caused a m e → LinesOrStopEnded layout bytes r a m e
       → Finished e m.given b.given m.sink_faults b.sink_faults status → LinesOrStopAnswers layout bytes r a b status
   lines_or_stop (Ok lines) e c h f = lines_answers lines e c h f
-  lines_or_stop (Err s) e c h f = answers a m b on (stops s) status e c h f
+  lines_or_stop (Err s) e c h f =
+      (answers a m b on (stops s) status e c h.0 f, unread_at a m b on status e h.1 (status_is a m b on status e c f))
 
 -- ---- the store that no line has reached
-
--- the status of an end, or 7
-abbrev IsStatus : End → Outside → Outside → ℕ → Type 0
-IsStatus e a b status = (status ≡ status_of e) ⊎ ((status ≡ 7) × RoseFor SinkFault a b)
 
 module _ (a m b : Outside) (status : ℕ) where
   -- the store is as it was on a status that no line has

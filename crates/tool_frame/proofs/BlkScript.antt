@@ -44,17 +44,17 @@ memory_lines layout bytes (Ok lines) a b q t = record {
   stops = record { count = 0; texts = refl; holds = q.holds ∙ t };
   put = put_nothing a b q;
 }
-memory_lines layout bytes (Err s) a b q t = quiet_memory (stops s) a b q
+memory_lines layout bytes (Err s) a b q t = (quiet_memory (stops s) a b q, tt)
 
 -- a fault of the store
-image_lines : (layout : BlkLayout) (bytes : List ℕ) (r : Result (List Line) Stop) (a b : Outside) → Quiet a b
-    → a.holds ≡ Some bytes → LinesOrStopEnded layout bytes r a b (Err ImageFault)
-image_lines layout bytes (Ok lines) a b q t = record {
+image_lines : (layout : BlkLayout) (bytes : List ℕ) (r : Result (List Line) Stop) (a b : Outside) → NoScript a b
+    → Quiet a b → a.holds ≡ Some bytes → LinesOrStopEnded layout bytes r a b (Err ImageFault)
+image_lines layout bytes (Ok lines) a b none q t = record {
   text = [];
-  stops = inl (record { texts = refl; holds = q.holds ∙ t });
+  stops = inl (none, record { texts = refl; holds = q.holds ∙ t });
   put = put_nothing a b q;
 }
-image_lines layout bytes (Err s) a b q t = inl (q.given, q.holds)
+image_lines layout bytes (Err s) a b none q t = (inl (q.given, q.holds), none)
 
 -- a fault of the script
 script_lines : (layout : BlkLayout) (bytes : List ℕ) (r : Result (List Line) Stop) (a b : Outside) → Quiet a b
@@ -64,7 +64,7 @@ script_lines layout bytes (Ok lines) a b q t = record {
   stops = record { texts = refl; holds = q.holds ∙ t };
   put = put_nothing a b q;
 }
-script_lines layout bytes (Err s) a b q t = (q.given, q.holds)
+script_lines layout bytes (Err s) a b q t = ((q.given, q.holds), tt)
 
 lines_as : (layout : BlkLayout) (bytes : List ℕ) (r r' : Result (List Line) Stop) (a b : Outside) (e : End) → r ≡ r'
     → LinesOrStopEnded layout bytes r' a b e → LinesOrStopEnded layout bytes r a b e
@@ -80,7 +80,7 @@ stop_short layout a b has needed none q h = record {
         let few : length bytes < layout.total = rw size at h.1 in
         lines_as layout bytes (blk_lines layout bytes script) (Err (Short (length bytes) layout.total)) a b
         (Err (Short has needed)) (short_lines layout bytes script few)
-        (rw (size, h.0) refl, put_nothing a b q, q.holds);
+        ((rw (size, h.0) refl, put_nothing a b q, q.holds), tt);
   };
   read = unread_short layout.total a b has needed none q.given h;
   kept = q.holds;
@@ -96,7 +96,7 @@ size_stopped layout a b s f g none q h = load_stops (λ t. BlkEnds layout a b (E
       kept = tt;
     })
     (λ rose. record {
-      whole = record { told = λ bytes script t l. image_lines layout bytes (blk_lines layout bytes script) a b q t };
+      whole = record { told = λ bytes script t l. image_lines layout bytes (blk_lines layout bytes script) a b none q t };
       read = unread_fault layout.total a b none;
       kept = tt;
     })
@@ -118,7 +118,7 @@ module _ (layout : BlkLayout) (a b : Outside) (room : IfSome a.holds (λ bs. lay
           let long : script_limit < length script = rw s at h in
           lines_as layout bytes (blk_lines layout bytes script) (Err TooLong) a b (Err TooLong)
           (long_lines layout bytes script (room_of layout.total a.holds bytes room t) long)
-          (refl, put_nothing a b q, q.holds);
+          ((refl, put_nothing a b q, q.holds), tt);
     };
     read = read_long layout.total a b room q.given h;
     kept = q.holds;
@@ -147,7 +147,7 @@ module _ (layout : BlkLayout) (a b : Outside) (room : IfSome a.holds (λ bs. lay
     stop_bad n q h = record {
       whole = record {
         told = λ bytes script t s. lines_as layout bytes (blk_lines layout bytes script) (Err (BadLine n)) a b
-            (Err (BadLine n)) (lines_read bytes script (Err n) h t s) (refl, put_nothing a b q, q.holds);
+            (Err (BadLine n)) (lines_read bytes script (Err n) h t s) ((refl, put_nothing a b q, q.holds), tt);
       };
       read = read_bad layout.total a b room text read n h q.given;
       kept = q.holds;

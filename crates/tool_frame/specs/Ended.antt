@@ -147,17 +147,22 @@ pub record ShowEnds (plan : RamPlan) (a b : Outside) (e : End) : Type 0 where
 pub record StoppedAt (stop : Stop) (layout : BlkLayout) (bytes : List ℕ) (lines : List Line)
     (a b : Outside) : Type 0 where
   pub text : Text
-  pub stops : BlkStop stop layout bytes lines text b.holds
+  pub stops : BlkStop stop layout bytes lines text a b
   pub put : Appends a.given b.given text
 
 abbrev pub LinesEnded : BlkLayout → List ℕ → List Line → Outside → Outside → End → Type 0
 LinesEnded layout bytes lines a b (Ok u) = AllDone layout bytes lines a.given b.given b.holds
 LinesEnded layout bytes lines a b (Err stop) = StoppedAt stop layout bytes lines a b
 
+-- the image failed before the script was read
+abbrev pub UnreadAt : Outside → Outside → End → Type 0
+UnreadAt a b (Err ImageFault) = NoScript a b
+UnreadAt a b e = ⊤
+
 -- the lines that are wanted, or what comes before the first
 abbrev pub LinesOrStopEnded : BlkLayout → List ℕ → Result (List Line) Stop → Outside → Outside → End → Type 0
 LinesOrStopEnded layout bytes (Ok lines) a b e = LinesEnded layout bytes lines a b e
-LinesOrStopEnded layout bytes (Err stop) a b e = Ended (stops stop) a b e
+LinesOrStopEnded layout bytes (Err stop) a b e = Ended (stops stop) a b e × UnreadAt a b e
 
 -- the ends that there are; the store stays, but where lines were begun
 abbrev pub KeptBefore : Option (List ℕ) → Option (List ℕ) → End → Type 0

@@ -4,6 +4,7 @@ use Rattle.std.specs.Io.KnownBytes.{Appends}
 use Rattle.box_io.specs.Outside.{Rose}
 use Rattle.zone_spec.specs.declared.Zone.{Zone}
 use Rattle.session_spec.specs.States.{Session}
+use Rattle.grammar_spec.specs.Fields.{Text}
 use Rattle.grammar_spec.specs.declared.line.Line.{Line}
 use Rattle.tool_spec.specs.Ends.{End}
 use Rattle.tool_spec.specs.Scripts.{Kernel, ran}
@@ -12,6 +13,11 @@ use Rattle.tool_spec.specs.Answers.{whole}
 use Rattle.tool_frame.specs.Ended.{PutTexts, PutSome}
 use Rattle.tool_spec.specs.declared.Stop.{Stop}
 use Rattle.tool_spec.specs.declared.Stop.TheVariants.{Memory, ImageFault, SinkFault, Refused}
+
+-- some text was put
+pub record PutsText (old new : Option (List ℕ)) : Type 0 where
+  pub text : Text
+  pub put : Appends old new text
 
 -- a script whose lines were all done
 pub record Played (layout : List Zone) (image : List ℕ) (lines : List Line) (session : Session)

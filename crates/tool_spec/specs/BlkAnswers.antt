@@ -8,8 +8,8 @@ use Rattle.grammar_spec.specs.Lines.{script_of}
 use Rattle.grammar_spec.specs.declared.line.Line.{Line}
 use Rattle.tool_spec.specs.Ends.{End, status_of, last_line}
 use Rattle.tool_spec.specs.Commands.{script_end, script_limit, stops}
-use Rattle.tool_spec.specs.Answers.{Outside, IfTold, RoseFor, front, whole, IsFree, Answers, ScriptRead}
-use Rattle.tool_spec.specs.BlkScripts.{BlkRan, blk_ran, line_writes}
+use Rattle.tool_spec.specs.Answers.{Outside, IfTold, NoScript, RoseFor, front, whole, IsFree, Answers, ScriptRead}
+use Rattle.tool_spec.specs.BlkScripts.{BlkRan, blk_ran, line_writes, NeedsStore}
 use Rattle.tool_spec.specs.declared.Stop.{Stop}
 use Rattle.tool_spec.specs.declared.Stop.TheVariants.{Memory, Short, ScriptFault, ImageFault, SinkFault, TooLong, BadLine, Refused}
 
@@ -45,13 +45,15 @@ pub record StopsBefore (bytes : List ℕ) (text : Text) (now : Option (List ℕ)
   pub texts : text ≡ []
   pub holds : now ≡ Some bytes
 
--- some first lines were done, and of the next, which is not refused, the store has some first bytes of what it writes
+-- some first lines were done, and of the next, which is not refused and needs the store, that has some first bytes of
+-- what the line writes
 pub record StopsWriting (layout : BlkLayout) (bytes : List ℕ) (lines : List Line) (text : Text)
     (now : Option (List ℕ)) : Type 0 where
   pub count : ℕ
   pub line : Line
   pub next : slice_get lines count ≡ Some line
   pub wanted : count < length (blk_ran layout bytes lines).texts
+  pub needs : NeedsStore layout (blk_ran layout bytes (take count lines)).session.blk line
   pub texts : text ≡ front (blk_ran layout bytes lines).texts count
   pub kept : ℕ
   pub within : kept ≤ bytes_in (line_writes layout (blk_ran layout bytes (take count lines)).session.blk line)
@@ -84,12 +86,13 @@ LinesStop SinkFault layout bytes lines text now = StopsPutting layout bytes line
 LinesStop (Refused n cause) layout bytes lines text now = StopsRefused layout bytes lines (Refused n cause) text now
 LinesStop other layout bytes lines text now = ⊥
 
--- and good lines on a store with room, begun or not
-abbrev pub BlkStop : Stop → BlkLayout → List ℕ → List Line → Text → Option (List ℕ) → Type 0
-BlkStop ScriptFault layout bytes lines text now = StopsBefore bytes text now
-BlkStop ImageFault layout bytes lines text now =
-    StopsBefore bytes text now ⊎ LinesStop ImageFault layout bytes lines text now
-BlkStop other layout bytes lines text now = LinesStop other layout bytes lines text now
+-- and good lines on a store with room, begun or not; before the first line the image fails only before the script is
+-- read
+abbrev pub BlkStop : Stop → BlkLayout → List ℕ → List Line → Text → Outside → Outside → Type 0
+BlkStop ScriptFault layout bytes lines text a b = StopsBefore bytes text b.holds
+BlkStop ImageFault layout bytes lines text a b =
+    (NoScript a b × StopsBefore bytes text b.holds) ⊎ LinesStop ImageFault layout bytes lines text b.holds
+BlkStop other layout bytes lines text a b = LinesStop other layout bytes lines text b.holds
 
 -- all lines were done: their texts were put, and the store holds what they leave
 pub record AllDone (layout : BlkLayout) (bytes : List ℕ) (lines : List Line) (old new now : Option (List ℕ))
@@ -117,7 +120,7 @@ LinesEnd (Err stop) layout bytes lines old new now = StopsAt stop layout bytes l
 pub record StoppedFor (stop : Stop) (layout : BlkLayout) (bytes : List ℕ) (lines : List Line)
     (a b : Outside) : Type 0 where
   pub text : Text
-  pub stops : BlkStop stop layout bytes lines text b.holds
+  pub stops : BlkStop stop layout bytes lines text a b
   pub put : Appends a.given b.given (text ++ last_line stop)
 
 -- lines stopped for some cause, and only a part of the last line was put; if the text of a line was put in part, there
@@ -126,7 +129,7 @@ pub record StoppedUnput (layout : BlkLayout) (bytes : List ℕ) (lines : List Li
   pub stop : Stop
   pub rose : RoseFor stop a b
   pub text : Text
-  pub stops : BlkStop stop layout bytes lines text b.holds
+  pub stops : BlkStop stop layout bytes lines text a b
   pub part : ℕ
   pub put : Appends a.given b.given (text ++ take part (last_line stop))
 
@@ -143,10 +146,11 @@ pub record LinesAnswers (layout : BlkLayout) (bytes : List ℕ) (lines : List Li
   pub image_fault : status ≡ 6 → StoppedFor ImageFault layout bytes lines a b
   pub sink_fault : status ≡ 7 → StoppedUnput layout bytes lines a b
 
--- these lines, or what comes before the first
+-- these lines, or what comes before the first; then the image fails only before the script is read
 abbrev pub LinesOrStopAnswers : BlkLayout → List ℕ → Result (List Line) Stop → Outside → Outside → ℕ → Type 0
 LinesOrStopAnswers layout bytes (Ok lines) a b status = LinesAnswers layout bytes lines a b status
-LinesOrStopAnswers layout bytes (Err stop) a b status = Answers (stops stop) a b status
+LinesOrStopAnswers layout bytes (Err stop) a b status =
+    Answers (stops stop) a b status × (status ≡ 6 → NoScript a b)
 
 -- a script on the block store
 pub record BlkAnswers (layout : BlkLayout) (a b : Outside) (status : ℕ) : Type 0 where

@@ -1,5 +1,5 @@
 -- What the lines of a script do and put on the block store
-use Rattle.std.specs.Prelude.{ℕ, ◌+◌, ◌==◌, if◌then◌else◌, List, [], ◌∷◌, ◌++◌, length, drop, flat_map, fold, codes, decimal, bytes_eq, Option, Some, None, Result, Ok, Err}
+use Rattle.std.specs.Prelude.{◌≡◌, ◌⊎◌, ℕ, ◌+◌, ◌<◌, ◌==◌, if◌then◌else◌, List, [], ◌∷◌, ◌++◌, length, drop, flat_map, fold, codes, decimal, bytes_eq, Option, Some, None, Result, Ok, Err}
 use Rattle.std.specs.List.{find}
 use Rattle.zone_spec.specs.declared.Kind.{Kind}
 use Rattle.zone_spec.specs.declared.Kind.TheVariants.{Console as ConsoleZone, Pmsg as PmsgZone}
@@ -11,7 +11,7 @@ use Rattle.blk_spec.specs.declared.BlkName.{BlkName}
 use Rattle.blk_spec.specs.declared.BlkName.TheVariants.{Dump as DumpName}
 use Rattle.blk_spec.specs.declared.Reason.{Reason}
 use Rattle.blk_spec.specs.declared.Reason.TheVariants.{Panic, Oops, Emergency, Shutdown}
-use Rattle.blk_spec.specs.Writes.{Write as StoreWrite, reaching}
+use Rattle.blk_spec.specs.Writes.{Write as StoreWrite, bytes_in, reaching}
 use Rattle.blk_spec.specs.Names.{name_text}
 use Rattle.blk_spec.specs.States.{BlkState, load_writes, append_of, dump_of, erase_of, names_of, content_of, time_of}
 use Rattle.blk_spec.specs.Session.{Session, Operation, Load, Append, AppendElsewhere, Dump as DumpNow, CutAfter as CutNow, ListAll, Extract as ExtractRecord, Erase as EraseRecord, Cause as SessionCause, IsOff as IsOffThere, NoZone as NoZoneThere, NoRecord as NoRecordThere, cause_of, session_after, begun}
@@ -160,6 +160,10 @@ writes_if layout blk (Some operation) = writes_by layout blk operation
 
 abbrev pub line_writes : BlkLayout → Option BlkState → Line → List StoreWrite
 line_writes layout blk line = writes_if layout blk (operation_of blk line)
+
+-- a line needs the store if it loads it, which reads it too, or if some byte of its writes reaches it
+abbrev pub NeedsStore : BlkLayout → Option BlkState → Line → Type 0
+NeedsStore layout blk line = (line ≡ Boot) ⊎ (0 < bytes_in (line_writes layout blk line))
 
 -- ---- all lines
 

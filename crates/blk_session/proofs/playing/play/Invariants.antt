@@ -1,11 +1,12 @@
 use Rattle.std.proofs.Common.{◌≡◌}
 use Rattle.std.specs.Prelude.{IfSome}
 use Rattle.blk_spec.specs.Answers.{HasRoom}
+use Rattle.tool_frame.specs.Playing.{PutsText}
 use Rattle.blk_session.specs.Playing.{seen, Later}
 use Rattle.blk_session.proofs.ScriptLines.{PlaysSoFar}
 use Rattle.blk_session.proofs.playing.play.Given as goal
 
--- what is loaded has the layout, the store has its room, and the first lines were done
+-- what is loaded has the layout, the store has its room, some text was put, and the first lines were done
 abbrev pub invariant-loop-i : goal.invariant-loop-i
 invariant-loop-i g l =
     let a = seen (g.S.Store.holds l.initial.store) (g.S.Store.faults l.initial.store) (g.O.Sink.given l.initial.out)
@@ -15,5 +16,6 @@ invariant-loop-i g l =
       loaded : IfSome l.blk (λ b. b.layout ≡ l.layout);
       room : HasRoom l.layout.total (g.S.Store.holds l.store);
       later : Later a b;
+      put : PutsText a.given b.given;
       played : PlaysSoFar l.layout l.lines l.i l.blk a b;
     }
