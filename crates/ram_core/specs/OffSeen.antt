@@ -47,12 +47,12 @@ pub record StandsOff (layout : List Zone) (mem : ℕ) (v : OffSeen) (s : OffStat
 abbrev pub unknown : KnownZone
 unknown = record { told = None; cut = None }
 
--- what is known of a zone, or nothing
+-- a zone of which this is known, or nothing
 abbrev pub known_or : Option KnownZone → KnownZone
 known_or None = unknown
 known_or (Some known) = known
 
--- what is known of so many zones, of which those behind the list are unknown
+-- what is known of so many zones: those after the end of the list are unknown
 unfoldable pub known_all : ℕ → List KnownZone → List KnownZone
 known_all count known = known ++ replicate (count - length known) unknown
 

@@ -107,7 +107,7 @@ impl KnownZone {
     }
 }
 
-// Lists so many zones, where there is room for them. Of those behind the end of the list nothing is known.
+// Lists so many zones, for which there is room. Nothing is known of those that it adds.
 fn list_all(known: &mut Vec<KnownZone>, count: usize)
     requires within { length known.old.items ≤ count }
     requires room { count ≤ vec_capacity known.old }
@@ -121,7 +121,7 @@ fn list_all(known: &mut Vec<KnownZone>, count: usize)
     }
 }
 
-// What is known of all zones, each of which is listed, after a boot that passed them so, and would keep these lists.
+// What is known of all zones after a boot that passed them so, and would keep these lists. All zones are listed.
 fn pass_all(known: &mut [KnownZone], held: Vec<HeldZone>, passed: &[Passed], is_whole: bool)
     requires held { length held.items ≡ length known.old }
     requires passed { length passed.now ≡ length known.old }

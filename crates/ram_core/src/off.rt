@@ -37,7 +37,7 @@ pub struct Off {
     pub(crate) alloc: Global,
     pub(crate) layout: Layout,
     pub(crate) image: Bytes,
-    // Of the zones behind the end of the list nothing is known.
+    // May end before the zones do: nothing is known of the zones after it.
     pub(crate) zones: Vec<KnownZone>,
 }
 
@@ -106,7 +106,7 @@ impl OpenOff {
         read_logs(self.alloc, &self.layout, &self.spans)
     }
 
-    // All that a boot reads and takes before its first store, with room for what is known of each zone after it.
+    // All that a boot reads and takes before its first store, with room to list all zones.
     fn prepare(&mut self) -> Result<Prepared, AllocError>
         requires spans { SpansFit (zones_of self.old.layout) self.old.spans.spans }
         requires known { length self.old.zones.items ≤ length (zones_of self.old.layout) }
@@ -134,8 +134,8 @@ impl OpenOff {
         Ok((prepared, passed))
     }
 
-    // The machine after a boot that has made all its stores. What was known of the zones leaves its room to what the
-    // next stop tells of them.
+    // The machine after a boot that has made all its stores. The next stop lists the zones in the room of what was known
+    // of them.
     fn live(self, zones: Vec<HeldZone>, coders: Coders) -> Live
         requires running { IsRunning (seen_booted self zones.items) }
         requires room { length (zones_of self.layout) ≤ vec_capacity self.zones }
