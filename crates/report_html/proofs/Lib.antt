@@ -1,3 +1,7 @@
 pub mod Texts
-pub mod Pushed
 pub mod Runs
+pub mod Rendered
+pub mod Counted
+pub mod Joined
+pub mod Blocks
+pub mod Drawn

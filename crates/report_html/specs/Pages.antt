@@ -1,15 +1,52 @@
 -- The page of a report
-use Rattle.std.specs.Prelude.{◌≡◌, ℕ, List, ◌∷◌, map, flat_map}
+use Rattle.std.specs.Prelude.{ℕ, if◌then◌else◌, List, [], ◌∷◌, ◌++◌, length, flat_map, codes, Option, Some, None}
+use Rattle.zone_spec.specs.declared.Name.{Name}
+use Rattle.zone_spec.specs.declared.Name.TheVariants.{Dump, Console, Pmsg, Ftrace}
+use Rattle.zone_spec.specs.declared.Time.{Time}
+use Rattle.zone_spec.specs.declared.Zone.{Zone}
 use Rattle.report_spec.specs.Records.{RecordHeld}
-use Rattle.report_html.specs.declared.pieces.Piece.{Piece}
-use Rattle.report_html.specs.Pieces.{piece_text, foreigns}
+use Rattle.record_report.specs.Reports.{ReportHeld}
+use Rattle.report_html.specs.declared.page.TheConstants.{HEAD}
+use Rattle.report_html.specs.Pieces.{Part, Words, Count, Bytes, parts_text}
+use Rattle.report_html.specs.Pictures.{picture}
 
--- the contents of records
-abbrev pub contents : List RecordHeld → List (List ℕ)
-contents records = map (λ (r : RecordHeld). r.content) records
+abbrev pub name_parts : Name → List Part
+name_parts (Dump index packed) =
+    Words (codes "dmesg-ramoops-") ∷ Count index ∷ Words (if packed then codes ".enc.z" else []) ∷ []
+name_parts Console = Words (codes "console-ramoops-0") ∷ []
+name_parts Pmsg = Words (codes "pmsg-ramoops-0") ∷ []
+name_parts Ftrace = Words (codes "ftrace-ramoops-0") ∷ []
 
--- a page's bytes are pieces, of which the title and the contents of the records, in order, are the foreign ones
-pub record IsPage (title : List ℕ) (records : List RecordHeld) (page : List ℕ) : Type 0 where
-  pub pieces : List Piece
-  pub text : page ≡ flat_map piece_text pieces
-  pub foreign : foreigns pieces ≡ title ∷ contents records
+abbrev pub seconds_parts : Time → List Part
+seconds_parts time = Words (codes ", ") ∷ Count time.secs ∷ Words (codes " seconds since 1970") ∷ []
+
+abbrev pub time_parts : Option Time → List Part
+time_parts None = []
+time_parts (Some time) = seconds_parts time
+
+abbrev pub length_parts : ℕ → List Part
+length_parts bytes = Words (codes ", bytes: ") ∷ Count bytes ∷ []
+
+abbrev pub content_parts : List ℕ → List Part
+content_parts content =
+    Words (codes "</summary><pre>\n") ∷ Bytes content ∷ Words (codes "</pre></details>\n") ∷ []
+
+-- a record to fold out: its name, length and time, and its content
+abbrev pub record_parts : RecordHeld → List Part
+record_parts r =
+    Words (codes "<details><summary>") ∷ [] ++ name_parts r.name ++ length_parts (length r.content)
+    ++ time_parts r.time ++ content_parts r.content
+
+-- a head with the style, and the title
+abbrev pub heading_parts : List ℕ → List Part
+heading_parts title = Words HEAD.now ∷ Bytes title ∷ Words (codes "</h1>\n") ∷ []
+
+-- the heading, the picture of the zones, and the records
+abbrev pub page_parts : List ℕ → List Zone → ReportHeld → List Part
+page_parts title zones report =
+    heading_parts title ++ picture zones report ++ flat_map record_parts report.records
+    ++ Words (codes "</body>\n</html>\n") ∷ []
+
+-- the page under this title of the report of these zones
+unfoldable pub page_of : List ℕ → List Zone → ReportHeld → List ℕ
+page_of title zones report = parts_text (page_parts title zones report)

@@ -1,20 +1,32 @@
--- The pieces of a page
-use Rattle.std.specs.Prelude.{ℕ, List, [], ◌∷◌, flat_map, decimal}
+-- The parts of a page
+use Rattle.std.specs.Prelude.{ℕ, List, map, flat_map, decimal}
 use Rattle.report_spec.specs.Escaped.{escaped}
 use Rattle.report_html.specs.declared.pieces.Piece.{Piece}
 use Rattle.report_html.specs.declared.pieces.Piece.TheVariants.{Own, Number, Foreign}
 
--- own text as it is, a number in decimal, foreign bytes escaped
+-- a part of a page: its own words; a number in decimal; or foreign bytes, which are escaped
+pub data Part : Type 0 where
+  Words : (text : List ℕ) → Part
+  Count : (n : ℕ) → Part
+  Bytes : (bytes : List ℕ) → Part
+
+abbrev pub part_text : Part → List ℕ
+part_text (Words text) = text
+part_text (Count n) = decimal n
+part_text (Bytes bytes) = escaped bytes
+
+-- the text of parts, end to end
+abbrev pub parts_text : List Part → List ℕ
+parts_text parts = flat_map part_text parts
+
+-- the part of a page that a piece is
+abbrev pub part_of : Piece → Part
+part_of (Own text) = Words text.now
+part_of (Number n) = Count n
+part_of (Foreign bytes) = Bytes bytes.now
+
+abbrev pub parts : List Piece → List Part
+parts pieces = map part_of pieces
+
 abbrev pub piece_text : Piece → List ℕ
-piece_text (Own text) = text.now
-piece_text (Number n) = decimal n
-piece_text (Foreign bytes) = escaped bytes.now
-
-abbrev pub foreign_of : Piece → List (List ℕ)
-foreign_of (Own text) = []
-foreign_of (Number n) = []
-foreign_of (Foreign bytes) = bytes.now ∷ []
-
--- the foreign bytes of the pieces, in order
-unfoldable pub foreigns : List Piece → List (List ℕ)
-foreigns pieces = flat_map foreign_of pieces
+piece_text piece = part_text (part_of piece)

@@ -1,9 +1,18 @@
-// What escaped bytes are.
-ghost use Rattle.std.specs.Prelude.{ℕ, List};
+// What escaped bytes are, and a worked picture.
+ghost use Rattle.std.specs.Prelude.{◌≡◌, ℕ, List, [], ◌∷◌};
 ghost use Rattle.zone_spec.specs.Parts.{AreBytes};
 ghost use Rattle.report_spec.specs.Escaped.{IsText, escaped};
+ghost use Rattle.report_spec.specs.declared.PartState.TheVariants.{Read, Bad};
+ghost use Rattle.report_html.specs.Pictures.{runs};
 
 /// Escaped bytes are text: no markup of a page comes from them, whatever they are, and each of them is visible.
 pub fn escaped_is_text()
     ensures { (bytes : List ℕ) → AreBytes bytes → IsText (escaped bytes) }
+{}
+
+/// Six blocks, of which two neighbours are clean and two bad, make four runs.
+pub fn six_blocks_make_four_runs()
+    ensures { runs 0 (Read 0 ∷ Read 0 ∷ Read 2 ∷ Read 1 ∷ Bad ∷ Bad ∷ [])
+        ≡ record { from = 0; to = 2; state = Read 0 } ∷ record { from = 2; to = 3; state = Read 2 }
+        ∷ record { from = 3; to = 4; state = Read 1 } ∷ record { from = 4; to = 6; state = Bad } ∷ [] }
 {}

@@ -12,6 +12,6 @@ mod picture;
 mod pieces;
 
 pub use escaping::push_escaped;
-pub use laws::escaped_is_text;
+pub use laws::{escaped_is_text, six_blocks_make_four_runs};
 pub use page::html;
 pub use pieces::{Piece, render};

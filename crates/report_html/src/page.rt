@@ -1,14 +1,13 @@
 // The page.
-ghost use Rattle.std.specs.Prelude.{◌≡◌, ◌++◌, [], ◌∷◌, List, ℕ, IfOk, OnOk};
+ghost use Rattle.std.specs.Prelude.{◌≡◌, ◌++◌, List, ℕ, flat_map, IfOk, OnOk};
 ghost use Rattle.zone_spec.specs.Parts.{AreBytes};
 ghost use Rattle.report_spec.specs.Escaped.{IsText, escaped};
-ghost use Rattle.report_html.specs.Pieces.{foreigns};
-ghost use Rattle.report_html.specs.Pages.{contents, IsPage};
+ghost use Rattle.report_html.specs.Pieces.{parts};
+ghost use Rattle.report_html.specs.Pages.{name_parts, seconds_parts, time_parts, length_parts, content_parts, record_parts, heading_parts, page_parts, page_of};
 
 use crate::laws::escaped_is_text;
-use crate::picture::{state_text, zone};
-use crate::pieces::{Piece, field, foreign, own, render};
-use old_log::Logs;
+use crate::picture::add_picture;
+use crate::pieces::{Piece, add, render};
 use record_report::{RecordReport, Report};
 use std::alloc::{AllocError, Global};
 use zone_spec::{Name, Time, Zone};
@@ -28,56 +27,83 @@ svg { width: 100%; height: 120px; }\nrect { stroke: var(--bg); vector-effect: no
 .unused, .empty, .unsigned { fill: var(--unused); color: var(--unused); }\n\
 pre { white-space: pre-wrap; overflow-wrap: anywhere; }\n</style>\n</head>\n<body>\n<h1>";
 
-const LEGEND: &str = "</svg>\n<p>The zones, and below them their blocks: \
-<span class=\"clean\">&#9632;</span> found or clean, \
-<span class=\"corrected\">&#9632;</span> corrected, <span class=\"bad\">&#9632;</span> invalid or bad, \
-<span class=\"unused\">&#9632;</span> empty, unsigned or unused.</p>\n";
-
 /// Adds what names a record.
-fn record_name(pieces: &mut Vec<Piece<'_>>, name: Name) -> Result<(), AllocError>
-    ensures { OnOk result (foreigns pieces.new.items ≡ foreigns pieces.old.items) }
+fn add_name(pieces: &mut Vec<Piece<'_>>, name: Name) -> Result<(), AllocError>
+    ensures { OnOk result (parts pieces.new.items ≡ parts pieces.old.items ++ name_parts name) }
 {
     match name {
-        Name::Dump { index, packed } => {
-            field(pieces, "dmesg-ramoops-", u64::from(index))?;
-            own(pieces, if packed { ".enc.z" } else { "" })
-        }
-        Name::Console => own(pieces, "console-ramoops-0"),
-        Name::Pmsg => own(pieces, "pmsg-ramoops-0"),
-        Name::Ftrace => own(pieces, "ftrace-ramoops-0"),
+        Name::Dump { index, packed } => add(
+            pieces,
+            &[
+                Piece::Own("dmesg-ramoops-"),
+                Piece::Number(u64::from(index)),
+                Piece::Own(if packed { ".enc.z" } else { "" }),
+            ],
+        ),
+        Name::Console => add(pieces, &[Piece::Own("console-ramoops-0")]),
+        Name::Pmsg => add(pieces, &[Piece::Own("pmsg-ramoops-0")]),
+        Name::Ftrace => add(pieces, &[Piece::Own("ftrace-ramoops-0")]),
     }
 }
 
-fn record_time(pieces: &mut Vec<Piece<'_>>, time: Option<Time>) -> Result<(), AllocError>
-    ensures { OnOk result (foreigns pieces.new.items ≡ foreigns pieces.old.items) }
+fn add_seconds(pieces: &mut Vec<Piece<'_>>, time: Time) -> Result<(), AllocError>
+    ensures { OnOk result (parts pieces.new.items ≡ parts pieces.old.items ++ seconds_parts time) }
+{
+    add(
+        pieces,
+        &[
+            Piece::Own(", "),
+            Piece::Number(time.secs),
+            Piece::Own(" seconds since 1970"),
+        ],
+    )
+}
+
+fn add_time(pieces: &mut Vec<Piece<'_>>, time: Option<Time>) -> Result<(), AllocError>
+    ensures { OnOk result (parts pieces.new.items ≡ parts pieces.old.items ++ time_parts time) }
 {
     match time {
-        Some(time) => {
-            field(pieces, ", ", time.secs)?;
-            own(pieces, " seconds since 1970")
-        }
+        Some(time) => add_seconds(pieces, time),
         None => Ok(()),
     }
 }
 
+fn add_length(pieces: &mut Vec<Piece<'_>>, bytes: u64) -> Result<(), AllocError>
+    ensures { OnOk result (parts pieces.new.items ≡ parts pieces.old.items ++ length_parts bytes) }
+{
+    add(pieces, &[Piece::Own(", bytes: "), Piece::Number(bytes)])
+}
+
+fn add_content<'a>(pieces: &mut Vec<Piece<'a>>, content: &'a [u8]) -> Result<(), AllocError>
+    ensures { OnOk result (parts pieces.new.items ≡ parts pieces.old.items ++ content_parts content.entry.now) }
+{
+    add(
+        pieces,
+        &[
+            Piece::Own("</summary><pre>\n"),
+            Piece::Foreign(content),
+            Piece::Own("</pre></details>\n"),
+        ],
+    )
+}
+
 /// Adds a record.
 fn add_record<'a>(pieces: &mut Vec<Piece<'a>>, held: &'a RecordReport) -> Result<(), AllocError>
-    ensures { OnOk result (foreigns pieces.new.items ≡ foreigns pieces.old.items ++ held.entry.now.content ∷ []) }
+    ensures { OnOk result (parts pieces.new.items ≡ parts pieces.old.items ++ record_parts held.entry.now) }
 {
-    own(pieces, "<details><summary>")?;
-    record_name(pieces, held.name)?;
-    field(pieces, ", bytes: ", held.content.len() as u64)?;
-    record_time(pieces, held.time)?;
-    own(pieces, "</summary><pre>\n")?;
-    foreign(pieces, held.content.as_slice())?;
-    own(pieces, "</pre></details>\n")
+    add(pieces, &[Piece::Own("<details><summary>")])?;
+    add_name(pieces, held.name)?;
+    add_length(pieces, held.content.len() as u64)?;
+    add_time(pieces, held.time)?;
+    add_content(pieces, held.content.as_slice())?;
+    Ok(())
 }
 
 fn add_records<'a>(
     pieces: &mut Vec<Piece<'a>>,
     records: &'a [RecordReport],
 ) -> Result<(), AllocError>
-    ensures { OnOk result (foreigns pieces.new.items ≡ foreigns pieces.old.items ++ contents records.entry.now) }
+    ensures { OnOk result (parts pieces.new.items ≡ parts pieces.old.items ++ flat_map record_parts records.entry.now) }
 {
     for held in records {
         add_record(pieces, held)?;
@@ -85,70 +111,50 @@ fn add_records<'a>(
     Ok(())
 }
 
-/// What zone `i` was taken for.
-fn state_at(logs: &Logs, i: usize) -> &'static str {
-    if i >= logs.len() as usize {
-        return "";
-    }
-    match logs.reading(i as u32) {
-        Some(reading) => state_text(reading.state),
-        None => "",
-    }
-}
-
-/// The bytes up to the end of the last zone.
-fn width(zones: &[Zone]) -> u64 {
-    zones.last().map_or(0, |last| {
-        u64::from(last.at).saturating_add(u64::from(last.size))
-    })
-}
-
-fn add_picture(
-    pieces: &mut Vec<Piece<'_>>,
-    zones: &[Zone],
-    report: &Report,
-) -> Result<(), AllocError>
-    ensures { OnOk result (foreigns pieces.new.items ≡ foreigns pieces.old.items) }
+/// Adds a head with the style, and the title.
+fn add_heading<'a>(pieces: &mut Vec<Piece<'a>>, title: &'a [u8]) -> Result<(), AllocError>
+    ensures { OnOk result (parts pieces.new.items ≡ parts pieces.old.items ++ heading_parts title.entry.now) }
 {
-    field(pieces, "<svg viewBox=\"0 0 ", width(zones))?;
-    own(pieces, " 100\" preserveAspectRatio=\"none\">\n")?;
-    for (i, (own_zone, parts)) in zones.iter().zip(report.parts()).enumerate() {
-        zone(pieces, own_zone, state_at(report.logs(), i), parts)?;
-    }
-    own(pieces, LEGEND)
+    add(
+        pieces,
+        &[
+            Piece::Own(HEAD),
+            Piece::Foreign(title),
+            Piece::Own("</h1>\n"),
+        ],
+    )
 }
 
-/// The pieces of the page of a report. `title` is what the page is headed with, such as the image's path.
-fn page<'a>(
+/// The pieces of the page of a report.
+fn all_pieces<'a>(
     alloc: Global,
     title: &'a [u8],
     zones: &[Zone],
     report: &'a Report,
 ) -> Result<Vec<Piece<'a>>, AllocError>
-    ensures { IfOk result (λ pieces. foreigns pieces.items ≡ title.entry.now ∷ contents report.entry.now.records) }
+    ensures { IfOk result (λ pieces. parts pieces.items ≡ page_parts title.entry.now zones.now report.entry.now) }
 {
     let mut pieces = Vec::new(alloc);
-    own(&mut pieces, HEAD)?;
-    foreign(&mut pieces, title)?;
-    own(&mut pieces, "</h1>\n")?;
+    add_heading(&mut pieces, title)?;
     add_picture(&mut pieces, zones, report)?;
     add_records(&mut pieces, report.records())?;
-    own(&mut pieces, "</body>\n</html>\n")?;
+    add(&mut pieces, &[Piece::Own("</body>\n</html>\n")])?;
     Ok(pieces)
 }
 
-/// The page of the report of these zones, in ASCII. All bytes that come from the image or the title are escaped, and so
-/// make no markup.
+/// The page of the report of these zones, in ASCII. `title` is what it is headed with, such as the image's path. All
+/// bytes that come from the image or the title are escaped, and so make no markup.
 pub fn html(
     alloc: Global,
     title: &[u8],
     zones: &[Zone],
     report: &Report,
 ) -> Result<Vec<u8>, AllocError>
-    ensures page { IfOk result (λ text. IsPage title.now report.now.records text.items) }
+    ensures page { IfOk result (λ text. text.items ≡ page_of title.now zones.now report.now) }
     ensures no_markup { (bytes : List ℕ) → AreBytes bytes → IsText (escaped bytes) }
 {
     escaped_is_text();
-    let pieces = page(alloc, title, zones, report)?;
-    render(alloc, pieces.as_slice())
+    let pieces = all_pieces(alloc, title, zones, report)?;
+    let text = render(alloc, pieces.as_slice())?;
+    Ok(text)
 }

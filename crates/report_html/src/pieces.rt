@@ -1,6 +1,6 @@
 // The pieces of a page.
-ghost use Rattle.std.specs.Prelude.{◌≡◌, ◌++◌, [], ◌∷◌, flat_map, IfOk, OnOk};
-ghost use Rattle.report_html.specs.Pieces.{piece_text, foreigns};
+ghost use Rattle.std.specs.Prelude.{◌≡◌, ◌++◌, [], ◌∷◌, IfOk, OnOk};
+ghost use Rattle.report_html.specs.Pieces.{piece_text, parts, parts_text};
 
 use crate::escaping::push_escaped;
 use itoa::Buffer;
@@ -29,7 +29,7 @@ fn push_piece(out: &mut Vec<u8>, piece: Piece<'_>) -> Result<(), AllocError>
 
 /// The text of the pieces, end to end.
 pub fn render(alloc: Global, pieces: &[Piece<'_>]) -> Result<Vec<u8>, AllocError>
-    ensures { IfOk result (λ text. text.items ≡ flat_map piece_text pieces.now) }
+    ensures { IfOk result (λ text. text.items ≡ parts_text (parts pieces.now)) }
 {
     let mut out = Vec::new(alloc);
     for piece in pieces {
@@ -38,34 +38,9 @@ pub fn render(alloc: Global, pieces: &[Piece<'_>]) -> Result<Vec<u8>, AllocError
     Ok(out)
 }
 
-/// Adds own text.
-pub fn own(pieces: &mut Vec<Piece<'_>>, text: &'static str) -> Result<(), AllocError>
-    ensures { OnOk result (foreigns pieces.new.items ≡ foreigns pieces.old.items) }
+/// Adds pieces.
+pub fn add<'a>(pieces: &mut Vec<Piece<'a>>, more: &[Piece<'a>]) -> Result<(), AllocError>
+    ensures { OnOk result (parts pieces.new.items ≡ parts pieces.old.items ++ parts more.now) }
 {
-    pieces.push(Piece::Own(text))?;
-    Ok(())
-}
-
-/// Adds a number.
-pub fn number(pieces: &mut Vec<Piece<'_>>, n: u64) -> Result<(), AllocError>
-    ensures { OnOk result (foreigns pieces.new.items ≡ foreigns pieces.old.items) }
-{
-    pieces.push(Piece::Number(n))?;
-    Ok(())
-}
-
-/// Adds own text, and a number after it.
-pub fn field(pieces: &mut Vec<Piece<'_>>, text: &'static str, n: u64) -> Result<(), AllocError>
-    ensures { OnOk result (foreigns pieces.new.items ≡ foreigns pieces.old.items) }
-{
-    own(pieces, text)?;
-    number(pieces, n)
-}
-
-/// Adds foreign bytes.
-pub fn foreign<'a>(pieces: &mut Vec<Piece<'a>>, bytes: &'a [u8]) -> Result<(), AllocError>
-    ensures { OnOk result (foreigns pieces.new.items ≡ foreigns pieces.old.items ++ bytes.entry.now ∷ []) }
-{
-    pieces.push(Piece::Foreign(bytes))?;
-    Ok(())
+    pieces.extend_from_slice(more)
 }

@@ -5,7 +5,7 @@ use Rattle.report_spec.specs.Visible.{is_visible}
 use Rattle.record_report.specs.Reports.{ReportHeld}
 use Rattle.report_text.specs.Whole.{IsTextOf}
 use Rattle.report_json.specs.Schema.{IsLine}
-use Rattle.report_html.specs.Pages.{IsPage}
+use Rattle.report_html.specs.Pages.{page_of}
 use Rattle.report_tool.specs.declared.plan.Plan.{Plan}
 use Rattle.report_tool.specs.declared.showing.Format.{Format}
 use Rattle.report_tool.specs.declared.showing.Format.TheVariants.{Text, Json, Html}
@@ -30,4 +30,4 @@ pub record IsJsonLine (path : List ℕ) (plan : Plan) (report : ReportHeld) (tex
 abbrev pub Shows : Format → List ℕ → Plan → ReportHeld → List ℕ → Type 0
 Shows Text path plan report text = IsVisibleText path report text
 Shows Json path plan report text = IsJsonLine path plan report text
-Shows Html path plan report text = IsPage path report.records text
+Shows Html path plan report text = text ≡ page_of path plan.zones.items report

@@ -1,8 +1,10 @@
+-- The records so far
 use Rattle.std.proofs.Common.{◌≡◌, ◌++◌, take}
-use Rattle.report_html.specs.Pieces.{foreigns}
-use Rattle.report_html.specs.Pages.{contents}
+use Rattle.std.specs.Prelude.{flat_map}
+use Rattle.report_html.specs.Pieces.{parts}
+use Rattle.report_html.specs.Pages.{record_parts}
 use Rattle.report_html.proofs.page.add_records.Given as goal
 
 abbrev pub invariant-loop-held : goal.invariant-loop-held
-invariant-loop-held l = foreigns l.pieces.items
-    ≡ foreigns l.initial.pieces.items ++ contents (take l.held-index l.records)
+invariant-loop-held l = parts l.pieces.items
+    ≡ parts l.initial.pieces.items ++ flat_map record_parts (take l.held-index l.records)

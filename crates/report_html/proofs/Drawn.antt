@@ -1,0 +1,83 @@
+-- One zone more of the picture
+use Rattle.std.proofs.Common.{◌≡◌, ℕ, zero, suc, List, [], ◌∷◌, ◌++◌, length, ap, ap₂, sym, ◌∙◌, append-nil, arith, Some}
+use Rattle.std.specs.Prelude.{Option, slice_get, flat_map, min}
+use Rattle.std.specs.List.{zip}
+use Rattle.std.specs.Option.{option_map}
+use Rattle.zone_spec.specs.declared.Kind.TheVariants.{Dump}
+use Rattle.zone_spec.specs.declared.Zone.{Zone}
+use Rattle.zone_spec.specs.Reading.{ZoneReading}
+use Rattle.zone_spec.specs.Records.{Saved}
+use Rattle.report_spec.specs.declared.PartState.{PartState}
+use Rattle.report_spec.specs.Parts.{PartStates}
+use Rattle.std.proofs.lemmas.Slice.Zip.{length-zip}
+use Rattle.old_log.specs.Saving.{SavedLogs}
+use Rattle.old_log.proofs.Saves.{zip-at}
+use Rattle.report_html.specs.Pieces.{Part}
+use Rattle.report_html.proofs.Joined.{joined}
+use Rattle.report_html.specs.Pictures.{place_parts, read_words, runs, run_parts, unused_parts, zone_parts}
+
+-- ---- one zone
+
+pub zone-added : (z : Zone) (r : Option ZoneReading) (p : PartStates) (class : List ℕ) (blocks : List PartState)
+    (old mid next new : List Part) → class ≡ read_words r → blocks ≡ p.blocks → mid ≡ old ++ place_parts z class
+    → next ≡ mid ++ flat_map (run_parts z) (runs 0 blocks) → new ≡ next ++ unused_parts z (length blocks)
+    → new ≡ old ++ zone_parts ((z, r), p)
+zone-added z r p class blocks old mid next new named same placed used unused =
+    let run = flat_map (run_parts z) (runs 0 blocks) in
+    let rest = unused_parts z (length blocks) in
+    joined old (place_parts z class ++ run) rest next new (joined old (place_parts z class) run mid next placed used)
+    unused
+    ∙ ap (λ (words : List ℕ). old ++ (place_parts z words ++ run ++ rest)) named
+    ∙ ap (λ (bs : List PartState). old ++ (place_parts z (read_words r)
+    ++ flat_map (run_parts z) (runs 0 bs) ++ unused_parts z (length bs))) same
+
+-- ---- the zones one after another
+
+-- what a list of zones reads behind its end
+abbrev pub no_zone : Zone
+no_zone = record {
+  name = record { kind = Dump; index = 0 };
+  at = 0;
+  size = 0;
+  cap = 0;
+  blocks = 0;
+  parity = 0;
+  sig = 0;
+  block = 0;
+}
+
+-- the reading beside a zone
+pub read-at : (zones : List Zone) (readings : List (Option ZoneReading)) (i : ℕ) (r : Option ZoneReading)
+    → option_map (λ (s : Saved). s.1) (slice_get (zip zones readings) i) ≡ Some r → slice_get readings i ≡ Some r
+read-at [] readings i r e = cc
+read-at (z ∷ zones) [] i r e = cc
+read-at (z ∷ zones) (q ∷ readings) zero r e = e
+read-at (z ∷ zones) (q ∷ readings) (suc i) r e = read-at zones readings i r e
+
+-- a zone, its reading and its parts at a place
+pub drawn : (zones : List Zone) (readings : List (Option ZoneReading)) (parts : List PartStates) (i : ℕ) (z : Zone)
+    (r : Option ZoneReading) (p : PartStates) (d : Saved × PartStates) → slice_get zones i ≡ Some z
+    → slice_get readings i ≡ Some r → slice_get parts i ≡ Some p
+    → slice_get (zip (zip zones readings) parts) i ≡ Some d → zone_parts ((z, r), p) ≡ flat_map zone_parts (d ∷ [])
+drawn zones readings parts i z r p d hz hr hp hd =
+    let here = zip-at (zip zones readings) parts i (z, r) p (zip-at zones readings i z r hz hr) hp in
+    let same : Some ((z, r), p) ≡ Some d = sym here ∙ hd in
+    let own : ((z, r), p) ≡ d = cc in
+    ap (λ (e : Saved × PartStates). zone_parts e) own ∙ sym (append-nil (zone_parts d))
+
+min-swap : (a b c : ℕ) → min (min a b) c ≡ min (min a c) b
+min-swap a b c = omega arith
+
+-- as many are drawn as zones, readings and parts have in common
+pub all-count : (zones : List Zone) (own logs : SavedLogs) (parts states : List PartStates) (m k n : ℕ) → logs ≡ own
+    → states ≡ parts → m ≡ min (length zones) (length states) → k ≡ length logs.readings → n ≡ min m k
+    → n ≡ length (zip (zip zones own.readings) parts)
+all-count zones own logs parts states m k n same beside m-is k-is n-is =
+    let counted : length (zip (zip zones own.readings) parts)
+    ≡ min (min (length zones) (length own.readings)) (length parts) =
+    length-zip (zip zones own.readings) parts ∙ ap (λ (a : ℕ). min a (length parts)) (length-zip zones own.readings) in
+    let first : m ≡ min (length zones) (length parts) =
+    m-is ∙ ap (λ (ps : List PartStates). min (length zones) (length ps)) beside in
+    let read : k ≡ length own.readings = k-is ∙ ap (λ (l : SavedLogs). length l.readings) same in
+    n-is ∙ ap₂ (λ (a b : ℕ). min a b) first read
+    ∙ min-swap (length zones) (length parts) (length own.readings) ∙ sym counted

@@ -1,0 +1,6 @@
+-- Parts that are added in two steps
+use Rattle.std.proofs.Common.{◌≡◌, List, ◌++◌, ap, ◌∙◌, append_assoc}
+use Rattle.report_html.specs.Pieces.{Part}
+
+pub joined : (old a b mid new : List Part) → mid ≡ old ++ a → new ≡ mid ++ b → new ≡ old ++ (a ++ b)
+joined old a b mid new first second = second ∙ ap (λ (ps : List Part). ps ++ b) first ∙ append_assoc old a b

@@ -1,0 +1,16 @@
+-- The zone's place, and then its blocks
+use Rattle.std.proofs.Common.{◌≡◌, ◌∙◌, ap}
+use Rattle.std.specs.Option.{option_copied}
+use Rattle.report_spec.specs.Parts.{PartStates}
+use Rattle.report_html.specs.Pieces.{parts}
+use Rattle.report_html.proofs.Drawn.{zone-added}
+use Rattle.report_html.proofs.picture.add_zone.Goals as goal
+
+pub returns : goal.returns
+returns c =
+    let blocks : c.as_slice-blocks.result.now ≡ c.args.states.now.blocks =
+    c.as_slice-blocks.ensures.value ∙ ap (λ (p : PartStates). p.blocks) c.states.view_is in
+    zone-added c.args.zone.now (option_copied c.args.reading) c.args.states.now c.read_text.result.now
+    c.as_slice-blocks.result.now (parts c.args.pieces.now.items) (parts c.add_place.new.pieces.items)
+    (parts c.add_used.new.pieces.items) (parts c.add_unused.new.pieces.items) c.read_text.ensures blocks
+    c.in_ok-add_place.ensures c.in_ok-add_used.ensures c.in_ok-add_unused.ensures
