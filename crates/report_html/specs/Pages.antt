@@ -6,7 +6,7 @@ use Rattle.zone_spec.specs.declared.Time.{Time}
 use Rattle.zone_spec.specs.declared.Zone.{Zone}
 use Rattle.report_spec.specs.Records.{RecordHeld}
 use Rattle.record_report.specs.Reports.{ReportHeld}
-use Rattle.report_html.specs.declared.page.TheConstants.{HEAD}
+use Rattle.report_html.specs.declared.page.TheConstants.{STYLE}
 use Rattle.report_html.specs.Pieces.{Part, Words, Count, Bytes, parts_text}
 use Rattle.report_html.specs.Pictures.{picture}
 
@@ -37,9 +37,18 @@ record_parts r =
     Words (codes "<details><summary>") ∷ [] ++ name_parts r.name ++ length_parts (length r.content)
     ++ time_parts r.time ++ content_parts r.content
 
--- a head with the style, and the title
+-- before the style sheet: no script, and nothing from elsewhere
+abbrev pub head_words : List ℕ
+head_words =
+    codes "<!doctype html>\n<html lang=\"en\">\n<head>\n<meta charset=\"utf-8\">\n"
+    ++ codes "<meta http-equiv=\"Content-Security-Policy\" content=\"default-src 'none'; style-src 'unsafe-inline'\">\n"
+    ++ codes "<title>Crash log report</title>\n<style>\n"
+
+-- a head with the style sheet, and the title
 abbrev pub heading_parts : List ℕ → List Part
-heading_parts title = Words HEAD.now ∷ Bytes title ∷ Words (codes "</h1>\n") ∷ []
+heading_parts title =
+    Words head_words ∷ Words STYLE.now ∷ Words (codes "</style>\n</head>\n<body>\n<h1>") ∷ Bytes title
+    ∷ Words (codes "</h1>\n") ∷ []
 
 -- the heading, the picture of the zones, and the records
 abbrev pub page_parts : List ℕ → List Zone → ReportHeld → List Part

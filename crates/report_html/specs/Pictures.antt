@@ -12,7 +12,6 @@ use Rattle.report_spec.specs.declared.PartState.{PartState}
 use Rattle.report_spec.specs.declared.PartState.TheVariants.{Read, Bad}
 use Rattle.report_spec.specs.Parts.{PartStates}
 use Rattle.record_report.specs.Reports.{ReportHeld}
-use Rattle.report_html.specs.declared.picture.TheConstants.{LEGEND}
 use Rattle.report_html.specs.Pieces.{Part, Words, Count}
 
 -- ---- rectangles
@@ -134,6 +133,15 @@ abbrev pub end_of : Option Zone → ℕ
 end_of None = 0
 end_of (Some z) = z.at + z.size
 
+abbrev pub legend_parts : List Part
+legend_parts =
+    Words (codes "</svg>\n<p>The zones, and below them their blocks: "
+    ++ codes "<span class=\"clean\">&#9632;</span> found or clean, "
+    ++ codes "<span class=\"corrected\">&#9632;</span> corrected, "
+    ++ codes "<span class=\"bad\">&#9632;</span> invalid or bad, "
+    ++ codes "<span class=\"unused\">&#9632;</span> empty, unsigned or unused.</p>\n")
+    ∷ []
+
 -- as wide as the zones are long
 abbrev pub picture_opening : List Zone → List Part
 picture_opening zones =
@@ -144,4 +152,4 @@ picture_opening zones =
 abbrev pub picture : List Zone → ReportHeld → List Part
 picture zones report =
     picture_opening zones ++ flat_map zone_parts (zip (zip zones report.logs.readings) report.parts)
-    ++ Words LEGEND.now ∷ []
+    ++ legend_parts

@@ -14,8 +14,9 @@ use zone_spec::{Name, Time, Zone};
 
 const HEAD: &str = "<!doctype html>\n<html lang=\"en\">\n<head>\n<meta charset=\"utf-8\">\n\
 <meta http-equiv=\"Content-Security-Policy\" content=\"default-src 'none'; style-src 'unsafe-inline'\">\n\
-<title>Crash log report</title>\n<style>\n\
-:root { color-scheme: light dark; --fg: #1b1b1b; --bg: #fdfdfd; \
+<title>Crash log report</title>\n<style>\n";
+
+const STYLE: &str = ":root { color-scheme: light dark; --fg: #1b1b1b; --bg: #fdfdfd; \
 --clean: #4a8f5b; --corrected: #d29a1d; --bad: #c0392b; --unused: #c9ced4; }\n\
 @media (prefers-color-scheme: dark) { :root { --fg: #e4e4e4; --bg: #17191c; \
 --clean: #58b072; --corrected: #e0b04a; --bad: #e4604f; --unused: #3b4148; } }\n\
@@ -25,7 +26,7 @@ svg { width: 100%; height: 120px; }\nrect { stroke: var(--bg); vector-effect: no
 .corrected { fill: var(--corrected); color: var(--corrected); }\n\
 .bad, .invalid { fill: var(--bad); color: var(--bad); }\n\
 .unused, .empty, .unsigned { fill: var(--unused); color: var(--unused); }\n\
-pre { white-space: pre-wrap; overflow-wrap: anywhere; }\n</style>\n</head>\n<body>\n<h1>";
+pre { white-space: pre-wrap; overflow-wrap: anywhere; }\n";
 
 /// Adds what names a record.
 fn add_name(pieces: &mut Vec<Piece<'_>>, name: Name) -> Result<(), AllocError>
@@ -119,6 +120,8 @@ fn add_heading<'a>(pieces: &mut Vec<Piece<'a>>, title: &'a [u8]) -> Result<(), A
         pieces,
         &[
             Piece::Own(HEAD),
+            Piece::Own(STYLE),
+            Piece::Own("</style>\n</head>\n<body>\n<h1>"),
             Piece::Foreign(title),
             Piece::Own("</h1>\n"),
         ],

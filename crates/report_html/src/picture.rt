@@ -4,7 +4,7 @@ ghost use Rattle.std.specs.List.{zip};
 ghost use Rattle.std.specs.Option.{option_copied};
 ghost use Rattle.report_spec.specs.declared.PartState.{PartState as StateValue};
 ghost use Rattle.report_html.specs.Pieces.{parts};
-ghost use Rattle.report_html.specs.Pictures.{kind_words, zone_name, state_words, read_words, opening, closing, place_parts, part_words, range_parts, count_parts, corrected_parts, block_at, blocks_opening, blocks_parts, is_alike, runs, run_parts, unused_parts, zone_parts, end_of, picture_opening, picture};
+ghost use Rattle.report_html.specs.Pictures.{kind_words, zone_name, state_words, read_words, opening, closing, place_parts, part_words, range_parts, count_parts, corrected_parts, block_at, blocks_opening, blocks_parts, is_alike, runs, run_parts, unused_parts, zone_parts, end_of, picture_opening, legend_parts, picture};
 
 use crate::pieces::{Piece, add};
 use old_log::Reading;
@@ -324,6 +324,12 @@ fn add_picture_opening(pieces: &mut Vec<Piece<'_>>, zones: &[Zone]) -> Result<()
     Ok(())
 }
 
+fn add_legend(pieces: &mut Vec<Piece<'_>>) -> Result<(), AllocError>
+    ensures { OnOk result (parts pieces.new.items ≡ parts pieces.old.items ++ legend_parts) }
+{
+    add(pieces, &[Piece::Own(LEGEND)])
+}
+
 /// Adds the picture of these zones.
 pub fn add_picture(
     pieces: &mut Vec<Piece<'_>>,
@@ -334,6 +340,6 @@ pub fn add_picture(
 {
     add_picture_opening(pieces, zones)?;
     add_zones(pieces, zones, report)?;
-    add(pieces, &[Piece::Own(LEGEND)])?;
+    add_legend(pieces)?;
     Ok(())
 }
