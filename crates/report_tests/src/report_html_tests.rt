@@ -58,12 +58,24 @@ fn hostile_record(rt: HostRuntime) -> Result<(), Fail> {
     let text = str::from_utf8(page.as_slice())?;
     assert!(rt; text.contains("<h1>a&lt;b</h1>"));
     assert!(rt; text.contains("<svg viewBox=\"0 0 4096 100\""));
-    assert!(rt; text.contains("<rect class=\"found\" y=\"0\" height=\"24\" x=\"0\" width=\"4096\">\
-<title>console 0: found</title></rect>\n"));
-    assert!(rt; text.contains("<rect class=\"clean\" y=\"30\" height=\"70\" x=\"12\" width=\"128\">\
-<title>console 0: blocks 0 up to 1, clean</title></rect>\n"));
-    assert!(rt; text.contains("<rect class=\"unused\" y=\"30\" height=\"70\" x=\"140\" width=\"3956\">\
-<title>console 0: blocks 1 up to 32, unused</title></rect>\n"));
+    assert!(rt;
+        text.contains(
+            "<rect class=\"found\" y=\"0\" height=\"24\" x=\"0\" width=\"4096\">\
+<title>console 0: found</title></rect>\n"
+        )
+    );
+    assert!(rt;
+        text.contains(
+            "<rect class=\"clean\" y=\"30\" height=\"70\" x=\"12\" width=\"128\">\
+<title>console 0: blocks 0 up to 1, clean</title></rect>\n"
+        )
+    );
+    assert!(rt;
+        text.contains(
+            "<rect class=\"unused\" y=\"30\" height=\"70\" x=\"140\" width=\"3956\">\
+<title>console 0: blocks 1 up to 32, unused</title></rect>\n"
+        )
+    );
     assert!(rt; text.contains("console-ramoops-0, bytes: 8</summary><pre>\n&lt;script&gt;</pre>"));
     assert!(rt; !text.contains("<script"));
     Ok(())
