@@ -1,5 +1,5 @@
 // The layout of the block store.
-ghost use Rattle.std.specs.Prelude.{◌≡◌, ◌+◌, ◌<◌, ◌==◌, ◌||◌, ◌&&◌, ◌%◌, ◌∷◌, [], not, nat_lt, min, ◌-◌, ◌^◌, ◌≤◌, IfOk, None};
+ghost use Rattle.std.specs.Prelude.{◌≡◌, ◌+◌, ◌<◌, ◌==◌, ◌||◌, ◌&&◌, ◌%◌, ◌∷◌, [], nat_lt, min, ◌-◌, ◌^◌, ◌≤◌, IfOk, None};
 ghost use Rattle.std.specs.List.{list_all};
 ghost use Rattle.zone_spec.specs.Layout.{first_fault as first_of};
 ghost use Rattle.blk_spec.specs.Layout.{layout_of, faults as faults_of, dump_memory, dump_count as dump_count_of, kmsg_size as kmsg_size_of, IsLayout};

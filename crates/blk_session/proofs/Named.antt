@@ -1,9 +1,8 @@
 -- The listed record whose name has a text
-use Rattle.std.proofs.Common.{◌≡◌, ℕ, Bool, true, false, not, ◌||◌, if◌then◌else◌, List, [], ◌∷◌, Some, refl, eq-eqb}
+use Rattle.std.proofs.Common.{◌≡◌, ℕ, Bool, true, false, ◌||◌, if◌then◌else◌, List, [], ◌∷◌, Some, refl}
 use Rattle.std.specs.Prelude.{bytes_eq}
 use Rattle.std.specs.List.{find, list_any}
 use Rattle.blk_spec.specs.declared.BlkName.{BlkName}
-use Rattle.blk_spec.specs.declared.BlkName.TheVariants.{Dump, Console, Pmsg}
 use Rattle.blk_spec.specs.Names.{name_text, is_name}
 use Rattle.blk_spec.specs.States.{BlkState, names_of, is_listed}
 use Rattle.tool_spec.specs.BlkScripts.{blk_named}

@@ -1,5 +1,4 @@
 // Lines that speak of one record, by the text of its name.
-ghost use Rattle.std.specs.Prelude.{◌≡◌};
 ghost use Rattle.blk_session.specs.Lines.{IsExtract};
 
 use crate::errors::LineError;

@@ -1,5 +1,5 @@
 // Worked sessions, and sessions in which the store or the output fails.
-ghost use Rattle.std.specs.Prelude.{◌≡◌, Some, IfOk};
+ghost use Rattle.std.specs.Prelude.{Some, IfOk};
 ghost use Rattle.box_io.specs.Memory.{store_holds};
 ghost use Rattle.blk_spec.specs.Answers.{HasRoom};
 

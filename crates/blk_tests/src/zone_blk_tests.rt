@@ -1,5 +1,5 @@
 // Worked sessions: their bytes, and what a loading lists after each stop.
-ghost use Rattle.std.specs.Prelude.{◌≡◌, ◌<◌, ◌^◌, Some, IfOk};
+ghost use Rattle.std.specs.Prelude.{◌≡◌, ◌<◌, Some, IfOk};
 ghost use Rattle.box_io.specs.Memory.{store_holds};
 ghost use Rattle.blk_spec.specs.Answers.{HasRoom};
 ghost use Rattle.blk_spec.specs.Layout.{IsLayout};
@@ -212,8 +212,8 @@ fn loaded_after(rt: &(impl Abort + AllocGlobal), bytes: u64) -> Blk {
     reload(rt, &mut store)
 }
 
-// From how many to below how many bytes, whether the console is listed, and the dump's time and content, which a loading
-// lists after a stop after so many bytes.
+// From how many to below how many bytes, whether the console is listed, and the dump's time and content, which a
+// loading lists after a stop after so many bytes.
 const STOPS: &[(u64, u64, bool, Option<(u64, u32)>, &str)] = &[
     (0, 8, false, None, ""),
     (8, 31, true, None, ""),

@@ -2,7 +2,7 @@
 //! (`fs/pstore/ram_core.c`, `persistent_ram_decode_rs8` and `persistent_ram_encode_rs8`).
 #![tactic(auto)]
 
-ghost use Rattle.std.specs.Prelude.{◌≡◌, ◌+◌, ◌*◌, ◌-◌, ◌^◌, ◌<◌, ◌≤◌, ◌↔◌, ℕ, List, ◌++◌, length, take, min, slice_range, unwrap_or, IsTrue};
+ghost use Rattle.std.specs.Prelude.{◌≡◌, ◌+◌, ◌*◌, ◌-◌, ◌<◌, ◌≤◌, ◌↔◌, ℕ, ◌++◌, length, take, min, slice_range, unwrap_or, IsTrue};
 ghost use Rattle.code_spec.specs.Code.{IsCodeword, nearest, parity_of};
 ghost use Rattle.rs_errors.specs.Decoding.{decoded_by, fixes_by};
 ghost use Rattle.zone_spec.specs.Zones.{IsValidZone};

@@ -1,5 +1,5 @@
 // The calls of an object in memory, and those that are to fail.
-ghost use Rattle.std.specs.Prelude.{◌≡◌, ℕ, ◌==◌, ◌≤◌, List, [], IfOk};
+ghost use Rattle.std.specs.Prelude.{◌≡◌, ℕ, ◌==◌, ◌≤◌, List, IfOk};
 ghost use Rattle.std.specs.List.{list_any};
 
 use crate::Failed;

@@ -1,5 +1,5 @@
 // The shapes that a layout's zones have, and the ring of a shape at a place.
-ghost use Rattle.std.specs.Prelude.{◌≡◌, ◌+◌, ◌*◌, ◌≤◌, ◌<◌, ◌^◌, ◌++◌, length, IfOk, OnOk};
+ghost use Rattle.std.specs.Prelude.{◌≡◌, ◌+◌, ◌*◌, ◌≤◌, ◌<◌, ◌++◌, length, IfOk, OnOk};
 ghost use Rattle.zone_spec.specs.Zones.{IsValidZone};
 ghost use Rattle.zone_spec.specs.Parts.{Header, part_parity_at};
 ghost use Rattle.salvage_spec.specs.Rings.{is_alike, ring_at, ring_in, shapes as shapes_of_zones};

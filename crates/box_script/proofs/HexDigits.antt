@@ -51,7 +51,8 @@ pair_given high low i h l p q e f = rw (e, f) refl
 pub pair_of : (high low i h l : ℕ) → h ≡ unwrap_or (hex_digit_value high) 255
     → l ≡ unwrap_or (hex_digit_value low) 255 → h < 16 → l < 16 → pair_value high low i ≡ Ok (h * 16 + l)
 pair_of high low i h l eh el bh bl =
-    pair_given high low i h l (hex_digit_value high) (hex_digit_value low) (digit_is high h eh bh) (digit_is low l el bl)
+    pair_given high low i h l (hex_digit_value high) (hex_digit_value low) (digit_is high h eh bh)
+    (digit_is low l el bl)
 
 first_none : (high low i : ℕ) (p q : Option ℕ) → p ≡ None
     → IsErr (digit_or_error high i p >>= (λ a. digit_or_error low (i + 1) q >>= (λ b. Ok (a * 16 + b))))

@@ -1,5 +1,5 @@
 -- What calls in other zones leave of a zone
-use Rattle.std.proofs.Common.{◌≡◌, ◌≢◌, ℕ, ◌+◌, ◌-◌, ◌==◌, ◌≤◌, Bool, true, false, cond, ◌||◌, nat_lt, is_some, List, [], ◌∷◌, length, get_or, slice_get, Option, Some, None, Result, Ok, Err, refl, sym, ap, ◌∙◌, subst, arith, suc, true≢false}
+use Rattle.std.proofs.Common.{◌≡◌, ◌≢◌, ℕ, ◌+◌, ◌-◌, ◌==◌, ◌≤◌, Bool, true, false, cond, ◌||◌, nat_lt, is_some, List, ◌∷◌, length, slice_get, Option, Some, None, Result, Ok, Err, refl, sym, ap, ◌∙◌, subst, arith, suc, true≢false}
 use Rattle.std.proofs.lemmas.Bool.Decides.{nat_tests}
 use Rattle.std.proofs.lemmas.List.Quantifiers.{position-Some}
 use Rattle.std.proofs.lemmas.Option.{get_or_from_slice_get}
@@ -7,23 +7,23 @@ use Rattle.zone_spec.specs.declared.Zone.{Zone}
 use Rattle.zone_spec.specs.declared.ZoneName.{ZoneName}
 use Rattle.zone_spec.specs.declared.Refusal.{Refusal}
 use Rattle.zone_spec.specs.declared.Refusal.TheVariants.{Busy, Idle}
-use Rattle.zone_spec.specs.Parts.{standing_words}
 use Rattle.zone_spec.specs.Told.{Call, Dump as DumpCall, told_after}
 use Rattle.zone_spec.specs.Stores.{after_stores}
 use Rattle.zone_spec.specs.Stages.{Stage, StartWord, stage_stores, stores_in_turn}
-use Rattle.zone_spec.specs.Calls.{call_stores, call_stages, image_after}
+use Rattle.zone_spec.specs.Calls.{call_stores, image_after}
 use Rattle.zone_spec.specs.Layouts.{is_zone, zone_place}
 use Rattle.session_spec.specs.States.{Flight, LiveZone, LiveState}
-use Rattle.session_spec.specs.ZoneCalls.{begun, stepped, finished, total_stores}
+use Rattle.session_spec.specs.ZoneCalls.{begun, finished}
 use Rattle.session_spec.specs.LiveZones.{Target, target, target_of, target_at, ring_only, with_zone, changed}
 use Rattle.session_spec.specs.LiveCalls.{Ask, Append as AskAppend, Erase as AskErase, Dump as AskDump, asked_name, call_of, is_barred, begin, begins, make, goes_on, finish_at, and_finish}
-use Rattle.session_laws.proofs.Targets.{IsAt, target-some, ring_only-is, busy-false}
+use Rattle.session_laws.proofs.Targets.{IsAt, target-some, ring_only-is}
 use Rattle.crash_laws.specs.Standing.{IsToldLive}
 use Rattle.crash_laws.proofs.Items.{other_item, set_item}
 
 -- ---- places by name
 
-pub target_place : (layout : List Zone) (live : LiveState) (o : Option ℕ) (t : Target) → target_at layout live o ≡ Some t
+pub target_place : (layout : List Zone) (live : LiveState) (o : Option ℕ) (t : Target)
+    → target_at layout live o ≡ Some t
     → o ≡ Some t.place
 target_place layout live None t e = absurd (cc)
 target_place layout live (Some i) t e = by (slice_get layout i) (slice_get live.zones i) e
@@ -194,13 +194,16 @@ module _ (layout : List Zone) (z : Zone) (place : ℕ) (told : List ℕ) (hz : s
   pub begin_keeps : (live next : LiveState) (ask : Ask) → IsToldLive place told live
       → is_zone (asked_name live ask) z ≡ false → begin layout live ask ≡ Ok next → IsToldLive place told next
   begin_keeps live next (AskAppend name payload) k other h =
-      begins_keep live next (call_of (AskAppend name payload)) (is_barred layout live (AskAppend name payload)) (ring_only (target layout live name)) k
+      begins_keep live next (call_of (AskAppend name payload)) (is_barred layout live (AskAppend name payload))
+      (ring_only (target layout live name)) k
       (λ t e. other_place layout live name t z place hz other (ring_only-is (target layout live name) t e).0) h
   begin_keeps live next (AskErase name) k other h =
-      begins_keep live next (call_of (AskErase name)) (is_barred layout live (AskErase name)) (target layout live name) k
+      begins_keep live next (call_of (AskErase name)) (is_barred layout live (AskErase name))
+      (target layout live name) k
       (λ t e. other_place layout live name t z place hz other e) h
   begin_keeps live next (AskDump time packed body) k other h =
-      begins_keep live next (call_of (AskDump time packed body)) (is_barred layout live (AskDump time packed body)) (target layout live (asked_name live (AskDump time packed body))) k
+      begins_keep live next (call_of (AskDump time packed body)) (is_barred layout live (AskDump time packed body))
+      (target layout live (asked_name live (AskDump time packed body))) k
       (λ t e. other_place layout live (asked_name live (AskDump time packed body)) t z place hz other e) h
 
   pub make_keeps : (live next : LiveState) (ask : Ask) → IsToldLive place told live

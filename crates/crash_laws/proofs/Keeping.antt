@@ -1,7 +1,6 @@
 -- Lines that leave a dump zone alone
-use Rattle.std.proofs.Common.{◌≡◌, ◌≢◌, ℕ, ◌+◌, ◌==◌, Bool, true, false, cond, not, ◌&&◌, ◌||◌, nat_lt, List, [], ◌∷◌, ◌++◌, length, filter, slice_get, Contains, bytes_eq, Option, Some, None, Result, Ok, Err, refl, sym, ap, ◌∙◌, subst, arith, true≢false, eqb-true}
+use Rattle.std.proofs.Common.{◌≡◌, ◌≢◌, ℕ, ◌+◌, ◌==◌, Bool, true, false, cond, not, ◌&&◌, ◌||◌, nat_lt, List, [], ◌∷◌, ◌++◌, length, filter, slice_get, bytes_eq, Option, Some, None, Result, Ok, Err, refl, sym, ap, ◌∙◌, subst, true≢false, eqb-true}
 use Rattle.std.proofs.lemmas.Bool.{and_parts}
-use Rattle.std.proofs.lemmas.Slice.Eq.{bytes_eq-Decides}
 use Rattle.zone_spec.specs.declared.Zone.{Zone}
 use Rattle.zone_spec.specs.declared.Kind.{Kind}
 use Rattle.zone_spec.specs.declared.Kind.TheVariants.{Dump as DumpKind, Console, Ftrace, Pmsg}
@@ -15,16 +14,16 @@ use Rattle.zone_spec.specs.Notices.{is_in}
 use Rattle.zone_spec.specs.TimeLines.{has_line}
 use Rattle.zone_spec.specs.Layouts.{IsLayout, is_zone}
 use Rattle.zone_spec.specs.declared.Refusal.TheVariants.{Busy, OutOfImage}
-use Rattle.session_spec.specs.States.{LiveState, OffState, Session, Off, Live}
+use Rattle.session_spec.specs.States.{LiveState, Session, Off, Live}
 use Rattle.session_spec.specs.Erasures.{saved_logs, erased}
 use Rattle.session_spec.specs.Off.{flipped}
 use Rattle.session_spec.specs.BootPart.{boot_parted}
 use Rattle.session_spec.specs.Stop.{stopped}
 use Rattle.session_spec.specs.Boot.{booted}
 use Rattle.session_spec.specs.ZoneCalls.{stepped, finished}
-use Rattle.session_spec.specs.LiveZones.{Target, target, flies}
+use Rattle.session_spec.specs.LiveZones.{target, flies}
 use Rattle.session_spec.specs.LiveCalls.{Ask, Append as AskAppend, Erase as AskErase, Dump as AskDump, asked_name, begin, make, step, finish}
-use Rattle.session_spec.specs.Operations.{Operation, operated, erases as erases_record, Begin, Make, Step as StepFlight, Finish as FinishFlight, EraseRecord, Stop as StopStore, Boot as BootStore, BootPart as BootInPart, Flip as FlipByte, Refused, Cause as SessionCause}
+use Rattle.session_spec.specs.Operations.{Operation, operated, erases as erases_record, Begin, Make, Step as StepFlight, Finish as FinishFlight, EraseRecord, Stop as StopStore, Boot as BootStore, BootPart as BootInPart, Flip as FlipByte, Refused}
 use Rattle.session_spec.specs.Sound.{IsState}
 use Rattle.session_laws.proofs.Targets.{target-some}
 use Rattle.grammar_spec.specs.Fields.{Text}
@@ -272,7 +271,8 @@ module _ (layout : List Zone) (mem : ℕ) (lies : IsLayout layout mem) (z : Zone
   unfolding store_line
   store_keeps session Blank e state s k h = stays session [] e k h
   store_keeps session (Write name bytes) e state s k h = does_keeps session _ e
-      (λ next d. make_op session next (AskAppend name bytes) (append_elsewhere z session name bytes (not_true _ s)) k d) h
+      (λ next d. make_op session next (AskAppend name bytes)
+      (append_elsewhere z session name bytes (not_true _ s)) k d) h
   store_keeps session (Dump time packed bytes) e state s k h = does_keeps session _ e
       (λ next d. make_op session next (AskDump time packed bytes) (dump_elsewhere z session time packed bytes s) k d) h
   store_keeps session (BeginWrite name bytes) e state s k h = does_keeps session _ e

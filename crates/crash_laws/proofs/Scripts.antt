@@ -1,5 +1,5 @@
 -- A crash in a script, and what a later boot lists of it
-use Rattle.std.proofs.Common.{◌≡◌, ℕ, zero, suc, ◌+◌, ◌^◌, ◌<◌, Bool, true, false, ◌&&◌, List, [], ◌∷◌, ◌++◌, length, take, drop, slice_get, is_some, Contains, Option, Some, None, Result, Ok, Err, refl, sym, ap, ◌∙◌, subst, arith, true≢false}
+use Rattle.std.proofs.Common.{◌≡◌, ℕ, zero, suc, ◌+◌, true, false, List, [], ◌∷◌, ◌++◌, length, take, drop, slice_get, is_some, Contains, Option, Some, None, Result, Ok, Err, refl, sym, ap, ◌∙◌, subst, arith}
 use Rattle.std.specs.List.{fold}
 use Rattle.std.proofs.lemmas.Bool.{and_parts}
 use Rattle.std.proofs.lemmas.List.Sums.{fold-append}
@@ -11,9 +11,9 @@ use Rattle.zone_spec.specs.declared.TimeLine.{TimeLine}
 use Rattle.zone_spec.specs.declared.Kind.TheVariants.{Dump as DumpKind}
 use Rattle.zone_spec.specs.declared.Name.TheVariants.{Dump as DumpName}
 use Rattle.zone_spec.specs.Parts.{AreBytes}
-use Rattle.zone_spec.specs.Layouts.{IsLayout, is_zone}
+use Rattle.zone_spec.specs.Layouts.{IsLayout}
 use Rattle.zone_spec.specs.TimeLines.{line_text, read_line, has_line}
-use Rattle.zone_spec.specs.Records.{Listed, is_of, listed_of, record_of}
+use Rattle.zone_spec.specs.Records.{is_of, listed_of}
 use Rattle.session_spec.specs.States.{LiveState, OffState, Session, Off, Live}
 use Rattle.session_spec.specs.Erasures.{saved_logs}
 use Rattle.session_spec.specs.Stop.{stopped}
@@ -134,7 +134,8 @@ boot_done layout session kernel done h = by session b.1 (b.2)
 
 lists_record : (layout : List Zone) (mem : ℕ) (lies : IsLayout layout mem) (z : Zone) (place : ℕ)
     → slice_get layout place ≡ Some z → is_of DumpKind z.name.kind ≡ true → IsFirst layout place z.name.index
-    → (time : Time) → IsTime time → (body : List ℕ) (session : Session) (kernel : Kernel) (done : Done) → IsState layout mem session
+    → (time : Time) → IsTime time → (body : List ℕ) (session : Session) (kernel : Kernel) (done : Done)
+    → IsState layout mem session
     → IsTold z place (line_text time false ++ body) session → line_done layout session kernel Boot ≡ Ok done
     → Lists layout done.session (crash_record z time body)
 lists_record layout mem lies z place hz kind first time fit body session kernel done state k h =

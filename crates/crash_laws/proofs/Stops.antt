@@ -1,5 +1,5 @@
 -- What a stop, a boot and the erasure of another record leave of a zone
-use Rattle.std.proofs.Common.{◌≡◌, ◌≢◌, ℕ, zero, suc, ◌+◌, ◌-◌, ◌==◌, Bool, true, false, cond, List, [], ◌∷◌, ◌++◌, length, take, drop, map, zip, flat_map, slice_get, slice_set, Contains, ◌||◌, nat_lt, nat_le, Option, Some, None, refl, sym, ap, ◌∙◌, subst, arith, append_assoc, true≢false, is_some}
+use Rattle.std.proofs.Common.{◌≡◌, ◌≢◌, ℕ, zero, suc, ◌+◌, ◌-◌, ◌==◌, Bool, true, false, cond, List, [], ◌∷◌, ◌++◌, length, take, drop, map, zip, flat_map, slice_get, slice_set, Contains, ◌||◌, nat_lt, nat_le, Option, Some, refl, sym, ap, ◌∙◌, subst, arith, append_assoc, true≢false, is_some}
 use Rattle.std.proofs.lemmas.Bool.Decides.{nat_tests}
 use Rattle.std.proofs.lemmas.List.Elements.{Contains-append_left}
 use Rattle.std.proofs.lemmas.List.Sums.{sum_by-cons}
@@ -7,7 +7,7 @@ use Rattle.zone_spec.specs.declared.Zone.{Zone}
 use Rattle.zone_spec.specs.declared.Kind.{Kind}
 use Rattle.zone_spec.specs.declared.Kind.TheVariants.{Dump as DumpKind, Console, Ftrace, Pmsg}
 use Rattle.zone_spec.specs.declared.Name.{Name}
-use Rattle.zone_spec.specs.declared.Name.TheVariants.{Dump as DumpName, Console as ConsoleName, Pmsg as PmsgName, Ftrace as FtraceName}
+use Rattle.zone_spec.specs.declared.Name.TheVariants.{Dump as DumpName, Console as ConsoleName, Pmsg as PmsgName}
 use Rattle.zone_spec.specs.declared.State.{State}
 use Rattle.zone_spec.specs.declared.State.TheVariants.{Empty, Found}
 use Rattle.zone_spec.specs.declared.TimeLine.{TimeLine}
@@ -18,12 +18,12 @@ use Rattle.zone_spec.specs.Ring.{IsRingForm}
 use Rattle.zone_spec.specs.Records.{Saved, Listed, is_of, found, found_in, logs_of, dump_of, dumps_of, plain, ftrace_of, listed_of, record_of}
 use Rattle.zone_spec.specs.Notices.{is_in}
 use Rattle.zone_spec.specs.Layouts.{IsLayout, zones_end}
-use Rattle.session_spec.specs.States.{Flight, LiveZone, LiveState, OffZone, OffState, Off, Live}
+use Rattle.session_spec.specs.States.{Flight, LiveZone, LiveState, OffState, Off, Live}
 use Rattle.session_spec.specs.Zones.{zone_bytes}
 use Rattle.session_spec.specs.Stop.{cut_by_stop, zone_stopped, stopped, live_image}
 use Rattle.session_spec.specs.Boot.{booted_zone, booted}
 use Rattle.session_spec.specs.Erasures.{saved_logs, erase_zone, erased}
-use Rattle.session_spec.specs.Sound.{IsLiveZone, IsOffZone, IsState}
+use Rattle.session_spec.specs.Sound.{IsOffZone, IsState}
 use Rattle.ring_laws.specs.Laws.{ReadsTold}
 use Rattle.ring_laws.proofs.Laws.{ring_form_reads_told}
 use Rattle.crash_laws.specs.Standing.{IsToldLive, IsToldOff}

@@ -1,20 +1,19 @@
 -- What a crash tells its zone
-use Rattle.std.proofs.Common.{◌≡◌, ℕ, ◌==◌, Bool, false, List, ◌++◌, length, Option, Some, None, Result, Ok, Err, refl, sym, ap, ◌∙◌, subst}
+use Rattle.std.proofs.Common.{◌≡◌, ℕ, Bool, false, List, Option, Some, Result, Ok, Err, refl, sym, ap, ◌∙◌, subst}
 use Rattle.zone_spec.specs.declared.Zone.{Zone}
 use Rattle.zone_spec.specs.declared.Time.{Time}
 use Rattle.zone_spec.specs.declared.Refusal.{Refusal}
 use Rattle.zone_spec.specs.declared.Kind.TheVariants.{Dump as DumpKind}
 use Rattle.zone_spec.specs.TimeLines.{line_text}
 use Rattle.zone_spec.specs.Told.{Dump as DumpCall, told_after}
-use Rattle.zone_spec.specs.Calls.{call_stores}
 use Rattle.zone_spec.specs.Records.{is_of}
 use Rattle.session_spec.specs.States.{LiveState, Session, Live}
-use Rattle.session_spec.specs.LiveZones.{Target, target, flies}
+use Rattle.session_spec.specs.LiveZones.{Target, flies}
 use Rattle.session_spec.specs.LiveCalls.{Dump as AskDump, asked_name, begins, make, and_finish}
-use Rattle.session_spec.specs.Operations.{Operation, operated, answered, Make, Cause as SessionCause}
+use Rattle.session_spec.specs.Operations.{operated, answered, Make, Cause as SessionCause}
 use Rattle.grammar_spec.specs.Fields.{Text}
 use Rattle.grammar_spec.specs.declared.line.Line.TheVariants.{Dump, Crash}
-use Rattle.tool_spec.specs.Scripts.{StoreDone, Kernel, Done, beside, does, done_or_refused, put_by, store_line, line_done, crash_body, crashed, dump_target}
+use Rattle.tool_spec.specs.Scripts.{StoreDone, Kernel, Done, beside, done_or_refused, put_by, store_line, line_done, crash_body, crashed, dump_target}
 use Rattle.tool_spec.specs.declared.Cause.{Cause}
 use Rattle.tool_laws.specs.Crashes.{CrashesAreToldWhole}
 use Rattle.crash_laws.specs.Standing.{IsToldLive, IsTold}

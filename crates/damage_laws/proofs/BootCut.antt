@@ -157,7 +157,8 @@ module _ (z : Zone) (valid : IsValidZone z) (now : List ℕ) (im : IsImage z now
       ∙ ap (λ parts. pairs_from (pair_of (words_read z now)) (flat_map (λ part. part) parts)) parts_are
       ∙ ap (pairs_from (pair_of (words_read z now))) (append-nil (boot_erasure z now) ∙ erases)
 
-  stood : ((standing_words stop).sig ≡ z.sig) × Contains (cut_pairs z (boot_cut z now k)) (pair_of (standing_words stop))
+  stood : ((standing_words stop).sig ≡ z.sig) × Contains (cut_pairs z (boot_cut z now k))
+      (pair_of (standing_words stop))
   stood =
       let gs : List Stage = signing z reading.state ++ erase_stages in
       let at : stop ≡ after_stores x (take made (stores_in_turn z gs x)) =

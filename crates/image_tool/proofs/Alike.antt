@@ -1,5 +1,5 @@
 -- All dump zones of a layout have one capacity
-use Rattle.std.proofs.Common.{◌≡◌, ℕ, zero, suc, ◌+◌, ◌*◌, ◌/◌, Bool, true, false, List, [], ◌∷◌, ◌++◌, map, slice_get, Some, Ok, refl, sym, ap, subst, ◌∙◌}
+use Rattle.std.proofs.Common.{◌≡◌, ℕ, zero, suc, ◌+◌, ◌*◌, ◌/◌, true, false, List, [], ◌∷◌, ◌++◌, map, slice_get, Some, Ok, refl, sym, subst, ◌∙◌}
 use Rattle.std.specs.List.{AllByRecursion, range_with_len}
 use Rattle.zone_spec.specs.declared.Kind.TheVariants.{Dump}
 use Rattle.zone_spec.specs.declared.Zone.{Zone}

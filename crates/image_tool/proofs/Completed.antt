@@ -1,11 +1,11 @@
 -- Where nothing that is asked for is refused and nothing failed, all is done, or memory is out
-use Rattle.std.proofs.Common.{◌≡◌, ◌⊎◌, ℕ, List, [], Option, Some, None, Result, Ok, Err, refl, sym, ap, ◌∙◌, inl, inr}
+use Rattle.std.proofs.Common.{◌≡◌, ◌⊎◌, ℕ, List, [], Result, Ok, Err, refl, ap, ◌∙◌, inl, inr}
 use Rattle.blk_spec.specs.declared.BlkLayout.{BlkLayout}
 use Rattle.grammar_spec.specs.Fields.{Text}
 use Rattle.grammar_spec.specs.declared.line.Line.{Line}
 use Rattle.tool_spec.specs.Ends.{End, status_of}
-use Rattle.tool_spec.specs.Commands.{RamCommand, RunScript, ListRecords, ExtractRecord, EraseRecord, ShowLayout, BlankImage, MakeImage, FindRings, ReadRing, RamPlan, Plan, OfRam, OfBlk, OfMove, Wanted, wanted, wanted_move, plan_of, RunShared}
-use Rattle.tool_spec.specs.Answers.{Outside, RoseFor, IsFree, Answers}
+use Rattle.tool_spec.specs.Commands.{RamCommand, RunScript, ListRecords, ExtractRecord, EraseRecord, ShowLayout, BlankImage, MakeImage, FindRings, ReadRing, RamPlan, Plan, OfRam, OfBlk, OfMove, wanted, wanted_move, plan_of, RunShared}
+use Rattle.tool_spec.specs.Answers.{Outside, RoseFor, IsFree}
 use Rattle.tool_spec.specs.BlkAnswers.{blk_lines, LinesOrStopAnswers}
 use Rattle.tool_spec.specs.PlanAnswers.{RamAnswers, ToolAnswers}
 use Rattle.tool_spec.specs.Complete.{lines_end, plan_end, CommandTells, PlanTells, Completes}

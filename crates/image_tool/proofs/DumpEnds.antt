@@ -1,10 +1,10 @@
 -- How the commands that speak of a memory dump end
-use Rattle.std.proofs.Common.{◌≡◌, ℕ, Bool, false, List, [], ◌∷◌, take, Option, Some, Result, Ok, Err, IfSome, refl, sym, ap, ◌∙◌, inl}
+use Rattle.std.proofs.Common.{◌≡◌, ℕ, false, List, [], ◌∷◌, take, Ok, Err, refl, sym, ap, ◌∙◌, inl}
 use Rattle.std.specs.Io.KnownBytes.{Appends}
 use Rattle.box_io.specs.Outside.{AppendsFront}
 use Rattle.zone_spec.specs.declared.ZoneName.{ZoneName}
 use Rattle.zone_spec.specs.Reading.{ZoneReading}
-use Rattle.salvage_spec.specs.Rings.{rings, read_at}
+use Rattle.salvage_spec.specs.Rings.{read_at}
 use Rattle.salvage_spec.specs.declared.FoundRing.{FoundRing}
 use Rattle.salvage_spec.specs.declared.RingFault.{RingFault}
 use Rattle.salvage_spec.specs.declared.RingFault.TheVariants.{NoZone, NoRing, Memory as RingMemory}
@@ -12,7 +12,7 @@ use Rattle.box_salvage.specs.Scans.{Scanned, IsFault}
 use Rattle.grammar_spec.specs.Fields.{Text}
 use Rattle.tool_spec.specs.Ends.{End}
 use Rattle.tool_spec.specs.Texts.{rings_text}
-use Rattle.tool_spec.specs.Commands.{RamCommand, FindRings, ReadRing, RamPlan, reads_image, front_of, dump_limit, shows, stops, Wanted, wanted, wanted_of, wanted_ring}
+use Rattle.tool_spec.specs.Commands.{RamCommand, FindRings, ReadRing, RamPlan, reads_image, front_of, dump_limit, shows, stops, wanted, wanted_of, wanted_ring}
 use Rattle.tool_spec.specs.Answers.{Outside, IfHolds, NoScript}
 use Rattle.tool_spec.specs.PlanAnswers.{ram_statuses, IsAmong}
 use Rattle.tool_spec.specs.declared.Stop.{Stop}
@@ -124,7 +124,8 @@ module _ (plan : RamPlan) (a b : Outside) (scan : Scanned) (read : ScansFrom pla
       pub ring_put : NoScript a b → Appends a.given b.given r.log → RamReadEnds plan a b (Ok tt)
       ring_put none put = reads plan a b _ (rw is refl) none same (done (ReadRing at name) (Ok tt) is
           (reading plan at name)
-          (put_all_of (wanted_of plan.params plan.zones read.dump [] (ReadRing at name)) a b r.log ring_wanted same put))
+          (put_all_of (wanted_of plan.params plan.zones read.dump [] (ReadRing at name)) a b r.log
+          ring_wanted same put))
 
       pub ring_front : NoScript a b → AppendsFront a.given b.given r.log → RamReadEnds plan a b (Err SinkFault)
       ring_front none put = reads plan a b _ (rw is refl) none same (done (ReadRing at name) (Err SinkFault) is

@@ -40,9 +40,8 @@ use Rattle.grammar_spec.specs.declared.line.Line.{Line}
 use Rattle.grammar_spec.specs.declared.line.Line.TheVariants.{Boot, Crash}
 use Rattle.grammar_spec.specs.Printed.{AllHaveFields}
 use Rattle.box_script.proofs.Inside.{read_fields}
-use Rattle.tool_spec.specs.Ends.{End}
 use Rattle.tool_spec.specs.Texts.{boot_text}
-use Rattle.tool_spec.specs.Scripts.{Kernel, new_kernel, Done, Ran, ran, store_line, line_done}
+use Rattle.tool_spec.specs.Scripts.{Kernel, new_kernel, ran, store_line, line_done}
 use Rattle.tool_spec.specs.Commands.{Asked, RamCommand, RunScript, Command, OnRam, RunBlkScript, MoveImage, RamPlan, MovePlan, Laid, Plan, OfRam, OfBlk, OfMove, Wanted, planned, laid_out, with_params, with_layout, with_blk_params, with_blk_layout, with_first_params, with_second_params, with_first_layout, with_second_layout, mem_of, wanted, wanted_run, wanted_lines, script_limit, script_end, stops, lacks_zone}
 use Rattle.tool_spec.specs.Answers.{Outside, whole, RunAnswers}
 use Rattle.tool_spec.specs.PlanAnswers.{RamAnswers, ToolAnswers}
@@ -102,7 +101,8 @@ laid : (command : RamCommand) (params : Params) (plan : RamPlan) (o : Result (Li
     → IsLayout plan.zones (mem_of plan)
 laid command params plan (Ok zones) e h small = by (lacks_zone command params) h
   where
-    by : (b : Bool) → cond b (Err NoSharedZone) (Ok (OfRam (record { command = command; params = params; zones = zones })))
+    by : (b : Bool) → cond b (Err NoSharedZone)
+        (Ok (OfRam (record { command = command; params = params; zones = zones })))
         ≡ Ok (OfRam plan) → IsLayout plan.zones (mem_of plan)
     by true h = absurd (cc)
     by false h =
@@ -265,7 +265,8 @@ module _ (plan : RamPlan) (bytes script : List ℕ) (lines : List Line) (is : pl
 crashes_listed : LaterBootListsCrash → (layout : List Zone) (mem : ℕ) (image : List ℕ) (lines : List Line)
     → IsLayout layout mem → length image ≡ mem → AreBytes image → AllHaveFields lines
     → CrashesListed layout image lines
-crashes_listed law layout mem image lines lies size bytes fit before between rest reason time live t is at to spare none =
+crashes_listed law layout mem image lines lies size bytes fit before between rest reason time live t is at
+    to spare none =
     let front = before ++ Crash reason time ∷ [] ++ between in
     let fields : AllHaveFields (front ++ Boot ∷ [] ++ rest) = subst (λ (ls : List Line). AllHaveFields ls) is fit in
     law layout mem image before between reason time live t lies size bytes

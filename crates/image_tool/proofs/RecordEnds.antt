@@ -61,8 +61,10 @@ leaves_script plan a b e can none whole = record { can = can; whole = whole; scr
 -- ---- an image that was not read
 
 pub unread : (plan : RamPlan) (c : RamCommand) (a b : Outside) (s : Stop) (f g : ℕ) → plan.command ≡ c
-    → reads_image c ≡ true → NoScript a b → Quiet a b → LoadStop s (mem_of plan) a.holds f g → RamReadEnds plan a b (Err s)
-unread plan c a b s f g is image none q h = reads plan a b _ (load_can plan c s (mem_of plan) a.holds f g is image h) none q.holds
+    → reads_image c ≡ true → NoScript a b → Quiet a b → LoadStop s (mem_of plan) a.holds f g
+    → RamReadEnds plan a b (Err s)
+unread plan c a b s f g is image none q h = reads plan a b _ (load_can plan c s (mem_of plan) a.holds f g is image h)
+    none q.holds
     (image_stopped plan c a b s f g is image q h)
 
 pub unread_image : (plan : RamPlan) (c : RamCommand) (a b : Outside) (s : Stop) (f g : ℕ) → plan.command ≡ c
@@ -124,12 +126,14 @@ module _ (plan : RamPlan) (a b : Outside) (logs : SavedLogs) (name : Text) (is :
         (named (saved_logs plan.zones (after_boot plan.zones read.image)) name) bytes here
 
     pub extract_put : NoScript a b → Appends a.given b.given bytes → RamReadEnds plan a b (Ok tt)
-    extract_put none put = reads plan a b _ (rw is refl) none same (image_done plan (ExtractRecord name) a b read.image (Ok tt)
+    extract_put none put = reads plan a b _ (rw is refl) none same
+        (image_done plan (ExtractRecord name) a b read.image (Ok tt)
         is refl read.read (put_all_of (wanted_of plan.params plan.zones read.image [] (ExtractRecord name))
         a b bytes extract_wanted same put))
 
     pub extract_front : NoScript a b → AppendsFront a.given b.given bytes → RamReadEnds plan a b (Err SinkFault)
-    extract_front none put = reads plan a b _ (rw is refl) none same (image_done plan (ExtractRecord name) a b read.image
+    extract_front none put = reads plan a b _ (rw is refl) none same
+        (image_done plan (ExtractRecord name) a b read.image
         (Err SinkFault)
         is refl read.read (put_front_of (wanted_of plan.params plan.zones read.image [] (ExtractRecord name))
         a b bytes extract_wanted same put))
@@ -183,7 +187,8 @@ module _ (plan : RamPlan) (a b : Outside) (live : LiveSeen) (logs : SavedLogs) (
         is refl booted.read (rw (erase_wanted, given) (wrote_all bytes a.given a.holds b.holds wrote)))
 
     pub erase_unsaved : NoScript a b → WritesFront a.holds b.holds 0 bytes → RamImageEnds plan a b (Err ImageFault)
-    erase_unsaved none wrote = leaves_script plan a b _ (rw is refl) none (image_done plan (EraseRecord name) a b booted.image
+    erase_unsaved none wrote = leaves_script plan a b _ (rw is refl) none
+        (image_done plan (EraseRecord name) a b booted.image
         (Err ImageFault) is refl booted.read (rw (erase_wanted, given)
         (wrote_front bytes a.given a.holds b.holds wrote)))
 

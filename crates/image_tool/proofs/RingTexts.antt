@@ -1,5 +1,5 @@
 -- The line of a ring, from its pieces
-use Rattle.std.proofs.Common.{◌≡◌, ℕ, List, ◌++◌, sym, ap, ◌∙◌, append_assoc}
+use Rattle.std.proofs.Common.{◌≡◌, ℕ, List, ◌++◌, ap, ◌∙◌, append_assoc}
 use Rattle.std.specs.Prelude.{codes, decimal}
 use Rattle.grammar_spec.specs.Printed.{zone_text}
 use Rattle.salvage_spec.specs.declared.FoundRing.{FoundRing}

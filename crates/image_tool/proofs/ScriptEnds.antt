@@ -73,7 +73,8 @@ module _ (plan : RamPlan) (is : plan.command ≡ RunScript) (a b : Outside) (ima
   run_ended : (e : End) → IsAmong (ram_statuses RunScript) (status_of e) → ScriptEnds (mem_of plan) a b e
       → Ended (wanted_lines (ran plan.zones image lines)) a b e
       → WrittenAt (wanted_lines (ran plan.zones image lines)) a b e → RunEnds plan a b e
-  run_ended e can read h written = lines_ended plan (wanted_script plan.zones) (scripted plan is) a b image l text r lines ok
+  run_ended e can read h written = lines_ended plan (wanted_script plan.zones) (scripted plan is) a b image l
+      text r lines ok
       (wanted_lines (ran plan.zones image lines)) refl e can read h written
 
   pub play_stopped : (s : Stop) (f g : ℕ) → b.holds ≡ a.holds

@@ -57,7 +57,8 @@ both p [] ys h k = k
 both p (x ∷ xs) ys h k = (h.0, both p xs ys h.1 k)
 
 row_parity : (p : Params) (row : Row) (at from n : ℕ)
-    → AllByRecursion (HasParity p) (map (λ i. zone_at p row.kind row.size i (at + i * row.size)) (range_with_len from n))
+    → AllByRecursion (HasParity p) (map (λ i. zone_at p row.kind row.size i (at + i * row.size))
+    (range_with_len from n))
 row_parity p row at from zero = tt
 row_parity p row at from (suc n) = (refl, row_parity p row at (from + 1) n)
 

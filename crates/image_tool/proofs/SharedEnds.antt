@@ -63,7 +63,8 @@ module _ (plan : RamPlan) (is : plan.command ≡ RunShared) (a b : Outside) (ima
   shared_ended : (w : Wanted) → wanted_shared_lines plan.zones image (Ok lines) ≡ w → (e : End)
       → IsAmong (ram_statuses RunScript) (status_of e) → ScriptEnds (mem_of plan) a b e → Ended w a b e
       → WrittenAt w a b e → RunEnds plan a b e
-  shared_ended w same e can read h written = lines_ended plan (wanted_shared_lines plan.zones) (shared_scripted plan is) a b
+  shared_ended w same e can read h written = lines_ended plan (wanted_shared_lines plan.zones)
+      (shared_scripted plan is) a b
       image l text r lines ok w same e can read h written
 
   -- the lines were not all done

@@ -1,6 +1,5 @@
 -- One text that was put, and an image that was written
-use Rattle.std.proofs.Common.{◌≡◌, ℕ, List, [], ◌∷◌, Option, Some, None, Ok, Err, refl, append-nil, arith, inr}
-use Rattle.std.proofs.lemmas.Grind.{common_steps}
+use Rattle.std.proofs.Common.{◌≡◌, ℕ, List, [], ◌∷◌, Option, Ok, Err, refl, append-nil, inr}
 use Rattle.std.specs.Io.KnownBytes.{Appends}
 use Rattle.box_io.specs.Outside.{AppendsFront, Writes, WritesFront}
 use Rattle.tool_spec.specs.Commands.{shows, leaves}

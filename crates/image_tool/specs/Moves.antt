@@ -19,7 +19,8 @@ pub record Moves (plan : MovePlan) (bytes : List ℕ) (b : Outside) : Type 0 whe
   pub holds : b.holds ≡ Some after
   -- a boot lists the records that fit, each with its name, its content and its time, in order, and no other
   pub lists : listed_of (logs_in plan.to after)
-      ≡ filter (λ (r : Listed). fits plan.to.zones (logs_in plan.from bytes) r.name) (listed_of (logs_in plan.from bytes))
+      ≡ filter (λ (r : Listed). fits plan.to.zones (logs_in plan.from bytes) r.name)
+      (listed_of (logs_in plan.from bytes))
   -- each zone reads the log that was carried over to it, or nothing, with nothing corrected and nothing bad
   pub clean : (i : ℕ) (z : Zone) → slice_get plan.to.zones i ≡ Some z
       → ReadsLog (fitting plan.to.zones (logs_in plan.from bytes)) z (zone_bytes z (take (laid_mem plan.to) after))

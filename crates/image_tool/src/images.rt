@@ -1,5 +1,5 @@
 // The commands that read no image.
-ghost use Rattle.std.specs.Prelude.{◌≡◌, ℕ, ◌≤◌, ◌<◌, ◌^◌, ◌∷◌, [], List, Option, Err, replicate, length, IfErr, MatchOption};
+ghost use Rattle.std.specs.Prelude.{◌≡◌, ℕ, ◌≤◌, ◌<◌, ◌∷◌, [], List, Option, Err, replicate};
 ghost use Rattle.box_io.specs.Outside.{WritesFront};
 ghost use Rattle.tool_spec.specs.declared.Stop.TheVariants.{ImageFault};
 ghost use Rattle.tool_spec.specs.Texts.{layout_text};

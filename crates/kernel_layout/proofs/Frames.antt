@@ -44,7 +44,8 @@ has-room p h =
 -- a dump zone of one byte never lacks room
 one-fits : (n : ℕ) → (nat_lt 0 n && nat_lt n 1) ≡ false
 one-fits zero = refl
-one-fits (suc n) = ap (λ (b : Bool). nat_lt 0 (suc n) && b) (le-ltb (suc n) 1 (omega arith)) ∙ and-none (nat_lt 0 (suc n))
+one-fits (suc n) = ap (λ (b : Bool). nat_lt 0 (suc n) && b) (le-ltb (suc n) 1 (omega arith))
+    ∙ and-none (nat_lt 0 (suc n))
   where
     and-none : (b : Bool) → (b && false) ≡ false
     and-none true = refl
@@ -132,11 +133,23 @@ rows-fit p cpus room =
     record {
       sizes = (
         omega (arith, d.each, small),
-        (omega (arith, c.each, small, others), (omega (arith, f.each, small, others), (omega (arith, m.each, small, others), tt))),
+        (
+          omega (arith, c.each, small, others),
+          (
+            omega (arith, f.each, small, others),
+            (omega (arith, m.each, small, others), tt),
+          ),
+        ),
       );
       counts = (
         omega (arith, d.count, small),
-        (omega (arith, c.count, small, others), (omega (arith, f.count, small, others), (omega (arith, m.count, small, others), tt))),
+        (
+          omega (arith, c.count, small, others),
+          (
+            omega (arith, f.count, small, others),
+            (omega (arith, m.count, small, others), tt),
+          ),
+        ),
       );
       total = totals d.all c.all f.all m.all others;
     }

@@ -1,5 +1,5 @@
 // The zones of each kind where the memory size is taken as given, and what is wrong with the parameters.
-ghost use Rattle.std.specs.Prelude.{◌≡◌, ◌<◌, ◌^◌, List, None};
+ghost use Rattle.std.specs.Prelude.{◌≡◌, ◌<◌, ◌^◌, None};
 ghost use Rattle.zone_spec.specs.Layout.{first_fault};
 ghost use Rattle.report_spec.specs.AsGiven.{dump_memory_as_given, lacks_room_as_given, parameter_faults_as_given, rows_as_given};
 ghost use Rattle.kernel_layout.specs.Framed.{framed};

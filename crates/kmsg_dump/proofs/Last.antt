@@ -1,10 +1,9 @@
 -- The last lines that fit: of lines that fit, of one line more, of last lines; and that they are the longest suffix
-use Rattle.std.proofs.Common.{◌≡◌, ℕ, subst, min, ◌+◌, ◌-◌, ◌<◌, ◌≤◌, ◌⊎◌, All, inl, inr, List, [], ◌∷◌, ◌++◌, length, refl, ap, sym, ◌∙◌, arith, append_assoc, append-nil}
+use Rattle.std.proofs.Common.{◌≡◌, ℕ, subst, min, ◌+◌, ◌-◌, ◌<◌, ◌≤◌, All, inl, inr, List, [], ◌∷◌, ◌++◌, length, refl, ap, sym, ◌∙◌, arith, append_assoc, append-nil}
 use Rattle.std.proofs.lemmas.List.{length-append}
 use Rattle.std.proofs.lemmas.List.Elements.{All-tail}
 use Rattle.std.proofs.lemmas.Bool.{le-leb, lt-leb}
 use Rattle.std.proofs.lemmas.Bool.Decides.{leb_tells}
-use Rattle.std.proofs.lemmas.Grind.{flat_map-append}
 use Rattle.kmsg_spec.specs.Bodies.{ended, bytes_of, last_lines, AreLastThatFit}
 
 -- lines that fit are their last lines
@@ -38,7 +37,8 @@ pub one_more : (room : ℕ) (lines : List (List ℕ)) (text : List ℕ) → leng
     → last_lines room (lines ++ text ∷ []) ≡ last_lines (room - length (ended text)) lines ++ text ∷ []
 one_more room [] text h =
     let e = length_more [] text in
-    all_fit room (text ∷ []) (omega (arith, e)) ∙ ap (λ lines. lines ++ text ∷ []) (sym (none_of_none (room - length (ended text))))
+    all_fit room (text ∷ []) (omega (arith, e)) ∙ ap (λ lines. lines ++ text ∷ [])
+    (sym (none_of_none (room - length (ended text))))
 one_more room (line ∷ lines) text h =
     let e = length_more (line ∷ lines) text in
     elim (leb_tells (length (bytes_of (line ∷ lines))) (room - length (ended text))) [
@@ -79,8 +79,10 @@ in_room room lines = elim (leb_tells (length (bytes_of lines)) room) [
 suffix_of_more : (room : ℕ) (line : List ℕ) (lines last front back : List (List ℕ))
     → room < length (bytes_of (line ∷ lines)) → AreLastThatFit room lines last
     → line ∷ lines ≡ front ++ back → length (bytes_of back) ≤ room → length back ≤ length last
-suffix_of_more room line lines last [] back long ih e h = let same = ap (λ xs. length (bytes_of xs)) e in absurd (omega (arith, same))
-suffix_of_more room line lines last (f ∷ front) back long ih e h = let tails : lines ≡ front ++ back = cc in ih.longest front back tails h
+suffix_of_more room line lines last [] back long ih e h =
+    let same = ap (λ xs. length (bytes_of xs)) e in absurd (omega (arith, same))
+suffix_of_more room line lines last (f ∷ front) back long ih e h =
+    let tails : lines ≡ front ++ back = cc in ih.longest front back tails h
 
 pub last_lines_fit : (room : ℕ) (lines : List (List ℕ)) → AreLastThatFit room lines (last_lines room lines)
 last_lines_fit room [] = rw (none_of_none room) (record {

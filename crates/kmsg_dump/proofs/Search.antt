@@ -1,5 +1,5 @@
 -- A newline found in a piece of bytes is found in the bytes, and a line starts behind it
-use Rattle.std.proofs.Common.{◌≡◌, ℕ, true, ◌+◌, ◌-◌, ◌<◌, ◌≤◌, inl, inr, List, [], ◌∷◌, ◌++◌, Option, Some, None, length, drop, get_or, refl, ap, sym, ◌∙◌, arith, subst, eqb-true, eq-eqb}
+use Rattle.std.proofs.Common.{◌≡◌, ℕ, true, ◌+◌, ◌-◌, ◌<◌, ◌≤◌, inl, inr, List, ◌++◌, Some, None, length, drop, get_or, refl, ap, sym, ◌∙◌, arith, subst, eqb-true, eq-eqb}
 use Rattle.std.proofs.lemmas.List.{length-append, length-drop, get_or-drop, get_or-append-add}
 use Rattle.std.proofs.Math.ListN.{get_or-append}
 use Rattle.std.proofs.lemmas.Bool.Decides.{leb_tells}
@@ -23,13 +23,14 @@ front_lies front back at h = let n = length-append front back in let m = length-
 
 pub back_lies : (front back : List ℕ) (at : ℕ) → length front ≤ at → at ≤ length front + length back
     → Lies (front ++ back) (drop (at - length front) back) at
-back_lies front back at h g = let n = length-append front back in let m = length-drop (at - length front) back in record {
-  within = omega (arith, n, m);
-  reads = λ k l. ap (λ i. get_or (front ++ back) i 0)
-      (let e : at + k ≡ length front + (at - length front + k) = omega arith in e)
-      ∙ get_or-append-add front back (at - length front + k) 0
-      ∙ sym (get_or-drop (at - length front) back k 0);
-}
+back_lies front back at h g =
+    let n = length-append front back in let m = length-drop (at - length front) back in record {
+      within = omega (arith, n, m);
+      reads = λ k l. ap (λ i. get_or (front ++ back) i 0)
+          (let e : at + k ≡ length front + (at - length front + k) = omega arith in e)
+          ∙ get_or-append-add front back (at - length front + k) 0
+          ∙ sym (get_or-drop (at - length front) back k 0);
+    }
 
 pub whole_back_lies : (front back : List ℕ) → Lies (front ++ back) back (length front)
 whole_back_lies front back = let n = length-append front back in record {
@@ -98,7 +99,8 @@ start_found bytes from i some f = let low = f.0.low in let high = f.0.high in re
     ap (λ k. get_or bytes k 0) (let e : i + 1 - 1 ≡ i = omega arith in e)
         ∙ eqb-true (get_or bytes i 0) newline f.1,
   ));
-  before = λ k l g. before_start bytes from k some l (omega (arith, high)) (f.0.before (k - 1) (omega arith) (omega arith));
+  before = λ k l g. before_start bytes from k some l (omega (arith, high))
+      (f.0.before (k - 1) (omega arith) (omega arith));
 }
 
 pub start_missed : (bytes : List ℕ) (from : ℕ) → 0 < from → from ≤ length bytes

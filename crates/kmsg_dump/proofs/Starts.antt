@@ -1,5 +1,5 @@
 -- The bytes from the first start of a line on are those of the last lines that fit
-use Rattle.std.proofs.Common.{◌≡◌, ℕ, zero, suc, ◌+◌, ◌-◌, ◌<◌, ◌≤◌, ◌⊎◌, inl, inr, List, [], ◌∷◌, ◌++◌, length, drop, get_or, All, refl, ap, sym, ◌∙◌, arith, append_assoc}
+use Rattle.std.proofs.Common.{◌≡◌, ℕ, zero, suc, ◌+◌, ◌-◌, ◌<◌, ◌≤◌, inl, inr, List, [], ◌∷◌, ◌++◌, length, drop, get_or, All, refl, ap, sym, ◌∙◌, arith, append_assoc}
 use Rattle.std.proofs.lemmas.List.{length-append, get_or-append-add}
 use Rattle.std.proofs.Math.ListN.{get_or-append}
 use Rattle.std.proofs.Math.Seq.{get_or-append_seam, drop-append_seam, drop-append-add}
@@ -69,7 +69,8 @@ in_rest x rest from p h s =
       low = omega (arith, low);
       high = omega (arith, high, n);
       start = start_behind x rest p (omega (arith, low)) s.start;
-      before = λ k l g is. s.before (length x + k) (omega (arith, l)) (omega (arith, g)) (start_before x rest k (omega (arith, l)) is);
+      before = λ k l g is. s.before (length x + k) (omega (arith, l)) (omega (arith, g))
+          (start_before x rest k (omega (arith, l)) is);
     }
 
 pub from_start : (lines : List (List ℕ)) → All IsLine lines → (from p : ℕ) → from ≤ length (bytes_of lines)
@@ -82,11 +83,13 @@ from_start (x ∷ xs) plain zero p h s =
     ap (λ k. drop k (bytes_of (x ∷ xs))) (at_front (bytes_of (x ∷ xs)) p s)
     ∙ ap bytes_of (sym (all_fit (length (bytes_of (x ∷ xs)) - 0) (x ∷ xs) (omega arith)))
 from_start (x ∷ xs) plain (suc from) p h s =
-    let n : length (bytes_of (x ∷ xs)) ≡ length (ended x) + length (bytes_of xs) = length-append (ended x) (bytes_of xs) in
+    let n : length (bytes_of (x ∷ xs)) ≡ length (ended x) + length (bytes_of xs) =
+    length-append (ended x) (bytes_of xs) in
     let room = length (bytes_of (x ∷ xs)) - suc from in
     let gone : last_lines room (x ∷ xs) ≡ last_lines room xs = behind_first room x xs (omega arith) in
     elim (leb_tells (suc from) (length (ended x))) [
-      | inl f ↦ ap (λ k. drop k (bytes_of (x ∷ xs))) (behind_line x (bytes_of xs) (suc from) p (All-head IsLine x xs plain) (omega arith) f.1 s)
+      | inl f ↦ ap (λ k. drop k (bytes_of (x ∷ xs)))
+          (behind_line x (bytes_of xs) (suc from) p (All-head IsLine x xs plain) (omega arith) f.1 s)
           ∙ drop-append_seam (ended x) (bytes_of xs)
           ∙ ap bytes_of (sym (all_fit room xs (omega (arith, n, f.1))) ∙ sym gone)
       | inr f ↦ let low = s.low in
@@ -94,7 +97,8 @@ from_start (x ∷ xs) plain (suc from) p h s =
           let same : length (bytes_of xs) - (suc from - length (ended x)) ≡ room = omega (arith, n, f.1) in
           ap (λ k. drop k (bytes_of (x ∷ xs))) at
           ∙ drop-append-add (ended x) (bytes_of xs) (p - length (ended x))
-          ∙ from_start xs (All-tail IsLine x xs plain) (suc from - length (ended x)) (p - length (ended x)) (omega (arith, n, f.1))
+          ∙ from_start xs (All-tail IsLine x xs plain) (suc from - length (ended x)) (p - length (ended x))
+          (omega (arith, n, f.1))
           (in_rest (ended x) (bytes_of xs) (suc from) p f.1 s)
           ∙ ap (λ k. bytes_of (last_lines k xs)) same ∙ ap bytes_of (sym gone)
     ]

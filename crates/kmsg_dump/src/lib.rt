@@ -3,7 +3,7 @@
 #![tactic(auto)]
 
 ghost use Rattle.std.specs.Prelude.{◌≡◌, ◌+◌, ◌-◌, ◌<◌, ◌≤◌, nat_le, true, false, ℕ, List, [], ◌∷◌, ◌++◌, length, drop, Some, IfOk};
-ghost use Rattle.circular_buffer.specs.Buffer.{buffer, keep_last};
+ghost use Rattle.circular_buffer.specs.Buffer.{buffer};
 ghost use Rattle.memchr.specs.Find.{IsFirst, Passes, is_byte};
 ghost use Rattle.kmsg_spec.specs.Bodies.{newline, bytes_of, heading, last_lines, body as body_of};
 ghost use Rattle.kmsg_dump.specs.Kept.{IsLine, Keeps, LastLinesFit};

@@ -229,10 +229,12 @@ module _ {i : ℕ} {t t1 t2 t3 : Tally} {c c1 c2 c3 : CutRegion} where
       let at2 : q ≡ 12 + length (front ++ back) = omega (arith, eq, both) in
       let one : Makes (data_fixes (span c i) (front ++ back)) i t c t2 c2 =
       makes-fixes 12 front back lt (omega (arith, nf, le, room)) m
-      (subst (λ (n : ℕ). Makes (fix_stores n (slice_range (span c1 i) n (n + length back)) back) i t1 c1 t2 c2) at1 k) in
+      (subst (λ (n : ℕ). Makes (fix_stores n (slice_range (span c1 i) n (n + length back)) back) i t1 c1 t2 c2)
+      at1 k) in
       let all : Makes (data_fixes (span c i) ((front ++ back) ++ tail)) i t c t3 c3 =
       makes-fixes 12 (front ++ back) tail lt (omega (arith, both, room)) one
-      (subst (λ (n : ℕ). Makes (fix_stores n (slice_range (span c2 i) n (n + length tail)) tail) i t2 c2 t3 c3) at2 l) in
+      (subst (λ (n : ℕ). Makes (fix_stores n (slice_range (span c2 i) n (n + length tail)) tail) i t2 c2 t3 c3)
+      at2 l) in
       makes-same (ap₂ (λ (u v : List ℕ). data_fixes (span c i) ((u ++ v) ++ tail)) ef eb) all
 
 least : (m n : ℕ) → min m n ≤ n

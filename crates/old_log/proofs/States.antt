@@ -7,7 +7,7 @@ use Rattle.zone_spec.specs.declared.State.{State}
 use Rattle.zone_spec.specs.declared.State.TheVariants.{Unsigned, Empty, Invalid, Found}
 use Rattle.zone_spec.specs.Parts.{Header, Block}
 use Rattle.zone_spec.specs.PartReadings.{PartReading, part_reading}
-use Rattle.zone_spec.specs.Reading.{ZoneReading, zone_reading, blocks_below}
+use Rattle.zone_spec.specs.Reading.{ZoneReading, zone_reading}
 use Rattle.report_spec.specs.declared.PartState.{PartState}
 use Rattle.report_spec.specs.declared.PartState.TheVariants.{Read, Bad}
 use Rattle.report_spec.specs.Parts.{part_state, PartStates, used_blocks, part_states}
@@ -52,8 +52,12 @@ module _ (z : Zone) (bytes : List ℕ) where
       ∙ ap (λ (q : ZoneReading). map (λ b. part_state (part_reading z bytes (Block b))) (used_blocks z q q.state)) e)
     where
       none : (s : State) → r.state ≡ s
-          → ◌≡◌ {A = List PartState} [] (map (λ b. part_state (part_reading z bytes (Block b))) (used_blocks z r r.state))
+          → ◌≡◌ {A = List PartState} [] (map (λ b. part_state (part_reading z bytes (Block b)))
+          (used_blocks z r r.state))
       none Found is = absurd (other is)
-      none Unsigned is = ap (λ (s : State). map (λ b. part_state (part_reading z bytes (Block b))) (used_blocks z r s)) (sym is)
-      none Empty is = ap (λ (s : State). map (λ b. part_state (part_reading z bytes (Block b))) (used_blocks z r s)) (sym is)
-      none Invalid is = ap (λ (s : State). map (λ b. part_state (part_reading z bytes (Block b))) (used_blocks z r s)) (sym is)
+      none Unsigned is = ap (λ (s : State). map (λ b. part_state (part_reading z bytes (Block b))) (used_blocks z r s))
+          (sym is)
+      none Empty is = ap (λ (s : State). map (λ b. part_state (part_reading z bytes (Block b))) (used_blocks z r s))
+          (sym is)
+      none Invalid is = ap (λ (s : State). map (λ b. part_state (part_reading z bytes (Block b))) (used_blocks z r s))
+          (sym is)

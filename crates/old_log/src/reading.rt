@@ -1,5 +1,5 @@
 // The reading of a zone, and whether a boot keeps the zone that has it.
-ghost use Rattle.std.specs.Prelude.{◌≡◌, ◌+◌, ◌*◌, ◌≤◌, ◌<◌, ◌^◌, ◌↔◌, length, true, IsTrue, IfOk};
+ghost use Rattle.std.specs.Prelude.{◌≡◌, ◌+◌, ◌*◌, ◌≤◌, ◌<◌, ◌↔◌, length, true, IsTrue, IfOk};
 ghost use Rattle.code_spec.specs.Code.{IsCodeword};
 ghost use Rattle.zone_spec.specs.Parts.{Block, part_word};
 ghost use Rattle.zone_spec.specs.Zones.{IsValidZone};
@@ -326,8 +326,8 @@ fn read_whole(
     }
 }
 
-/// Reads a zone as a boot does, and stores nothing. The log is the only memory taken. A caller with many zones makes one
-/// encoder for those with the same parity.
+/// Reads a zone as a boot does, and stores nothing. The log is the only memory taken. A caller with many zones makes
+/// one encoder for those with the same parity.
 pub fn read_zone_by(
     alloc: Global,
     coder: &Coder,

@@ -224,7 +224,8 @@ fn tail_read(coder: &Coder, span: &Span, zone: &Zone, size: u32) -> ArrayVec<u8,
     requires valid { IsValidZone zone.now }
     requires len { length span.now ≡ zone.now.size }
     requires within { size ≤ zone.now.cap }
-    ensures { bytes_read zone.now span.now size ++ result.items ≡ bytes_read zone.now span.now (read_end zone.now size) }
+    ensures { bytes_read zone.now span.now size ++ result.items
+        ≡ bytes_read zone.now span.now (read_end zone.now size) }
 {
     let _len = span.len();
     let none: ArrayVec<u8, 255> = ArrayVec::new();

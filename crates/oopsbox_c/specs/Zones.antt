@@ -154,7 +154,8 @@ TellsReading r Room old new answer = (answer ≡ zone_answer r) × (length old <
 TellsReading r other old new answer = ⊥
 
 -- the reading of this zone
-pub record OfZone (end : End) (zones : List Zone) (index : ℕ) (image old new : List ℕ) (answer : ZoneAnswer) : Type 0 where
+pub record OfZone (end : End) (zones : List Zone) (index : ℕ) (image old new : List ℕ)
+    (answer : ZoneAnswer) : Type 0 where
   pub zone : Zone
   pub is : slice_get zones index ≡ Some zone
   pub within : zone.at + zone.size ≤ length image
@@ -180,7 +181,8 @@ ReadsZone Memory zones index image old new before after = Kept old new before af
 ReadsZone other zones index image old new before after = ⊥
 
 -- of the text's layout
-pub record InLayout (end : End) (text : List ℕ) (index : ℕ) (image old new : List ℕ) (before after : ZoneAnswer) : Type 0 where
+pub record InLayout (end : End) (text : List ℕ) (index : ℕ) (image old new : List ℕ)
+    (before after : ZoneAnswer) : Type 0 where
   pub params : Params
   pub zones : List Zone
   pub laid : IsLaid text params zones

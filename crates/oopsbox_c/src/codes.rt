@@ -1,5 +1,5 @@
 // Parity and correction of one block. They take no memory.
-ghost use Rattle.std.specs.Prelude.{◌≡◌, ◌+◌, ◌/◌, ◌≤◌, ◌<◌, ◌^◌, ℕ, [], ◌++◌, length, take, unwrap_or, if◌then◌else◌};
+ghost use Rattle.std.specs.Prelude.{◌≡◌, ◌+◌, ◌/◌, ◌≤◌, ◌<◌, [], ◌++◌, length, take, unwrap_or, if◌then◌else◌};
 ghost use Rattle.code_spec.specs.Code.{nearest, parity_of};
 ghost use Rattle.rs_errors.specs.Decoding.{fixes_by};
 ghost use Rattle.oopsbox_c.specs.Codes.{is_block, has_answer, encode_end, decode_end, end_of, PlacesAre};

@@ -1,5 +1,5 @@
 // A script, an image and a text in memory, for one run. Image and text grow as far as there is memory.
-ghost use Rattle.std.specs.Prelude.{◌≡◌, ℕ, ◌+◌, ◌-◌, ◌<◌, ◌≤◌, min, List, [], ◌++◌, Some, length, take, drop, vec_len, vec_capacity};
+ghost use Rattle.std.specs.Prelude.{◌≡◌, ◌+◌, ◌-◌, ◌<◌, ◌≤◌, min, [], ◌++◌, Some, length, take, drop, vec_len, vec_capacity};
 ghost use Rattle.box_io.specs.Bytes.{AreBytes, AreBytes-drop};
 ghost use Rattle.box_io.specs.Outside.{written};
 

@@ -1,5 +1,5 @@
 // The whole tool on an image in memory.
-ghost use Rattle.std.specs.Prelude.{◌≡◌, ◌≤◌, length, take, IfOk};
+ghost use Rattle.std.specs.Prelude.{IfOk};
 ghost use Rattle.grammar_spec.specs.Words.{texts};
 ghost use Rattle.oopsbox_c.specs.Memory.{image_bytes, text_bytes};
 ghost use Rattle.oopsbox_c.specs.Runs.{IsRun, given, HandsOut, RunEnds};

@@ -30,8 +30,8 @@ pub struct ZonePlace {
     pub sig: u32,
 }
 
-/// A layout's number of zones and bytes of memory, and where there is none the fault's number and the place of its word,
-/// from 1; 0 where no word is at fault.
+/// A layout's number of zones and bytes of memory, and where there is none the fault's number and the place of its
+/// word, from 1; 0 where no word is at fault.
 #[repr(C)]
 #[derive(Clone, Copy, Debug, Default, PartialEq, Eq)]
 pub struct LayoutAnswer {

@@ -1,5 +1,5 @@
 // Words by a table of keys.
-ghost use Rattle.std.specs.Prelude.{◌≡◌, ◌<◌, ◌^◌, ◌==◌, [], Bool, true, false, length, bytes_eq, MatchOption};
+ghost use Rattle.std.specs.Prelude.{◌≡◌, ◌<◌, ◌^◌, ◌==◌, [], false, length, bytes_eq, MatchOption};
 ghost use Rattle.std.specs.Option.{option_copied};
 ghost use Rattle.std.specs.List.{list_any};
 ghost use Rattle.grammar_spec.specs.Words.{value_text, word_fault, first_fault, given, texts, IsSplit};

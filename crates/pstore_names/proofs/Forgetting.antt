@@ -185,6 +185,7 @@ pub read-mapped : {X Y : Type 0} (f : X → Y) (xs : List X) (ys : List Y) (i : 
 read-mapped {Y = Y} f xs ys i x y all here below at =
     let there : slice_get ys i ≡ Some (get_or ys i y) =
     slice_get-get_or ys i y (omega (arith, ap length all, length-map xs f, below)) in
-    let both : Some (f x) ≡ Some y = sym (mapped-at f xs i x at) ∙ ap (λ (zs : List Y). slice_get zs i) (sym all) ∙ there
+    let both : Some (f x) ≡ Some y = sym (mapped-at f xs i x at) ∙ ap (λ (zs : List Y). slice_get zs i) (sym all)
+    ∙ there
     ∙ ap Some (sym here) in
     cc

@@ -16,7 +16,6 @@ use Rattle.zone_spec.specs.Records.{Saved, Listed, is_of, found, dump_of, dumps_
 use Rattle.zone_spec.specs.Notices.{is_in}
 use Rattle.session_spec.specs.Moved.{takes, fits}
 use Rattle.pstore_names.specs.declared.moving.Move.{Move}
-use Rattle.pstore_names.specs.Counts.{corrected_in, bad_in}
 use Rattle.pstore_names.specs.Tables.{numbers_rise, zones_counted}
 use Rattle.pstore_names.specs.Moves.{move_of}
 use Rattle.pstore_names.proofs.Additive.{filter-append, dumps_of-append, logs_of-append}

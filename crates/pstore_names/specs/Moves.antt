@@ -1,5 +1,5 @@
 -- What is told of each record of saved logs that are moved to another layout
-use Rattle.std.specs.Prelude.{ℕ, Bool, true, if◌then◌else◌, List, length, Option, Some, None}
+use Rattle.std.specs.Prelude.{Bool, true, List, length, Option, Some, None}
 use Rattle.zone_spec.specs.declared.Zone.{Zone}
 use Rattle.zone_spec.specs.Reading.{ZoneReading}
 use Rattle.zone_spec.specs.Records.{Saved, Listed}

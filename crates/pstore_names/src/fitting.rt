@@ -1,9 +1,8 @@
 // Which of the saved logs fit another layout.
 ghost use Rattle.std.specs.Prelude.{◌≡◌, ◌<◌, [], ◌∷◌, length, map, slice_get, Some, IfOk, OnOk, OnErr};
-ghost use Rattle.zone_spec.specs.declared.Kind.TheVariants.{Dump as DumpKind};
-ghost use Rattle.zone_spec.specs.Records.{Saved, is_of};
+ghost use Rattle.zone_spec.specs.Records.{Saved};
 ghost use Rattle.zone_params.specs.Laid.{zones_of};
-ghost use Rattle.session_spec.specs.Moved.{takes, fits, fitting, is_fit, record_name};
+ghost use Rattle.session_spec.specs.Moved.{takes, fits, fitting, record_name};
 ghost use Rattle.old_log.specs.Saving.{saved};
 ghost use Rattle.pstore_names.specs.Tables.{numbers_rise, zones_counted};
 ghost use Rattle.pstore_names.specs.Moves.{stays};

@@ -1,5 +1,5 @@
 // The listed records as a move to another layout tells of them.
-ghost use Rattle.std.specs.Prelude.{◌≡◌, ◌<◌, ◌^◌, [], ◌∷◌, ◌++◌, length, map, slice_get, Some, option_to_list, IfOk, OnOk};
+ghost use Rattle.std.specs.Prelude.{◌≡◌, ◌<◌, [], ◌∷◌, ◌++◌, length, map, slice_get, Some, option_to_list, IfOk, OnOk};
 ghost use Rattle.zone_spec.specs.Records.{Saved, dumps_of, plain, ftrace_of, logs_of, listed_of};
 ghost use Rattle.zone_params.specs.Laid.{zones_of};
 ghost use Rattle.session_spec.specs.Moved.{fits};

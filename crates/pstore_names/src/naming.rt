@@ -1,7 +1,6 @@
 // The texts of names.
 ghost use Rattle.std.specs.Prelude.{◌≡◌, ℕ, ◌<◌, ◌^◌, decimal, Some};
-ghost use Rattle.zone_spec.specs.declared.Name.{Name as NameValue};
-ghost use Rattle.zone_spec.specs.Names.{IsName, IsNameOf, name_text};
+ghost use Rattle.zone_spec.specs.Names.{IsNameOf, name_text};
 ghost use Rattle.pstore_names.specs.Candidates.{IsCandidate, IsDumpCandidate};
 
 use arrayvec::ArrayString;

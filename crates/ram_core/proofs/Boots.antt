@@ -280,7 +280,8 @@ module _ (v : OffSeen) (o : OpenOff) (is : IsOpen v o) where
           own_held s stands.image;
       logs = logs_are L M v.image is.lies is.size is.bytes s stands.image p.logs
           (subst (λ (c : CutRegion). AreLogs L c.spans p.logs) is.spans (logs_from p prepared));
-      reports = reports_are L M v.image is.lies is.size is.bytes K s stands.image (all_len (length L) o.zones.items is.known) stands.count
+      reports = reports_are L M v.image is.lies is.size is.bytes K s stands.image
+          (all_len (length L) o.zones.items is.known) stands.count
           stands.zones p.reports.items own_prepared.reports_len
           (λ i z b k r ez eb ek er. own_prepared.reports i z b k r (slice_get_within L i z ez) ez eb ek er);
       reads = λ sound. sound_state_reads_zones L M s is.lies sound;

@@ -208,7 +208,8 @@ idle_same v spans i h g cursor es eg eh ec =
     ∙ ap (λ (n : ℕ). record v { cursor = n }) ec
 
 -- a store by what it reads and writes of the machine's fields
-pub stored_by : (k : ℕ) (v x : LiveSeen) (i : ℕ) (h g : HeldZone) (new : CutRegion) (r : Option Stored) (cursor : ℕ) → v ≡ x
+pub stored_by : (k : ℕ) (v x : LiveSeen) (i : ℕ) (h g : HeldZone) (new : CutRegion) (r : Option Stored) (cursor : ℕ)
+    → v ≡ x
     → IsRunning v → i < length x.layout → h ≡ get_or v.zones i h
     → new ≡ with_span v.spans i (span new i) → is_some h.flight ≡ is_some r → is_some g.flight ≡ is_next r
     → ((f m : Flying) → h.flight ≡ Some f → g.flight ≡ Some m → m.call ≡ f.call)

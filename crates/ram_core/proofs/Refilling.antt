@@ -184,7 +184,8 @@ says_blank v x i h says below e running eh is = record {
       ∙ slice_get_read v.zones (length v.zones) i h refl
       (slice_get_within v.zones i k (ap (λ (y : LiveSeen). slice_get y.zones i) e ∙ ek)) eh in
       let same : h ≡ k = (let g : Some h ≡ Some k = sym gh ∙ ek in cc) in
-      subst (λ (y : HeldZone). (y.flight ≡ None) × (y.told.items ≡ [])) same (both (is_some h.flight) refl (sym is ∙ yes));
+      subst (λ (y : HeldZone). (y.flight ≡ None) × (y.told.items ≡ [])) same
+      (both (is_some h.flight) refl (sym is ∙ yes));
   same = λ layout mem s z live stands ez el.
       let o = own layout mem x s stands in
       let at = here x.layout x.mem x s o i below in

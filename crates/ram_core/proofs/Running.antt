@@ -60,7 +60,8 @@ none_flies b o h e free = by b h.flight (ap (λ (p : Option HeldZone). b || flie
     by false None k = refl
     by false (Some f) k = absurd (true≢false k)
 
-pub no_flight : (z : Zone) (bytes : List ℕ) (o : Option Flying) (p : Option Flight) → o ≡ None → StandsForSome z bytes o p
+pub no_flight : (z : Zone) (bytes : List ℕ) (o : Option Flying) (p : Option Flight) → o ≡ None
+    → StandsForSome z bytes o p
     → p ≡ None
 no_flight z bytes None None e s = refl
 no_flight z bytes None (Some f) e s = absurd s

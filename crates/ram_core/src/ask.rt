@@ -1,5 +1,5 @@
 // What may be asked of a live machine.
-ghost use Rattle.std.specs.Prelude.{◌≡◌, ◌≤◌, ◌<◌, length};
+ghost use Rattle.std.specs.Prelude.{◌≡◌};
 ghost use Rattle.zone_flight.specs.Calls.{call_seen};
 ghost use Rattle.session_spec.specs.LiveCalls.{call_of as call_asked};
 ghost use Rattle.session_spec.specs.Sound.{IsAsk};

@@ -1,13 +1,10 @@
 // The two halves of a boot: all that is read and taken before the first store, and the stores.
 ghost use Rattle.std.specs.Prelude.{◌≡◌, ◌≤◌, ◌<◌, ◌^◌, if◌then◌else◌, [], length, take, min, slice_get, Some, None, IfOk};
 ghost use Rattle.zone_spec.specs.Zones.{IsValidZone};
-ghost use Rattle.zone_spec.specs.Parts.{AreBytes};
 ghost use Rattle.zone_spec.specs.Reading.{zone_reading};
 ghost use Rattle.zone_spec.specs.Stores.{after_stores};
 ghost use Rattle.zone_spec.specs.Boot.{keeps as keeps_zone, boot_stores, boot_fixes};
-ghost use Rattle.zone_spec.specs.Layouts.{IsLayout};
-ghost use Rattle.zone_params.specs.Laid.{zones_of, params_of};
-ghost use Rattle.zone_spec.specs.Layout.{rounded};
+ghost use Rattle.zone_params.specs.Laid.{zones_of};
 ghost use Rattle.ram_region.specs.CutRegion.{span, with_span};
 ghost use Rattle.circular_buffer.specs.Buffer.{buffer};
 ghost use Rattle.ram_core.specs.OffSeen.{known_all};

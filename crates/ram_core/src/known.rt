@@ -1,5 +1,5 @@
 // What is known of a zone while the machine is off.
-ghost use Rattle.std.specs.Prelude.{◌≡◌, ◌≤◌, ◌<◌, ℕ, length, slice_get, Some};
+ghost use Rattle.std.specs.Prelude.{◌≡◌, ◌≤◌, ◌<◌, length, Some};
 ghost use Rattle.std.specs.Vec.{vec_capacity};
 ghost use Rattle.ram_core.specs.OffSeen.{known_all};
 ghost use Rattle.ram_core.specs.SeenCut.{cut_of_flight, cut_of_erasure};

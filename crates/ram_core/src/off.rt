@@ -134,8 +134,8 @@ impl OpenOff {
         Ok((prepared, passed))
     }
 
-    // The machine after a boot that has made all its stores. The next stop lists the zones in the room of what was known
-    // of them.
+    // The machine after a boot that has made all its stores. The next stop lists the zones in the room of what was
+    // known of them.
     fn live(self, zones: Vec<HeldZone>, coders: Coders) -> Live
         requires running { IsRunning (seen_booted self zones.items) }
         requires room { length (zones_of self.layout) ≤ vec_capacity self.zones }

@@ -1,6 +1,5 @@
 // A blank store that is told the logs of another.
-ghost use Rattle.std.specs.Prelude.{◌≡◌, ◌≤◌, ◌<◌, ℕ, true, [], List, length, map, option_to_list, replicate, slice_get, Some, None, IfOk, OnOk};
-ghost use Rattle.zone_spec.specs.declared.Zone.{Zone as AZone};
+ghost use Rattle.std.specs.Prelude.{◌≡◌, ◌<◌, length, map, option_to_list, replicate, slice_get, Some, None, IfOk, OnOk};
 ghost use Rattle.zone_spec.specs.Layout.{rounded};
 ghost use Rattle.zone_spec.specs.Records.{Saved, found};
 ghost use Rattle.zone_spec.specs.Reading.{ZoneReading};
@@ -128,9 +127,9 @@ fn refill_all(alloc: Global, live: &mut Live, logs: &Logs) -> Result<(), AllocEr
 }
 
 impl Off {
-    /// A store of this layout that is told these logs: a blank image of `mem` bytes after a boot, an append to each zone
-    /// of the log that was found of the zone of its name, and a stop. A log whose name the layout has not is left away,
-    /// and of one with more bytes than its zone takes the last stay.
+    /// A store of this layout that is told these logs: a blank image of `mem` bytes after a boot, an append to each
+    /// zone of the log that was found of the zone of its name, and a stop. A log whose name the layout has not is left
+    /// away, and of one with more bytes than its zone takes the last stay.
     pub fn rebuilt(alloc: Global, layout: Layout, logs: &Logs) -> Result<Off, AllocError>
         ensures stands { IfOk result (λ off. StandsOff (zones_of layout) (rounded (params_of layout).mem) off
             (moved (zones_of layout) (rounded (params_of layout).mem) (saved logs.now))) }

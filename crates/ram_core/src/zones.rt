@@ -1,10 +1,9 @@
 // The zones of a live machine: the told list of each, and its flight.
-ghost use Rattle.std.specs.Prelude.{◌≡◌, ◌<◌, ◌≤◌, ◌&&◌, not, is_some, ℕ, List, length, Some, None};
+ghost use Rattle.std.specs.Prelude.{◌≡◌, ◌<◌, ◌≤◌, ◌&&◌, not, is_some, length, Some, None};
 ghost use Rattle.zone_spec.specs.Zones.{IsValidZone};
 ghost use Rattle.zone_spec.specs.Parts.{IsImage};
 ghost use Rattle.zone_spec.specs.Ring.{IsRingForm};
 ghost use Rattle.zone_spec.specs.Calls.{CanBegin};
-ghost use Rattle.zone_spec.specs.Told.{kind_of, told_after};
 ghost use Rattle.zone_flight.specs.Calls.{call_seen};
 ghost use Rattle.zone_flight.specs.Flying.{Flying};
 ghost use Rattle.ram_region.specs.CutRegion.{span, with_span};

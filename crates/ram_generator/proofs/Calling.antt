@@ -1,5 +1,5 @@
 -- Calls made one behind another
-use Rattle.std.proofs.Common.{◌≡◌, ℕ, ◌+◌, ◌≤◌, List, [], ◌∷◌, fold, map, refl, arith}
+use Rattle.std.proofs.Common.{◌≡◌, ℕ, ◌+◌, ◌≤◌, List, ◌∷◌, fold, map, arith}
 use Rattle.zone_spec.specs.declared.Zone.{Zone}
 use Rattle.zone_spec.specs.Layouts.{IsLayout}
 use Rattle.ram_core.specs.declared.ask.Ask.{Ask}

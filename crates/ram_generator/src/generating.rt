@@ -1,5 +1,5 @@
 // The whole session of a number.
-ghost use Rattle.std.specs.Prelude.{◌≡◌, ℕ, ◌++◌, List, length, replicate, decimal, IfOk, OnOk};
+ghost use Rattle.std.specs.Prelude.{◌≡◌, ◌++◌, List, length, replicate, decimal, IfOk, OnOk};
 ghost use Rattle.zone_spec.specs.declared.Zone.{Zone};
 ghost use Rattle.zone_spec.specs.Layout.{rounded};
 ghost use Rattle.session_spec.specs.States.{Session};

@@ -1,5 +1,5 @@
 // The calls of a round, drawn before any is made.
-ghost use Rattle.std.specs.Prelude.{◌≡◌, ℕ, List, ◌<◌, ◌≤◌, ◌+◌, ◌++◌, ◌==◌, ◌^◌, true, false, not, map, length, slice_index, Some, IfOk, OnOk};
+ghost use Rattle.std.specs.Prelude.{◌≡◌, ℕ, List, ◌<◌, ◌≤◌, ◌+◌, ◌++◌, ◌^◌, true, false, map, length, Some, IfOk, OnOk};
 ghost use Rattle.std.specs.List.{All, range_with_len};
 ghost use Rattle.zone_spec.specs.Records.{is_of};
 ghost use Rattle.zone_spec.specs.declared.Kind.TheVariants.{Dump as DumpKind};

@@ -1,5 +1,5 @@
 // The one block: a `Vec` taken apart and put together, and a row of places cut, glued and lent.
-ghost use Rattle.std.specs.Prelude.{◌≡◌, ℕ, ◌+◌, ◌-◌, ◌*◌, ◌^◌, ◌<◌, ◌≤◌, ◌++◌, List, length, take, drop};
+ghost use Rattle.std.specs.Prelude.{◌≡◌, ◌+◌, ◌-◌, ◌*◌, ◌^◌, ◌<◌, ◌≤◌, ◌++◌, take, drop};
 ghost use denote.RawPtr.{◌+ₚ◌};
 ghost use Rattle.std.specs.Vec.{vec_ptr, vec_len};
 ghost use Rattle.core.specs.Mem.Slots.{slots_items, slots_ptr, slots_len, IsFull};

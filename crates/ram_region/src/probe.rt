@@ -23,7 +23,8 @@ impl Model for Probe {
 
     ghost view = { λ p. piece_bytes p.piece };
 
-    ghost invariant = { λ p. (slots_ptr p.piece.slots ≡ vec_ptr p.shell) × (slots_len p.piece.slots ≡ vec_len p.shell) };
+    ghost invariant = { λ p. (slots_ptr p.piece.slots ≡ vec_ptr p.shell)
+        × (slots_len p.piece.slots ≡ vec_len p.shell) };
 }
 
 impl Probe {

@@ -1,9 +1,9 @@
 // A region, and the spans that it is cut into.
-ghost use Rattle.std.specs.Prelude.{◌≡◌, ℕ, ◌+◌, ◌<◌, ◌≤◌, ◌^◌, ◌++◌, List, length, take, drop, slice_index, slice_get, slice_range, slice_set, Some, MatchResult};
+ghost use Rattle.std.specs.Prelude.{◌≡◌, ℕ, ◌+◌, ◌<◌, ◌≤◌, ◌++◌, List, length, drop, slice_index, slice_range, slice_set, Some, MatchResult};
 ghost use Rattle.std.specs.Int.{to_le_bytes, from_le_bytes};
 ghost use Rattle.std.proofs.Common.{w32};
 ghost use Rattle.std.specs.List.{concat};
-ghost use Rattle.core.specs.Mem.Slots.{IsFull, slots_items, slots_len, slots_ptr};
+ghost use Rattle.core.specs.Mem.Slots.{IsFull, slots_items};
 ghost use Rattle.zone_spec.specs.Parts.{AreBytes};
 ghost use Rattle.zone_spec.specs.Stores.{put};
 ghost use Rattle.ram_region.specs.Row.{IsRow};

@@ -1,8 +1,8 @@
 -- Lines of the other state, and lines that are not of this store
 use Rattle.std.specs.Bool.{⊤}
-use Rattle.std.proofs.Common.{◌≡◌, ℕ, Bool, List, [], Result, Ok, Err, refl}
+use Rattle.std.proofs.Common.{◌≡◌, ℕ, Bool, List, Err, refl}
 use Rattle.zone_spec.specs.declared.Zone.{Zone}
-use Rattle.session_spec.specs.States.{OffState, LiveState, Session, Off as OffOf, Live as LiveOf}
+use Rattle.session_spec.specs.States.{OffState, LiveState, Off as OffOf, Live as LiveOf}
 use Rattle.old_log.specs.Saving.{SavedLogs}
 use Rattle.ram_core.specs.OffSeen.{OffSeen}
 use Rattle.ram_core.specs.LiveSeen.{LiveSeen}

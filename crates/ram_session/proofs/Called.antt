@@ -1,6 +1,6 @@
 -- The listed record that a text names, by the one name that has the text
-use Rattle.std.proofs.Common.{◌≡◌, ℕ, zero, suc, ◌+◌, ◌^◌, ◌<◌, Bool, true, false, ◌&&◌, if◌then◌else◌, List, [], ◌∷◌, ◌++◌, codes, length, Option, Some, None, refl, sym, ap, subst, ◌∙◌, arith}
-use Rattle.std.specs.Prelude.{bytes_eq, decimal, filter, flat_map, nat_lt, slice_get}
+use Rattle.std.proofs.Common.{◌≡◌, ℕ, suc, ◌+◌, ◌^◌, ◌<◌, Bool, true, false, ◌&&◌, if◌then◌else◌, List, [], ◌∷◌, ◌++◌, codes, length, Option, Some, None, refl, sym, ap, subst, ◌∙◌, arith}
+use Rattle.std.specs.Prelude.{bytes_eq, decimal, filter, flat_map, nat_lt}
 use Rattle.std.specs.List.{AllByRecursion, list_all, zip}
 use Rattle.std.specs.Option.{option_map}
 use Rattle.std.specs.Str.{IsAscii, IsUtf8}
@@ -135,7 +135,8 @@ filters-none text (r ∷ rs) none small =
 pub nothing-named : (zones : List Saved) (text : List ℕ) → AllByRecursion IsSmall (listed_of zones)
     → IsNameOf text None → None ≡ option_map name_of (named zones text)
 nothing-named zones text small none =
-    sym (ap (λ (rs : List Listed). option_map name_of (first_listed rs)) (filters-none text (listed_of zones) none small))
+    sym (ap (λ (rs : List Listed). option_map name_of (first_listed rs))
+    (filters-none text (listed_of zones) none small))
 
 is-record : (zones : List Saved) (text : List ℕ) (n : Name) → AllByRecursion IsSmall (listed_of zones)
     → IsNameOf text (Some n) → IsCandidate text (Some n) → named zones text ≡ record_of zones n

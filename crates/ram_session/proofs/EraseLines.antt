@@ -1,5 +1,5 @@
 -- The line that erases a record
-use Rattle.std.proofs.Common.{◌≡◌, ℕ, zero, suc, ◌+◌, ◌≤◌, Bool, true, false, cond, if◌then◌else◌, List, [], ◌∷◌, map, zip, length, slice_get, slice_set, Option, Some, None, Ok, Err, refl, sym, ap, ◌∙◌, arith}
+use Rattle.std.proofs.Common.{◌≡◌, ℕ, zero, suc, ◌+◌, ◌≤◌, Bool, true, false, cond, List, [], ◌∷◌, map, zip, length, slice_get, slice_set, Option, Some, None, Ok, Err, refl, sym, ap, ◌∙◌, arith}
 use Rattle.std.specs.Option.{option_map}
 use Rattle.std.proofs.lemmas.List.{length-set}
 use Rattle.zone_spec.specs.declared.Zone.{Zone}
@@ -11,7 +11,7 @@ use Rattle.zone_spec.specs.Notices.{is_in}
 use Rattle.session_spec.specs.States.{LiveZone, LiveState, Off as OffOf, Live as LiveOf}
 use Rattle.session_spec.specs.LiveZones.{flies}
 use Rattle.session_spec.specs.Erasures.{saved_logs, erase_zone, erased}
-use Rattle.session_spec.specs.Operations.{EraseRecord, operated, erases}
+use Rattle.session_spec.specs.Operations.{erases}
 use Rattle.old_log.specs.Saving.{SavedLogs, saved}
 use Rattle.ram_core.specs.LiveSeen.{LiveSeen, StandsLive}
 use Rattle.grammar_spec.specs.declared.line.Line.TheVariants.{Erase}

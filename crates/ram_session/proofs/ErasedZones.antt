@@ -1,5 +1,5 @@
 -- The zones of a record erased, one behind the other, and their logs forgotten
-use Rattle.std.proofs.Common.{◌≡◌, ℕ, zero, suc, ◌+◌, ◌<◌, ◌≤◌, Bool, true, false, cond, ◌&&◌, ◌||◌, if◌then◌else◌, is_some, List, [], ◌∷◌, map, zip, length, slice_get, slice_set, Option, Some, None, Result, Ok, Err, refl, sym, ap, ◌∙◌, subst, arith, ◌⊎◌, inl, inr, OnOk, IfErr}
+use Rattle.std.proofs.Common.{◌≡◌, ℕ, zero, suc, ◌+◌, ◌<◌, ◌≤◌, Bool, true, false, ◌&&◌, ◌||◌, if◌then◌else◌, is_some, List, [], ◌∷◌, map, zip, length, slice_get, slice_set, Option, Some, None, Result, Ok, Err, refl, sym, ap, ◌∙◌, arith, ◌⊎◌, inl, inr, OnOk, IfErr}
 use Rattle.std.specs.Option.{option_map}
 use Rattle.std.proofs.lemmas.Bool.{cases_lt}
 use Rattle.std.specs.List.{list_any}
@@ -13,7 +13,7 @@ use Rattle.zone_spec.specs.Told.{Erase as EraseCall}
 use Rattle.zone_spec.specs.Notices.{is_in}
 use Rattle.zone_spec.specs.Reading.{ZoneReading}
 use Rattle.zone_spec.specs.Records.{Saved}
-use Rattle.session_spec.specs.States.{LiveZone, LiveState, Session, Live}
+use Rattle.session_spec.specs.States.{LiveZone, LiveState, Live}
 use Rattle.session_spec.specs.Sound.{IsState}
 use Rattle.session_spec.specs.LiveZones.{Target, target, flies}
 use Rattle.session_spec.specs.ZoneCalls.{begun, finished}
@@ -23,9 +23,8 @@ use Rattle.session_spec.specs.Operations.{operated, left_by, Make}
 use Rattle.session_laws.proofs.Operations.{operations_keep_states_sound}
 use Rattle.ram_core.specs.LiveSeen.{LiveSeen, StandsLive}
 use Rattle.tool_laws.proofs.Steps.{erase_made}
-use Rattle.old_log.specs.Saving.{SavedLogs, saved}
 use Rattle.ram_session.specs.Answers.{Done, IsRefused}
-use Rattle.ram_session.specs.Erasing.{FliesAt, StandsAsState, ErasesAt, Erases, Forgets}
+use Rattle.ram_session.specs.Erasing.{FliesAt, StandsAsState, ErasesAt, Erases}
 
 -- ---- a list changed place by place
 

@@ -1,5 +1,5 @@
 -- The image of a machine
-use Rattle.std.proofs.Common.{◌≡◌, ℕ, List, refl, sym, ◌∙◌}
+use Rattle.std.proofs.Common.{◌≡◌, ℕ, List, ◌∙◌}
 use Rattle.zone_spec.specs.declared.Zone.{Zone}
 use Rattle.session_spec.specs.States.{LiveState, Session, Off as OffOf, Live as LiveOf}
 use Rattle.session_spec.specs.Stop.{live_image as image_of, session_image}

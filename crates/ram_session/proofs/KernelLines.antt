@@ -1,34 +1,30 @@
 -- What the kernel prints, and its crashes
-use Rattle.std.proofs.Common.{◌≡◌, ℕ, zero, suc, ◌+◌, ◌-◌, ◌<◌, ◌≤◌, Bool, true, false, cond, nat_lt, nat_le, is_some, ◌||◌, List, [], ◌∷◌, ◌++◌, length, Option, Some, None, Result, Ok, Err, refl, sym, ap, ◌∙◌, arith, inl, inr, subst}
-use Rattle.std.specs.Prelude.{IfOk, slice_index, not, ◌==◌}
-use Rattle.std.specs.List.{find, slice_get, list_all}
+use Rattle.std.proofs.Common.{◌≡◌, ℕ, zero, suc, ◌+◌, ◌-◌, ◌<◌, ◌≤◌, Bool, true, false, nat_le, List, [], ◌∷◌, ◌++◌, length, Option, Some, None, Ok, Err, refl, sym, ap, ◌∙◌, arith, subst}
+use Rattle.std.specs.Prelude.{not, ◌==◌}
+use Rattle.std.specs.List.{find, slice_get}
 use Rattle.std.proofs.lemmas.Option.{get_or_from_slice_get}
 use Rattle.std.proofs.lemmas.List.Quantifiers.{position-Some}
 use Rattle.std.proofs.lemmas.List.Elements.{All-get_or}
 use Rattle.std.proofs.lemmas.List.Sums.{AllPass-from_list_all}
 use Rattle.std.proofs.lemmas.Bool.{leb-true, leb-false, lt-ltb, le-ltb, true≢false, and_parts}
 use Rattle.zone_spec.specs.declared.Zone.{Zone}
-use Rattle.zone_spec.specs.declared.ZoneName.{ZoneName}
 use Rattle.zone_spec.specs.declared.Time.{Time}
 use Rattle.zone_spec.specs.declared.Kind.TheVariants.{Dump as DumpKind}
-use Rattle.zone_spec.specs.declared.Refusal.{Refusal}
-use Rattle.zone_spec.specs.Layouts.{IsLayout, is_zone, zone_place}
+use Rattle.zone_spec.specs.Layouts.{is_zone, zone_place}
 use Rattle.zone_spec.specs.Records.{is_of}
 use Rattle.zone_spec.specs.TimeLines.{line_text}
-use Rattle.session_spec.specs.States.{LiveZone, LiveState, Session, Off as OffOf, Live as LiveOf}
-use Rattle.session_spec.specs.Sound.{IsState, IsTime}
+use Rattle.session_spec.specs.States.{LiveZone, LiveState, Off as OffOf, Live as LiveOf}
+use Rattle.session_spec.specs.Sound.{IsTime}
 use Rattle.session_spec.specs.LiveZones.{Target, target_of, target_at, target}
-use Rattle.session_spec.specs.LiveCalls.{Dump as DumpAsk, make}
 use Rattle.old_log.specs.Saving.{SavedLogs}
-use Rattle.ram_core.specs.LiveSeen.{LiveSeen, StandsLive}
+use Rattle.ram_core.specs.LiveSeen.{LiveSeen}
 use Rattle.kmsg_spec.specs.declared.Why.{Why}
 use Rattle.kmsg_spec.specs.Bodies.{last_lines, body}
 use Rattle.kmsg_dump.specs.Kept.{IsLine, Keeps}
 use Rattle.grammar_spec.specs.Fields.{is_message}
 use Rattle.grammar_spec.specs.Printed.{HasFields}
-use Rattle.grammar_spec.specs.declared.line.Line.{Line}
 use Rattle.grammar_spec.specs.declared.line.Line.TheVariants.{KMsg, Crash, Dump}
-use Rattle.tool_spec.specs.Scripts.{Kernel as KernelOf, StoreDone, beside, prints, crash_body, crashed, crashes, log_limit, why_of, room_in, dump_target, store_line, line_done}
+use Rattle.tool_spec.specs.Scripts.{Kernel as KernelOf, beside, prints, crash_body, crashed, crashes, log_limit, why_of, room_in, dump_target, store_line, line_done}
 use Rattle.tool_spec.specs.declared.Cause.{Cause}
 use Rattle.tool_spec.specs.declared.Cause.TheVariants.{TooLong, NoZone}
 use Rattle.ram_session.specs.Kernels.{StandsForKernel, DumpsAlike, left_in, first_room}
@@ -63,7 +59,8 @@ pub print_done : (live : LiveSeen) (logs : SavedLogs) (old new : Kernel) (text :
     → new.crashes ≡ old.crashes
     → ((given : List (List ℕ)) → Keeps old.log given → Keeps new.log (given ++ text ∷ []))
     → MachineDone (Live live logs old) (KMsg text) (Live live logs new) []
-print_done live logs old new text fits same count keeps layout mem (OffOf s) k lies alike stands has state = absurd stands
+print_done live logs old new text fits same count keeps layout mem (OffOf s) k lies alike stands has state =
+    absurd stands
 print_done live logs old new text fits same count keeps layout mem (LiveOf s) k lies alike stands has state =
     record {
       next = LiveOf s;

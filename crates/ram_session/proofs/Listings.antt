@@ -1,7 +1,7 @@
 -- The texts of records, from their entries and contents
-use Rattle.std.proofs.Common.{◌≡◌, ℕ, List, [], ◌∷◌, ◌++◌, length, map, refl, sym, ap, ap₂, ◌∙◌, append_assoc, Option, Some, None}
+use Rattle.std.proofs.Common.{◌≡◌, ℕ, List, [], ◌∷◌, ◌++◌, length, map, refl, sym, ap, ap₂, ◌∙◌, Option, Some, None}
 use Rattle.std.specs.Prelude.{flat_map, codes, decimal}
-use Rattle.std.specs.Option.{option_map, IsSome}
+use Rattle.std.specs.Option.{option_map}
 use Rattle.std.proofs.lemmas.List.{length-map}
 use Rattle.zone_spec.specs.declared.Name.{Name}
 use Rattle.zone_spec.specs.Names.{name_text}

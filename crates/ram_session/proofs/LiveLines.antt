@@ -1,27 +1,25 @@
 -- Calls as lines, while the machine is live
-use Rattle.std.proofs.Common.{◌≡◌, ℕ, Bool, true, false, cond, ◌||◌, is_some, List, [], zip, Option, Some, None, Result, Ok, Err, refl, sym, ap, ◌∙◌}
+use Rattle.std.proofs.Common.{◌≡◌, ℕ, Bool, true, false, cond, is_some, List, [], zip, Option, Some, None, Result, Ok, Err, refl, sym, ap, ◌∙◌}
 use Rattle.zone_spec.specs.declared.Zone.{Zone}
 use Rattle.zone_spec.specs.declared.ZoneName.{ZoneName}
 use Rattle.zone_spec.specs.declared.Time.{Time}
 use Rattle.zone_spec.specs.declared.Refusal.{Refusal}
-use Rattle.zone_spec.specs.declared.Refusal.TheVariants.{NoZone, Busy, Idle, OutOfImage}
-use Rattle.zone_spec.specs.Layouts.{IsLayout}
+use Rattle.zone_spec.specs.declared.Refusal.TheVariants.{Idle}
 use Rattle.zone_spec.specs.Reading.{ZoneReading}
-use Rattle.session_spec.specs.States.{LiveState, Session, Off as OffOf, Live as LiveOf}
-use Rattle.session_spec.specs.Sound.{IsState}
+use Rattle.session_spec.specs.States.{LiveState, Off as OffOf, Live as LiveOf}
 use Rattle.session_spec.specs.LiveZones.{Target, target, changed}
 use Rattle.session_spec.specs.ZoneCalls.{finished}
 use Rattle.session_spec.specs.LiveCalls.{Ask, Append, Erase, Dump, asked_name, begin, make, step, finish, finish_at, and_finish, goes_on}
 use Rattle.session_spec.specs.Operations.{answered}
 use Rattle.old_log.specs.Saving.{SavedLogs}
-use Rattle.ram_core.specs.LiveSeen.{LiveSeen, StandsLive, Leaves as LeavesLive}
+use Rattle.ram_core.specs.LiveSeen.{LiveSeen}
 use Rattle.grammar_spec.specs.declared.line.Line.{Line}
 use Rattle.grammar_spec.specs.declared.line.Line.TheVariants.{Write, Dump as DumpLine, BeginWrite, BeginErase, BeginDump, Step, Finish}
 use Rattle.tool_spec.specs.Scripts.{store_line, done_or_refused, refusal_cause}
 use Rattle.tool_spec.specs.declared.Cause.{Cause}
 use Rattle.tool_laws.proofs.Steps.{calls_keep_logs}
 use Rattle.ram_session.specs.Answers.{Done, IsRefused, Begun, NotBegun}
-use Rattle.ram_session.specs.Sessions.{Off, Live, Stands, LineDone, LineRefused}
+use Rattle.ram_session.specs.Sessions.{Live, LineDone, LineRefused}
 
 -- ---- saved logs stay
 

@@ -1,18 +1,18 @@
 -- A call begun and all its stores made
-use Rattle.std.proofs.Common.{◌≡◌, ℕ, Bool, true, false, cond, is_some, List, Option, Some, None, Result, Ok, Err, refl, sym, ap, ◌∙◌}
+use Rattle.std.proofs.Common.{◌≡◌, ℕ, cond, is_some, List, Option, Some, None, Ok, Err, refl}
 use Rattle.zone_spec.specs.declared.Zone.{Zone}
 use Rattle.zone_spec.specs.declared.ZoneName.{ZoneName}
 use Rattle.zone_spec.specs.declared.Refusal.{Refusal}
 use Rattle.zone_spec.specs.declared.Refusal.TheVariants.{Idle}
 use Rattle.zone_spec.specs.Layouts.{IsLayout}
-use Rattle.session_spec.specs.States.{Flight, LiveState, Session, Live}
+use Rattle.session_spec.specs.States.{Flight, LiveState, Live}
 use Rattle.session_spec.specs.Sound.{IsState, IsAsk}
 use Rattle.session_spec.specs.LiveZones.{Target, target, changed}
 use Rattle.session_spec.specs.ZoneCalls.{finished}
 use Rattle.session_spec.specs.LiveCalls.{Ask, asked_name, begin, make, finish, goes_on}
-use Rattle.session_spec.specs.Operations.{Operation, Begin, answered, operated, left_by}
+use Rattle.session_spec.specs.Operations.{Begin, operated, left_by}
 use Rattle.session_laws.proofs.Operations.{operations_keep_states_sound}
-use Rattle.ram_core.specs.LiveSeen.{LiveSeen, StandsLive, Leaves}
+use Rattle.ram_core.specs.LiveSeen.{LiveSeen}
 use Rattle.tool_laws.proofs.Steps.{make_is_begin_and_steps}
 use Rattle.ram_session.specs.Answers.{Done, IsRefused, Begun, NotBegun}
 

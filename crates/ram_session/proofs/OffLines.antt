@@ -1,16 +1,14 @@
 -- Lines while the machine is off
-use Rattle.std.proofs.Common.{◌≡◌, ℕ, ◌<◌, ◌≤◌, true, false, nat_lt, List, [], length, Result, Ok, Err, refl, sym, ap, ◌∙◌, arith}
+use Rattle.std.proofs.Common.{◌≡◌, ℕ, ◌<◌, ◌≤◌, true, false, nat_lt, List, [], length, Ok, Err, refl, arith}
 use Rattle.std.proofs.lemmas.Bool.Decides.{nat_tests}
 use Rattle.zone_spec.specs.declared.Zone.{Zone}
-use Rattle.zone_spec.specs.Layouts.{IsLayout}
-use Rattle.session_spec.specs.States.{OffState, Session, Off as OffOf, Live as LiveOf}
+use Rattle.session_spec.specs.States.{OffState, Off as OffOf, Live as LiveOf}
 use Rattle.session_spec.specs.Off.{flipped}
-use Rattle.session_spec.specs.Sound.{IsState}
 use Rattle.ram_core.specs.OffSeen.{OffSeen, StandsOff}
 use Rattle.grammar_spec.specs.declared.line.Line.TheVariants.{Flip}
 use Rattle.tool_spec.specs.Scripts.{store_line}
 use Rattle.tool_spec.specs.declared.Cause.TheVariants.{OutOfImage}
-use Rattle.ram_session.specs.Sessions.{Off, Live, Stands, LineDone, LineRefused}
+use Rattle.ram_session.specs.Sessions.{Off, LineDone, LineRefused}
 
 nat_lt-true : {a b : ℕ} → a < b → nat_lt a b ≡ true
 nat_lt-true h = grind (arith, nat_tests)

@@ -1,7 +1,5 @@
 -- A script's lines, done one by one by the machine
-use Rattle.std.proofs.Common.{◌≡◌, ℕ, zero, ◌+◌, ◌<◌, ◌≤◌, List, [], length, take, get_or, Option, Some, None, Ok, Err, refl, sym, ap, ◌∙◌, subst, arith}
-use Rattle.std.specs.Io.KnownBytes.{Appends}
-use Rattle.box_io.specs.Outside.{Rose}
+use Rattle.std.proofs.Common.{◌≡◌, ℕ, ◌+◌, ◌<◌, ◌≤◌, List, length, get_or, Option, refl, sym, subst, arith}
 use Rattle.zone_spec.specs.declared.Zone.{Zone}
 use Rattle.session_spec.specs.States.{Session, Off as OffOf}
 use Rattle.session_spec.specs.Off.{fresh}
@@ -9,17 +7,17 @@ use Rattle.session_spec.specs.Sound.{IsState}
 use Rattle.ram_core.specs.OffSeen.{OffSeen}
 use Rattle.grammar_spec.specs.declared.line.Line.{Line}
 use Rattle.grammar_spec.specs.Printed.{AllHaveFields}
-use Rattle.tool_spec.specs.Scripts.{Kernel, new_kernel, ran, started}
+use Rattle.tool_spec.specs.Scripts.{Kernel, new_kernel}
 use Rattle.tool_spec.specs.declared.Stop.{Stop}
 use Rattle.tool_spec.specs.declared.Stop.TheVariants.{Memory, Usage, Param, Layout, NoSharedZone, Short, ScriptFault, ImageFault, SinkFault, TooLong, BadLine, Refused}
 use Rattle.tool_laws.specs.Scripts.{ScriptStatesAreSound}
-use Rattle.tool_frame.specs.Playing.{Played, PlayedTo, PlayStop}
+use Rattle.tool_frame.specs.Playing.{PlayedTo, PlayStop}
 use Rattle.tool_frame.proofs.Play.{played_none, played_on, played_all, stopped_memory, stopped_refused, stopped_put}
 use Rattle.ram_session.specs.Sessions.{Stands}
 use Rattle.ram_session.specs.Machines.{store_of, HasKernel}
-use Rattle.ram_session.specs.Playing.{Puts, PutsPart, LineStops, StandsFresh, PlaysAll}
+use Rattle.ram_session.specs.Playing.{Puts, LineStops, StandsFresh, PlaysAll}
 use Rattle.ram_session.specs.declared.machine.Machine.{Machine}
-use Rattle.ram_session.specs.declared.machine.Machine.TheVariants.{Off, Live}
+use Rattle.ram_session.specs.declared.machine.Machine.TheVariants.{Off}
 
 -- the machine stands for the state behind the first i lines
 pub record PlaysTo (layout : List Zone) (mem : ℕ) (image : List ℕ) (lines : List Line) (i : ℕ) (machine : Machine)

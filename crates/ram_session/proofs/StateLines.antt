@@ -1,13 +1,11 @@
 -- Lines that boot, stop, list, or do nothing
-use Rattle.std.proofs.Common.{◌≡◌, ℕ, List, [], Option, Result, Ok, Err, refl, sym, ap, ◌∙◌}
+use Rattle.std.proofs.Common.{◌≡◌, ℕ, List, [], Ok, refl, ◌∙◌}
 use Rattle.zone_spec.specs.declared.Zone.{Zone}
-use Rattle.zone_spec.specs.Layouts.{IsLayout}
 use Rattle.session_spec.specs.States.{OffState, LiveState, Session, Off as OffOf, Live as LiveOf}
 use Rattle.session_spec.specs.Boot.{booted}
 use Rattle.session_spec.specs.Stop.{stopped}
 use Rattle.session_spec.specs.Report.{ZoneReport, report}
 use Rattle.session_spec.specs.Erasures.{saved_logs}
-use Rattle.session_spec.specs.Sound.{IsState}
 use Rattle.old_log.specs.Saving.{SavedLogs, saved}
 use Rattle.ram_core.specs.OffSeen.{OffSeen, StandsOff}
 use Rattle.ram_core.specs.LiveSeen.{LiveSeen, StandsLive}
@@ -16,7 +14,7 @@ use Rattle.session_spec.specs.BootPart.{boot_parted, boot_made}
 use Rattle.grammar_spec.specs.declared.line.Line.TheVariants.{Blank, Boot, BootPart, Stop, List as ListLine}
 use Rattle.tool_spec.specs.Texts.{boot_text, part_text, listing}
 use Rattle.tool_spec.specs.Scripts.{store_line}
-use Rattle.ram_session.specs.Sessions.{StoreSeen, Off, Live, Stands, LineDone}
+use Rattle.ram_session.specs.Sessions.{StoreSeen, Off, Live, LineDone}
 
 boot_line : (layout : List Zone) (s : OffState) → store_line layout (OffOf s) Boot
     ≡ Ok (record {

@@ -1,5 +1,5 @@
 -- Steps of the machine in a row
-use Rattle.std.proofs.Common.{◌≡◌, ℕ, ◌+◌, ◌-◌, ◌<◌, ◌≤◌, Bool, true, false, is_some, List, Option, Some, None, Result, Ok, Err, refl, sym, ap, ◌∙◌, arith, cond}
+use Rattle.std.proofs.Common.{◌≡◌, ℕ, ◌+◌, ◌-◌, ◌≤◌, Bool, true, false, is_some, List, Option, Some, None, Ok, Err, refl, ap, ◌∙◌, arith}
 use Rattle.std.specs.Option.{option_map}
 use Rattle.zone_spec.specs.declared.Zone.{Zone}
 use Rattle.zone_spec.specs.declared.ZoneName.{ZoneName}
@@ -9,7 +9,7 @@ use Rattle.zone_spec.specs.Layouts.{zone_place}
 use Rattle.session_spec.specs.States.{Flight, LiveState, Live}
 use Rattle.session_spec.specs.Sound.{IsState}
 use Rattle.session_spec.specs.LiveZones.{Target, target}
-use Rattle.session_spec.specs.LiveCalls.{step, finish, goes_on}
+use Rattle.session_spec.specs.LiveCalls.{step, finish}
 use Rattle.session_spec.specs.ZoneCalls.{stores_left}
 use Rattle.ram_core.specs.LiveSeen.{LiveSeen, StandsLive, Leaves}
 use Rattle.ram_core.proofs.Stepped.{step_nowhere}

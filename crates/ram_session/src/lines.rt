@@ -1,9 +1,9 @@
 // The lines of a script, whatever the machine's state.
-ghost use Rattle.std.specs.Prelude.{◌≡◌, ◌+◌, ◌<◌, ◌≤◌, ◌^◌, ⊤, [], IfOk, MatchResult};
+ghost use Rattle.std.specs.Prelude.{◌≡◌, ◌+◌, ◌<◌, ◌≤◌, ◌^◌, [], IfOk, MatchResult};
 ghost use Rattle.old_log.specs.Saving.{SavedLogs};
 ghost use Rattle.grammar_spec.specs.Printed.{HasFields};
 ghost use Rattle.grammar_spec.specs.declared.line.Line.TheVariants.{Boot};
-ghost use Rattle.ram_session.specs.Sessions.{Off as OffStore, Live as LiveStore, LineDone, LineFails, IsCall, KeepsKernel};
+ghost use Rattle.ram_session.specs.Sessions.{Live as LiveStore, LineDone, LineFails, IsCall, KeepsKernel};
 ghost use Rattle.ram_session.specs.Machines.{crashes_of, MachineDone, MachineFails};
 ghost use Rattle.ram_session.specs.declared.machine.Machine.TheVariants.{Off as OffMachine, Live as LiveMachine};
 

@@ -24,7 +24,8 @@ impl Machine {
     /// The bytes of the image, of a live store as a stop would leave it.
     #[tactic(auto, using(crate::proofs::Images::off_image, crate::proofs::Images::live_image))]
     pub fn into_image(self) -> Bytes
-        ensures { (layout : List Zone) (mem : ℕ) (s : Session) → Stands layout mem (store_of self) s → result ≡ session_image s }
+        ensures { (layout : List Zone) (mem : ℕ) (s : Session) → Stands layout mem (store_of self) s
+            → result ≡ session_image s }
     {
         match self {
             Machine::Off(off) => off.into_image(),

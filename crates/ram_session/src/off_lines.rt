@@ -1,5 +1,5 @@
 // Lines while the machine is off.
-ghost use Rattle.std.specs.Prelude.{◌≡◌, [], MatchResult};
+ghost use Rattle.std.specs.Prelude.{[], MatchResult};
 ghost use Rattle.ram_session.specs.Sessions.{Off as OffStore, LineDone, LineRefused};
 ghost use Rattle.grammar_spec.specs.declared.line.Line.TheVariants.{Flip};
 ghost use Rattle.tool_spec.specs.declared.Cause.TheVariants.{OutOfImage};

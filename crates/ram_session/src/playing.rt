@@ -1,5 +1,5 @@
 // The lines of a script, in order.
-ghost use Rattle.std.specs.Prelude.{◌≡◌, ◌+◌, ◌≤◌, ◌<◌, ◌^◌, length, IfOk, MatchResult};
+ghost use Rattle.std.specs.Prelude.{◌+◌, ◌≤◌, ◌<◌, ◌^◌, length, IfOk, MatchResult};
 ghost use Rattle.grammar_spec.specs.Printed.{HasFields, AllHaveFields};
 ghost use Rattle.ram_session.specs.Machines.{crashes_of};
 ghost use Rattle.ram_session.specs.Playing.{Puts, LineStops, Plays};

@@ -1,5 +1,5 @@
 // Lines that boot, stop or list.
-ghost use Rattle.std.specs.Prelude.{◌≡◌, [], IfOk, MatchResult, map};
+ghost use Rattle.std.specs.Prelude.{[], IfOk, MatchResult};
 ghost use Rattle.ram_session.specs.Sessions.{Off as OffStore, Live as LiveStore, LineDone, LineFails};
 ghost use Rattle.grammar_spec.specs.declared.line.Line.TheVariants.{Boot, BootPart, Stop, List as ListLine};
 ghost use Rattle.ram_core.specs.LiveSeen.{LiveSeen};

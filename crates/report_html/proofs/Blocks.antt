@@ -38,13 +38,15 @@ joins : (b to : ℕ) (s x : PartState) (rest : List PartState) → is_alike s x 
     → with_block b s (run-to (b + 1) x to rest) ≡ run-to b s to rest
 unfolding with_block
 joins b to s x rest e =
-    ap (λ (t : Bool). if t then run-to b s to rest else record { from = b; to = b + 1; state = s } ∷ run-to (b + 1) x to rest) e
+    ap (λ (t : Bool). if t then run-to b s to rest else record { from = b; to = b + 1; state = s }
+    ∷ run-to (b + 1) x to rest) e
 
 parts-from : (b to : ℕ) (s x : PartState) (rest : List PartState) → is_alike s x ≡ false
     → with_block b s (run-to (b + 1) x to rest) ≡ record { from = b; to = b + 1; state = s } ∷ run-to (b + 1) x to rest
 unfolding with_block
 parts-from b to s x rest e =
-    ap (λ (t : Bool). if t then run-to b s to rest else record { from = b; to = b + 1; state = s } ∷ run-to (b + 1) x to rest) e
+    ap (λ (t : Bool). if t then run-to b s to rest else record { from = b; to = b + 1; state = s }
+    ∷ run-to (b + 1) x to rest) e
 
 runs-more : (b : ℕ) (s : PartState) (xs : List PartState) → runs b (s ∷ xs) ≡ with_block b s (runs (b + 1) xs)
 unfolding runs

@@ -1,5 +1,5 @@
 // The pieces of a page.
-ghost use Rattle.std.specs.Prelude.{◌≡◌, ◌++◌, [], ◌∷◌, IfOk, OnOk};
+ghost use Rattle.std.specs.Prelude.{◌≡◌, ◌++◌, IfOk, OnOk};
 ghost use Rattle.report_html.specs.Pieces.{piece_text, parts, parts_text};
 
 use crate::escaping::push_escaped;

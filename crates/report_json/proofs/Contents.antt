@@ -33,5 +33,6 @@ pub base64_record : (zones : List Saved) (r : RecordHeld) (bytes : List ℕ) (d 
     → ¬ (IsUtf8 bytes) → d ≡ string (encode_of standard bytes) → n ≡ null
     → record_with zones r n d ≡ record_data zones r
 base64_record zones r bytes d n same bad is none =
-    ap (λ m. record_with zones r m d) none ∙ ap (record_with zones r null) (is ∙ ap (λ bs. string (encode_of standard bs)) same)
+    ap (λ m. record_with zones r m d) none ∙ ap (record_with zones r null)
+    (is ∙ ap (λ bs. string (encode_of standard bs)) same)
     ∙ by_base64 zones r _ (ap is_utf8 (sym same)) (not_utf8 bytes _ refl bad)

@@ -1,5 +1,5 @@
 -- The data of a report's line, schema 1
-use Rattle.std.specs.Prelude.{◌≡◌, ℕ, ◌-◌, ◌<◌, Bool, if◌then◌else◌, List, [], ◌++◌, length, map, slice_get, Option, Some, None, option_to_list, replicate, codes}
+use Rattle.std.specs.Prelude.{◌≡◌, ℕ, ◌-◌, ◌<◌, if◌then◌else◌, List, ◌++◌, length, map, slice_get, Option, Some, None, option_to_list, replicate, codes}
 use Rattle.std.specs.Str.{is_utf8}
 use Rattle.json.specs.Lex.{tokens}
 use Rattle.json.specs.Print.{print}

@@ -1,6 +1,5 @@
 // The values of parameters and zones.
-ghost use Rattle.std.specs.Prelude.{◌≡◌, ◌<◌, ◌^◌, ◌++◌, length, map, replicate, slice_get, Some, None, IfOk, OnOk};
-ghost use Rattle.zone_spec.specs.Reading.{ZoneReading};
+ghost use Rattle.std.specs.Prelude.{◌≡◌, ◌<◌, ◌++◌, length, map, replicate, Some, None, IfOk, OnOk};
 ghost use Rattle.serde_json.specs.Data.{array, null};
 ghost use Rattle.serde_json.specs.View.{view, items_of};
 ghost use Rattle.report_json.specs.Schema.{count, parameters_data, part_data, blocks_data, words_data, layout_data, zone_with, zone_data, kind_text, state_text, IsZoneAt, AreZones};

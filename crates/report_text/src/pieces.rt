@@ -1,5 +1,5 @@
 // The pieces of a text.
-ghost use Rattle.std.specs.Prelude.{◌≡◌, ◌++◌, [], ◌∷◌, List, flat_map, true, IfOk, OnOk};
+ghost use Rattle.std.specs.Prelude.{◌≡◌, ◌++◌, true, IfOk, OnOk};
 ghost use Rattle.std.specs.List.{list_all};
 ghost use Rattle.report_spec.specs.Visible.{is_visible, visible};
 ghost use Rattle.report_text.specs.Pieces.{filled, piece_text, parts, parts_text};

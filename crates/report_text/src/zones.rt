@@ -1,7 +1,6 @@
 // The table of the zones.
-ghost use Rattle.std.specs.Prelude.{◌≡◌, ◌++◌, length, flat_map, OnOk};
+ghost use Rattle.std.specs.Prelude.{◌≡◌, ◌++◌, length, OnOk};
 ghost use Rattle.std.specs.Option.{option_copied};
-ghost use Rattle.old_log.specs.Saving.{saved};
 ghost use Rattle.report_text.specs.Pieces.{parts};
 ghost use Rattle.report_text.specs.Tables.{kind_words, state_words, read_words, reading_parts, zone_row};
 ghost use Rattle.report_text.specs.Whole.{zone_table};

@@ -1,9 +1,7 @@
 // One image, from its store to the sink.
 ghost use Rattle.std.specs.Prelude.{◌≡◌, ◌≤◌, IfOk, IfErr, MatchResult};
-ghost use Rattle.box_io.specs.Outside.{HasCause};
 ghost use Rattle.tool_frame.specs.Stages.{LoadStop};
 ghost use Rattle.report_tool.specs.Images.{IsRead, IsReported, IsNotReported};
-ghost use Rattle.report_tool.specs.Shown.{IsOf, Shows};
 
 use crate::showing::{Format, shown};
 use crate::{Plan, Stop};
@@ -25,8 +23,8 @@ fn read<M: Store>(alloc: Global, plan: &Plan, image: &mut M) -> Result<Report, S
     Ok(report)
 }
 
-/// Reads the image and gives its report to the sink, written in a format and headed by `path`. The image is not written.
-/// The sink is given nothing before all of the report is made.
+/// Reads the image and gives its report to the sink, written in a format and headed by `path`. The image is not
+/// written. The sink is given nothing before all of the report is made.
 pub fn report<M: Store, W: Sink>(
     alloc: Global,
     plan: &Plan,

@@ -64,8 +64,8 @@ impl Plan {
         }
     }
 
-    /// The plan of these words (`key=value`, as `zone_params::read_words` reads them). `is_as_given` takes a memory size
-    /// that is no power of two as it is, as the kernel does; else it is rounded down.
+    /// The plan of these words (`key=value`, as `zone_params::read_words` reads them). `is_as_given` takes a memory
+    /// size that is no power of two as it is, as the kernel does; else it is rounded down.
     pub fn new(alloc: Global, words: &[String], is_as_given: bool) -> Result<Plan, PlanFault>
         ensures { MatchResult result (IsPlan words.now is_as_given) (IsPlanFault words.now is_as_given) }
     {

@@ -17,8 +17,8 @@ pub trait Folder {
     // How often it has failed.
     ghost faults: { Self → ℕ };
 
-    /// Makes a file of this name and content. It is a fault where a file of this name stands already, which is then left
-    /// as it is.
+    /// Makes a file of this name and content. It is a fault where a file of this name stands already, which is then
+    /// left as it is.
     fn make(&mut self, name: &str, content: &[u8]) -> Result<(), Failed>
         ensures made { OnOk result (Makes (made self.old) (made self.new) ((name.now, content.now) ∷ [])) }
         ensures kept { OnErr result (made self.new ≡ made self.old) }

@@ -39,7 +39,8 @@ split_once_is c bs (Some x) h low =
 -- the words of a line: the first, and those behind it
 pub words_step : (p : List ℕ → Bool) (bs : List ℕ) → position_or_len (λ b. b == 32) bs < length bs
     → filter p (slice_split (λ b. b == 32) bs)
-    ≡ filter p (before_first (λ b. b == 32) bs ∷ []) ++ filter p (slice_split (λ b. b == 32) (after_first (λ b. b == 32) bs))
+    ≡ filter p (before_first (λ b. b == 32) bs ∷ []) ++ filter p
+    (slice_split (λ b. b == 32) (after_first (λ b. b == 32) bs))
 words_step p bs inside =
     ap (filter p) (slice_split_first (λ b. b == 32) bs 0 inside)
     ∙ filter-append p (before_first (λ b. b == 32) bs ∷ []) (slice_split (λ b. b == 32) (after_first (λ b. b == 32) bs))
@@ -48,4 +49,5 @@ words_step p bs inside =
 pub words_end : (p : List ℕ → Bool) (bs : List ℕ) (r : Option (Bor (List ℕ) × Bor (List ℕ)))
     → IsSplitOnceResult 32 bs r → r ≡ None → filter p (slice_split (λ b. b == 32) bs) ≡ filter p (bs ∷ [])
 words_end p bs r h none =
-    ap (filter p) (slice_split_none (λ b. b == 32) bs (none_passes (λ b. b == 32) bs (unsplit 32 bs r h (omega arith) none)))
+    ap (filter p) (slice_split_none (λ b. b == 32) bs
+    (none_passes (λ b. b == 32) bs (unsplit 32 bs r h (omega arith) none)))

@@ -10,7 +10,7 @@ ghost use Rattle.code_laws.specs.Series.{shift, one, Bytes};
 ghost use Rattle.code_laws.proofs.Symbols.{HasRoots, IsAdded};
 ghost use Rattle.rs_errors.specs.Decoding.{decoded_by, fixes_by, within};
 ghost use Rattle.rs_errors.specs.Places.{roots_of, gap_ratio};
-ghost use Rattle.rs_errors.specs.Fixes.{Below255, IsFix, AreFixes, AllInside, fixes_from, PowersBelow, IsDamage, applied, IsWithin, fixes_between, fix_sum};
+ghost use Rattle.rs_errors.specs.Fixes.{Below255, AreFixes, AllInside, fixes_from, PowersBelow, IsDamage, applied, IsWithin, fixes_between, fix_sum};
 ghost use Rattle.rs_errors.specs.Euclid.{IsStep, IsSolution, LeadingZeros};
 
 use arrayvec::ArrayVec;

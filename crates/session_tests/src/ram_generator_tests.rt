@@ -65,7 +65,8 @@ fn count_of(text: &[u8], word: &str) -> Result<u32, Fail> {
     Err(Fail::from("no such word"))
 }
 
-// A layout, the least calls of its session, and its least flips. With dump zones each of 24 turns in 8 rounds is a call.
+// A layout, the least calls of its session, and its least flips. With dump zones each of 24 turns in 8 rounds is a
+// call.
 const SESSIONS: &[(&str, u32, u32)] = &[
     ("mem_size=16384 ftrace_size=0 ecc=1", 192, 1),
     (

@@ -1,5 +1,5 @@
 -- A reservation and a step of a shared zone are the definitions'
-use Rattle.std.proofs.Common.{◌≡◌, ◌≢◌, ℕ, zero, suc, ◌+◌, ◌%◌, ◌<◌, ◌≤◌, min, Bool, true, false, cond, ◌==◌, List, [], ◌∷◌, ◌++◌, length, map, take, drop, set, get_or, refl, sym, ap, ap₂, ◌∙◌, subst, arith, Some, None, Option, Ok, Err, inl, inr, w32, eq-eqb, append-nil, length-append, length-set}
+use Rattle.std.proofs.Common.{◌≡◌, ◌≢◌, ℕ, suc, ◌+◌, ◌%◌, ◌<◌, min, Bool, true, false, cond, ◌==◌, List, [], ◌∷◌, ◌++◌, length, map, take, drop, set, refl, sym, ap, ap₂, ◌∙◌, subst, arith, Some, None, Option, Ok, Err, inl, inr, w32, eq-eqb, append-nil, length-append, length-set}
 use Rattle.std.proofs.lemmas.Bool.{cases_order, lt-ltb, ltb-true}
 use Rattle.std.proofs.lemmas.List.{map-append, take-map, drop-map}
 use Rattle.std.proofs.lemmas.Option.{slice_get_within}
@@ -17,10 +17,9 @@ use Rattle.shared_spec.specs.Runs.{SharedOperation, Reserve, StoreNext, operated
 use Rattle.shared_spec.specs.Histories.{History, shared_zone, and_then}
 use Rattle.session_spec.specs.Zones.{zone_bytes}
 use Rattle.shared_laws.specs.Seats.{after_step}
-use Rattle.shared_laws.proofs.Positions.{more_left, more_last, one_more as call_more, set_there, set_elsewhere, there_within}
+use Rattle.shared_laws.proofs.Positions.{more_left, more_last, one_more as call_more, set_there, set_elsewhere}
 use Rattle.shared_laws.proofs.Counts.{open_call-some, open_call-is}
 use Rattle.shared_laws.proofs.Seats.{one_more_operation, places_follow_first, shown_after_reservation, shown_after_step}
-use Rattle.ram_region.specs.CutRegion.{CutRegion, with_span}
 use Rattle.shared_ring.specs.declared.seats.Seat.{Seat}
 use Rattle.shared_ring.specs.Seats.{is_of, call_of, shown_seat, one_more, seats_stepped, next_of}
 use Rattle.shared_ring.specs.Seen.{SharedSeen, bytes_of, words_of, StandsFor, IsLeftBy, seated, stepped, words_stored, IsStepped}
@@ -142,7 +141,8 @@ stepped_stands z whole shared v i x s e =
       zone = s.zone;
       there = omega (arith, s.there, length-set v.region.spans v.place n);
       bytes = span_stored v.region v.place n s.there
-          ∙ ap (λ (y : Zone). put (bytes_of v) (12 + (x.place + x.stored) % y.cap) (slice_index x.payload x.stored ∷ []))
+          ∙ ap (λ (y : Zone). put (bytes_of v) (12 + (x.place + x.stored) % y.cap)
+          (slice_index x.payload x.stored ∷ []))
           s.zone
           ∙ ap₂ (λ (bytes : List ℕ) p. put bytes (12 + p) (slice_index x.payload x.stored ∷ [])) s.bytes place;
       before = before_stored v.region v.place n ∙ s.before;

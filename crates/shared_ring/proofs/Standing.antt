@@ -1,6 +1,6 @@
 -- What a shared zone that stands for one of the definitions shows of it
-use Rattle.std.proofs.Common.{◌≡◌, ◌≢◌, ℕ, zero, suc, ◌+◌, ◌-◌, ◌%◌, ◌<◌, ◌≤◌, Bool, true, false, cond, ◌==◌, nat_lt, not, List, [], ◌∷◌, ◌++◌, length, map, take, drop, set, get_or, refl, sym, ap, ap₂, ◌∙◌, subst, arith, Some, None, Option, inl, inr, eq-eqb}
-use Rattle.std.proofs.lemmas.Bool.{cases_Bool, cases_lt, ne_eqb, lt-ltb, le-ltb, ltb-false, ltb-true, eqb-true}
+use Rattle.std.proofs.Common.{◌≡◌, ◌≢◌, ℕ, zero, suc, ◌+◌, ◌-◌, ◌<◌, ◌≤◌, Bool, true, false, cond, ◌==◌, nat_lt, not, List, [], ◌∷◌, length, map, get_or, refl, sym, ap, ◌∙◌, arith, Some, None, Option, eq-eqb}
+use Rattle.std.proofs.lemmas.Bool.{ne_eqb, lt-ltb, ltb-false, ltb-true, eqb-true}
 use Rattle.std.proofs.lemmas.List.{length-map}
 use Rattle.std.proofs.lemmas.List.Quantifiers.{position-Some}
 use Rattle.std.proofs.lemmas.Option.{slice_get-map, slice_get_within, get_or_from_slice_get, slice_get-get_or}
@@ -10,9 +10,8 @@ use Rattle.std.specs.Option.{option_map}
 use Rattle.zone_spec.specs.declared.Zone.{Zone}
 use Rattle.zone_spec.specs.Parts.{standing_words}
 use Rattle.shared_spec.specs.declared.OpenCall.{OpenCall}
-use Rattle.shared_spec.specs.declared.SharedRefusal.{SharedRefusal}
 use Rattle.shared_spec.specs.declared.SharedRefusal.TheVariants.{NoSeat, Crowded}
-use Rattle.shared_spec.specs.Calls.{SharedCall, is_open_call, open_count, held, open_call}
+use Rattle.shared_spec.specs.Calls.{SharedCall, open_count, held, open_call}
 use Rattle.shared_spec.specs.Machine.{SharedZone, CanShare, opened, call_place, refusal, shown, open_calls}
 use Rattle.shared_spec.specs.Runs.{SharedOperation, shared_after}
 use Rattle.shared_laws.specs.Laws.{IsOldestOpen}

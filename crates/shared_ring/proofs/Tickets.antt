@@ -1,11 +1,11 @@
 -- Open calls by their tickets
-use Rattle.std.proofs.Common.{◌≡◌, ◌≢◌, ℕ, zero, suc, ◌+◌, ◌<◌, ◌≤◌, Bool, true, false, cond, ◌==◌, List, [], ◌∷◌, ◌++◌, take, drop, refl, sym, ap, ap₂, ◌∙◌, subst, arith, Some, eq-eqb}
+use Rattle.std.proofs.Common.{◌≡◌, ◌≢◌, ℕ, zero, suc, ◌+◌, ◌<◌, ◌≤◌, Bool, true, false, cond, List, [], ◌∷◌, ◌++◌, take, drop, refl, ap, ap₂, arith, Some}
 use Rattle.std.proofs.lemmas.Bool.{ne_eqb}
 use Rattle.std.specs.Prelude.{slice_get, flat_map}
 use Rattle.zone_spec.specs.declared.Zone.{Zone}
 use Rattle.shared_spec.specs.declared.OpenCall.{OpenCall}
 use Rattle.shared_spec.specs.Calls.{SharedCall, is_open_call}
-use Rattle.shared_spec.specs.Machine.{SharedZone, shown, open_calls_from, open_calls}
+use Rattle.shared_spec.specs.Machine.{SharedZone, shown, open_calls_from}
 use Rattle.shared_laws.specs.Seats.{after_step}
 
 -- all tickets are at least this

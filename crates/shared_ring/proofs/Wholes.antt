@@ -1,5 +1,5 @@
 -- A reservation and a step keep a shared zone whole
-use Rattle.std.proofs.Common.{◌≡◌, ℕ, ◌+◌, ◌%◌, ◌^◌, ◌<◌, ◌≤◌, ◌==◌, min, Bool, true, false, cond, List, [], ◌∷◌, ◌++◌, length, take, drop, set, refl, sym, ap, ◌∙◌, subst, arith, Some, w32, length-append, length-set, mod-lt}
+use Rattle.std.proofs.Common.{◌≡◌, ℕ, ◌+◌, ◌%◌, ◌^◌, ◌<◌, ◌≤◌, ◌==◌, min, Bool, true, false, cond, List, [], ◌∷◌, ◌++◌, length, take, drop, set, sym, ap, ◌∙◌, subst, arith, Some, w32, length-append, length-set, mod-lt}
 use Rattle.std.proofs.lemmas.List.{length-take, length-drop}
 use Rattle.std.specs.Prelude.{slice_get, slice_index}
 use Rattle.std.specs.Int.{to_le_bytes}
@@ -8,9 +8,9 @@ use Rattle.zone_spec.specs.Parts.{standing_words}
 use Rattle.zone_spec.specs.Stores.{put}
 use Rattle.ring_laws.proofs.Images.{length-put}
 use Rattle.shared_laws.proofs.PlainZones.{put_start, put_size, byte_words}
-use Rattle.ram_region.specs.CutRegion.{CutRegion, span, with_span}
+use Rattle.ram_region.specs.CutRegion.{span, with_span}
 use Rattle.shared_ring.specs.declared.seats.Seat.{Seat}
-use Rattle.shared_ring.specs.Seats.{IsSeat, one_more, seats_stepped}
+use Rattle.shared_ring.specs.Seats.{one_more}
 use Rattle.shared_ring.specs.Seen.{SharedSeen, bytes_of, words_of, IsWhole, seated, stepped, words_stored}
 use Rattle.shared_ring.proofs.SeatLists.{are_stepped, are_more}
 use Rattle.shared_ring.proofs.Regions.{span_stored}

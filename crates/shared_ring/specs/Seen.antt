@@ -12,8 +12,8 @@ use Rattle.ram_region.specs.CutRegion.{CutRegion, span, with_span}
 use Rattle.shared_spec.specs.declared.NoCall.{NoCall}
 use Rattle.shared_spec.specs.declared.Next.{Next}
 use Rattle.shared_spec.specs.declared.SharedRefusal.{SharedRefusal}
-use Rattle.shared_spec.specs.Calls.{SharedCall, open_call}
-use Rattle.shared_spec.specs.Machine.{SharedZone, CanShare, refusal, step_answer, open_calls}
+use Rattle.shared_spec.specs.Calls.{open_call}
+use Rattle.shared_spec.specs.Machine.{SharedZone, CanShare, refusal, open_calls}
 use Rattle.shared_spec.specs.Histories.{History, shared_zone}
 use Rattle.shared_ring.specs.declared.seats.Seat.{Seat}
 use Rattle.shared_ring.specs.Seats.{call_of, shown_seat, AreSeats, seats_stepped}

@@ -1,5 +1,5 @@
 -- What each kind of line leaves of the zone
-use Rattle.std.proofs.Common.{◌≡◌, ℕ, ◌<◌, List, length, refl, sym, Some, None, Option, Result, Ok, Err, MatchResult}
+use Rattle.std.proofs.Common.{◌≡◌, ℕ, ◌<◌, List, length, refl, Result, Ok, Err, MatchResult}
 use Rattle.shared_spec.specs.Calls.{open_call}
 use Rattle.shared_spec.specs.Machine.{refusal}
 use Rattle.shared_spec.specs.Histories.{History, shared_zone}

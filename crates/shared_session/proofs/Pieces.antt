@@ -1,10 +1,8 @@
 -- The text at the end of a script, from its pieces
-use Rattle.std.proofs.Common.{◌≡◌, ℕ, ◌-◌, List, [], ◌∷◌, ◌++◌, length, refl, sym, ap, ap₂, ◌∙◌, append_assoc}
-use Rattle.std.specs.Prelude.{flat_map, codes, decimal}
-use Rattle.zone_spec.specs.declared.Words.{Words}
-use Rattle.shared_spec.specs.declared.OpenCall.{OpenCall}
+use Rattle.std.proofs.Common.{◌≡◌, ℕ, ◌-◌, List, [], ◌++◌, ap, ap₂, ◌∙◌, append_assoc}
+use Rattle.std.specs.Prelude.{codes, decimal}
 use Rattle.tool_spec.specs.Texts.{newline}
-use Rattle.tool_spec.specs.SharedScripts.{open_text, calls_text}
+use Rattle.tool_spec.specs.SharedScripts.{calls_text}
 
 joined : (old a x b y c z d w e : List ℕ) → ((((((((old ++ a) ++ x) ++ b) ++ y) ++ c) ++ z) ++ d) ++ w) ++ e
     ≡ old ++ ((((((((a ++ x) ++ b) ++ y) ++ c) ++ z) ++ d) ++ w) ++ e)

@@ -1,5 +1,5 @@
 -- Steps of a call, one by one, are what a line stores
-use Rattle.std.proofs.Common.{◌≡◌, ◌≢◌, ℕ, zero, suc, ◌+◌, ◌<◌, ◌≤◌, Bool, true, false, nat_lt, List, [], ◌∷◌, ◌++◌, length, refl, sym, ap, ◌∙◌, subst, arith, add-one, Some, None, Option, Result, Ok, Err, is_some}
+use Rattle.std.proofs.Common.{◌≡◌, ℕ, zero, suc, ◌+◌, ◌<◌, ◌≤◌, Bool, true, false, nat_lt, List, refl, sym, ap, ◌∙◌, subst, arith, add-one, Some, None, Option, Ok, Err, is_some}
 use Rattle.std.proofs.lemmas.Bool.{ltb-true, ltb-false}
 use Rattle.session_spec.specs.Zones.{zone_bytes}
 use Rattle.shared_spec.specs.declared.NoCall.{NoCall}
@@ -11,7 +11,6 @@ use Rattle.shared_spec.specs.Histories.{History, shared_zone, and_then}
 use Rattle.shared_laws.proofs.Seats.{one_more_operation}
 use Rattle.shared_ring.specs.Seen.{SharedSeen, StandsFor, IsLeftBy, IsStepped, IsReserved}
 use Rattle.tool_spec.specs.SharedScripts.{with_steps, stores, reserves}
-use Rattle.tool_spec.specs.declared.Cause.{Cause}
 use Rattle.tool_spec.specs.declared.Cause.TheVariants.{Idle}
 use Rattle.shared_session.specs.Left.{IsLeft}
 

@@ -1,5 +1,5 @@
 // The lines of a script on a shared zone.
-ghost use Rattle.std.specs.Prelude.{◌≡◌, ◌^◌, ◌<◌, length, is_some, MatchResult, OnErr, Err};
+ghost use Rattle.std.specs.Prelude.{◌≡◌, ◌^◌, ◌<◌, length, MatchResult, OnErr, Err};
 ghost use Rattle.grammar_spec.specs.Printed.{HasFields};
 ghost use Rattle.shared_spec.specs.Calls.{open_call};
 ghost use Rattle.shared_spec.specs.Machine.{refusal};

@@ -1,5 +1,5 @@
 // The lines of a script, in order.
-ghost use Rattle.std.specs.Prelude.{◌≡◌, ◌^◌, ◌<◌, ℕ, List, length};
+ghost use Rattle.std.specs.Prelude.{◌^◌, ◌<◌, ℕ, List, length};
 ghost use Rattle.zone_spec.specs.declared.Zone.{Zone};
 ghost use Rattle.grammar_spec.specs.Printed.{AllHaveFields};
 ghost use Rattle.shared_ring.specs.Seen.{IsLeftBy};

@@ -1,5 +1,4 @@
 // What the clauses do not say: that a log and a body find memory, and worked bodies.
-ghost use Rattle.std.specs.Prelude.{◌≤◌};
 
 use kmsg_dump::*;
 use memchr::memchr;

@@ -1,15 +1,14 @@
 -- What run answers to any words, from how their work ended and what the last line left
-use Rattle.std.proofs.Common.{◌≡◌, ◌≢◌, ◌⊎◌, true, false, ℕ, List, [], length, take, Option, Result, Ok, Err, refl, sym, ap, ◌∙◌, arith, inl, inr}
-use Rattle.std.specs.Io.KnownBytes.{Appends}
+use Rattle.std.proofs.Common.{◌≡◌, ◌≢◌, ◌⊎◌, true, false, ℕ, List, [], Option, Result, Ok, Err, refl, sym, ap, ◌∙◌, arith, inl, inr}
 use Rattle.blk_spec.specs.declared.BlkLayout.{BlkLayout}
-use Rattle.tool_spec.specs.Ends.{End, status_of, last_line}
+use Rattle.tool_spec.specs.Ends.{End, status_of}
 use Rattle.tool_spec.specs.Commands.{RamCommand, RunScript, ListRecords, ExtractRecord, EraseRecord, ShowLayout, BlankImage, MakeImage, FindRings, ReadRing, RamPlan, Plan, OfRam, OfBlk, OfMove, Wanted, wanted, wanted_of_image, wanted_move, mem_of, RunShared}
 use Rattle.tool_spec.specs.Answers.{Outside, NoScript, NoImage, RoseFor, FaultAnswers}
 use Rattle.tool_spec.specs.BlkAnswers.{blk_lines}
-use Rattle.tool_spec.specs.PlanAnswers.{PlanAnswers, ToolAnswers, ram_statuses, statuses, IsAmong, Untouched, WritesLast}
+use Rattle.tool_spec.specs.PlanAnswers.{PlanAnswers, ToolAnswers, ram_statuses, statuses, IsAmong, Untouched}
 use Rattle.tool_frame.specs.Ends.{LastPut, Finished}
 use Rattle.tool_frame.specs.Words.{PlanStop}
-use Rattle.tool_frame.specs.Ended.{PutTexts, Ended, Caused, KeptAt, KeptBefore, ImageEnds, ReadEnds, RamEnds, PlanEnds, BlkEnds, Nothing, WorkEnds, WorkDone}
+use Rattle.tool_frame.specs.Ended.{Ended, Caused, KeptAt, KeptBefore, ImageEnds, ReadEnds, RamEnds, PlanEnds, Nothing, WorkEnds, WorkDone}
 use Rattle.tool_frame.proofs.ReadParts.{unread_memory}
 use Rattle.tool_frame.proofs.Answered.{GoesOn, rose_on, nothing_put}
 use Rattle.tool_frame.proofs.Tool.{status_is, script_on, image_on, image_answers, ram_answers, no_texts}

@@ -1,5 +1,5 @@
 -- What a script on the block store answers, from how its work ended and what the last line left
-use Rattle.std.proofs.Common.{◌≡◌, ◌≢◌, ◌⊎◌, ℕ, List, length, take, Option, Some, None, Result, Ok, Err, refl, sym, ap, ◌∙◌, arith, inl, inr, append-nil}
+use Rattle.std.proofs.Common.{◌≡◌, ◌≢◌, ◌⊎◌, ℕ, List, take, Result, Ok, Err, refl, sym, ap, ◌∙◌, arith, inl, inr, append-nil}
 use Rattle.std.specs.Io.KnownBytes.{Appends}
 use Rattle.box_io.specs.Outside.{AppendsFront}
 use Rattle.blk_spec.specs.declared.BlkLayout.{BlkLayout}
@@ -7,7 +7,7 @@ use Rattle.grammar_spec.specs.Fields.{Text}
 use Rattle.grammar_spec.specs.declared.line.Line.{Line}
 use Rattle.tool_spec.specs.Ends.{End, status_of, last_line}
 use Rattle.tool_spec.specs.Commands.{stops}
-use Rattle.tool_spec.specs.Answers.{Outside, NoScript, RoseFor, IsFree}
+use Rattle.tool_spec.specs.Answers.{Outside, NoScript, RoseFor}
 use Rattle.tool_spec.specs.BlkScripts.{blk_ran}
 use Rattle.tool_spec.specs.BlkAnswers.{blk_lines, blk_end, BlkStop, AllDone, StoppedFor, StoppedUnput, LinesAnswers, LinesOrStopAnswers, BlkAnswers}
 use Rattle.tool_spec.specs.declared.Stop.{Stop}
@@ -53,7 +53,8 @@ same_stop e s t h k = let same : Err s ≡ Err t = sym h ∙ k in cc
 
 module _ (layout : BlkLayout) (bytes : List ℕ) (a m b : Outside) (on : GoesOn a m b) (status : ℕ) where
   module _ (lines : List Line) where
-    all_done : b.given ≡ m.given → AllDone layout bytes lines a.given m.given m.holds → AllDone layout bytes lines a.given b.given b.holds
+    all_done : b.given ≡ m.given → AllDone layout bytes lines a.given m.given m.holds
+        → AllDone layout bytes lines a.given b.given b.holds
     all_done told d = record { none = d.none; texts = rw told d.texts; holds = on.image.holds ∙ d.holds }
 
     -- the last line leaves the script and the store
@@ -129,7 +130,8 @@ module _ (layout : BlkLayout) (bytes : List ℕ) (a m b : Outside) (on : GoesOn 
       | inr h ↦ unput h.0 (sink_rose a m b on h.1) (put_part s (rose_on a m b on s c f.later) k h.2)
     ]
 
-    answers_ok : status ≡ 0 → AllDone layout bytes lines a.given b.given b.holds → LinesAnswers layout bytes lines a b status
+    answers_ok : status ≡ 0 → AllDone layout bytes lines a.given b.given b.holds
+        → LinesAnswers layout bytes lines a b status
     answers_ok zero d = record {
       exact = inl (rw (d.none, zero) refl);
       done = λ z. d;

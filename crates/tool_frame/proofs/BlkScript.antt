@@ -96,7 +96,9 @@ size_stopped layout a b s f g none q h = load_stops (λ t. BlkEnds layout a b (E
       kept = tt;
     })
     (λ rose. record {
-      whole = record { told = λ bytes script t l. image_lines layout bytes (blk_lines layout bytes script) a b none q t };
+      whole = record {
+        told = λ bytes script t l. image_lines layout bytes (blk_lines layout bytes script) a b none q t;
+      };
       read = unread_fault layout.total a b none;
       kept = tt;
     })

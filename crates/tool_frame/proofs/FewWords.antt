@@ -1,5 +1,5 @@
 -- Parameters without a fault are no more than keys
-use Rattle.std.proofs.Common.{◌≡◌, ℕ, zero, suc, ◌+◌, ◌<◌, ◌≤◌, Bool, true, false, if◌then◌else◌, List, [], ◌∷◌, length, take, drop, get_or, refl, sym, ap, ◌∙◌, arith, add-one, subst, Option, Some, None, Ok, string_bytes, String, Global}
+use Rattle.std.proofs.Common.{◌≡◌, ℕ, zero, suc, ◌+◌, ◌<◌, ◌≤◌, Bool, true, false, if◌then◌else◌, List, [], ◌∷◌, length, take, drop, get_or, refl, sym, ◌∙◌, arith, add-one, subst, Option, Some, None, Ok, string_bytes, String, Global}
 use Rattle.std.proofs.lemmas.List.{length-map, length-take}
 use Rattle.std.specs.List.{list_any}
 use Rattle.grammar_spec.specs.declared.faults.ParamFault.{ParamFault}

@@ -36,7 +36,8 @@ image_wanted plan c bytes is reads h =
     rw (is, reads, nat_lt-false h) refl in
     e ∙ ap (λ (n : ℕ). wanted_of plan.params plan.zones (take n bytes) [] c) (front_is plan c reads)
 
-stop_short : (plan : RamPlan) (c : RamCommand) (a b : Outside) (has needed : ℕ) → plan.command ≡ c → reads_image c ≡ true
+stop_short : (plan : RamPlan) (c : RamCommand) (a b : Outside) (has needed : ℕ) → plan.command ≡ c
+    → reads_image c ≡ true
     → Quiet a b → (needed ≡ mem_of plan) × (has < mem_of plan) × IfSome a.holds (λ bs. has ≡ length bs)
     → IfHolds a (λ bytes. Ended (wanted plan bytes []) a b (Err (Short has needed)))
 stop_short plan c a b has needed is reads q h = record {

@@ -1,5 +1,5 @@
 -- The words of a move, before and behind `to`
-use Rattle.std.proofs.Common.{◌≡◌, ℕ, ◌+◌, ◌-◌, ◌<◌, ◌≤◌, Bool, true, false, not, cond, nat_lt, is_some, List, [], ◌∷◌, length, map, take, drop, string_bytes, refl, sym, ap, ap₂, ◌∙◌, arith, Option, Some, None, length-drop}
+use Rattle.std.proofs.Common.{◌≡◌, ℕ, ◌+◌, ◌-◌, Bool, not, cond, nat_lt, is_some, List, [], ◌∷◌, length, map, take, drop, string_bytes, refl, sym, ap, ap₂, ◌∙◌, arith, Option, Some, None, length-drop}
 use Rattle.std.proofs.lemmas.List.{take-map, drop-map, length-map, take_all}
 use Rattle.std.specs.List.{position, position_or_len}
 use Rattle.std.specs.declared.string.String.{String}

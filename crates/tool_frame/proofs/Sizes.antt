@@ -1,5 +1,5 @@
 -- A stop at an image's size, or at its bytes, as a stop of its reading; the front of a store
-use Rattle.std.proofs.Common.{◌≡◌, ℕ, min, ◌<◌, ◌≤◌, List, length, take, Option, Some, None, IfSome, arith, ap, ◌∙◌, sym}
+use Rattle.std.proofs.Common.{ℕ, List, Option}
 use Rattle.tool_spec.specs.declared.Stop.{Stop}
 use Rattle.tool_spec.specs.declared.Stop.TheVariants.{Memory, Usage, Param, Layout, Short, ScriptFault, ImageFault, SinkFault, TooLong, BadLine, Refused, NoSharedZone}
 use Rattle.tool_frame.specs.Stages.{SizeStop, FrontStop, LoadStop}

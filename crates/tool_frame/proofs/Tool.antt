@@ -1,5 +1,5 @@
 -- What the tool answers for each command, from how its work ended and what the last line left
-use Rattle.std.proofs.Common.{◌≡◌, ◌≢◌, ◌⊎◌, true, false, ℕ, ◌<◌, ◌≤◌, List, [], ◌++◌, length, take, Option, Result, Ok, Err, refl, sym, ap, ◌∙◌, arith, inl, inr, append_assoc, IsOk}
+use Rattle.std.proofs.Common.{◌≡◌, ◌≢◌, ◌⊎◌, true, false, ℕ, ◌<◌, ◌≤◌, List, [], ◌++◌, length, take, Option, Result, Ok, Err, refl, sym, ◌∙◌, arith, inl, inr, append_assoc, IsOk}
 use Rattle.std.specs.Io.KnownBytes.{Appends, IsAtEnd}
 use Rattle.grammar_spec.specs.Lines.{script_of}
 use Rattle.grammar_spec.specs.Fields.{Text}
@@ -8,7 +8,7 @@ use Rattle.tool_spec.specs.Commands.{RamCommand, RunScript, ListRecords, Extract
 use Rattle.tool_spec.specs.Answers.{Outside, NoScript, NoImage, RoseFor, PutsAll, IsFree, SavedInPart, ShortAnswers, ScriptAnswers, ScriptUse, ScriptRead, RunAnswers, ImageAnswers, ReadAnswers, MakeAnswers, whole}
 use Rattle.tool_spec.specs.PlanAnswers.{ram_statuses, RamAnswers}
 use Rattle.tool_frame.specs.Ends.{LastPut, Finished}
-use Rattle.tool_frame.specs.Ended.{PutTexts, Ended, Caused, ShortAt, ScriptAt, UseAt, ScriptEnds, RunEnds, ImageEnds, ReadEnds, WrittenAt, MakeEnds, RamEnds}
+use Rattle.tool_frame.specs.Ended.{PutTexts, Caused, ShortAt, ScriptAt, UseAt, ScriptEnds, RunEnds, ImageEnds, ReadEnds, WrittenAt, MakeEnds, RamEnds}
 use Rattle.tool_frame.proofs.Answered.{GoesOn, rose_on, sink_rose, saved_in_part, answers, appends_on, nothing_put}
 use Rattle.tool_spec.specs.declared.Stop.{Stop}
 use Rattle.tool_spec.specs.declared.Stop.TheVariants.{Memory, Usage, Param, Layout, NoSharedZone, Short, ScriptFault, ImageFault, SinkFault, TooLong, BadLine, Refused}
@@ -311,7 +311,8 @@ module _ (a m b : Outside) (on : GoesOn a m b) (status : ℕ) where
   use_at (Err (Layout x)) c h f = quiet_end (Layout x) 3 refl (λ z. absurd (omega arith)) (λ z. absurd (omega arith))
       (λ z. absurd (omega arith)) (λ z. absurd (omega arith)) (λ z. absurd (omega arith)) (λ z. absurd (omega arith))
       (λ z. absurd (omega arith)) (put_status (Layout x) f)
-  use_at (Err NoSharedZone) c h f = quiet_end NoSharedZone 3 refl (λ z. absurd (omega arith)) (λ z. absurd (omega arith))
+  use_at (Err NoSharedZone) c h f = quiet_end NoSharedZone 3 refl (λ z. absurd (omega arith))
+      (λ z. absurd (omega arith))
       (λ z. absurd (omega arith)) (λ z. absurd (omega arith)) (λ z. absurd (omega arith)) (λ z. absurd (omega arith))
       (λ z. absurd (omega arith)) (put_status NoSharedZone f)
   use_at (Err (Short x y)) c h f = used_by (Short x y) (unread_at h.0) (put_status (Short x y) f)

@@ -213,8 +213,8 @@ abbrev pub WorkEnds : Result Plan Stop → Outside → Outside → End → Type 
 WorkEnds (Ok plan) a b e = PlanEnds plan a b e
 WorkEnds (Err s) a b e = (e ≡ Err s) × Nothing a b
 
--- all that holds once the work is done, before the last line: no count of faults falls, a fault has its cause, the image
--- stays until it is written last, and the work ended so
+-- all that holds once the work is done, before the last line: no count of faults falls, a fault has its cause, the
+-- image stays until it is written last, and the work ended so
 pub record WorkDone (r : Result Plan Stop) (a b : Outside) (e : End) : Type 0 where
   pub later : Later a b
   pub caused : Caused a b e

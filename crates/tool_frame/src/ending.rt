@@ -1,5 +1,5 @@
 // The last lines of runs.
-ghost use Rattle.std.specs.Prelude.{◌≡◌, ◌+◌, ◌≤◌, ◌++◌, [], length, decimal, MatchResult};
+ghost use Rattle.std.specs.Prelude.{◌≡◌, ◌+◌, ◌≤◌, ◌++◌, length, decimal, MatchResult};
 ghost use Rattle.arrayvec.specs.ArrayString.{array_string_len};
 ghost use Rattle.tool_spec.specs.Ends.{cause_text, param_text, last_line, status_of};
 ghost use Rattle.tool_frame.specs.Ends.{Finished};

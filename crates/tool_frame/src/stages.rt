@@ -1,6 +1,6 @@
 // The stages of a run that meet the outside.
-ghost use Rattle.std.specs.Prelude.{◌≡◌, replicate, ℕ, ◌+◌, ◌-◌, ◌<◌, ◌≤◌, ◌^◌, List, [], ◌++◌, length, take, vec_len, None, Ok, IfOk, IfErr, OnOk, IfSome, MatchResult, MatchOption};
-ghost use Rattle.std.specs.Io.KnownBytes.{IsAtEnd, Appends};
+ghost use Rattle.std.specs.Prelude.{◌≡◌, replicate, ◌+◌, ◌-◌, ◌<◌, ◌≤◌, ◌^◌, length, take, vec_len, Ok, IfOk, IfErr, OnOk, IfSome, MatchResult};
+ghost use Rattle.std.specs.Io.KnownBytes.{IsAtEnd};
 ghost use Rattle.box_io.specs.Outside.{HasCause, Writes, WritesFront};
 ghost use Rattle.grammar_spec.specs.Lines.{script_of};
 ghost use Rattle.grammar_spec.specs.Printed.{AllHaveFields};

@@ -1,6 +1,6 @@
 -- Every state of a script is sound
 use Rattle.std.specs.Prelude.{All}
-use Rattle.std.proofs.Common.{◌≡◌, ℕ, zero, suc, ◌+◌, ◌<◌, ◌≤◌, Bool, true, false, cond, nat_lt, List, [], ◌∷◌, ◌++◌, length, take, Option, Some, None, Result, Ok, Err, refl, sym, ap, ◌∙◌, arith, slice_index, inl, inr}
+use Rattle.std.proofs.Common.{◌≡◌, ℕ, zero, suc, ◌+◌, Bool, true, false, cond, nat_lt, List, [], ◌∷◌, ◌++◌, length, take, Option, Some, None, Result, Ok, Err, refl, sym, ap, arith, inl, inr}
 use Rattle.std.proofs.lemmas.Bool.{cases_lt}
 use Rattle.std.proofs.lemmas.List.{get_or_past}
 use Rattle.std.proofs.lemmas.List.Elements.{All-nil, All-push}
@@ -10,8 +10,7 @@ use Rattle.zone_spec.specs.declared.Zone.{Zone}
 use Rattle.zone_spec.specs.Parts.{AreBytes}
 use Rattle.zone_spec.specs.Layouts.{IsLayout}
 use Rattle.zone_spec.specs.Records.{Listed}
-use Rattle.session_spec.specs.States.{OffState, LiveState, Session, Off, Live}
-use Rattle.session_spec.specs.Off.{fresh}
+use Rattle.session_spec.specs.States.{LiveState, Session, Off, Live}
 use Rattle.session_spec.specs.Sound.{IsState, IsOperation, IsTime}
 use Rattle.session_spec.specs.Erasures.{saved_logs}
 use Rattle.session_spec.specs.Operations.{Operation, operated, left_by, EraseRecord, Cause as SessionCause}
@@ -46,7 +45,8 @@ does_sound layout mem session o d lies state fit h =
     (operations_keep_states_sound layout mem session o lies state fit)
 
 same_session : (session : Session) (text : Text) (d : StoreDone)
-    → (let r : Result StoreDone Cause = Ok (record { session = session; text = text }) in r) ≡ Ok d → d.session ≡ session
+    → (let r : Result StoreDone Cause = Ok (record { session = session; text = text }) in r) ≡ Ok d
+    → d.session ≡ session
 same_session session text d h = let same : record { session = session; text = text } ≡ d = cc in
     ap (λ (x : StoreDone). x.session) (sym same)
 
@@ -55,7 +55,8 @@ extracts_sound : (layout : List Zone) (mem : ℕ) (live : LiveState) (r : Option
 extracts_sound layout mem live None d state h = absurd (cc)
 extracts_sound layout mem live (Some r) d state h = rw (same_session (Live live) _ d h) state
 
-erases_sound : (layout : List Zone) (mem : ℕ) (live : LiveState) (r : Option Listed) (d : StoreDone) → IsLayout layout mem
+erases_sound : (layout : List Zone) (mem : ℕ) (live : LiveState) (r : Option Listed) (d : StoreDone)
+    → IsLayout layout mem
     → IsState layout mem (Live live) → erases_of layout live r ≡ Ok d → IsState layout mem d.session
 erases_sound layout mem live None d lies state h = absurd (cc)
 erases_sound layout mem live (Some r) d lies state h =

@@ -1,5 +1,4 @@
 // Whole runs over the objects in memory: what is put, what is stored and what is answered.
-ghost use Rattle.std.specs.Prelude.{◌≡◌, IfOk};
 
 use box_io::{Bytes, Calls, MemSink, MemSource, MemStore};
 use image_tool::run;

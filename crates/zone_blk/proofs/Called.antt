@@ -172,7 +172,8 @@ pub all-names : (b : BlkState) → IsLoadedState b → All IsName (names_of b)
 unfolding names_of
 all-names b loaded =
     let l = loaded.layout in
-    let few : b.layout.dumps < 2 ^ 32 = few-dumps b.layout.dumps b.layout.kmsg l.dumps (omega (arith, l.room, l.small)) in
+    let few : b.layout.dumps < 2 ^ 32 = few-dumps b.layout.dumps b.layout.kmsg l.dumps
+    (omega (arith, l.room, l.small)) in
     All-append IsName (map dump_name b.dumps ++ name_if Console b.console.saved) (name_if Pmsg b.pmsg.saved)
     (All-append IsName (map dump_name b.dumps) (name_if Console b.console.saved)
     (All-map IsName dump_name b.dumps (λ k d below. omega (arith, loaded.dumps k d below, few)))

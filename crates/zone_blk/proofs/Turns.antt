@@ -88,7 +88,8 @@ parts z words bytes front back t is =
 -- how the whole ends by how its parts end
 module _ (z : BlkZone) (words : BlkWords) (bytes front back : List ℕ) (t : Turn)
     (is : IsTurn z words bytes front back t) (c0 c1 c2 c3 : BlkCut) (h0 h1 h2 h3 : Option (List ℕ)) where
-  pub run-fails : FailsWithin (run-part z words front t) c0 c1 h0 h1 → FailsWithin (kept_writes z words bytes) c0 c1 h0 h1
+  pub run-fails : FailsWithin (run-part z words front t) c0 c1 h0 h1
+      → FailsWithin (kept_writes z words bytes) c0 c1 h0 h1
   run-fails p = fails-same _ _ _ _ _ _ (parts z words bytes front back t is)
       (fails-before (run-part z words front t ++ rest-part z back t) (further-part z t) c0 c1 c1 h0 h1 h1
       (fails-before (run-part z words front t) (rest-part z back t) c0 c1 c1 h0 h1 h1 p))

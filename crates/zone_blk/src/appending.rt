@@ -1,5 +1,5 @@
 // The writes of an append to a ring.
-ghost use Rattle.std.specs.Prelude.{◌≡◌, ℕ, ◌+◌, ◌-◌, ◌^◌, ◌<◌, ◌≤◌, [], ◌∷◌, ◌++◌, length, take, drop, nat_lt, if◌then◌else◌, IfOk};
+ghost use Rattle.std.specs.Prelude.{◌≡◌, ◌+◌, ◌-◌, ◌<◌, ◌≤◌, [], ◌∷◌, length, nat_lt, if◌then◌else◌, IfOk};
 ghost use Rattle.box_io.specs.Outside.{HasCause};
 ghost use Rattle.blk_spec.specs.Layout.{capacity};
 ghost use Rattle.blk_spec.specs.Answers.{HasRoom};

@@ -1,5 +1,5 @@
 // The names of records, and their contents.
-ghost use Rattle.std.specs.Prelude.{◌≡◌, ℕ, ◌+◌, ◌≤◌, ◌++◌, ◌∷◌, [], List, codes, decimal, length, IfOk, OnOk, map, not, ◌==◌, if◌then◌else◌};
+ghost use Rattle.std.specs.Prelude.{◌≡◌, ◌+◌, ◌≤◌, ◌++◌, ◌∷◌, [], List, codes, decimal, length, IfOk, OnOk, map, not, ◌==◌};
 ghost use Rattle.blk_spec.specs.Names.{IsNameOf, is_name as is_same, dump_name as name_of_dump, dump_content as content_of_dump};
 ghost use Rattle.blk_spec.specs.Reasons.{reason_word};
 ghost use Rattle.std.specs.List.{find, filter};

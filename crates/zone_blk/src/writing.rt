@@ -1,9 +1,8 @@
 // Writes to the store, as far as a cut lets them through.
-ghost use Rattle.std.specs.Prelude.{◌≡◌, ℕ, ◌+◌, ◌-◌, ◌^◌, ◌<◌, ◌≤◌, [], ◌∷◌, ◌++◌, length, replicate, MatchResult};
+ghost use Rattle.std.specs.Prelude.{◌≡◌, ◌+◌, ◌-◌, ◌<◌, ◌≤◌, [], ◌∷◌, ◌++◌, length, replicate, MatchResult};
 ghost use Rattle.box_io.specs.Outside.{HasCause};
-ghost use Rattle.blk_spec.specs.Layout.{capacity};
-ghost use Rattle.blk_spec.specs.Writes.{through, spent, bytes_in};
-ghost use Rattle.blk_spec.specs.Answers.{HasRoom, Makes, FailsWithin};
+ghost use Rattle.blk_spec.specs.Writes.{through, spent};
+ghost use Rattle.blk_spec.specs.Answers.{HasRoom};
 ghost use Rattle.blk_spec.specs.Rings.{header_bytes, header_write, run_writes};
 ghost use Rattle.zone_blk.specs.Outcomes.{Ends, one_write};
 ghost use Rattle.zone_blk.specs.Fits.{IsZone};

@@ -1,5 +1,5 @@
 // The zones of a layout.
-ghost use Rattle.std.specs.Prelude.{◌≡◌, ℕ, ◌+◌, ◌-◌, ◌^◌, ◌<◌, ◌≤◌};
+ghost use Rattle.std.specs.Prelude.{◌≡◌, ◌+◌, ◌-◌, ◌^◌, ◌<◌, ◌≤◌};
 ghost use Rattle.blk_spec.specs.Layout.{IsLayout, ring_zone as ring_of, dump_zone as dump_of};
 ghost use Rattle.zone_blk.specs.Fits.{IsZone};
 

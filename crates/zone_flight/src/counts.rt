@@ -2,8 +2,8 @@
 ghost use Rattle.std.specs.Prelude.{◌≡◌, ◌+◌, ◌-◌, ◌*◌, ◌/◌, ◌%◌, ◌<◌, ◌≤◌, ◌^◌, ◌++◌, ◌∷◌, [], min, max, if◌then◌else◌, ◌==◌, List, ℕ, length, sum_by, filter};
 ghost use Rattle.std.specs.List.{list_any, range_with_len};
 ghost use Rattle.zone_spec.specs.Zones.{IsValidZone};
-ghost use Rattle.zone_spec.specs.Stages.{Stage, stage_count};
-ghost use Rattle.zone_spec.specs.Calls.{append_stages, call_stages, erase_stages};
+ghost use Rattle.zone_spec.specs.Stages.{stage_count};
+ghost use Rattle.zone_spec.specs.Calls.{append_stages, call_stages};
 ghost use Rattle.zone_spec.specs.Pairs.{pairs_from, pair_of};
 ghost use Rattle.zone_spec.specs.Touched.{runs_of, touched_by};
 ghost use Rattle.zone_spec.specs.Reading.{IsRing};

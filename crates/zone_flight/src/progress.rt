@@ -1,5 +1,5 @@
 // The machine of phases: what the next store of a call is.
-ghost use Rattle.std.specs.Prelude.{◌≡◌, ◌+◌, ◌-◌, ◌*◌, ◌/◌, ◌%◌, ◌<◌, ◌≤◌, ◌^◌, ◌⊎◌, false, List, ℕ, length, take, drop, IsTrue, ◌↔◌, min};
+ghost use Rattle.std.specs.Prelude.{◌≡◌, ◌+◌, ◌-◌, ◌*◌, ◌/◌, ◌%◌, ◌<◌, ◌≤◌, ◌^◌, false, List, ℕ, length, take, drop, IsTrue, ◌↔◌, min};
 ghost use Rattle.std.specs.Option.{ForSome};
 ghost use Rattle.zone_spec.specs.Parts.{Header, Block, standing_words};
 ghost use Rattle.zone_spec.specs.Zones.{IsValidZone};

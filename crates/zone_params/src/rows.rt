@@ -1,5 +1,5 @@
 // The zones of each kind, and what is wrong with them.
-ghost use Rattle.std.specs.Prelude.{◌≡◌, ℕ, ◌≤◌, ◌<◌, ◌^◌, ◌==◌, ◌&&◌, ◌+◌, ◌*◌, ◌||◌, not, List, [], ◌∷◌, ◌++◌, nat_lt, IsTrue, map, sum_by, OnOk, None};
+ghost use Rattle.std.specs.Prelude.{◌≡◌, ℕ, ◌≤◌, ◌<◌, ◌^◌, ◌==◌, ◌&&◌, ◌+◌, ◌*◌, ◌||◌, [], ◌∷◌, nat_lt, sum_by, None};
 ghost use Rattle.std.specs.List.{All, list_any, list_all};
 ghost use Rattle.zone_spec.specs.Layout.{rounded as rounded_of, parity_bytes, ecc_of, rows as rows_of, zone_at as zone_of, parameter_faults, first_fault, zone_faults, zones_from, dump_memory, tag_of};
 ghost use Rattle.zone_spec.specs.Layouts.{zone_place};

@@ -1,6 +1,6 @@
 // The worked parities of a header and a block, read back from a console zone of 4096 bytes with two parity bytes:
 // capacity 4018, 32 blocks of 128 bytes, the block's parity at 4030, the header's at 4094.
-ghost use Rattle.std.specs.Prelude.{◌≡◌, length, IfOk, IfSome};
+ghost use Rattle.std.specs.Prelude.{IfSome};
 ghost use Rattle.zone_spec.specs.Zones.{IsValidZone};
 
 use arrayvec::ArrayVec;

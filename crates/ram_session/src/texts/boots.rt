@@ -1,7 +1,6 @@
 // The lines of a boot.
-ghost use Rattle.std.specs.Prelude.{◌≡◌, ℕ, ◌<◌, ◌++◌, length, map, flat_map, codes, decimal, Option, IfOk, OnOk, slice_get, Some};
-ghost use Rattle.std.specs.Option.{option_map, option_copied};
-ghost use Rattle.zone_spec.specs.Reading.{ZoneReading};
+ghost use Rattle.std.specs.Prelude.{◌≡◌, ◌<◌, ◌++◌, length, map, flat_map, codes, decimal, IfOk, OnOk, slice_get, Some};
+ghost use Rattle.std.specs.Option.{option_map};
 ghost use Rattle.zone_spec.specs.Records.{Saved};
 ghost use Rattle.grammar_spec.specs.Printed.{zone_text};
 ghost use Rattle.old_log.specs.Saving.{saved};

@@ -1,5 +1,5 @@
 // What a move tells of each record.
-ghost use Rattle.std.specs.Prelude.{◌≡◌, ◌++◌, ◌∷◌, [], if◌then◌else◌, codes, decimal, flat_map, map, IfOk, OnOk};
+ghost use Rattle.std.specs.Prelude.{◌≡◌, ◌++◌, if◌then◌else◌, codes, flat_map, IfOk, OnOk};
 ghost use Rattle.zone_params.specs.Laid.{zones_of};
 ghost use Rattle.old_log.specs.Saving.{saved};
 ghost use Rattle.tool_spec.specs.Texts.{move_text};

@@ -1,11 +1,10 @@
 // The list of records, and a record's content.
-ghost use Rattle.std.specs.Prelude.{◌≡◌, ◌++◌, ◌∷◌, [], codes, decimal, drop, ◌+◌, ◌<◌, length, flat_map, map, IfOk, OnOk, Option};
-ghost use Rattle.zone_spec.specs.declared.Time.{Time as TimeValue};
+ghost use Rattle.std.specs.Prelude.{◌≡◌, ◌++◌, codes, decimal, ◌+◌, ◌<◌, length, flat_map, IfOk, OnOk, Option};
 ghost use Rattle.zone_spec.specs.Names.{name_text as name_text_of};
 ghost use Rattle.zone_spec.specs.TimeLines.{six_digits};
-ghost use Rattle.zone_spec.specs.Records.{record_of, listed_of};
+ghost use Rattle.zone_spec.specs.Records.{record_of};
 ghost use Rattle.old_log.specs.Saving.{saved};
-ghost use Rattle.tool_spec.specs.Texts.{newline, time_text, listing, extract_text};
+ghost use Rattle.tool_spec.specs.Texts.{time_text, listing, extract_text};
 ghost use Rattle.ram_session.specs.Entries.{entry_text, IsText};
 
 use arrayvec::ArrayString;

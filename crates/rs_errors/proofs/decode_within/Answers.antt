@@ -10,7 +10,8 @@ use Rattle.rs_errors.proofs.decode_within.Goals as goal
 pub returns-then-not-is_damaged-clause-answer : goal.returns-then-not-is_damaged-clause-answer
 returns-then-not-is_damaged-clause-answer c =
     let W : List ℕ = c.args.msg.now ++ c.args.par.now in
-    decoded_clean W (within c.args.most W (nearest (length c.args.par.now) W)) (within_codeword c.args.most (length c.args.par.now) W
+    decoded_clean W (within c.args.most W (nearest (length c.args.par.now) W))
+    (within_codeword c.args.most (length c.args.par.now) W
     (c.is_damaged.ensures.clean c.if-not-is_damaged.true))
 
 pub returns-then-not-is_damaged-clause-data : goal.returns-then-not-is_damaged-clause-data
@@ -42,7 +43,8 @@ pub returns-then-corrected-clause-data : goal.returns-then-corrected-clause-data
 returns-then-corrected-clause-data c =
     let W : List ℕ = c.args.msg.now ++ c.args.par.now in
     let fs : List Fix = c.corrected.new.fixes.items in
-    data_fixed c.args.msg.now c.args.par.now (applied fs W) c.apply.new.word (within c.args.most W (nearest (length c.args.par.now) W))
+    data_fixed c.args.msg.now c.args.par.now (applied fs W) c.apply.new.word
+    (within c.args.most W (nearest (length c.args.par.now) W))
     (within_near c.args.most (length c.args.par.now) W (applied fs W) (c.corrected.ensures.nearest c.if-corrected.true)
     (c.corrected.ensures.near c.if-corrected.true))
     (c.apply.ensures ∙ ap (λ (us : List Fix). applied us c.args.msg.now) c.as_slice.ensures.value
@@ -55,13 +57,15 @@ returns-then-corrected-clause-fixes c =
     let near : IsWithin c.args.most (length c.args.par.now) W (applied fs W) =
     c.corrected.ensures.near c.if-corrected.true in
     fixes_fixed W (applied fs W) fs (within c.args.most W (nearest (length c.args.par.now) W))
-    near.len (within_near c.args.most (length c.args.par.now) W (applied fs W) (c.corrected.ensures.nearest c.if-corrected.true)
+    near.len (within_near c.args.most (length c.args.par.now) W (applied fs W)
+    (c.corrected.ensures.nearest c.if-corrected.true)
     (c.corrected.ensures.near c.if-corrected.true)) (c.corrected.ensures.fixes c.if-corrected.true)
 
 pub returns-else-corrected-clause-answer : goal.returns-else-corrected-clause-answer
 returns-else-corrected-clause-answer c =
     let W : List ℕ = c.args.msg.now ++ c.args.par.now in
-    decoded_bad W (within c.args.most W (nearest (length c.args.par.now) W)) (c.corrected.ensures.nowhere c.if-corrected.false)
+    decoded_bad W (within c.args.most W (nearest (length c.args.par.now) W))
+    (c.corrected.ensures.nowhere c.if-corrected.false)
 
 pub returns-else-corrected-clause-data : goal.returns-else-corrected-clause-data
 returns-else-corrected-clause-data c =

@@ -1,5 +1,5 @@
 -- Digits of a number are never none, so one of them can be left away
-use Rattle.std.proofs.Common.{◌+◌, ◌≤◌, arith}
+use Rattle.std.proofs.Common.{◌+◌, arith}
 use Rattle.std.proofs.lemmas.Fmt.{decimal_nonempty}
 use Rattle.text_pieces.proofs.push_padded.Goals as goal
 

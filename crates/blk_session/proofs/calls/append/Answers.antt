@@ -1,4 +1,4 @@
-use Rattle.std.proofs.Common.{Some, Err, ap}
+use Rattle.std.proofs.Common.{Err, ap}
 use Rattle.blk_spec.specs.States.{append_refusal, append_of, appended}
 use Rattle.blk_spec.specs.Session.{Append}
 use Rattle.blk_session.proofs.Operations.{append_call, call_done, call_fails}

@@ -1,4 +1,4 @@
-use Rattle.std.proofs.Common.{Some, Err, ap}
+use Rattle.std.proofs.Common.{Err, ap}
 use Rattle.blk_spec.specs.States.{dump_refusal, dump_of, dumped}
 use Rattle.blk_spec.specs.Session.{Dump as DumpNow}
 use Rattle.blk_session.proofs.Operations.{dump_call, call_done, call_fails}

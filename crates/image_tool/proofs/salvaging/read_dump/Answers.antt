@@ -1,5 +1,5 @@
 -- A scan of the front of a store
-use Rattle.std.proofs.Common.{◌≡◌, ap, sym, ◌∙◌, List, ℕ}
+use Rattle.std.proofs.Common.{ap, ◌∙◌, List, ℕ}
 use Rattle.zone_params.specs.Laid.{zones_of}
 use Rattle.salvage_spec.specs.Rings.{rings}
 use Rattle.box_salvage.specs.Scans.{Scanned}

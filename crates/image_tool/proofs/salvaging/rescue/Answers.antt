@@ -19,14 +19,16 @@ pub returns-in-Ok-put-clause-ended : goal.returns-in-Ok-put-clause-ended
 returns-in-Ok-put-clause-ended g c = λ left f.
     ring_put (plan_for (ReadRing c.args.at c.args.name) c.args.layout) _ _ c.in-Ok.scan c.in-Ok.ensures.read
     c.args.at c.args.name refl c.in-Ok-ring_at.reading c.in-Ok-ring_at.ensures c.in-Ok.ensures.same
-    (record { left = refl; source = refl }) (subst (λ (r : ZoneReading). Appends (g.O.Sink.given c.args.out.now) (g.O.Sink.given c.put.new.self) r.log)
+    (record { left = refl; source = refl }) (subst
+    (λ (r : ZoneReading). Appends (g.O.Sink.given c.args.out.now) (g.O.Sink.given c.put.new.self) r.log)
     c.reading.view_is (rw c.as_slice.ensures at c.in-Ok-put.ensures.bytes))
 
 pub returns-clause-ended : goal.returns-clause-ended
 returns-clause-ended g c = λ left f.
     ring_front (plan_for (ReadRing c.args.at c.args.name) c.args.layout) _ _ c.in-Ok.scan c.in-Ok.ensures.read
     c.args.at c.args.name refl c.in-Ok-ring_at.reading c.in-Ok-ring_at.ensures c.in-Ok.ensures.same
-    (record { left = refl; source = refl }) (subst (λ (r : ZoneReading). AppendsFront (g.O.Sink.given c.args.out.now) (g.O.Sink.given c.put.new.self) r.log)
+    (record { left = refl; source = refl }) (subst
+    (λ (r : ZoneReading). AppendsFront (g.O.Sink.given c.args.out.now) (g.O.Sink.given c.put.new.self) r.log)
     c.reading.view_is (rw c.as_slice.ensures at c.in-Err-put.ensures.bytes))
 
 pub returns-in-Err-clause-put : goal.returns-in-Err-clause-put

@@ -18,12 +18,13 @@ returns-in-List-clause-work g c = arm_done _ List c.args.layout _ _ _ c.in-List.
 })
 
 pub returns-in-Extract-clause-work : goal.returns-in-Extract-clause-work
-returns-in-Extract-clause-work g c = arm_done _ (Extract c.in-Extract.name) c.args.layout _ _ _ c.in-Extract.is (record {
-  later = record { source = omega arith; store = c.extract.ensures.later.0; sink = c.extract.ensures.later.1 };
-  caused = c.extract.ensures.caused _ _;
-  kept = λ w. kept_same _ _ _ c.extract.ensures.same;
-  ended = c.extract.ensures.ended _ _;
-})
+returns-in-Extract-clause-work g c = arm_done _ (Extract c.in-Extract.name) c.args.layout _ _ _ c.in-Extract.is
+    (record {
+      later = record { source = omega arith; store = c.extract.ensures.later.0; sink = c.extract.ensures.later.1 };
+      caused = c.extract.ensures.caused _ _;
+      kept = λ w. kept_same _ _ _ c.extract.ensures.same;
+      ended = c.extract.ensures.ended _ _;
+    })
 
 pub returns-in-Erase-clause-work : goal.returns-in-Erase-clause-work
 returns-in-Erase-clause-work g c = arm_done _ (Erase c.in-Erase.name) c.args.layout _ _ _ c.in-Erase.is (record {
@@ -69,12 +70,13 @@ returns-in-Salvage-clause-work g c = arm_done _ Salvage c.args.layout _ _ _ c.in
 })
 
 pub returns-in-Rescue-clause-work : goal.returns-in-Rescue-clause-work
-returns-in-Rescue-clause-work g c = arm_done _ (Rescue c.in-Rescue.at c.in-Rescue.name) c.args.layout _ _ _ c.in-Rescue.is (record {
-  later = record { source = omega arith; store = c.rescue.ensures.later.0; sink = c.rescue.ensures.later.1 };
-  caused = c.rescue.ensures.caused _ _;
-  kept = λ w. kept_same _ _ _ c.rescue.ensures.same;
-  ended = c.rescue.ensures.ended _ _;
-})
+returns-in-Rescue-clause-work g c = arm_done _ (Rescue c.in-Rescue.at c.in-Rescue.name) c.args.layout _ _ _
+    c.in-Rescue.is (record {
+      later = record { source = omega arith; store = c.rescue.ensures.later.0; sink = c.rescue.ensures.later.1 };
+      caused = c.rescue.ensures.caused _ _;
+      kept = λ w. kept_same _ _ _ c.rescue.ensures.same;
+      ended = c.rescue.ensures.ended _ _;
+    })
 
 pub returns-in-Run-clause-put : goal.returns-in-Run-clause-put
 returns-in-Run-clause-put g c = arm_put _ Run _ _ _ c.in-Run.is c.run_script.ensures.put
@@ -101,4 +103,5 @@ pub returns-in-Salvage-clause-put : goal.returns-in-Salvage-clause-put
 returns-in-Salvage-clause-put g c = arm_put _ Salvage _ _ _ c.in-Salvage.is c.salvage.ensures.put
 
 pub returns-in-Rescue-clause-put : goal.returns-in-Rescue-clause-put
-returns-in-Rescue-clause-put g c = arm_put _ (Rescue c.in-Rescue.at c.in-Rescue.name) _ _ _ c.in-Rescue.is c.rescue.ensures.put
+returns-in-Rescue-clause-put g c = arm_put _ (Rescue c.in-Rescue.at c.in-Rescue.name) _ _ _ c.in-Rescue.is
+    c.rescue.ensures.put

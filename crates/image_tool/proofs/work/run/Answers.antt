@@ -16,7 +16,8 @@ returns-clause-runs g c =
           (record { holds = refl; store = refl }) c.do_work-end.ensures.work c.finish.ensures;
       answers = answers;
       complete = completes (texts c.args.words.now) _ _ _ answers;
-      reads = run_reads c.later_boot_lists_crash.ensures (asked (texts c.args.words.now)) _ _ _ _ refl (g.met.M.Store.held_bytes c.args.image.now)
+      reads = run_reads c.later_boot_lists_crash.ensures (asked (texts c.args.words.now)) _ _ _ _ refl
+          (g.met.M.Store.held_bytes c.args.image.now)
           answers;
       last = last_line_put _ _ _ _ _ (plan_of (texts c.args.words.now)) _ c.do_work-end.ensures.put c.finish.ensures;
     }

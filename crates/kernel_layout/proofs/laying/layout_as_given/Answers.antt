@@ -42,7 +42,8 @@ returns-in-Ok-clause-layout c = laid-out c.args.p.now c.parameter_fault.result c
     ∙ sym (ap (λ (zs : List Zone). Ok zs) (zones_are (goal.at.returns-in-Ok-clause-layout c).In-Ok))
 
 pub returns-in-Ok-clause-whole : goal.returns-in-Ok-clause-whole
-returns-in-Ok-clause-whole c = subst (λ (zs : List Zone). IsLayout zs c.args.p.now.mem) (sym (zones_are (goal.at.returns-in-Ok-clause-whole c).In-Ok))
+returns-in-Ok-clause-whole c = subst (λ (zs : List Zone). IsLayout zs c.args.p.now.mem)
+    (sym (zones_are (goal.at.returns-in-Ok-clause-whole c).In-Ok))
     (whole c.args.p.now (sym c.parameter_fault.ensures ∙ c.in_default.is)
     c.framed-frame.ensures.tag
     (sym c.zone_fault.ensures ∙ c.in_default-zone_fault.is))
@@ -52,7 +53,8 @@ returns-in-Ok-clause-memory c =
     (has-room c.args.p.now (sym c.parameter_fault.ensures ∙ c.in_default.is)).memory
 
 pub returns-in-Ok-clause-few : goal.returns-in-Ok-clause-few
-returns-in-Ok-clause-few c = subst (λ (zs : List Zone). length zs < 2 ^ 32) (sym (zones_are (goal.at.returns-in-Ok-clause-few c).In-Ok))
+returns-in-Ok-clause-few c = subst (λ (zs : List Zone). length zs < 2 ^ 32)
+    (sym (zones_are (goal.at.returns-in-Ok-clause-few c).In-Ok))
     (few c.args.p.now (sym c.parameter_fault.ensures ∙ c.in_default.is))
 
 pub returns-in-Ok-clause-numbered : goal.returns-in-Ok-clause-numbered

@@ -1,4 +1,4 @@
-use Rattle.std.proofs.Common.{◌≡◌, ℕ, ◌+◌, ◌-◌, ◌≤◌, ◌++◌, ◌∷◌, [], List, length, drop, min, refl, subst, ap, sym, ◌∙◌, arith}
+use Rattle.std.proofs.Common.{◌≡◌, ℕ, ◌+◌, ◌-◌, ◌≤◌, ◌++◌, List, length, drop, min, refl, subst, ap, ◌∙◌, arith}
 use Rattle.std.proofs.lemmas.List.{length-append, length-drop, append_assoc}
 use Rattle.std.proofs.lemmas.Bool.{le-leb}
 use Rattle.circular_buffer.specs.Buffer.{Buffer}
@@ -48,7 +48,8 @@ returns c = λ given k.
     let vn = ap (λ (b : Buffer ℕ). length b.items) v in
     let n = c.len-len.ensures.len in
     let spare = c.args.room - length (heading c.args.why c.args.count) in
-    let from : c.len-len.result - c.min.result ≡ length c.args.self.now.items - min (length c.args.self.now.items) spare =
+    let from : c.len-len.result - c.min.result ≡ length c.args.self.now.items - min (length c.args.self.now.items)
+    spare =
     omega (arith, hn, vn, n, c.min.ensures) in
     let start = subst (λ (k : ℕ). IsFirstStart c.args.self.now.items k c.start_from-start.result) from
     c.start_from-start.ensures in

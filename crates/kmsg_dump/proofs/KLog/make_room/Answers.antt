@@ -9,7 +9,8 @@ use Rattle.kmsg_dump.proofs.KLog.make_room.Goals as goal
 
 -- the lines that stay when so many bytes more are to fit
 dropped : (log : Buffer ℕ) (given : List (List ℕ)) (size from start : ℕ) → Keeps log given
-    → length log.items ≤ log.capacity → size ≤ log.capacity → log.capacity - length log.items < size → from ≡ size - (log.capacity - length log.items)
+    → length log.items ≤ log.capacity → size ≤ log.capacity → log.capacity - length log.items < size
+    → from ≡ size - (log.capacity - length log.items)
     → from ≤ length log.items → IsFirstStart log.items from start
     → drop (length log.items - (length log.items - start)) log.items ≡ bytes_of (last_lines (log.capacity - size) given)
 dropped log given size from start k full small more is below s =
@@ -21,7 +22,8 @@ dropped log given size from start k full small more is below s =
     ap (λ n. drop n log.items) at ∙ ap (drop start) k.bytes
     ∙ from_start kept (all_of_last IsLine log.capacity given k.lines) from start (omega (arith, len))
     (subst (λ (bytes : List ℕ). IsFirstStart bytes from start) k.bytes s)
-    ∙ ap (λ n. bytes_of (last_lines n kept)) room ∙ ap bytes_of (of_last (log.capacity - size) log.capacity given (omega arith))
+    ∙ ap (λ n. bytes_of (last_lines n kept)) room
+    ∙ ap bytes_of (of_last (log.capacity - size) log.capacity given (omega arith))
 
 -- there is room enough
 kept_all : (log : Buffer ℕ) (given : List (List ℕ)) (size : ℕ) → Keeps log given

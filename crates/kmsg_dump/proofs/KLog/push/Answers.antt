@@ -21,7 +21,8 @@ all_stay items bytes capacity h =
 pushed : (log made : Buffer ℕ) (given : List (List ℕ)) (text : List ℕ) → IsLine text → Keeps log given
     → length text + 1 ≤ log.capacity
     → made ≡ buffer (bytes_of (last_lines (log.capacity - (length text + 1)) given)) log.capacity
-    → more (more made text) (newline ∷ []) ≡ buffer (bytes_of (last_lines log.capacity (given ++ text ∷ []))) log.capacity
+    → more (more made text) (newline ∷ []) ≡ buffer (bytes_of (last_lines log.capacity (given ++ text ∷ [])))
+    log.capacity
 pushed log made given text line k small e =
     let size : length (ended text) ≡ length text + 1 = length-append text (newline ∷ []) in
     let kept = last_lines (log.capacity - (length text + 1)) given in

@@ -1,6 +1,5 @@
 -- A zone's reading and its parts, by the words of its header
 use Rattle.std.proofs.Common.{refl, sym, ◌∙◌}
-use Rattle.zone_spec.specs.Reading.{zone_reading}
 use Rattle.old_log.proofs.Fronts.{reading-found, reading-other, ring-found, counted-corrected, counted-bad}
 use Rattle.old_log.proofs.States.{states-found, states-other}
 use Rattle.old_log.proofs.reading.read_whole.Goals as goal
@@ -20,7 +19,8 @@ returns-in_ok-log-in-Found c =
     record {
       reading = reading;
       parts = λ wanted. states-found c.args.zone.now c.args.span.now _ _ _ reading refl
-          (c.part_state-header.ensures _ c.read_header-front.ensures.counts) (c.in_ok-log-in-Found.ensures.states wanted);
+          (c.part_state-header.ensures _ c.read_header-front.ensures.counts)
+          (c.in_ok-log-in-Found.ensures.states wanted);
     }
 
 pub returns-in_default : goal.returns-in_default

@@ -1,4 +1,4 @@
-use Rattle.std.proofs.Common.{◌≡◌, ◌+◌, ◌<◌, Bool, true, ◌&&◌, List, take, drop, length, arith, refl, sym, ap, ap₂, ◌∙◌}
+use Rattle.std.proofs.Common.{◌<◌, Bool, true, ◌&&◌, List, length, arith, sym, ap, ◌∙◌}
 use Rattle.std.proofs.lemmas.List.{take_all}
 use Rattle.zone_spec.specs.Records.{Saved}
 use Rattle.zone_params.specs.Laid.{zones_of}

@@ -1,10 +1,10 @@
-use Rattle.std.proofs.Common.{◌≡◌, ◌<◌, length, ap, arith, refl, sym, ◌∙◌}
+use Rattle.std.proofs.Common.{◌≡◌, ◌<◌, length, arith, ◌∙◌}
 use Rattle.zone_spec.specs.Records.{Saved}
 use Rattle.zone_params.specs.Laid.{zones_of}
 use Rattle.old_log.specs.Saving.{saved}
 use Rattle.pstore_names.specs.Moves.{stays}
 use Rattle.pstore_names.proofs.Steps.{item-at}
-use Rattle.pstore_names.proofs.Forgetting.{ForgetsTo, forgets_stay, forgets_next, forgets_all, read-mapped}
+use Rattle.pstore_names.proofs.Forgetting.{forgets_stay, forgets_next, forgets_all, read-mapped}
 use Rattle.pstore_names.proofs.fitting.forget_unfit.Goals as goal
 use Rattle.pstore_names.proofs.fitting.forget_unfit.Goals.{then-not-index, else-not-index}
 

@@ -1,4 +1,4 @@
-use Rattle.std.proofs.Common.{◌≡◌, ◌&&◌, Bool, refl, sym, ap, ◌∙◌, Some}
+use Rattle.std.proofs.Common.{◌≡◌, ◌&&◌, Bool, sym, ap, ◌∙◌, Some}
 use Rattle.std.specs.Option.{option_map}
 use Rattle.zone_spec.specs.declared.ZoneName.{ZoneName}
 use Rattle.zone_spec.specs.declared.Kind.TheVariants.{Dump}
@@ -18,6 +18,7 @@ returns c = λ s at.
     c.args.rises c.is_kind-is_dump.result c.if-rises.stays_by
     (elim c.if-rises.branch [
       | then-rises w ↦ w.stays_by-is ∙ sym (ap (λ (b : Bool). b && c.is_kind-is_dump.result) w.if-rises.true)
-      | else-rises w ↦ w.stays_by-is ∙ w.if-rises.false ∙ sym (ap (λ (b : Bool). b && c.is_kind-is_dump.result) w.if-rises.false)
+      | else-rises w ↦ w.stays_by-is ∙ w.if-rises.false
+          ∙ sym (ap (λ (b : Bool). b && c.is_kind-is_dump.result) w.if-rises.false)
     ])
     c.requires.rises (c.is_kind-is_dump.ensures ∙ ap (λ (n : ZoneName). is_of Dump n.kind) (sym named)) at

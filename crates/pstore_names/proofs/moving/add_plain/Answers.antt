@@ -18,7 +18,8 @@ loop-i-preserved c =
       | in_default w ↦ grind (arith, common_steps)
     ] in
     let within : c.loop-i.i < length zones = omega (arith, c.len-i-end.ensures.saved, c.loop-i-test.true) in
-    collected-more (plain_moves layout zones c.args.kind c.args.name) (plain_moves-append layout zones c.args.kind c.args.name)
+    collected-more (plain_moves layout zones c.args.kind c.args.name)
+    (plain_moves-append layout zones c.args.kind c.args.name)
     zones c.loop-i.i c.args.moves.now.items c.loop-i.moves.items c.match-plain_move.moves.items
     (option_to_list c.plain_move.result)
     within c.plain_move.ensures c.loop-i.invariant pushed
@@ -27,6 +28,7 @@ pub returns : goal.returns
 returns c =
     let zones = saved c.args.logs.now in
     let layout = zones_of c.args.layout.now in
-    collected-all (plain_moves layout zones c.args.kind c.args.name) (plain_moves-append layout zones c.args.kind c.args.name)
+    collected-all (plain_moves layout zones c.args.kind c.args.name)
+    (plain_moves-append layout zones c.args.kind c.args.name)
     zones c.loop-i.i c.args.moves.now.items c.loop-i.moves.items
     (omega (arith, c.len-i-end.ensures.saved, c.loop-i-test.false)) c.loop-i.invariant

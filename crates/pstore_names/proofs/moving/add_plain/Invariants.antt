@@ -5,5 +5,6 @@ use Rattle.pstore_names.proofs.Moved.{plain_moves}
 use Rattle.pstore_names.proofs.moving.add_plain.Given as goal
 
 abbrev pub invariant-loop-i : goal.invariant-loop-i
-invariant-loop-i l = l.moves.items ≡ l.initial.moves.items ++ plain_moves (zones_of l.layout) (saved l.logs) l.kind l.name
+invariant-loop-i l = l.moves.items ≡ l.initial.moves.items ++ plain_moves (zones_of l.layout)
+    (saved l.logs) l.kind l.name
     (take l.i (saved l.logs))

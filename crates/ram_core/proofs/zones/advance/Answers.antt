@@ -26,7 +26,8 @@ advance-requires-clause-coder c = λ k e. subst (HasParity k.now) c.in-Some.is (
 
 pub returns-in_default-advance-clause-stored : goal.returns-in_default-advance-clause-stored
 returns-in_default-advance-clause-stored c zone live room stands =
-    stored c.args.count zone _ _ _ _ (steps (goal.at.returns-in_default-advance-clause-stored c).After-advance) c.args.held.now.told live
+    stored c.args.count zone _ _ _ _ (steps (goal.at.returns-in_default-advance-clause-stored c).After-advance)
+    c.args.held.now.told live
     (subst (λ (o : Option Flying). StandsForZone zone (span c.args.spans.now c.args.i)
     (record { told = c.args.held.now.told; flight = o }) live) c.in-Some.is stands)
     (λ e. c.in_default-advance.not-Done (c.advance.ensures.done.1 e))

@@ -1,5 +1,3 @@
-use Rattle.std.proofs.Common.{◌≡◌, subst}
-use Rattle.box_io.specs.Outside.{AppendsFront}
 use Rattle.ram_session.proofs.playing.play_line.Goals as goal
 
 pub returns-in-Err-clause-played : goal.returns-in-Err-clause-played

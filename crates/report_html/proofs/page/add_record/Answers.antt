@@ -27,7 +27,8 @@ returns c =
     c.in_ok-add_content.ensures ∙ ap (λ (bs : List ℕ). timed ++ content_parts bs) c.as_slice.ensures
     ∙ ap (λ (q : RecordHeld). timed ++ content_parts q.content) c.held.view_is in
     let to_name = joined old begin (name_parts r.name) begun named c.in_ok-add.ensures name in
-    let to_length = joined old (begin ++ name_parts r.name) (length_parts (length r.content)) named long to_name bytes in
+    let to_length = joined old (begin ++ name_parts r.name) (length_parts (length r.content))
+    named long to_name bytes in
     let to_time =
     joined old (begin ++ name_parts r.name ++ length_parts (length r.content)) (time_parts r.time) long timed to_length
     time in

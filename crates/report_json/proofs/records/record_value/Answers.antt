@@ -4,7 +4,6 @@ use Rattle.old_log.specs.Saving.{saved}
 use Rattle.serde_json.specs.Data.{string}
 use Rattle.serde_json.specs.View.{view}
 use Rattle.report_spec.specs.Records.{RecordHeld}
-use Rattle.report_json.specs.Schema.{record_data}
 use Rattle.report_json.proofs.Contents.{text_record, base64_record}
 use Rattle.report_json.proofs.Places.{if_ok}
 use Rattle.report_json.proofs.records.record_value.Goals as goal

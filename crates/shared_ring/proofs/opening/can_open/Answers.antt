@@ -1,4 +1,4 @@
-use Rattle.std.proofs.Common.{◌≡◌, ℕ, ◌+◌, ◌≤◌, List, length, get_or, sym, ap, ◌∙◌, subst, arith, Some}
+use Rattle.std.proofs.Common.{◌≡◌, ℕ, ◌+◌, ◌≤◌, List, length, get_or, sym, ap, ◌∙◌, subst, Some}
 use Rattle.std.specs.Prelude.{slice_get, IsTrue, ◌↔◌}
 use Rattle.zone_spec.specs.declared.Kind.TheVariants.{Dump}
 use Rattle.zone_spec.specs.declared.Zone.{Zone}
@@ -7,7 +7,6 @@ use Rattle.zone_spec.specs.Layout.{rounded}
 use Rattle.zone_params.specs.Laid.{params_of, zones_of}
 use Rattle.session_spec.specs.Zones.{zone_bytes}
 use Rattle.shared_spec.specs.Machine.{CanShare}
-use Rattle.shared_spec.specs.Histories.{CanOpen}
 use Rattle.shared_ring.proofs.Shareable.{lies_in, opens, shares_opened, zone_got}
 use Rattle.shared_ring.proofs.opening.can_open.Goals as goal
 

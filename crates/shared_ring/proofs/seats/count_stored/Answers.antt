@@ -1,8 +1,7 @@
-use Rattle.std.proofs.Common.{◌≡◌, ◌≢◌, ℕ, ◌+◌, ◌<◌, Bool, true, false, cond, ◌==◌, List, ◌++◌, length, take, drop, set, get_or, arith, sym, ap, ◌∙◌, Some, eq-eqb, refl}
+use Rattle.std.proofs.Common.{◌≡◌, ◌≢◌, ℕ, ◌+◌, ◌<◌, true, false, ◌==◌, List, ◌++◌, length, take, drop, set, get_or, arith, sym, ap, ◌∙◌, Some, eq-eqb, refl}
 use Rattle.std.proofs.lemmas.Bool.{ne_eqb}
 use Rattle.std.proofs.lemmas.List.{take-set, drop-set-lt}
 use Rattle.std.specs.Prelude.{slice_get}
-use Rattle.shared_spec.specs.declared.Next.{Next}
 use Rattle.shared_spec.specs.declared.Next.TheVariants.{Stored, Done}
 use Rattle.shared_ring.specs.declared.seats.Seat.{Seat}
 use Rattle.shared_ring.specs.Seats.{one_more, seats_stepped, next_of}

@@ -8,10 +8,12 @@ pub reserve-requires-clause-some : goal.reserve-requires-clause-some
 reserve-requires-clause-some c = some_bytes c.args.line c.in-Reserve.payload c.in-Reserve.is c.requires.fields
 
 pub returns-in-Reserve-clause-done : goal.returns-in-Reserve-clause-done
-returns-in-Reserve-clause-done c = λ h l. reserve_done h c.args.line c.in-Reserve.payload _ _ c.in-Reserve.is (c.reserve.ensures.done h l)
+returns-in-Reserve-clause-done c = λ h l. reserve_done h c.args.line c.in-Reserve.payload _ _ c.in-Reserve.is
+    (c.reserve.ensures.done h l)
 
 pub returns-in-StoreNext-clause-done : goal.returns-in-StoreNext-clause-done
-returns-in-StoreNext-clause-done c = λ h l. store_done h c.args.line c.in-StoreNext.ticket c.in-StoreNext.count _ _ c.in-StoreNext.is
+returns-in-StoreNext-clause-done c = λ h l. store_done h c.args.line c.in-StoreNext.ticket c.in-StoreNext.count _ _
+    c.in-StoreNext.is
     (rw c.from.ensures at c.store_next.ensures.done h l)
 
 pub returns-clause-done : goal.returns-clause-done

@@ -1,4 +1,4 @@
-use Rattle.std.proofs.Common.{ℕ, ◌+◌, sym, ◌∙◌, subst, arith}
+use Rattle.std.proofs.Common.{ℕ, subst, arith}
 use Rattle.shared_ring.specs.Seen.{IsLeftBy}
 use Rattle.tool_spec.specs.SharedScripts.{with_steps}
 use Rattle.shared_session.proofs.Steps.{steps_none, steps_next, steps_done}

@@ -1,4 +1,4 @@
-use Rattle.std.proofs.Common.{◌≡◌, ◌≤◌, ◌-◌}
+use Rattle.std.proofs.Common.{◌≤◌, ◌-◌}
 use Rattle.shared_spec.specs.Histories.{History}
 use Rattle.shared_ring.specs.Seen.{IsLeftBy}
 use Rattle.tool_spec.specs.SharedScripts.{with_steps}

@@ -1,4 +1,4 @@
-use Rattle.std.proofs.Common.{◌≡◌, ◌++◌, List, ℕ, codes, decimal, ap}
+use Rattle.std.proofs.Common.{codes, decimal}
 use Rattle.tool_spec.specs.Texts.{newline}
 use Rattle.shared_session.proofs.Pieces.{open-is}
 use Rattle.shared_session.proofs.texts.push_open.Goals as goal
@@ -9,4 +9,5 @@ returns c = open-is c.args.text.now.items c.push_number.new.text.items c.push_nu
     (codes "open ") (decimal c.args.call.now.ticket) (codes " place ") (decimal c.args.call.now.place)
     (codes " length ") (decimal c.args.call.now.length) (codes " stored ") (decimal c.args.call.now.stored) newline
     c.in_ok-push_number.ensures (rw c.from.ensures at c.in_ok-push_number-2.ensures)
-    (rw c.from-2.ensures at c.in_ok-push_number-3.ensures) (rw c.from-3.ensures at c.in_ok-push_number-4.ensures) c.in_ok-push.ensures.items
+    (rw c.from-2.ensures at c.in_ok-push_number-3.ensures) (rw c.from-3.ensures at c.in_ok-push_number-4.ensures)
+    c.in_ok-push.ensures.items

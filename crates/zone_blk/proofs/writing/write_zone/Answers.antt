@@ -12,7 +12,8 @@ begun g c = room-within c.args.zone.at (c.args.zone.at + c.args.zone.size) (g.M.
     (omega arith) c.requires.room
 
 -- the header and the front are made
-two_made : (g : given.Over) (c : In-Ok-write g) → Makes (one_write c.args.zone.at (c.args.header.now ++ c.args.front.now))
+two_made : (g : given.Over) (c : In-Ok-write g) → Makes
+    (one_write c.args.zone.at (c.args.header.now ++ c.args.front.now))
     c.args.cut.now c.write-2.new.cut (g.M.Store.holds c.args.store.now) (g.M.Store.holds c.write-2.new.store)
 two_made g c = made-longer c.args.zone.at (c.args.zone.at + length c.args.header.now) c.args.header.now c.args.front.now
     c.args.cut.now c.write.new.cut c.write-2.new.cut (g.M.Store.holds c.args.store.now)

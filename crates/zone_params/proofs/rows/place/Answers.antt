@@ -29,7 +29,8 @@ pub returns-then-holds : goal.returns-then-holds
 returns-then-holds c =
     let d : Row = record { kind = Dump; count = 0; size = 0 } in
     let row : Row = get_or c.args.rows.now c.loop-row.row-index d in
-    let holds : (is_of c.args.name.kind row.kind && nat_lt c.args.name.index row.count) ≡ true = sym c.holds.ensures ∙ c.if-holds.true in
+    let holds : (is_of c.args.name.kind row.kind && nat_lt c.args.name.index row.count) ≡ true = sym c.holds.ensures
+    ∙ c.if-holds.true in
     let parts = and_parts (is_of c.args.name.kind row.kind) (nat_lt c.args.name.index row.count) holds in
     λ p at. ap (λ n. Some (c.loop-row.first + n)) c.from.ensures
     ∙ place_found p at c.args.name c.args.rows.now c.loop-row.row-index c.loop-row.first d c.loop-row-test.true holds

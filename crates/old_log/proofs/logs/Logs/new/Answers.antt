@@ -1,7 +1,5 @@
 -- A layout has few zones, and their numbers have 32 bits
-use Rattle.std.proofs.Common.{◌≡◌, ◌<◌, ◌^◌, ap, subst, length, arith, ◌∙◌, sym}
-use Rattle.std.specs.Prelude.{List, slice_get}
-use Rattle.zone_spec.specs.declared.Zone.{Zone}
+use Rattle.std.proofs.Common.{◌≡◌, ap, subst, length, arith, sym}
 use Rattle.zone_params.specs.Laid.{zones_of}
 use Rattle.old_log.specs.Saving.{AreNumbered}
 use Rattle.old_log.proofs.Saves.{layout-few}

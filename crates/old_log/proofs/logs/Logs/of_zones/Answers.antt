@@ -1,5 +1,5 @@
 -- New logs have these zones, and room for a reading of each
-use Rattle.std.proofs.Common.{◌≡◌, ◌<◌, ◌^◌, ap, subst, length, arith, ◌∙◌, sym}
+use Rattle.std.proofs.Common.{ap, length, arith, ◌∙◌, sym}
 use Rattle.std.specs.Prelude.{slice_get}
 use Rattle.old_log.proofs.logs.Logs.of_zones.Goals as goal
 

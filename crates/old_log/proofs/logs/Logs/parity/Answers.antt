@@ -5,5 +5,6 @@ use Rattle.old_log.proofs.logs.Logs.parity.Goals as goal
 
 pub returns : goal.returns
 returns c =
-    zone-part (λ (z : Zone). z.parity) (record { zones = c.self.inside.zones.items; readings = c.self.inside.readings.items })
+    zone-part (λ (z : Zone). z.parity)
+    (record { zones = c.self.inside.zones.items; readings = c.self.inside.readings.items })
     c.args.self.now c.args.i c.index.result.now c.self.view_is c.index.ensures c.requires c.self.invariant.below

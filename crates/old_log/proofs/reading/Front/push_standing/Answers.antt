@@ -18,5 +18,6 @@ returns-clause-reads c =
     (c.in_ok-extend_from_slice.ensures.items ∙ ap (λ (l : List ℕ). c.args.self.now.bytes.items ++ l)
     (ap₂ (λ (l : List ℕ) (n : ℕ). slice_range l at (at + n)) c.bytes.ensures c.min-len.ensures
     ∙ standing z x c.args.size b r.valid r.len bytes r.within r.block at refl r.clean))
-    (omega arith) reads.1 (omega arith) (omega arith) reads.2 (omega arith) (clean-state (part_reading z x (Block b)) reads.1 reads.2)
+    (omega arith) reads.1 (omega arith) (omega arith) reads.2 (omega arith)
+    (clean-state (part_reading z x (Block b)) reads.1 reads.2)
     c.in_ok-push.ensures.wanted c.in_ok-push.ensures.kept

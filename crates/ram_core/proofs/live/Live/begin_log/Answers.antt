@@ -49,9 +49,11 @@ pub invariant_of-self : goal.invariant_of-self
 invariant_of-self c =
     let path = goal.at.invariant_of-self c in
     let f = blank path.After-index_mut in (
-      (log_started _ c.args.self.now c.args.i c.args.log _ c.zones.result.now no_zone c.all.result.now c.index-all-i.result
-          c.index_mut.result.now c.start-flies.new.held c.self.view_is c.self.invariant.0 c.len-len.ensures.bytes c.requires.within c.requires.blank c.zones.ensures.value c.all.ensures c.index-all-i.is c.index_mut.ensures.value refl
-          c.start-flies.ensures.told c.start-flies.ensures.flies c.start-flies.ensures.begun).0,
+      (log_started _ c.args.self.now c.args.i c.args.log _ c.zones.result.now no_zone c.all.result.now
+          c.index-all-i.result c.index_mut.result.now c.start-flies.new.held c.self.view_is c.self.invariant.0
+          c.len-len.ensures.bytes c.requires.within c.requires.blank c.zones.ensures.value c.all.ensures
+          c.index-all-i.is c.index_mut.ensures.value refl c.start-flies.ensures.told c.start-flies.ensures.flies
+          c.start-flies.ensures.begun).0,
       c.self.invariant.1,
       c.self.invariant.2,
       flights path.After-dump_flight f.1 f.2 f.0.idle,
@@ -68,6 +70,8 @@ overflow_add-self c =
 
 pub returns-clause-begun : goal.returns-clause-begun
 returns-clause-begun c =
-    (log_started _ c.args.self.now c.args.i c.args.log _ c.zones.result.now no_zone c.all.result.now c.index-all-i.result
-    c.index_mut.result.now c.start-flies.new.held c.self.view_is c.self.invariant.0 c.len-len.ensures.bytes c.requires.within c.requires.blank c.zones.ensures.value c.all.ensures c.index-all-i.is c.index_mut.ensures.value refl
-    c.start-flies.ensures.told c.start-flies.ensures.flies c.start-flies.ensures.begun).1
+    (log_started _ c.args.self.now c.args.i c.args.log _ c.zones.result.now no_zone c.all.result.now
+    c.index-all-i.result c.index_mut.result.now c.start-flies.new.held c.self.view_is c.self.invariant.0
+    c.len-len.ensures.bytes c.requires.within c.requires.blank c.zones.ensures.value c.all.ensures
+    c.index-all-i.is c.index_mut.ensures.value refl c.start-flies.ensures.told c.start-flies.ensures.flies
+    c.start-flies.ensures.begun).1

@@ -11,4 +11,5 @@ returns-in-None-clause-refused c layout mem s stands =
 pub returns-in-Some-store_all-clause-finished : goal.returns-in-Some-store_all-clause-finished
 returns-in-Some-store_all-clause-finished c layout mem s stands =
     goes_leaves c.args.self.now c.in-Some.i c.args.zone (sym c.in-Some.ensures.place) c.in-Some.ensures.within.0
-    (λ z live. finished z live) c.store_all.new.self (c.store_all.ensures.flies ∙ ap is_some c.in-Some-store_all.is) c.store_all.ensures.stored layout mem s stands
+    (λ z live. finished z live) c.store_all.new.self (c.store_all.ensures.flies ∙ ap is_some c.in-Some-store_all.is)
+    c.store_all.ensures.stored layout mem s stands

@@ -56,7 +56,8 @@ invariant_of-self c =
     let path = goal.at.invariant_of-self c in
     let f = free path.After-into_call in (
       (started _ c.args.self.now c.args.i (ask_seen c.args.ask)
-          _ c.zones.result.now no_zone c.all.result.now c.index-all-i.result c.index_mut.result.now c.start-flies.new.held
+          _ c.zones.result.now no_zone c.all.result.now c.index-all-i.result c.index_mut.result.now
+          c.start-flies.new.held
           c.self.view_is
           c.self.invariant.0 c.check.ensures c.requires.place c.requires.within c.requires.free c.zones.ensures.value
           c.all.ensures c.index-all-i.is c.index_mut.ensures.value c.into_call.ensures

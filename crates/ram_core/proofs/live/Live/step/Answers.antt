@@ -13,7 +13,8 @@ returns-in-None-clause-refused c layout mem s stands =
 pub returns-in-Some-Next-clause-stepped : goal.returns-in-Some-Next-clause-stepped
 returns-in-Some-Next-clause-stepped c layout mem s stands =
     goes_leaves c.args.self.now c.in-Some.i c.args.zone (sym c.in-Some.ensures.place)
-    c.in-Some.ensures.within.0 (λ z live. stepped z 1 live) c.store.new.self (c.store.ensures.flies ∙ ap is_some c.in-Some-Next.is)
+    c.in-Some.ensures.within.0 (λ z live. stepped z 1 live) c.store.new.self
+    (c.store.ensures.flies ∙ ap is_some c.in-Some-Next.is)
     c.store.ensures.stored
     layout mem s stands
 
@@ -27,7 +28,8 @@ returns-in-Some-Next-clause-done c =
 pub returns-in-Some-Last-clause-stepped : goal.returns-in-Some-Last-clause-stepped
 returns-in-Some-Last-clause-stepped c layout mem s stands =
     goes_leaves c.args.self.now c.in-Some.i c.args.zone (sym c.in-Some.ensures.place)
-    c.in-Some.ensures.within.0 (λ z live. stepped z 1 live) c.store.new.self (c.store.ensures.flies ∙ ap is_some c.in-Some-Last.is)
+    c.in-Some.ensures.within.0 (λ z live. stepped z 1 live) c.store.new.self
+    (c.store.ensures.flies ∙ ap is_some c.in-Some-Last.is)
     c.store.ensures.stored
     layout mem s stands
 

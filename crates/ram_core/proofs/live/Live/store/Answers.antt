@@ -87,10 +87,12 @@ invariant_of-self c =
       (let read = zone_read (zones_of c.self.inside.layout) c.zones.result.now c.args.i no_zone z.0
           c.zones.ensures.value z.1 in
           flights_stored (zones_of c.self.inside.layout) c.self.inside.zones.items c.args.i z.0 c.index_mut.result.now
-          c.advance-stored.new.held c.self.inside.flying_dumps c.still_flying-self-inside.result c.advance-stored.result z.1 z.2
+          c.advance-stored.new.held c.self.inside.flying_dumps c.still_flying-self-inside.result
+          c.advance-stored.result z.1 z.2
           c.self.invariant.3 c.advance-stored.ensures.flies c.advance-stored.ensures.goes_on
           (subst (λ (y : Zone). c.still_flying-self-inside.result + dump_flight y (is_some c.advance-stored.result)
-          ≡ c.self.inside.flying_dumps + dump_flight y (is_next c.advance-stored.result)) read c.still_flying-self-inside.ensures)),
+          ≡ c.self.inside.flying_dumps + dump_flight y (is_next c.advance-stored.result)) read
+          c.still_flying-self-inside.ensures)),
     )
 
 pub returns-clause-stored : goal.returns-clause-stored

@@ -13,25 +13,30 @@ pub prepare-requires-clause-spans : goal.prepare-requires-clause-spans
 prepare-requires-clause-spans c = open_fits c.args.self c.in_ok-open.open c.in_ok-open.ensures.«open»
 
 pub settle_all-requires-clause-spans : goal.settle_all-requires-clause-spans
-settle_all-requires-clause-spans c = open_fits c.args.self c.prepare.new.self (c.prepare.ensures.same c.args.self c.in_ok-open.ensures.«open»)
+settle_all-requires-clause-spans c = open_fits c.args.self c.prepare.new.self
+    (c.prepare.ensures.same c.args.self c.in_ok-open.ensures.«open»)
 
 pub settle_all-requires-clause-logs : goal.settle_all-requires-clause-logs
-settle_all-requires-clause-logs c = logs_from c.args.self c.prepare.new.self (c.prepare.ensures.same c.args.self c.in_ok-open.ensures.«open»)
+settle_all-requires-clause-logs c = logs_from c.args.self c.prepare.new.self
+    (c.prepare.ensures.same c.args.self c.in_ok-open.ensures.«open»)
     c.in-Ok.prepared c.in-Ok.ensures.prepared
 
 pub close-requires-clause-size : goal.close-requires-clause-size
-close-requires-clause-size c = ap length (open_whole c.args.self c.prepare.new.self (c.prepare.ensures.same c.args.self c.in_ok-open.ensures.«open»))
+close-requires-clause-size c = ap length (open_whole c.args.self c.prepare.new.self
+    (c.prepare.ensures.same c.args.self c.in_ok-open.ensures.«open»))
     ∙ (c.prepare.ensures.same c.args.self c.in_ok-open.ensures.«open»).size
 
 pub close-requires-clause-resting : goal.close-requires-clause-resting
-close-requires-clause-resting c = open_rests c.args.self c.prepare.new.self (c.prepare.ensures.same c.args.self c.in_ok-open.ensures.«open»)
+close-requires-clause-resting c = open_rests c.args.self c.prepare.new.self
+    (c.prepare.ensures.same c.args.self c.in_ok-open.ensures.«open»)
 
 pub returns-in-Err-clause-refused : goal.returns-in-Err-clause-refused
 returns-in-Err-clause-refused c = c.close.ensures ∙ open_closed c.args.self c.prepare.new.self
     (c.prepare.ensures.same c.args.self c.in_ok-open.ensures.«open»)
 
 pub live-requires-clause-running : goal.live-requires-clause-running
-live-requires-clause-running c = boot_runs c.args.self c.prepare.new.self (c.prepare.ensures.same c.args.self c.in_ok-open.ensures.«open») c.in-Ok.prepared
+live-requires-clause-running c = boot_runs c.args.self c.prepare.new.self
+    (c.prepare.ensures.same c.args.self c.in_ok-open.ensures.«open») c.in-Ok.prepared
     c.in-Ok.ensures.prepared c.settle_all.new.spans c.settle_all.ensures
 
 pub returns-in-Ok-clause-booted : goal.returns-in-Ok-clause-booted
@@ -47,5 +52,6 @@ returns-in-Ok-clause-booted c layout mem s stands =
       cursor = 0;
     })
     (saved c.in-Ok.prepared.logs) (map report_seen rs)) (sym c.from_vec.ensures)
-    (boot_is c.args.self c.prepare.new.self (c.prepare.ensures.same c.args.self c.in_ok-open.ensures.«open») c.in-Ok.prepared c.in-Ok.ensures.prepared
+    (boot_is c.args.self c.prepare.new.self (c.prepare.ensures.same c.args.self c.in_ok-open.ensures.«open»)
+    c.in-Ok.prepared c.in-Ok.ensures.prepared
     c.settle_all.new.spans c.settle_all.ensures layout mem s stands))

@@ -19,7 +19,8 @@ returns-clause-stands c =
     let image : c.in_ok-image.image ≡ replicate mem 0 =
     c.in_ok-image.ensures ∙ ap (λ (n : ℕ). replicate n 0) c.mem.ensures in
     let off : StandsOff layout mem c.in_ok-off.off (fresh layout (replicate mem 0)) =
-    subst (λ (bytes : List ℕ). StandsOff layout mem c.in_ok-off.off (fresh layout bytes)) image c.in_ok-off.ensures.stands in
+    subst (λ (bytes : List ℕ). StandsOff layout mem c.in_ok-off.off (fresh layout bytes)) image
+    c.in_ok-off.ensures.stands in
     let live = (c.in-Ok.ensures.booted layout mem (fresh layout (replicate mem 0)) off).live in
     c.stop.ensures layout mem (refilled layout (saved c.args.logs.now) (booted layout (fresh layout (replicate mem 0))))
     (c.in_ok-refill_all.ensures layout mem (booted layout (fresh layout (replicate mem 0))) live)

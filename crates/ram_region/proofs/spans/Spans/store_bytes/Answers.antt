@@ -6,7 +6,8 @@ use Rattle.ram_region.proofs.Chains.{IsWritten, written-laid, written-seen}
 use Rattle.ram_region.proofs.spans.Spans.store_bytes.Goals as goal
 use Rattle.ram_region.proofs.spans.Spans.store_bytes.Goals.{After-store_bytes}
 
-written : (c : goal.After-store_bytes) → IsWritten c.self.inside.list.items (slots_items c.self.inside.rest) c.args.self.now
+written : (c : goal.After-store_bytes) → IsWritten c.self.inside.list.items (slots_items c.self.inside.rest)
+    c.args.self.now
     c.args.i c.index_mut.result.now c.store_bytes.new.self
 written c = record {
   seen = c.self.view_is;
@@ -16,7 +17,8 @@ written c = record {
 }
 
 pub invariant_of-self : goal.invariant_of-self
-invariant_of-self c = written-laid _ _ _ _ _ _ _ _ (written (goal.at.invariant_of-self c).After-store_bytes) c.self.invariant
+invariant_of-self c = written-laid _ _ _ _ _ _ _ _ (written (goal.at.invariant_of-self c).After-store_bytes)
+    c.self.invariant
 
 pub returns : goal.returns
 returns c = written-seen _ _ _ _ _ _ (λ (xs : List ℕ). put xs c.args.at c.args.bytes.now)

@@ -1,4 +1,4 @@
-use Rattle.std.proofs.Common.{subst, sym, ◌≡◌, ℕ, List}
+use Rattle.std.proofs.Common.{subst, sym}
 use Rattle.ram_session.proofs.Images.{IsImageOf, live_image}
 use Rattle.ram_session.specs.declared.machine.Machine.{Machine}
 use Rattle.ram_session.proofs.machine.Machine.into_image.Goals as goal

@@ -1,4 +1,4 @@
-use Rattle.std.proofs.Common.{◌≡◌, ◌++◌, ◌∙◌, ap, List, ℕ, codes, decimal}
+use Rattle.std.proofs.Common.{◌++◌, ◌∙◌, ap, List, ℕ, codes, decimal}
 use Rattle.zone_spec.specs.Names.{name_text}
 use Rattle.tool_spec.specs.Texts.{newline}
 use Rattle.ram_session.proofs.MoveTexts.{told-is}

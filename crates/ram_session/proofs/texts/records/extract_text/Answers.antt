@@ -1,5 +1,5 @@
 -- The text of a record is its name, its length and its content
-use Rattle.std.proofs.Common.{◌≡◌, ◌++◌, ap, ◌∙◌}
+use Rattle.std.proofs.Common.{◌≡◌}
 use Rattle.zone_spec.specs.Names.{name_text}
 use Rattle.old_log.specs.Saving.{saved}
 use Rattle.ram_session.proofs.Listings.{extract-is}

@@ -1,4 +1,4 @@
-use Rattle.std.proofs.Common.{◌≡◌, ◌++◌, ◌∙◌, arith}
+use Rattle.std.proofs.Common.{◌∙◌, arith}
 use Rattle.old_log.specs.Saving.{saved}
 use Rattle.ram_session.proofs.Listings.{listing-is}
 use Rattle.ram_session.proofs.texts.records.listing.Goals as goal

@@ -1,4 +1,4 @@
-use Rattle.std.proofs.Common.{◌≡◌, ◌++◌, ap, ◌∙◌}
+use Rattle.std.proofs.Common.{◌++◌, ap, ◌∙◌}
 use Rattle.std.specs.List.{concat}
 use Rattle.zone_spec.specs.Reading.{zone_reading}
 use Rattle.session_spec.specs.Zones.{zone_bytes}

@@ -1,4 +1,4 @@
-use Rattle.std.proofs.Common.{◌≡◌, is_some, sym, ap, ◌∙◌}
+use Rattle.std.proofs.Common.{is_some, ap, ◌∙◌}
 use Rattle.std.specs.Prelude.{position}
 use Rattle.shared_ring.specs.Seats.{is_of}
 use Rattle.shared_ring.specs.Seen.{SharedSeen}

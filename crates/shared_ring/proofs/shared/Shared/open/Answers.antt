@@ -1,4 +1,4 @@
-use Rattle.std.proofs.Common.{◌≡◌, ℕ, List, [], get_or, arith, sym, ap, ap₂, ◌∙◌, subst, Some}
+use Rattle.std.proofs.Common.{◌≡◌, ℕ, List, [], get_or, sym, ap, ap₂, ◌∙◌, subst, Some}
 use Rattle.std.specs.Prelude.{slice_get}
 use Rattle.zone_spec.specs.declared.Zone.{Zone}
 use Rattle.zone_spec.specs.Layouts.{IsLayout}
@@ -7,7 +7,7 @@ use Rattle.zone_params.specs.Laid.{params_of, zones_of}
 use Rattle.ram_region.specs.CutRegion.{CutRegion, cut_at}
 use Rattle.shared_ring.specs.declared.seats.Seat.{Seat}
 use Rattle.shared_ring.specs.Seen.{SharedSeen, IsWhole, IsLeftBy}
-use Rattle.shared_ring.proofs.Opened.{just_opened, opened_whole, opened_left, zone_there, zone_read}
+use Rattle.shared_ring.proofs.Opened.{opened_whole, opened_left, zone_there, zone_read}
 use Rattle.shared_ring.proofs.shared.Shared.open.Goals as goal
 
 -- what was made is what stands for a zone that was just opened

@@ -1,4 +1,4 @@
-use Rattle.std.proofs.Common.{◌≡◌, ◌≢◌, ℕ, ◌+◌, ◌<◌, ◌≤◌, length, arith, sym, ap, ◌∙◌, Some}
+use Rattle.std.proofs.Common.{◌≡◌, length, arith, ap, ◌∙◌, Some}
 use Rattle.zone_spec.specs.declared.Words.{Words}
 use Rattle.session_spec.specs.Zones.{zone_bytes}
 use Rattle.shared_spec.specs.declared.SharedRefusal.TheVariants.{Crowded}

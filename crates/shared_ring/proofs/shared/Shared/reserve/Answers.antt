@@ -1,8 +1,7 @@
-use Rattle.std.proofs.Common.{◌≡◌, ◌<◌, ℕ, length, arith, sym, ap, ◌∙◌, subst, Some, None, Option}
-use Rattle.shared_spec.specs.declared.SharedRefusal.{SharedRefusal}
+use Rattle.std.proofs.Common.{sym, ap, ◌∙◌, subst, Some, None}
 use Rattle.shared_spec.specs.Machine.{refusal}
 use Rattle.shared_spec.specs.Runs.{Reserve}
-use Rattle.shared_spec.specs.Histories.{History, shared_zone, and_then}
+use Rattle.shared_spec.specs.Histories.{shared_zone, and_then}
 use Rattle.shared_ring.specs.Seen.{SharedSeen, IsLeftBy, seated}
 use Rattle.shared_ring.proofs.Leaving.{left_reserved, left_refused}
 use Rattle.shared_ring.proofs.shared.Shared.reserve.Goals as goal

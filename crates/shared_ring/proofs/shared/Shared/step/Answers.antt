@@ -1,10 +1,8 @@
-use Rattle.std.proofs.Common.{◌≡◌, ℕ, ◌<◌, List, length, get_or, arith, sym, ap, ◌∙◌, subst, Some, None, Option}
-use Rattle.std.proofs.lemmas.List.Quantifiers.{position-Some}
-use Rattle.std.specs.Prelude.{slice_get, position}
+use Rattle.std.proofs.Common.{◌≡◌, sym, ap, ◌∙◌, subst, Some, None}
+use Rattle.std.specs.Prelude.{position}
 use Rattle.shared_spec.specs.Runs.{StoreNext}
-use Rattle.shared_spec.specs.Histories.{History, shared_zone, and_then}
-use Rattle.shared_ring.specs.declared.seats.Seat.{Seat}
-use Rattle.shared_ring.specs.Seats.{is_of, next_of}
+use Rattle.shared_spec.specs.Histories.{and_then}
+use Rattle.shared_ring.specs.Seats.{is_of}
 use Rattle.shared_ring.specs.Seen.{SharedSeen, IsLeftBy, stepped}
 use Rattle.shared_ring.proofs.Standing.{the_seat}
 use Rattle.shared_ring.proofs.Leaving.{left_stepped, left_idle, step_answers, idle_answers}
