@@ -1,11 +1,8 @@
 -- The calls of an object in memory: which of them fail, and how they are counted.
-use Rattle.std.specs.Prelude.{ℕ, ◌+◌, ◌-◌, ◌^◌, ◌==◌, min, Bool, if◌then◌else◌}
+use Rattle.std.specs.Prelude.{ℕ, ◌==◌, Bool, if◌then◌else◌}
 use Rattle.std.specs.List.{list_any}
+use Rattle.box_io.specs.Outside.{next_count}
 use Rattle.box_io.specs.declared.calls.CallLog.{CallLog}
-
--- a count of 64 bits one further, or at its last value
-abbrev pub next_count : ℕ → ℕ
-next_count n = min (n + 1) (2 ^ 64 - 1)
 
 -- whether the next call is among those that are to fail
 abbrev pub is_to_fail : CallLog → Bool

@@ -43,7 +43,8 @@ pub struct CallLog {
 }
 
 impl CallLog {
-    ghost use Rattle.box_io.specs.Calls.{next_count, is_to_fail};
+    ghost use Rattle.box_io.specs.Outside.{next_count};
+    ghost use Rattle.box_io.specs.Calls.{is_to_fail};
 
     pub fn new(fails: Calls) -> CallLog
         ensures { result ≡ record { fails = fails; made = 0; faults = 0 } }
