@@ -6,6 +6,10 @@ use Rattle.tool_spec.specs.Commands.{script_limit}
 use Rattle.tool_spec.specs.declared.Stop.{Stop}
 use Rattle.tool_spec.specs.declared.Stop.TheVariants.{Memory, ScriptFault, ImageFault, TooLong, Short, BadLine}
 
+-- a count is as before, unless the stage stops for this fault
+abbrev pub KeptUnless : {T : Type 0} → Stop → Result T Stop → ℕ → ℕ → Type 0
+KeptUnless fault result before now = (result ≡ Err fault → ⊥) → now ≡ before
+
 -- reading a script
 abbrev pub ScriptStop : Stop → Option (List ℕ) → ℕ → ℕ → Type 0
 ScriptStop Memory left before now = ⊤
