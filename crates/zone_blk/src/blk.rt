@@ -28,7 +28,7 @@ use crate::reading::{Dump, greatest_counter, read_dumps, read_ring};
 use crate::writing::write_header;
 use crate::zones::{dump_zone, ring_zone};
 use blk_spec::{BlkCut, BlkFault, BlkLayout, BlkName, BlkRing, BlkTime, BlkWords, BlkZone, Reason};
-use box_io::{Bytes, Failed, Store};
+use box_io::{Bytes, Failed, Load, Store};
 use std::alloc::{AllocError, Global};
 use std::marker::Model;
 
@@ -208,7 +208,7 @@ fn clear_rings<M: Store>(store: &mut M, cut: &mut BlkCut, layout: BlkLayout) -> 
 }
 
 /// Reads all zones.
-fn read_all<M: Store>(alloc: Global, store: &mut M, layout: BlkLayout) -> Result<Blk, BlkFault>
+fn read_all<M: Load>(alloc: Global, store: &mut M, layout: BlkLayout) -> Result<Blk, BlkFault>
     requires layout { IsLayout layout }
     requires room { HasRoom layout.total (M.holds store.old) }
     ensures layout { IfOk result (λ b. b.layout ≡ layout) }

@@ -11,7 +11,7 @@ ghost use Rattle.zone_blk.specs.Loading.{IsReadFault, IsIn};
 
 use crate::zones::dump_zone;
 use blk_spec::{BlkFault, BlkLayout, BlkTime, BlkZone};
-use box_io::{Bytes, Failed, Store};
+use box_io::{Bytes, Failed, Load};
 use std::alloc::{AllocError, Global};
 use std::marker::Model;
 use zone_spec::Words;
@@ -115,7 +115,7 @@ fn is_listed(zone: BlkZone, words: Words, content: &[u8]) -> bool
 }
 
 /// Reads a part of a zone, from its byte `from` on.
-fn read_part<M: Store>(
+fn read_part<M: Load>(
     store: &mut M,
     zone: BlkZone,
     from: u32,
@@ -137,7 +137,7 @@ fn read_part<M: Store>(
 }
 
 /// Reads so many bytes of a zone, from its byte `from` on, into memory of their own.
-fn read_bytes<M: Store>(
+fn read_bytes<M: Load>(
     alloc: Global,
     store: &mut M,
     zone: BlkZone,
@@ -162,7 +162,7 @@ fn read_bytes<M: Store>(
 }
 
 /// Reads the words of a ring's header.
-fn read_header<M: Store>(store: &mut M, zone: BlkZone) -> Result<Words, BlkFault>
+fn read_header<M: Load>(store: &mut M, zone: BlkZone) -> Result<Words, BlkFault>
     requires zone { IsZone zone }
     requires sized { 12 ≤ zone.size }
     requires room { HasRoom (zone.at + zone.size) (M.holds store.old) }
@@ -179,7 +179,7 @@ fn read_header<M: Store>(store: &mut M, zone: BlkZone) -> Result<Words, BlkFault
 }
 
 /// Reads the log of a ring whose header has these words: its bytes alone.
-fn read_log<M: Store>(
+fn read_log<M: Load>(
     alloc: Global,
     store: &mut M,
     zone: BlkZone,
@@ -204,7 +204,7 @@ fn read_log<M: Store>(
 }
 
 /// Reads the saved log of a ring: its header, and then its log alone.
-pub fn read_ring<M: Store>(
+pub fn read_ring<M: Load>(
     alloc: Global,
     store: &mut M,
     zone: BlkZone,
@@ -255,7 +255,7 @@ fn dump_with(index: u32, words: Words, content: &[u8], body: Bytes) -> Dump
 }
 
 /// Reads the front of a dump's zone: both its headers.
-fn read_front<M: Store>(store: &mut M, zone: BlkZone) -> Result<[u8; FRONT], BlkFault>
+fn read_front<M: Load>(store: &mut M, zone: BlkZone) -> Result<[u8; FRONT], BlkFault>
     requires zone { IsZone zone }
     requires sized { 4096 ≤ zone.size }
     requires room { HasRoom (zone.at + zone.size) (M.holds store.old) }
@@ -272,7 +272,7 @@ fn read_front<M: Store>(store: &mut M, zone: BlkZone) -> Result<[u8; FRONT], Blk
 }
 
 /// Reads the dump of a zone, where it is listed: its headers, and then its body alone.
-fn read_dump<M: Store>(
+fn read_dump<M: Load>(
     alloc: Global,
     store: &mut M,
     index: u32,
@@ -313,7 +313,7 @@ fn add_dump(dumps: &mut Vec<Dump>, dump: Option<Dump>) -> Result<(), AllocError>
 }
 
 /// Reads the listed dumps, by rising number.
-pub fn read_dumps<M: Store>(
+pub fn read_dumps<M: Load>(
     alloc: Global,
     store: &mut M,
     layout: BlkLayout,

@@ -10,8 +10,8 @@ use Rattle.zone_blk.proofs.appending.append_ring.Goals as goal
 
 pub returns-then-is_empty-clause-ends : goal.returns-then-is_empty-clause-ends
 returns-then-is_empty-clause-ends g c =
-    subst (λ (ws : List Write). Makes ws c.args.cut.now c.args.cut.now (g.M.Store.holds c.args.store.now)
-    (g.M.Store.holds c.args.store.now))
+    subst (λ (ws : List Write). Makes ws c.args.cut.now c.args.cut.now (g.M.Load.holds c.args.store.now)
+    (g.M.Load.holds c.args.store.now))
     (sym (empty-append c.args.zone c.args.words c.args.payload.now (sym c.is_empty.ensures ∙ c.if-is_empty.true)))
     (makes-no-write _ _)
 

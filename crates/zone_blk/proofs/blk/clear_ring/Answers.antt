@@ -12,8 +12,8 @@ pub returns-then-zone-eq0-clause-ends : goal.returns-then-zone-eq0-clause-ends
 returns-then-zone-eq0-clause-ends g c =
     let nothing : clearing c.args.zone ≡ [] = if-true _ [] (header_write c.args.zone empty_words ∷ [])
     (eq-eqb _ _ c.if-zone-eq0.true) in
-    subst (λ (ws : List Write). Makes ws c.args.cut.now c.args.cut.now (g.M.Store.holds c.args.store.now)
-    (g.M.Store.holds c.args.store.now)) (sym nothing) (makes-no-write (g.M.Store.holds c.args.store.now)
+    subst (λ (ws : List Write). Makes ws c.args.cut.now c.args.cut.now (g.M.Load.holds c.args.store.now)
+    (g.M.Load.holds c.args.store.now)) (sym nothing) (makes-no-write (g.M.Load.holds c.args.store.now)
     c.args.cut.now)
 
 pub returns-clause-more : goal.returns-clause-more

@@ -13,5 +13,5 @@ pub returns-in-Err-clause-ends : goal.returns-in-Err-clause-ends
 returns-in-Err-clause-ends g c =
     fails-before (one_write (c.args.zone.at + 12 + c.args.place) c.args.bytes.now)
     (header_write c.args.zone c.args.words ∷ []) c.args.cut.now c.write.new.cut c.write.new.cut
-    (g.M.Store.holds c.args.store.now) (g.M.Store.holds c.write.new.store) (g.M.Store.holds c.write.new.store)
+    (g.M.Load.holds c.args.store.now) (g.M.Load.holds c.write.new.store) (g.M.Load.holds c.write.new.store)
     c.in-Err.ensures.ends

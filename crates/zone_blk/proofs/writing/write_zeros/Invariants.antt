@@ -8,10 +8,10 @@ abbrev pub invariant-pieces : goal.invariant-pieces
 invariant-pieces g l = record {
   from : l.from ≤ l.at;
   inside : l.at ≤ l.end;
-  room : HasRoom l.end (g.M.Store.holds l.store);
-  made : Makes (one_write l.from (replicate (l.at - l.from) 0)) l.initial.cut l.cut (g.M.Store.holds l.initial.store)
-      (g.M.Store.holds l.store);
-  later : g.M.Store.faults l.initial.store ≤ g.M.Store.faults l.store;
+  room : HasRoom l.end (g.M.Load.holds l.store);
+  made : Makes (one_write l.from (replicate (l.at - l.from) 0)) l.initial.cut l.cut (g.M.Load.holds l.initial.store)
+      (g.M.Load.holds l.store);
+  later : g.M.Load.faults l.initial.store ≤ g.M.Load.faults l.store;
 }
 
 abbrev pub decreases-pieces : goal.decreases-pieces
