@@ -35,6 +35,7 @@ module _ (b new : BlkState) (operation : Operation) (refusal : Option BlkFault)
     (is : IsCallOf b operation refusal ws next) where
   told : (vs : List Write) → last.holds ≡ store_after vs old.holds → now ≡ after_writes vs before
   told vs e = some-same _ _ (sym ends ∙ e ∙ ap (store_after vs) first)
+
   done-leaves : Answers (Ok tt) refusal ws pieces next b new old last
       → Leaves {T = Unit} (Ok tt) b.layout (holding before b) operation (holding now new)
   unfolding call_after session_after cause_of

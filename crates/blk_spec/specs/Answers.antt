@@ -1,5 +1,5 @@
 -- How the calls on a loaded block store answer, and what they leave
-use Rattle.std.specs.Prelude.{◌≡◌, ◌⊎◌, ℕ, ◌+◌, ◌-◌, ◌^◌, ◌<◌, ◌≤◌, min, List, [], ◌∷◌, ◌++◌, length, IfSome, Option, Some, None, Result, Ok, Err}
+use Rattle.std.specs.Prelude.{◌≡◌, ◌⊎◌, ℕ, ◌+◌, ◌-◌, ◌^◌, ◌<◌, ◌≤◌, ◌==◌, min, if◌then◌else◌, List, [], ◌∷◌, ◌++◌, length, IfSome, Option, Some, None, Result, Ok, Err}
 use Rattle.blk_spec.specs.declared.BlkLayout.{BlkLayout}
 use Rattle.blk_spec.specs.declared.BlkFault.{BlkFault}
 use Rattle.blk_spec.specs.declared.BlkFault.TheVariants.{StoreFault, Memory}
@@ -22,9 +22,9 @@ pub record Device : Type 0 where
 abbrev pub device : Option (List ℕ) → ℕ → ℕ → Device
 device holds writes read_faults = record { holds = holds; writes = writes; read_faults = read_faults }
 
--- a count of 64 bits n further, or at its last value
+-- a count of 64 bits n calls later, or at its last value
 abbrev pub further : ℕ → ℕ → ℕ
-further n count = min (count + n) (2 ^ 64 - 1)
+further n count = if n == 0 then count else min (count + n) (2 ^ 64 - 1)
 
 -- all these writes were made, as far as the cut lets them through; each of these pieces asked the store once, and no
 -- reading failed

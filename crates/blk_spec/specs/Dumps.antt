@@ -64,6 +64,6 @@ unfoldable pub dump_pieces : BlkZone → BlkTime → Bool → ℕ → Reason →
 dump_pieces z time packed counter reason body =
     let kept = body_kept z body in
     in_pieces z.at (header_bytes z.sig (record { size = 40 + length kept; start = 0 })
-        ∷ dump_header time packed counter (reason_number reason)
-        ∷ kept
-        ∷ zeros_by 65536 (z.size - (52 + length kept)))
+    ∷ dump_header time packed counter (reason_number reason)
+    ∷ kept
+    ∷ zeros_by 65536 (z.size - (52 + length kept)))

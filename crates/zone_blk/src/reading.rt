@@ -1,5 +1,5 @@
 // What a loading reads of the store.
-ghost use Rattle.std.specs.Prelude.{◌≡◌, ◌+◌, ◌-◌, ◌<◌, ◌≤◌, length, take, drop, slice_range, IfOk, IfErr, IfSome, OnOk, IsTrue, ◌++◌, option_to_list, vec_len, None, nat_lt, ◌&&◌};
+ghost use Rattle.std.specs.Prelude.{◌≡◌, ◌+◌, ◌-◌, ◌<◌, ◌≤◌, length, take, drop, slice_range, IfOk, IfSome, OnOk, IsTrue, ◌++◌, option_to_list, vec_len, None, nat_lt, ◌&&◌};
 ghost use Rattle.std.specs.List.{All};
 ghost use Rattle.std.specs.Int.{from_le_bytes};
 ghost use Rattle.std.proofs.Common.{w32, w64};
@@ -7,7 +7,7 @@ ghost use Rattle.blk_spec.specs.Layout.{IsLayout};
 ghost use Rattle.blk_spec.specs.Answers.{HasRoom};
 ghost use Rattle.blk_spec.specs.Reading.{zone_bytes, header_words as words_of, is_valid as is_valid_zone, is_dump as is_dump_zone, ring_log, saved_ring as saved_of, dump_seen, listed_dump as dump_of, dumps_listed, greatest_counter as greatest_of};
 ghost use Rattle.zone_blk.specs.Fits.{IsZone};
-ghost use Rattle.zone_blk.specs.Loading.{IsReadFault, IsIn};
+ghost use Rattle.zone_blk.specs.Loading.{ReadEnds, IsIn};
 
 use crate::zones::dump_zone;
 use blk_spec::{BlkFault, BlkLayout, BlkTime, BlkZone};
@@ -126,8 +126,10 @@ fn read_part<M: Load>(
     requires room { HasRoom (zone.at + zone.size) (M.holds store.old) }
     ensures bytes { OnOk result (IfSome (M.holds store.old)
         (λ bs. into.new ≡ take (length into.old) (drop from (zone_bytes bs zone)))) }
-    ensures fault { IfErr result (λ e. IsReadFault e (M.faults store.old) (M.faults store.new)) }
+    ensures ends { ReadEnds result (M.faults store.old) (M.faults store.new) (M.read_faults store.old)
+        (M.read_faults store.new) }
     ensures same { M.holds store.new ≡ M.holds store.old }
+    ensures unwritten { M.writes store.new ≡ M.writes store.old }
     ensures later { M.faults store.old ≤ M.faults store.new }
 {
     match store.read_at(u64::from(zone.at + from), into) {
@@ -150,8 +152,10 @@ fn read_bytes<M: Load>(
     ensures bytes { IfOk result (λ v. IfSome (M.holds store.old)
         (λ bs. v.items ≡ take len (drop from (zone_bytes bs zone)))) }
     ensures len { IfOk result (λ v. vec_len v ≡ len) }
-    ensures fault { IfErr result (λ e. IsReadFault e (M.faults store.old) (M.faults store.new)) }
+    ensures ends { ReadEnds result (M.faults store.old) (M.faults store.new) (M.read_faults store.old)
+        (M.read_faults store.new) }
     ensures same { M.holds store.new ≡ M.holds store.old }
+    ensures unwritten { M.writes store.new ≡ M.writes store.old }
     ensures later { M.faults store.old ≤ M.faults store.new }
 {
     let mut bytes = vec![in alloc; 0u8; len as usize]?;
@@ -167,8 +171,10 @@ fn read_header<M: Load>(store: &mut M, zone: BlkZone) -> Result<Words, BlkFault>
     requires sized { 12 ≤ zone.size }
     requires room { HasRoom (zone.at + zone.size) (M.holds store.old) }
     ensures words { IfOk result (λ words. IfSome (M.holds store.old) (λ bs. words ≡ words_of (zone_bytes bs zone))) }
-    ensures fault { IfErr result (λ e. IsReadFault e (M.faults store.old) (M.faults store.new)) }
+    ensures ends { ReadEnds result (M.faults store.old) (M.faults store.new) (M.read_faults store.old)
+        (M.read_faults store.new) }
     ensures same { M.holds store.new ≡ M.holds store.old }
+    ensures unwritten { M.writes store.new ≡ M.writes store.old }
     ensures later { M.faults store.old ≤ M.faults store.new }
 {
     let mut header = [0u8; HEADER as usize];
@@ -191,8 +197,10 @@ fn read_log<M: Load>(
     requires room { HasRoom (zone.at + zone.size) (M.holds store.old) }
     ensures log { IfOk result (λ log. IfSome (M.holds store.old)
         (λ bs. log ≡ ring_log words (drop 12 (zone_bytes bs zone)))) }
-    ensures fault { IfErr result (λ e. IsReadFault e (M.faults store.old) (M.faults store.new)) }
+    ensures ends { ReadEnds result (M.faults store.old) (M.faults store.new) (M.read_faults store.old)
+        (M.read_faults store.new) }
     ensures same { M.holds store.new ≡ M.holds store.old }
+    ensures unwritten { M.writes store.new ≡ M.writes store.old }
     ensures later { M.faults store.old ≤ M.faults store.new }
 {
     let mut log = match read_bytes(alloc, store, zone, HEADER, words.size) {
@@ -215,8 +223,10 @@ pub fn read_ring<M: Load>(
     ensures saved { IfOk result (λ saved. IfSome (M.holds store.old)
         (λ bs. saved ≡ saved_of zone (zone_bytes bs zone))) }
     ensures none { IfOk result (λ saved. zone.size ≡ 0 → saved ≡ None) }
-    ensures fault { IfErr result (λ e. IsReadFault e (M.faults store.old) (M.faults store.new)) }
+    ensures ends { ReadEnds result (M.faults store.old) (M.faults store.new) (M.read_faults store.old)
+        (M.read_faults store.new) }
     ensures same { M.holds store.new ≡ M.holds store.old }
+    ensures unwritten { M.writes store.new ≡ M.writes store.old }
     ensures later { M.faults store.old ≤ M.faults store.new }
 {
     if zone.size < HEADER {
@@ -260,8 +270,10 @@ fn read_front<M: Load>(store: &mut M, zone: BlkZone) -> Result<[u8; FRONT], BlkF
     requires sized { 4096 ≤ zone.size }
     requires room { HasRoom (zone.at + zone.size) (M.holds store.old) }
     ensures front { IfOk result (λ front. IfSome (M.holds store.old) (λ bs. front ≡ take 52 (zone_bytes bs zone))) }
-    ensures fault { IfErr result (λ e. IsReadFault e (M.faults store.old) (M.faults store.new)) }
+    ensures ends { ReadEnds result (M.faults store.old) (M.faults store.new) (M.read_faults store.old)
+        (M.read_faults store.new) }
     ensures same { M.holds store.new ≡ M.holds store.old }
+    ensures unwritten { M.writes store.new ≡ M.writes store.old }
     ensures later { M.faults store.old ≤ M.faults store.new }
 {
     let mut front = [0u8; FRONT];
@@ -284,8 +296,10 @@ fn read_dump<M: Load>(
     ensures dump { IfOk result (λ dump. IfSome (M.holds store.old)
         (λ bs. dump ≡ dump_of index zone (zone_bytes bs zone))) }
     ensures index { IfOk result (λ dump. IfSome dump (λ d. d.index ≡ index)) }
-    ensures fault { IfErr result (λ e. IsReadFault e (M.faults store.old) (M.faults store.new)) }
+    ensures ends { ReadEnds result (M.faults store.old) (M.faults store.new) (M.read_faults store.old)
+        (M.read_faults store.new) }
     ensures same { M.holds store.new ≡ M.holds store.old }
+    ensures unwritten { M.writes store.new ≡ M.writes store.old }
     ensures later { M.faults store.old ≤ M.faults store.new }
 {
     let front = match read_front(store, zone) {
@@ -322,8 +336,10 @@ pub fn read_dumps<M: Load>(
     requires room { HasRoom layout.total (M.holds store.old) }
     ensures dumps { IfOk result (λ v. IfSome (M.holds store.old) (λ bs. v.items ≡ dumps_listed layout bs)) }
     ensures inside { IfOk result (λ v. All (IsIn layout) v.items) }
-    ensures fault { IfErr result (λ e. IsReadFault e (M.faults store.old) (M.faults store.new)) }
+    ensures ends { ReadEnds result (M.faults store.old) (M.faults store.new) (M.read_faults store.old)
+        (M.read_faults store.new) }
     ensures same { M.holds store.new ≡ M.holds store.old }
+    ensures unwritten { M.writes store.new ≡ M.writes store.old }
     ensures later { M.faults store.old ≤ M.faults store.new }
 {
     let mut dumps = Vec::new(alloc);

@@ -14,7 +14,9 @@ loop-index-preserved g c = record {
       c.in-Ok.dump c.loop-index-test.true c.loop-index.invariant.inside c.in-Ok.ensures.index c.in-Ok-add_dump.ensures;
   room = subst (HasRoom c.args.layout.total) (sym c.in-Ok.ensures.same) c.loop-index.invariant.room;
   same = c.in-Ok.ensures.same ∙ c.loop-index.invariant.same;
-  later = omega (arith, c.loop-index.invariant.later, c.in-Ok.ensures.later);
+  unwritten = c.in-Ok.ensures.unwritten ∙ c.loop-index.invariant.unwritten;
+  kept = c.in-Ok.ensures.ends.0 ∙ c.loop-index.invariant.kept;
+  kept_fails = c.in-Ok.ensures.ends.1 ∙ c.loop-index.invariant.kept_fails;
 }
 
 pub returns-clause-dumps : goal.returns-clause-dumps

@@ -1,4 +1,4 @@
-use Rattle.std.proofs.Common.{◌≡◌, ◌≤◌, IfSome}
+use Rattle.std.proofs.Common.{◌≡◌, IfSome}
 use Rattle.std.specs.List.{All}
 use Rattle.blk_spec.specs.Answers.{HasRoom}
 use Rattle.zone_blk.specs.Loading.{IsIn}
@@ -12,5 +12,7 @@ invariant-loop-index g l = record {
   inside : All (IsIn l.layout) l.dumps.items;
   room : HasRoom l.layout.total (g.M.Load.holds l.store);
   same : g.M.Load.holds l.store ≡ g.M.Load.holds l.initial.store;
-  later : g.M.Load.faults l.initial.store ≤ g.M.Load.faults l.store;
+  unwritten : g.M.Load.writes l.store ≡ g.M.Load.writes l.initial.store;
+  kept : g.M.Load.faults l.store ≡ g.M.Load.faults l.initial.store;
+  kept_fails : g.M.Load.read_faults l.store ≡ g.M.Load.read_faults l.initial.store;
 }
