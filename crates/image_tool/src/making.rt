@@ -25,8 +25,8 @@ pub fn make<M: Store, O: Sink>(
         (O.faults out.new) result }
     ensures kept { KeptAt (M.holds image.old) (M.holds image.new) result }
     ensures ended { (left : Option (List ℕ)) (f : ℕ) → MakeEnds (plan_for (MakeImage n) layout)
-        (outside left f (M.holds image.old) (M.faults image.old) (O.given out.old) (O.faults out.old))
-        (outside left f (M.holds image.new) (M.faults image.new) (O.given out.new) (O.faults out.new)) result }
+        (outside left f (M.holds image.old) (M.faults image.old) (M.writes image.old) (O.given out.old) (O.faults out.old))
+        (outside left f (M.holds image.new) (M.faults image.new) (M.writes image.new) (O.given out.new) (O.faults out.new)) result }
     ensures put { PutsFirst (O.given out.old) (O.given out.new) result }
 {
     let (made, text) = match generate(alloc, layout, n) {

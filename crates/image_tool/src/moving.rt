@@ -44,8 +44,8 @@ pub fn move_image<M: Store, O: Sink>(
     ensures kept { KeptAt (M.holds image.old) (M.holds image.new) result }
     ensures ended { (left : Option (List ℕ)) (f : ℕ) → let plan = move_for from to in
         ImageEnds (statuses (OfMove plan)) (wanted_move plan)
-        (outside left f (M.holds image.old) (M.faults image.old) (O.given out.old) (O.faults out.old))
-        (outside left f (M.holds image.new) (M.faults image.new) (O.given out.new) (O.faults out.new)) result }
+        (outside left f (M.holds image.old) (M.faults image.old) (M.writes image.old) (O.given out.old) (O.faults out.old))
+        (outside left f (M.holds image.new) (M.faults image.new) (M.writes image.new) (O.given out.new) (O.faults out.new)) result }
     ensures put { PutsFirst (O.given out.old) (O.given out.new) result }
 {
     let size = from.mem();

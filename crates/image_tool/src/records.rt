@@ -66,8 +66,8 @@ pub fn list<M: Store, O: Sink>(
         (O.faults out.new) result }
     ensures same { M.holds image.new ≡ M.holds image.old }
     ensures ended { (left : Option (List ℕ)) (f : ℕ) → RamReadEnds (plan_for ListRecords layout)
-        (outside left f (M.holds image.old) (M.faults image.old) (O.given out.old) (O.faults out.old))
-        (outside left f (M.holds image.new) (M.faults image.new) (O.given out.new) (O.faults out.new)) result }
+        (outside left f (M.holds image.old) (M.faults image.old) (M.writes image.old) (O.given out.old) (O.faults out.old))
+        (outside left f (M.holds image.new) (M.faults image.new) (M.writes image.new) (O.given out.new) (O.faults out.new)) result }
     ensures put { PutsNone (O.given out.old) (O.given out.new) result }
 {
     let logs = match read_logs(alloc, layout, image) {
@@ -97,8 +97,8 @@ pub fn extract<M: Store, O: Sink>(
         (O.faults out.new) result }
     ensures same { M.holds image.new ≡ M.holds image.old }
     ensures ended { (left : Option (List ℕ)) (f : ℕ) → RamReadEnds (plan_for (ExtractRecord name.now) layout)
-        (outside left f (M.holds image.old) (M.faults image.old) (O.given out.old) (O.faults out.old))
-        (outside left f (M.holds image.new) (M.faults image.new) (O.given out.new) (O.faults out.new)) result }
+        (outside left f (M.holds image.old) (M.faults image.old) (M.writes image.old) (O.given out.old) (O.faults out.old))
+        (outside left f (M.holds image.new) (M.faults image.new) (M.writes image.new) (O.given out.new) (O.faults out.new)) result }
     ensures put { PutsNone (O.given out.old) (O.given out.new) result }
 {
     let logs = match read_logs(alloc, layout, image) {
@@ -122,8 +122,8 @@ pub fn erase<M: Store>(alloc: Global, layout: Layout, name: &str, image: &mut M)
     ensures kept { KeptAt (M.holds image.old) (M.holds image.new) result }
     ensures ended { (left given : Option (List ℕ)) (f h : ℕ)
         → RamImageEnds (plan_for (EraseRecord name.now) layout)
-        (outside left f (M.holds image.old) (M.faults image.old) given h)
-        (outside left f (M.holds image.new) (M.faults image.new) given h) result }
+        (outside left f (M.holds image.old) (M.faults image.old) (M.writes image.old) given h)
+        (outside left f (M.holds image.new) (M.faults image.new) (M.writes image.new) given h) result }
 {
     let (mut live, mut logs) = match boot_store(alloc, layout, image) {
         Ok(booted) => booted,

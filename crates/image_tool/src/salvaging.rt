@@ -104,8 +104,8 @@ pub fn salvage<M: Store, O: Sink>(
         (O.faults out.new) result }
     ensures same { M.holds image.new ≡ M.holds image.old }
     ensures ended { (left : Option (List ℕ)) (f : ℕ) → RamReadEnds (plan_for FindRings layout)
-        (outside left f (M.holds image.old) (M.faults image.old) (O.given out.old) (O.faults out.old))
-        (outside left f (M.holds image.new) (M.faults image.new) (O.given out.new) (O.faults out.new)) result }
+        (outside left f (M.holds image.old) (M.faults image.old) (M.writes image.old) (O.given out.old) (O.faults out.old))
+        (outside left f (M.holds image.new) (M.faults image.new) (M.writes image.new) (O.given out.new) (O.faults out.new)) result }
     ensures put { PutsNone (O.given out.old) (O.given out.new) result }
 {
     let scan = match read_dump(alloc, layout, image) {
@@ -140,8 +140,8 @@ pub fn rescue<M: Store, O: Sink>(
         (O.faults out.new) result }
     ensures same { M.holds image.new ≡ M.holds image.old }
     ensures ended { (left : Option (List ℕ)) (f : ℕ) → RamReadEnds (plan_for (ReadRing at name) layout)
-        (outside left f (M.holds image.old) (M.faults image.old) (O.given out.old) (O.faults out.old))
-        (outside left f (M.holds image.new) (M.faults image.new) (O.given out.new) (O.faults out.new)) result }
+        (outside left f (M.holds image.old) (M.faults image.old) (M.writes image.old) (O.given out.old) (O.faults out.old))
+        (outside left f (M.holds image.new) (M.faults image.new) (M.writes image.new) (O.given out.new) (O.faults out.new)) result }
     ensures put { PutsNone (O.given out.old) (O.given out.new) result }
 {
     let scan = match read_dump(alloc, layout, image) {

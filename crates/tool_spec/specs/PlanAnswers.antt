@@ -60,6 +60,41 @@ WritesLast (Ok (OfBlk layout)) = ⊥
 WritesLast (Ok (OfMove plan)) = ⊤
 WritesLast (Err s) = ⊤
 
+-- the status tells that the store or the output failed, and the store did
+abbrev pub StoreFailed : Outside → Outside → ℕ → Type 0
+StoreFailed a b status = ((status ≡ 6) ⊎ (status ≡ 7)) × RoseFor ImageFault a b
+
 -- it leaves the image as it is on every status but 0, unless the store failed
 abbrev pub Untouched : Result Plan Stop → Outside → Outside → ℕ → Type 0
-Untouched r a b status = WritesLast r → status ≢ 0 → (b.holds ≡ a.holds) ⊎ RoseFor ImageFault a b
+Untouched r a b status = WritesLast r → status ≢ 0 → (b.holds ≡ a.holds) ⊎ StoreFailed a b status
+
+-- ---- when the image is asked to be written
+
+-- never
+abbrev pub NeverWrites : Outside → Outside → Type 0
+NeverWrites a b = b.writes ≡ a.writes
+
+-- only once all else is done
+abbrev pub WritesAtEnd : Outside → Outside → ℕ → Type 0
+WritesAtEnd a b status = status ≢ 0 → NeverWrites a b ⊎ StoreFailed a b status
+
+abbrev pub CommandWrites : RamCommand → Outside → Outside → ℕ → Type 0
+CommandWrites RunScript a b status = WritesAtEnd a b status
+CommandWrites ListRecords a b status = NeverWrites a b
+CommandWrites (ExtractRecord name) a b status = NeverWrites a b
+CommandWrites (EraseRecord name) a b status = WritesAtEnd a b status
+CommandWrites ShowLayout a b status = NeverWrites a b
+CommandWrites BlankImage a b status = WritesAtEnd a b status
+CommandWrites (MakeImage n) a b status = WritesAtEnd a b status
+CommandWrites RunShared a b status = WritesAtEnd a b status
+CommandWrites FindRings a b status = NeverWrites a b
+CommandWrites (ReadRing at name) a b status = NeverWrites a b
+
+-- a script on the block store writes as its lines are done, and never on a status that comes before them; words with a
+-- fault write nothing
+abbrev pub PlanWrites : Result Plan Stop → Outside → Outside → ℕ → Type 0
+PlanWrites (Ok (OfRam plan)) a b status = CommandWrites plan.command a b status
+PlanWrites (Ok (OfBlk layout)) a b status = status ≢ 0 → status ≢ 1 → status ≢ 6 → status ≢ 7 → status ≢ 10
+    → NeverWrites a b
+PlanWrites (Ok (OfMove plan)) a b status = WritesAtEnd a b status
+PlanWrites (Err s) a b status = NeverWrites a b
