@@ -1,5 +1,5 @@
 -- How the calls on a loaded block store answer, and what they leave
-use Rattle.std.specs.Prelude.{◌≡◌, ◌⊎◌, ℕ, ◌+◌, ◌-◌, ◌^◌, ◌<◌, ◌≤◌, ◌==◌, min, if◌then◌else◌, List, [], ◌∷◌, ◌++◌, length, IfSome, Option, Some, None, Result, Ok, Err}
+use Rattle.std.specs.Prelude.{◌≡◌, ◌≢◌, ◌⊎◌, ℕ, ◌+◌, ◌-◌, ◌^◌, ◌<◌, ◌≤◌, ◌==◌, min, if◌then◌else◌, List, [], ◌∷◌, ◌++◌, length, IfSome, Option, Some, None, Result, Ok, Err}
 use Rattle.blk_spec.specs.declared.BlkLayout.{BlkLayout}
 use Rattle.blk_spec.specs.declared.BlkFault.{BlkFault}
 use Rattle.blk_spec.specs.declared.BlkFault.TheVariants.{StoreFault, Memory}
@@ -87,4 +87,5 @@ Loads (Err other) l before now = ⊥
 
 -- a count of faults is as before, unless the answer is a fault of the store
 abbrev pub KeptUnlessFault : {T : Type 0} → Result T BlkFault → ℕ → ℕ → Type 0
-KeptUnlessFault result before now = (result ≡ Err StoreFault → ⊥) → now ≡ before
+KeptUnlessFault (Ok done) before now = now ≡ before
+KeptUnlessFault (Err fault) before now = fault ≢ StoreFault → now ≡ before
