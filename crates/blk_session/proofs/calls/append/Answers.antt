@@ -10,7 +10,7 @@ returns-in-Ok-clause-done g c =
     (append_of c.args.blk.now c.args.ring c.args.payload.now)
     (appended c.args.blk.now c.args.ring c.args.payload.now)
     (append_call c.args.blk.now c.args.ring c.args.payload.now)
-    c.append.new.self (g.S.Store.holds c.args.store.now) (g.S.Store.holds c.append.new.store) c.in-Ok.ensures.answer
+    c.append.new.self (g.S.Load.holds c.args.store.now) (g.S.Load.holds c.append.new.store) c.in-Ok.ensures.answer
 
 pub returns-in-Err-clause-done : goal.returns-in-Err-clause-done
 returns-in-Err-clause-done g c =
@@ -18,6 +18,6 @@ returns-in-Err-clause-done g c =
     (append_of c.args.blk.now c.args.ring c.args.payload.now)
     (appended c.args.blk.now c.args.ring c.args.payload.now)
     (append_call c.args.blk.now c.args.ring c.args.payload.now)
-    c.in-Err.fault c.line_error.result c.line_error.ensures c.append.new.self (g.S.Store.holds c.args.store.now)
-    (g.S.Store.holds c.append.new.store) (g.S.Store.faults c.args.store.now) (g.S.Store.faults c.append.new.store)
+    c.in-Err.fault c.line_error.result c.line_error.ensures c.append.new.self (g.S.Load.holds c.args.store.now)
+    (g.S.Load.holds c.append.new.store) (g.S.Load.faults c.args.store.now) (g.S.Load.faults c.append.new.store)
     c.in-Err.ensures.answer (λ e. c.in-Err.ensures.cause (ap Err e))

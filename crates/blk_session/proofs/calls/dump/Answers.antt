@@ -10,7 +10,7 @@ returns-in-Ok-clause-done g c =
     (dump_refusal c.args.blk.now) (dump_of c.args.blk.now c.args.time c.args.packed c.args.reason c.args.body.now)
     (dumped c.args.blk.now c.args.reason) (dump_call c.args.blk.now c.args.time c.args.packed c.args.reason
     c.args.body.now)
-    c.dump.new.self (g.S.Store.holds c.args.store.now) (g.S.Store.holds c.dump.new.store) c.in-Ok.ensures.answer
+    c.dump.new.self (g.S.Load.holds c.args.store.now) (g.S.Load.holds c.dump.new.store) c.in-Ok.ensures.answer
 
 pub returns-in-Err-clause-done : goal.returns-in-Err-clause-done
 returns-in-Err-clause-done g c =
@@ -18,6 +18,6 @@ returns-in-Err-clause-done g c =
     (dump_refusal c.args.blk.now) (dump_of c.args.blk.now c.args.time c.args.packed c.args.reason c.args.body.now)
     (dumped c.args.blk.now c.args.reason) (dump_call c.args.blk.now c.args.time c.args.packed c.args.reason
     c.args.body.now)
-    c.in-Err.fault c.line_error.result c.line_error.ensures c.dump.new.self (g.S.Store.holds c.args.store.now)
-    (g.S.Store.holds c.dump.new.store) (g.S.Store.faults c.args.store.now) (g.S.Store.faults c.dump.new.store)
+    c.in-Err.fault c.line_error.result c.line_error.ensures c.dump.new.self (g.S.Load.holds c.args.store.now)
+    (g.S.Load.holds c.dump.new.store) (g.S.Load.faults c.args.store.now) (g.S.Load.faults c.dump.new.store)
     c.in-Err.ensures.answer (λ e. c.in-Err.ensures.cause (ap Err e))

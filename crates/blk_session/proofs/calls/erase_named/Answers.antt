@@ -9,13 +9,13 @@ returns-in-Ok-clause-done g c =
     call_done c.args.blk.now (EraseRecord (Some c.args.name)) (erase_refusal c.args.blk.now c.args.name)
     (erase_of c.args.blk.now c.args.name) (erased c.args.blk.now c.args.name)
     (erase_call c.args.blk.now c.args.name)
-    c.erase.new.self (g.S.Store.holds c.args.store.now) (g.S.Store.holds c.erase.new.store) c.in-Ok.ensures.answer
+    c.erase.new.self (g.S.Load.holds c.args.store.now) (g.S.Load.holds c.erase.new.store) c.in-Ok.ensures.answer
 
 pub returns-in-Err-clause-done : goal.returns-in-Err-clause-done
 returns-in-Err-clause-done g c =
     call_fails c.args.blk.now (EraseRecord (Some c.args.name)) (erase_refusal c.args.blk.now c.args.name)
     (erase_of c.args.blk.now c.args.name) (erased c.args.blk.now c.args.name)
     (erase_call c.args.blk.now c.args.name)
-    c.in-Err.fault c.line_error.result c.line_error.ensures c.erase.new.self (g.S.Store.holds c.args.store.now)
-    (g.S.Store.holds c.erase.new.store) (g.S.Store.faults c.args.store.now) (g.S.Store.faults c.erase.new.store)
+    c.in-Err.fault c.line_error.result c.line_error.ensures c.erase.new.self (g.S.Load.holds c.args.store.now)
+    (g.S.Load.holds c.erase.new.store) (g.S.Load.faults c.args.store.now) (g.S.Load.faults c.erase.new.store)
     c.in-Err.ensures.answer (λ e. c.in-Err.ensures.cause (ap Err e))

@@ -17,6 +17,6 @@ kdump-requires-clause-nanos g c = (kdump_fields c.in-KDump.secs c.in-KDump.nanos
 pub returns-in-CutAfter-clause-done : goal.returns-in-CutAfter-clause-done
 returns-in-CutAfter-clause-done g c =
     subst (λ (line : Line). LineDone c.args.blk.now.layout (Some c.args.blk.now) line (Some c.cut_after.new.self) []
-    (g.S.Store.holds c.args.store.now) (g.S.Store.holds c.args.store.now)) (sym c.in-CutAfter.is)
-    (cut_done c.args.blk.now c.cut_after.new.self c.in-CutAfter.limit (g.S.Store.holds c.args.store.now)
+    (g.S.Load.holds c.args.store.now) (g.S.Load.holds c.args.store.now)) (sym c.in-CutAfter.is)
+    (cut_done c.args.blk.now c.cut_after.new.self c.in-CutAfter.limit (g.S.Load.holds c.args.store.now)
     (rw c.from.ensures at c.cut_after.ensures))

@@ -7,8 +7,8 @@ returns-in_default g c = record {
   loaded = tt;
   room = λ n h. h;
   later = omega arith;
-  done = elsewhere c.args.layout None c.args.line.now (g.S.Store.holds c.args.store.now)
-      (g.S.Store.faults c.args.store.now) (is_elsewhere c.args.line.now c.in_default.not-Blank c.in_default.not-Write
+  done = elsewhere c.args.layout None c.args.line.now (g.S.Load.holds c.args.store.now)
+      (g.S.Load.faults c.args.store.now) (is_elsewhere c.args.line.now c.in_default.not-Blank c.in_default.not-Write
       c.in_default.not-Boot c.in_default.not-List c.in_default.not-Extract c.in_default.not-Erase
       c.in_default.not-KDump c.in_default.not-CutAfter);
 }

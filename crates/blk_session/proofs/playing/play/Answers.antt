@@ -8,24 +8,24 @@ pub returns-in-Err-clause-played : goal.returns-in-Err-clause-played
 returns-in-Err-clause-played g c =
     plays_stop c.args.layout c.args.lines.now c.loop-i.i c.index-lines-i.result c.loop-i-test.true c.index-lines-i.is
     c.loop-i.blk
-    (seen (g.S.Store.holds c.args.store.now) (g.S.Store.faults c.args.store.now) (g.O.Sink.given c.args.out.now)
+    (seen (g.S.Load.holds c.args.store.now) (g.S.Load.faults c.args.store.now) (g.O.Sink.given c.args.out.now)
     (g.O.Sink.faults c.args.out.now))
-    (seen (g.S.Store.holds c.loop-i.store) (g.S.Store.faults c.loop-i.store) (g.O.Sink.given c.loop-i.out)
+    (seen (g.S.Load.holds c.loop-i.store) (g.S.Load.faults c.loop-i.store) (g.O.Sink.given c.loop-i.out)
     (g.O.Sink.faults c.loop-i.out))
     c.loop-i.invariant.played c.in-Err.stop
-    (seen (g.S.Store.holds c.play_line.new.store) (g.S.Store.faults c.play_line.new.store)
+    (seen (g.S.Load.holds c.play_line.new.store) (g.S.Load.faults c.play_line.new.store)
     (g.O.Sink.given c.play_line.new.out) (g.O.Sink.faults c.play_line.new.out))
     c.in-Err.ensures.played
 
 pub returns-in-Err-clause-put : goal.returns-in-Err-clause-put
 returns-in-Err-clause-put g c =
     stopped_text c.args.layout c.loop-i.blk c.index-lines-i.result
-    (seen (g.S.Store.holds c.args.store.now) (g.S.Store.faults c.args.store.now) (g.O.Sink.given c.args.out.now)
+    (seen (g.S.Load.holds c.args.store.now) (g.S.Load.faults c.args.store.now) (g.O.Sink.given c.args.out.now)
     (g.O.Sink.faults c.args.out.now))
-    (seen (g.S.Store.holds c.loop-i.store) (g.S.Store.faults c.loop-i.store) (g.O.Sink.given c.loop-i.out)
+    (seen (g.S.Load.holds c.loop-i.store) (g.S.Load.faults c.loop-i.store) (g.O.Sink.given c.loop-i.out)
     (g.O.Sink.faults c.loop-i.out))
     c.loop-i.invariant.put c.in-Err.stop (c.loop-i.i + 1)
-    (seen (g.S.Store.holds c.play_line.new.store) (g.S.Store.faults c.play_line.new.store)
+    (seen (g.S.Load.holds c.play_line.new.store) (g.S.Load.faults c.play_line.new.store)
     (g.O.Sink.given c.play_line.new.out) (g.O.Sink.faults c.play_line.new.out))
     c.in-Err.ensures.played
 
@@ -38,23 +38,23 @@ loop-i-preserved g c = record {
     sink = omega (arith, c.loop-i.invariant.later.sink, c.play_line.ensures.later.sink);
   };
   put = next_text c.args.layout c.loop-i.blk c.index-lines-i.result
-      (seen (g.S.Store.holds c.args.store.now) (g.S.Store.faults c.args.store.now) (g.O.Sink.given c.args.out.now)
+      (seen (g.S.Load.holds c.args.store.now) (g.S.Load.faults c.args.store.now) (g.O.Sink.given c.args.out.now)
       (g.O.Sink.faults c.args.out.now))
-      (seen (g.S.Store.holds c.loop-i.store) (g.S.Store.faults c.loop-i.store) (g.O.Sink.given c.loop-i.out)
+      (seen (g.S.Load.holds c.loop-i.store) (g.S.Load.faults c.loop-i.store) (g.O.Sink.given c.loop-i.out)
       (g.O.Sink.faults c.loop-i.out))
       c.loop-i.invariant.put c.in-Ok.next
-      (seen (g.S.Store.holds c.play_line.new.store) (g.S.Store.faults c.play_line.new.store)
+      (seen (g.S.Load.holds c.play_line.new.store) (g.S.Load.faults c.play_line.new.store)
       (g.O.Sink.given c.play_line.new.out) (g.O.Sink.faults c.play_line.new.out))
       c.in-Ok.ensures.played;
   played =
       plays_next c.args.layout c.args.lines.now c.loop-i.i c.index-lines-i.result c.loop-i-test.true
       c.index-lines-i.is c.loop-i.blk
-      (seen (g.S.Store.holds c.args.store.now) (g.S.Store.faults c.args.store.now) (g.O.Sink.given c.args.out.now)
+      (seen (g.S.Load.holds c.args.store.now) (g.S.Load.faults c.args.store.now) (g.O.Sink.given c.args.out.now)
       (g.O.Sink.faults c.args.out.now))
-      (seen (g.S.Store.holds c.loop-i.store) (g.S.Store.faults c.loop-i.store) (g.O.Sink.given c.loop-i.out)
+      (seen (g.S.Load.holds c.loop-i.store) (g.S.Load.faults c.loop-i.store) (g.O.Sink.given c.loop-i.out)
       (g.O.Sink.faults c.loop-i.out))
       c.loop-i.invariant.played c.in-Ok.next
-      (seen (g.S.Store.holds c.play_line.new.store) (g.S.Store.faults c.play_line.new.store)
+      (seen (g.S.Load.holds c.play_line.new.store) (g.S.Load.faults c.play_line.new.store)
       (g.O.Sink.given c.play_line.new.out) (g.O.Sink.faults c.play_line.new.out))
       c.in-Ok.ensures.played;
 }
@@ -62,8 +62,8 @@ loop-i-preserved g c = record {
 pub returns-clause-played : goal.returns-clause-played
 returns-clause-played g c =
     plays_all c.args.layout c.args.lines.now c.loop-i.i c.loop-i.blk
-    (seen (g.S.Store.holds c.args.store.now) (g.S.Store.faults c.args.store.now) (g.O.Sink.given c.args.out.now)
+    (seen (g.S.Load.holds c.args.store.now) (g.S.Load.faults c.args.store.now) (g.O.Sink.given c.args.out.now)
     (g.O.Sink.faults c.args.out.now))
-    (seen (g.S.Store.holds c.loop-i.store) (g.S.Store.faults c.loop-i.store) (g.O.Sink.given c.loop-i.out)
+    (seen (g.S.Load.holds c.loop-i.store) (g.S.Load.faults c.loop-i.store) (g.O.Sink.given c.loop-i.out)
     (g.O.Sink.faults c.loop-i.out))
     (omega (arith, c.loop-i-test.false)) c.loop-i.invariant.played

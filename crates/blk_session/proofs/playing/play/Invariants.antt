@@ -9,12 +9,12 @@ use Rattle.blk_session.proofs.playing.play.Given as goal
 -- what is loaded has the layout, the store has its room, some text was put, and the first lines were done
 abbrev pub invariant-loop-i : goal.invariant-loop-i
 invariant-loop-i g l =
-    let a = seen (g.S.Store.holds l.initial.store) (g.S.Store.faults l.initial.store) (g.O.Sink.given l.initial.out)
+    let a = seen (g.S.Load.holds l.initial.store) (g.S.Load.faults l.initial.store) (g.O.Sink.given l.initial.out)
     (g.O.Sink.faults l.initial.out) in
-    let b = seen (g.S.Store.holds l.store) (g.S.Store.faults l.store) (g.O.Sink.given l.out) (g.O.Sink.faults l.out) in
+    let b = seen (g.S.Load.holds l.store) (g.S.Load.faults l.store) (g.O.Sink.given l.out) (g.O.Sink.faults l.out) in
     record {
       loaded : IfSome l.blk (λ b. b.layout ≡ l.layout);
-      room : HasRoom l.layout.total (g.S.Store.holds l.store);
+      room : HasRoom l.layout.total (g.S.Load.holds l.store);
       later : Later a b;
       put : PutsText a.given b.given;
       played : PlaysSoFar l.layout l.lines l.i l.blk a b;
