@@ -1,4 +1,4 @@
--- `open` makes a row of the elements, and keeps the rest. Assumes `Logic`.
+-- `take_apart` makes a row of the elements, and keeps the rest. Assumes `Logic`.
 use Rattle.ram_region.proofs.Names.{◌≡◌, refl, sym, ap, subst, ◌∙◌, Bool, ℕ, ◌-◌, ◌*◌, ◌≤◌, ◌<◌, ◌^◌, arith, List, [], ◌∷◌, ◌++◌, length, times_below, a_type, dcons, dnil, w64, Val, WT, vint, inst_fn, SProp, emp, Lft, Share, ftrue, flft, WpFn, ◌⊑◌, fact, fact_i, tables, ‵, raw, ◌⊛◌, some, given, later, prop, at_ret, ◌$◌, ◌∵◌, !, qed, by, move, keep, use0, use1, use2, split, join, pick, learn, regoal, fsplit, fjoin, await, agg, of_opd, no_more, and_then, first, blocks, exec, returns, enter, alloc_all, pass_all, free_all, look_at, get, sets, lands_last, is, env, owns, Ptr, bounded, plain, usize, types_at, nothing, heard, calls_at_last, Stays, stay_dropped, walk_of, Goes-dropped, after, fm, proved_at, leaves, slots_items, slots_ptr, slots_len, IsFull, row_val, El, all, Row, From, at_from, Made, from_goes, from_gives, row_Typed, pair_of, pair_val}
 use types.Kit.{split3}
 use denote.Exit.{rest}
@@ -13,13 +13,13 @@ use Rattle.std_alloc.proofs.VecSteps.Opens.{vec_had, not_live}
 use Rattle.std_alloc.proofs.vec.Blocks.{flags, vec_flags, vec_laid, vec_out, Rest}
 use Rattle.ram_region.proofs.Shells.{shell_val, Sh, shell_typed, shell_made}
 use Rattle.core.proofs.slots.Slots.from_raw_parts.Met as makes
-use Rattle.ram_region.specs.contracts.block.open.{ended, clauses}
-use Rattle.ram_region.specs.contracts.block.open.Key.{name as #self}
-use Rattle.ram_region.proofs.block.open.Statement.{statement}
-use Rattle.ram_region.proofs.block.open.Code as code
+use Rattle.ram_region.specs.contracts.block.take_apart.{ended, clauses}
+use Rattle.ram_region.specs.contracts.block.take_apart.Key.{name as #self}
+use Rattle.ram_region.proofs.block.take_apart.Statement.{statement}
+use Rattle.ram_region.proofs.block.take_apart.Code as code
 
-pub open_spec : {M : Type 1} → statement M
-open_spec 𝓤 𝓛 𝓜 𝓡 wired T A L LA g d dd met md =
+pub take_apart_spec : {M : Type 1} → statement M
+take_apart_spec 𝓤 𝓛 𝓜 𝓡 wired T A L LA g d dd met md =
     let H = 𝓛.H in let E : El = record {
       row = T;
       laws = L;
