@@ -10,7 +10,7 @@ use crate::texts::listing;
 use crate::{calls, records};
 use box_io::Store;
 use box_script::Line;
-use std::alloc::Global;
+use std::alloc::{AllocError, Global};
 use tool_spec::Cause;
 use zone_blk::{Blk, BlkLayout, BlkTime};
 
@@ -49,7 +49,6 @@ fn do_call<S: Store>(blk: &mut Blk, store: &mut S, line: &Line) -> Result<(), Li
 }
 
 // A line that puts a text, and leaves the store.
-#[tactic(auto, using(crate::proofs::OtherLines::list_done, crate::proofs::OtherLines::extract_ends))]
 fn show(alloc: Global, blk: &Blk, line: &Line) -> Result<Vec<u8>, LineError>
     requires { IsShown line.now }
     ensures { (store : Device) (faults : ℕ) → MatchResult result
@@ -57,13 +56,15 @@ fn show(alloc: Global, blk: &Blk, line: &Line) -> Result<Vec<u8>, LineError>
         (λ e. LineFails e blk.now.layout (Some blk.now) line.now store store faults faults) }
 {
     match line {
-        Line::List => Ok(listing(alloc, blk)?),
+        Line::List => match listing(alloc, blk) {
+            Ok(text) => Ok(text),
+            Err(AllocError) => Err(LineError::Memory),
+        },
         Line::Extract(name) => records::extract(alloc, blk, name),
         _ => unreachable!(),
     }
 }
 
-#[tactic(auto, using(crate::proofs::OtherLines::blank_done))]
 fn do_loaded<S: Store>(
     alloc: Global,
     layout: BlkLayout,
@@ -106,7 +107,7 @@ fn do_loaded<S: Store>(
     }
 }
 
-#[tactic(auto, using(crate::proofs::OtherLines::blank_done, crate::proofs::OtherLines::waits_line))]
+#[tactic(auto, using(crate::proofs::OtherLines::waits_line))]
 fn do_unloaded<S: Store>(
     alloc: Global,
     layout: BlkLayout,
