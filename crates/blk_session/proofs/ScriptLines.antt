@@ -201,7 +201,8 @@ module _ (layout : BlkLayout) (bytes : List ℕ) (lines : List Line) (i : ℕ) (
     on_stop ImageFault c h =
         let w = h.1.1.wanted p.store in
         let f : HasFront (line_writes layout (blk_ran layout bytes (take i lines)).session.blk line)
-        (Some (blk_ran layout bytes (take i lines)).session.store) c.store.holds = rw (p.session, ← p.holds) h.1.1.front in
+        (Some (blk_ran layout bytes (take i lines)).session.store) c.store.holds = rw (p.session, ← p.holds)
+        h.1.1.front in
         record {
           text = front (blk_ran layout bytes lines).texts i;
           stops = record {

@@ -70,8 +70,8 @@ abbrev pub KeptUnlessFault : {T : Type 0} → Result T LineError → ℕ → ℕ
 KeptUnlessFault (Ok done) before now = now ≡ before
 KeptUnlessFault (Err error) before now = error ≢ StoreFault → now ≡ before
 
--- the same of an append, a dump or an erasure, which takes no memory and does not read the store, and in which the store
--- fails only within bytes that reach it
+-- the same of an append, a dump or an erasure, which takes no memory and does not read the store, and in which the
+-- store fails only within bytes that reach it
 pub record OperationAsks (layout : BlkLayout) (old : Option BlkState) (operation : Operation)
     (before now : Device) : Type 0 where
   pub unwritten : bytes_in (writes_by layout old operation) ≡ 0 → now.writes ≡ before.writes

@@ -22,4 +22,5 @@ returns-in-Err-clause-done g c = λ old is.
     c.in-Err.ensures.answer (λ e. c.in-Err.ensures.cause (ap Err e)) old is)
 
 pub returns-in-Err-clause-kept : goal.returns-in-Err-clause-kept
-returns-in-Err-clause-kept g c = kept_call c.in-Err.fault c.line_error.result _ _ c.line_error.ensures c.in-Err.ensures.kept
+returns-in-Err-clause-kept g c = kept_call c.in-Err.fault c.line_error.result _ _ c.line_error.ensures
+    c.in-Err.ensures.kept

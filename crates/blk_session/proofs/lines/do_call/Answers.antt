@@ -19,6 +19,7 @@ pub returns-in-CutAfter-clause-done : goal.returns-in-CutAfter-clause-done
 returns-in-CutAfter-clause-done g c =
     let a : Device = device (g.S.Load.holds c.args.store.now) (g.S.Load.writes c.args.store.now)
     (g.S.Load.read_faults c.args.store.now) in
-    subst (λ (line : Line). LineDone c.args.blk.now.layout (Some c.args.blk.now) line (Some c.cut_after.new.self) [] a a)
+    subst (λ (line : Line). LineDone c.args.blk.now.layout (Some c.args.blk.now) line (Some c.cut_after.new.self) [] a
+    a)
     (sym c.in-CutAfter.is)
     (cut_done c.args.blk.now c.cut_after.new.self c.in-CutAfter.limit a (rw c.from.ensures at c.cut_after.ensures))

@@ -28,10 +28,12 @@ returns g c =
     }
 
 pub returns-in-Blank-clause-done : goal.returns-in-Blank-clause-done
-returns-in-Blank-clause-done g c = blank_line c.args.layout (Some c.args.blk) c.args.line.now c.new.result.items _ c.in-Blank.is
+returns-in-Blank-clause-done g c = blank_line c.args.layout (Some c.args.blk) c.args.line.now c.new.result.items _
+    c.in-Blank.is
     c.new.ensures.items
 
 pub returns-in-Ok-clause-done : goal.returns-in-Ok-clause-done
 returns-in-Ok-clause-done g c =
-    boot_line c.args.layout (Some c.args.blk) (Some c.in-Ok.blk) c.args.line.now c.new-in-Ok.result.items _ _ c.in-Boot.is
+    boot_line c.args.layout (Some c.args.blk) (Some c.in-Ok.blk) c.args.line.now c.new-in-Ok.result.items _ _
+    c.in-Boot.is
     c.new-in-Ok.ensures.items (c.in-Ok.ensures.done (Some c.args.blk) c.requires.loaded)

@@ -7,23 +7,31 @@ use Rattle.blk_session.proofs.playing.play.Goals as goal
 
 pub returns-in-Err-clause-played : goal.returns-in-Err-clause-played
 returns-in-Err-clause-played g c =
-    let a : Seen = seen (device (g.S.Load.holds c.args.store.now) (g.S.Load.writes c.args.store.now) (g.S.Load.read_faults c.args.store.now))
+    let a : Seen = seen (device (g.S.Load.holds c.args.store.now) (g.S.Load.writes c.args.store.now)
+    (g.S.Load.read_faults c.args.store.now))
     (g.S.Load.faults c.args.store.now) (g.O.Sink.given c.args.out.now) (g.O.Sink.faults c.args.out.now) in
-    let b : Seen = seen (device (g.S.Load.holds c.loop-i.store) (g.S.Load.writes c.loop-i.store) (g.S.Load.read_faults c.loop-i.store))
+    let b : Seen = seen (device (g.S.Load.holds c.loop-i.store) (g.S.Load.writes c.loop-i.store)
+    (g.S.Load.read_faults c.loop-i.store))
     (g.S.Load.faults c.loop-i.store) (g.O.Sink.given c.loop-i.out) (g.O.Sink.faults c.loop-i.out) in
-    let d : Seen = seen (device (g.S.Load.holds c.play_line.new.store) (g.S.Load.writes c.play_line.new.store) (g.S.Load.read_faults c.play_line.new.store))
-    (g.S.Load.faults c.play_line.new.store) (g.O.Sink.given c.play_line.new.out) (g.O.Sink.faults c.play_line.new.out) in
+    let d : Seen = seen (device (g.S.Load.holds c.play_line.new.store) (g.S.Load.writes c.play_line.new.store)
+    (g.S.Load.read_faults c.play_line.new.store))
+    (g.S.Load.faults c.play_line.new.store) (g.O.Sink.given c.play_line.new.out) (g.O.Sink.faults c.play_line.new.out)
+    in
     plays_stop c.args.layout c.args.lines.now c.loop-i.i c.index-lines-i.result c.loop-i-test.true c.index-lines-i.is
     c.loop-i.blk a b c.loop-i.invariant.played c.in-Err.stop d c.in-Err.ensures.played
 
 pub returns-in-Err-clause-unwritten : goal.returns-in-Err-clause-unwritten
 returns-in-Err-clause-unwritten g c =
-    let a : Seen = seen (device (g.S.Load.holds c.args.store.now) (g.S.Load.writes c.args.store.now) (g.S.Load.read_faults c.args.store.now))
+    let a : Seen = seen (device (g.S.Load.holds c.args.store.now) (g.S.Load.writes c.args.store.now)
+    (g.S.Load.read_faults c.args.store.now))
     (g.S.Load.faults c.args.store.now) (g.O.Sink.given c.args.out.now) (g.O.Sink.faults c.args.out.now) in
-    let b : Seen = seen (device (g.S.Load.holds c.loop-i.store) (g.S.Load.writes c.loop-i.store) (g.S.Load.read_faults c.loop-i.store))
+    let b : Seen = seen (device (g.S.Load.holds c.loop-i.store) (g.S.Load.writes c.loop-i.store)
+    (g.S.Load.read_faults c.loop-i.store))
     (g.S.Load.faults c.loop-i.store) (g.O.Sink.given c.loop-i.out) (g.O.Sink.faults c.loop-i.out) in
-    let d : Seen = seen (device (g.S.Load.holds c.play_line.new.store) (g.S.Load.writes c.play_line.new.store) (g.S.Load.read_faults c.play_line.new.store))
-    (g.S.Load.faults c.play_line.new.store) (g.O.Sink.given c.play_line.new.out) (g.O.Sink.faults c.play_line.new.out) in
+    let d : Seen = seen (device (g.S.Load.holds c.play_line.new.store) (g.S.Load.writes c.play_line.new.store)
+    (g.S.Load.read_faults c.play_line.new.store))
+    (g.S.Load.faults c.play_line.new.store) (g.O.Sink.given c.play_line.new.out) (g.O.Sink.faults c.play_line.new.out)
+    in
     plays_unwritten c.args.layout c.args.lines.now c.loop-i.i c.index-lines-i.result c.loop-i-test.true
     c.index-lines-i.is c.loop-i.blk a b c.loop-i.invariant.played c.in-Err.stop d c.in-Err.ensures.played
 
@@ -35,23 +43,31 @@ returns-in-Err-clause-kept_sink g c = λ other. c.in-Err.ensures.kept_sink other
 
 pub returns-in-Err-clause-put : goal.returns-in-Err-clause-put
 returns-in-Err-clause-put g c =
-    let a : Seen = seen (device (g.S.Load.holds c.args.store.now) (g.S.Load.writes c.args.store.now) (g.S.Load.read_faults c.args.store.now))
+    let a : Seen = seen (device (g.S.Load.holds c.args.store.now) (g.S.Load.writes c.args.store.now)
+    (g.S.Load.read_faults c.args.store.now))
     (g.S.Load.faults c.args.store.now) (g.O.Sink.given c.args.out.now) (g.O.Sink.faults c.args.out.now) in
-    let b : Seen = seen (device (g.S.Load.holds c.loop-i.store) (g.S.Load.writes c.loop-i.store) (g.S.Load.read_faults c.loop-i.store))
+    let b : Seen = seen (device (g.S.Load.holds c.loop-i.store) (g.S.Load.writes c.loop-i.store)
+    (g.S.Load.read_faults c.loop-i.store))
     (g.S.Load.faults c.loop-i.store) (g.O.Sink.given c.loop-i.out) (g.O.Sink.faults c.loop-i.out) in
-    let d : Seen = seen (device (g.S.Load.holds c.play_line.new.store) (g.S.Load.writes c.play_line.new.store) (g.S.Load.read_faults c.play_line.new.store))
-    (g.S.Load.faults c.play_line.new.store) (g.O.Sink.given c.play_line.new.out) (g.O.Sink.faults c.play_line.new.out) in
+    let d : Seen = seen (device (g.S.Load.holds c.play_line.new.store) (g.S.Load.writes c.play_line.new.store)
+    (g.S.Load.read_faults c.play_line.new.store))
+    (g.S.Load.faults c.play_line.new.store) (g.O.Sink.given c.play_line.new.out) (g.O.Sink.faults c.play_line.new.out)
+    in
     stopped_text c.args.layout c.loop-i.blk c.index-lines-i.result a b c.loop-i.invariant.put c.in-Err.stop
     (c.loop-i.i + 1) d c.in-Err.ensures.played
 
 pub loop-i-preserved : goal.loop-i-preserved
 loop-i-preserved g c =
-    let a : Seen = seen (device (g.S.Load.holds c.args.store.now) (g.S.Load.writes c.args.store.now) (g.S.Load.read_faults c.args.store.now))
+    let a : Seen = seen (device (g.S.Load.holds c.args.store.now) (g.S.Load.writes c.args.store.now)
+    (g.S.Load.read_faults c.args.store.now))
     (g.S.Load.faults c.args.store.now) (g.O.Sink.given c.args.out.now) (g.O.Sink.faults c.args.out.now) in
-    let b : Seen = seen (device (g.S.Load.holds c.loop-i.store) (g.S.Load.writes c.loop-i.store) (g.S.Load.read_faults c.loop-i.store))
+    let b : Seen = seen (device (g.S.Load.holds c.loop-i.store) (g.S.Load.writes c.loop-i.store)
+    (g.S.Load.read_faults c.loop-i.store))
     (g.S.Load.faults c.loop-i.store) (g.O.Sink.given c.loop-i.out) (g.O.Sink.faults c.loop-i.out) in
-    let d : Seen = seen (device (g.S.Load.holds c.play_line.new.store) (g.S.Load.writes c.play_line.new.store) (g.S.Load.read_faults c.play_line.new.store))
-    (g.S.Load.faults c.play_line.new.store) (g.O.Sink.given c.play_line.new.out) (g.O.Sink.faults c.play_line.new.out) in
+    let d : Seen = seen (device (g.S.Load.holds c.play_line.new.store) (g.S.Load.writes c.play_line.new.store)
+    (g.S.Load.read_faults c.play_line.new.store))
+    (g.S.Load.faults c.play_line.new.store) (g.O.Sink.given c.play_line.new.out) (g.O.Sink.faults c.play_line.new.out)
+    in
     record {
       loaded = c.in-Ok.ensures.loaded;
       room = c.in-Ok.ensures.room c.args.layout.total c.loop-i.invariant.room;
@@ -69,9 +85,11 @@ loop-i-preserved g c =
 
 pub returns-clause-played : goal.returns-clause-played
 returns-clause-played g c =
-    let a : Seen = seen (device (g.S.Load.holds c.args.store.now) (g.S.Load.writes c.args.store.now) (g.S.Load.read_faults c.args.store.now))
+    let a : Seen = seen (device (g.S.Load.holds c.args.store.now) (g.S.Load.writes c.args.store.now)
+    (g.S.Load.read_faults c.args.store.now))
     (g.S.Load.faults c.args.store.now) (g.O.Sink.given c.args.out.now) (g.O.Sink.faults c.args.out.now) in
-    let b : Seen = seen (device (g.S.Load.holds c.loop-i.store) (g.S.Load.writes c.loop-i.store) (g.S.Load.read_faults c.loop-i.store))
+    let b : Seen = seen (device (g.S.Load.holds c.loop-i.store) (g.S.Load.writes c.loop-i.store)
+    (g.S.Load.read_faults c.loop-i.store))
     (g.S.Load.faults c.loop-i.store) (g.O.Sink.given c.loop-i.out) (g.O.Sink.faults c.loop-i.out) in
     plays_all c.args.layout c.args.lines.now c.loop-i.i c.loop-i.blk a b (omega (arith, c.loop-i-test.false))
     c.loop-i.invariant.played

@@ -10,7 +10,8 @@ use Rattle.blk_session.proofs.playing.play.Given as goal
 -- done
 abbrev pub invariant-loop-i : goal.invariant-loop-i
 invariant-loop-i g l =
-    let a = seen (device (g.S.Load.holds l.initial.store) (g.S.Load.writes l.initial.store) (g.S.Load.read_faults l.initial.store))
+    let a = seen (device (g.S.Load.holds l.initial.store) (g.S.Load.writes l.initial.store)
+    (g.S.Load.read_faults l.initial.store))
     (g.S.Load.faults l.initial.store) (g.O.Sink.given l.initial.out) (g.O.Sink.faults l.initial.out) in
     let b = seen (device (g.S.Load.holds l.store) (g.S.Load.writes l.store) (g.S.Load.read_faults l.store))
     (g.S.Load.faults l.store) (g.O.Sink.given l.out) (g.O.Sink.faults l.out) in
