@@ -79,7 +79,8 @@ IsUnwritten before now = (now.holds ≡ before.holds) × (now.writes ≡ before.
 -- each; where reading fails or memory is wanting, nothing was written, and a fault behind that is a write's
 abbrev pub Loads : Result BlkState BlkFault → BlkLayout → Device → Device → Type 0
 Loads (Ok b) l before now = (b.layout ≡ l) × IfSome before.holds (λ bytes. b ≡ loaded l bytes)
-    × (now.holds ≡ store_after (load_writes l) before.holds) × (now.writes ≡ further (length (load_writes l)) before.writes)
+    × (now.holds ≡ store_after (load_writes l) before.holds) ×
+    (now.writes ≡ further (length (load_writes l)) before.writes)
 Loads (Err StoreFault) l before now =
     IsUnwritten before now ⊎ FailsWithin (load_writes l) (load_writes l) Uncut Uncut before now
 Loads (Err Memory) l before now = IsUnwritten before now

@@ -207,7 +207,7 @@ module _ (mem : ℕ) (a b : Outside) (room : IfSome a.holds (λ bs. mem ≤ leng
       (λ rose. read_unsaved mem a b room text read) (λ rose. read_unput mem a b room text read)
       (λ n cause. read_refused mem a b room text read lines ok n cause) e c
 
-played_kept : (e : End) (g g' h h' : ℕ) (before now : Option (List ℕ)) → BlkPlayCaused e g g' h h'
+pub played_kept : {A : Type 0} (e : End) (g g' h h' : ℕ) (before now : A) → BlkPlayCaused e g g' h h'
     → KeptBefore before now e
 played_kept e g g' h h' before now c = played_ends (λ d. KeptBefore before now d) g g' h h' (λ u. tt) tt (λ rose. tt)
     (λ rose. tt) (λ n cause. tt) e c

@@ -95,13 +95,15 @@ module _ (z : BlkZone) (words : BlkWords) (bytes front back : List ℕ) (t : Tur
       (fails-before (run-part z words front t) (rest-part z back t) c0 c1 c1 h0 h1 h1 p))
 
   module _ (run : Makes (run-part z words front t) (run-part z words front t) c0 c1 h0 h1) where
-    pub rest-fails : FailsWithin (rest-part z back t) (rest-part z back t) c1 c2 h1 h2 → FailsWithin (kept_writes z words bytes) (kept_writes z words bytes) c0 c2 h0 h2
+    pub rest-fails : FailsWithin (rest-part z back t) (rest-part z back t) c1 c2 h1 h2 → FailsWithin
+        (kept_writes z words bytes) (kept_writes z words bytes) c0 c2 h0 h2
     rest-fails p = fails-same _ _ _ _ _ _ (parts z words bytes front back t is)
         (fails-before (run-part z words front t ++ rest-part z back t) (further-part z t) c0 c2 c2 h0 h2 h2
         (then-fails (run-part z words front t) (rest-part z back t) c0 c1 c2 h0 h1 h2 run p))
 
     module _ (rest : Makes (rest-part z back t) (rest-part z back t) c1 c2 h1 h2) where
-      runs : Makes (run-part z words front t ++ rest-part z back t) (run-part z words front t ++ rest-part z back t) c0 c2 h0 h2
+      runs : Makes (run-part z words front t ++ rest-part z back t) (run-part z words front t ++ rest-part z back t)
+          c0 c2 h0 h2
       runs = then-makes (run-part z words front t) (rest-part z back t) c0 c1 c2 h0 h1 h2 run rest
 
       pub further-fails : FailsWithin (further-part z t) (further-part z t) c2 c3 h2 h3
@@ -109,7 +111,8 @@ module _ (z : BlkZone) (words : BlkWords) (bytes front back : List ℕ) (t : Tur
       further-fails p = fails-same _ _ _ _ _ _ (parts z words bytes front back t is)
           (then-fails (run-part z words front t ++ rest-part z back t) (further-part z t) c0 c2 c3 h0 h2 h3 runs p)
 
-      pub all-made : Makes (further-part z t) (further-part z t) c2 c3 h2 h3 → Makes (kept_writes z words bytes) (kept_writes z words bytes) c0 c3 h0 h3
+      pub all-made : Makes (further-part z t) (further-part z t) c2 c3 h2 h3 → Makes (kept_writes z words bytes)
+          (kept_writes z words bytes) c0 c3 h0 h3
       all-made p = makes-same _ _ _ _ _ _ (parts z words bytes front back t is)
           (then-makes (run-part z words front t ++ rest-part z back t) (further-part z t) c0 c2 c3 h0 h2 h3 runs p)
 

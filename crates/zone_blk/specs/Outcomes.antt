@@ -6,7 +6,8 @@ use Rattle.blk_spec.specs.Writes.{Write}
 use Rattle.blk_spec.specs.Answers.{Device, Makes, FailsWithin}
 
 -- all writes were made in these pieces, or the store failed within them
-abbrev pub EndsAs : {T : Type 0} → Result T Failed → List Write → List Write → BlkCut → BlkCut → Device → Device → Type 0
+abbrev pub EndsAs : {T : Type 0} → Result T Failed → List Write → List Write → BlkCut → BlkCut → Device → Device →
+    Type 0
 EndsAs (Ok done) ws pieces old_cut new_cut old new = Makes ws pieces old_cut new_cut old new
 EndsAs (Err failed) ws pieces old_cut new_cut old new = FailsWithin ws pieces old_cut new_cut old new
 

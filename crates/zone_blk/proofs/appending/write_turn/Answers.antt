@@ -22,8 +22,10 @@ returns-in-Err-clause-ends g c =
     run-fails c.args.zone c.args.words c.args.bytes.now c.split_at.result.0.now c.split_at.result.1.now
     c.turn_of-turn.result (turned g (goal.at.returns-in-Err-clause-ends g c).After-split_at)
     c.args.cut.now c.write_run.new.cut c.write_run.new.cut c.write_run.new.cut
-    _ _ (device (g.M.Load.holds c.write_run.new.store) (g.M.Load.writes c.write_run.new.store) (g.M.Load.read_faults c.write_run.new.store))
-    (device (g.M.Load.holds c.write_run.new.store) (g.M.Load.writes c.write_run.new.store) (g.M.Load.read_faults c.write_run.new.store))
+    _ _ (device (g.M.Load.holds c.write_run.new.store) (g.M.Load.writes c.write_run.new.store)
+    (g.M.Load.read_faults c.write_run.new.store))
+    (device (g.M.Load.holds c.write_run.new.store) (g.M.Load.writes c.write_run.new.store)
+    (g.M.Load.read_faults c.write_run.new.store))
     c.in-Err.ensures.ends
 
 pub returns-in-Err-write_rest-clause-ends : goal.returns-in-Err-write_rest-clause-ends
@@ -31,7 +33,8 @@ returns-in-Err-write_rest-clause-ends g c =
     rest-fails c.args.zone c.args.words c.args.bytes.now c.split_at.result.0.now c.split_at.result.1.now
     c.turn_of-turn.result (turned g (goal.at.returns-in-Err-write_rest-clause-ends g c).After-split_at)
     c.args.cut.now c.write_run.new.cut c.write_rest.new.cut c.write_rest.new.cut
-    _ _ _ (device (g.M.Load.holds c.write_rest.new.store) (g.M.Load.writes c.write_rest.new.store) (g.M.Load.read_faults c.write_rest.new.store))
+    _ _ _ (device (g.M.Load.holds c.write_rest.new.store) (g.M.Load.writes c.write_rest.new.store)
+    (g.M.Load.read_faults c.write_rest.new.store))
     c.in-Ok.ensures.ends c.in-Err-write_rest.ensures.ends
 
 pub returns-in-Ok-write_further-clause-ends : goal.returns-in-Ok-write_further-clause-ends

@@ -21,5 +21,6 @@ returns-in-Err-clause-ends g c =
     c.ring_zone.ensures.zone refl)
     (fails-before (clearing c.ring_zone.result) (clearing (ring_zone c.args.layout Console))
     c.args.cut.now c.clear_ring.new.cut c.clear_ring.new.cut
-    _ _ (device (g.M.Load.holds c.clear_ring.new.store) (g.M.Load.writes c.clear_ring.new.store) (g.M.Load.read_faults c.clear_ring.new.store))
+    _ _ (device (g.M.Load.holds c.clear_ring.new.store) (g.M.Load.writes c.clear_ring.new.store)
+    (g.M.Load.read_faults c.clear_ring.new.store))
     c.in-Err.ensures.ends)
