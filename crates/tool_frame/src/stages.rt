@@ -5,10 +5,11 @@ ghost use Rattle.box_io.specs.Outside.{HasCause, Writes, WritesFront};
 ghost use Rattle.grammar_spec.specs.Lines.{script_of};
 ghost use Rattle.grammar_spec.specs.Printed.{AllHaveFields};
 ghost use Rattle.tool_spec.specs.Commands.{script_limit};
-ghost use Rattle.tool_frame.specs.Stages.{ScriptStop, SizeStop, FrontStop, LoadStop, ParseStop};
+ghost use Rattle.tool_frame.specs.Stages.{KeptUnless, ScriptStop, SizeStop, FrontStop, LoadStop, ParseStop};
+ghost use Rattle.tool_spec.specs.declared.Stop.TheVariants.{ImageFault};
 
 use crate::Stop;
-use box_io::{Failed, Sink, Source, Store};
+use box_io::{Failed, Load, Sink, Source, Store};
 use box_script::{Lines, ParseFault, parse};
 use std::alloc::Global;
 
@@ -43,12 +44,13 @@ pub fn read_script<S: Source>(alloc: Global, script: &mut S) -> Result<Vec<u8>, 
 
 // Reads the first `mem` bytes in rising pieces. The store has as many.
 #[tactic(auto, using(crate::proofs::Pieces::piece_read))]
-fn read_pieces<M: Store>(alloc: Global, image: &mut M, mem: u32) -> Result<Vec<u8>, Stop>
+fn read_pieces<M: Load>(alloc: Global, image: &mut M, mem: u32) -> Result<Vec<u8>, Stop>
     requires { IfSome (M.holds image.old) (λ bs. mem ≤ length bs) }
     ensures ok { IfOk result (λ v. (vec_len v ≡ mem) × IfSome (M.holds image.old) (λ bs. v.items ≡ take mem bs)) }
     ensures err { IfErr result (λ s. FrontStop s (M.faults image.old) (M.faults image.new)) }
     ensures same { M.holds image.new ≡ M.holds image.old }
     ensures later { M.faults image.old ≤ M.faults image.new }
+    ensures counts { KeptUnless ImageFault result (M.faults image.old) (M.faults image.new) }
 {
     let size = mem as usize;
     let mut bytes = Vec::with_capacity(alloc, size)?;
@@ -66,11 +68,12 @@ fn read_pieces<M: Store>(alloc: Global, image: &mut M, mem: u32) -> Result<Vec<u
 }
 
 /// Looks whether a store has `mem` bytes, and reads none.
-pub fn check_size<M: Store>(image: &mut M, mem: u32) -> Result<(), Stop>
+pub fn check_size<M: Load>(image: &mut M, mem: u32) -> Result<(), Stop>
     ensures ok { OnOk result (IfSome (M.holds image.old) (λ bs. mem ≤ length bs)) }
     ensures err { IfErr result (λ s. SizeStop s mem (M.holds image.old) (M.faults image.old) (M.faults image.new)) }
     ensures same { M.holds image.new ≡ M.holds image.old }
     ensures later { M.faults image.old ≤ M.faults image.new }
+    ensures counts { KeptUnless ImageFault result (M.faults image.old) (M.faults image.new) }
 {
     match image.size() {
         Ok(has) if has < u64::from(mem) => Err(Stop::Short { has, needed: mem }),
@@ -81,23 +84,25 @@ pub fn check_size<M: Store>(image: &mut M, mem: u32) -> Result<(), Stop>
 
 /// Reads an image of `mem` bytes from the front of a store.
 #[tactic(auto, using(crate::proofs::Sizes::size_load, crate::proofs::Sizes::front_load))]
-pub fn load<M: Store>(alloc: Global, image: &mut M, mem: u32) -> Result<Vec<u8>, Stop>
+pub fn load<M: Load>(alloc: Global, image: &mut M, mem: u32) -> Result<Vec<u8>, Stop>
     ensures ok { IfOk result (λ v. (vec_len v ≡ mem) × IfSome (M.holds image.old)
         (λ bs. (mem ≤ length bs) × (v.items ≡ take mem bs))) }
     ensures err { IfErr result (λ s. LoadStop s mem (M.holds image.old) (M.faults image.old) (M.faults image.new)) }
     ensures same { M.holds image.new ≡ M.holds image.old }
     ensures later { M.faults image.old ≤ M.faults image.new }
+    ensures counts { KeptUnless ImageFault result (M.faults image.old) (M.faults image.new) }
 {
     check_size(image, mem)?;
     read_pieces(alloc, image, mem)
 }
 
 /// Reads the first bytes of a store, `limit` at most, however many it has.
-pub fn load_front<M: Store>(alloc: Global, image: &mut M, limit: u32) -> Result<Vec<u8>, Stop>
+pub fn load_front<M: Load>(alloc: Global, image: &mut M, limit: u32) -> Result<Vec<u8>, Stop>
     ensures ok { IfOk result (λ v. (vec_len v ≤ limit) × IfSome (M.holds image.old) (λ bs. v.items ≡ take limit bs)) }
     ensures err { IfErr result (λ s. FrontStop s (M.faults image.old) (M.faults image.new)) }
     ensures same { M.holds image.new ≡ M.holds image.old }
     ensures later { M.faults image.old ≤ M.faults image.new }
+    ensures counts { KeptUnless ImageFault result (M.faults image.old) (M.faults image.new) }
 {
     match image.size() {
         Ok(has) => read_pieces(alloc, image, has.min(u64::from(limit)) as u32),
