@@ -8,8 +8,9 @@ use Rattle.zone_spec.specs.declared.Name.{Name}
 use Rattle.zone_spec.specs.declared.ZoneName.{ZoneName}
 use Rattle.zone_spec.specs.declared.Time.{Time}
 use Rattle.zone_spec.specs.declared.Name.TheVariants.{Dump as DumpName, Console as ConsoleName, Pmsg as PmsgName, Ftrace as FtraceName}
-use Rattle.zone_spec.specs.Records.{Saved, Listed, is_of, listed_of, first_listed, record_of}
-use Rattle.zone_spec.specs.Names.{name_text, is_name}
+use Rattle.zone_spec.specs.Records.{Saved, Listed, is_of, listed_of, first_listed}
+use Rattle.zone_spec.specs.Names.{name_text}
+use Rattle.zone_spec.specs.Listing.{is_listed}
 use Rattle.zone_spec.specs.Notices.{is_in}
 use Rattle.zone_spec.specs.TimeLines.{has_line}
 use Rattle.zone_spec.specs.Layouts.{IsLayout, is_zone}
@@ -23,7 +24,7 @@ use Rattle.session_spec.specs.Boot.{booted}
 use Rattle.session_spec.specs.ZoneCalls.{stepped, finished}
 use Rattle.session_spec.specs.LiveZones.{target, flies}
 use Rattle.session_spec.specs.LiveCalls.{Ask, Append as AskAppend, Erase as AskErase, Dump as AskDump, asked_name, begin, make, step, finish}
-use Rattle.session_spec.specs.Operations.{Operation, operated, erases as erases_record, Begin, Make, Step as StepFlight, Finish as FinishFlight, EraseRecord, Stop as StopStore, Boot as BootStore, BootPart as BootInPart, Flip as FlipByte, Refused}
+use Rattle.session_spec.specs.Operations.{Operation, operated, Begin, Make, Step as StepFlight, Finish as FinishFlight, EraseRecord, Stop as StopStore, Boot as BootStore, BootPart as BootInPart, Flip as FlipByte, Refused, NoRecord}
 use Rattle.session_spec.specs.Sound.{IsState}
 use Rattle.session_laws.proofs.Targets.{target-some}
 use Rattle.grammar_spec.specs.Fields.{Text}
@@ -108,27 +109,6 @@ in_other text z ConsoleName kind other same = ap (λ (k : Kind). is_of Console k
 in_other text z PmsgName kind other same = ap (λ (k : Kind). is_of Pmsg k) (dump_kind z.name.kind kind)
 in_other text z FtraceName kind other same = ap (λ (k : Kind). is_of Ftrace k) (dump_kind z.name.kind kind)
 
--- two names that are the same have the same zones
-alike_in : (a b : Name) (z : Zone) → is_name a b ≡ true → is_in a z ≡ is_in b z
-alike_in (DumpName i p) (DumpName j q) z e =
-    let same = eqb-true i j (and_parts (i == j) (cond p q (not q)) e).0 in
-    ap (λ (n : ℕ). is_of DumpKind z.name.kind && (z.name.index == n)) same
-alike_in (DumpName i p) ConsoleName z e = absurd (true≢false (sym e))
-alike_in (DumpName i p) PmsgName z e = absurd (true≢false (sym e))
-alike_in (DumpName i p) FtraceName z e = absurd (true≢false (sym e))
-alike_in ConsoleName (DumpName j q) z e = absurd (true≢false (sym e))
-alike_in ConsoleName ConsoleName z e = refl
-alike_in ConsoleName PmsgName z e = absurd (true≢false (sym e))
-alike_in ConsoleName FtraceName z e = absurd (true≢false (sym e))
-alike_in PmsgName (DumpName j q) z e = absurd (true≢false (sym e))
-alike_in PmsgName ConsoleName z e = absurd (true≢false (sym e))
-alike_in PmsgName PmsgName z e = refl
-alike_in PmsgName FtraceName z e = absurd (true≢false (sym e))
-alike_in FtraceName (DumpName j q) z e = absurd (true≢false (sym e))
-alike_in FtraceName ConsoleName z e = absurd (true≢false (sym e))
-alike_in FtraceName PmsgName z e = absurd (true≢false (sym e))
-alike_in FtraceName FtraceName z e = refl
-
 module _ (layout : List Zone) (mem : ℕ) (lies : IsLayout layout mem) (z : Zone) (place : ℕ)
     (hz : slice_get layout place ≡ Some z) (told : List ℕ) (kind : is_of DumpKind z.name.kind ≡ true)
     (line : has_line told ≡ true) where
@@ -164,27 +144,18 @@ module _ (layout : List Zone) (mem : ℕ) (lies : IsLayout layout mem) (z : Zone
       subst (IsTold z place told) (sym a.2) (goes_on_keeps layout z place told hz live a.0
       (λ y v. finished y v) (target layout live name) k (λ t e. target-some layout live name t e) a.1)
 
-  erase_by : (live : LiveState) (next : Session) (o : Option Listed) → IsToldLive place told live
-      → ((r : Listed) → o ≡ Some r → is_in r.name z ≡ false) → erases_record layout live o ≡ Ok next
-      → IsTold z place told next
-  erase_by live next None k other h = absurd (cc)
-  erase_by live next (Some r) k other h = by (flies layout live (λ y. is_in r.name y)) h
-    where
-      by : (b : Bool) → cond b (Err (Refused Busy)) (Ok (Live (erased layout live r.name))) ≡ Ok next
-          → IsTold z place told next
-      by true h = absurd (cc)
-      by false h =
-          let same : Live (erased layout live r.name) ≡ next = cc in
-          subst (IsTold z place told) same
-          (erased_keeps layout mem lies z place hz told live r.name (other r refl) k)
-
   erase_op : (live : LiveState) (next : Session) (name : Name) → is_in name z ≡ false → IsToldLive place told live
       → operated layout (Live live) (EraseRecord name) ≡ Ok next → IsTold z place told next
   erase_op live next name other k h =
-      let zones = saved_logs layout live in
-      erase_by live next (record_of zones name) k
-      (λ r e. alike_in r.name name z
-      (first_passes (λ (s : Listed). is_name s.name name) (listed_of zones) r e) ∙ other) h
+      by (is_listed (saved_logs layout live) name) (flies layout live (λ y. is_in name y)) h
+    where
+      by : (a b : Bool) → cond a (cond b (Err (Refused Busy)) (Ok (Live (erased layout live name)))) (Err NoRecord)
+          ≡ Ok next → IsTold z place told next
+      by true true h = absurd (cc)
+      by true false h =
+          let same : Live (erased layout live name) ≡ next = cc in
+          subst (IsTold z place told) same (erased_keeps layout mem lies z place hz told live name other k)
+      by false b h = absurd (cc)
 
   stop_op : (session next : Session) → IsState layout mem session → IsTold z place told session
       → operated layout session StopStore ≡ Ok next → IsTold z place told next

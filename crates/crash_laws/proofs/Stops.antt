@@ -3,6 +3,7 @@ use Rattle.std.proofs.Common.{◌≡◌, ◌≢◌, ℕ, zero, suc, ◌+◌, ◌
 use Rattle.std.proofs.lemmas.Bool.Decides.{nat_tests}
 use Rattle.std.proofs.lemmas.List.Elements.{Contains-append_left}
 use Rattle.std.proofs.lemmas.List.Sums.{sum_by-cons}
+use Rattle.std.specs.Option.{option_map}
 use Rattle.zone_spec.specs.declared.Zone.{Zone}
 use Rattle.zone_spec.specs.declared.Kind.{Kind}
 use Rattle.zone_spec.specs.declared.Kind.TheVariants.{Dump as DumpKind, Console, Ftrace, Pmsg}
@@ -20,7 +21,7 @@ use Rattle.zone_spec.specs.Notices.{is_in}
 use Rattle.zone_spec.specs.Layouts.{IsLayout, zones_end}
 use Rattle.session_spec.specs.States.{Flight, LiveZone, LiveState, OffState, Off, Live}
 use Rattle.session_spec.specs.Zones.{zone_bytes}
-use Rattle.session_spec.specs.Stop.{cut_by_stop, zone_stopped, stopped, live_image}
+use Rattle.session_spec.specs.Stop.{cut_of, zone_stopped, stopped, live_image}
 use Rattle.session_spec.specs.Boot.{booted_zone, booted}
 use Rattle.session_spec.specs.Erasures.{saved_logs, erase_zone, erased}
 use Rattle.session_spec.specs.Sound.{IsOffZone, IsState}
@@ -166,7 +167,7 @@ module _ (layout : List Zone) (mem : ℕ) (lies : IsLayout layout mem) (z : Zone
     at = map_item zone_stopped (zip layout live.zones) place (z, k.zone)
         (zip_item layout live.zones place z k.zone hz k.at);
     told_is = ap (λ (xs : List ℕ). Some xs) k.told_is;
-    whole = ap (λ (o : Option Flight). cut_by_stop z o) k.idle;
+    whole = ap (λ (o : Option Flight). option_map (cut_of z) o) k.idle;
     undamaged = stop_bytes live k.zone state k.at;
   }
 

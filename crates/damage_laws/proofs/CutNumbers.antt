@@ -20,7 +20,7 @@ use Rattle.session_spec.specs.States.{Flight}
 use Rattle.session_spec.specs.Stop.{cut_of}
 use Rattle.session_spec.specs.BootPart.{boot_cut}
 use Rattle.session_spec.specs.Sound.{IsInFlight}
-use Rattle.session_spec.specs.Exact.{RunsAreTouched, RisesFrom}
+use Rattle.damage_laws.specs.Exact.{RunsAreTouched, RisesFrom}
 use Rattle.damage_laws.specs.CutCalls.{CutReportIsExact}
 use Rattle.damage_laws.specs.CutErasures.{BootCutReportIsExact}
 use Rattle.ring_laws.proofs.StoreCounts.{length-stores}

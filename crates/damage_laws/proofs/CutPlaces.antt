@@ -5,13 +5,11 @@ use Rattle.std.specs.Prelude.{Contains}
 use Rattle.std.proofs.Math.Nat.{mod-eq_of_lt}
 use Rattle.std.proofs.lemmas.Bool.{cases_lt}
 use Rattle.std.proofs.lemmas.List.Elements.{Contains-append_cases, Contains-append_left, Contains-append_right}
-use Rattle.std.proofs.lemmas.List.Quantifiers.{position-Some}
 use Rattle.std.proofs.lemmas.List.FromFn.{get_or-range_with_len, length-range_with_len}
-use Rattle.std.specs.List.{AllByRecursion, range_with_len, position}
+use Rattle.std.specs.List.{AllByRecursion, range_with_len}
 use Rattle.zone_spec.specs.declared.Zone.{Zone}
 use Rattle.zone_spec.specs.declared.Words.{Words}
 use Rattle.zone_spec.specs.declared.Pair.{Pair}
-use Rattle.zone_spec.specs.declared.HeaderSeen.TheVariants.{Pair as SeenPair, Foreign}
 use Rattle.zone_spec.specs.Zones.{IsValidZone}
 use Rattle.zone_spec.specs.Parts.{Header, Block, part_bytes, part_word, words_in, standing_words, IsImage}
 use Rattle.zone_spec.specs.PartReadings.{part_reading, words_read}
@@ -20,9 +18,9 @@ use Rattle.zone_spec.specs.Told.{Call, Append, Erase, Dump, last_items}
 use Rattle.zone_spec.specs.Stages.{Stage, SigWord, StartWord, SizeWord, Run, ParityOf, blocks_met}
 use Rattle.zone_spec.specs.Calls.{run_stages, append_stages, erase_stages, call_stages, CanBegin}
 use Rattle.zone_spec.specs.Ring.{ReadsAsStands}
-use Rattle.zone_spec.specs.Pairs.{pairs_from, seen_at, header_seen}
+use Rattle.zone_spec.specs.Pairs.{pairs_from, pair_of}
 use Rattle.zone_spec.specs.Touched.{touched_by}
-use Rattle.zone_spec.specs.Cut.{cut_pairs}
+use Rattle.zone_spec.specs.Cut.{words_before}
 use Rattle.session_spec.specs.States.{Flight}
 use Rattle.session_spec.specs.Stop.{cut_of}
 use Rattle.session_spec.specs.Sound.{IsInFlight}
@@ -37,7 +35,7 @@ use Rattle.damage_laws.proofs.Untouched.{LeavesBlock, untouched_same}
 use Rattle.damage_laws.proofs.Touched.{parity_length, touches, touches-append, call-leaves, run_hits}
 
 pub old_places : (z : Zone) (stop now told : List ℕ) (f : Flight) → IsValidZone z → IsImage z stop
-    → IsInFlight z stop told f → IsImage z now → OldPlacesRead z (cut_of z f) told stop now
+    → IsInFlight z stop told f → IsImage z now → OldPlacesRead z (words_before (cut_of z f)) f.call told stop now
 old_places z stop now told f valid hs flies hn i place at untouched within =
     let w : Words = standing_words f.image in
     let words : words_in (part_word z f.image Header) ≡ w = header_words z f.image valid flies.size in
@@ -286,34 +284,6 @@ module _ (z : Zone) (valid : IsValidZone z) where
   all-at P (p ∷ ps) zero d h l = h.0
   all-at P (p ∷ ps) (suc i) d h l = all-at P ps i d h.1 (omega arith)
 
-  and-both : (a b : Bool) → (a && b) ≡ true → (a ≡ true) × (b ≡ true)
-  and-both true b e = (refl, e)
-  and-both false b e = absurd (true≢false (sym e))
-
-  seen_good : (P : Pair → Type 0) (v : Words) (ps : List Pair) (j : ℕ) → AllByRecursion P ps
-      → header_seen z v ps ≡ SeenPair j → P (record { start = v.start; size = v.size })
-  seen_good P v ps j h e = by (v.sig == z.sig) e
-    where
-      test : Pair → Bool
-      test p = (v.start == p.start) && (v.size == p.size)
-
-      d : Pair
-      d = record { start = v.start; size = v.size }
-
-      at : (o : Option ℕ) → position test ps ≡ o → seen_at o ≡ SeenPair j → P d
-      at None f e = (let n : Foreign ≡ SeenPair j = e in cc)
-      at (Some i) f e =
-          let r = position-Some test ps i d f in
-          let t = and-both (v.start == (get_or ps i d).start) (v.size == (get_or ps i d).size) r.1 in
-          let a : v.start ≡ (get_or ps i d).start = eqb-true v.start (get_or ps i d).start t.0 in
-          let b : v.size ≡ (get_or ps i d).size = eqb-true v.size (get_or ps i d).size t.1 in
-          let same : get_or ps i d ≡ d = ap₂ (λ x y. record { start = x; size = y }) (sym a) (sym b) in
-          subst P same (all-at P ps i d h r.0)
-
-      by : (b : Bool) → cond b (seen_at (position test ps)) Foreign ≡ SeenPair j → P d
-      by true e = at (position test ps) refl e
-      by false e = (let n : Foreign ≡ SeenPair j = e in cc)
-
   pub in_range : (a n p : ℕ) → Contains (range_with_len a n) p → (a ≤ p) × (p < a + n)
   in_range a n p c =
       let k : c.0 < n = omega (arith, c.1, length-range_with_len a n) in
@@ -342,19 +312,18 @@ module _ (z : Zone) (valid : IsValidZone z) where
   ]
 
   pub no_other_places : (stop now told : List ℕ) (f : Flight) → IsInFlight z stop told f
-      → NoOtherPlaces z (cut_of z f) now
-  no_other_places stop now told f flies j place seen has free =
+      → NoOtherPlaces z (words_before (cut_of z f)) f.call now
+  no_other_places stop now told f flies place seen has free =
       let w : Words = standing_words f.image in
+      let v : Words = words_read z now in
       let words : words_in (part_word z f.image Header) ≡ w = header_words z f.image valid flies.size in
-      let pairs : cut_pairs z (cut_of z f) ≡ pairs_from (record { start = w.start; size = w.size })
-      (call_stages z w f.call) =
-      ap (λ v. pairs_from (record { start = v.start; size = v.size }) (call_stages z v f.call)) words in
-      let good : Good (call_stages z w f.call) w.size (record
-      { start = (words_read z now).start; size = (words_read z now).size }) =
-      seen_good (Good (call_stages z w f.call) w.size) (words_read z now) _ j
-      (call_pairs f.image f.call flies.ring.ring.0 flies.ring.ring.1 flies.can)
-      (sym (ap (header_seen z (words_read z now)) pairs) ∙ seen) in
-      let below : place < w.size = good place (log_side (words_read z now).start (words_read z now).size place has)
-      (subst (λ v. touches z (call_stages z v f.call) (place / z.block) ≡ false) words free) in
-      subst (λ v. Contains (log_places v.start v.size) place) (sym words)
+      let among : Contains (pairs_from (pair_of w) (call_stages z w f.call)) (pair_of v) =
+      subst (λ u. Contains (pairs_from (pair_of u) (call_stages z u f.call)) (pair_of v)) words seen in
+      let good : Good (call_stages z w f.call) w.size (pair_of v) =
+      subst (Good (call_stages z w f.call) w.size) among.2
+      (all-at (Good (call_stages z w f.call) w.size) (pairs_from (pair_of w) (call_stages z w f.call)) among.0
+      (pair_of v) (call_pairs f.image f.call flies.ring.ring.0 flies.ring.ring.1 flies.can) among.1) in
+      let below : place < w.size = good place (log_side v.start v.size place has)
+      (subst (λ u. touches z (call_stages z u f.call) (place / z.block) ≡ false) words free) in
+      subst (λ u. Contains (log_places u.start u.size) place) (sym words)
       (log_has w.start w.size place flies.ring.ring.0 below)

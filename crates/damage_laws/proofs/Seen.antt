@@ -11,7 +11,7 @@ use Rattle.zone_spec.specs.declared.Words.{Words}
 use Rattle.zone_spec.specs.declared.Pair.{Pair}
 use Rattle.zone_spec.specs.declared.HeaderSeen.TheVariants.{Pair as SeenPair, Foreign}
 use Rattle.zone_spec.specs.Pairs.{pair_of, seen_at, header_seen}
-use Rattle.session_spec.specs.Exact.{IsFirstPair, IsExactSeen}
+use Rattle.damage_laws.specs.Exact.{IsFirstPair, IsExactSeen}
 
 module _ (z : Zone) (w : Words) (pairs : List Pair) where
   abbrev test : Pair → Bool

@@ -6,16 +6,16 @@ use Rattle.code_spec.specs.Code.{distance, nearest}
 use Rattle.zone_spec.specs.Parts.{Header, IsImage, part_word, standing_words, words_in}
 use Rattle.zone_spec.specs.PartReadings.{words_read}
 use Rattle.zone_spec.specs.Reading.{ZoneReading}
-use Rattle.zone_spec.specs.Told.{kind_of}
+use Rattle.zone_spec.specs.Told.{Call, kind_of}
 use Rattle.zone_spec.specs.Calls.{call_stores}
 use Rattle.zone_spec.specs.Damage.{IsNotDamagedFurther}
 use Rattle.zone_spec.specs.Pairs.{pair_of}
-use Rattle.zone_spec.specs.Cut.{Cut, cut_pairs, cut_report}
+use Rattle.zone_spec.specs.Cut.{Cut, words_before, cut_pairs, cut_report}
 use Rattle.zone_spec.specs.Windows.{Window, current_window}
 use Rattle.session_spec.specs.States.{Flight}
 use Rattle.session_spec.specs.Stop.{cut_of}
 use Rattle.session_spec.specs.Sound.{IsInFlight}
-use Rattle.session_spec.specs.Exact.{IsExactReport}
+use Rattle.damage_laws.specs.Exact.{IsExactReport}
 use Rattle.session_spec.specs.Headline.{OldPlacesRead, NoOtherPlaces}
 
 -- the header is within half the parity of a word
@@ -37,17 +37,17 @@ pub record HeaderReads (z : Zone) (cut : Cut) (stop now : List ℕ) : Type 0 whe
       (λ c. IsNearHeader z now c × (words_read z now ≡ words_in c))
 
 -- what such a zone reads, with its current part
-pub record CutReads (z : Zone) (cut : Cut) (told stop now : List ℕ) : Type 0 where
+pub record CutReads (z : Zone) (cut : Cut) (call : Call) (told stop now : List ℕ) : Type 0 where
   pub window : (w : Window) × (current_window z cut ≡ Some w)
   pub header : HeaderReads z cut stop now
-  pub places : OldPlacesRead z cut told stop now
-  pub no_others : NoOtherPlaces z cut now
+  pub places : OldPlacesRead z (words_before cut) call told stop now
+  pub no_others : NoOtherPlaces z (words_before cut) call now
 
 -- so reads a zone that was in flight at its stop, and whose header is not damaged further
 abbrev pub CutZoneReads : Type 0
 CutZoneReads = (z : Zone) (stop now told : List ℕ) (f : Flight) → IsValidZone z → IsInFlight z stop told f
     → IsImage z now
-    → IsNotDamagedFurther z stop now → CutReads z (cut_of z f) told stop now
+    → IsNotDamagedFurther z stop now → CutReads z (cut_of z f) f.call told stop now
 
 -- the report of a cut call is exact: its numbers are the flight's
 abbrev pub CutReportIsExact : Type 0

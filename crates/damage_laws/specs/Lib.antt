@@ -1,3 +1,4 @@
 pub mod Idle
+pub mod Exact
 pub mod CutCalls
 pub mod CutErasures

@@ -3,6 +3,7 @@ use Rattle.std.proofs.Common.{◌≡◌, ℕ, zero, suc, ◌+◌, ◌-◌, ◌�
 use Rattle.std.specs.Prelude.{fold}
 use Rattle.std.proofs.lemmas.List.{drop-drop, length-replicate}
 use Rattle.std.proofs.lemmas.List.Sums.{sum_by-cons}
+use Rattle.std.specs.Option.{option_map}
 use Rattle.zone_spec.specs.declared.Zone.{Zone}
 use Rattle.zone_spec.specs.declared.Words.{Words}
 use Rattle.zone_spec.specs.Zones.{IsValidZone}
@@ -16,7 +17,7 @@ use Rattle.session_spec.specs.Zones.{EachZone, zone_bytes}
 use Rattle.session_spec.specs.States.{LiveZone, LiveState, Off, Live}
 use Rattle.session_spec.specs.Off.{fresh}
 use Rattle.session_spec.specs.Boot.{booted, booted_zone}
-use Rattle.session_spec.specs.Stop.{cut_by_stop, zone_stopped, live_image}
+use Rattle.session_spec.specs.Stop.{cut_of, zone_stopped, live_image}
 use Rattle.session_spec.specs.Moved.{found_of, with_log, refilled, moved}
 use Rattle.session_spec.specs.Sound.{IsOffZone, IsState}
 use Rattle.session_spec.specs.Headline.{EachOffZone}
@@ -132,7 +133,7 @@ module _ (layout : List Zone) (mem : ℕ) (zones : List Saved) (lies : IsLayout 
       (λ z zone. IsToldLog zones z zone (zone_bytes z (live_image told_store))) zone_stopped
       (λ i z v hz hv is. record {
         told = ap Some is.told_is;
-        cut = ap (cut_by_stop z) is.idle;
+        cut = ap (option_map (cut_of z)) is.idle;
         stop = sym (zone_stands i z v hz hv);
       }) store_told
 

@@ -17,7 +17,7 @@ use Rattle.zone_spec.specs.Pairs.{pairs_from, pair_of}
 use Rattle.zone_spec.specs.Told.{Call, kind_of}
 use Rattle.zone_spec.specs.Touched.{touched_by, runs_of}
 use Rattle.session_spec.specs.States.{Flight, OffZone, LiveZone, LiveState}
-use Rattle.session_spec.specs.Stop.{cut_of, cut_by_stop, zone_stopped, stopped, live_image}
+use Rattle.session_spec.specs.Stop.{cut_of, zone_stopped, stopped, live_image}
 use Rattle.session_laws.proofs.Lists.{get-map, get-zip-map, length-zip-map}
 use Rattle.ring_laws.proofs.Images.{length-after_stores}
 use Rattle.ring_laws.proofs.HeaderWords.{words_same}
@@ -107,7 +107,7 @@ module _ (z : Zone) (bytes : List ℕ) (seen : Flying) (f : Flight) (long : 12 �
       (stages (λ y gs. runs_of (filter (λ b. list_any (λ c. c == b) (touched_by y gs)) (range_with_len 0 y.blocks))))
 
 cut_shows : (z : Zone) (bytes : List ℕ) (o : Option Flying) (p : Option Flight) → 12 ≤ length bytes
-    → StandsForSome z bytes o p → option_map cut_of_flight o ≡ option_map (shown_cut z) (cut_by_stop z p)
+    → StandsForSome z bytes o p → option_map cut_of_flight o ≡ option_map (shown_cut z) (option_map (cut_of z) p)
 cut_shows z bytes None None long s = refl
 cut_shows z bytes None (Some f) long s = absurd s
 cut_shows z bytes (Some f) None long s = absurd s

@@ -8,10 +8,11 @@ use Rattle.zone_spec.specs.declared.ZoneName.{ZoneName}
 use Rattle.zone_spec.specs.Reading.{ZoneReading}
 use Rattle.zone_spec.specs.Records.{Saved, Listed, record_of}
 use Rattle.zone_spec.specs.Notices.{is_in}
+use Rattle.zone_spec.specs.Listing.{is_listed}
 use Rattle.session_spec.specs.States.{LiveZone, LiveState, Off as OffOf, Live as LiveOf}
 use Rattle.session_spec.specs.LiveZones.{flies}
 use Rattle.session_spec.specs.Erasures.{saved_logs, erase_zone, erased}
-use Rattle.session_spec.specs.Operations.{erases}
+use Rattle.session_laws.proofs.Listed.{found_is_listed}
 use Rattle.old_log.specs.Saving.{SavedLogs, saved}
 use Rattle.ram_core.specs.LiveSeen.{LiveSeen, StandsLive}
 use Rattle.grammar_spec.specs.declared.line.Line.TheVariants.{Erase}
@@ -191,14 +192,19 @@ record_there : (zones : List Saved) (text : List ℕ) (r : Listed) → named zon
     → record_of zones r.name ≡ Some r
 record_there zones text r e = sym (record_is zones text r.name (sym (ap (option_map (λ (r : Listed). r.name)) e))) ∙ e
 
+-- so it is listed
+listed_there : (zones : List Saved) (text : List ℕ) (r : Listed) → named zones text ≡ Some r
+    → is_listed zones r.name ≡ true
+listed_there zones text r e = found_is_listed zones r.name r (record_there zones text r e)
+
 erase_as : (layout : List Zone) (s : LiveState) (text : List ℕ) (r : Listed) (b : Bool)
     → named (saved_logs layout s) text ≡ Some r → flies layout s (λ z. is_in r.name z) ≡ b
     → store_line layout (LiveOf s) (Erase text) ≡ cond b (Err Busy)
     (Ok (record { session = LiveOf (erased layout s r.name); text = [] }))
 erase_as layout s text r true e f = erase_line layout s text
-    ∙ rw (e, record_there (saved_logs layout s) text r e, f) refl
+    ∙ rw (e, listed_there (saved_logs layout s) text r e, f) refl
 erase_as layout s text r false e f = erase_line layout s text
-    ∙ rw (e, record_there (saved_logs layout s) text r e, f) refl
+    ∙ rw (e, listed_there (saved_logs layout s) text r e, f) refl
 
 pub erase_done : (live : LiveSeen) (logs : SavedLogs) (text : List ℕ) (w : LiveSeen) (logs' : SavedLogs)
     → ErasesNamed live logs text w logs' → LineDone (Live live logs) (Erase text) (Live w logs') []
@@ -228,7 +234,7 @@ refused_busy live logs text h layout mem (LiveOf s) lies stands state =
 
 pub erase_refused : (live : LiveSeen) (logs : SavedLogs) (text : List ℕ) (e : LineError) → EraseFails live logs text e
     → LineFails (Live live logs) (Erase text) e
-erase_refused live logs text Memory h = tt
+erase_refused live logs text Memory h = absurd h
 erase_refused live logs text (Refused NoRecord) h = refused_unlisted live logs text h
 erase_refused live logs text (Refused Busy) h = refused_busy live logs text h
 erase_refused live logs text (Refused IsOff) h = absurd h

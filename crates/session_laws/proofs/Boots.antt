@@ -18,7 +18,7 @@ use Rattle.session_spec.specs.Zones.{zone_bytes}
 use Rattle.session_spec.specs.States.{OffZone}
 use Rattle.session_spec.specs.Report.{report_cut}
 use Rattle.session_spec.specs.Sound.{IsOffZone, IsInFlight}
-use Rattle.session_spec.specs.Exact.{IsExactVerdict, IsExactReport, ReportsCall}
+use Rattle.damage_laws.specs.Exact.{IsExactVerdict, IsExactReport, ReportsCall}
 use Rattle.damage_laws.specs.CutCalls.{CutReads}
 use Rattle.damage_laws.specs.CutErasures.{BootCutReads}
 use Rattle.damage_laws.proofs.CutNumbers.{cut_report_is_exact, boot_cut_report_is_exact}
@@ -26,6 +26,7 @@ use Rattle.damage_laws.proofs.CutHeader.{cut_zone_reads}
 use Rattle.damage_laws.proofs.BootCut.{boot_cut_zone_reads}
 use Rattle.session_laws.specs.Boots.{VerdictIsExact, ReportsErasure, ReportsExactly, ReportIsExact, ReadsCut, CutZonesRead}
 use Rattle.session_laws.proofs.OffStates.{off_bytes}
+use Rattle.session_laws.proofs.Sessions.{flight_call}
 
 -- ---- verdicts
 
@@ -201,7 +202,7 @@ zone_cuts z zone now valid sound hn = record {
   call = λ told cut call t c own damage.
       let f = sound.in_flight cut call c own in
       let same : f.0 ≡ told = (let e : Some f.0 ≡ Some told = sym f.2.told_is ∙ t in cc) in
-      subst (λ k. CutReads z k told zone.stop now) (sym f.2.cut_is)
+      flight_call (λ k c. CutReads z k c told zone.stop now) z f.1 cut call f.2.cut_is own
       (cut_zone_reads z zone.stop now told f.1 valid (subst (λ xs. IsInFlight z zone.stop xs f.1) same f.2.at_stop)
       hn damage);
   erasure = λ cut c own. record {

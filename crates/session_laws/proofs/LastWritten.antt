@@ -6,6 +6,7 @@ use Rattle.zone_spec.specs.Parts.{Header, Block, IsImage}
 use Rattle.zone_spec.specs.Ring.{IsRingForm}
 use Rattle.damage_laws.proofs.Within.{idle_log}
 use Rattle.damage_laws.proofs.CutPlaces.{old_places, no_other_places}
+use Rattle.zone_spec.specs.Cut.{words_before}
 use Rattle.zone_spec.specs.Layouts.{IsLayout}
 use Rattle.session_spec.specs.Zones.{zone_bytes}
 use Rattle.session_spec.specs.States.{OffZone, OffState, Off}
@@ -13,6 +14,7 @@ use Rattle.session_spec.specs.Sound.{IsState, IsOffZone, IsInFlight}
 use Rattle.session_spec.specs.Headline.{ReadsLastWritten, EachOffZone, OldPlacesRead, NoOtherPlaces}
 use Rattle.session_laws.specs.Headline.{Headline, SoundStateReadsLastWritten}
 use Rattle.session_laws.proofs.OffStates.{off_bytes}
+use Rattle.session_laws.proofs.Sessions.{flight_call}
 use Rattle.session_laws.proofs.Operations.{states_are_sound}
 use Rattle.session_laws.proofs.Boots.{call_reported}
 
@@ -24,15 +26,15 @@ zone_reads z zone now valid sound hn = record {
       let ring : IsRingForm z zone.stop told = sound.idle told t c in
       idle_log z zone.stop now told valid sound.size hn ring (within Header tt)
       (λ b h. within (Block b) (omega (arith, ring.told_length, ring.ring.1)));
-  places = λ told cut call t c own damage.
+  places = λ told cut call t c own.
       let f = sound.in_flight cut call c own in
       let same : f.0 ≡ told = (let e : Some f.0 ≡ Some told = sym f.2.told_is ∙ t in cc) in
       let at : IsInFlight z zone.stop told f.1 = subst (λ xs. IsInFlight z zone.stop xs f.1) same f.2.at_stop in
-      subst (λ k. OldPlacesRead z k told zone.stop now × NoOtherPlaces z k now) (sym f.2.cut_is) (
+      flight_call (λ k c. OldPlacesRead z (words_before k) c told zone.stop now
+      × NoOtherPlaces z (words_before k) c now) z f.1 cut call f.2.cut_is own (
         old_places z zone.stop now told f.1 valid sound.size at hn,
         no_other_places z valid zone.stop now told f.1 at,
       );
-  reported = λ cut call c own. call_reported z zone now cut call valid sound c own;
 }
 
 pub state_reads : (layout : List Zone) (mem : ℕ) (off : OffState) → IsLayout layout mem → IsState layout mem (Off off)
@@ -43,9 +45,17 @@ state_reads layout mem off lies state = (
       (state.zones.1 i z zone hz hv) (off_bytes layout mem lies off state i z hz),
 )
 
+-- and its cut is reported
 pub sound_state_reads_last_written : SoundStateReadsLastWritten
-sound_state_reads_last_written layout mem off lies state = state_reads layout mem off lies state
+sound_state_reads_last_written layout mem off lies state = (
+  state.zones.0,
+  λ i z zone hz hv. record {
+    reads = (state_reads layout mem off lies state).1 i z zone hz hv;
+    reported = λ cut call c own. call_reported z zone (zone_bytes z off.image) cut call (lies.valid i z hz).0
+        (state.zones.1 i z zone hz hv) c own;
+  },
+)
 
 pub headline : Headline
-headline layout mem off lies reached = state_reads layout mem off lies
+headline layout mem off lies reached = sound_state_reads_last_written layout mem off lies
     (states_are_sound layout mem (Off off) lies reached)

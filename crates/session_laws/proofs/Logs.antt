@@ -34,7 +34,7 @@ block_length z now b valid len = elim (cases_lt (z.block * b) z.cap) [
 
 pub log_bytes_come : LogBytesCome
 unfolding part_reading
-log_bytes_come z now i place valid len found_state at = by (nearest z.parity (part_word z now (Block q))) refl
+log_bytes_come z now valid len i place found_state at = by (nearest z.parity (part_word z now (Block q))) refl
   where
     w : Words
     w = words_read z now

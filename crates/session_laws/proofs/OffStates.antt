@@ -1,6 +1,7 @@
 -- A state off is sound after a stop, a flip and at first, and so is the live state after a boot
 use Rattle.std.proofs.Common.{◌≡◌, ℕ, ◌+◌, ◌<◌, ◌≤◌, List, length, slice_get, get_or, refl, sym, ap, ◌∙◌, subst, arith, Option, Some, None, length-set, length-drop}
 use Rattle.std.proofs.lemmas.Nat.{xor_lt}
+use Rattle.std.specs.Option.{option_map}
 use Rattle.zone_spec.specs.declared.Zone.{Zone}
 use Rattle.zone_spec.specs.Parts.{AreBytes, IsImage}
 use Rattle.zone_spec.specs.Ring.{IsRingForm}
@@ -11,7 +12,7 @@ use Rattle.zone_spec.specs.Layouts.{zones_end, IsLayout}
 use Rattle.session_spec.specs.Zones.{zone_bytes}
 use Rattle.session_spec.specs.States.{Flight, OffState, LiveZone, LiveState, Off, Live}
 use Rattle.session_spec.specs.Off.{fresh, flipped}
-use Rattle.session_spec.specs.Stop.{cut_of, cut_by_stop, zone_stopped, stopped}
+use Rattle.session_spec.specs.Stop.{cut_of, zone_stopped, stopped}
 use Rattle.session_spec.specs.Boot.{booted_zone, booted}
 use Rattle.session_spec.specs.Sound.{Stands, IsLiveZone, IsOffZone, IsMemory, IsState}
 use Rattle.session_laws.proofs.Lists.{each-zip-map, each-map, zone_within}
@@ -40,9 +41,9 @@ module _ (layout : List Zone) (mem : ℕ) (lies : IsLayout layout mem) where
   }
     where
       by : (z : Zone) (v : LiveZone) (o : Option Flight) → IsLiveZone z v → v.flight ≡ o
-          → IsOffZone z (record { stop = v.image; told = Some v.told; cut = cut_by_stop z v.flight })
+          → IsOffZone z (record { stop = v.image; told = Some v.told; cut = option_map (cut_of z) v.flight })
       by z v None sound e = subst (λ p. IsOffZone z (record
-          { stop = v.image; told = Some v.told; cut = cut_by_stop z p })) (sym e) (record {
+          { stop = v.image; told = Some v.told; cut = option_map (cut_of z) p })) (sym e) (record {
             size = sound.size;
             idle = λ told t c. (let s : v.told ≡ told = cc in subst (IsRingForm z v.image) s
                 (subst (Stands z v.image v.told) e sound.stands));
@@ -50,7 +51,7 @@ module _ (layout : List Zone) (mem : ℕ) (lies : IsLayout layout mem) where
             in_erasure = λ cut c b. (let n : None ≡ Some cut = c in cc);
           })
       by z v (Some f) sound e = subst (λ p. IsOffZone z (record
-          { stop = v.image; told = Some v.told; cut = cut_by_stop z p })) (sym e) (record {
+          { stop = v.image; told = Some v.told; cut = option_map (cut_of z) p })) (sym e) (record {
             size = sound.size;
             idle = λ told t c. (let n : Some (cut_of z f) ≡ None = c in cc);
             in_flight = λ cut call c b. (

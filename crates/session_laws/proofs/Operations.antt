@@ -4,7 +4,8 @@ use Rattle.std.specs.List.{AllByRecursion}
 use Rattle.zone_spec.specs.declared.Zone.{Zone}
 use Rattle.zone_spec.specs.declared.Refusal.{Refusal}
 use Rattle.zone_spec.specs.declared.Refusal.TheVariants.{Busy, OutOfImage}
-use Rattle.zone_spec.specs.Records.{Listed}
+use Rattle.zone_spec.specs.declared.Name.{Name}
+use Rattle.zone_spec.specs.Listing.{is_listed}
 use Rattle.zone_spec.specs.Notices.{is_in}
 use Rattle.zone_spec.specs.Layouts.{IsLayout}
 use Rattle.session_spec.specs.States.{OffState, LiveState, Session, Off, Live}
@@ -12,8 +13,8 @@ use Rattle.session_spec.specs.Off.{flipped}
 use Rattle.session_spec.specs.ZoneCalls.{stepped, finished}
 use Rattle.session_spec.specs.LiveZones.{target, flies}
 use Rattle.session_spec.specs.LiveCalls.{asked_name, begin, step, finish, make}
-use Rattle.session_spec.specs.Erasures.{erased}
-use Rattle.session_spec.specs.Operations.{Operation, Flip, Boot, BootPart, Begin, Make, Step, Finish, EraseRecord, Stop, Refused, answered, erases, operated, left_by, session_after}
+use Rattle.session_spec.specs.Erasures.{saved_logs, erased}
+use Rattle.session_spec.specs.Operations.{Operation, Flip, Boot, BootPart, Begin, Make, Step, Finish, EraseRecord, Stop, Refused, NoRecord, answered, erases, operated, left_by, session_after}
 use Rattle.session_spec.specs.Sound.{IsState, IsOperation}
 use Rattle.session_laws.specs.Sessions.{FreshIsSound, OperationsKeepStatesSound, StatesAreSound}
 use Rattle.session_laws.proofs.Zones.{stepped-sound, finished-sound}
@@ -29,16 +30,17 @@ module _ (layout : List Zone) (mem : ℕ) (lies : IsLayout layout mem) where
   answered-sound live (Ok next) state h = h next refl
   answered-sound live (Err why) state h = state
 
-  erases-sound : (live : LiveState) (o : Option Listed) → IsState layout mem (Live live)
-      → IsState layout mem (left_by (Live live) (erases layout live o))
-  erases-sound live None state = state
-  erases-sound live (Some r) state = by (flies layout live (λ z. is_in r.name z)) refl
+  erases-sound : (live : LiveState) (name : Name) → IsState layout mem (Live live)
+      → IsState layout mem (left_by (Live live) (erases layout live name))
+  erases-sound live name state =
+      by (is_listed (saved_logs layout live) name) (flies layout live (λ z. is_in name z)) refl
     where
-      by : (b : Bool) → flies layout live (λ z. is_in r.name z) ≡ b
-          → IsState layout mem (left_by (Live live) (cond b (Err (Refused Busy))
-          (Ok (Live (erased layout live r.name)))))
-      by true h = state
-      by false h = erased-state layout mem lies live r.name state h
+      by : (a b : Bool) → flies layout live (λ z. is_in name z) ≡ b
+          → IsState layout mem (left_by (Live live) (cond a (cond b (Err (Refused Busy))
+          (Ok (Live (erased layout live name)))) (Err NoRecord)))
+      by true true h = state
+      by true false h = erased-state layout mem lies live name state h
+      by false b h = state
 
   flip-sound : (off : OffState) (place mask : ℕ) (b : Bool) → mask < 256 → IsState layout mem (Off off)
       → IsState layout mem (left_by (Off off) (cond b (Ok (Off (flipped off place mask))) (Err (Refused OutOfImage))))
@@ -62,7 +64,7 @@ module _ (layout : List Zone) (mem : ℕ) (lies : IsLayout layout mem) where
       answered-sound live (finish layout live name) state (λ next e.
       goes_on-sound layout mem lies live (λ z zone. finished z zone) (target layout live name) next state
       (λ t k. target-some layout live name t k) (λ z v valid sound. finished-sound z valid v sound) e)
-  operation-sound (Live live) (EraseRecord name) fit state = erases-sound live _ state
+  operation-sound (Live live) (EraseRecord name) fit state = erases-sound live name state
   operation-sound (Live live) Stop fit state = stopped-state layout mem lies live state
   operation-sound (Live live) (Flip place mask) fit state = state
   operation-sound (Live live) Boot fit state = state

@@ -1,18 +1,20 @@
 -- Appends, undamaged zones and flips
-use Rattle.std.proofs.Common.{slice_get, take, drop, ap₂, suc, ◌-◌, length-set, get_or-set_same, get_or-set_other, get_or, append-nil, append_assoc, bit_xor, flat_map, ◌≡◌, ℕ, zero, ◌+◌, ◌≤◌, List, [], ◌∷◌, ◌++◌, length, refl, sym, ap, ◌∙◌, length-append, length-drop, subst, arith, inl, inr, Some}
+use Rattle.std.proofs.Common.{slice_get, take, drop, ap₂, suc, ◌-◌, length-set, get_or-set_same, get_or-set_other, get_or, append-nil, append_assoc, bit_xor, flat_map, ◌≡◌, ℕ, zero, ◌+◌, ◌≤◌, List, [], ◌∷◌, ◌++◌, length, refl, sym, ap, ◌∙◌, length-append, length-drop, subst, subst₂, arith, inl, inr, Some}
 use Rattle.std.proofs.lemmas.List.Sums.{sum_by-cons}
 use Rattle.std.proofs.lemmas.List.{take-append-drop, drop-drop}
 use Rattle.zone_spec.specs.Layouts.{zones_end}
-use Rattle.session_spec.specs.States.{OffZone}
-use Rattle.session_spec.specs.Zones.{zone_bytes, zone_bytes}
+use Rattle.session_spec.specs.States.{Flight, OffZone}
+use Rattle.session_spec.specs.Zones.{zone_bytes}
 use Rattle.zone_spec.specs.declared.Zone.{Zone}
 use Rattle.std.proofs.lemmas.Bool.{cases_lt}
 use Rattle.zone_spec.specs.declared.Verdict.TheVariants.{AsTold}
 use Rattle.zone_spec.specs.Zones.{IsValidZone}
 use Rattle.zone_spec.specs.Parts.{Header, Block, part_word, IsImage}
 use Rattle.zone_spec.specs.Reading.{zone_reading}
-use Rattle.zone_spec.specs.Told.{last_items}
+use Rattle.zone_spec.specs.Told.{Call, last_items}
 use Rattle.zone_spec.specs.Verdicts.{verdict_of}
+use Rattle.zone_spec.specs.Cut.{Cut, ByCall, words_before}
+use Rattle.session_spec.specs.Stop.{cut_of}
 use Rattle.damage_laws.proofs.Within.{idle_zone_reads_told}
 use Rattle.damage_laws.proofs.CutPlaces.{old_places}
 use Rattle.session_spec.specs.Sound.{IsOffZone, IsInFlight}
@@ -50,6 +52,13 @@ appends_tell_last_bytes cap told (p ∷ ps) l =
 
 -- ---- undamaged zones
 
+-- what holds of a flight as a cut holds of the cut, and of its call
+pub flight_call : (P : Cut → Call → Type 0) (z : Zone) (f : Flight) (cut : Cut) (call : Call) → cut ≡ cut_of z f
+    → cut.by ≡ ByCall call → P (cut_of z f) f.call → P cut call
+flight_call P z f cut call is own h =
+    let same : ByCall f.call ≡ ByCall call = sym (ap (λ (c : Cut). c.by) is) ∙ own in
+    let e : f.call ≡ call = cc in subst₂ P (sym is) e h
+
 pub zone_undamaged : (z : Zone) (zone : OffZone) (now : List ℕ) → IsValidZone z → IsOffZone z zone → IsImage z now
     → ReadsAsAtStop z zone now
 zone_undamaged z zone now valid sound hn = record {
@@ -62,7 +71,7 @@ zone_undamaged z zone now valid sound hn = record {
   places = λ told cut call t c own same.
       let f = sound.in_flight cut call c own in
       let e : f.0 ≡ told = (let g : Some f.0 ≡ Some told = sym f.2.told_is ∙ t in cc) in
-      subst (λ k. OldPlacesRead z k told zone.stop now) (sym f.2.cut_is)
+      flight_call (λ k c. OldPlacesRead z (words_before k) c told zone.stop now) z f.1 cut call f.2.cut_is own
       (old_places z zone.stop now told f.1 valid sound.size
       (subst (λ xs. IsInFlight z zone.stop xs f.1) e f.2.at_stop) hn);
 }

@@ -11,6 +11,7 @@ use Rattle.session_laws.specs.ZoneReads.{ReadsZone, SoundStateReadsZones}
 use Rattle.session_laws.proofs.OffStates.{off_bytes}
 use Rattle.session_laws.proofs.LastWritten.{zone_reads}
 use Rattle.session_laws.proofs.Sessions.{zone_undamaged}
+use Rattle.session_laws.proofs.Logs.{log_bytes_come}
 use Rattle.session_laws.proofs.Boots.{zone_cuts, zone_reports}
 
 reads_zone : (z : Zone) (zone : OffZone) (now : List ℕ) → IsValidZone z → IsOffZone z zone → IsImage z now
@@ -20,6 +21,7 @@ reads_zone z zone now valid sound hn = record {
   parts = λ part own within. part_reads z zone.stop now part valid sound.size hn within;
   idle = λ told t c head. idle_zone_reads_told z zone.stop now told valid sound.size hn (sound.idle told t c) head;
   as_at_stop = zone_undamaged z zone now valid sound hn;
+  bytes = log_bytes_come z now valid hn.0;
   cut = zone_cuts z zone now valid sound hn;
   reported = zone_reports z zone now valid sound;
 }

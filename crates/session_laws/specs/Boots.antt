@@ -12,7 +12,7 @@ use Rattle.zone_spec.specs.Layouts.{IsLayout}
 use Rattle.session_spec.specs.States.{OffZone, OffState, Off}
 use Rattle.session_spec.specs.Report.{zone_report}
 use Rattle.session_spec.specs.Sound.{IsState, IsCutErasure}
-use Rattle.session_spec.specs.Exact.{IsExactVerdict, IsExactReport, ReportsCall}
+use Rattle.damage_laws.specs.Exact.{IsExactVerdict, IsExactReport, ReportsCall}
 use Rattle.session_spec.specs.Headline.{EachOffZone}
 use Rattle.damage_laws.specs.CutCalls.{CutReads}
 use Rattle.damage_laws.specs.CutErasures.{BootCutReads}
@@ -54,7 +54,7 @@ pub record ReadsErasure (z : Zone) (zone : OffZone) (now : List ℕ) (cut : Cut)
 pub record ReadsCut (z : Zone) (zone : OffZone) (now : List ℕ) : Type 0 where
   pub call : (told : List ℕ) (cut : Cut) (call : Call) → zone.told ≡ Some told → zone.cut ≡ Some cut
       → cut.by ≡ ByCall call → IsNotDamagedFurther z zone.stop now
-      → CutReads z cut told zone.stop now
+      → CutReads z cut call told zone.stop now
   pub erasure : (cut : Cut) → zone.cut ≡ Some cut → cut.by ≡ ByBoot → ReadsErasure z zone now cut
 
 -- so reads each zone of a sound state

@@ -11,15 +11,18 @@ use Rattle.zone_spec.specs.Records.{Saved, listed_of, found}
 
 -- each byte of a log is that of its block's nearest codeword, or stands in the image, in a block that is
 -- counted bad
-abbrev pub LogBytesCome : Type 0
-LogBytesCome = (z : Zone) (now : List ℕ) (i place : ℕ) → IsValidZone z → length now ≡ z.size
-    → (zone_reading z now).state ≡ Found
+abbrev pub LogBytesComeOf : Zone → List ℕ → Type 0
+LogBytesComeOf z now = (i place : ℕ) → (zone_reading z now).state ≡ Found
     → slice_get (log_places (words_read z now).start (words_read z now).size) i ≡ Some place
     → MatchOption (nearest z.parity (part_word z now (Block (place / z.block))))
     ((slice_get (zone_reading z now).log i ≡ Some (slice_index now (12 + place)))
     × ((part_reading z now (Block (place / z.block))).bad ≡ 1)
     × Contains (blocks_below z (words_read z now).size) (place / z.block))
     (λ c. slice_get (zone_reading z now).log i ≡ Some (slice_index c (place % z.block)))
+
+-- so do those of every zone
+abbrev pub LogBytesCome : Type 0
+LogBytesCome = (z : Zone) (now : List ℕ) → IsValidZone z → length now ≡ z.size → LogBytesComeOf z now
 
 -- a zone whose header reads without its signature has no log, and is not found
 abbrev pub UnsignedAddsNothing : Type 0

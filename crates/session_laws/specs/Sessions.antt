@@ -6,7 +6,7 @@ use Rattle.zone_spec.specs.Parts.{AreBytes}
 use Rattle.zone_spec.specs.Reading.{zone_reading}
 use Rattle.zone_spec.specs.Told.{Call, Append, told_after, last_items}
 use Rattle.zone_spec.specs.Verdicts.{verdict_of}
-use Rattle.zone_spec.specs.Cut.{Cut, ByCall}
+use Rattle.zone_spec.specs.Cut.{Cut, ByCall, words_before}
 use Rattle.zone_spec.specs.Layouts.{IsLayout, zones_end}
 use Rattle.session_spec.specs.Zones.{zone_bytes}
 use Rattle.session_spec.specs.States.{OffZone, OffState, Session, Off}
@@ -48,7 +48,8 @@ pub record ReadsAsAtStop (z : Zone) (zone : OffZone) (now : List ℕ) : Type 0 w
   pub idle : (told : List ℕ) → zone.told ≡ Some told → zone.cut ≡ None → now ≡ zone.stop
       → verdict_of zone.told (zone_reading z now).log ≡ AsTold
   pub places : (told : List ℕ) (cut : Cut) (call : Call) → zone.told ≡ Some told → zone.cut ≡ Some cut
-      → cut.by ≡ ByCall call → now ≡ zone.stop → OldPlacesRead z cut told zone.stop now
+      → cut.by ≡ ByCall call → now ≡ zone.stop
+      → OldPlacesRead z (words_before cut) call told zone.stop now
 
 -- so reads each zone of a sound state
 abbrev pub UndamagedReadsTold : Type 0

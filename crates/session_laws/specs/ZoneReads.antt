@@ -10,11 +10,13 @@ use Rattle.session_spec.specs.Sound.{IsState}
 use Rattle.session_spec.specs.Headline.{EachOffZone, ReadsLastWritten}
 use Rattle.damage_laws.specs.Idle.{IdleReads}
 use Rattle.session_laws.specs.Sessions.{ReadsAsAtStop}
+use Rattle.session_laws.specs.Logs.{LogBytesComeOf}
 use Rattle.session_laws.specs.Boots.{ReadsCut, ReportsExactly}
 
 -- what is read of a zone: the headline; a part within bounds reads as at the stop; an idle zone whose
 -- header alone is within bounds reads what it was told in the blocks within bounds; a zone that stands
--- as at its stop reads as told; what a zone reads that was cut; and its report is exact
+-- as at its stop reads as told; where each byte of its log comes from; what a zone reads that was cut;
+-- and its report is exact
 pub record ReadsZone (z : Zone) (zone : OffZone) (now : List ℕ) : Type 0 where
   pub last_written : ReadsLastWritten z zone now
   pub parts : (part : Part) → IsPartOf z part → IsWithinBounds z zone.stop now part
@@ -22,6 +24,7 @@ pub record ReadsZone (z : Zone) (zone : OffZone) (now : List ℕ) : Type 0 where
   pub idle : (told : List ℕ) → zone.told ≡ Some told → zone.cut ≡ None → IsWithinBounds z zone.stop now Header
       → IdleReads z zone.stop now told
   pub as_at_stop : ReadsAsAtStop z zone now
+  pub bytes : LogBytesComeOf z now
   pub cut : ReadsCut z zone now
   pub reported : ReportsExactly z zone now
 

@@ -4,6 +4,7 @@
 
 ghost use Rattle.session_laws.specs.Sessions.{ImageIsZonesAndRest, FreshIsSound, OperationsKeepStatesSound, StatesAreSound, AppendsTellLastBytes, UndamagedReadsTold, FlipChangesOneByte};
 ghost use Rattle.session_laws.specs.Logs.{LogBytesCome, UnsignedAddsNothing, NotFoundAddsNothing};
+ghost use Rattle.session_laws.specs.Listed.{ListedIsFound};
 ghost use Rattle.session_laws.specs.Boots.{VerdictIsExact, ReportIsExact, CutZonesRead};
 ghost use Rattle.session_laws.specs.ZoneReads.{SoundStateReadsZones};
 ghost use Rattle.session_laws.specs.CutBoots.{CutBootMakesStores, CutBootLeavesRest, CutBootHolds, CutBootReads, CutBootKeepsStops};
@@ -60,6 +61,11 @@ pub fn not_found_adds_nothing()
     ensures { NotFoundAddsNothing }
 {}
 
+/// A name is listed exactly where a record is found by it.
+pub fn listed_is_found()
+    ensures { ListedIsFound }
+{}
+
 /// A verdict says whether a told list is known, whether it is the log, and else where the two first differ.
 pub fn verdict_is_exact()
     ensures { VerdictIsExact }
@@ -105,8 +111,8 @@ pub fn cut_boot_keeps_stops()
     ensures { CutBootKeepsStops }
 {}
 
-/// When a session's machine is off, each idle zone within bounds reads the last bytes written since its erasure that
-/// fit, and in a zone whose call a stop cut only touched blocks and the header, both reported, make a difference.
+/// When a session's machine is off, each idle zone within bounds reads what it was told, and in a zone whose call a stop
+/// cut only touched blocks and the header, both reported, make a difference.
 pub fn headline()
     ensures { Headline }
 {}

@@ -51,11 +51,15 @@ zone_cut z bytes count zone =
       cut = Some (boot_cut z bytes count);
     }
 
--- a zone, where so many of the stores made come at or behind it: finished, where the boot ends in its
--- last store or behind it; cut, within its erasure; else as it was
+-- whether a boot has finished a zone, where so many of the stores made come at or behind it: all its stores were made,
+-- or the zone's last one was
+abbrev pub is_finished : Zone → List ℕ → Bool → ℕ → Bool
+is_finished z bytes all count = all || (nat_lt 0 count && nat_le (length (boot_stores z bytes)) count)
+
+-- a zone, where so many of the stores made come at or behind it: finished; cut, within its erasure; else as it was
 abbrev pub zone_parted : Zone → List ℕ → Bool → ℕ → OffZone → OffZone
 zone_parted z bytes all count zone =
-    if all || (nat_lt 0 count && nat_le (length (boot_stores z bytes)) count) then zone_finished z bytes
+    if is_finished z bytes all count then zone_finished z bytes
     else (if nat_lt (length (boot_fixes z bytes)) count then zone_cut z bytes count zone
     else zone)
 

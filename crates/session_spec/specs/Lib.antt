@@ -11,6 +11,5 @@ pub mod Report
 pub mod BootPart
 pub mod Operations
 pub mod Sound
-pub mod Exact
 pub mod Headline
 pub mod Moved

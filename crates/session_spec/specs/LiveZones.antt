@@ -4,7 +4,7 @@ use Rattle.std.specs.List.{list_any}
 use Rattle.zone_spec.specs.declared.Zone.{Zone}
 use Rattle.zone_spec.specs.declared.ZoneName.{ZoneName}
 use Rattle.zone_spec.specs.declared.Kind.TheVariants.{Dump as DumpKind}
-use Rattle.zone_spec.specs.Told.{Call, Append, Erase, Dump}
+use Rattle.zone_spec.specs.Told.{Call, Dump}
 use Rattle.zone_spec.specs.Records.{is_of}
 use Rattle.zone_spec.specs.Layouts.{zone_place}
 use Rattle.session_spec.specs.Zones.{dump_zones}
@@ -44,8 +44,7 @@ flies layout live test = list_any (λ (pair : Zone × LiveZone). test pair.0 && 
 -- whether a dump is in flight
 abbrev pub is_dump : Call → Bool
 is_dump (Dump line body) = true
-is_dump (Append payload) = false
-is_dump Erase = false
+is_dump other = false
 
 -- whether a flight is a dump's
 abbrev pub flies_dump : Option Flight → Bool

@@ -5,7 +5,7 @@ use Rattle.zone_spec.specs.declared.ZoneName.{ZoneName}
 use Rattle.zone_spec.specs.declared.Name.{Name}
 use Rattle.zone_spec.specs.declared.Refusal.{Refusal}
 use Rattle.zone_spec.specs.declared.Refusal.TheVariants.{Busy, OutOfImage}
-use Rattle.zone_spec.specs.Records.{Listed, record_of}
+use Rattle.zone_spec.specs.Listing.{is_listed}
 use Rattle.zone_spec.specs.Notices.{is_in}
 use Rattle.session_spec.specs.States.{OffState, LiveState, Session, Off, Live}
 use Rattle.session_spec.specs.Off.{flipped}
@@ -42,10 +42,10 @@ answered (Ok live) = Ok (Live live)
 answered (Err why) = Err (Refused why)
 
 -- the erasure of a listed record, where no flight stands in any of its zones
-abbrev pub erases : List Zone → LiveState → Option Listed → Result Session Cause
-erases layout live None = Err NoRecord
-erases layout live (Some r) =
-    if flies layout live (λ z. is_in r.name z) then Err (Refused Busy) else Ok (Live (erased layout live r.name))
+abbrev pub erases : List Zone → LiveState → Name → Result Session Cause
+erases layout live name =
+    if is_listed (saved_logs layout live) name then (if flies layout live (λ z. is_in name z) then Err (Refused Busy)
+    else Ok (Live (erased layout live name))) else Err NoRecord
 
 -- the state that an operation leaves, or why it is refused
 abbrev pub live_operated : List Zone → LiveState → Operation → Result Session Cause
@@ -53,11 +53,9 @@ live_operated layout live (Begin ask) = answered (begin layout live ask)
 live_operated layout live (Make ask) = answered (make layout live ask)
 live_operated layout live (Step name count) = answered (step layout live name count)
 live_operated layout live (Finish name) = answered (finish layout live name)
-live_operated layout live (EraseRecord name) = erases layout live (record_of (saved_logs layout live) name)
+live_operated layout live (EraseRecord name) = erases layout live name
 live_operated layout live Stop = Ok (Off (stopped layout live))
-live_operated layout live (Flip place mask) = Err WrongState
-live_operated layout live Boot = Err WrongState
-live_operated layout live (BootPart limit) = Err WrongState
+live_operated layout live other = Err WrongState
 
 -- the same while the machine is off
 abbrev pub off_operated : List Zone → OffState → Operation → Result Session Cause

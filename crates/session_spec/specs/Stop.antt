@@ -1,5 +1,6 @@
 -- A stop: the machine is off, this moment is the stop of every zone, and each flight becomes a cut
-use Rattle.std.specs.Prelude.{ℕ, List, ◌++◌, map, flat_map, zip, Option, Some, None}
+use Rattle.std.specs.Prelude.{ℕ, List, ◌++◌, map, flat_map, zip, Some}
+use Rattle.std.specs.Option.{option_map}
 use Rattle.zone_spec.specs.declared.Zone.{Zone}
 use Rattle.zone_spec.specs.Parts.{Header, part_word}
 use Rattle.zone_spec.specs.Cut.{Cut, ByCall}
@@ -9,14 +10,9 @@ use Rattle.session_spec.specs.States.{Flight, OffZone, OffState, LiveZone, LiveS
 abbrev pub cut_of : Zone → Flight → Cut
 cut_of z f = record { by = ByCall f.call; header = part_word z f.image Header; made = f.made }
 
--- the cut that a flight becomes, where one stands
-abbrev pub cut_by_stop : Zone → Option Flight → Option Cut
-cut_by_stop z None = None
-cut_by_stop z (Some f) = Some (cut_of z f)
-
 -- a zone after the stop
 abbrev pub zone_stopped : Zone × LiveZone → OffZone
-zone_stopped (z, live) = record { stop = live.image; told = Some live.told; cut = cut_by_stop z live.flight }
+zone_stopped (z, live) = record { stop = live.image; told = Some live.told; cut = option_map (cut_of z) live.flight }
 
 -- the zones' bytes end to end, and the bytes behind them
 abbrev pub live_image : LiveState → List ℕ

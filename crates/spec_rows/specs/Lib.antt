@@ -7,6 +7,7 @@ pub mod Counts
 pub mod Boots
 pub mod Dumps
 pub mod Ftrace
+pub mod Histories
 pub mod Refusals
 pub mod Notices
 pub mod Lines

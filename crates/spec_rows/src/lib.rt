@@ -9,6 +9,7 @@ pub mod counts;
 pub mod damage;
 pub mod dumps;
 pub mod ftrace;
+pub mod histories;
 pub mod layouts;
 pub mod lines;
 pub mod notices;

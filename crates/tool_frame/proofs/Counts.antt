@@ -1,12 +1,12 @@
 -- What of the image was kept, and which counts of faults, from how the work ended and what the last line left
-use Rattle.std.proofs.Common.{◌≡◌, ◌≢◌, ◌⊎◌, ℕ, Result, Ok, Err, refl, ap, ◌∙◌, inl, inr}
+use Rattle.std.proofs.Common.{◌≡◌, ◌≢◌, ◌⊎◌, ℕ, Result, Ok, Err, refl, sym, ap, ◌∙◌, arith, inl, inr}
 use Rattle.tool_spec.specs.Ends.{End, status_of}
 use Rattle.tool_spec.specs.Commands.{RamCommand, RunScript, ListRecords, ExtractRecord, EraseRecord, ShowLayout, BlankImage, MakeImage, FindRings, ReadRing, Plan, OfRam, OfBlk, OfMove, RunShared}
 use Rattle.tool_spec.specs.Answers.{Outside, NoScript, NoImage, RoseFor, NoOtherFault}
-use Rattle.tool_spec.specs.PlanAnswers.{Untouched, StoreFailed, CommandWrites, PlanWrites}
+use Rattle.tool_spec.specs.PlanAnswers.{Untouched, StoreFailed, FailsWriting, CommandWrites, PlanWrites}
 use Rattle.tool_frame.specs.Ends.{LastPut, Finished}
 use Rattle.tool_frame.specs.Stages.{KeptUnless}
-use Rattle.tool_frame.specs.Ended.{Caused, Counted, KeptAt, KeptBefore, CommandAsks, Asks, WorkDone}
+use Rattle.tool_frame.specs.Ended.{Caused, Counted, KeptAt, LinesAsk, FailsAsked, CommandAsks, Asks, WorkDone}
 use Rattle.tool_frame.proofs.Answered.{GoesOn, rose_on}
 use Rattle.tool_frame.proofs.Tool.{status_is}
 use Rattle.tool_spec.specs.declared.Stop.{Stop}
@@ -40,7 +40,7 @@ module _ (a m b : Outside) (on : GoesOn a m b) (status : ℕ) where
   kept_by old mid new (Err (Refused x y)) same c k f zero = inl (same ∙ k)
 
   -- what was kept until the lines of a script on the block store were begun
-  kept_early : {A : Type 0} (old mid new : A) (e : End) → new ≡ mid → KeptBefore old mid e
+  kept_early : (old mid new : ℕ) (e : End) → new ≡ mid → LinesAsk old mid e
       → (status ≡ status_of e) ⊎ ((status ≡ 7) × RoseFor SinkFault a b)
       → status ≢ 0 → status ≢ 1 → status ≢ 6 → status ≢ 7 → status ≢ 10 → new ≡ old
   kept_early old mid new e same k (inr s) zero one six seven ten = absurd (seven s.0)
@@ -49,14 +49,47 @@ module _ (a m b : Outside) (on : GoesOn a m b) (status : ℕ) where
   kept_early old mid new (Err ImageFault) same k (inl s) zero one six seven ten = absurd (six s)
   kept_early old mid new (Err SinkFault) same k (inl s) zero one six seven ten = absurd (seven s)
   kept_early old mid new (Err (Refused x y)) same k (inl s) zero one six seven ten = absurd (ten s)
-  kept_early old mid new (Err Usage) same k (inl s) zero one six seven ten = absurd k
-  kept_early old mid new (Err (Param x y)) same k (inl s) zero one six seven ten = absurd k
-  kept_early old mid new (Err (Layout x)) same k (inl s) zero one six seven ten = absurd k
-  kept_early old mid new (Err NoSharedZone) same k (inl s) zero one six seven ten = absurd k
+  kept_early old mid new (Err Usage) same k (inl s) zero one six seven ten = same ∙ k
+  kept_early old mid new (Err (Param x y)) same k (inl s) zero one six seven ten = same ∙ k
+  kept_early old mid new (Err (Layout x)) same k (inl s) zero one six seven ten = same ∙ k
+  kept_early old mid new (Err NoSharedZone) same k (inl s) zero one six seven ten = same ∙ k
   kept_early old mid new (Err (Short x y)) same k (inl s) zero one six seven ten = same ∙ k
   kept_early old mid new (Err ScriptFault) same k (inl s) zero one six seven ten = same ∙ k
   kept_early old mid new (Err TooLong) same k (inl s) zero one six seven ten = same ∙ k
   kept_early old mid new (Err (BadLine x)) same k (inl s) zero one six seven ten = same ∙ k
+
+  -- the image failed only after it was asked to be written
+  not_six : (n : ℕ) → n ≢ 6 → (status ≡ n) ⊎ ((status ≡ 7) × RoseFor SinkFault a b) → status ≡ 6 → ⊥
+  not_six n other (inl k) six = other (sym k ∙ six)
+  not_six n other (inr k) six = absurd (omega (arith, k.0, six))
+
+  fails_asked : (e : End) → b.writes ≡ m.writes → Caused a m e → FailsAsked a.writes m.writes e
+      → Finished e m.given b.given m.sink_faults b.sink_faults status → FailsWriting a b status
+  fails_asked (Err ImageFault) same c k f six = rw same k
+  fails_asked (Ok u) same c k f six = absurd (not_six 0 (λ z. absurd (omega arith))
+      (status_is a m b on status (Ok u) c f) six)
+  fails_asked (Err Memory) same c k f six = absurd (not_six 1 (λ z. absurd (omega arith))
+      (status_is a m b on status (Err Memory) c f) six)
+  fails_asked (Err Usage) same c k f six = absurd (not_six 2 (λ z. absurd (omega arith))
+      (status_is a m b on status (Err Usage) c f) six)
+  fails_asked (Err (Param x y)) same c k f six = absurd (not_six 3 (λ z. absurd (omega arith))
+      (status_is a m b on status (Err (Param x y)) c f) six)
+  fails_asked (Err (Layout x)) same c k f six = absurd (not_six 3 (λ z. absurd (omega arith))
+      (status_is a m b on status (Err (Layout x)) c f) six)
+  fails_asked (Err NoSharedZone) same c k f six = absurd (not_six 3 (λ z. absurd (omega arith))
+      (status_is a m b on status (Err NoSharedZone) c f) six)
+  fails_asked (Err (Short x y)) same c k f six = absurd (not_six 4 (λ z. absurd (omega arith))
+      (status_is a m b on status (Err (Short x y)) c f) six)
+  fails_asked (Err ScriptFault) same c k f six = absurd (not_six 5 (λ z. absurd (omega arith))
+      (status_is a m b on status (Err ScriptFault) c f) six)
+  fails_asked (Err SinkFault) same c k f six = absurd (not_six 7 (λ z. absurd (omega arith))
+      (status_is a m b on status (Err SinkFault) c f) six)
+  fails_asked (Err TooLong) same c k f six = absurd (not_six 8 (λ z. absurd (omega arith))
+      (status_is a m b on status (Err TooLong) c f) six)
+  fails_asked (Err (BadLine x)) same c k f six = absurd (not_six 9 (λ z. absurd (omega arith))
+      (status_is a m b on status (Err (BadLine x)) c f) six)
+  fails_asked (Err (Refused x y)) same c k f six = absurd (not_six 10 (λ z. absurd (omega arith))
+      (status_is a m b on status (Err (Refused x y)) c f) six)
 
   command_writes : (k : RamCommand) (e : End) → b.writes ≡ m.writes → Caused a m e
       → CommandAsks k a.writes m.writes e → Finished e m.given b.given m.sink_faults b.sink_faults status
@@ -66,8 +99,10 @@ module _ (a m b : Outside) (on : GoesOn a m b) (status : ℕ) where
   command_writes (ExtractRecord name) e same c k f = same ∙ k
   command_writes (EraseRecord name) e same c k f = kept_by a.writes m.writes b.writes e same c k f
   command_writes ShowLayout e same c k f = same ∙ k
-  command_writes BlankImage e same c k f = kept_by a.writes m.writes b.writes e same c k f
-  command_writes (MakeImage n) e same c k f = kept_by a.writes m.writes b.writes e same c k f
+  command_writes BlankImage e same c k f =
+      (kept_by a.writes m.writes b.writes e same c k.0 f, fails_asked e same c k.1 f)
+  command_writes (MakeImage n) e same c k f =
+      (kept_by a.writes m.writes b.writes e same c k.0 f, fails_asked e same c k.1 f)
   command_writes RunShared e same c k f = kept_by a.writes m.writes b.writes e same c k f
   command_writes FindRings e same c k f = same ∙ k
   command_writes (ReadRing at name) e same c k f = same ∙ k

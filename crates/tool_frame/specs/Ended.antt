@@ -173,17 +173,17 @@ LinesOrStopEnded layout bytes (Ok lines) a b e = LinesEnded layout bytes lines a
 LinesOrStopEnded layout bytes (Err stop) a b e = Ended (stops stop) a b e × UnreadAt a b e
 
 -- the ends that there are; the store stays, but where lines were begun
-abbrev pub KeptBefore : {A : Type 0} → A → A → End → Type 0
-KeptBefore old new (Ok u) = ⊤
-KeptBefore old new (Err Memory) = ⊤
-KeptBefore old new (Err ImageFault) = ⊤
-KeptBefore old new (Err SinkFault) = ⊤
-KeptBefore old new (Err (Refused n cause)) = ⊤
-KeptBefore old new (Err Usage) = ⊥
-KeptBefore old new (Err (Param fault before)) = ⊥
-KeptBefore old new (Err (Layout fault)) = ⊥
-KeptBefore old new (Err NoSharedZone) = ⊥
-KeptBefore old new (Err s) = new ≡ old
+abbrev pub KeptBefore : Option (List ℕ) → Option (List ℕ) → End → Type 0
+KeptBefore holds holds' (Ok u) = ⊤
+KeptBefore holds holds' (Err Memory) = ⊤
+KeptBefore holds holds' (Err ImageFault) = ⊤
+KeptBefore holds holds' (Err SinkFault) = ⊤
+KeptBefore holds holds' (Err (Refused n cause)) = ⊤
+KeptBefore holds holds' (Err Usage) = ⊥
+KeptBefore holds holds' (Err (Param fault before)) = ⊥
+KeptBefore holds holds' (Err (Layout fault)) = ⊥
+KeptBefore holds holds' (Err NoSharedZone) = ⊥
+KeptBefore holds holds' (Err s) = holds' ≡ holds
 
 -- a script on the block store, as far as the outside tells what it uses
 pub record BlkEnds (layout : BlkLayout) (a b : Outside) (e : End) : Type 0 where
@@ -221,6 +221,11 @@ abbrev pub WorkEnds : Result Plan Stop → Outside → Outside → End → Type 
 WorkEnds (Ok plan) a b e = PlanEnds plan a b e
 WorkEnds (Err s) a b e = (e ≡ Err s) × Nothing a b
 
+-- the image failed only after it was asked
+abbrev pub FailsAsked : ℕ → ℕ → End → Type 0
+FailsAsked old new (Err ImageFault) = Rose old new
+FailsAsked old new e = ⊤
+
 -- how often the image was asked to be written: a command that only reads never asks
 abbrev pub CommandAsks : RamCommand → ℕ → ℕ → End → Type 0
 CommandAsks RunScript old new e = KeptAt old new e
@@ -228,15 +233,24 @@ CommandAsks ListRecords old new e = new ≡ old
 CommandAsks (ExtractRecord name) old new e = new ≡ old
 CommandAsks (EraseRecord name) old new e = KeptAt old new e
 CommandAsks ShowLayout old new e = new ≡ old
-CommandAsks BlankImage old new e = KeptAt old new e
-CommandAsks (MakeImage n) old new e = KeptAt old new e
+CommandAsks BlankImage old new e = KeptAt old new e × FailsAsked old new e
+CommandAsks (MakeImage n) old new e = KeptAt old new e × FailsAsked old new e
 CommandAsks RunShared old new e = KeptAt old new e
 CommandAsks FindRings old new e = new ≡ old
 CommandAsks (ReadRing at name) old new e = new ≡ old
 
+-- a script on the block store asks as its lines are done, and not before
+abbrev pub LinesAsk : ℕ → ℕ → End → Type 0
+LinesAsk old new (Ok u) = ⊤
+LinesAsk old new (Err Memory) = ⊤
+LinesAsk old new (Err ImageFault) = ⊤
+LinesAsk old new (Err SinkFault) = ⊤
+LinesAsk old new (Err (Refused n cause)) = ⊤
+LinesAsk old new (Err s) = new ≡ old
+
 abbrev pub Asks : Result Plan Stop → ℕ → ℕ → End → Type 0
 Asks (Ok (OfRam plan)) old new e = CommandAsks plan.command old new e
-Asks (Ok (OfBlk layout)) old new e = KeptBefore old new e
+Asks (Ok (OfBlk layout)) old new e = LinesAsk old new e
 Asks (Ok (OfMove plan)) old new e = KeptAt old new e
 Asks (Err s) old new e = new ≡ old
 

@@ -1,7 +1,7 @@
 // The stages of a run that meet the outside.
-ghost use Rattle.std.specs.Prelude.{◌≡◌, replicate, ◌+◌, ◌-◌, ◌<◌, ◌≤◌, ◌^◌, length, take, vec_len, Ok, IfOk, IfErr, OnOk, IfSome, MatchResult};
+ghost use Rattle.std.specs.Prelude.{◌≡◌, replicate, ◌+◌, ◌-◌, ◌<◌, ◌≤◌, ◌^◌, length, take, vec_len, Ok, IfOk, IfErr, OnOk, OnErr, IfSome, MatchResult};
 ghost use Rattle.std.specs.Io.KnownBytes.{IsAtEnd};
-ghost use Rattle.box_io.specs.Outside.{HasCause, Writes, WritesFront};
+ghost use Rattle.box_io.specs.Outside.{Rose, HasCause, Writes, WritesFront};
 ghost use Rattle.grammar_spec.specs.Lines.{script_of};
 ghost use Rattle.grammar_spec.specs.Printed.{AllHaveFields};
 ghost use Rattle.tool_spec.specs.Commands.{script_limit};
@@ -137,6 +137,7 @@ pub fn load_front<M: Load>(alloc: Global, image: &mut M, limit: u32) -> Result<V
 pub fn save<M: Store>(image: &mut M, bytes: &[u8]) -> Result<(), Failed>
     ensures bytes { MatchResult result (λ _. Writes (M.holds image.old) (M.holds image.new) 0 bytes.now)
         (λ _. WritesFront (M.holds image.old) (M.holds image.new) 0 bytes.now) }
+    ensures asked { OnErr result (Rose (M.writes image.old) (M.writes image.new)) }
     ensures cause { HasCause (M.faults image.old) (M.faults image.new) result }
 {
     let mut at = 0;
@@ -171,6 +172,7 @@ pub fn lines(alloc: Global, script: &[u8]) -> Result<Lines, Stop>
 pub fn fill<M: Store>(image: &mut M, mem: u32) -> Result<(), Failed>
     ensures bytes { MatchResult result (λ _. Writes (M.holds image.old) (M.holds image.new) 0 (replicate mem 0))
         (λ _. WritesFront (M.holds image.old) (M.holds image.new) 0 (replicate mem 0)) }
+    ensures asked { OnErr result (Rose (M.writes image.old) (M.writes image.new)) }
     ensures cause { HasCause (M.faults image.old) (M.faults image.new) result }
 {
     let size = mem as usize;

@@ -248,7 +248,7 @@ take_fit (suc k) [] fit = tt
 take_fit (suc k) (line ∷ lines) fit = (fit.0, take_fit k lines fit.1)
 
 -- nothing is printed yet
-start_sound : (layout : List Zone) (mem : ℕ) (image : List ℕ) → IsLayout layout mem → length image ≡ mem
+pub start_sound : (layout : List Zone) (mem : ℕ) (image : List ℕ) → IsLayout layout mem → length image ≡ mem
     → AreBytes image → IsSound layout mem (started layout image).session (started layout image).kernel
 start_sound layout mem image lies size bytes = record {
   state = fresh_is_sound layout mem image lies size bytes;

@@ -3,7 +3,10 @@ use Rattle.std.specs.Prelude.{◌≡◌, ℕ, List, length, take}
 use Rattle.zone_spec.specs.declared.Zone.{Zone}
 use Rattle.zone_spec.specs.Parts.{AreBytes}
 use Rattle.zone_spec.specs.Layouts.{IsLayout}
+use Rattle.session_spec.specs.States.{OffState, Off}
 use Rattle.session_spec.specs.Sound.{IsState}
+use Rattle.session_spec.specs.Headline.{EachOffZone}
+use Rattle.session_laws.specs.Headline.{ReadsAndReports}
 use Rattle.grammar_spec.specs.declared.line.Line.{Line}
 use Rattle.grammar_spec.specs.Printed.{AllHaveFields}
 use Rattle.tool_spec.specs.Scripts.{ran}
@@ -15,8 +18,9 @@ ScriptStatesAreSound = (layout : List Zone) (mem : ℕ) (image : List ℕ) (line
     → length image ≡ mem → AreBytes image → AllHaveFields lines
     → (k : ℕ) → IsState layout mem (ran layout image (take k lines)).session
 
--- and the headline holds at each of its boots
+-- and the headline holds at each of its boots: what each zone reads, and that its cut is reported exactly
 abbrev pub ScriptsReadLastWritten : Type 0
 ScriptsReadLastWritten = (layout : List Zone) (mem : ℕ) (image : List ℕ) (lines : List Line) → IsLayout layout mem
     → length image ≡ mem → AreBytes image → AllHaveFields lines
-    → ScriptReadsLastWritten layout image lines
+    → ScriptReadsLastWritten layout image lines × ((k : ℕ) (off : OffState)
+    → (ran layout image (take k lines)).session ≡ Off off → EachOffZone layout off ReadsAndReports)

@@ -3,6 +3,7 @@
 
 ghost use Rattle.tool_laws.specs.Steps.{StepsAddUp, StepsEnd, CallsKeepLogs, NoStepsLeaveState, FinishIsSteps, MakeIsBeginAndSteps};
 ghost use Rattle.tool_laws.specs.Scripts.{ScriptStatesAreSound, ScriptsReadLastWritten};
+ghost use Rattle.tool_laws.specs.RamScripts.{RamScriptsAreSessions, ScriptsReadWritten};
 ghost use Rattle.tool_laws.specs.Crashes.{CrashesAreToldWhole};
 ghost use Rattle.tool_laws.specs.BlkScripts.{ScriptsAreSessions, EveryBootListsReading, WholeScriptListsTold, EarlyCutScriptListsBefore};
 
@@ -15,6 +16,17 @@ pub fn script_states_are_sound()
 /// in a zone whose call a stop cut only touched blocks and the header, both reported, make a difference.
 pub fn scripts_read_last_written()
     ensures { ScriptsReadLastWritten }
+{}
+
+/// A script on the ram store is the session of its lines' operations, up to the first refused line.
+pub fn ram_scripts_are_sessions()
+    ensures { RamScriptsAreSessions }
+{}
+
+/// Where the machine is off behind a script, the next boot reads of each idle zone within bounds the last bytes that
+/// the script's operations wrote since the zone's erasure, as many as it holds.
+pub fn scripts_read_written()
+    ensures { ScriptsReadWritten }
 {}
 
 /// A crash's dump has its whole body after the time line.

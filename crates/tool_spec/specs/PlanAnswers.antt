@@ -2,6 +2,7 @@
 use Rattle.std.specs.Prelude.{◌≡◌, ◌≢◌, ◌⊎◌, ⊤, ℕ, ◌==◌, true, List, [], ◌∷◌, Result, Ok, Err}
 use Rattle.std.specs.List.{list_any}
 use Rattle.tool_spec.specs.Commands.{RamCommand, RunScript, ListRecords, ExtractRecord, EraseRecord, ShowLayout, BlankImage, MakeImage, FindRings, ReadRing, RamPlan, wanted_of_image, Plan, OfRam, OfBlk, OfMove, wanted_move, RunShared}
+use Rattle.box_io.specs.Outside.{Rose}
 use Rattle.tool_spec.specs.Answers.{Outside, RoseFor, RunAnswers, ImageAnswers, ReadAnswers, MakeAnswers, ShowAnswers, FaultAnswers}
 use Rattle.tool_spec.specs.BlkAnswers.{BlkAnswers}
 use Rattle.tool_spec.specs.declared.Stop.{Stop}
@@ -78,14 +79,18 @@ NeverWrites a b = b.writes ≡ a.writes
 abbrev pub WritesAtEnd : Outside → Outside → ℕ → Type 0
 WritesAtEnd a b status = status ≢ 0 → NeverWrites a b ⊎ StoreFailed a b status
 
+-- and the image fails only after it was asked
+abbrev pub FailsWriting : Outside → Outside → ℕ → Type 0
+FailsWriting a b status = status ≡ 6 → Rose a.writes b.writes
+
 abbrev pub CommandWrites : RamCommand → Outside → Outside → ℕ → Type 0
 CommandWrites RunScript a b status = WritesAtEnd a b status
 CommandWrites ListRecords a b status = NeverWrites a b
 CommandWrites (ExtractRecord name) a b status = NeverWrites a b
 CommandWrites (EraseRecord name) a b status = WritesAtEnd a b status
 CommandWrites ShowLayout a b status = NeverWrites a b
-CommandWrites BlankImage a b status = WritesAtEnd a b status
-CommandWrites (MakeImage n) a b status = WritesAtEnd a b status
+CommandWrites BlankImage a b status = WritesAtEnd a b status × FailsWriting a b status
+CommandWrites (MakeImage n) a b status = WritesAtEnd a b status × FailsWriting a b status
 CommandWrites RunShared a b status = WritesAtEnd a b status
 CommandWrites FindRings a b status = NeverWrites a b
 CommandWrites (ReadRing at name) a b status = NeverWrites a b

@@ -3,9 +3,9 @@
 use Rattle.std.specs.Prelude.{ℕ, ◌+◌, Bool, true, false, not, ◌&&◌, ◌||◌, if◌then◌else◌, ◌==◌, List, [], ◌∷◌, ◌++◌, flat_map}
 use Rattle.zone_spec.specs.declared.Zone.{Zone}
 use Rattle.zone_spec.specs.declared.Kind.{Kind}
-use Rattle.zone_spec.specs.declared.Kind.TheVariants.{Dump, Console, Ftrace, Pmsg}
+use Rattle.zone_spec.specs.declared.Kind.TheVariants.{Dump, Ftrace}
 use Rattle.zone_spec.specs.declared.State.{State}
-use Rattle.zone_spec.specs.declared.State.TheVariants.{Unsigned, Empty, Invalid, Found}
+use Rattle.zone_spec.specs.declared.State.TheVariants.{Unsigned, Empty, Found}
 use Rattle.zone_spec.specs.Parts.{Part, Header, Block, part_bytes, part_at}
 use Rattle.zone_spec.specs.PartReadings.{part_reading}
 use Rattle.zone_spec.specs.Reading.{ZoneReading, zone_reading, blocks_below}
@@ -29,17 +29,15 @@ part_fixes z image part = fix_stores (part_at z part) (part_bytes z image part) 
 -- ftrace ring that can be appended to
 abbrev pub is_kept : Zone → ZoneReading → Kind → Bool
 is_kept z reading Dump = has_line reading.log
-is_kept z reading Console = false
-is_kept z reading Pmsg = false
 is_kept z reading Ftrace = (reading.words.start == reading.words.size || reading.words.size == z.cap) && not
     (reading.words.start == z.cap)
+is_kept z reading other = false
 
 -- whether a boot leaves a zone in this state without erasing it
 abbrev pub keeps_in : Zone → ZoneReading → State → Bool
 keeps_in z reading Found = is_kept z reading z.name.kind
 keeps_in z reading Empty = true
-keeps_in z reading Invalid = false
-keeps_in z reading Unsigned = false
+keeps_in z reading other = false
 
 -- whether a boot leaves a zone with this reading without erasing it
 abbrev pub keeps : Zone → ZoneReading → Bool

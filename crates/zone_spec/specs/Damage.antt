@@ -6,15 +6,12 @@ use Rattle.zone_spec.specs.Numbers.{header_len}
 use Rattle.code_spec.specs.Code.{distance, nearest}
 use Rattle.zone_spec.specs.Parts.{Part, Header, IsPartOf, part_word}
 
--- a part is sound where its word at the stop has a nearest codeword, and it stood for that codeword
-abbrev pub StoodFor : Zone → List ℕ → Part → List ℕ → Type 0
-StoodFor z stop part c = nearest z.parity (part_word z stop part) ≡ Some c
-
--- a part that was sound and differs from what it stood for in at most half the parity, or that stands as
--- at the stop
+-- a part whose word at the stop had a nearest codeword, for which it stood, and that differs from it in at most half the
+-- parity; or a part that stands as at the stop
 abbrev pub IsWithinBounds : Zone → List ℕ → List ℕ → Part → Type 0
 IsWithinBounds z stop now part =
-    ((c : List ℕ) × StoodFor z stop part c × (distance (part_word z now part) c ≤ z.parity / 2))
+    ((c : List ℕ) × (nearest z.parity (part_word z stop part) ≡ Some c)
+    × (distance (part_word z now part) c ≤ z.parity / 2))
     ⊎ (part_word z now part ≡ part_word z stop part)
 
 -- the header and each block are within bounds
@@ -26,4 +23,5 @@ IsZoneWithinBounds z stop now = (part : Part) → IsPartOf z part → IsWithinBo
 abbrev pub IsNotDamagedFurther : Zone → List ℕ → List ℕ → Type 0
 IsNotDamagedFurther z stop now = (i : ℕ) → i < header_len + z.parity →
     (slice_index (part_word z now Header) i ≡ slice_index (part_word z stop Header) i)
-    ⊎ ((c : List ℕ) × StoodFor z stop Header c × (slice_index (part_word z now Header) i ≡ slice_index c i))
+    ⊎ ((c : List ℕ) × (nearest z.parity (part_word z stop Header) ≡ Some c)
+    × (slice_index (part_word z now Header) i ≡ slice_index c i))

@@ -20,6 +20,7 @@ pub mod Ftrace
 pub mod Names
 pub mod Records
 pub mod Notices
+pub mod Listing
 pub mod Layout
 pub mod Layouts
 pub mod LayoutFaults

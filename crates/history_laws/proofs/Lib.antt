@@ -1,0 +1,4 @@
+pub mod ZoneSteps
+pub mod Steps
+pub mod Told
+pub mod NextBoot

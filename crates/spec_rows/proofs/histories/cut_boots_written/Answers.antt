@@ -1,0 +1,8 @@
+use Rattle.std.proofs.Common.{refl}
+use Rattle.spec_rows.proofs.Computing.{computing_all}
+use Rattle.history_spec.specs.Written.{written}
+use Rattle.spec_rows.proofs.histories.cut_boots_written.Goals as goal
+
+pub returns : goal.returns
+unfolding computing_all written
+returns c = refl

@@ -1,0 +1,5 @@
+use Rattle.tool_laws.proofs.RamScripts.{ram_scripts_are_sessions as law}
+use Rattle.tool_laws.proofs.ram_scripts_are_sessions.Goals as goal
+
+pub returns : goal.returns
+returns c = law
