@@ -28,9 +28,9 @@ use Rattle.session_laws.proofs.Lists.{get-map, get-zip-map, parted-at}
 use Rattle.session_laws.proofs.Targets.{target-some}
 use Rattle.session_laws.proofs.OffStates.{off_bytes, fresh-state}
 use Rattle.session_laws.proofs.Operations.{operation-sound, states_are_sound}
-use Rattle.session_laws.proofs.LastWritten.{state_reads}
+use Rattle.session_laws.proofs.LastWritten.{state_reads, headline as reached_reads}
 use Rattle.history_spec.specs.Written.{written_by, written, written_in}
-use Rattle.history_laws.specs.Headline.{ReadsWritten, Headline}
+use Rattle.history_laws.specs.Headline.{ReadsWritten, Headline, CutsAreReported}
 use Rattle.history_laws.specs.Laws.{TellsWritten, ToldIsWritten}
 use Rattle.history_laws.proofs.ZoneSteps.{kept_tells, stepped_tells, begun_tells}
 use Rattle.history_laws.proofs.Steps.{FlownTells, began, asked_target, changed_tells, went_tells, make_tells, erased_record}
@@ -224,3 +224,7 @@ headline layout mem image os off i z zone bytes lies size are fit e written_is h
     } in
     state_reads_written layout mem off i z zone bytes lies (states_are_sound layout mem (Off off) lies r)
     (subst (λ w. TellsWritten i z w (Off off)) written_is (told_is_written layout mem (Off off) i z lies r hz)) hz hv
+
+pub cuts_are_reported : CutsAreReported
+cuts_are_reported layout mem off lies r =
+    let each = reached_reads layout mem off lies r in (each.0, λ i z zone hz hv. (each.1 i z zone hz hv).reported)

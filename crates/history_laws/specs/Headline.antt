@@ -12,8 +12,9 @@ use Rattle.session_spec.specs.Zones.{zone_bytes}
 use Rattle.session_spec.specs.States.{OffZone, OffState, Off}
 use Rattle.session_spec.specs.Off.{fresh}
 use Rattle.session_spec.specs.Operations.{Operation, session_after}
-use Rattle.session_spec.specs.Sound.{IsOperation}
-use Rattle.session_spec.specs.Headline.{OldPlacesRead, NoOtherPlaces}
+use Rattle.session_spec.specs.Sound.{IsOperation, IsReached}
+use Rattle.session_spec.specs.Headline.{EachOffZone, OldPlacesRead, NoOtherPlaces}
+use Rattle.damage_laws.specs.Exact.{ReportsCall}
 use Rattle.history_spec.specs.Written.{written}
 
 -- What a boot reads now of a zone that stood so at its stop, with this cut, when these bytes had been written to it. An
@@ -35,3 +36,10 @@ Headline = (layout : List Zone) (mem : ℕ) (image : List ℕ) (operations : Lis
     → written layout i z None (Off (fresh layout image)) operations ≡ Some bytes
     → slice_get layout i ≡ Some z → slice_get off.zones i ≡ Some zone
     → ReadsWritten z zone.cut zone.stop (zone_bytes z off.image) bytes
+
+-- And where a stop cut a call, the boot's report of the zone has the cut, exactly: the call, how many of its stores were
+-- made and how many it has, the pair of words that the header reads, and the blocks that the call touches
+abbrev pub CutsAreReported : Type 0
+CutsAreReported = (layout : List Zone) (mem : ℕ) (off : OffState) → IsLayout layout mem
+    → IsReached layout mem (Off off) → EachOffZone layout off (λ z zone now. (cut : Cut) (call : Call)
+    → zone.cut ≡ Some cut → cut.by ≡ ByCall call → ReportsCall z zone now cut)

@@ -3,7 +3,7 @@
 #![tactic(auto)]
 
 ghost use Rattle.history_laws.specs.Laws.{ToldIsWritten, NextBootReadsWritten};
-ghost use Rattle.history_laws.specs.Headline.{Headline};
+ghost use Rattle.history_laws.specs.Headline.{Headline, CutsAreReported};
 
 /// In every state of a session each zone is told the last bytes that were written to it since its erasure, as many as
 /// it holds.
@@ -12,10 +12,11 @@ pub fn told_is_written()
 {}
 
 /// The headline. When a session's machine is off, the next boot reads of each idle zone within bounds the last bytes that
-/// were written to it since its erasure, as many as it holds, and in a zone whose call a stop cut only touched blocks and
-/// the header make a difference.
+/// were written to it since its erasure, as many as it holds, in order; in a zone whose call a stop cut only touched
+/// blocks and the header, both reported, make a difference.
 pub fn headline()
-    ensures { Headline }
+    ensures written { Headline }
+    ensures reported { CutsAreReported }
 {}
 
 /// The same without told lists, cuts and stops: after a session, a stop and flips, the boot's reading of each zone is by

@@ -26,6 +26,7 @@ use Rattle.session_laws.proofs.Lists.{get-map, get-zip-map, length-zip-map, zone
 use Rattle.session_laws.proofs.Zones.{zone_image}
 use Rattle.session_laws.proofs.OffStates.{booted-state, fresh-state}
 use Rattle.session_laws.proofs.Sessions.{image_is_zones_and_rest}
+use Rattle.session_laws.proofs.OffStates.{booted-state}
 use Rattle.session_laws.proofs.ZoneReads.{sound_state_reads_zones}
 use Rattle.ram_region.specs.CutRegion.{CutRegion, span, cut_at}
 use Rattle.old_log.specs.Saving.{SavedLogs, saved}
@@ -284,7 +285,8 @@ module _ (v : OffSeen) (o : OpenOff) (is : IsOpen v o) where
           (all_len (length L) o.zones.items is.known) stands.count
           stands.zones p.reports.items own_prepared.reports_len
           (λ i z b k r ez eb ek er. own_prepared.reports i z b k r (slice_get_within L i z ez) ez eb ek er);
-      reads = λ sound. sound_state_reads_zones L M s is.lies sound;
+      sound = λ state. booted-state L M is.lies s state;
+      reads = λ state. sound_state_reads_zones L M s is.lies state;
     }
 
     pub boot_is : (layout : List Zone) (mem : ℕ) (s : OffState) → StandsOff layout mem v s

@@ -2,7 +2,7 @@
 use Rattle.std.specs.Prelude.{◌≡◌, ℕ, List, slice_get, Some}
 use Rattle.zone_spec.specs.declared.Zone.{Zone}
 use Rattle.zone_spec.specs.Records.{Saved}
-use Rattle.session_spec.specs.States.{OffZone, OffState, Off}
+use Rattle.session_spec.specs.States.{OffZone, OffState, Off, Live}
 use Rattle.session_spec.specs.Boot.{booted}
 use Rattle.session_spec.specs.Report.{ZoneReport, report}
 use Rattle.session_spec.specs.Erasures.{saved_logs}
@@ -14,12 +14,14 @@ use Rattle.session_spec.specs.BootPart.{boot_parted, boot_made}
 use Rattle.ram_core.specs.LiveSeen.{LiveSeen, StandsLive}
 use Rattle.ram_core.specs.OffSeen.{OffSeen, StandsOff}
 
--- the live state, the saved logs and the report are those of a boot, and each zone of a sound state reads as it must
+-- the live state, the saved logs and the report are those of a boot; a sound state stays sound, and each of its zones
+-- reads as it must
 pub record Booted (layout : List Zone) (mem : ℕ) (s : OffState) (after : LiveSeen) (saved : List Saved)
     (told : List ZoneReport) : Type 0 where
   pub live : StandsLive layout mem after (booted layout s)
   pub logs : saved ≡ saved_logs layout (booted layout s)
   pub reports : told ≡ report layout s
+  pub sound : IsState layout mem (Off s) → IsState layout mem (Live (booted layout s))
   pub reads : IsState layout mem (Off s) → EachOffZone layout s ReadsZone
 
 -- what a cut boot leaves of the i-th zone: its own of the stores made; what it reads; what is known of it; and, of a

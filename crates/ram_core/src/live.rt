@@ -19,6 +19,7 @@ ghost use Rattle.session_spec.specs.Stop.{stopped as stopped_state, live_image};
 ghost use Rattle.std.specs.Vec.{vec_capacity};
 ghost use Rattle.ram_core.specs.Stopped.{stop_zone};
 ghost use Rattle.ram_core.specs.OffSeen.{StandsOff};
+ghost use Rattle.ram_core.specs.Running.{IsRunning};
 ghost use Rattle.ram_core.specs.LiveSeen.{StandsLive, Leaves, ChangesZone, StoresNext, IsLeftAt, RingOf};
 
 use crate::coders::Coders;
@@ -444,8 +445,9 @@ impl Live {
         }
     }
 
-    /// Tells whether a flight stands in a zone.
+    /// Tells whether a flight stands in a zone. A live machine stands for a sound state, whatever was done with it.
     pub fn flies(&self, zone: ZoneName) -> Result<bool, Refusal>
+        ensures sound { IsRunning self.now }
         ensures flies { IfOk result (λ flies. (layout : List Zone) (mem : ℕ) (s : LiveState)
             → StandsLive layout mem self.now s
             → option_map (λ (t : Target). is_some t.live.flight) (target layout s zone) ≡ Some flies) }

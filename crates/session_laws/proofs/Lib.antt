@@ -8,6 +8,7 @@ pub mod PartedStates
 pub mod Operations
 pub mod Sessions
 pub mod Logs
+pub mod Merged
 pub mod Listed
 pub mod CutBoot
 pub mod Boots

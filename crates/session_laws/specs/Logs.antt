@@ -1,5 +1,6 @@
 -- Where the bytes of logs and records come from
 use Rattle.std.specs.Prelude.{◌≡◌, ◌≢◌, ℕ, ◌+◌, ◌/◌, ◌%◌, List, [], ◌∷◌, ◌++◌, length, slice_get, slice_index, Contains, MatchOption, Some}
+use Rattle.std.specs.List.{AllByRecursion, fold}
 use Rattle.zone_spec.specs.declared.Zone.{Zone}
 use Rattle.zone_spec.specs.declared.State.TheVariants.{Unsigned, Found}
 use Rattle.code_spec.specs.Code.{nearest}
@@ -7,6 +8,7 @@ use Rattle.zone_spec.specs.Zones.{IsValidZone}
 use Rattle.zone_spec.specs.Parts.{Block, part_word}
 use Rattle.zone_spec.specs.PartReadings.{part_reading, words_read}
 use Rattle.zone_spec.specs.Reading.{zone_reading, log_places, blocks_below}
+use Rattle.zone_spec.specs.Ftrace.{entries, merge}
 use Rattle.zone_spec.specs.Records.{Saved, listed_of, found}
 
 -- each byte of a log is that of its block's nearest codeword, or stands in the image, in a block that is
@@ -34,3 +36,12 @@ UnsignedAddsNothing = (z : Zone) (now : List ℕ) → (words_read z now).sig ≢
 abbrev pub NotFoundAddsNothing : Type 0
 NotFoundAddsNothing = (before behind : List Saved) (zone : Saved) → found zone.1 ≡ []
     → listed_of (before ++ (zone ∷ behind)) ≡ listed_of (before ++ behind)
+
+-- a group of 24 bytes of one of these logs
+abbrev pub IsEntryOf : List (List ℕ) → List ℕ → Type 0
+IsEntryOf logs entry = (log : List ℕ) × Contains logs log × Contains (entries log) entry
+
+-- each entry of merged ftrace logs is one of a log's
+abbrev pub MergedEntriesCome : Type 0
+MergedEntriesCome = (logs : List (List ℕ)) → AllByRecursion (IsEntryOf logs)
+    (fold (λ (all : List (List ℕ)) (log : List ℕ). merge all (entries log)) [] logs)

@@ -3,7 +3,7 @@
 #![tactic(auto)]
 
 ghost use Rattle.session_laws.specs.Sessions.{ImageIsZonesAndRest, FreshIsSound, OperationsKeepStatesSound, StatesAreSound, AppendsTellLastBytes, UndamagedReadsTold, FlipChangesOneByte};
-ghost use Rattle.session_laws.specs.Logs.{LogBytesCome, UnsignedAddsNothing, NotFoundAddsNothing};
+ghost use Rattle.session_laws.specs.Logs.{LogBytesCome, UnsignedAddsNothing, NotFoundAddsNothing, MergedEntriesCome};
 ghost use Rattle.session_laws.specs.Listed.{ListedIsFound};
 ghost use Rattle.session_laws.specs.Boots.{VerdictIsExact, ReportIsExact, CutZonesRead};
 ghost use Rattle.session_laws.specs.ZoneReads.{SoundStateReadsZones};
@@ -59,6 +59,11 @@ pub fn unsigned_adds_nothing()
 /// A zone that was not found adds nothing to the records.
 pub fn not_found_adds_nothing()
     ensures { NotFoundAddsNothing }
+{}
+
+/// Each entry of merged ftrace logs is a group of 24 bytes of one of the logs.
+pub fn merged_entries_come()
+    ensures { MergedEntriesCome }
 {}
 
 /// A name is listed exactly where a record is found by it.

@@ -242,7 +242,7 @@ fold_sound layout mem (line ∷ lines) r lies sound fit =
     (on_sound layout mem r r.refused (line_done layout r.session r.kernel line) sound
     (λ d h. line_sound layout mem r.session r.kernel line d lies sound fit.0 h)) fit.1
 
-take_fit : (k : ℕ) (lines : List Line) → AllHaveFields lines → AllHaveFields (take k lines)
+pub take_fit : (k : ℕ) (lines : List Line) → AllHaveFields lines → AllHaveFields (take k lines)
 take_fit zero lines fit = tt
 take_fit (suc k) [] fit = tt
 take_fit (suc k) (line ∷ lines) fit = (fit.0, take_fit k lines fit.1)

@@ -1,5 +1,8 @@
-use Rattle.history_laws.proofs.Told.{headline as law}
+use Rattle.history_laws.proofs.Told.{headline as law, cuts_are_reported}
 use Rattle.history_laws.proofs.headline.Goals as goal
 
-pub returns : goal.returns
-returns c = law
+pub returns-clause-written : goal.returns-clause-written
+returns-clause-written c = law
+
+pub returns-clause-reported : goal.returns-clause-reported
+returns-clause-reported c = cuts_are_reported
