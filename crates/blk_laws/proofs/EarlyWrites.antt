@@ -6,9 +6,9 @@ use Rattle.blk_spec.specs.declared.BlkZone.{BlkZone}
 use Rattle.blk_spec.specs.declared.BlkWords.{BlkWords}
 use Rattle.blk_spec.specs.declared.BlkCut.{BlkCut}
 use Rattle.blk_spec.specs.Layout.{ring_zone, capacity}
-use Rattle.blk_spec.specs.Writes.{Write, after_writes, first_bytes, bytes_in, through, spent}
+use Rattle.blk_spec.specs.Writes.{Write, after_writes, store_after, first_bytes, bytes_in, through, spent}
 use Rattle.blk_spec.specs.Rings.{kept_writes, append_writes, first_run}
-use Rattle.blk_spec.specs.Answers.{FailsWithin}
+use Rattle.blk_spec.specs.Answers.{Device, FailsWithin}
 use Rattle.blk_spec.specs.States.{BlkState, ring_of, append_of}
 use Rattle.blk_spec.specs.Session.{call_after}
 use Rattle.blk_laws.specs.Sessions.{IsEarly}
@@ -42,10 +42,12 @@ append-first z words payload = by-payload (length payload == 0)
     by-payload false h = h
 
 fault-early : (b new : BlkState) (ring : BlkRing) (payload before now : List ℕ)
-    (fault : FailsWithin (append_of b ring payload) b.cut new.cut (Some before) (Some now)) → fault.made ≡ []
+    (old last : Device)
+    (fault : FailsWithin (append_of b ring payload) (append_of b ring payload) b.cut new.cut old last)
+    → fault.made ≡ []
     → (ring_of b ring).words.size < capacity (ring_zone b.layout ring) → IsEarly b ring payload fault.kept
 unfolding bytes_in first-length
-fault-early b new ring payload before now fault first open-ring =
+fault-early b new ring payload before now old last fault first open-ring =
     let none : bytes_in fault.made ≡ 0 = ap bytes_in first in
     let parts : append_of b ring payload ≡ fault.failed ∷ fault.others =
     fault.parts ∙ ap (λ (ws : List Write). ws ++ fault.failed ∷ fault.others) first in
@@ -65,11 +67,12 @@ fault-early b new ring payload before now fault first open-ring =
 
 pub first-write-faults : FirstWriteFaultsAreHarmless
 unfolding call_after
-first-write-faults b new ring payload before now fault first open-ring state =
+first-write-faults b new ring payload before now old last is ends fault first open-ring state =
     let early : IsEarly b ring payload fault.kept =
-    fault-early b new ring payload before now fault first open-ring in
+    fault-early b new ring payload before now old last fault first open-ring in
     let ws : List Write = append_of b ring payload in
-    let store : now ≡ after_writes (first_bytes fault.kept ws) before = some-same _ _ fault.store in
+    let store : now ≡ after_writes (first_bytes fault.kept ws) before =
+    some-same _ _ (sym ends ∙ fault.store ∙ ap (store_after (first_bytes fault.kept ws)) is) in
     let kept : through b.cut fault.kept ≡ fault.kept = kept-through b.cut fault.kept fault.tried fault.most in
     let cut : new ≡ record b { cut = spent fault.tried b.cut } =
     state ∙ ap (λ (c : BlkCut). record b { cut = c }) fault.cut in (

@@ -11,3 +11,4 @@ pub mod CutSessions
 pub mod Faults
 pub mod Ends
 pub mod EarlyWrites
+pub mod Pieces

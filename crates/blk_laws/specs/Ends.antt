@@ -8,8 +8,8 @@ use Rattle.blk_spec.specs.declared.BlkFault.{BlkFault}
 use Rattle.blk_spec.specs.declared.BlkFault.TheVariants.{NoZone as NoZoneFault, NoRecord as NoRecordFault, StoreFault, Memory}
 use Rattle.blk_spec.specs.declared.Reason.{Reason}
 use Rattle.blk_spec.specs.Layout.{ring_zone, capacity}
-use Rattle.blk_spec.specs.States.{BlkState, append_refusal, append_of, appended, dump_refusal, dump_of, dumped, erase_refusal, erase_of, erased, ring_of}
-use Rattle.blk_spec.specs.Answers.{FailsWithin, Answers, Loads}
+use Rattle.blk_spec.specs.States.{BlkState, append_refusal, append_of, appended, dump_refusal, dump_of, dump_pieces_of, dumped, erase_refusal, erase_of, erased, ring_of}
+use Rattle.blk_spec.specs.Answers.{Device, FailsWithin, Answers, Loads}
 use Rattle.blk_spec.specs.Session.{Session, Operation, Load, Append, Dump, Erase, Cause, NoZone, NoRecord, cause_of, Outcome, Done, Fails, NoMemory, call_after}
 use Rattle.blk_laws.specs.Sessions.{append_call, IsHarmless}
 
@@ -40,24 +40,32 @@ held_after (Err fault) held = held
 -- on a store that tells its bytes
 abbrev pub AnswersAreCalls : Type 0
 AnswersAreCalls =
-    ((r : Result BlkState BlkFault) (l : BlkLayout) (held : Option BlkState) (before now : List ℕ)
-    → IfSome held (λ (b : BlkState). b.layout ≡ l) → Loads r l (Some before) (Some now)
+    ((r : Result BlkState BlkFault) (l : BlkLayout) (held : Option BlkState) (before now : List ℕ) (old last : Device)
+    → old.holds ≡ Some before → last.holds ≡ Some now → IfSome held (λ (b : BlkState). b.layout ≡ l)
+    → Loads r l old last
     → Leaves r l (record { store = before; blk = held }) Load (record { store = now; blk = held_after r held }))
     × ((r : Result Unit BlkFault) (b new : BlkState) (ring : BlkRing) (payload before now : List ℕ)
-    → Answers r (append_refusal b ring) (append_of b ring payload) (appended b ring payload) b new (Some before)
-    (Some now) → Leaves r b.layout (holding before b) (Append ring payload) (holding now new))
+    (old last : Device) → old.holds ≡ Some before → last.holds ≡ Some now
+    → Answers r (append_refusal b ring) (append_of b ring payload) (append_of b ring payload)
+    (appended b ring payload) b new old last
+    → Leaves r b.layout (holding before b) (Append ring payload) (holding now new))
     × ((r : Result Unit BlkFault) (b new : BlkState) (time : BlkTime) (packed : Bool) (reason : Reason)
-    (body before now : List ℕ) → Answers r (dump_refusal b) (dump_of b time packed reason body) (dumped b reason) b new
-    (Some before) (Some now) → Leaves r b.layout (holding before b) (Dump time packed reason body) (holding now new))
-    × ((r : Result Unit BlkFault) (b new : BlkState) (name : BlkName) (before now : List ℕ)
-    → Answers r (erase_refusal b name) (erase_of b name) (erased b name) b new (Some before) (Some now)
+    (body before now : List ℕ) (old last : Device) → old.holds ≡ Some before → last.holds ≡ Some now
+    → Answers r (dump_refusal b) (dump_of b time packed reason body) (dump_pieces_of b time packed reason body)
+    (dumped b reason) b new old last
+    → Leaves r b.layout (holding before b) (Dump time packed reason body) (holding now new))
+    × ((r : Result Unit BlkFault) (b new : BlkState) (name : BlkName) (before now : List ℕ) (old last : Device)
+    → old.holds ≡ Some before → last.holds ≡ Some now
+    → Answers r (erase_refusal b name) (erase_of b name) (erase_of b name) (erased b name) b new old last
     → Leaves r b.layout (holding before b) (Erase (Some name)) (holding now new))
 
 -- a fault within the first write of an append to a ring that is not full is harmless
 abbrev pub FirstWriteFaultsAreHarmless : Type 0
 FirstWriteFaultsAreHarmless =
-    (b new : BlkState) (ring : BlkRing) (payload before now : List ℕ)
-    (fault : FailsWithin (append_of b ring payload) b.cut new.cut (Some before) (Some now)) → fault.made ≡ []
+    (b new : BlkState) (ring : BlkRing) (payload before now : List ℕ) (old last : Device)
+    → old.holds ≡ Some before → last.holds ≡ Some now
+    → (fault : FailsWithin (append_of b ring payload) (append_of b ring payload) b.cut new.cut old last)
+    → fault.made ≡ []
     → (ring_of b ring).words.size < capacity (ring_zone b.layout ring) → new ≡ record b { cut = new.cut }
     → (call_after b.layout (holding before b) (append_call ring payload (Fails fault.kept fault.tried)) ≡ holding now
     new)

@@ -7,9 +7,9 @@ use Rattle.blk_spec.specs.declared.BlkWords.{BlkWords}
 use Rattle.blk_spec.specs.declared.BlkTime.{BlkTime}
 use Rattle.blk_spec.specs.declared.Reason.{Reason}
 use Rattle.blk_spec.specs.Layout.{capacity}
-use Rattle.blk_spec.specs.Writes.{Write, after_writes, first_bytes}
+use Rattle.blk_spec.specs.Writes.{Write, after_writes, bytes_in, first_bytes}
 use Rattle.blk_spec.specs.Rings.{append_writes, words_after, header_write, empty_words}
-use Rattle.blk_spec.specs.Dumps.{dump_writes}
+use Rattle.blk_spec.specs.Dumps.{dump_writes, dump_pieces}
 use Rattle.blk_spec.specs.Reading.{zone_bytes, saved_ring}
 use Rattle.blk_spec.specs.States.{BlkState, loaded}
 use Rattle.blk_spec.specs.Session.{Session, Load, session_after}
@@ -58,3 +58,14 @@ OtherZonesStay =
     (z other : BlkZone) (ws : List Write) (store : List ℕ) (k : ℕ) → z.at + z.size ≤ length store → AreApart z other
     → AreWithin z ws
     → zone_bytes (after_writes (first_bytes k ws) store) other ≡ zone_bytes store other
+
+-- the pieces of a dump have the bytes of its one write, and leave what that one leaves, also where only the first k
+-- bytes reach the store
+abbrev pub DumpPiecesAreOneWrite : Type 0
+DumpPiecesAreOneWrite =
+    (z : BlkZone) (time : BlkTime) (packed : Bool) (counter : ℕ) (reason : Reason) (body : List ℕ)
+    → (bytes_in (dump_pieces z time packed counter reason body)
+    ≡ bytes_in (dump_writes z time packed counter reason body))
+    × ((k : ℕ) (store : List ℕ) → z.at ≤ length store
+    → after_writes (first_bytes k (dump_pieces z time packed counter reason body)) store
+    ≡ after_writes (first_bytes k (dump_writes z time packed counter reason body)) store)

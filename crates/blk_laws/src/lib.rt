@@ -2,7 +2,7 @@
 #![tactic(auto)]
 
 ghost use Rattle.blk_laws.specs.Rows.{FirstAppend, FullRingAppend, FirstDump, FirstRingRead};
-ghost use Rattle.blk_laws.specs.Laws.{LoadingListsReading, StandingRingIsListed, ErasedRingIsEmpty, AppendKeepsLastBytes, CutAppendListsBefore, CallsWriteWithin, OtherZonesStay};
+ghost use Rattle.blk_laws.specs.Laws.{LoadingListsReading, StandingRingIsListed, ErasedRingIsEmpty, AppendKeepsLastBytes, CutAppendListsBefore, CallsWriteWithin, OtherZonesStay, DumpPiecesAreOneWrite};
 ghost use Rattle.blk_laws.specs.Sessions.{EveryLoadingListsReading, WholeSessionListsTold, EarlyCutListsBefore, HarmlessFaultsListTold, SessionIsCalls};
 ghost use Rattle.blk_laws.specs.Ends.{AnswersAreCalls, FirstWriteFaultsAreHarmless};
 
@@ -41,6 +41,12 @@ pub fn calls_write_within()
 /// Writes within a zone, whole or cut after any byte, leave the bytes of every zone that shares none with it.
 pub fn other_zones_stay()
     ensures { OtherZonesStay }
+{}
+
+/// The pieces of a dump, written one behind the other, leave what its one write leaves, also where the store stops
+/// within them.
+pub fn dump_pieces_are_one_write()
+    ensures { DumpPiecesAreOneWrite }
 {}
 
 /// After any calls, done, refused or failed, a loading lists the reading of the store's bytes as they then stand.

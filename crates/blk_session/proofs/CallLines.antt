@@ -1,5 +1,5 @@
 -- Lines of calls on a loaded store
-use Rattle.std.proofs.Common.{◌≡◌, ℕ, Bool, List, [], Option, Some, None, IfSome, Ok, Err, refl, sym, ap, ◌∙◌, inl}
+use Rattle.std.proofs.Common.{◌≡◌, ℕ, Bool, List, [], Option, Some, None, IfSome, Ok, Err, refl, sym, ap, ◌∙◌, arith, inl, inr}
 use Rattle.box_io.specs.Outside.{Rose}
 use Rattle.zone_spec.specs.declared.ZoneName.{ZoneName}
 use Rattle.blk_spec.specs.declared.BlkLayout.{BlkLayout}
@@ -9,16 +9,18 @@ use Rattle.blk_spec.specs.declared.BlkTime.{BlkTime}
 use Rattle.blk_spec.specs.declared.Reason.{Reason}
 use Rattle.blk_spec.specs.declared.BlkFault.{BlkFault}
 use Rattle.blk_spec.specs.declared.BlkFault.TheVariants.{NoZone as NoZoneThere, NoRecord as NoRecordThere, StoreFault as StoreFaultThere, Memory as MemoryThere}
-use Rattle.blk_spec.specs.Writes.{after_writes, store_after}
+use Rattle.blk_spec.specs.Writes.{after_writes, store_after, bytes_in}
 use Rattle.blk_spec.specs.States.{BlkState, loaded, load_writes, cut_after}
 use Rattle.blk_spec.specs.Session.{Append, AppendElsewhere, Dump as DumpNow, Erase as EraseRecord, cause_of, session_after, load_session}
-use Rattle.blk_spec.specs.Answers.{Loads}
+use Rattle.blk_spec.specs.Answers.{Device, further, HasFront, Loads}
 use Rattle.grammar_spec.specs.declared.line.Line.TheVariants.{Write, Boot, Erase, KDump, CutAfter}
 use Rattle.tool_spec.specs.BlkScripts.{blk_line_done, operation_of, append_to, ring_for, reason_of, blk_named, line_writes}
 use Rattle.tool_spec.specs.declared.Cause.TheVariants.{NoZone, NoRecord}
 use Rattle.blk_session.specs.declared.errors.LineError.TheVariants.{Refused}
-use Rattle.blk_session.specs.Lines.{LineDone, LineFails, error_of}
+use Rattle.blk_session.specs.Lines.{LineDone, IsWantedLine, LineFails, error_of}
 use Rattle.blk_session.proofs.Operations.{line_fails}
+use Rattle.blk_session.proofs.Writes.{load-unasked}
+use Rattle.zone_blk.proofs.Sequences.{none-told, tried-within}
 
 -- ---- which operation a line is
 
@@ -49,7 +51,7 @@ erase_is old text name e = ap (λ (n : Option BlkName). Some (EraseRecord n)) (s
 
 -- ---- lines
 
-pub write_refused : (b : BlkState) (zone : ZoneName) (bytes : List ℕ) (store : Option (List ℕ)) (faults : ℕ)
+pub write_refused : (b : BlkState) (zone : ZoneName) (bytes : List ℕ) (store : Device) (faults : ℕ)
     → None ≡ ring_for zone.kind
     → LineFails (Refused NoZone) b.layout (Some b) (Write zone bytes) store store faults faults
 unfolding cause_of session_after
@@ -57,7 +59,7 @@ write_refused b zone bytes store faults e =
     line_fails b.layout (Some b) (Write zone bytes) AppendElsewhere (write_elsewhere_is (Some b) zone bytes e)
     (Refused NoZone) store store faults faults (refl, λ store. refl)
 
-pub erase_refused : (b : BlkState) (text : List ℕ) (store : Option (List ℕ)) (faults : ℕ)
+pub erase_refused : (b : BlkState) (text : List ℕ) (store : Device) (faults : ℕ)
     → None ≡ blk_named (Some b) text
     → LineFails (Refused NoRecord) b.layout (Some b) (Erase text) store store faults faults
 unfolding cause_of session_after
@@ -65,10 +67,13 @@ erase_refused b text store faults e =
     line_fails b.layout (Some b) (Erase text) (EraseRecord None) (erase_is (Some b) text None e) (Refused NoRecord)
     store store faults faults (refl, λ store. refl)
 
-pub cut_done : (b new : BlkState) (limit : ℕ) (store : Option (List ℕ)) → new ≡ cut_after b limit
+pub cut_done : (b new : BlkState) (limit : ℕ) (store : Device) → new ≡ cut_after b limit
     → LineDone b.layout (Some b) (CutAfter limit) (Some new) [] store store
 unfolding blk_line_done operation_of cause_of session_after
-cut_done b new limit store e bytes told = record { after = bytes; holds = told; done = rw e refl }
+cut_done b new limit store e = record {
+  told = λ bytes told. record { after = bytes; holds = told; done = rw e refl };
+  asks = record { unwritten = λ none. refl; unread = λ other. refl };
+}
 
 -- ---- a loading
 
@@ -85,27 +90,61 @@ unfolding operation_of
 load_line layout None h = refl
 load_line layout (Some b) h = rw h refl
 
-pub load_done : (layout : BlkLayout) (b : BlkState) (before now : Option (List ℕ)) → Loads (Ok b) layout before now
-    → (old : Option BlkState) → IfSome old (λ b. b.layout ≡ layout) → LineDone layout old Boot (Some b) [] before now
-load_done layout b before now l old h bytes told =
-    let same : b ≡ loaded layout bytes = rw told at l.1 in
-    record {
-      after = after_writes (load_writes layout) bytes;
-      holds = l.2 ∙ ap (store_after (load_writes layout)) told;
-      done = loads layout old bytes h ∙ rw same refl;
-    }
+load_wanted : (layout : BlkLayout) (old : Option BlkState) → IfSome old (λ b. b.layout ≡ layout)
+    → IsWantedLine layout old Boot
+load_wanted layout old h = λ bytes. record {
+  wants = record { session = load_session layout bytes; text = [] };
+  is = loads layout old bytes h;
+}
 
-pub load_fails : (layout : BlkLayout) (fault : BlkFault) (before now : Option (List ℕ)) (faults later : ℕ)
+pub load_done : (layout : BlkLayout) (b : BlkState) (before now : Device) → Loads (Ok b) layout before now
+    → (old : Option BlkState) → IfSome old (λ b. b.layout ≡ layout) → LineDone layout old Boot (Some b) [] before now
+load_done layout b before now l old h = record {
+  told = λ bytes told.
+      let same : b ≡ loaded layout bytes = rw told at l.1 in
+      record {
+        after = after_writes (load_writes layout) bytes;
+        holds = l.2 ∙ ap (store_after (load_writes layout)) told;
+        done = loads layout old bytes h ∙ rw same refl;
+      };
+  asks = record {
+    unwritten = λ e. l.3 ∙ ap (λ n. further n before.writes)
+        (load-unasked layout (ap bytes_in (sym (load_line layout old h)) ∙ e));
+    unread = λ other. absurd (other refl);
+  };
+}
+
+-- the store failed within a loading
+load_faults : (layout : BlkLayout) (before now : Device) → Loads (Err StoreFaultThere) layout before now
+    → HasFront (load_writes layout) before.holds now.holds
+    × (bytes_in (load_writes layout) ≡ 0 → now.writes ≡ before.writes)
+load_faults layout before now (inl quiet) = (
+  record { kept = 0; within = omega arith; store = quiet.0 ∙ none-told (load_writes layout) before.holds },
+  λ e. quiet.1,
+)
+load_faults layout before now (inr f) =
+    let tried = tried-within f.made f.others (load_writes layout) f.failed f.tried f.parts f.within in (
+      record { kept = f.kept; within = omega (arith, f.most, tried); store = f.store },
+      λ e. absurd (omega (arith, e, f.some, tried)),
+    )
+
+pub load_fails : (layout : BlkLayout) (fault : BlkFault) (before now : Device) (faults later : ℕ)
     → Loads (Err fault) layout before now → (fault ≡ StoreFaultThere → Rose faults later)
     → (old : Option BlkState) → IfSome old (λ b. b.layout ≡ layout)
     → LineFails (error_of fault) layout old Boot before now faults later
 load_fails layout NoZoneThere before now faults later l rose old h = absurd l
 load_fails layout NoRecordThere before now faults later l rose old h = absurd l
-load_fails layout MemoryThere before now faults later l rose old h = l
-load_fails layout StoreFaultThere before now faults later l rose old h = (
-  rose refl,
-  rw (load_line layout old h) l,
-  λ bytes. record
-      { wants = record { session = load_session layout bytes; text = [] }; is = loads layout old bytes h },
-  inl refl,
-)
+load_fails layout MemoryThere before now faults later l rose old h = (l, tt, load_wanted layout old h)
+load_fails layout StoreFaultThere before now faults later l rose old h =
+    let f = load_faults layout before now l in (
+      rose refl,
+      record {
+        front = rw (load_line layout old h) f.0;
+        wanted = load_wanted layout old h;
+        needs = inl refl;
+        asks = record {
+          unwritten = λ e. f.1 (ap bytes_in (sym (load_line layout old h)) ∙ e);
+          unread = λ other. absurd (other refl);
+        };
+      },
+    )

@@ -1,13 +1,14 @@
 -- Lines that put a text, that wait for a loading, that are of the other store alone, or do nothing
 use Rattle.std.specs.Bool.{⊤}
 use Rattle.std.specs.Global.{Vec}
-use Rattle.std.specs.Prelude.{MatchResult}
+use Rattle.std.specs.Prelude.{MatchResult, IsSome}
 use Rattle.std.specs.Option.{option_map}
 use Rattle.std.proofs.Common.{◌≡◌, ◌≢◌, ℕ, ◌<◌, ◌^◌, Bool, true, List, [], Option, Some, None, Result, Ok, Err, refl, sym, ap, ◌∙◌}
 use Rattle.zone_spec.specs.declared.ZoneName.{ZoneName}
 use Rattle.blk_spec.specs.declared.BlkLayout.{BlkLayout}
 use Rattle.blk_spec.specs.declared.BlkName.{BlkName}
 use Rattle.blk_spec.specs.declared.BlkRing.{BlkRing}
+use Rattle.blk_spec.specs.Answers.{Device}
 use Rattle.blk_spec.specs.States.{BlkState, is_listed}
 use Rattle.blk_spec.specs.Session.{Session, Extract as ExtractRecord, cause_of, session_after}
 use Rattle.grammar_spec.specs.Printed.{HasFields}
@@ -18,19 +19,51 @@ use Rattle.tool_spec.specs.declared.Cause.{Cause}
 use Rattle.tool_spec.specs.declared.Cause.TheVariants.{IsOff, NotHere, NoRecord}
 use Rattle.blk_session.specs.declared.errors.LineError.{LineError}
 use Rattle.blk_session.specs.declared.errors.LineError.TheVariants.{Memory, StoreFault, Refused}
-use Rattle.blk_session.specs.Lines.{LineDone, LineFails, IsExtract}
-use Rattle.blk_session.proofs.Operations.{line_done, line_fails}
+use Rattle.blk_session.specs.Lines.{LineAsks, LineDone, IsWanted, LineFails, IsExtract}
+use Rattle.blk_session.proofs.Operations.{as_operation, line_done, line_fails}
 use Rattle.blk_session.proofs.Named.{named_listed}
 
-pub blank_done : (layout : BlkLayout) (old : Option BlkState) (store : Option (List ℕ))
+unasked : (layout : BlkLayout) (old : Option BlkState) (line : Line) (store : Device)
+    → LineAsks layout old line store store
+unasked layout old line store = record { unwritten = λ none. refl; unread = λ other. refl }
+
+pub blank_done : (layout : BlkLayout) (old : Option BlkState) (store : Device)
     → LineDone layout old Blank old [] store store
 unfolding blk_line_done
-blank_done layout old store bytes told = record { after = bytes; holds = told; done = refl }
+blank_done layout old store = record {
+  told = λ bytes told. record { after = bytes; holds = told; done = refl };
+  asks = unasked layout old Blank store;
+}
 
-pub list_done : (b : BlkState) (text : List ℕ) (store : Option (List ℕ)) → text ≡ blk_listing b
+-- the same of a line that is known to be blank, or to load, and of a text that is known
+pub blank_line : (layout : BlkLayout) (old : Option BlkState) (line : Line) (text : List ℕ) (store : Device)
+    → line ≡ Blank → text ≡ [] → LineDone layout old line old text store store
+blank_line layout old line text store e t = rw (e, t) (blank_done layout old store)
+
+pub boot_line : (layout : BlkLayout) (old new : Option BlkState) (line : Line) (text : List ℕ) (before now : Device)
+    → line ≡ Boot → text ≡ [] → LineDone layout old Boot new [] before now
+    → LineDone layout old line new text before now
+boot_line layout old new line text before now e t h = rw (e, t) h
+
+pub list_done : (b : BlkState) (text : List ℕ) (store : Device) → text ≡ blk_listing b
     → LineDone b.layout (Some b) ListLine (Some b) text store store
 unfolding blk_line_done operation_of cause_of session_after
-list_done b text store e bytes told = record { after = bytes; holds = told; done = rw e refl }
+list_done b text store e = record {
+  told = λ bytes told. record { after = bytes; holds = told; done = rw e refl };
+  asks = unasked b.layout (Some b) ListLine store;
+}
+
+pub list_memory : (b : BlkState) (store : Device) (faults : ℕ)
+    → LineFails Memory b.layout (Some b) ListLine store store faults faults
+unfolding blk_line_done operation_of cause_of session_after
+list_memory b store faults = (
+  (refl, refl),
+  tt,
+  λ bytes. record {
+    wants = record { session = record { store = bytes; blk = Some b }; text = blk_listing b };
+    is = refl;
+  },
+)
 
 -- ---- the text of a record
 
@@ -45,7 +78,7 @@ extracts : (b : BlkState) (name : BlkName) (bytes : List ℕ) → is_listed b na
 unfolding cause_of session_after
 extracts b name bytes e = rw e refl
 
-pub extract_done : (b : BlkState) (name text : List ℕ) (store : Option (List ℕ))
+pub extract_done : (b : BlkState) (name text : List ℕ) (store : Device)
     → option_map (blk_extract_text b) (blk_named (Some b) name) ≡ Some text
     → LineDone b.layout (Some b) (Extract name) (Some b) text store store
 extract_done b name text store h = of-named (blk_named (Some b) name) refl h
@@ -58,14 +91,31 @@ extract_done b name text store h = of-named (blk_named (Some b) name) refl h
         let told : blk_extract_text b n ≡ text = cc in
         line_done b.layout (Some b) (Extract name) (ExtractRecord (Some n)) (extract_is (Some b) name (Some n) e)
         (Some b) text store store
-        (λ bytes held. record {
-          after = bytes;
-          holds = held;
-          done = extracts b n bytes (named_listed b name n (sym e))
-              ∙ ap (λ (t : List ℕ). Ok (record { session = record { store = bytes; blk = Some b }; text = t })) told;
+        (record {
+          told = λ bytes held. record {
+            after = bytes;
+            holds = held;
+            done = extracts b n bytes (named_listed b name n (sym e))
+                ∙ ap (λ (t : List ℕ). Ok (record { session = record { store = bytes; blk = Some b }; text = t })) told;
+          };
+          asks = record { unwritten = λ none. refl; unread = refl };
         })
 
-pub extract_refused : (b : BlkState) (name : List ℕ) (cause : Cause) (store : Option (List ℕ)) (faults : ℕ)
+pub extract_memory : (b : BlkState) (name : List ℕ) (store : Device) (faults : ℕ)
+    → IsSome (blk_named (Some b) name) → LineFails Memory b.layout (Some b) (Extract name) store store faults faults
+extract_memory b name store faults h =
+    ((refl, refl), tt, λ bytes. of-named bytes (blk_named (Some b) name) refl h)
+  where
+    of-named : (bytes : List ℕ) (found : Option BlkName) → found ≡ blk_named (Some b) name → IsSome found
+        → IsWanted (blk_line_done b.layout (record { store = bytes; blk = Some b }) (Extract name))
+    of-named bytes None e m = cc
+    of-named bytes (Some n) e m = record {
+      wants = record { session = record { store = bytes; blk = Some b }; text = blk_extract_text b n };
+      is = as_operation b.layout (record { store = bytes; blk = Some b }) (Extract name) (ExtractRecord (Some n))
+          (extract_is (Some b) name (Some n) e) ∙ extracts b n bytes (named_listed b name n (sym e));
+    }
+
+pub extract_refused : (b : BlkState) (name : List ℕ) (cause : Cause) (store : Device) (faults : ℕ)
     → (cause ≡ NoRecord) × (blk_named (Some b) name ≡ None)
     → LineFails (Refused cause) b.layout (Some b) (Extract name) store store faults faults
 unfolding cause_of session_after
@@ -73,12 +123,12 @@ extract_refused b name cause store faults h =
     line_fails b.layout (Some b) (Extract name) (ExtractRecord None) (extract_is (Some b) name None (sym h.1))
     (Refused cause) store store faults faults (refl, λ bytes. rw h.0 refl)
 
-pub extract_ends : (result : Result (Vec ℕ) LineError) (b : BlkState) (name : List ℕ) (store : Option (List ℕ))
+pub extract_ends : (result : Result (Vec ℕ) LineError) (b : BlkState) (name : List ℕ) (store : Device)
     (faults : ℕ) → IsExtract b name result
     → MatchResult result (λ text. LineDone b.layout (Some b) (Extract name) (Some b) text.items store store)
     (λ e. LineFails e b.layout (Some b) (Extract name) store store faults faults)
 extract_ends (Ok text) b name store faults h = extract_done b name text.items store h
-extract_ends (Err Memory) b name store faults h = refl
+extract_ends (Err Memory) b name store faults h = extract_memory b name store faults h
 extract_ends (Err StoreFault) b name store faults h = absurd h
 extract_ends (Err (Refused cause)) b name store faults h = extract_refused b name cause store faults h
 
@@ -165,7 +215,7 @@ elsewhere_line layout session (Extract b) h = absurd h
 elsewhere_line layout session (Erase b) h = absurd h
 elsewhere_line layout session Boot h = absurd h
 
-pub elsewhere : (layout : BlkLayout) (old : Option BlkState) (line : Line) (store : Option (List ℕ)) (faults : ℕ)
+pub elsewhere : (layout : BlkLayout) (old : Option BlkState) (line : Line) (store : Device) (faults : ℕ)
     → IsElsewhere line → LineFails (Refused NotHere) layout old line store store faults faults
 elsewhere layout old line store faults h = (
   refl,

@@ -11,8 +11,9 @@ use Rattle.blk_spec.specs.States.{BlkState}
 use Rattle.blk_spec.specs.Session.{Session}
 use Rattle.grammar_spec.specs.Fields.{Text}
 use Rattle.grammar_spec.specs.declared.line.Line.{Line}
-use Rattle.blk_spec.specs.Answers.{HasFront}
-use Rattle.tool_spec.specs.BlkScripts.{BlkDone, BlkRan, blk_ran, blk_ran_on, blk_next_line, blk_started, blk_line_done, line_writes}
+use Rattle.blk_spec.specs.Writes.{bytes_in}
+use Rattle.blk_spec.specs.Answers.{Device, HasFront}
+use Rattle.tool_spec.specs.BlkScripts.{BlkDone, BlkRan, blk_ran, blk_ran_on, blk_next_line, blk_started, blk_line_done, line_writes, WriteNothing}
 use Rattle.tool_spec.specs.Answers.{front, whole}
 use Rattle.tool_spec.specs.BlkAnswers.{StopsAt, LinesEnd}
 use Rattle.tool_spec.specs.Ends.{End}
@@ -85,19 +86,20 @@ on_refused r c next cause e h = rw (e, h) refl
 pub record PlaysTo (layout : BlkLayout) (bytes : List ℕ) (lines : List Line) (i : ℕ) (blk : Option BlkState)
     (a b : Seen) : Type 0 where
   pub store : List ℕ
-  pub holds : b.holds ≡ Some store
+  pub holds : b.store.holds ≡ Some store
   pub session : (blk_ran layout bytes (take i lines)).session ≡ record { store = store; blk = blk }
   pub none : (blk_ran layout bytes (take i lines)).refused ≡ None
   pub count : length (blk_ran layout bytes (take i lines)).texts ≡ i
   pub texts : Appends a.given b.given (whole (blk_ran layout bytes (take i lines)).texts)
+  pub unwritten : WriteNothing layout bytes lines → b.store.writes ≡ a.store.writes
 
 abbrev pub PlaysSoFar : BlkLayout → List Line → ℕ → Option BlkState → Seen → Seen → Type 0
-PlaysSoFar layout lines i blk a b = (bytes : List ℕ) → a.holds ≡ Some bytes → PlaysTo layout bytes lines i blk a b
+PlaysSoFar layout lines i blk a b = (bytes : List ℕ) → a.store.holds ≡ Some bytes → PlaysTo layout bytes lines i blk a b
 
 -- how the lines end from one moment to another, where the store tells its bytes
 abbrev pub Plays : End → BlkLayout → List Line → Seen → Seen → Type 0
-Plays e layout lines a b = (bytes : List ℕ) → a.holds ≡ Some bytes
-    → LinesEnd e layout bytes lines a.given b.given b.holds
+Plays e layout lines a b = (bytes : List ℕ) → a.store.holds ≡ Some bytes
+    → LinesEnd e layout bytes lines a.given b.given b.store.holds
 
 pub plays_none : (layout : BlkLayout) (lines : List Line) (a : Seen) → PlaysSoFar layout lines 0 None a a
 plays_none layout lines a bytes told = record {
@@ -107,6 +109,7 @@ plays_none layout lines a bytes told = record {
   none = refl;
   count = refl;
   texts = nothing_put a.given;
+  unwritten = λ none. refl;
 }
 
 module _ (layout : BlkLayout) (bytes : List ℕ) (lines : List Line) (i : ℕ) (line : Line) (below : i < length lines)
@@ -144,10 +147,27 @@ module _ (layout : BlkLayout) (bytes : List ℕ) (lines : List Line) (i : ℕ) (
         → length (blk_ran layout bytes (take (i + 1) lines)).texts ≡ i + 1
     one_more d g = rw (done_at d g) (omega (arith, length-append so_far.texts (d.text ∷ []), p.count))
 
+    -- the line is found at its place, and is done if it is not refused
+    line_at : slice_get lines i ≡ Some line
+    line_at = slice_get_read lines (length lines) i line refl below is
+
+    in_all : (d : BlkDone) → blk_line_done layout (record { store = p.store; blk = blk }) line ≡ Ok d
+        → i < length (blk_ran layout bytes lines).texts
+    in_all d g = omega (
+      arith,
+      one_more d g,
+      no_more (blk_ran layout bytes (take (i + 1) lines)).texts
+          (blk_ran layout bytes lines).texts (extends_ran layout bytes lines (i + 1)),
+    )
+
+    writes_none : i < length (blk_ran layout bytes lines).texts → WriteNothing layout bytes lines
+        → bytes_in (line_writes layout blk line) ≡ 0
+    writes_none done none = rw p.session at (none i line done line_at)
+
     pub on_next : (next : Option BlkState) (c : Seen) → Puts layout blk line next b c
         → PlaysTo layout bytes lines (i + 1) next a c
     on_next next c puts =
-        let l = puts.done p.store p.holds in
+        let l = puts.done.told p.store p.holds in
         let d : BlkDone = record { session = record { store = l.after; blk = next }; text = puts.text } in
         let e = done_at d l.done in
         record {
@@ -158,41 +178,39 @@ module _ (layout : BlkLayout) (bytes : List ℕ) (lines : List Line) (i : ℕ) (
           count = one_more d l.done;
           texts = rw (e, whole_more so_far.texts puts.text) (appends_on a.given b.given c.given (whole so_far.texts)
               puts.text p.texts puts.put);
+          unwritten = λ none. puts.done.asks.unwritten (writes_none (in_all d l.done) none) ∙ p.unwritten none;
         }
-
-    -- the line is found at its place
-    line_at : slice_get lines i ≡ Some line
-    line_at = slice_get_read lines (length lines) i line refl below is
 
     pub on_stop : (stop : Stop) (c : Seen) → LineStops stop layout blk line (i + 1) b c
-        → StopsAt stop layout bytes lines a.given c.given c.holds
+        → StopsAt stop layout bytes lines a.given c.given c.store.holds
     on_stop Memory c h =
-        record {
-          text = front (blk_ran layout bytes lines).texts i;
-          stops = record {
-            count = i;
-            texts = refl;
-            holds = h.1 ∙ p.holds ∙ ap (λ (s : Session). Some s.store) (sym p.session);
-          };
-          put = rw (h.0, ← p.count, prefix_front layout bytes lines i) p.texts;
-        }
-    on_stop ImageFault c h =
         let w = h.1.2 p.store in
-        let f : HasFront (line_writes layout (blk_ran layout bytes (take i lines)).session.blk line)
-        (Some (blk_ran layout bytes (take i lines)).session.store) c.holds = rw (p.session, ← p.holds) h.1.1 in
         record {
           text = front (blk_ran layout bytes lines).texts i;
           stops = record {
             count = i;
             line = line;
             next = line_at;
-            wanted = omega (
-              arith,
-              one_more w.wants w.is,
-              no_more (blk_ran layout bytes (take (i + 1) lines)).texts
-                  (blk_ran layout bytes lines).texts (extends_ran layout bytes lines (i + 1)),
-            );
-            needs = rw p.session h.1.3;
+            wanted = in_all w.wants w.is;
+            takes = h.1.1;
+            texts = refl;
+            holds = h.1.0.0 ∙ p.holds ∙ ap (λ (s : Session). Some s.store) (sym p.session);
+          };
+          put = rw (h.0, ← p.count, prefix_front layout bytes lines i) p.texts;
+        }
+    on_stop ImageFault c h =
+        let w = h.1.1.wanted p.store in
+        let f : HasFront (line_writes layout (blk_ran layout bytes (take i lines)).session.blk line)
+        (Some (blk_ran layout bytes (take i lines)).session.store) c.store.holds = rw (p.session, ← p.holds)
+        h.1.1.front in
+        record {
+          text = front (blk_ran layout bytes lines).texts i;
+          stops = record {
+            count = i;
+            line = line;
+            next = line_at;
+            wanted = in_all w.wants w.is;
+            needs = rw p.session h.1.1.needs;
             texts = refl;
             kept = f.kept;
             within = f.within;
@@ -201,7 +219,7 @@ module _ (layout : BlkLayout) (bytes : List ℕ) (lines : List Line) (i : ℕ) (
           put = rw (h.0, ← p.count, prefix_front layout bytes lines i) p.texts;
         }
     on_stop SinkFault c h =
-        let l = h.1.done p.store p.holds in
+        let l = h.1.done.told p.store p.holds in
         let d : BlkDone = record { session = record { store = l.after; blk = h.1.new }; text = h.1.text } in
         let e = done_at d l.done in
         record {
@@ -226,7 +244,7 @@ module _ (layout : BlkLayout) (bytes : List ℕ) (lines : List Line) (i : ℕ) (
           stops = record {
             end = rw (e, h.0, p.count) refl;
             texts = refl;
-            holds = h.2.0 ∙ p.holds ∙ ap (λ (s : Session). Some s.store) (sym p.session)
+            holds = ap (λ (d : Device). d.holds) h.2.0 ∙ p.holds ∙ ap (λ (s : Session). Some s.store) (sym p.session)
                 ∙ ap (λ (r : BlkRan). Some r.session.store) (sym e);
           };
           put = rw (e, h.1) p.texts;
@@ -240,6 +258,27 @@ module _ (layout : BlkLayout) (bytes : List ℕ) (lines : List Line) (i : ℕ) (
     on_stop TooLong c h = absurd h
     on_stop (BadLine x) c h = absurd h
 
+    -- and where no line of those that are done writes, a stop leaves the store's count of writes
+    pub stays_on : (stop : Stop) (c : Seen) → LineStops stop layout blk line (i + 1) b c
+        → WriteNothing layout bytes lines → c.store.writes ≡ a.store.writes
+    stays_on Memory c h none = h.1.0.1 ∙ p.unwritten none
+    stays_on ImageFault c h none =
+        let w = h.1.1.wanted p.store in
+        h.1.1.asks.unwritten (writes_none (in_all w.wants w.is) none) ∙ p.unwritten none
+    stays_on SinkFault c h none =
+        let l = h.1.done.told p.store p.holds in
+        let d : BlkDone = record { session = record { store = l.after; blk = h.1.new }; text = h.1.text } in
+        h.1.done.asks.unwritten (writes_none (in_all d l.done) none) ∙ p.unwritten none
+    stays_on (Refused n cause) c h none = ap (λ (d : Device). d.writes) h.2.0 ∙ p.unwritten none
+    stays_on Usage c h none = absurd h
+    stays_on (Param x y) c h none = absurd h
+    stays_on (Layout x) c h none = absurd h
+    stays_on NoSharedZone c h none = absurd h
+    stays_on (Short x y) c h none = absurd h
+    stays_on ScriptFault c h none = absurd h
+    stays_on TooLong c h none = absurd h
+    stays_on (BadLine x) c h none = absurd h
+
 module _ (layout : BlkLayout) (lines : List Line) (i : ℕ) (line : Line) (below : i < length lines)
     (is : line ≡ get_or lines i line) (blk : Option BlkState) (a b : Seen)
     (so_far : PlaysSoFar layout lines i blk a b) where
@@ -250,6 +289,11 @@ module _ (layout : BlkLayout) (lines : List Line) (i : ℕ) (line : Line) (below
   pub plays_stop : (stop : Stop) (c : Seen) → LineStops stop layout blk line (i + 1) b c
       → Plays (Err stop) layout lines a c
   plays_stop stop c h bytes told = on_stop layout bytes lines i line below is blk a b (so_far bytes told) stop c h
+
+  pub plays_unwritten : (stop : Stop) (c : Seen) → LineStops stop layout blk line (i + 1) b c → (bytes : List ℕ)
+      → a.store.holds ≡ Some bytes → WriteNothing layout bytes lines → c.store.writes ≡ a.store.writes
+  plays_unwritten stop c h bytes told none =
+      stays_on layout bytes lines i line below is blk a b (so_far bytes told) stop c h none
 
 pub plays_all : (layout : BlkLayout) (lines : List Line) (i : ℕ) (blk : Option BlkState) (a b : Seen)
     → length lines ≤ i → PlaysSoFar layout lines i blk a b → Plays (Ok tt) layout lines a b

@@ -1,12 +1,16 @@
 -- The first bytes of writes of which first bytes are taken
-use Rattle.std.proofs.Common.{◌≡◌, ℕ, ◌-◌, ◌<◌, ◌≤◌, min, List, [], ◌∷◌, length, take, refl, sym, ap, ◌∙◌, arith, length-take}
+use Rattle.std.proofs.Common.{◌≡◌, ℕ, ◌+◌, ◌-◌, ◌<◌, ◌≤◌, ◌==◌, min, Bool, true, false, if◌then◌else◌, List, [], ◌∷◌, ◌++◌, length, take, refl, sym, ap, ◌∙◌, arith, length-take}
 use Rattle.std.proofs.lemmas.List.{take-take}
-use Rattle.std.specs.Prelude.{Option}
 use Rattle.blk_spec.specs.declared.BlkCut.{BlkCut}
 use Rattle.blk_spec.specs.declared.BlkCut.TheVariants.{Uncut, After, Dropped}
-use Rattle.blk_spec.specs.Writes.{Write, store_after, bytes_in, first_bytes, through, reaching}
-use Rattle.blk_spec.specs.Answers.{FailsWithin, HasFront}
-use Rattle.zone_blk.proofs.Effects.{through-within}
+use Rattle.blk_spec.specs.declared.BlkLayout.{BlkLayout}
+use Rattle.blk_spec.specs.declared.BlkRing.TheVariants.{Console, Pmsg}
+use Rattle.blk_spec.specs.Layout.{ring_zone}
+use Rattle.blk_spec.specs.Rings.{header_write, empty_words}
+use Rattle.blk_spec.specs.States.{load_writes}
+use Rattle.blk_spec.specs.Writes.{Write, store_after, bytes_in, first_bytes, through, reaching, spent, asks_of}
+use Rattle.blk_spec.specs.Answers.{Device, further, Makes, FailsWithin, HasFront}
+use Rattle.zone_blk.proofs.Effects.{through-within, through-more}
 use Rattle.zone_blk.proofs.Sequences.{tried-within}
 
 first-first : (k m : ℕ) (ws : List Write) → k ≤ m → first_bytes k (first_bytes m ws) ≡ first_bytes k ws
@@ -31,28 +35,68 @@ through-all Uncut n m h = h
 through-all (After limit) n m h = omega arith
 through-all Dropped n m h = omega arith
 
--- what a failed call wrote is a front of what reaches the store
-pub front-reached : (c d : BlkCut) (ws : List Write) (before now : Option (List ℕ)) → FailsWithin ws c d before now
-    → HasFront (reaching c ws) before now
-front-reached c d ws before now f =
-    let tried : f.tried ≤ bytes_in ws = tried-within f.made f.others ws f.failed f.tried f.parts f.within in
-    let most : f.kept ≤ through c (bytes_in ws) = omega (arith, f.most, through-all c f.tried (bytes_in ws) tried) in
-    record {
-      kept = f.kept;
-      within = omega (arith, most, bytes-first (through c (bytes_in ws)) ws, through-within c (bytes_in ws));
-      store = f.store ∙ ap (λ (vs : List Write). store_after vs before)
-          (sym (first-first f.kept (through c (bytes_in ws)) ws most));
-    }
+through-few : (c : BlkCut) (n : ℕ) (ws : List Write) → n ≤ bytes_in ws → through c n ≤ bytes_in (reaching c ws)
+through-few c n ws h = omega (
+  arith,
+  through-all c n (bytes_in ws) h,
+  bytes-first (through c (bytes_in ws)) ws,
+  through-within c (bytes_in ws),
+)
 
--- and some byte of it reaches the store
-pub some-reached : (c d : BlkCut) (ws : List Write) (before now : Option (List ℕ)) → FailsWithin ws c d before now
-    → 0 < bytes_in (reaching c ws)
-some-reached c d ws before now f =
-    let tried : f.tried ≤ bytes_in ws = tried-within f.made f.others ws f.failed f.tried f.parts f.within in
-    omega (
+-- writes and their pieces, which have as many bytes
+module _ (c d : BlkCut) (ws pieces : List Write) (same : bytes_in pieces ≡ bytes_in ws) (before now : Device)
+    (f : FailsWithin ws pieces c d before now) where
+  tried : f.tried ≤ bytes_in ws
+  tried = omega (arith, same, tried-within f.made f.others pieces f.failed f.tried f.parts f.within)
+
+  -- what a failed call wrote is a front of what reaches the store
+  pub front-reached : HasFront (reaching c ws) before.holds now.holds
+  front-reached =
+      let most : f.kept ≤ through c (bytes_in ws) = omega (arith, f.most, through-all c f.tried (bytes_in ws) tried) in
+      record {
+        kept = f.kept;
+        within = omega (arith, f.most, through-few c f.tried ws tried);
+        store = f.store ∙ ap (λ (vs : List Write). store_after vs before.holds)
+            (sym (first-first f.kept (through c (bytes_in ws)) ws most));
+      }
+
+  -- and some byte of it reaches the store
+  pub some-reached : 0 < bytes_in (reaching c ws)
+  some-reached = omega (arith, f.some, through-few c f.tried ws tried)
+
+-- pieces of which no byte reaches the store do not ask it
+asks-nothing : (c : BlkCut) (ps : List Write) → through c (bytes_in ps) ≡ 0 → asks_of c ps ≡ 0
+unfolding asks_of bytes_in
+asks-nothing c [] e = refl
+asks-nothing c (p ∷ ps) e =
+    let parts = through-more c (length p.bytes) (bytes_in ps) in
+    let first : through c (length p.bytes) ≡ 0 = omega (arith, e, parts) in
+    let rest : through (spent (length p.bytes) c) (bytes_in ps) ≡ 0 = omega (arith, e, parts) in
+    let one : ◌≡◌ {A = ℕ} (if through c (length p.bytes) == 0 then 0 else 1) 0 = rw first refl in
+    omega (arith, one, asks-nothing (spent (length p.bytes) c) ps rest)
+
+pub made-unasked : (c d : BlkCut) (ws pieces : List Write) → bytes_in pieces ≡ bytes_in ws → (before now : Device)
+    → Makes ws pieces c d before now → bytes_in (reaching c ws) ≡ 0 → now.writes ≡ before.writes
+made-unasked c d ws pieces same before now m e =
+    let none : through c (bytes_in ws) ≡ 0 = omega (
       arith,
-      f.some,
-      through-all c f.tried (bytes_in ws) tried,
+      e,
       bytes-first (through c (bytes_in ws)) ws,
       through-within c (bytes_in ws),
-    )
+    ) in
+    m.asked ∙ ap (λ n. further n before.writes) (asks-nothing c pieces (ap (through c) same ∙ none))
+
+-- a header is never empty
+pub load-unasked : (l : BlkLayout) → bytes_in (load_writes l) ≡ 0 → length (load_writes l) ≡ 0
+unfolding load_writes bytes_in
+load-unasked l e = both (l.pmsg == 0) (l.console == 0) e
+  where
+    rings : Bool → Bool → List Write
+    rings p q = (if p then [] else header_write (ring_zone l Pmsg) empty_words ∷ [])
+        ++ (if q then [] else header_write (ring_zone l Console) empty_words ∷ [])
+
+    both : (p q : Bool) → bytes_in (rings p q) ≡ 0 → length (rings p q) ≡ 0
+    both true true e = refl
+    both true false e = cc
+    both false true e = cc
+    both false false e = cc

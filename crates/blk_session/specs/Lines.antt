@@ -1,5 +1,5 @@
 -- How a line of a script is done on the block store
-use Rattle.std.specs.Prelude.{◌≡◌, ⊤, ℕ, ◌<◌, List, Option, Some, None, Result, Ok, Err}
+use Rattle.std.specs.Prelude.{◌≡◌, ◌≢◌, ⊤, ℕ, ◌<◌, List, Option, Some, None, IsSome, Result, Ok, Err}
 use Rattle.std.specs.Option.{option_map}
 use Rattle.std.specs.Global.{Vec}
 use Rattle.box_io.specs.Outside.{Rose}
@@ -9,11 +9,11 @@ use Rattle.blk_spec.specs.declared.BlkFault.TheVariants.{NoZone as NoZoneThere, 
 use Rattle.blk_spec.specs.Writes.{bytes_in}
 use Rattle.blk_spec.specs.States.{BlkState}
 use Rattle.blk_spec.specs.Session.{Operation}
-use Rattle.blk_spec.specs.Answers.{HasFront}
+use Rattle.blk_spec.specs.Answers.{Device, HasFront, IsUnwritten}
 use Rattle.grammar_spec.specs.Fields.{Text}
 use Rattle.grammar_spec.specs.declared.line.Line.{Line}
-use Rattle.grammar_spec.specs.declared.line.Line.TheVariants.{Write, List as ListLine, Extract, Erase, KDump, CutAfter}
-use Rattle.tool_spec.specs.BlkScripts.{BlkDone, blk_line_done, line_writes, NeedsStore, performs, writes_by, blk_named, blk_extract_text}
+use Rattle.grammar_spec.specs.declared.line.Line.TheVariants.{Write, Boot, List as ListLine, Extract, Erase, KDump, CutAfter}
+use Rattle.tool_spec.specs.BlkScripts.{BlkDone, blk_line_done, line_writes, NeedsStore, TakesMemory, performs, writes_by, blk_named, blk_extract_text}
 use Rattle.tool_spec.specs.declared.Cause.{Cause}
 use Rattle.tool_spec.specs.declared.Cause.TheVariants.{NoZone, NoRecord}
 use Rattle.blk_session.specs.declared.errors.LineError.{LineError}
@@ -26,44 +26,74 @@ pub record IsDone (wanted : Result BlkDone Cause) (new : Option BlkState) (text 
   pub holds : now ≡ Some after
   pub done : wanted ≡ Ok (record { session = record { store = after; blk = new }; text = text })
 
+-- a line of which no byte is to reach the store does not ask it to write, and one that does not load the store does not
+-- fail to read it
+pub record LineAsks (layout : BlkLayout) (old : Option BlkState) (line : Line) (before now : Device) : Type 0 where
+  pub unwritten : bytes_in (line_writes layout old line) ≡ 0 → now.writes ≡ before.writes
+  pub unread : line ≢ Boot → now.read_faults ≡ before.read_faults
+
 -- a line was done, on the bytes that the store told before
-abbrev pub LineDone : BlkLayout → Option BlkState → Line → Option BlkState → Text → Option (List ℕ) → Option (List ℕ)
-    → Type 0
-LineDone layout old line new text before now =
-    (bytes : List ℕ) → before ≡ Some bytes → IsDone (blk_line_done layout (record { store = bytes; blk = old }) line)
-    new text now
+pub record LineDone (layout : BlkLayout) (old : Option BlkState) (line : Line) (new : Option BlkState) (text : Text)
+    (before now : Device) : Type 0 where
+  pub told : (bytes : List ℕ) → before.holds ≡ Some bytes
+      → IsDone (blk_line_done layout (record { store = bytes; blk = old }) line) new text now.holds
+  pub asks : LineAsks layout old line before now
 
 -- what is wanted is not refused
 pub record IsWanted (wanted : Result BlkDone Cause) : Type 0 where
   pub wants : BlkDone
   pub is : wanted ≡ Ok wants
 
--- why a line was not done: a refused one and one without memory leave the store, and where it failed within the line,
--- which needs it, it has some first bytes of what the line writes
-abbrev pub LineFails : LineError → BlkLayout → Option BlkState → Line → Option (List ℕ) → Option (List ℕ) → ℕ → ℕ
-    → Type 0
-LineFails Memory layout old line before now faults faults' = now ≡ before
+-- a line that is not refused, whatever the store's bytes are
+abbrev pub IsWantedLine : BlkLayout → Option BlkState → Line → Type 0
+IsWantedLine layout old line =
+    (bytes : List ℕ) → IsWanted (blk_line_done layout (record { store = bytes; blk = old }) line)
+
+-- the store failed within a line, which needs it: it has some first bytes of what the line writes
+pub record LineFaults (layout : BlkLayout) (old : Option BlkState) (line : Line) (before now : Device) : Type 0 where
+  pub front : HasFront (line_writes layout old line) before.holds now.holds
+  pub wanted : IsWantedLine layout old line
+  pub needs : NeedsStore layout old line
+  pub asks : LineAsks layout old line before now
+
+-- why a line was not done: a refused one leaves the store, and so does one that found no memory, which it takes
+abbrev pub LineFails : LineError → BlkLayout → Option BlkState → Line → Device → Device → ℕ → ℕ → Type 0
+LineFails Memory layout old line before now faults faults' =
+    IsUnwritten before now × TakesMemory line × IsWantedLine layout old line
 LineFails StoreFault layout old line before now faults faults' =
-    Rose faults faults' × HasFront (line_writes layout old line) before now
-    × ((bytes : List ℕ) → IsWanted (blk_line_done layout (record { store = bytes; blk = old }) line))
-    × NeedsStore layout old line
+    Rose faults faults' × LineFaults layout old line before now
 LineFails (Refused cause) layout old line before now faults faults' =
     (now ≡ before) × ((bytes : List ℕ) → blk_line_done layout (record { store = bytes; blk = old }) line ≡ Err cause)
 
--- the same of an operation of the session; the store fails only within bytes that reach it
-abbrev pub OperationDone : BlkLayout → Option BlkState → Operation → Option BlkState → Text → Option (List ℕ)
-    → Option (List ℕ) → Type 0
-OperationDone layout old operation new text before now =
-    (bytes : List ℕ) → before ≡ Some bytes → IsDone (performs layout (record { store = bytes; blk = old }) operation)
-    new text now
+-- a count of faults is as before, unless the store failed within the line
+abbrev pub KeptUnlessFault : {T : Type 0} → Result T LineError → ℕ → ℕ → Type 0
+KeptUnlessFault (Ok done) before now = now ≡ before
+KeptUnlessFault (Err error) before now = error ≢ StoreFault → now ≡ before
 
-abbrev pub OperationFails : LineError → BlkLayout → Option BlkState → Operation → Option (List ℕ) → Option (List ℕ)
-    → ℕ → ℕ → Type 0
-OperationFails Memory layout old operation before now faults faults' = now ≡ before
+-- the same of an append, a dump or an erasure, which takes no memory and does not read the store, and in which the
+-- store fails only within bytes that reach it
+pub record OperationAsks (layout : BlkLayout) (old : Option BlkState) (operation : Operation)
+    (before now : Device) : Type 0 where
+  pub unwritten : bytes_in (writes_by layout old operation) ≡ 0 → now.writes ≡ before.writes
+  pub unread : now.read_faults ≡ before.read_faults
+
+pub record OperationDone (layout : BlkLayout) (old : Option BlkState) (operation : Operation) (new : Option BlkState)
+    (text : Text) (before now : Device) : Type 0 where
+  pub told : (bytes : List ℕ) → before.holds ≡ Some bytes
+      → IsDone (performs layout (record { store = bytes; blk = old }) operation) new text now.holds
+  pub asks : OperationAsks layout old operation before now
+
+pub record OperationFaults (layout : BlkLayout) (old : Option BlkState) (operation : Operation)
+    (before now : Device) : Type 0 where
+  pub front : HasFront (writes_by layout old operation) before.holds now.holds
+  pub wanted : (bytes : List ℕ) → IsWanted (performs layout (record { store = bytes; blk = old }) operation)
+  pub some : 0 < bytes_in (writes_by layout old operation)
+  pub asks : OperationAsks layout old operation before now
+
+abbrev pub OperationFails : LineError → BlkLayout → Option BlkState → Operation → Device → Device → ℕ → ℕ → Type 0
+OperationFails Memory layout old operation before now faults faults' = ⊥
 OperationFails StoreFault layout old operation before now faults faults' =
-    Rose faults faults' × HasFront (writes_by layout old operation) before now
-    × ((bytes : List ℕ) → IsWanted (performs layout (record { store = bytes; blk = old }) operation))
-    × (0 < bytes_in (writes_by layout old operation))
+    Rose faults faults' × OperationFaults layout old operation before now
 OperationFails (Refused cause) layout old operation before now faults faults' =
     (now ≡ before) × ((bytes : List ℕ) → performs layout (record { store = bytes; blk = old }) operation ≡ Err cause)
 
@@ -78,7 +108,7 @@ error_of MemoryThere = Memory
 abbrev pub IsExtract : BlkState → Text → Result (Vec ℕ) LineError → Type 0
 IsExtract b name (Ok text) = option_map (blk_extract_text b) (blk_named (Some b) name) ≡ Some text.items
 IsExtract b name (Err (Refused cause)) = (cause ≡ NoRecord) × (blk_named (Some b) name ≡ None)
-IsExtract b name (Err Memory) = ⊤
+IsExtract b name (Err Memory) = IsSome (blk_named (Some b) name)
 IsExtract b name (Err StoreFault) = ⊥
 
 -- a line of a call that changes what is loaded, and one that puts a text

@@ -4,46 +4,47 @@ use Rattle.std.specs.Io.KnownBytes.{Appends}
 use Rattle.box_io.specs.Outside.{AppendsFront, Rose}
 use Rattle.blk_spec.specs.declared.BlkLayout.{BlkLayout}
 use Rattle.blk_spec.specs.States.{BlkState}
+use Rattle.blk_spec.specs.Answers.{Device}
 use Rattle.grammar_spec.specs.Fields.{Text}
 use Rattle.grammar_spec.specs.declared.line.Line.{Line}
 use Rattle.tool_spec.specs.declared.Stop.{Stop}
 use Rattle.tool_spec.specs.declared.Stop.TheVariants.{Memory, ImageFault, SinkFault, Refused}
-use Rattle.blk_session.specs.declared.errors.LineError.TheVariants.{StoreFault as StoreFaultThere, Refused as RefusedThere}
+use Rattle.blk_session.specs.declared.errors.LineError.TheVariants.{Memory as MemoryThere, StoreFault as StoreFaultThere, Refused as RefusedThere}
 use Rattle.blk_session.specs.Lines.{LineDone, LineFails}
 
--- what the store holds and what the output was given at one moment, each where it is told, with the counts of
--- faults
+-- the store and what the output was given at one moment, each as far as it is told, with the counts of faults
 pub record Seen : Type 0 where
-  pub holds : Option (List ℕ)
+  pub store : Device
   pub store_faults : ℕ
   pub given : Option (List ℕ)
   pub sink_faults : ℕ
 
-abbrev pub seen : Option (List ℕ) → ℕ → Option (List ℕ) → ℕ → Seen
-seen holds g given h = record { holds = holds; store_faults = g; given = given; sink_faults = h }
+abbrev pub seen : Device → ℕ → Option (List ℕ) → ℕ → Seen
+seen store g given h = record { store = store; store_faults = g; given = given; sink_faults = h }
 
 -- a line was done and its text put, whole or in part
 pub record Puts (layout : BlkLayout) (old : Option BlkState) (line : Line) (new : Option BlkState)
     (a b : Seen) : Type 0 where
   pub text : Text
-  pub done : LineDone layout old line new text a.holds b.holds
+  pub done : LineDone layout old line new text a.store b.store
   pub put : Appends a.given b.given text
 
 pub record PutsPart (layout : BlkLayout) (old : Option BlkState) (line : Line) (a b : Seen) : Type 0 where
   pub new : Option BlkState
   pub text : Text
-  pub done : LineDone layout old line new text a.holds b.holds
+  pub done : LineDone layout old line new text a.store b.store
   pub put : AppendsFront a.given b.given text
 
 -- why a line of this number was not done or not put
 abbrev pub LineStops : Stop → BlkLayout → Option BlkState → Line → ℕ → Seen → Seen → Type 0
-LineStops Memory layout old line number a b = (b.given ≡ a.given) × (b.holds ≡ a.holds)
+LineStops Memory layout old line number a b =
+    (b.given ≡ a.given) × LineFails MemoryThere layout old line a.store b.store a.store_faults b.store_faults
 LineStops ImageFault layout old line number a b =
-    (b.given ≡ a.given) × LineFails StoreFaultThere layout old line a.holds b.holds a.store_faults b.store_faults
+    (b.given ≡ a.given) × LineFails StoreFaultThere layout old line a.store b.store a.store_faults b.store_faults
 LineStops SinkFault layout old line number a b = Rose a.sink_faults b.sink_faults × PutsPart layout old line a b
 LineStops (Refused n cause) layout old line number a b =
     (n ≡ number) × (b.given ≡ a.given) × LineFails (RefusedThere cause)
-    layout old line a.holds b.holds a.store_faults b.store_faults
+    layout old line a.store b.store a.store_faults b.store_faults
 LineStops stop layout old line number a b = ⊥
 
 -- no count of faults falls

@@ -1,12 +1,12 @@
 // Lines that load, append, dump, cut or erase.
 ghost use Rattle.std.specs.Prelude.{◌≡◌, ℕ, ◌≤◌, ◌<◌, ◌^◌, [], Option, Some, IfOk, IfSome, MatchResult};
 ghost use Rattle.blk_spec.specs.Layout.{IsLayout};
-ghost use Rattle.blk_spec.specs.Answers.{HasRoom};
+ghost use Rattle.blk_spec.specs.Answers.{HasRoom, device};
 ghost use Rattle.blk_spec.specs.States.{BlkState};
 ghost use Rattle.blk_spec.specs.Session.{Append, Dump as DumpNow, Erase as EraseRecord};
 ghost use Rattle.grammar_spec.specs.declared.line.Line.TheVariants.{Write, KDump, Boot, Erase};
 ghost use Rattle.tool_spec.specs.BlkScripts.{ring_for as ring_of_kind, reason_of as reason_of_number};
-ghost use Rattle.blk_session.specs.Lines.{LineDone, LineFails, OperationDone, OperationFails};
+ghost use Rattle.blk_session.specs.Lines.{LineDone, LineFails, OperationDone, OperationFails, KeptUnlessFault};
 
 use crate::errors::{LineError, line_error};
 use box_io::{Bytes, Store};
@@ -44,7 +44,9 @@ pub fn load<S: Store>(alloc: Global, layout: BlkLayout, store: &mut S) -> Result
     ensures layout { IfOk result (λ b. b.layout ≡ layout) }
     ensures room { (n : ℕ) → HasRoom n (S.holds store.old) → HasRoom n (S.holds store.new) }
     ensures later { S.faults store.old ≤ S.faults store.new }
-    ensures done { let before = S.holds store.old in let now = S.holds store.new in
+    ensures kept { KeptUnlessFault result (S.faults store.old) (S.faults store.new) }
+    ensures done { let before = device (S.holds store.old) (S.writes store.old) (S.read_faults store.old) in
+        let now = device (S.holds store.new) (S.writes store.new) (S.read_faults store.new) in
         (old : Option BlkState) → IfSome old (λ b. b.layout ≡ layout) → MatchResult result
         (λ b. LineDone layout old Boot (Some b) [] before now)
         (λ e. LineFails e layout old Boot before now (S.faults store.old) (S.faults store.new)) }
@@ -65,7 +67,10 @@ fn append<S: Store>(
     ensures layout { blk.new.layout ≡ blk.old.layout }
     ensures room { (n : ℕ) → HasRoom n (S.holds store.old) → HasRoom n (S.holds store.new) }
     ensures later { S.faults store.old ≤ S.faults store.new }
-    ensures done { let before = S.holds store.old in let now = S.holds store.new in MatchResult result
+    ensures kept { KeptUnlessFault result (S.faults store.old) (S.faults store.new) }
+    ensures done { let before = device (S.holds store.old) (S.writes store.old) (S.read_faults store.old) in
+        let now = device (S.holds store.new) (S.writes store.new) (S.read_faults store.new) in
+        MatchResult result
         (λ _. OperationDone blk.old.layout (Some blk.old) (Append ring payload.now) (Some blk.new) [] before now)
         (λ e. OperationFails e blk.old.layout (Some blk.old) (Append ring payload.now) before now
         (S.faults store.old) (S.faults store.new)) }
@@ -90,7 +95,10 @@ fn dump<S: Store>(
     ensures layout { blk.new.layout ≡ blk.old.layout }
     ensures room { (n : ℕ) → HasRoom n (S.holds store.old) → HasRoom n (S.holds store.new) }
     ensures later { S.faults store.old ≤ S.faults store.new }
-    ensures done { let before = S.holds store.old in let now = S.holds store.new in MatchResult result
+    ensures kept { KeptUnlessFault result (S.faults store.old) (S.faults store.new) }
+    ensures done { let before = device (S.holds store.old) (S.writes store.old) (S.read_faults store.old) in
+        let now = device (S.holds store.new) (S.writes store.new) (S.read_faults store.new) in
+        MatchResult result
         (λ _. OperationDone blk.old.layout (Some blk.old) (DumpNow time packed reason body.now)
         (Some blk.new) [] before now)
         (λ e. OperationFails e blk.old.layout (Some blk.old) (DumpNow time packed reason body.now) before now
@@ -107,7 +115,10 @@ fn erase_named<S: Store>(blk: &mut Blk, store: &mut S, name: BlkName) -> Result<
     ensures layout { blk.new.layout ≡ blk.old.layout }
     ensures room { (n : ℕ) → HasRoom n (S.holds store.old) → HasRoom n (S.holds store.new) }
     ensures later { S.faults store.old ≤ S.faults store.new }
-    ensures done { let before = S.holds store.old in let now = S.holds store.new in MatchResult result
+    ensures kept { KeptUnlessFault result (S.faults store.old) (S.faults store.new) }
+    ensures done { let before = device (S.holds store.old) (S.writes store.old) (S.read_faults store.old) in
+        let now = device (S.holds store.new) (S.writes store.new) (S.read_faults store.new) in
+        MatchResult result
         (λ _. OperationDone blk.old.layout (Some blk.old) (EraseRecord (Some name)) (Some blk.new) [] before now)
         (λ e. OperationFails e blk.old.layout (Some blk.old) (EraseRecord (Some name)) before now
         (S.faults store.old) (S.faults store.new)) }
@@ -129,7 +140,10 @@ pub fn write<S: Store>(
     ensures layout { blk.new.layout ≡ blk.old.layout }
     ensures room { (n : ℕ) → HasRoom n (S.holds store.old) → HasRoom n (S.holds store.new) }
     ensures later { S.faults store.old ≤ S.faults store.new }
-    ensures done { let before = S.holds store.old in let now = S.holds store.new in MatchResult result
+    ensures kept { KeptUnlessFault result (S.faults store.old) (S.faults store.new) }
+    ensures done { let before = device (S.holds store.old) (S.writes store.old) (S.read_faults store.old) in
+        let now = device (S.holds store.new) (S.writes store.new) (S.read_faults store.new) in
+        MatchResult result
         (λ _. LineDone blk.old.layout (Some blk.old) (Write zone bytes.now) (Some blk.new) [] before now)
         (λ e. LineFails e blk.old.layout (Some blk.old) (Write zone bytes.now) before now
         (S.faults store.old) (S.faults store.new)) }
@@ -155,7 +169,10 @@ pub fn kdump<S: Store>(
     ensures layout { blk.new.layout ≡ blk.old.layout }
     ensures room { (n : ℕ) → HasRoom n (S.holds store.old) → HasRoom n (S.holds store.new) }
     ensures later { S.faults store.old ≤ S.faults store.new }
-    ensures done { let before = S.holds store.old in let now = S.holds store.new in MatchResult result
+    ensures kept { KeptUnlessFault result (S.faults store.old) (S.faults store.new) }
+    ensures done { let before = device (S.holds store.old) (S.writes store.old) (S.read_faults store.old) in
+        let now = device (S.holds store.new) (S.writes store.new) (S.read_faults store.new) in
+        MatchResult result
         (λ _. LineDone blk.old.layout (Some blk.old) (KDump time.secs time.nanos packed reason body.now)
         (Some blk.new) [] before now)
         (λ e. LineFails e blk.old.layout (Some blk.old) (KDump time.secs time.nanos packed reason body.now) before now
@@ -170,7 +187,10 @@ pub fn erase<S: Store>(blk: &mut Blk, store: &mut S, name: &Bytes) -> Result<(),
     ensures layout { blk.new.layout ≡ blk.old.layout }
     ensures room { (n : ℕ) → HasRoom n (S.holds store.old) → HasRoom n (S.holds store.new) }
     ensures later { S.faults store.old ≤ S.faults store.new }
-    ensures done { let before = S.holds store.old in let now = S.holds store.new in MatchResult result
+    ensures kept { KeptUnlessFault result (S.faults store.old) (S.faults store.new) }
+    ensures done { let before = device (S.holds store.old) (S.writes store.old) (S.read_faults store.old) in
+        let now = device (S.holds store.new) (S.writes store.new) (S.read_faults store.new) in
+        MatchResult result
         (λ _. LineDone blk.old.layout (Some blk.old) (Erase name.now) (Some blk.new) [] before now)
         (λ e. LineFails e blk.old.layout (Some blk.old) (Erase name.now) before now
         (S.faults store.old) (S.faults store.new)) }

@@ -1,16 +1,16 @@
 // The lines of a script, whatever is loaded.
 ghost use Rattle.std.specs.Prelude.{◌≡◌, ℕ, ◌≤◌, List, [], Option, Some, None, IfOk, IfSome, MatchResult};
 ghost use Rattle.blk_spec.specs.Layout.{IsLayout};
-ghost use Rattle.blk_spec.specs.Answers.{HasRoom};
+ghost use Rattle.blk_spec.specs.Answers.{HasRoom, Device, device};
 ghost use Rattle.grammar_spec.specs.Printed.{HasFields};
-ghost use Rattle.blk_session.specs.Lines.{LineDone, LineFails, IsCall, IsShown};
+ghost use Rattle.blk_session.specs.Lines.{LineDone, LineFails, KeptUnlessFault, IsCall, IsShown};
 
 use crate::errors::LineError;
 use crate::texts::listing;
 use crate::{calls, records};
 use box_io::Store;
 use box_script::Line;
-use std::alloc::Global;
+use std::alloc::{AllocError, Global};
 use tool_spec::Cause;
 use zone_blk::{Blk, BlkLayout, BlkTime};
 
@@ -22,7 +22,10 @@ fn do_call<S: Store>(blk: &mut Blk, store: &mut S, line: &Line) -> Result<(), Li
     ensures layout { blk.new.layout ≡ blk.old.layout }
     ensures room { (n : ℕ) → HasRoom n (S.holds store.old) → HasRoom n (S.holds store.new) }
     ensures later { S.faults store.old ≤ S.faults store.new }
-    ensures done { let before = S.holds store.old in let now = S.holds store.new in MatchResult result
+    ensures kept { KeptUnlessFault result (S.faults store.old) (S.faults store.new) }
+    ensures done { let before = device (S.holds store.old) (S.writes store.old) (S.read_faults store.old) in
+        let now = device (S.holds store.new) (S.writes store.new) (S.read_faults store.new) in
+        MatchResult result
         (λ _. LineDone blk.old.layout (Some blk.old) line.now (Some blk.new) [] before now)
         (λ e. LineFails e blk.old.layout (Some blk.old) line.now before now
         (S.faults store.old) (S.faults store.new)) }
@@ -46,21 +49,22 @@ fn do_call<S: Store>(blk: &mut Blk, store: &mut S, line: &Line) -> Result<(), Li
 }
 
 // A line that puts a text, and leaves the store.
-#[tactic(auto, using(crate::proofs::OtherLines::list_done, crate::proofs::OtherLines::extract_ends))]
 fn show(alloc: Global, blk: &Blk, line: &Line) -> Result<Vec<u8>, LineError>
     requires { IsShown line.now }
-    ensures { (store : Option (List ℕ)) (faults : ℕ) → MatchResult result
+    ensures { (store : Device) (faults : ℕ) → MatchResult result
         (λ text. LineDone blk.now.layout (Some blk.now) line.now (Some blk.now) text.items store store)
         (λ e. LineFails e blk.now.layout (Some blk.now) line.now store store faults faults) }
 {
     match line {
-        Line::List => Ok(listing(alloc, blk)?),
+        Line::List => match listing(alloc, blk) {
+            Ok(text) => Ok(text),
+            Err(AllocError) => Err(LineError::Memory),
+        },
         Line::Extract(name) => records::extract(alloc, blk, name),
         _ => unreachable!(),
     }
 }
 
-#[tactic(auto, using(crate::proofs::OtherLines::blank_done))]
 fn do_loaded<S: Store>(
     alloc: Global,
     layout: BlkLayout,
@@ -75,7 +79,10 @@ fn do_loaded<S: Store>(
     ensures loaded { IfOk result (λ r. IfSome r.0 (λ b. b.layout ≡ layout)) }
     ensures room { (n : ℕ) → HasRoom n (S.holds store.old) → HasRoom n (S.holds store.new) }
     ensures later { S.faults store.old ≤ S.faults store.new }
-    ensures done { let before = S.holds store.old in let now = S.holds store.new in MatchResult result
+    ensures kept { KeptUnlessFault result (S.faults store.old) (S.faults store.new) }
+    ensures done { let before = device (S.holds store.old) (S.writes store.old) (S.read_faults store.old) in
+        let now = device (S.holds store.new) (S.writes store.new) (S.read_faults store.new) in
+        MatchResult result
         (λ r. LineDone layout (Some blk) line.now r.0 r.1.items before now)
         (λ e. LineFails e layout (Some blk) line.now before now (S.faults store.old) (S.faults store.new)) }
 {
@@ -100,7 +107,7 @@ fn do_loaded<S: Store>(
     }
 }
 
-#[tactic(auto, using(crate::proofs::OtherLines::blank_done, crate::proofs::OtherLines::waits_line))]
+#[tactic(auto, using(crate::proofs::OtherLines::waits_line))]
 fn do_unloaded<S: Store>(
     alloc: Global,
     layout: BlkLayout,
@@ -112,7 +119,10 @@ fn do_unloaded<S: Store>(
     ensures loaded { IfOk result (λ r. IfSome r.0 (λ b. b.layout ≡ layout)) }
     ensures room { (n : ℕ) → HasRoom n (S.holds store.old) → HasRoom n (S.holds store.new) }
     ensures later { S.faults store.old ≤ S.faults store.new }
-    ensures done { let before = S.holds store.old in let now = S.holds store.new in MatchResult result
+    ensures kept { KeptUnlessFault result (S.faults store.old) (S.faults store.new) }
+    ensures done { let before = device (S.holds store.old) (S.writes store.old) (S.read_faults store.old) in
+        let now = device (S.holds store.new) (S.writes store.new) (S.read_faults store.new) in
+        MatchResult result
         (λ r. LineDone layout None line.now r.0 r.1.items before now)
         (λ e. LineFails e layout None line.now before now (S.faults store.old) (S.faults store.new)) }
 {
@@ -148,7 +158,10 @@ pub fn do_line<S: Store>(
     ensures loaded { IfOk result (λ r. IfSome r.0 (λ b. b.layout ≡ layout)) }
     ensures room { (n : ℕ) → HasRoom n (S.holds store.old) → HasRoom n (S.holds store.new) }
     ensures later { S.faults store.old ≤ S.faults store.new }
-    ensures done { let before = S.holds store.old in let now = S.holds store.new in MatchResult result
+    ensures kept { KeptUnlessFault result (S.faults store.old) (S.faults store.new) }
+    ensures done { let before = device (S.holds store.old) (S.writes store.old) (S.read_faults store.old) in
+        let now = device (S.holds store.new) (S.writes store.new) (S.read_faults store.new) in
+        MatchResult result
         (λ r. LineDone layout blk line.now r.0 r.1.items before now)
         (λ e. LineFails e layout blk line.now before now (S.faults store.old) (S.faults store.new)) }
 {

@@ -1,9 +1,12 @@
 // The lines of a script, in order.
 ghost use Rattle.std.specs.Prelude.{◌≡◌, ℕ, ◌<◌, ◌≤◌, ◌^◌, List, length, IfOk, IfSome, MatchResult};
 ghost use Rattle.blk_spec.specs.Layout.{IsLayout};
-ghost use Rattle.blk_spec.specs.Answers.{HasRoom};
+ghost use Rattle.blk_spec.specs.Answers.{HasRoom, device};
 ghost use Rattle.grammar_spec.specs.Printed.{HasFields, AllHaveFields};
+ghost use Rattle.tool_spec.specs.BlkScripts.{WriteNothing};
 ghost use Rattle.tool_spec.specs.BlkAnswers.{LinesEnd};
+ghost use Rattle.tool_spec.specs.declared.Stop.TheVariants.{ImageFault, SinkFault};
+ghost use Rattle.tool_frame.specs.Stages.{KeptUnless};
 ghost use Rattle.tool_frame.specs.Playing.{PutsText, BlkPlayCaused};
 ghost use Rattle.blk_session.specs.Stops.{stop_of};
 ghost use Rattle.blk_session.specs.Playing.{seen, Puts, LineStops, Later};
@@ -47,10 +50,16 @@ fn play_line<S: Store, O: Sink>(
     ensures loaded { IfOk result (λ next. IfSome next (λ b. b.layout ≡ layout)) }
     ensures room { (n : ℕ) → HasRoom n (S.holds store.old) → HasRoom n (S.holds store.new) }
     ensures later { Later
-        (seen (S.holds store.old) (S.faults store.old) (O.given out.old) (O.faults out.old))
-        (seen (S.holds store.new) (S.faults store.new) (O.given out.new) (O.faults out.new)) }
-    ensures played { let a = seen (S.holds store.old) (S.faults store.old) (O.given out.old) (O.faults out.old) in
-        let b = seen (S.holds store.new) (S.faults store.new) (O.given out.new) (O.faults out.new) in
+        (seen (device (S.holds store.old) (S.writes store.old) (S.read_faults store.old)) (S.faults store.old)
+        (O.given out.old) (O.faults out.old))
+        (seen (device (S.holds store.new) (S.writes store.new) (S.read_faults store.new)) (S.faults store.new)
+        (O.given out.new) (O.faults out.new)) }
+    ensures kept_store { KeptUnless ImageFault result (S.faults store.old) (S.faults store.new) }
+    ensures kept_sink { KeptUnless SinkFault result (O.faults out.old) (O.faults out.new) }
+    ensures played { let before = device (S.holds store.old) (S.writes store.old) (S.read_faults store.old) in
+        let now = device (S.holds store.new) (S.writes store.new) (S.read_faults store.new) in
+        let a = seen before (S.faults store.old) (O.given out.old) (O.faults out.old) in
+        let b = seen now (S.faults store.new) (O.given out.new) (O.faults out.new) in
         MatchResult result (λ next. Puts layout blk line.now next a b)
         (λ stop. LineStops stop layout blk line.now number a b) }
 {
@@ -80,9 +89,13 @@ pub fn play<S: Store, O: Sink>(
     ensures later { (S.faults store.old ≤ S.faults store.new) × (O.faults out.old ≤ O.faults out.new) }
     ensures caused { BlkPlayCaused result (S.faults store.old) (S.faults store.new) (O.faults out.old)
         (O.faults out.new) }
+    ensures kept_store { KeptUnless ImageFault result (S.faults store.old) (S.faults store.new) }
+    ensures kept_sink { KeptUnless SinkFault result (O.faults out.old) (O.faults out.new) }
     ensures put { PutsText (O.given out.old) (O.given out.new) }
     ensures played { (bytes : List ℕ) → S.holds store.old ≡ Some bytes
         → LinesEnd result layout bytes lines.now (O.given out.old) (O.given out.new) (S.holds store.new) }
+    ensures unwritten { (bytes : List ℕ) → S.holds store.old ≡ Some bytes → WriteNothing layout bytes lines.now
+        → S.writes store.new ≡ S.writes store.old }
 {
     let mut blk: Option<Blk> = None;
     for (i, line) in lines.iter().enumerate() {

@@ -4,7 +4,7 @@ ghost use Rattle.blk_session.specs.Lines.{IsExtract};
 use crate::errors::LineError;
 use crate::texts::extract_text;
 use box_io::Bytes;
-use std::alloc::Global;
+use std::alloc::{AllocError, Global};
 use tool_spec::Cause;
 use zone_blk::Blk;
 
@@ -13,7 +13,10 @@ pub fn extract(alloc: Global, blk: &Blk, name: &Bytes) -> Result<Vec<u8>, LineEr
     ensures { IsExtract blk.now name.now result }
 {
     match blk.find(name.as_slice()) {
-        Some(name) => Ok(extract_text(alloc, blk, name)?),
+        Some(name) => match extract_text(alloc, blk, name) {
+            Ok(text) => Ok(text),
+            Err(AllocError) => Err(LineError::Memory),
+        },
         None => Err(LineError::Refused(Cause::NoRecord)),
     }
 }

@@ -1,5 +1,5 @@
 -- The one write of a dump, and the counters that dumps carry (a project's own, after fs/pstore/zone.c)
-use Rattle.std.specs.Prelude.{ℕ, ◌+◌, ◌-◌, ◌^◌, min, Bool, if◌then◌else◌, List, [], ◌∷◌, ◌++◌, length, take, replicate}
+use Rattle.std.specs.Prelude.{ℕ, ◌+◌, ◌-◌, ◌/◌, ◌%◌, ◌^◌, ◌==◌, min, Bool, if◌then◌else◌, List, [], ◌∷◌, ◌++◌, length, take, replicate}
 use Rattle.std.specs.Int.{to_le_bytes}
 use Rattle.std.proofs.Common.{w32, w64}
 use Rattle.blk_spec.specs.declared.BlkZone.{BlkZone}
@@ -8,7 +8,7 @@ use Rattle.blk_spec.specs.declared.Reason.{Reason}
 use Rattle.blk_spec.specs.declared.Reason.TheVariants.{Panic, Oops}
 use Rattle.blk_spec.specs.Reasons.{reason_number}
 use Rattle.blk_spec.specs.Layout.{capacity}
-use Rattle.blk_spec.specs.Writes.{Write}
+use Rattle.blk_spec.specs.Writes.{Write, in_pieces}
 use Rattle.blk_spec.specs.Rings.{header_bytes}
 
 -- how often a panic and an oops were dumped
@@ -51,3 +51,19 @@ dump_writes z time packed counter reason body =
           (reason_number reason)
           ++ kept ++ replicate (z.size - (52 + length kept)) 0;
     } ∷ []
+
+-- n zeros, so many at once, and the rest behind them
+unfoldable pub zeros_by : ℕ → ℕ → List (List ℕ)
+zeros_by count n =
+    replicate (n / count) (replicate count 0)
+    ++ (if n % count == 0 then [] else replicate (n % count) 0 ∷ [])
+
+-- the pieces of that write, each of which asks the store once: the zone's header, the dump's, the body, and zeros by
+-- 65,536
+unfoldable pub dump_pieces : BlkZone → BlkTime → Bool → ℕ → Reason → List ℕ → List Write
+dump_pieces z time packed counter reason body =
+    let kept = body_kept z body in
+    in_pieces z.at (header_bytes z.sig (record { size = 40 + length kept; start = 0 })
+    ∷ dump_header time packed counter (reason_number reason)
+    ∷ kept
+    ∷ zeros_by 65536 (z.size - (52 + length kept)))

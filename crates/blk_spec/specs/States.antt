@@ -18,7 +18,7 @@ use Rattle.blk_spec.specs.declared.Reason.{Reason}
 use Rattle.blk_spec.specs.Layout.{ring_zone, dump_zone}
 use Rattle.blk_spec.specs.Writes.{Write, limited}
 use Rattle.blk_spec.specs.Rings.{header_write, empty_words, append_writes, words_after}
-use Rattle.blk_spec.specs.Dumps.{Counters, dump_writes, counter_for, counted}
+use Rattle.blk_spec.specs.Dumps.{Counters, dump_writes, dump_pieces, counter_for, counted}
 use Rattle.blk_spec.specs.Reading.{BlkDump, ring_saved, dumps_listed, counters_of}
 use Rattle.blk_spec.specs.Names.{is_name, dump_name, dump_content}
 
@@ -83,6 +83,11 @@ dump_refusal b = if b.layout.dumps == 0 then Some NoZone else None
 
 abbrev pub dump_of : BlkState → BlkTime → Bool → Reason → List ℕ → List Write
 dump_of b time packed reason body = dump_writes (dump_zone b.layout b.cursor) time packed
+    (counter_for reason b.counters) reason body
+
+-- the same in pieces
+abbrev pub dump_pieces_of : BlkState → BlkTime → Bool → Reason → List ℕ → List Write
+dump_pieces_of b time packed reason body = dump_pieces (dump_zone b.layout b.cursor) time packed
     (counter_for reason b.counters) reason body
 
 abbrev pub dumped : BlkState → Reason → BlkState

@@ -1,5 +1,5 @@
 -- Writes to the store, byte by byte in rising order, and what reaches it of them
-use Rattle.std.specs.Prelude.{ℕ, ◌+◌, ◌-◌, if◌then◌else◌, min, nat_le, List, [], ◌∷◌, ◌++◌, length, take, drop, Option}
+use Rattle.std.specs.Prelude.{ℕ, ◌+◌, ◌-◌, ◌==◌, if◌then◌else◌, min, nat_le, List, [], ◌∷◌, ◌++◌, length, take, drop, Option}
 use Rattle.std.specs.Option.{option_map}
 use Rattle.blk_spec.specs.declared.BlkCut.{BlkCut}
 use Rattle.blk_spec.specs.declared.BlkCut.TheVariants.{Uncut, After, Dropped}
@@ -19,6 +19,11 @@ after_writes (w ∷ ws) store = after_writes ws (after_write store w)
 -- the same where the store tells its bytes; one that tells none goes on telling none
 abbrev pub store_after : List Write → Option (List ℕ) → Option (List ℕ)
 store_after ws store = option_map (after_writes ws) store
+
+-- bytes written in pieces, one behind the other from a place on
+unfoldable pub in_pieces : ℕ → List (List ℕ) → List Write
+in_pieces at [] = []
+in_pieces at (piece ∷ pieces) = record { at = at; bytes = piece } ∷ in_pieces (at + length piece) pieces
 
 -- how many bytes writes have
 unfoldable pub bytes_in : List Write → ℕ
@@ -45,6 +50,11 @@ abbrev pub spent : ℕ → BlkCut → BlkCut
 spent n Uncut = Uncut
 spent n (After limit) = if nat_le n limit then After (limit - n) else Dropped
 spent n Dropped = Dropped
+
+-- how often writes ask the store: once for each of which a byte reaches it
+unfoldable pub asks_of : BlkCut → List Write → ℕ
+asks_of cut [] = 0
+asks_of cut (w ∷ ws) = (if through cut (length w.bytes) == 0 then 0 else 1) + asks_of (spent (length w.bytes) cut) ws
 
 -- a limit replaces an earlier one as long as no byte was dropped
 abbrev pub limited : ℕ → BlkCut → BlkCut

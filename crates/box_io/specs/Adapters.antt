@@ -1,5 +1,5 @@
 -- What the adapters stand over, and how often they have failed.
-use Rattle.std.specs.Prelude.{ℕ, List, string_bytes}
+use Rattle.std.specs.Prelude.{ℕ, ◌+◌, List, string_bytes}
 use Rattle.box_io.specs.declared.adapters.ReaderSource.{ReaderSource}
 use Rattle.box_io.specs.declared.adapters.WriterSink.{WriterSink}
 use Rattle.box_io.specs.declared.adapters.FileLoad.{FileLoad}
@@ -28,7 +28,7 @@ abbrev pub file_path : {R F D : Type 0} → FileStore R F D → List ℕ
 file_path s = load_path s.file
 
 abbrev pub file_faults : {R F D : Type 0} → FileStore R F D → ℕ
-file_faults s = load_faults s.file
+file_faults s = load_faults s.file + s.write_faults
 
 abbrev pub file_writes : {R F D : Type 0} → FileStore R F D → ℕ
 file_writes s = s.writes

@@ -210,7 +210,7 @@ module _ (plan : RamPlan) (a b : Outside) (live : LiveSeen) (logs : SavedLogs) (
 
   refused : (e : LineError) → EraseFails live logs name e → Quiet a b
       → IfHolds a (λ bytes. Ended (wanted plan bytes []) a b (Err (stop_for e)))
-  refused Memory h q = memory_ends plan a b logs (saved_from booted) (EraseRecord name) is refl q
+  refused Memory h q = absurd h
   refused (Refused NoRecord) h q = erase_unlisted h q
   refused (Refused Busy) h q = absurd (not_busy h)
   refused (Refused IsOff) h q = absurd h

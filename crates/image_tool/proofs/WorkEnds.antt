@@ -3,7 +3,7 @@ use Rattle.std.proofs.Common.{◌≡◌, ℕ, List, [], ◌∷◌, Option, Resul
 use Rattle.box_io.specs.Outside.{WritesFront}
 use Rattle.tool_spec.specs.Ends.{End, status_of}
 use Rattle.tool_spec.specs.Texts.{layout_text}
-use Rattle.tool_spec.specs.Commands.{ShowLayout, BlankImage, RamPlan, Plan, OfRam, Wanted, mem_of, shows, leaves}
+use Rattle.tool_spec.specs.Commands.{RamCommand, RunScript, ListRecords, ExtractRecord, EraseRecord, ShowLayout, BlankImage, MakeImage, FindRings, ReadRing, RunShared, RamPlan, Plan, OfRam, OfBlk, OfMove, Wanted, mem_of, shows, leaves}
 use Rattle.tool_spec.specs.Answers.{Outside, NoScript, NoImage, WritesSome}
 use Rattle.tool_spec.specs.PlanAnswers.{ram_statuses, IsAmong}
 use Rattle.tool_spec.specs.declared.Stop.{Stop}
@@ -11,7 +11,8 @@ use Rattle.tool_spec.specs.declared.Stop.TheVariants.{Memory, Usage, Param, Layo
 use Rattle.tool_frame.specs.Words.{PlanStop, IsNoFault, plan_for, ram_command_seen}
 use Rattle.tool_frame.specs.declared.words.RamCommand.{RamCommand as ReadRamCommand}
 use Rattle.zone_params.specs.declared.types.Layout.{Layout as ReadLayout}
-use Rattle.tool_frame.specs.Ended.{EndedAt, Ended, CausedAt, KeptAt, WrittenAt, RamEnds, Nothing, WorkDone}
+use Rattle.tool_frame.specs.Stages.{KeptUnless}
+use Rattle.tool_frame.specs.Ended.{EndedAt, Ended, CausedAt, KeptAt, WrittenAt, RamEnds, Nothing, LinesAsk, CommandAsks, Asks, WorkDone}
 use Rattle.tool_frame.proofs.Answered.{nothing_put}
 use Rattle.tool_frame.proofs.AnyWords.{plan_stopped}
 
@@ -31,7 +32,7 @@ no_fault_caused (BadLine x) f f' g g' h h' n = tt
 no_fault_caused (Refused x y) f f' g g' h h' n = tt
 
 -- an image that was not written
-pub kept_same : (e : End) (holds holds' : Option (List ℕ)) → holds' ≡ holds → KeptAt holds holds' e
+pub kept_same : {A : Type 0} (e : End) (holds holds' : A) → holds' ≡ holds → KeptAt holds holds' e
 kept_same (Ok u) holds holds' h = tt
 kept_same (Err Memory) holds holds' h = h
 kept_same (Err Usage) holds holds' h = h
@@ -46,6 +47,63 @@ kept_same (Err TooLong) holds holds' h = h
 kept_same (Err (BadLine x)) holds holds' h = h
 kept_same (Err (Refused x y)) holds holds' h = h
 
+-- a count that did not change at all
+pub count_same : (fault : Stop) (e : End) (before now : ℕ) → now ≡ before → KeptUnless fault e before now
+count_same fault (Ok u) before now h = h
+count_same fault (Err s) before now h = λ other. h
+
+-- the lines of a script on the block store asked for nothing
+pub none_asked : (e : End) (old new : ℕ) → new ≡ old → LinesAsk old new e
+none_asked (Ok u) old new h = tt
+none_asked (Err Memory) old new h = tt
+none_asked (Err Usage) old new h = h
+none_asked (Err (Param x y)) old new h = h
+none_asked (Err (Layout x)) old new h = h
+none_asked (Err NoSharedZone) old new h = h
+none_asked (Err (Short x y)) old new h = h
+none_asked (Err ScriptFault) old new h = h
+none_asked (Err ImageFault) old new h = tt
+none_asked (Err SinkFault) old new h = tt
+none_asked (Err TooLong) old new h = h
+none_asked (Err (BadLine x)) old new h = h
+none_asked (Err (Refused x y)) old new h = tt
+
+-- an image that was not asked to be written: words of which no plan was read
+command_unasked : (k : RamCommand) (old new : ℕ) → new ≡ old → CommandAsks k old new (Err Memory)
+command_unasked RunScript old new h = h
+command_unasked ListRecords old new h = h
+command_unasked (ExtractRecord name) old new h = h
+command_unasked (EraseRecord name) old new h = h
+command_unasked ShowLayout old new h = h
+command_unasked BlankImage old new h = (h, tt)
+command_unasked (MakeImage n) old new h = (h, tt)
+command_unasked RunShared old new h = h
+command_unasked FindRings old new h = h
+command_unasked (ReadRing at name) old new h = h
+
+plan_unasked : (plan : Plan) (old new : ℕ) → new ≡ old → Asks (Ok plan) old new (Err Memory)
+plan_unasked (OfRam plan) old new h = command_unasked plan.command old new h
+plan_unasked (OfBlk layout) old new h = tt
+plan_unasked (OfMove plan) old new h = h
+
+no_plan : {A B : Type 0} {x : A} {y : B} → Ok x ≡ Err y → ⊥
+no_plan e = cc
+
+unasked : (r : Result Plan Stop) (s : Stop) (old new : ℕ) → PlanStop s r → new ≡ old → Asks r old new (Err s)
+unasked (Err f) s old new is h = h
+unasked (Ok plan) Memory old new is h = plan_unasked plan old new h
+unasked (Ok plan) Usage old new is h = absurd (no_plan is)
+unasked (Ok plan) (Param x y) old new is h = absurd (no_plan is)
+unasked (Ok plan) (Layout x) old new is h = absurd (no_plan is)
+unasked (Ok plan) NoSharedZone old new is h = absurd (no_plan is)
+unasked (Ok plan) (Short x y) old new is h = absurd (no_plan is)
+unasked (Ok plan) ScriptFault old new is h = absurd (no_plan is)
+unasked (Ok plan) ImageFault old new is h = absurd (no_plan is)
+unasked (Ok plan) SinkFault old new is h = absurd (no_plan is)
+unasked (Ok plan) TooLong old new is h = absurd (no_plan is)
+unasked (Ok plan) (BadLine x) old new is h = absurd (no_plan is)
+unasked (Ok plan) (Refused x y) old new is h = absurd (no_plan is)
+
 -- the work of the command that was read
 pub arm_done : (c k : ReadRamCommand) (layout : ReadLayout) (a b : Outside) (e : End) → c ≡ k
     → WorkDone (Ok (OfRam (plan_for (ram_command_seen k) layout))) a b e
@@ -59,8 +117,8 @@ plan_done r plan a b e is h = rw is h
 
 -- no plan was read
 pub none_done : (r : Result Plan Stop) (s : Stop) (a b : Outside) → PlanStop s r → IsNoFault s → Nothing a b
-    → b.sink_faults ≡ a.sink_faults → WorkDone r a b (Err s)
-none_done r s a b h n same sink = record {
+    → b.sink_faults ≡ a.sink_faults → b.writes ≡ a.writes → WorkDone r a b (Err s)
+none_done r s a b h n same sink unwritten = record {
   later = record {
     source = omega (arith, same.script.source);
     store = omega (arith, same.image.store);
@@ -68,7 +126,13 @@ none_done r s a b h n same sink = record {
   };
   caused = no_fault_caused s a.source_faults b.source_faults a.store_faults b.store_faults a.sink_faults
       b.sink_faults n;
+  counts = record {
+    source = λ other. same.script.source;
+    store = λ other. same.image.store;
+    sink = λ other. sink;
+  };
   kept = λ w. kept_same (Err s) a.holds b.holds same.image.holds;
+  asks = unasked r s a.writes b.writes h unwritten;
   ended = plan_stopped r s a b h same;
 }
 

@@ -2,8 +2,8 @@
 use Rattle.std.specs.Prelude.{ℕ, List}
 use Rattle.grammar_spec.specs.Fields.{Text}
 use Rattle.tool_spec.specs.Commands.{plan_of}
-use Rattle.tool_spec.specs.Answers.{Outside}
-use Rattle.tool_spec.specs.PlanAnswers.{Untouched, ToolAnswers}
+use Rattle.tool_spec.specs.Answers.{Outside, NoOtherFault}
+use Rattle.tool_spec.specs.PlanAnswers.{Untouched, PlanWrites, ToolAnswers}
 use Rattle.tool_spec.specs.Complete.{Completes}
 use Rattle.image_tool.specs.Headline.{RunReads}
 use Rattle.image_tool.specs.Due.{LastLine}
@@ -12,6 +12,10 @@ use Rattle.image_tool.specs.Due.{LastLine}
 pub record Runs (words : List Text) (a b : Outside) (status : ℕ) : Type 0 where
   -- the image is untouched on every status but 0, unless the store failed
   pub untouched : Untouched (plan_of words) a b status
+  -- when it is asked to be written: never by a command that only reads
+  pub writes : PlanWrites (plan_of words) a b status
+  -- a fault that decides nothing is none
+  pub faults : NoOtherFault a b status
   -- the status, the text and the image that are wanted, or why not
   pub answers : ToolAnswers (plan_of words) a b status
   -- the last line, whatever the outside tells

@@ -6,7 +6,8 @@ ghost use Rattle.tool_spec.specs.Texts.{layout_text};
 ghost use Rattle.tool_spec.specs.Ends.{status_of};
 ghost use Rattle.tool_spec.specs.Commands.{ShowLayout, BlankImage, shows, leaves};
 ghost use Rattle.tool_spec.specs.PlanAnswers.{ram_statuses, IsAmong};
-ghost use Rattle.tool_frame.specs.Ended.{EndedAt, CausedAt, KeptAt};
+ghost use Rattle.tool_frame.specs.Stages.{KeptUnless};
+ghost use Rattle.tool_frame.specs.Ended.{EndedAt, CausedAt, KeptAt, FailsAsked};
 ghost use Rattle.zone_params.specs.Laid.{params_of, zones_of};
 ghost use Rattle.image_tool.specs.Due.{PutsNone};
 
@@ -20,6 +21,7 @@ use zone_params::types::Layout;
 #[tactic(auto, using(crate::proofs::Shown::put_all, crate::proofs::Shown::put_none, crate::proofs::Shown::put_front))]
 pub fn show_layout<O: Sink>(alloc: Global, layout: &Layout, out: &mut O) -> Result<(), Stop>
     ensures later { O.faults out.old ≤ O.faults out.new }
+    ensures out_count { KeptUnless Stop.SinkFault result (O.faults out.old) (O.faults out.new) }
     ensures caused { (f f' g g' : ℕ) → CausedAt f f' g g' (O.faults out.old) (O.faults out.new) result }
     ensures can { IsAmong (ram_statuses ShowLayout) (status_of result) }
     ensures ended { (holds : Option (List ℕ)) → EndedAt (shows
@@ -43,6 +45,9 @@ pub fn blank<M: Store>(image: &mut M, mem: u32) -> Result<(), Stop>
     ensures later { M.faults image.old ≤ M.faults image.new }
     ensures caused { (f f' h h' : ℕ) → CausedAt f f' (M.faults image.old) (M.faults image.new) h h' result }
     ensures kept { KeptAt (M.holds image.old) (M.holds image.new) result }
+    ensures asks { KeptAt (M.writes image.old) (M.writes image.new) result }
+    ensures asked { FailsAsked (M.writes image.old) (M.writes image.new) result }
+    ensures image_count { KeptUnless Stop.ImageFault result (M.faults image.old) (M.faults image.new) }
     ensures can { IsAmong (ram_statuses BlankImage) (status_of result) }
     ensures ended { (given : Option (List ℕ)) → EndedAt (leaves (replicate mem 0)) given given (M.holds image.old)
         (M.holds image.new) result }

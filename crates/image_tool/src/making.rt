@@ -2,7 +2,8 @@
 ghost use Rattle.std.specs.Prelude.{◌≤◌, ℕ, List, Option};
 ghost use Rattle.tool_spec.specs.Commands.{MakeImage};
 ghost use Rattle.tool_spec.specs.Answers.{outside};
-ghost use Rattle.tool_frame.specs.Ended.{CausedAt, KeptAt, MakeEnds};
+ghost use Rattle.tool_frame.specs.Stages.{KeptUnless};
+ghost use Rattle.tool_frame.specs.Ended.{CausedAt, KeptAt, FailsAsked, MakeEnds};
 ghost use Rattle.image_tool.specs.Plans.{plan_for};
 ghost use Rattle.image_tool.specs.Due.{PutsFirst};
 
@@ -24,9 +25,15 @@ pub fn make<M: Store, O: Sink>(
     ensures caused { (f f' : ℕ) → CausedAt f f' (M.faults image.old) (M.faults image.new) (O.faults out.old)
         (O.faults out.new) result }
     ensures kept { KeptAt (M.holds image.old) (M.holds image.new) result }
+    ensures asks { KeptAt (M.writes image.old) (M.writes image.new) result }
+    ensures asked { FailsAsked (M.writes image.old) (M.writes image.new) result }
+    ensures image_count { KeptUnless Stop.ImageFault result (M.faults image.old) (M.faults image.new) }
+    ensures out_count { KeptUnless Stop.SinkFault result (O.faults out.old) (O.faults out.new) }
     ensures ended { (left : Option (List ℕ)) (f : ℕ) → MakeEnds (plan_for (MakeImage n) layout)
-        (outside left f (M.holds image.old) (M.faults image.old) (O.given out.old) (O.faults out.old))
-        (outside left f (M.holds image.new) (M.faults image.new) (O.given out.new) (O.faults out.new)) result }
+        (outside left f (M.holds image.old) (M.faults image.old) (M.writes image.old)
+        (O.given out.old) (O.faults out.old))
+        (outside left f (M.holds image.new) (M.faults image.new) (M.writes image.new)
+        (O.given out.new) (O.faults out.new)) result }
     ensures put { PutsFirst (O.given out.old) (O.given out.new) result }
 {
     let (made, text) = match generate(alloc, layout, n) {

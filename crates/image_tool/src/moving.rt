@@ -8,6 +8,7 @@ ghost use Rattle.tool_spec.specs.Commands.{OfMove, wanted_move};
 ghost use Rattle.tool_spec.specs.PlanAnswers.{statuses};
 ghost use Rattle.tool_spec.specs.Answers.{outside};
 ghost use Rattle.tool_frame.specs.Words.{move_for};
+ghost use Rattle.tool_frame.specs.Stages.{KeptUnless};
 ghost use Rattle.tool_frame.specs.Ended.{CausedAt, KeptAt, ImageEnds};
 ghost use Rattle.image_tool.specs.Due.{PutsFirst};
 
@@ -42,10 +43,15 @@ pub fn move_image<M: Store, O: Sink>(
     ensures caused { (f f' : ℕ) → CausedAt f f' (M.faults image.old) (M.faults image.new) (O.faults out.old)
         (O.faults out.new) result }
     ensures kept { KeptAt (M.holds image.old) (M.holds image.new) result }
+    ensures asks { KeptAt (M.writes image.old) (M.writes image.new) result }
+    ensures image_count { KeptUnless Stop.ImageFault result (M.faults image.old) (M.faults image.new) }
+    ensures out_count { KeptUnless Stop.SinkFault result (O.faults out.old) (O.faults out.new) }
     ensures ended { (left : Option (List ℕ)) (f : ℕ) → let plan = move_for from to in
         ImageEnds (statuses (OfMove plan)) (wanted_move plan)
-        (outside left f (M.holds image.old) (M.faults image.old) (O.given out.old) (O.faults out.old))
-        (outside left f (M.holds image.new) (M.faults image.new) (O.given out.new) (O.faults out.new)) result }
+        (outside left f (M.holds image.old) (M.faults image.old) (M.writes image.old)
+        (O.given out.old) (O.faults out.old))
+        (outside left f (M.holds image.new) (M.faults image.new) (M.writes image.new)
+        (O.given out.new) (O.faults out.new)) result }
     ensures put { PutsFirst (O.given out.old) (O.given out.new) result }
 {
     let size = from.mem();

@@ -7,11 +7,11 @@ ghost use Rattle.tool_spec.specs.Answers.{outside};
 ghost use Rattle.tool_frame.specs.Ended.{CausedAt, KeptAt, RamReadEnds, RamImageEnds};
 ghost use Rattle.image_tool.specs.Plans.{plan_for};
 ghost use Rattle.image_tool.specs.Due.{PutsNone};
-ghost use Rattle.tool_frame.specs.Stages.{LoadStop};
+ghost use Rattle.tool_frame.specs.Stages.{KeptUnless, LoadStop};
 ghost use Rattle.image_tool.specs.Records.{SavedFrom, stop_for};
 
 use crate::stores::{boot_store, fresh_store};
-use box_io::{Failed, Sink, Store};
+use box_io::{Failed, Load, Sink, Store};
 use old_log::Logs;
 use ram_session::{LineError, content_of, listing};
 use std::alloc::{AllocError, Global};
@@ -32,12 +32,14 @@ fn stop_of(e: LineError) -> Stop
 }
 
 /// Reads an image, and gives the logs that a boot of it would save.
-pub fn read_logs<M: Store>(alloc: Global, layout: Layout, image: &mut M) -> Result<Logs, Stop>
+pub fn read_logs<M: Load>(alloc: Global, layout: Layout, image: &mut M) -> Result<Logs, Stop>
     ensures read { IfOk result (λ logs. SavedFrom (zones_of layout) (rounded (params_of layout).mem)
         (M.holds image.old) logs) }
     ensures stopped { IfErr result (λ s. LoadStop s (rounded (params_of layout).mem) (M.holds image.old)
         (M.faults image.old) (M.faults image.new)) }
     ensures same { M.holds image.new ≡ M.holds image.old }
+    ensures unwritten { M.writes image.new ≡ M.writes image.old }
+    ensures image_count { KeptUnless Stop.ImageFault result (M.faults image.old) (M.faults image.new) }
     ensures later { M.faults image.old ≤ M.faults image.new }
 {
     let bytes = match load(alloc, image, layout.mem()) {
@@ -55,7 +57,7 @@ pub fn read_logs<M: Store>(alloc: Global, layout: Layout, image: &mut M) -> Resu
 }
 
 /// Prints the records of an image.
-pub fn list<M: Store, O: Sink>(
+pub fn list<M: Load, O: Sink>(
     alloc: Global,
     layout: Layout,
     image: &mut M,
@@ -65,9 +67,14 @@ pub fn list<M: Store, O: Sink>(
     ensures caused { (f f' : ℕ) → CausedAt f f' (M.faults image.old) (M.faults image.new) (O.faults out.old)
         (O.faults out.new) result }
     ensures same { M.holds image.new ≡ M.holds image.old }
+    ensures unwritten { M.writes image.new ≡ M.writes image.old }
+    ensures image_count { KeptUnless Stop.ImageFault result (M.faults image.old) (M.faults image.new) }
+    ensures out_count { KeptUnless Stop.SinkFault result (O.faults out.old) (O.faults out.new) }
     ensures ended { (left : Option (List ℕ)) (f : ℕ) → RamReadEnds (plan_for ListRecords layout)
-        (outside left f (M.holds image.old) (M.faults image.old) (O.given out.old) (O.faults out.old))
-        (outside left f (M.holds image.new) (M.faults image.new) (O.given out.new) (O.faults out.new)) result }
+        (outside left f (M.holds image.old) (M.faults image.old) (M.writes image.old)
+        (O.given out.old) (O.faults out.old))
+        (outside left f (M.holds image.new) (M.faults image.new) (M.writes image.new)
+        (O.given out.new) (O.faults out.new)) result }
     ensures put { PutsNone (O.given out.old) (O.given out.new) result }
 {
     let logs = match read_logs(alloc, layout, image) {
@@ -85,7 +92,7 @@ pub fn list<M: Store, O: Sink>(
 }
 
 /// Prints the content of the record of this name.
-pub fn extract<M: Store, O: Sink>(
+pub fn extract<M: Load, O: Sink>(
     alloc: Global,
     layout: Layout,
     name: &str,
@@ -96,9 +103,14 @@ pub fn extract<M: Store, O: Sink>(
     ensures caused { (f f' : ℕ) → CausedAt f f' (M.faults image.old) (M.faults image.new) (O.faults out.old)
         (O.faults out.new) result }
     ensures same { M.holds image.new ≡ M.holds image.old }
+    ensures unwritten { M.writes image.new ≡ M.writes image.old }
+    ensures image_count { KeptUnless Stop.ImageFault result (M.faults image.old) (M.faults image.new) }
+    ensures out_count { KeptUnless Stop.SinkFault result (O.faults out.old) (O.faults out.new) }
     ensures ended { (left : Option (List ℕ)) (f : ℕ) → RamReadEnds (plan_for (ExtractRecord name.now) layout)
-        (outside left f (M.holds image.old) (M.faults image.old) (O.given out.old) (O.faults out.old))
-        (outside left f (M.holds image.new) (M.faults image.new) (O.given out.new) (O.faults out.new)) result }
+        (outside left f (M.holds image.old) (M.faults image.old) (M.writes image.old)
+        (O.given out.old) (O.faults out.old))
+        (outside left f (M.holds image.new) (M.faults image.new) (M.writes image.new)
+        (O.given out.new) (O.faults out.new)) result }
     ensures put { PutsNone (O.given out.old) (O.given out.new) result }
 {
     let logs = match read_logs(alloc, layout, image) {
@@ -120,10 +132,12 @@ pub fn erase<M: Store>(alloc: Global, layout: Layout, name: &str, image: &mut M)
     ensures later { M.faults image.old ≤ M.faults image.new }
     ensures caused { (f f' h h' : ℕ) → CausedAt f f' (M.faults image.old) (M.faults image.new) h h' result }
     ensures kept { KeptAt (M.holds image.old) (M.holds image.new) result }
+    ensures asks { KeptAt (M.writes image.old) (M.writes image.new) result }
+    ensures image_count { KeptUnless Stop.ImageFault result (M.faults image.old) (M.faults image.new) }
     ensures ended { (left given : Option (List ℕ)) (f h : ℕ)
         → RamImageEnds (plan_for (EraseRecord name.now) layout)
-        (outside left f (M.holds image.old) (M.faults image.old) given h)
-        (outside left f (M.holds image.new) (M.faults image.new) given h) result }
+        (outside left f (M.holds image.old) (M.faults image.old) (M.writes image.old) given h)
+        (outside left f (M.holds image.new) (M.faults image.new) (M.writes image.new) given h) result }
 {
     let (mut live, mut logs) = match boot_store(alloc, layout, image) {
         Ok(booted) => booted,

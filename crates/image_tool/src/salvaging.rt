@@ -5,12 +5,12 @@ ghost use Rattle.tool_spec.specs.Texts.{ring_line, rings_text};
 ghost use Rattle.tool_spec.specs.Commands.{FindRings, ReadRing};
 ghost use Rattle.tool_spec.specs.Answers.{outside};
 ghost use Rattle.tool_frame.specs.Ended.{CausedAt, RamReadEnds};
-ghost use Rattle.tool_frame.specs.Stages.{FrontStop};
+ghost use Rattle.tool_frame.specs.Stages.{KeptUnless, FrontStop};
 ghost use Rattle.image_tool.specs.Plans.{plan_for};
 ghost use Rattle.image_tool.specs.Due.{PutsNone};
 ghost use Rattle.image_tool.specs.Dumps.{ScansFrom, ring_stop as stop_for};
 
-use box_io::{Bytes, Failed, Sink, Store};
+use box_io::{Bytes, Failed, Load, Sink};
 use box_salvage::{FoundRing, RingFault, Scan};
 use std::alloc::{AllocError, Global};
 use text_pieces::{push_number, push_zone};
@@ -59,10 +59,12 @@ fn all_rings(alloc: Global, mut scan: Scan) -> Result<Vec<FoundRing>, AllocError
 }
 
 // Reads a dump, the first bytes of a store.
-fn read_dump<M: Store>(alloc: Global, layout: Layout, image: &mut M) -> Result<Scan, Stop>
+fn read_dump<M: Load>(alloc: Global, layout: Layout, image: &mut M) -> Result<Scan, Stop>
     ensures read { IfOk result (λ scan. ScansFrom (zones_of layout) (M.holds image.old) scan) }
     ensures stopped { IfErr result (λ s. FrontStop s (M.faults image.old) (M.faults image.new)) }
     ensures same { M.holds image.new ≡ M.holds image.old }
+    ensures unwritten { M.writes image.new ≡ M.writes image.old }
+    ensures image_count { KeptUnless Stop.ImageFault result (M.faults image.old) (M.faults image.new) }
     ensures later { M.faults image.old ≤ M.faults image.new }
 {
     let dump = match load_front(alloc, image, DUMP_LIMIT) {
@@ -93,7 +95,7 @@ fn ring_stop(fault: RingFault) -> Stop
 }
 
 /// Prints the rings of a dump.
-pub fn salvage<M: Store, O: Sink>(
+pub fn salvage<M: Load, O: Sink>(
     alloc: Global,
     layout: Layout,
     image: &mut M,
@@ -103,9 +105,14 @@ pub fn salvage<M: Store, O: Sink>(
     ensures caused { (f f' : ℕ) → CausedAt f f' (M.faults image.old) (M.faults image.new) (O.faults out.old)
         (O.faults out.new) result }
     ensures same { M.holds image.new ≡ M.holds image.old }
+    ensures unwritten { M.writes image.new ≡ M.writes image.old }
+    ensures image_count { KeptUnless Stop.ImageFault result (M.faults image.old) (M.faults image.new) }
+    ensures out_count { KeptUnless Stop.SinkFault result (O.faults out.old) (O.faults out.new) }
     ensures ended { (left : Option (List ℕ)) (f : ℕ) → RamReadEnds (plan_for FindRings layout)
-        (outside left f (M.holds image.old) (M.faults image.old) (O.given out.old) (O.faults out.old))
-        (outside left f (M.holds image.new) (M.faults image.new) (O.given out.new) (O.faults out.new)) result }
+        (outside left f (M.holds image.old) (M.faults image.old) (M.writes image.old)
+        (O.given out.old) (O.faults out.old))
+        (outside left f (M.holds image.new) (M.faults image.new) (M.writes image.new)
+        (O.given out.new) (O.faults out.new)) result }
     ensures put { PutsNone (O.given out.old) (O.given out.new) result }
 {
     let scan = match read_dump(alloc, layout, image) {
@@ -127,7 +134,7 @@ pub fn salvage<M: Store, O: Sink>(
 }
 
 /// Prints the log of the ring at this place of a dump, read as this zone.
-pub fn rescue<M: Store, O: Sink>(
+pub fn rescue<M: Load, O: Sink>(
     alloc: Global,
     layout: Layout,
     at: u32,
@@ -139,9 +146,14 @@ pub fn rescue<M: Store, O: Sink>(
     ensures caused { (f f' : ℕ) → CausedAt f f' (M.faults image.old) (M.faults image.new) (O.faults out.old)
         (O.faults out.new) result }
     ensures same { M.holds image.new ≡ M.holds image.old }
+    ensures unwritten { M.writes image.new ≡ M.writes image.old }
+    ensures image_count { KeptUnless Stop.ImageFault result (M.faults image.old) (M.faults image.new) }
+    ensures out_count { KeptUnless Stop.SinkFault result (O.faults out.old) (O.faults out.new) }
     ensures ended { (left : Option (List ℕ)) (f : ℕ) → RamReadEnds (plan_for (ReadRing at name) layout)
-        (outside left f (M.holds image.old) (M.faults image.old) (O.given out.old) (O.faults out.old))
-        (outside left f (M.holds image.new) (M.faults image.new) (O.given out.new) (O.faults out.new)) result }
+        (outside left f (M.holds image.old) (M.faults image.old) (M.writes image.old)
+        (O.given out.old) (O.faults out.old))
+        (outside left f (M.holds image.new) (M.faults image.new) (M.writes image.new)
+        (O.given out.new) (O.faults out.new)) result }
     ensures put { PutsNone (O.given out.old) (O.given out.new) result }
 {
     let scan = match read_dump(alloc, layout, image) {

@@ -22,9 +22,9 @@ pub fn run_script<S: Source, M: Store, O: Sink>(
     out: &mut O,
 ) -> Result<(), Stop>
     ensures work { let before = outside (S.left script.old) (S.faults script.old) (M.holds image.old)
-        (M.faults image.old) (O.given out.old) (O.faults out.old) in
+        (M.faults image.old) (M.writes image.old) (O.given out.old) (O.faults out.old) in
         let after = outside (S.left script.new) (S.faults script.new) (M.holds image.new)
-        (M.faults image.new) (O.given out.new) (O.faults out.new) in
+        (M.faults image.new) (M.writes image.new) (O.given out.new) (O.faults out.new) in
         WorkDone (Ok (OfRam (plan_for RunScript layout))) before after result }
     ensures put { PutsLines (O.given out.old) (O.given out.new) result }
 {

@@ -80,9 +80,9 @@ pub fn run_shared_script<S: Source, M: Store, O: Sink>(
 ) -> Result<(), Stop>
     requires { CanShareIn booted layout }
     ensures work { let before = outside (S.left script.old) (S.faults script.old) (M.holds image.old)
-        (M.faults image.old) (O.given out.old) (O.faults out.old) in
+        (M.faults image.old) (M.writes image.old) (O.given out.old) (O.faults out.old) in
         let after = outside (S.left script.new) (S.faults script.new) (M.holds image.new)
-        (M.faults image.new) (O.given out.new) (O.faults out.new) in
+        (M.faults image.new) (M.writes image.new) (O.given out.new) (O.faults out.new) in
         WorkDone (Ok (OfRam (plan_for RunShared booted))) before after result }
     ensures put { PutsFirst (O.given out.old) (O.given out.new) result }
 {

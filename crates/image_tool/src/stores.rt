@@ -3,10 +3,10 @@ ghost use Rattle.std.specs.Prelude.{◌≡◌, ◌≤◌, vec_len, IfOk, IfErr};
 ghost use Rattle.zone_spec.specs.Layout.{rounded};
 ghost use Rattle.zone_params.specs.Laid.{params_of, zones_of};
 ghost use Rattle.ram_session.specs.Playing.{StandsFresh};
-ghost use Rattle.tool_frame.specs.Stages.{LoadStop};
+ghost use Rattle.tool_frame.specs.Stages.{KeptUnless, LoadStop};
 ghost use Rattle.image_tool.specs.Stores.{BootedFrom};
 
-use box_io::{Bytes, Store};
+use box_io::{Bytes, Load};
 use old_log::Logs;
 use ram_core::{Live, Off};
 use std::alloc::{AllocError, Global};
@@ -26,7 +26,7 @@ pub fn fresh_store(alloc: Global, layout: Layout, image: Vec<u8>) -> Result<Off,
 }
 
 /// Reads an image, and boots its store.
-pub fn boot_store<M: Store>(
+pub fn boot_store<M: Load>(
     alloc: Global,
     layout: Layout,
     image: &mut M,
@@ -36,6 +36,8 @@ pub fn boot_store<M: Store>(
     ensures stopped { IfErr result (λ s. LoadStop s (rounded (params_of layout).mem) (M.holds image.old)
         (M.faults image.old) (M.faults image.new)) }
     ensures same { M.holds image.new ≡ M.holds image.old }
+    ensures unwritten { M.writes image.new ≡ M.writes image.old }
+    ensures image_count { KeptUnless Stop.ImageFault result (M.faults image.old) (M.faults image.new) }
     ensures later { M.faults image.old ≤ M.faults image.new }
 {
     let bytes = match load(alloc, image, layout.mem()) {

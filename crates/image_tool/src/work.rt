@@ -32,9 +32,9 @@ fn do_command<S: Source, M: Store, O: Sink>(
     out: &mut O,
 ) -> Result<(), Stop>
     ensures work { let before = outside (S.left script.old) (S.faults script.old) (M.holds image.old)
-        (M.faults image.old) (O.given out.old) (O.faults out.old) in
+        (M.faults image.old) (M.writes image.old) (O.given out.old) (O.faults out.old) in
         let after = outside (S.left script.new) (S.faults script.new) (M.holds image.new)
-        (M.faults image.new) (O.given out.new) (O.faults out.new) in
+        (M.faults image.new) (M.writes image.new) (O.given out.new) (O.faults out.new) in
         WorkDone (Ok (OfRam (plan_for (ram_command_seen command.entry) layout))) before after result }
     ensures put { PutsBefore (ram_command_seen command.entry) (O.given out.old) (O.given out.new) result }
 {
@@ -60,9 +60,9 @@ fn do_work<S: Source, M: Store, O: Sink>(
     out: &mut O,
 ) -> Result<(), Stop>
     ensures work { let before = outside (S.left script.old) (S.faults script.old) (M.holds image.old)
-        (M.faults image.old) (O.given out.old) (O.faults out.old) in
+        (M.faults image.old) (M.writes image.old) (O.given out.old) (O.faults out.old) in
         let after = outside (S.left script.new) (S.faults script.new) (M.holds image.new)
-        (M.faults image.new) (O.given out.new) (O.faults out.new) in
+        (M.faults image.new) (M.writes image.new) (O.given out.new) (O.faults out.new) in
         WorkDone (plan_of (texts words.now)) before after result }
     ensures put { PutsByPlan (plan_of (texts words.now)) (O.given out.old) (O.given out.new) result }
 {
@@ -96,9 +96,9 @@ pub fn run<S: Source, M: Store, O: Sink>(
     ensures image_fault { result ≡ 6 → Rose (M.faults image.old) (M.faults image.new) }
     ensures sink_fault { result ≡ 7 → Rose (O.faults out.old) (O.faults out.new) }
     ensures runs { let before = outside (S.left script.old) (S.faults script.old) (M.holds image.old)
-        (M.faults image.old) (O.given out.old) (O.faults out.old) in
+        (M.faults image.old) (M.writes image.old) (O.given out.old) (O.faults out.old) in
         let after = outside (S.left script.new) (S.faults script.new) (M.holds image.new)
-        (M.faults image.new) (O.given out.new) (O.faults out.new) in
+        (M.faults image.new) (M.writes image.new) (O.given out.new) (O.faults out.new) in
         Runs (texts words.now) before after result }
 {
     later_boot_lists_crash(); // a law, for the proof of what boots list of crashes

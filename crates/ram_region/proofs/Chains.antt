@@ -8,7 +8,7 @@ use Rattle.core.proofs.str.Laws.{order}
 use Rattle.std.specs.List.{concat}
 use denote.RawPtr.{Ptr, ◌+ₚ◌}
 use Rattle.core.specs.Mem.Slots.{slots_items, slots_ptr, slots_len, IsFull}
-use Rattle.ram_region.specs.declared.spans.Piece.{Piece}
+use Rattle.ram_region.specs.declared.pieces.Piece.{Piece}
 use Rattle.core.specs.declared.slots.Slots.{Slots}
 use Rattle.std.specs.Prelude.{slice_range}
 use Rattle.zone_spec.specs.Parts.{AreBytes}

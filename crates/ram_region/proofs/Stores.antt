@@ -1,9 +1,12 @@
 -- What a store of zone_spec makes of a list, as the list's parts and as single bytes
-use Rattle.std.proofs.Common.{◌≡◌, ℕ, ◌+◌, ◌≤◌, suc, List, [], ◌∷◌, ◌++◌, length, set, take, drop, sym, ap, ◌∙◌, arith, append_assoc, add-one, add-zero, length-set}
+use Rattle.std.proofs.Common.{◌≡◌, ℕ, ◌+◌, ◌<◌, ◌≤◌, zero, suc, w32, lit<, refl, List, [], ◌∷◌, ◌++◌, length, get_or, set, take, drop, sym, ap, ◌∙◌, arith, append_assoc, add-one, add-zero, length-set}
 use lib.ListN.{take-append-drop}
 use mathlib.Core.List.{append-nil}
-use Rattle.std.proofs.lemmas.List.{drop-set-lt}
+use Rattle.std.proofs.lemmas.List.{drop-set-lt, drop_more}
+use Rattle.std.proofs.Math.ListN.{drop_of_length-le}
 use Rattle.std.proofs.Math.Seq.{take-suc-set}
+use Rattle.std.specs.Int.{to_le_bytes}
+use Rattle.zone_spec.specs.Parts.{AreBytes}
 use Rattle.zone_spec.specs.Stores.{put}
 
 -- bytes put at a place within the list
@@ -20,3 +23,58 @@ put-parts xs at (b ∷ bs) le =
     ∙ ap (λ (l : List ℕ). (take at xs ++ b ∷ []) ++ bs ++ l)
     (drop-set-lt (at + 1 + length bs) xs at b (omega arith) ∙ ap (λ (n : ℕ). drop n xs) past)
     ∙ ap (λ (l : List ℕ). l ++ drop (at + suc (length bs)) xs) (append_assoc (take at xs) (b ∷ []) bs)
+
+set-bytes : (xs : List ℕ) (at b : ℕ) → AreBytes xs → b < 256 → AreBytes (set xs at b)
+set-bytes [] zero b h k i = h i
+set-bytes [] (suc at) b h k i = h i
+set-bytes (x ∷ xs) zero b h k zero = k
+set-bytes (x ∷ xs) zero b h k (suc i) = h (suc i)
+set-bytes (x ∷ xs) (suc at) b h k zero = h 0
+set-bytes (x ∷ xs) (suc at) b h k (suc i) = set-bytes xs at b (λ j. h (suc j)) k i
+
+-- bytes put into bytes
+pub AreBytes-put : (xs : List ℕ) (at : ℕ) (bs : List ℕ) → AreBytes xs → AreBytes bs → AreBytes (put xs at bs)
+unfolding put
+AreBytes-put xs at [] h k = h
+AreBytes-put xs at (b ∷ bs) h k =
+    AreBytes-put (set xs at b) (at + 1) bs (set-bytes xs at b h (k 0)) (λ i. k (suc i))
+
+pub AreBytes-one : (b : ℕ) → b < 256 → AreBytes (b ∷ [])
+AreBytes-one b lt zero = lt
+AreBytes-one b lt (suc i) = lit< tt
+
+pub AreBytes-word : (n : ℕ) → AreBytes (to_le_bytes w32 n)
+AreBytes-word n zero = omega arith
+AreBytes-word n (suc zero) = omega arith
+AreBytes-word n (suc (suc zero)) = omega arith
+AreBytes-word n (suc (suc (suc zero))) = omega arith
+AreBytes-word n (suc (suc (suc (suc i)))) = omega arith
+
+-- the four bytes of one list and the four of another
+pub AreBytes-eight : (xs ys : List ℕ) → AreBytes xs → AreBytes ys → AreBytes (get_or xs 0 0 ∷ get_or xs 1 0
+    ∷ get_or xs 2 0 ∷ get_or xs 3 0 ∷ get_or ys 0 0 ∷ get_or ys 1 0 ∷ get_or ys 2 0 ∷ get_or ys 3 0 ∷ [])
+AreBytes-eight xs ys h k zero = h 0
+AreBytes-eight xs ys h k (suc zero) = h 1
+AreBytes-eight xs ys h k (suc (suc zero)) = h 2
+AreBytes-eight xs ys h k (suc (suc (suc zero))) = h 3
+AreBytes-eight xs ys h k (suc (suc (suc (suc zero)))) = k 0
+AreBytes-eight xs ys h k (suc (suc (suc (suc (suc zero))))) = k 1
+AreBytes-eight xs ys h k (suc (suc (suc (suc (suc (suc zero)))))) = k 2
+AreBytes-eight xs ys h k (suc (suc (suc (suc (suc (suc (suc zero))))))) = k 3
+AreBytes-eight xs ys h k (suc (suc (suc (suc (suc (suc (suc (suc i)))))))) = lit< tt
+
+-- one byte put is that byte set
+pub put-one : (xs : List ℕ) (at b : ℕ) → put xs at (b ∷ []) ≡ set xs at b
+unfolding put
+put-one xs at b = refl
+
+-- the next of the bytes put before the others
+pub put-next : (xs : List ℕ) (at : ℕ) (bs : List ℕ) (i : ℕ) → i < length bs
+    → put (put xs at (get_or bs i 0 ∷ [])) (at + 1) (drop (i + 1) bs) ≡ put xs at (drop i bs)
+unfolding put
+put-next xs at bs i lt = ap (λ (l : List ℕ). put xs at l) (sym (drop_more bs i 0 lt))
+
+-- behind the last byte nothing is put
+pub put-end : (xs : List ℕ) (at : ℕ) (bs : List ℕ) (i : ℕ) → length bs ≤ i → put xs at (drop i bs) ≡ xs
+unfolding put
+put-end xs at bs i le = ap (λ (l : List ℕ). put xs at l) (drop_of_length-le bs le)

@@ -4,7 +4,7 @@ use denote.RawPtr.{Ptr, ◌+ₚ◌}
 use Rattle.core.specs.Mem.Slots.{slots_items, slots_ptr, slots_len, IsFull}
 use Rattle.core.specs.declared.slots.Slots.{Slots}
 use Rattle.zone_spec.specs.declared.Zone.{Zone}
-use Rattle.ram_region.specs.declared.spans.Piece.{Piece}
+use Rattle.ram_region.specs.declared.pieces.Piece.{Piece}
 use Rattle.zone_spec.specs.Layouts.{zones_end}
 
 -- the bytes of a piece

@@ -22,3 +22,12 @@ span cut i = get_or cut.spans i []
 -- these bytes for the i-th span; all others and the rest stay
 abbrev pub with_span : CutRegion → ℕ → List ℕ → CutRegion
 with_span cut i bytes = record { spans = slice_set cut.spans i bytes; rest = cut.rest }
+
+-- a region that is cut into spans, and how many stores were made into it
+pub record CountedRegion : Type 0 where
+  pub region : CutRegion
+  pub stores : ℕ
+
+-- after one store, which leaves these bytes for the i-th span
+abbrev pub stored : CountedRegion → ℕ → List ℕ → CountedRegion
+stored counted i bytes = record { region = with_span counted.region i bytes; stores = counted.stores + 1 }

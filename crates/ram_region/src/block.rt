@@ -1,16 +1,18 @@
-// The one block: a `Vec` taken apart and put together, and a row of places cut, glued and lent.
-ghost use Rattle.std.specs.Prelude.{◌≡◌, ◌+◌, ◌-◌, ◌*◌, ◌^◌, ◌<◌, ◌≤◌, ◌++◌, take, drop};
+// The one block: a `Vec` taken apart and put together, a row of places cut, glued and lent, and each store into it.
+ghost use Rattle.std.specs.Prelude.{◌≡◌, ℕ, ◌+◌, ◌-◌, ◌*◌, ◌^◌, ◌<◌, ◌≤◌, ◌++◌, length, take, drop};
+ghost use base.Fml.{ftrue};
 ghost use denote.RawPtr.{◌+ₚ◌};
 ghost use Rattle.std.specs.Vec.{vec_ptr, vec_len};
-ghost use Rattle.core.specs.Mem.Slots.{slots_items, slots_ptr, slots_len, IsFull};
+ghost use Rattle.core.specs.Mem.Slots.{slots_items, slots_ptr, slots_len, IsFull, SamePlaces};
 ghost use Rattle.core.specs.Mem.Slots.Ownership.{bytes_of};
 ghost use Rattle.std.specs.Prelude.{map};
 ghost use Rattle.ram_region.specs.Chain.{piece_bytes};
 
-use crate::spans::{Piece, Span};
+use crate::pieces::Piece;
+use crate::spans::Span;
 use core::slots::Slots;
 use std::alloc::Allocator;
-use std::marker::{Move, Owns};
+use std::marker::{Model, Move, Owns, PhantomData};
 
 /// A `Vec` whose elements have gone to a row of slots: its own words, the room after the elements, and the right to
 /// free the block.
@@ -33,12 +35,63 @@ impl<T, A: Allocator> Move for Shell<T, A> {
     ghost own_val = { shell_owns T.row A.row A.Allocator };
 }
 
-/// Takes the elements out of the `Vec`, as a row of places in its block.
+/// The number of stores into a block. It takes no room and no time, and only a store raises it.
+#[derive(Drop)]
+pub struct Stores {
+    marker: PhantomData<()>,
+    pub ghost count: { ℕ },
+}
+
+impl Model for Stores {
+    ghost also_owns = { λ _. ftrue };
+}
+
+impl Stores {
+    fn none() -> Stores
+        ensures { result.count ≡ 0 }
+    {
+        Stores {
+            marker: PhantomData,
+        }
+    }
+}
+
+/// Stores an array over the values from `at` of a row on, in one store. The row begins at `base`.
+pub(crate) fn store_array<T, const N: usize>(
+    row: &mut Slots<T>,
+    base: *mut T,
+    at: usize,
+    values: [T; N],
+    stores: &mut Stores,
+)
+    requires { (slots_ptr row.old ≡ base) × (at + N ≤ slots_len row.old) × IsFull row.old }
+    ensures items { slots_items row.new ≡ take at (slots_items row.old) ++ values ++ drop (at + N) (slots_items row.old) }
+    ensures full { IsFull row.new }
+    ensures places { SamePlaces row.old row.new }
+    ensures count { stores.new.count ≡ stores.old.count + 1 }
+    ensures sized { length values ≡ N }
+{
+    let _ = stores;
+    unsafe { (base.add(at) as *mut [T; N]).write(values) }
+}
+
+/// Takes the elements out of the `Vec`, as a row of places in its block, with the number of stores into it so far.
 pub(crate) fn open<T, A: Allocator>(
     vec: Vec<T, A>,
     ptr: *mut T,
     len: usize,
-) -> (Slots<T>, Shell<T, A>)
+) -> (Slots<T>, Shell<T, A>, Stores)
+    requires { (ptr ≡ vec_ptr vec) × (len ≡ vec_len vec) }
+    ensures row { (slots_items result.0 ≡ vec.items) × IsFull result.0 × (slots_ptr result.0 ≡ vec_ptr vec)
+        × (slots_len result.0 ≡ vec_len vec) }
+    ensures shell { result.1 ≡ vec }
+    ensures stores { result.2.count ≡ 0 }
+{
+    let (row, shell) = take_apart(vec, ptr, len);
+    (row, shell, Stores::none())
+}
+
+fn take_apart<T, A: Allocator>(vec: Vec<T, A>, ptr: *mut T, len: usize) -> (Slots<T>, Shell<T, A>)
     requires { (ptr ≡ vec_ptr vec) × (len ≡ vec_len vec) }
     ensures row { (slots_items result.0 ≡ vec.items) × IsFull result.0 × (slots_ptr result.0 ≡ vec_ptr vec)
         × (slots_len result.0 ≡ vec_len vec) }

@@ -5,8 +5,9 @@
 #![tactic(auto)]
 
 mod block;
+mod pieces;
 mod probe;
 mod spans;
 
 pub use probe::Probe;
-pub use spans::{Region, Span, Spans};
+pub use spans::{CountedSpans, Region, Span, Spans};

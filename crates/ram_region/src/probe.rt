@@ -2,8 +2,9 @@
 ghost use Rattle.std.specs.Prelude.{◌≡◌, ◌+◌, ◌≤◌, length, replicate, IfOk};
 ghost use Rattle.zone_spec.specs.Stores.{put};
 
-use crate::block::{Shell, as_spans, based, close, open};
-use crate::spans::{Piece, Span};
+use crate::block::{Shell, Stores, as_spans, based, close, open};
+use crate::pieces::Piece;
+use crate::spans::Span;
 use std::alloc::{AllocError, Global};
 use std::marker::Model;
 
@@ -11,6 +12,7 @@ use std::marker::Model;
 pub struct Probe {
     piece: Piece,
     shell: Shell<u8, Global>,
+    stores: Stores,
 }
 
 impl Model for Probe {
@@ -34,11 +36,12 @@ impl Probe {
     {
         let mut bytes = Vec::from_elem(alloc, 0u8, size as usize)?;
         let (ptr, len) = (bytes.as_mut_ptr(), bytes.len());
-        let (row, shell) = open(bytes, ptr, len);
+        let (row, shell, stores) = open(bytes, ptr, len);
         let (slots, base) = based(row);
         Ok(Probe {
             piece: Piece::over(base, slots),
             shell,
+            stores,
         })
     }
 
@@ -47,7 +50,7 @@ impl Probe {
         requires { at + length bytes.now ≤ length self.old }
         ensures { self.new ≡ put self.old at bytes.now }
     {
-        self.piece.store_bytes(at, bytes);
+        self.piece.store_bytes(at, bytes, &mut self.stores);
     }
 
     /// The span, as it is lent for reading.
@@ -60,7 +63,11 @@ impl Probe {
 
 impl Drop for Probe {
     fn drop(self) {
-        let Probe { piece, shell } = self;
+        let Probe {
+            piece,
+            shell,
+            stores: _,
+        } = self;
         let _bytes = close(piece.into_slots(), shell);
     }
 }

@@ -8,7 +8,8 @@ ghost use Rattle.zone_spec.specs.Parts.{AreBytes};
 ghost use Rattle.zone_spec.specs.Stores.{put};
 ghost use Rattle.ram_region.specs.Row.{IsRow};
 
-use crate::block::{Shell, as_spans, based, close, glue, lend, open, split};
+use crate::block::{Shell, Stores, as_spans, based, close, glue, lend, open, split};
+use crate::pieces::Piece;
 use box_io::Bytes;
 use core::slots::Slots;
 use std::alloc::{AllocError, Global};
@@ -74,48 +75,6 @@ impl Span {
     }
 }
 
-/// A part of a region's block: where it begins, and its places, which it owns.
-#[repr(C)]
-pub struct Piece {
-    base: *mut u8,
-    slots: Slots<u8>,
-    ghost row: { IsRow base slots },
-}
-
-impl Piece {
-    ghost use Rattle.ram_region.specs.Chain.{piece_bytes, SamePlace};
-
-    fn store(&mut self, at: u32, b: u8)
-        requires { at < length (piece_bytes self.old) }
-        ensures bytes { piece_bytes self.new ≡ slice_set (piece_bytes self.old) at b }
-        ensures place { SamePlace self.old self.new }
-    {
-        self.slots.put(at as usize, b);
-    }
-
-    pub(crate) fn store_bytes(&mut self, at: u32, bytes: &[u8])
-        requires { at + length bytes.now ≤ length (piece_bytes self.old) }
-        ensures bytes { piece_bytes self.new ≡ put (piece_bytes self.old) at bytes.now }
-        ensures place { SamePlace self.old self.new }
-    {
-        self.slots.copy_in(at as usize, bytes);
-    }
-
-    pub(crate) fn over(base: *mut u8, slots: Slots<u8>) -> Piece
-        requires { IsRow base slots }
-        ensures { result.slots ≡ slots }
-    {
-        Piece { base, slots }
-    }
-
-    pub(crate) fn into_slots(self) -> Slots<u8>
-        ensures { (result ≡ self.slots) × IsFull result }
-    {
-        let Piece { base: _, slots } = self;
-        slots
-    }
-}
-
 /// A region of bytes in one allocation.
 #[derive(Drop)]
 pub struct Region {
@@ -131,22 +90,41 @@ impl Model for Region {
 }
 
 /// A region that is cut into spans. It owns the allocation, and frees it where it is dropped.
+#[derive(Drop)]
 pub struct Spans {
-    list: Vec<Piece>,
-    rest: Slots<u8>,
-    shell: Shell<u8, Global>,
+    counted: CountedSpans,
 }
 
 impl Model for Spans {
-    ghost use Rattle.core.specs.Mem.Slots.{slots_items};
-    ghost use Rattle.std.specs.Vec.{vec_ptr, vec_len};
     ghost use Rattle.ram_region.specs.CutRegion.{CutRegion};
 
     ghost Value = { CutRegion };
 
+    ghost view = { λ s. s.counted.region };
+}
+
+/// A region that is cut into spans, with the number of stores into it. The number is for proofs alone, and takes no
+/// room: it rises by one at the instruction that stores, and at nothing else.
+pub struct CountedSpans {
+    list: Vec<Piece>,
+    rest: Slots<u8>,
+    shell: Shell<u8, Global>,
+    stores: Stores,
+}
+
+impl Model for CountedSpans {
+    ghost use Rattle.core.specs.Mem.Slots.{slots_items};
+    ghost use Rattle.std.specs.Vec.{vec_ptr, vec_len};
+    ghost use Rattle.ram_region.specs.CutRegion.{CountedRegion};
+
+    ghost Value = { CountedRegion };
+
     ghost use Rattle.ram_region.specs.Chain.{all_bytes, Laid};
 
-    ghost view = { λ s. record { spans = all_bytes s.list.items; rest = slots_items s.rest } };
+    ghost view = { λ s. record {
+      region = record { spans = all_bytes s.list.items; rest = slots_items s.rest };
+      stores = s.stores.count;
+    } };
 
     ghost invariant = { λ s. Laid (vec_ptr s.shell) (vec_len s.shell) s.list.items s.rest };
 }
@@ -194,14 +172,20 @@ impl Region {
             Err(refused) => return Err((Region::from_bytes(Bytes::from_vec(bytes)), refused)),
         };
         let (ptr, len) = (bytes.as_mut_ptr(), bytes.len());
-        let (mut rest, shell) = open(bytes, ptr, len);
+        let (mut rest, shell, stores) = open(bytes, ptr, len);
         for zone in zones {
             let (front, back) = split(rest, zone.size as usize);
             let (slots, base) = based(front);
-            list.push_reserved(Piece { base, slots });
+            list.push_reserved(Piece::over(base, slots));
             rest = back;
         }
-        Ok(Spans { list, rest, shell })
+        let counted = CountedSpans {
+            list,
+            rest,
+            shell,
+            stores,
+        };
+        Ok(Spans { counted })
     }
 }
 
@@ -212,7 +196,7 @@ impl Spans {
     pub fn all(&self) -> &[Span]
         ensures { result.now ≡ self.now.spans }
     {
-        as_spans(self.list.as_slice())
+        self.counted.all()
     }
 
     /// Stores a byte at `at` of span `i`.
@@ -221,16 +205,16 @@ impl Spans {
         requires place { at < length (span self.old i) }
         ensures { self.new ≡ with_span self.old i (slice_set (span self.old i) at b) }
     {
-        self.list[i as usize].store(at, b);
+        self.counted.store(i, at, b);
     }
 
-    /// Stores a 32-bit word, little-endian, from `at` of span `i` on.
+    /// Stores a 32-bit word, little-endian, from `at` of span `i` on, in one store.
     pub fn store_word(&mut self, i: u32, at: u32, w: u32)
         requires span { i < length self.old.spans }
         requires place { at + 4 ≤ length (span self.old i) }
         ensures { self.new ≡ with_span self.old i (put (span self.old i) at (to_le_bytes w32 w)) }
     {
-        self.store_bytes(i, at, &w.to_le_bytes());
+        self.counted.store_word(i, at, w);
     }
 
     /// Stores bytes from `at` of span `i` on, rising.
@@ -239,28 +223,102 @@ impl Spans {
         requires place { at + length bytes.now ≤ length (span self.old i) }
         ensures { self.new ≡ with_span self.old i (put (span self.old i) at bytes.now) }
     {
-        self.list[i as usize].store_bytes(at, bytes);
+        self.counted.store_bytes(i, at, bytes);
     }
 
     /// The whole region again. Takes no memory.
     pub fn join(self) -> Region
         ensures { result ≡ concat self.spans ++ self.rest }
     {
-        let Spans {
+        self.counted.join()
+    }
+
+    /// The same spans, where clauses count the stores.
+    pub fn counted(self) -> CountedSpans
+        ensures { result.region ≡ self }
+    {
+        self.counted
+    }
+}
+
+impl CountedSpans {
+    ghost use Rattle.ram_region.specs.CutRegion.{span, with_span, stored};
+
+    /// The spans in the order of the zones.
+    pub fn all(&self) -> &[Span]
+        ensures { result.now ≡ self.now.region.spans }
+    {
+        as_spans(self.list.as_slice())
+    }
+
+    /// Stores a byte at `at` of span `i`.
+    pub fn store(&mut self, i: u32, at: u32, b: u8)
+        requires span { i < length self.old.region.spans }
+        requires place { at < length (span self.old.region i) }
+        ensures { self.new ≡ stored self.old i (slice_set (span self.old.region i) at b) }
+    {
+        self.store_array(i, at, [b]);
+    }
+
+    /// Stores a 32-bit word, little-endian, from `at` of span `i` on, in one store.
+    pub fn store_word(&mut self, i: u32, at: u32, w: u32)
+        requires span { i < length self.old.region.spans }
+        requires place { at + 4 ≤ length (span self.old.region i) }
+        ensures { self.new ≡ stored self.old i (put (span self.old.region i) at (to_le_bytes w32 w)) }
+    {
+        self.store_array(i, at, w.to_le_bytes());
+    }
+
+    /// Stores two 32-bit words, little-endian, from `at` of span `i` on, in one store of eight bytes.
+    pub fn store_pair(&mut self, i: u32, at: u32, first: u32, second: u32)
+        requires span { i < length self.old.region.spans }
+        requires place { at + 8 ≤ length (span self.old.region i) }
+        ensures { self.new ≡ stored self.old i
+            (put (span self.old.region i) at (to_le_bytes w32 first ++ to_le_bytes w32 second)) }
+    {
+        let [a, b, c, d] = first.to_le_bytes();
+        let [e, f, g, h] = second.to_le_bytes();
+        self.store_array(i, at, [a, b, c, d, e, f, g, h]);
+    }
+
+    fn store_array<const N: usize>(&mut self, i: u32, at: u32, bytes: [u8; N])
+        requires span { i < length self.old.region.spans }
+        requires place { at + N ≤ length (span self.old.region i) }
+        requires bytes { AreBytes bytes }
+        ensures { self.new ≡ stored self.old i (put (span self.old.region i) at bytes.entry) }
+    {
+        self.list[i as usize].store(at, bytes, &mut self.stores);
+    }
+
+    /// Stores bytes from `at` of span `i` on, rising, in a store for each.
+    pub fn store_bytes(&mut self, i: u32, at: u32, bytes: &[u8])
+        requires span { i < length self.old.region.spans }
+        requires place { at + length bytes.now ≤ length (span self.old.region i) }
+        ensures region { self.new.region ≡ with_span self.old.region i (put (span self.old.region i) at bytes.now) }
+        ensures stores { self.new.stores ≡ self.old.stores + length bytes.now }
+    {
+        self.list[i as usize].store_bytes(at, bytes, &mut self.stores);
+    }
+
+    /// The whole region again. Takes no memory.
+    pub fn join(self) -> Region
+        ensures { result ≡ concat self.region.spans ++ self.region.rest }
+    {
+        let CountedSpans {
             mut list,
             mut rest,
             shell,
+            stores: _,
         } = self;
         while let Some(piece) = list.pop() {
-            let Piece { base: _, slots } = piece;
-            rest = glue(slots, rest);
+            rest = glue(piece.into_slots(), rest);
         }
         list.destroy_empty();
         Region::from_bytes(Bytes::from_vec(close(rest, shell)))
     }
 }
 
-impl Drop for Spans {
+impl Drop for CountedSpans {
     fn drop(self) {
         let _region = self.join();
     }

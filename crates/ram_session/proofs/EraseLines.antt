@@ -234,7 +234,7 @@ refused_busy live logs text h layout mem (LiveOf s) lies stands state =
 
 pub erase_refused : (live : LiveSeen) (logs : SavedLogs) (text : List ℕ) (e : LineError) → EraseFails live logs text e
     → LineFails (Live live logs) (Erase text) e
-erase_refused live logs text Memory h = tt
+erase_refused live logs text Memory h = absurd h
 erase_refused live logs text (Refused NoRecord) h = refused_unlisted live logs text h
 erase_refused live logs text (Refused Busy) h = refused_busy live logs text h
 erase_refused live logs text (Refused IsOff) h = absurd h

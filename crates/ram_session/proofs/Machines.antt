@@ -90,7 +90,7 @@ off_refused old line cause keeps fails layout mem s k lies alike stands has stat
 
 pub off_fails : (old : OffSeen) (line : Line) (e : LineError) → KeepsKernel line → LineFails (OffStore old) line e
     → MachineFails (Off old) line e
-off_fails old line Memory keeps fails = tt
+off_fails old line Memory keeps fails = fails
 off_fails old line (Refused cause) keeps fails = off_refused old line cause keeps fails
 
 boot_is : (layout : List Zone) (s : Session) (k : KernelOf)
@@ -133,7 +133,7 @@ live_done old new logs logs' kernel line text keeps done layout mem s k lies ali
 
 pub live_fails : (old : LiveSeen) (logs : SavedLogs) (kernel : Kernel) (line : Line) (e : LineError)
     → KeepsKernel line → LineFails (LiveStore old logs) line e → MachineFails (Live old logs kernel) line e
-live_fails old logs kernel line Memory keeps fails = tt
+live_fails old logs kernel line Memory keeps fails = fails
 live_fails old logs kernel line (Refused cause) keeps fails = λ layout mem s k lies alike stands has state.
     kept layout s k line keeps ∙ ap (beside k) (fails layout mem s lies stands state)
 

@@ -1,5 +1,5 @@
 -- The zones of a record erased, and their saved logs forgotten
-use Rattle.std.specs.Prelude.{◌≡◌, ⊤, ℕ, Bool, true, false, ◌&&◌, is_some, if◌then◌else◌, List, map, zip, slice_get, slice_set, Some, None}
+use Rattle.std.specs.Prelude.{◌≡◌, ℕ, Bool, true, false, ◌&&◌, is_some, if◌then◌else◌, List, map, zip, slice_get, slice_set, Some, None}
 use Rattle.zone_spec.specs.declared.Zone.{Zone}
 use Rattle.zone_spec.specs.declared.Name.{Name}
 use Rattle.zone_spec.specs.Layouts.{IsLayout}
@@ -73,7 +73,7 @@ IsBusy v logs text = (layout : List Zone) (mem : ℕ) (s : LiveState) → Stands
 
 -- why none was erased
 abbrev pub EraseFails : LiveSeen → SavedLogs → Text → LineError → Type 0
-EraseFails v logs text Memory = ⊤
+EraseFails v logs text Memory = ⊥
 EraseFails v logs text (Refused NoRecord) = named (saved logs) text ≡ None
 EraseFails v logs text (Refused Busy) = IsBusy v logs text
 EraseFails v logs text (Refused cause) = ⊥

@@ -1,5 +1,5 @@
 -- A script's machine: its store, and the kernel of a live one
-use Rattle.std.specs.Prelude.{◌≡◌, ⊤, ℕ, List, Ok, Err}
+use Rattle.std.specs.Prelude.{◌≡◌, ℕ, List, Ok, Err}
 use Rattle.zone_spec.specs.declared.Zone.{Zone}
 use Rattle.zone_spec.specs.Layouts.{IsLayout}
 use Rattle.session_spec.specs.States.{Session}
@@ -9,7 +9,7 @@ use Rattle.grammar_spec.specs.declared.line.Line.{Line}
 use Rattle.tool_spec.specs.Scripts.{Kernel as KernelOf, new_kernel, line_done}
 use Rattle.tool_spec.specs.declared.Cause.{Cause}
 use Rattle.ram_session.specs.Kernels.{StandsForKernel, DumpsAlike}
-use Rattle.ram_session.specs.Sessions.{StoreSeen, Off as OffStore, Live as LiveStore, Stands}
+use Rattle.ram_session.specs.Sessions.{StoreSeen, Off as OffStore, Live as LiveStore, Stands, TakesMemory}
 use Rattle.ram_session.specs.declared.machine.Machine.{Machine}
 use Rattle.ram_session.specs.declared.machine.Machine.TheVariants.{Off, Live}
 use Rattle.ram_session.specs.declared.machine.LineError.{LineError}
@@ -52,5 +52,5 @@ MachineRefused old line cause = (layout : List Zone) (mem : ℕ) (s : Session) (
 
 -- why a line was not done
 abbrev pub MachineFails : Machine → Line → LineError → Type 0
-MachineFails old line Memory = ⊤
+MachineFails old line Memory = TakesMemory line
 MachineFails old line (Refused cause) = MachineRefused old line cause

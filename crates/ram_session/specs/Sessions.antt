@@ -11,7 +11,7 @@ use Rattle.ram_core.specs.OffSeen.{OffSeen, StandsOff}
 use Rattle.ram_core.specs.LiveSeen.{LiveSeen, StandsLive}
 use Rattle.grammar_spec.specs.Fields.{Text}
 use Rattle.grammar_spec.specs.declared.line.Line.{Line}
-use Rattle.grammar_spec.specs.declared.line.Line.TheVariants.{Write, Dump, BeginWrite, BeginErase, BeginDump, Step, Finish, KMsg, Crash, Boot, Stop}
+use Rattle.grammar_spec.specs.declared.line.Line.TheVariants.{Write, Dump, BeginWrite, BeginErase, BeginDump, Step, Finish, KMsg, Crash, Boot, BootPart, Stop, List as ListLine, Extract}
 use Rattle.tool_spec.specs.Scripts.{store_line}
 use Rattle.tool_spec.specs.declared.Cause.{Cause}
 use Rattle.ram_session.specs.declared.machine.LineError.{LineError}
@@ -46,9 +46,18 @@ abbrev pub LineRefused : StoreSeen → Line → Cause → Type 0
 LineRefused old line cause = (layout : List Zone) (mem : ℕ) (s : Session) → IsLayout layout mem
     → Stands layout mem old s → IsState layout mem s → store_line layout s line ≡ Err cause
 
+-- a line that takes memory: a boot, whole or in part, a text of records, the body of a crash
+abbrev pub TakesMemory : Line → Type 0
+TakesMemory Boot = ⊤
+TakesMemory (BootPart limit) = ⊤
+TakesMemory ListLine = ⊤
+TakesMemory (Extract name) = ⊤
+TakesMemory (Crash reason time) = ⊤
+TakesMemory other = ⊥
+
 -- why a line was not done
 abbrev pub LineFails : StoreSeen → Line → LineError → Type 0
-LineFails old line Memory = ⊤
+LineFails old line Memory = TakesMemory line
 LineFails old line (Refused cause) = LineRefused old line cause
 
 -- a line of a call

@@ -1,6 +1,7 @@
 // The lines of a script, in order.
-ghost use Rattle.std.specs.Prelude.{◌+◌, ◌≤◌, ◌<◌, ◌^◌, length, IfOk, MatchResult};
+ghost use Rattle.std.specs.Prelude.{◌≡◌, ◌+◌, ◌≤◌, ◌<◌, ◌^◌, length, IfOk, MatchResult};
 ghost use Rattle.grammar_spec.specs.Printed.{HasFields, AllHaveFields};
+ghost use Rattle.tool_frame.specs.Stages.{KeptUnless};
 ghost use Rattle.ram_session.specs.Machines.{crashes_of};
 ghost use Rattle.ram_session.specs.Playing.{Puts, LineStops, Plays};
 
@@ -24,6 +25,7 @@ fn play_line<O: Sink>(
     requires few { crashes_of machine + 1 < 2 ^ 32 }
     ensures count { IfOk result (λ next. crashes_of next ≤ crashes_of machine + 1) }
     ensures later { O.faults out.old ≤ O.faults out.new }
+    ensures counts { KeptUnless Stop.SinkFault result (O.faults out.old) (O.faults out.new) }
     ensures played { MatchResult result (λ next. Puts machine line next (O.given out.old) (O.given out.new))
         (λ stop. LineStops stop machine line number (O.given out.old) (O.given out.new) (O.faults out.old)
         (O.faults out.new)) }
@@ -49,6 +51,7 @@ pub fn play<O: Sink>(alloc: Global, off: Off, lines: Lines, out: &mut O) -> Resu
     requires fields { AllHaveFields lines }
     requires few { length lines < 2 ^ 32 }
     ensures later { O.faults out.old ≤ O.faults out.new }
+    ensures counts { KeptUnless Stop.SinkFault result (O.faults out.old) (O.faults out.new) }
     ensures played { Plays off lines (O.given out.old) (O.given out.new) (O.faults out.old) (O.faults out.new)
         result }
 {

@@ -1,3 +1,5 @@
+pub mod Foreign
+pub mod Covered
 pub mod Texts
 pub mod Runs
 pub mod Rendered

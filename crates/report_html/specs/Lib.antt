@@ -1,3 +1,5 @@
 pub mod Pieces
 pub mod Pictures
+pub mod Covers
 pub mod Pages
+pub mod Escaping

@@ -1,13 +1,22 @@
-// What escaped bytes are, and a worked picture.
-ghost use Rattle.std.specs.Prelude.{◌≡◌, ℕ, List, [], ◌∷◌};
+// What escaped bytes are, what the runs of a picture are, and a worked picture.
+ghost use Rattle.std.specs.Prelude.{◌≡◌, ℕ, List, [], ◌∷◌, length};
 ghost use Rattle.zone_spec.specs.Parts.{AreBytes};
 ghost use Rattle.report_spec.specs.Escaped.{IsText, escaped};
+ghost use Rattle.report_spec.specs.declared.PartState.{PartState};
 ghost use Rattle.report_spec.specs.declared.PartState.TheVariants.{Read, Bad};
 ghost use Rattle.report_html.specs.Pictures.{runs};
+ghost use Rattle.report_html.specs.Covers.{Cover, states_of};
 
 /// Escaped bytes are text: no markup of a page comes from them, whatever they are, and each of them is visible.
 pub fn escaped_is_text()
     ensures { (bytes : List ℕ) → AreBytes bytes → IsText (escaped bytes) }
+{}
+
+/// The runs of the blocks cover them, from the first to the last, in order. None is empty, neighbours read differently,
+/// and each block reads as its run does.
+pub fn runs_cover_the_blocks()
+    ensures cover { (states : List PartState) → Cover 0 (length states) (runs 0 states) }
+    ensures states { (states : List PartState) → states_of (runs 0 states) ≡ states }
 {}
 
 /// Six blocks, of which two neighbours are clean and two bad, make four runs.

@@ -1,11 +1,10 @@
 // The page.
-ghost use Rattle.std.specs.Prelude.{◌≡◌, ◌++◌, List, ℕ, flat_map, IfOk, OnOk};
+ghost use Rattle.std.specs.Prelude.{◌≡◌, ◌++◌, flat_map, IfOk, OnOk};
 ghost use Rattle.zone_spec.specs.Parts.{AreBytes};
-ghost use Rattle.report_spec.specs.Escaped.{IsText, escaped};
 ghost use Rattle.report_html.specs.Pieces.{parts};
 ghost use Rattle.report_html.specs.Pages.{name_parts, seconds_parts, time_parts, length_parts, content_parts, record_parts, heading_parts, page_parts, page_of};
+ghost use Rattle.report_html.specs.Escaping.{HoldBytes, IsWithoutMarkup};
 
-use crate::laws::escaped_is_text;
 use crate::picture::add_picture;
 use crate::pieces::{Piece, add, render};
 use record_report::{RecordReport, Report};
@@ -90,7 +89,8 @@ fn add_content<'a>(pieces: &mut Vec<Piece<'a>>, content: &'a [u8]) -> Result<(),
 
 /// Adds a record.
 fn add_record<'a>(pieces: &mut Vec<Piece<'a>>, held: &'a RecordReport) -> Result<(), AllocError>
-    ensures { OnOk result (parts pieces.new.items ≡ parts pieces.old.items ++ record_parts held.entry.now) }
+    ensures bytes { OnOk result (AreBytes held.entry.now.content) }
+    ensures parts { OnOk result (parts pieces.new.items ≡ parts pieces.old.items ++ record_parts held.entry.now) }
 {
     add(pieces, &[Piece::Own("<details><summary>")])?;
     add_name(pieces, held.name)?;
@@ -104,7 +104,9 @@ fn add_records<'a>(
     pieces: &mut Vec<Piece<'a>>,
     records: &'a [RecordReport],
 ) -> Result<(), AllocError>
-    ensures { OnOk result (parts pieces.new.items ≡ parts pieces.old.items ++ flat_map record_parts records.entry.now) }
+    ensures bytes { OnOk result (HoldBytes records.entry.now) }
+    ensures parts { OnOk result
+        (parts pieces.new.items ≡ parts pieces.old.items ++ flat_map record_parts records.entry.now) }
 {
     for held in records {
         add_record(pieces, held)?;
@@ -135,7 +137,9 @@ fn all_pieces<'a>(
     zones: &[Zone],
     report: &'a Report,
 ) -> Result<Vec<Piece<'a>>, AllocError>
-    ensures { IfOk result (λ pieces. parts pieces.items ≡ page_parts title.entry.now zones.now report.entry.now) }
+    ensures bytes { OnOk result (HoldBytes report.entry.now.records) }
+    ensures parts { IfOk result (λ pieces. parts pieces.items
+        ≡ page_parts title.entry.now zones.now report.entry.now) }
 {
     let mut pieces = Vec::new(alloc);
     add_heading(&mut pieces, title)?;
@@ -154,9 +158,8 @@ pub fn html(
     report: &Report,
 ) -> Result<Vec<u8>, AllocError>
     ensures page { IfOk result (λ text. text.items ≡ page_of title.now zones.now report.now) }
-    ensures no_markup { (bytes : List ℕ) → AreBytes bytes → IsText (escaped bytes) }
+    ensures no_markup { IfOk result (λ text. IsWithoutMarkup title.now report.now.records text.items) }
 {
-    escaped_is_text();
     let pieces = all_pieces(alloc, title, zones, report)?;
     let text = render(alloc, pieces.as_slice())?;
     Ok(text)

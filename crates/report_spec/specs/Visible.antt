@@ -1,5 +1,5 @@
 -- Bytes as a terminal may show them: printable ASCII, tab and newline as they are; each other byte and the backslash as
--- `\x` and two digits, as /dev/kmsg shows them (kernel/printk/printk.c, append_char)
+-- `\x` and two digits, as /dev/kmsg shows them (kernel/printk/printk.c, msg_add_ext_text)
 use Rattle.std.specs.Prelude.{ℕ, Bool, ◌&&◌, ◌||◌, if◌then◌else◌, ◌==◌, nat_le, nat_lt, List, [], ◌∷◌, flat_map}
 use Rattle.report_spec.specs.Escaped.{is_plain, shown}
 

@@ -1,3 +1,4 @@
+mod Cuts
 pub mod Shown
 pub mod Rows
 pub mod Later

@@ -1,5 +1,6 @@
 pub mod Pieces
 pub mod Tables
 pub mod Tails
+pub mod Rows
 pub mod Newest
 pub mod Whole

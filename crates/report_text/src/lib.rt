@@ -5,6 +5,7 @@
 //! printable ASCII, tabs and newlines reach the terminal.
 #![tactic(auto)]
 
+pub mod laws;
 mod lines;
 mod newest;
 mod pieces;

@@ -1,21 +1,23 @@
 // One image, from its store to the sink.
 ghost use Rattle.std.specs.Prelude.{◌≡◌, ◌≤◌, IfOk, IfErr, MatchResult};
-ghost use Rattle.tool_frame.specs.Stages.{LoadStop};
+ghost use Rattle.tool_spec.specs.declared.Stop.TheVariants.{ImageFault, SinkFault};
+ghost use Rattle.tool_frame.specs.Stages.{KeptUnless, LoadStop};
 ghost use Rattle.report_tool.specs.Images.{IsRead, IsReported, IsNotReported};
 
 use crate::showing::{Format, shown};
 use crate::{Plan, Stop};
-use box_io::{Bytes, Failed, Sink, Store};
+use box_io::{Bytes, Failed, Load, Sink};
 use record_report::{Report, report_of_zones};
 use std::alloc::Global;
 use tool_frame::load;
 
 // Reads an image.
-fn read<M: Store>(alloc: Global, plan: &Plan, image: &mut M) -> Result<Report, Stop>
+fn read<M: Load>(alloc: Global, plan: &Plan, image: &mut M) -> Result<Report, Stop>
     ensures ok { IfOk result (IsRead plan.now (M.holds image.old)) }
     ensures err { IfErr result (λ s. LoadStop s plan.now.mem (M.holds image.old) (M.faults image.old)
         (M.faults image.new)) }
     ensures same { M.holds image.new ≡ M.holds image.old }
+    ensures counts { KeptUnless ImageFault result (M.faults image.old) (M.faults image.new) }
     ensures later { M.faults image.old ≤ M.faults image.new }
 {
     let bytes = load(alloc, image, plan.mem)?;
@@ -23,9 +25,9 @@ fn read<M: Store>(alloc: Global, plan: &Plan, image: &mut M) -> Result<Report, S
     Ok(report)
 }
 
-/// Reads the image and gives its report to the sink, written in a format and headed by `path`. The image is not
-/// written. The sink is given nothing before all of the report is made.
-pub fn report<M: Store, W: Sink>(
+/// Reads the image and gives its report to the sink, written in a format and headed by `path`. The image is only
+/// loaded, so it is not written. The sink is given nothing before all of the report is made.
+pub fn report<M: Load, W: Sink>(
     alloc: Global,
     plan: &Plan,
     format: Format,
@@ -37,6 +39,8 @@ pub fn report<M: Store, W: Sink>(
         (W.given out.new)) (λ stop. IsNotReported format path.now plan.now stop (M.holds image.old) (M.faults image.old)
         (M.faults image.new) (W.given out.old) (W.given out.new) (W.faults out.old) (W.faults out.new)) }
     ensures same { M.holds image.new ≡ M.holds image.old }
+    ensures image_counts { KeptUnless ImageFault result (M.faults image.old) (M.faults image.new) }
+    ensures sink_counts { KeptUnless SinkFault result (W.faults out.old) (W.faults out.new) }
     ensures later { (M.faults image.old ≤ M.faults image.new) × (W.faults out.old ≤ W.faults out.new) }
 {
     let report = read(alloc, plan, image)?;

@@ -1,7 +1,7 @@
 //! Reports of images: the plan by which images are read, the report of an image written as text, JSON or HTML, and its
 //! records saved as files.
 //!
-//! Nothing here writes an image: a store is only read.
+//! Nothing here writes an image: what holds it has no call to write.
 #![tactic(auto)]
 
 mod images;

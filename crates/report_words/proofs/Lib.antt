@@ -1,3 +1,6 @@
 mod Splits
 mod Tags
 mod Lines
+mod Places
+mod Adding
+mod Plain

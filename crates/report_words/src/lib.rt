@@ -3,7 +3,8 @@
 #![tactic(auto)]
 
 mod cmdline;
+pub mod laws;
 mod version;
 
-pub use cmdline::add_layout_words;
+pub use cmdline::{LineFault, add_layout_words};
 pub use version::{add_tag, ftrace_tag};

@@ -85,9 +85,16 @@ module _ (image : List ℕ) where
 -- ---- the opening
 
 module _ (zones : List Zone) (mem : ℕ) (image : List ℕ) (lies : IsLayout zones mem) (place : ℕ) (z : Zone)
-    (there : slice_get zones place ≡ Some z) (can : CanShare z (zone_bytes z image)) where
+    (there : slice_get zones place ≡ Some z) (can : CanShare z (zone_bytes z image)) (stores : ℕ) where
   abbrev pub just_opened : SharedSeen
-  just_opened = record { region = cut_at zones image; place = place; zone = z; reserved = 0; seats = [] }
+  just_opened = record {
+    region = cut_at zones image;
+    stores = stores;
+    place = place;
+    zone = z;
+    reserved = 0;
+    seats = [];
+  }
 
   at : AreFrom 0 zones
   at i y e = (lies.valid i y e).1 ∙ omega arith

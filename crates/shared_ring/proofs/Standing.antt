@@ -1,5 +1,5 @@
 -- What a shared zone that stands for one of the definitions shows of it
-use Rattle.std.proofs.Common.{◌≡◌, ◌≢◌, ℕ, zero, suc, ◌+◌, ◌-◌, ◌<◌, ◌≤◌, Bool, true, false, cond, ◌==◌, nat_lt, not, List, [], ◌∷◌, length, map, get_or, refl, sym, ap, ◌∙◌, arith, Some, None, Option, eq-eqb}
+use Rattle.std.proofs.Common.{◌≡◌, ◌≢◌, ℕ, zero, suc, ◌+◌, ◌<◌, ◌≤◌, Bool, true, false, cond, ◌==◌, nat_lt, not, List, [], ◌∷◌, length, get_or, refl, sym, ap, ◌∙◌, arith, Some, None, Option, eq-eqb}
 use Rattle.std.proofs.lemmas.Bool.{ne_eqb, lt-ltb, ltb-false, ltb-true, eqb-true}
 use Rattle.std.proofs.lemmas.List.{length-map}
 use Rattle.std.proofs.lemmas.List.Quantifiers.{position-Some}

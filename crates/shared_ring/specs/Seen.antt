@@ -13,15 +13,16 @@ use Rattle.shared_spec.specs.declared.NoCall.{NoCall}
 use Rattle.shared_spec.specs.declared.Next.{Next}
 use Rattle.shared_spec.specs.declared.SharedRefusal.{SharedRefusal}
 use Rattle.shared_spec.specs.Calls.{open_call}
-use Rattle.shared_spec.specs.Machine.{SharedZone, CanShare, refusal, open_calls}
+use Rattle.shared_spec.specs.Machine.{SharedZone, CanShare, open_calls}
 use Rattle.shared_spec.specs.Histories.{History, shared_zone}
 use Rattle.shared_ring.specs.declared.seats.Seat.{Seat}
 use Rattle.shared_ring.specs.Seats.{call_of, shown_seat, AreSeats, seats_stepped}
 
--- the spans of the image's zones, the shared zone and its place among them, how many calls were reserved, and the
--- seats of the open ones
+-- the spans of the image's zones, how many stores were made into them, the shared zone and its place among them, how
+-- many calls were reserved, and the seats of the open ones
 pub record SharedSeen : Type 0 where
   pub region : CutRegion
+  pub stores : ℕ
   pub place : ℕ
   pub zone : Zone
   pub reserved : ℕ
@@ -67,15 +68,16 @@ pub record IsLeftBy (h : History) (v : SharedSeen) : Type 0 where
 abbrev pub with_bytes : SharedSeen → List ℕ → CutRegion
 with_bytes v bytes = with_span v.region v.place bytes
 
--- the zone's bytes with these words for start and size, in one store
+-- the zone's bytes with these words for start and size
 abbrev pub words_stored : SharedSeen → ℕ → ℕ → List ℕ
 words_stored v start size = put (bytes_of v) 4 (to_le_bytes w32 start ++ to_le_bytes w32 size)
 
--- after a reservation
+-- after a reservation, which is one store
 abbrev pub seated : SharedSeen → List ℕ → SharedSeen
 seated v payload = record {
   region = with_bytes v (words_stored v (((words_of v).start + length payload) % v.zone.cap)
       (min v.zone.cap ((words_of v).size + length payload)));
+  stores = v.stores + 1;
   place = v.place;
   zone = v.zone;
   reserved = v.reserved + 1;
@@ -87,11 +89,12 @@ seated v payload = record {
   } ∷ [];
 }
 
--- after a step of the call in this seat
+-- after a step of the call in this seat, which is one store
 abbrev pub stepped : SharedSeen → ℕ → Seat → SharedSeen
 stepped v i s = record {
   region = with_bytes v
       (put (bytes_of v) (12 + (s.place + s.stored) % v.zone.cap) (slice_index s.payload s.stored ∷ []));
+  stores = v.stores + 1;
   place = v.place;
   zone = v.zone;
   reserved = v.reserved;

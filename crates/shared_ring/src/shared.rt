@@ -1,5 +1,5 @@
 // The shared zone.
-ghost use Rattle.std.specs.Prelude.{◌≡◌, ◌<◌, ◌≤◌, ◌+◌, ◌^◌, ◌++◌, [], length, slice_get, IfOk, IfErr, MatchResult, OnErr, IfNone, is_some, Some, None};
+ghost use Rattle.std.specs.Prelude.{◌≡◌, ◌<◌, ◌≤◌, ◌+◌, ◌^◌, ◌++◌, [], length, slice_get, IfOk, IfErr, MatchResult, OnOk, OnErr, IfNone, is_some, Some, None};
 ghost use Rattle.std.specs.Int.{to_le_bytes};
 ghost use Rattle.std.proofs.Common.{w32};
 ghost use Rattle.zone_spec.specs.Layout.{rounded};
@@ -20,7 +20,7 @@ ghost use Rattle.shared_ring.specs.Seen.{IsLeftBy, words_of, seated, stepped, Is
 use crate::seats::{Seat, count_stored, find, held, next_byte, show};
 use arrayvec::ArrayVec;
 use box_io::Bytes;
-use ram_region::{Region, Spans};
+use ram_region::{CountedSpans, Region};
 use ring_header::RingWords;
 use shared_spec::{Next, NoCall, OpenCall, SharedRefusal};
 use std::alloc::AllocError;
@@ -35,7 +35,7 @@ const SEATS: usize = 64;
 ///
 /// It is spent by `close`, which gives the image back. Only `open` takes memory.
 pub struct Shared {
-    spans: Spans,
+    spans: CountedSpans,
     place: u32,
     zone: Zone,
     reserved: u64,
@@ -50,7 +50,8 @@ impl Model for Shared {
     ghost Value = { SharedSeen };
 
     ghost view = { λ s. record {
-      region = s.spans;
+      region = s.spans.region;
+      stores = s.spans.stores;
       place = s.place;
       zone = s.zone;
       reserved = s.reserved;
@@ -58,27 +59,13 @@ impl Model for Shared {
     } };
 
     ghost invariant = { λ s. (64 ≤ vec_capacity s.seats) × IsWhole (record {
-      region = s.spans;
+      region = s.spans.region;
+      stores = s.spans.stores;
       place = s.place;
       zone = s.zone;
       reserved = s.reserved;
       seats = s.seats.items;
     }) };
-}
-
-// Puts start and size into a header, in one store of eight bytes.
-fn store_words(spans: &mut Spans, i: u32, start: u32, size: u32)
-    requires span { i < length spans.old.spans }
-    requires place { 12 ≤ length (span spans.old i) }
-    ensures { spans.new ≡ with_span spans.old i
-        (put (span spans.old i) 4 (to_le_bytes w32 start ++ to_le_bytes w32 size)) }
-{
-    let start = start.to_le_bytes();
-    let size = size.to_le_bytes();
-    let both = [
-        start[0], start[1], start[2], start[3], size[0], size[1], size[2], size[3],
-    ];
-    spans.store_bytes(i, 4, &both);
 }
 
 impl Shared {
@@ -105,7 +92,7 @@ impl Shared {
         };
         match Region::from_bytes(image).cut(&layout) {
             Ok(spans) => Ok(Shared {
-                spans,
+                spans: spans.counted(),
                 place,
                 zone,
                 reserved: 0,
@@ -177,12 +164,8 @@ impl Shared {
         let len = payload.len() as u32;
         let cap = self.zone.cap;
         let start = (words.start + len) % cap;
-        store_words(
-            &mut self.spans,
-            self.place,
-            start,
-            cap.min(words.size + len),
-        );
+        self.spans
+            .store_pair(self.place, 4, start, cap.min(words.size + len));
         let ticket = self.reserved;
         self.reserved += 1;
         self.seats.push_reserved(Seat {
@@ -194,8 +177,8 @@ impl Shared {
         ticket
     }
 
-    /// Reserves the places of a payload, which follow those of the latest call. Stores start and size at once, and no
-    /// data. Answers the call's ticket, the number of reservations before it, or why it is refused, with the payload.
+    /// Reserves the places of a payload, which follow those of the latest call. Stores start and size in one store, and
+    /// nothing else. Answers the call's ticket, the number of reservations before it, or why it is refused, with the payload.
     pub fn reserve(&mut self, payload: Bytes) -> Result<u64, (SharedRefusal, Bytes)>
         requires some { 0 < length payload }
         requires few { self.old.reserved < 2 ^ 63 }
@@ -203,6 +186,7 @@ impl Shared {
         ensures answer { (h : History) → IsLeftBy h self.old
             → IsReserved (refusal_of h.zone (shared_zone h).calls (length payload)) (length (shared_zone h).calls)
             payload result }
+        ensures stores { OnOk result (self.new.stores ≡ self.old.stores + 1) }
         ensures refused { OnErr result (self.new ≡ self.old) }
     {
         match self.refusal(payload.len()) {
@@ -222,11 +206,12 @@ impl Shared {
         count_stored(&mut self.seats, i)
     }
 
-    /// Stores the next byte of the open call with this ticket. Answers whether it was the call's last.
+    /// Stores the next byte of the open call with this ticket, and nothing else. Answers whether it was the call's last.
     pub fn step(&mut self, ticket: u64) -> Result<Next, NoCall>
         ensures left { (h : History) → IsLeftBy h self.old → IsLeftBy (and_then h (StoreNext ticket)) self.new }
         ensures answer { (h : History) → IsLeftBy h self.old
             → IsStepped (step_answer (open_call (shared_zone h).calls ticket)) result }
+        ensures stores { OnOk result (self.new.stores ≡ self.old.stores + 1) }
         ensures refused { OnErr result (self.new ≡ self.old) }
     {
         match find(&self.seats, ticket) {

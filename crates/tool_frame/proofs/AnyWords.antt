@@ -5,10 +5,10 @@ use Rattle.tool_spec.specs.Ends.{End, status_of}
 use Rattle.tool_spec.specs.Commands.{RamCommand, RunScript, ListRecords, ExtractRecord, EraseRecord, ShowLayout, BlankImage, MakeImage, FindRings, ReadRing, RamPlan, Plan, OfRam, OfBlk, OfMove, Wanted, wanted, wanted_of_image, wanted_move, mem_of, RunShared}
 use Rattle.tool_spec.specs.Answers.{Outside, NoScript, NoImage, RoseFor, FaultAnswers}
 use Rattle.tool_spec.specs.BlkAnswers.{blk_lines}
-use Rattle.tool_spec.specs.PlanAnswers.{PlanAnswers, ToolAnswers, ram_statuses, statuses, IsAmong, Untouched}
+use Rattle.tool_spec.specs.PlanAnswers.{PlanAnswers, ToolAnswers, ram_statuses, statuses, IsAmong}
 use Rattle.tool_frame.specs.Ends.{LastPut, Finished}
 use Rattle.tool_frame.specs.Words.{PlanStop}
-use Rattle.tool_frame.specs.Ended.{Ended, Caused, KeptAt, KeptBefore, ImageEnds, ReadEnds, RamEnds, PlanEnds, Nothing, WorkEnds, WorkDone}
+use Rattle.tool_frame.specs.Ended.{Ended, Caused, KeptBefore, ImageEnds, ReadEnds, RamEnds, PlanEnds, Nothing, WorkEnds, WorkDone}
 use Rattle.tool_frame.proofs.ReadParts.{unread_memory}
 use Rattle.tool_frame.proofs.Answered.{GoesOn, rose_on, nothing_put}
 use Rattle.tool_frame.proofs.Tool.{status_is, script_on, image_on, image_answers, ram_answers, no_texts}
@@ -273,33 +273,9 @@ plan_stopped (Err f) TooLong a b h n = (same_stop f _ h, n)
 plan_stopped (Err f) (BadLine x) a b h n = (same_stop f _ h, n)
 plan_stopped (Err f) (Refused x y) a b h n = (same_stop f _ h, n)
 
--- the image is untouched but where all was done, or the store failed
-untouched_by : (a m b : Outside) (e : End) (status : ℕ) → GoesOn a m b → Caused a m e → KeptAt a.holds m.holds e
-    → Finished e m.given b.given m.sink_faults b.sink_faults status → status ≢ 0
-    → (b.holds ≡ a.holds) ⊎ RoseFor ImageFault a b
-untouched_by a m b (Ok u) status on c h f zero = absurd (zero f.answer)
-untouched_by a m b (Err ImageFault) status on c h f zero = inr (rose_on a m b on ImageFault c f.later)
-untouched_by a m b (Err Memory) status on c h f zero = inl (on.image.holds ∙ h)
-untouched_by a m b (Err Usage) status on c h f zero = inl (on.image.holds ∙ h)
-untouched_by a m b (Err (Param x y)) status on c h f zero = inl (on.image.holds ∙ h)
-untouched_by a m b (Err (Layout x)) status on c h f zero = inl (on.image.holds ∙ h)
-untouched_by a m b (Err NoSharedZone) status on c h f zero = inl (on.image.holds ∙ h)
-untouched_by a m b (Err (Short x y)) status on c h f zero = inl (on.image.holds ∙ h)
-untouched_by a m b (Err ScriptFault) status on c h f zero = inl (on.image.holds ∙ h)
-untouched_by a m b (Err SinkFault) status on c h f zero = inl (on.image.holds ∙ h)
-untouched_by a m b (Err TooLong) status on c h f zero = inl (on.image.holds ∙ h)
-untouched_by a m b (Err (BadLine x)) status on c h f zero = inl (on.image.holds ∙ h)
-untouched_by a m b (Err (Refused x y)) status on c h f zero = inl (on.image.holds ∙ h)
-
 -- ---- all that is said of words
 
 pub work_answers : (r : Result Plan Stop) (a m b : Outside) (e : End) (status : ℕ) → NoScript m b → NoImage m b
     → WorkDone r a m e → Finished e m.given b.given m.sink_faults b.sink_faults status → ToolAnswers r a b status
 work_answers r a m b e status script image w f =
     tool_answers r a m b e status (record { later = w.later; script = script; image = image }) w.caused w.ended f
-
-pub work_untouched : (r : Result Plan Stop) (a m b : Outside) (e : End) (status : ℕ) → NoScript m b → NoImage m b
-    → WorkDone r a m e → Finished e m.given b.given m.sink_faults b.sink_faults status → Untouched r a b status
-work_untouched r a m b e status script image w f last zero =
-    untouched_by a m b e status (record { later = w.later; script = script; image = image }) w.caused (w.kept last) f
-    zero

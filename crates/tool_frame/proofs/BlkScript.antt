@@ -41,7 +41,7 @@ pub memory_lines : (layout : BlkLayout) (bytes : List ℕ) (r : Result (List Lin
     → a.holds ≡ Some bytes → LinesOrStopEnded layout bytes r a b (Err Memory)
 memory_lines layout bytes (Ok lines) a b q t = record {
   text = [];
-  stops = record { count = 0; texts = refl; holds = q.holds ∙ t };
+  stops = inl (record { texts = refl; holds = q.holds ∙ t });
   put = put_nothing a b q;
 }
 memory_lines layout bytes (Err s) a b q t = (quiet_memory (stops s) a b q, tt)
@@ -166,7 +166,7 @@ module _ (layout : BlkLayout) (a b : Outside) (room : IfSome a.holds (λ bs. lay
 lines_played : (e : End) (layout : BlkLayout) (bytes : List ℕ) (lines : List Line) (a b : Outside)
     → LinesEnd e layout bytes lines a.given b.given b.holds → LinesEnded layout bytes lines a b e
 lines_played (Ok u) layout bytes lines a b p = p
-lines_played (Err Memory) layout bytes lines a b p = record { text = p.text; stops = p.stops; put = p.put }
+lines_played (Err Memory) layout bytes lines a b p = record { text = p.text; stops = inr p.stops; put = p.put }
 lines_played (Err ImageFault) layout bytes lines a b p = record { text = p.text; stops = inr p.stops; put = p.put }
 lines_played (Err SinkFault) layout bytes lines a b p = record { text = p.text; stops = p.stops; put = p.put }
 lines_played (Err (Refused n cause)) layout bytes lines a b p =
@@ -207,7 +207,7 @@ module _ (mem : ℕ) (a b : Outside) (room : IfSome a.holds (λ bs. mem ≤ leng
       (λ rose. read_unsaved mem a b room text read) (λ rose. read_unput mem a b room text read)
       (λ n cause. read_refused mem a b room text read lines ok n cause) e c
 
-played_kept : (e : End) (g g' h h' : ℕ) (before now : Option (List ℕ)) → BlkPlayCaused e g g' h h'
+pub played_kept : {A : Type 0} (e : End) (g g' h h' : ℕ) (before now : A) → BlkPlayCaused e g g' h h'
     → KeptBefore before now e
 played_kept e g g' h h' before now c = played_ends (λ d. KeptBefore before now d) g g' h h' (λ u. tt) tt (λ rose. tt)
     (λ rose. tt) (λ n cause. tt) e c

@@ -14,5 +14,6 @@ pub mod Sizes
 pub mod BlkScript
 pub mod BlkAnswered
 pub mod AnyWords
+pub mod Counts
 pub mod Asking
 pub mod Unshared

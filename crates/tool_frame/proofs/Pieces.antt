@@ -1,16 +1,24 @@
 -- An image that is read and written in pieces.
-use Rattle.std.proofs.Common.{◌≡◌, replicate, ℕ, ◌+◌, ◌≤◌, List, [], ◌++◌, length, take, drop, arith, Option, Some, None, IfSome, length-append, zero-add, sym, ◌∙◌, refl}
+use Rattle.std.proofs.Common.{◌≡◌, replicate, ℕ, ◌+◌, ◌≤◌, List, [], ◌++◌, length, take, drop, arith, Option, Some, None, IfSome, Result, Ok, Err, OnOk, length-append, zero-add, sym, ◌∙◌, refl}
+use borrow.Rule.Slice.PartMut.{put_mid}
+use Rattle.std.proofs.lemmas.Slice.{take-put_mid}
 use Rattle.std.proofs.lemmas.List.{take-replicate, replicate-append-replicate, length-replicate}
 use Rattle.std.proofs.lemmas.Grind.{common_steps}
 use Rattle.std.proofs.lemmas.List.{drop-drop}
 use Rattle.std.proofs.Math.Seq.{take-add, take-append_seam, drop-append-add}
+use Rattle.box_io.specs.declared.outside.Failed.{Failed}
 use Rattle.box_io.specs.Outside.{Writes, WritesFront, written}
 
--- what was read so far, and one more piece
-pub piece_read : (holds : Option (List ℕ)) (at n : ℕ) (front piece : List ℕ) → IfSome holds (λ bs. front ≡ take at bs)
-    → IfSome holds (λ bs. piece ≡ take n (drop at bs)) → IfSome holds (λ bs. front ++ piece ≡ take (at + n) bs)
-piece_read None at n front piece h k = tt
-piece_read (Some bs) at n front piece h k = rw (h, k) (sym (take-add at n bs))
+-- bytes that were read up to a place, and a piece that was read into the places behind it
+pub read_into : (r : Result (Unit {0}) Failed) (holds : Option (List ℕ)) (at k n m : ℕ) (bytes into : List ℕ)
+    → m ≡ at + k → m ≤ length bytes → length into ≡ k → n ≡ k
+    → OnOk r (IfSome holds (λ bs. into ≡ take n (drop at bs)))
+    → OnOk r (IfSome holds (λ bs. take at bytes ≡ take at bs → take m (put_mid at k bytes into) ≡ take m bs))
+read_into (Err e) holds at k n m bytes into sum fits long same h = tt
+read_into (Ok u) None at k n m bytes into sum fits long same h = tt
+read_into (Ok u) (Some bs) at k n m bytes into sum fits long same h = λ front.
+    take-put_mid at k bytes into m (omega (arith, sum, long)) (omega (arith, sum, fits))
+    ∙ rw (front, h, same, sum) (sym (take-add at k bs))
 
 -- two writes in a row, from the front on
 pub written_twice : (xs p q : List ℕ) → written (written xs 0 p) (length p) q ≡ written xs 0 (p ++ q)

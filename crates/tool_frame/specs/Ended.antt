@@ -11,6 +11,7 @@ use Rattle.tool_spec.specs.Commands.{RamCommand, RunScript, ListRecords, Extract
 use Rattle.tool_spec.specs.Answers.{Outside, IfHolds, IfLeft, IfTold, NoScript, NoImage, Later, front, whole, WritesAll, WritesSome, PutsAll}
 use Rattle.tool_spec.specs.BlkAnswers.{blk_lines, BlkStop, AllDone}
 use Rattle.tool_spec.specs.PlanAnswers.{ram_statuses, statuses, IsAmong, WritesLast}
+use Rattle.tool_frame.specs.Stages.{KeptUnless}
 use Rattle.tool_spec.specs.declared.Stop.{Stop}
 use Rattle.tool_spec.specs.declared.Stop.TheVariants.{Memory, Usage, Param, Layout, NoSharedZone, Short, ScriptFault, ImageFault, SinkFault, TooLong, BadLine, Refused}
 
@@ -49,11 +50,18 @@ CausedAt f f' g g' h h' e = ⊤
 abbrev pub Caused : Outside → Outside → End → Type 0
 Caused a b e = CausedAt a.source_faults b.source_faults a.store_faults b.store_faults a.sink_faults b.sink_faults e
 
--- the image stays, but where all was done or writing it failed
-abbrev pub KeptAt : Option (List ℕ) → Option (List ℕ) → End → Type 0
-KeptAt holds holds' (Ok u) = ⊤
-KeptAt holds holds' (Err ImageFault) = ⊤
-KeptAt holds holds' (Err s) = holds' ≡ holds
+-- each count of faults is as before, unless the work ends for a fault of that object
+pub record Counted (a b : Outside) (e : End) : Type 0 where
+  pub source : KeptUnless ScriptFault e a.source_faults b.source_faults
+  pub store : KeptUnless ImageFault e a.store_faults b.store_faults
+  pub sink : KeptUnless SinkFault e a.sink_faults b.sink_faults
+
+-- what is of the image stays, but where all was done or writing it failed: its bytes, and how often it was asked to be
+-- written
+abbrev pub KeptAt : {A : Type 0} → A → A → End → Type 0
+KeptAt old new (Ok u) = ⊤
+KeptAt old new (Err ImageFault) = ⊤
+KeptAt old new (Err s) = new ≡ old
 
 -- an image of this size: too short, or long enough for what comes after its reading
 abbrev pub ShortAt : ℕ → ℕ → End → Type 0
@@ -213,10 +221,45 @@ abbrev pub WorkEnds : Result Plan Stop → Outside → Outside → End → Type 
 WorkEnds (Ok plan) a b e = PlanEnds plan a b e
 WorkEnds (Err s) a b e = (e ≡ Err s) × Nothing a b
 
--- all that holds once the work is done, before the last line: no count of faults falls, a fault has its cause, the
--- image stays until it is written last, and the work ended so
+-- the image failed only after it was asked
+abbrev pub FailsAsked : ℕ → ℕ → End → Type 0
+FailsAsked old new (Err ImageFault) = Rose old new
+FailsAsked old new e = ⊤
+
+-- how often the image was asked to be written: a command that only reads never asks
+abbrev pub CommandAsks : RamCommand → ℕ → ℕ → End → Type 0
+CommandAsks RunScript old new e = KeptAt old new e
+CommandAsks ListRecords old new e = new ≡ old
+CommandAsks (ExtractRecord name) old new e = new ≡ old
+CommandAsks (EraseRecord name) old new e = KeptAt old new e
+CommandAsks ShowLayout old new e = new ≡ old
+CommandAsks BlankImage old new e = KeptAt old new e × FailsAsked old new e
+CommandAsks (MakeImage n) old new e = KeptAt old new e × FailsAsked old new e
+CommandAsks RunShared old new e = KeptAt old new e
+CommandAsks FindRings old new e = new ≡ old
+CommandAsks (ReadRing at name) old new e = new ≡ old
+
+-- a script on the block store asks as its lines are done, and not before
+abbrev pub LinesAsk : ℕ → ℕ → End → Type 0
+LinesAsk old new (Ok u) = ⊤
+LinesAsk old new (Err Memory) = ⊤
+LinesAsk old new (Err ImageFault) = ⊤
+LinesAsk old new (Err SinkFault) = ⊤
+LinesAsk old new (Err (Refused n cause)) = ⊤
+LinesAsk old new (Err s) = new ≡ old
+
+abbrev pub Asks : Result Plan Stop → ℕ → ℕ → End → Type 0
+Asks (Ok (OfRam plan)) old new e = CommandAsks plan.command old new e
+Asks (Ok (OfBlk layout)) old new e = LinesAsk old new e
+Asks (Ok (OfMove plan)) old new e = KeptAt old new e
+Asks (Err s) old new e = new ≡ old
+
+-- all that holds once the work is done, before the last line: no count of faults falls, a fault has its cause and no
+-- other was met, the image stays until it is written last, and the work ended so
 pub record WorkDone (r : Result Plan Stop) (a b : Outside) (e : End) : Type 0 where
   pub later : Later a b
   pub caused : Caused a b e
+  pub counts : Counted a b e
   pub kept : WritesLast r → KeptAt a.holds b.holds e
+  pub asks : Asks r a.writes b.writes e
   pub ended : WorkEnds r a b e

@@ -9,13 +9,14 @@ use Rattle.tool_spec.specs.declared.Stop.TheVariants.{SinkFault}
 -- the last line was put, or the sink failed
 pub record LastPut (s : Stop) (old new : Option (List ℕ)) (before now : ℕ) (status : ℕ) : Type 0 where
   pub later : before ≤ now
-  pub shown : ((status ≡ status_of (Err s)) × Appends old new (last_line s)) ⊎
+  pub shown : ((status ≡ status_of (Err s)) × Appends old new (last_line s) × (now ≡ before)) ⊎
       ((status ≡ 7) × Rose before now × AppendsFront old new (last_line s))
 
 -- nothing more was put
 pub record Silent (wanted : ℕ) (old new : Option (List ℕ)) (before now : ℕ) (status : ℕ) : Type 0 where
   pub same : new ≡ old
   pub later : before ≤ now
+  pub faults : now ≡ before
   pub answer : status ≡ wanted
 
 -- where all was done, or the sink failed, nothing more is put; else the last line

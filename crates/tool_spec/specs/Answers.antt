@@ -12,21 +12,23 @@ use Rattle.tool_spec.specs.declared.Stop.TheVariants.{Memory, Short, ScriptFault
 -- ---- the outside
 
 -- what is left of the script, what the image holds and what the output was given at one moment, each where
--- it is told, with the counts of faults
+-- it is told, with the counts of faults, and how often the image was asked to be written
 pub record Outside : Type 0 where
   pub left : Option (List ℕ)
   pub source_faults : ℕ
   pub holds : Option (List ℕ)
   pub store_faults : ℕ
+  pub writes : ℕ
   pub given : Option (List ℕ)
   pub sink_faults : ℕ
 
-abbrev pub outside : Option (List ℕ) → ℕ → Option (List ℕ) → ℕ → Option (List ℕ) → ℕ → Outside
-outside left f holds g given h = record {
+abbrev pub outside : Option (List ℕ) → ℕ → Option (List ℕ) → ℕ → ℕ → Option (List ℕ) → ℕ → Outside
+outside left f holds g w given h = record {
   left = left;
   source_faults = f;
   holds = holds;
   store_faults = g;
+  writes = w;
   given = given;
   sink_faults = h;
 }
@@ -65,6 +67,14 @@ RoseFor ScriptFault a b = Rose a.source_faults b.source_faults
 RoseFor ImageFault a b = Rose a.store_faults b.store_faults
 RoseFor SinkFault a b = Rose a.sink_faults b.sink_faults
 RoseFor s a b = ⊤
+
+-- a fault that decides nothing is none: each count is as it was, unless the status names that fault, or the output
+-- failed; and then not both the script and the image had failed before it
+pub record NoOtherFault (a b : Outside) (status : ℕ) : Type 0 where
+  pub source : status ≢ 5 → status ≢ 7 → b.source_faults ≡ a.source_faults
+  pub store : status ≢ 6 → status ≢ 7 → b.store_faults ≡ a.store_faults
+  pub sink : status ≢ 7 → b.sink_faults ≡ a.sink_faults
+  pub either : (b.source_faults ≡ a.source_faults) ⊎ (b.store_faults ≡ a.store_faults)
 
 -- ---- text and image
 

@@ -9,7 +9,7 @@ use Rattle.grammar_spec.specs.declared.line.Line.{Line}
 use Rattle.tool_spec.specs.Ends.{End, status_of, last_line}
 use Rattle.tool_spec.specs.Commands.{script_end, script_limit, stops}
 use Rattle.tool_spec.specs.Answers.{Outside, IfTold, NoScript, RoseFor, front, whole, IsFree, Answers, ScriptRead}
-use Rattle.tool_spec.specs.BlkScripts.{BlkRan, blk_ran, line_writes, NeedsStore}
+use Rattle.tool_spec.specs.BlkScripts.{BlkRan, blk_ran, line_writes, NeedsStore, TakesMemory}
 use Rattle.tool_spec.specs.declared.Stop.{Stop}
 use Rattle.tool_spec.specs.declared.Stop.TheVariants.{Memory, Short, ScriptFault, ImageFault, SinkFault, TooLong, BadLine, Refused}
 
@@ -33,10 +33,15 @@ blk_lines layout bytes script =
 abbrev pub blk_end : BlkRan → End
 blk_end ran = script_end (length ran.texts) ran.refused
 
--- some first lines were done: this is their text, and the store holds what they leave
-pub record StopsBehind (layout : BlkLayout) (bytes : List ℕ) (lines : List Line) (text : Text)
+-- some first lines were done: this is their text, and the store holds what they leave; the next, which is not refused
+-- and takes memory, found none
+pub record StopsTaking (layout : BlkLayout) (bytes : List ℕ) (lines : List Line) (text : Text)
     (now : Option (List ℕ)) : Type 0 where
   pub count : ℕ
+  pub line : Line
+  pub next : slice_get lines count ≡ Some line
+  pub wanted : count < length (blk_ran layout bytes lines).texts
+  pub takes : TakesMemory line
   pub texts : text ≡ front (blk_ran layout bytes lines).texts count
   pub holds : now ≡ Some (blk_ran layout bytes (take count lines)).session.store
 
@@ -80,16 +85,18 @@ pub record StopsRefused (layout : BlkLayout) (bytes : List ℕ) (lines : List Li
 
 -- why lines that were begun can stop, with the text that was put by then, and what the store then holds
 abbrev pub LinesStop : Stop → BlkLayout → List ℕ → List Line → Text → Option (List ℕ) → Type 0
-LinesStop Memory layout bytes lines text now = StopsBehind layout bytes lines text now
+LinesStop Memory layout bytes lines text now = StopsTaking layout bytes lines text now
 LinesStop ImageFault layout bytes lines text now = StopsWriting layout bytes lines text now
 LinesStop SinkFault layout bytes lines text now = StopsPutting layout bytes lines text now
 LinesStop (Refused n cause) layout bytes lines text now = StopsRefused layout bytes lines (Refused n cause) text now
 LinesStop other layout bytes lines text now = ⊥
 
--- and good lines on a store with room, begun or not; before the first line the image fails only before the script is
--- read
+-- and good lines on a store with room, begun or not: want of memory and faults may come before the first line, and
+-- then the image fails only before the script is read
 abbrev pub BlkStop : Stop → BlkLayout → List ℕ → List Line → Text → Outside → Outside → Type 0
 BlkStop ScriptFault layout bytes lines text a b = StopsBefore bytes text b.holds
+BlkStop Memory layout bytes lines text a b =
+    StopsBefore bytes text b.holds ⊎ LinesStop Memory layout bytes lines text b.holds
 BlkStop ImageFault layout bytes lines text a b =
     (NoScript a b × StopsBefore bytes text b.holds) ⊎ LinesStop ImageFault layout bytes lines text b.holds
 BlkStop other layout bytes lines text a b = LinesStop other layout bytes lines text b.holds

@@ -1,5 +1,5 @@
 -- What the lines of a script do and put on the block store
-use Rattle.std.specs.Prelude.{◌≡◌, ◌⊎◌, ℕ, ◌+◌, ◌<◌, ◌==◌, if◌then◌else◌, List, [], ◌∷◌, ◌++◌, length, drop, flat_map, fold, codes, decimal, bytes_eq, Option, Some, None, Result, Ok, Err}
+use Rattle.std.specs.Prelude.{◌≡◌, ◌⊎◌, ⊤, ℕ, ◌+◌, ◌<◌, ◌==◌, if◌then◌else◌, List, [], ◌∷◌, ◌++◌, length, take, drop, flat_map, slice_get, fold, codes, decimal, bytes_eq, Option, Some, None, Result, Ok, Err}
 use Rattle.std.specs.List.{find}
 use Rattle.zone_spec.specs.declared.Kind.{Kind}
 use Rattle.zone_spec.specs.declared.Kind.TheVariants.{Console as ConsoleZone, Pmsg as PmsgZone}
@@ -136,6 +136,13 @@ unfoldable pub blk_line_done : BlkLayout → Session → Line → Result BlkDone
 blk_line_done layout session Blank = Ok (record { session = session; text = [] })
 blk_line_done layout session line = performs_if layout session (operation_of session.blk line)
 
+-- the lines that take memory: a loading, a listing, and a record's text
+abbrev pub TakesMemory : Line → Type 0
+TakesMemory Boot = ⊤
+TakesMemory ListLine = ⊤
+TakesMemory (Extract name) = ⊤
+TakesMemory other = ⊥
+
 -- ---- what a line writes
 
 -- what reaches the store of an operation's writes
@@ -190,3 +197,9 @@ blk_started store = record { session = begun store; texts = []; refused = None }
 -- a script on a store's bytes
 abbrev pub blk_ran : BlkLayout → List ℕ → List Line → BlkRan
 blk_ran layout store lines = fold (blk_next_line layout) (blk_started store) lines
+
+-- no line of those that are done writes a byte
+abbrev pub WriteNothing : BlkLayout → List ℕ → List Line → Type 0
+WriteNothing layout store lines =
+    (i : ℕ) (line : Line) → i < length (blk_ran layout store lines).texts → slice_get lines i ≡ Some line
+    → bytes_in (line_writes layout (blk_ran layout store (take i lines)).session.blk line) ≡ 0

@@ -2,6 +2,7 @@
 use Rattle.std.specs.Prelude.{◌≡◌, ◌≢◌, ◌⊎◌, ⊤, ℕ, ◌==◌, true, List, [], ◌∷◌, Result, Ok, Err}
 use Rattle.std.specs.List.{list_any}
 use Rattle.tool_spec.specs.Commands.{RamCommand, RunScript, ListRecords, ExtractRecord, EraseRecord, ShowLayout, BlankImage, MakeImage, FindRings, ReadRing, RamPlan, wanted_of_image, Plan, OfRam, OfBlk, OfMove, wanted_move, RunShared}
+use Rattle.box_io.specs.Outside.{Rose}
 use Rattle.tool_spec.specs.Answers.{Outside, RoseFor, RunAnswers, ImageAnswers, ReadAnswers, MakeAnswers, ShowAnswers, FaultAnswers}
 use Rattle.tool_spec.specs.BlkAnswers.{BlkAnswers}
 use Rattle.tool_spec.specs.declared.Stop.{Stop}
@@ -60,6 +61,45 @@ WritesLast (Ok (OfBlk layout)) = ⊥
 WritesLast (Ok (OfMove plan)) = ⊤
 WritesLast (Err s) = ⊤
 
+-- the status tells that the store or the output failed, and the store did
+abbrev pub StoreFailed : Outside → Outside → ℕ → Type 0
+StoreFailed a b status = ((status ≡ 6) ⊎ (status ≡ 7)) × RoseFor ImageFault a b
+
 -- it leaves the image as it is on every status but 0, unless the store failed
 abbrev pub Untouched : Result Plan Stop → Outside → Outside → ℕ → Type 0
-Untouched r a b status = WritesLast r → status ≢ 0 → (b.holds ≡ a.holds) ⊎ RoseFor ImageFault a b
+Untouched r a b status = WritesLast r → status ≢ 0 → (b.holds ≡ a.holds) ⊎ StoreFailed a b status
+
+-- ---- when the image is asked to be written
+
+-- never
+abbrev pub NeverWrites : Outside → Outside → Type 0
+NeverWrites a b = b.writes ≡ a.writes
+
+-- only once all else is done
+abbrev pub WritesAtEnd : Outside → Outside → ℕ → Type 0
+WritesAtEnd a b status = status ≢ 0 → NeverWrites a b ⊎ StoreFailed a b status
+
+-- and the image fails only after it was asked
+abbrev pub FailsWriting : Outside → Outside → ℕ → Type 0
+FailsWriting a b status = status ≡ 6 → Rose a.writes b.writes
+
+abbrev pub CommandWrites : RamCommand → Outside → Outside → ℕ → Type 0
+CommandWrites RunScript a b status = WritesAtEnd a b status
+CommandWrites ListRecords a b status = NeverWrites a b
+CommandWrites (ExtractRecord name) a b status = NeverWrites a b
+CommandWrites (EraseRecord name) a b status = WritesAtEnd a b status
+CommandWrites ShowLayout a b status = NeverWrites a b
+CommandWrites BlankImage a b status = WritesAtEnd a b status × FailsWriting a b status
+CommandWrites (MakeImage n) a b status = WritesAtEnd a b status × FailsWriting a b status
+CommandWrites RunShared a b status = WritesAtEnd a b status
+CommandWrites FindRings a b status = NeverWrites a b
+CommandWrites (ReadRing at name) a b status = NeverWrites a b
+
+-- a script on the block store writes as its lines are done, and never on a status that comes before them; words with a
+-- fault write nothing
+abbrev pub PlanWrites : Result Plan Stop → Outside → Outside → ℕ → Type 0
+PlanWrites (Ok (OfRam plan)) a b status = CommandWrites plan.command a b status
+PlanWrites (Ok (OfBlk layout)) a b status = status ≢ 0 → status ≢ 1 → status ≢ 6 → status ≢ 7 → status ≢ 10
+    → NeverWrites a b
+PlanWrites (Ok (OfMove plan)) a b status = WritesAtEnd a b status
+PlanWrites (Err s) a b status = NeverWrites a b

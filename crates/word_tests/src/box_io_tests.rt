@@ -1,5 +1,5 @@
 // The objects in memory where they work and where they fail, and the adapters over real ones.
-ghost use Rattle.std.specs.Prelude.{◌≡◌, IfOk};
+ghost use Rattle.std.specs.Prelude.{◌≡◌, ◌+◌, ◌≤◌, length, IfOk, IfSome};
 
 use box_io::*;
 use std::alloc::{AllocError, Global};
@@ -146,9 +146,11 @@ fn a_writer_is_a_sink(rt: HostRuntime) -> Result<(), Fail> {
     Ok(())
 }
 
-fn reads(rt: &impl Abort, store: &mut FileStore<HostRuntime>, at: u64, bytes: [u8; 2]) {
+fn reads<L: Load>(rt: &impl Abort, file: &mut L, at: u64, bytes: [u8; 2])
+    requires { IfSome (L.holds file.old) (λ bs. at + 2 ≤ length bs) }
+{
     let mut into = [0u8; 2];
-    assert!(rt; store.read_at(at, &mut into) == Ok(()));
+    assert!(rt; file.read_at(at, &mut into) == Ok(()));
     assert!(rt; into == bytes);
 }
 
@@ -167,6 +169,26 @@ fn a_file_is_a_store(rt: HostRuntime) -> Result<(), Fail> {
     assert!(rt; store.read_at(4, &mut [0; 2]) == Err(Failed));
     assert!(rt; store.write_at(5, b"z".as_slice()) == Ok(()));
     reads(&rt, &mut store, 4, [b'y', b'z']);
+    fs::remove_file(&rt, path)?;
+    Ok(())
+}
+
+// A file that may not be written is read all the same, and stays as it is; a missing one is not made.
+#[test]
+fn a_file_is_only_read(rt: HostRuntime) -> Result<(), Fail> {
+    let path = "/tmp/oopsbox_box_io_test_region";
+    let _ = fs::remove_file(&rt, path);
+    let mut missing = FileLoad::new(&rt, rt.alloc(), path)?;
+    assert!(rt; missing.size() == Ok(0));
+    assert!(rt; missing.read_at(0, &mut [0; 2]) == Err(Failed));
+    assert!(rt; fs::metadata(&rt, path).is_err());
+    fs::write(&rt, path, b"abcd")?;
+    let mut file = FileLoad::new(&rt, rt.alloc(), path)?;
+    assert!(rt; file.size() == Ok(4));
+    reads(&rt, &mut file, 1, [b'b', b'c']);
+    reads(&rt, &mut file, 2, [b'c', b'd']);
+    assert!(rt; file.read_at(3, &mut [0; 2]) == Err(Failed));
+    assert!(rt; file.size() == Ok(4));
     fs::remove_file(&rt, path)?;
     Ok(())
 }

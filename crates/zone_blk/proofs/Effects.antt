@@ -1,11 +1,13 @@
 -- What the first bytes of writes make of a store
-use Rattle.std.proofs.Common.{◌≡◌, ℕ, ◌+◌, ◌-◌, ◌<◌, ◌≤◌, min, Bool, true, false, if◌then◌else◌, nat_le, List, [], ◌∷◌, ◌++◌, length, take, drop, Option, Some, None, refl, sym, ap, ◌∙◌, arith, ◌⊎◌, inl, inr}
+use Rattle.std.proofs.Common.{◌≡◌, ℕ, zero, suc, ◌+◌, ◌-◌, ◌^◌, ◌<◌, ◌≤◌, ◌==◌, min, Bool, true, false, if◌then◌else◌, nat_le, List, [], ◌∷◌, ◌++◌, length, take, drop, Option, Some, None, refl, sym, ap, ◌∙◌, arith, ◌⊎◌, inl, inr}
 use Rattle.std.proofs.lemmas.List.{take_all, append-nil, take-append-drop}
-use Rattle.std.proofs.lemmas.Bool.{leb-true, leb-false, lt-leb}
+use Rattle.std.proofs.lemmas.Bool.{leb-true, leb-false, lt-leb, eqb-true}
 use Rattle.std.proofs.lemmas.Bool.Decides.{nat_tests}
+use Rattle.std.proofs.Math.Dec.{leb-zero}
 use Rattle.blk_spec.specs.declared.BlkCut.{BlkCut}
 use Rattle.blk_spec.specs.declared.BlkCut.TheVariants.{Uncut, After, Dropped}
-use Rattle.blk_spec.specs.Writes.{Write, after_write, after_writes, store_after, bytes_in, first_bytes, through, spent}
+use Rattle.blk_spec.specs.Writes.{Write, after_write, after_writes, store_after, bytes_in, first_bytes, through, spent, asks_of}
+use Rattle.blk_spec.specs.Answers.{further}
 
 pub bytes_in-append : (vs ws : List Write) → bytes_in (vs ++ ws) ≡ bytes_in vs + bytes_in ws
 unfolding bytes_in
@@ -110,3 +112,37 @@ all-or-none (After l) a b = both (nat_le a l) refl
     both true e = let h : a ≤ l = leb-true a l e in inl (omega arith)
     both false e = inr refl
 all-or-none Dropped a b = inr refl
+
+-- ---- how often the store is asked
+
+pub spent-none : (c : BlkCut) → spent 0 c ≡ c
+spent-none Uncut = refl
+spent-none (After l) = rw (leb-zero l) (ap After (omega arith))
+spent-none Dropped = refl
+
+pub asks-append : (c : BlkCut) (vs ws : List Write)
+    → asks_of c (vs ++ ws) ≡ asks_of c vs + asks_of (spent (bytes_in vs) c) ws
+unfolding asks_of bytes_in
+asks-append c [] ws = ap (λ d. asks_of d ws) (sym (spent-none c)) ∙ omega arith
+asks-append c (v ∷ vs) ws =
+    let one : ℕ = if through c (length v.bytes) == 0 then 0 else 1 in
+    ap (λ n. one + n) (asks-append (spent (length v.bytes) c) vs ws)
+    ∙ ap (λ d. one + (asks_of (spent (length v.bytes) c) vs + asks_of d ws))
+    (sym (spent-more c (length v.bytes) (bytes_in vs))) ∙ omega arith
+
+further-some : (n count : ℕ) → 0 < n → further n count ≡ min (count + n) (2 ^ 64 - 1)
+further-some n count h = by-test (n == 0) refl
+  where
+    by-test : (b : Bool) → (n == 0) ≡ b
+        → (if b then count else min (count + n) (2 ^ 64 - 1)) ≡ min (count + n) (2 ^ 64 - 1)
+    by-test true e = let none : n ≡ 0 = eqb-true n 0 e in omega (arith, none, h)
+    by-test false e = refl
+
+pub further-more : (a b count : ℕ) → further b (further a count) ≡ further (a + b) count
+further-more zero b count = ap (λ n. further n count) (omega arith)
+further-more (suc a) zero count = ap (λ n. further n count) (omega arith)
+further-more (suc a) (suc b) count =
+    further-some (suc b) (further (suc a) count) (omega arith)
+    ∙ ap (λ n. min (n + suc b) (2 ^ 64 - 1)) (further-some (suc a) count (omega arith))
+    ∙ omega arith
+    ∙ sym (further-some (suc a + suc b) count (omega arith))

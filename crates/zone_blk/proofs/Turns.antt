@@ -1,5 +1,5 @@
 -- The parts of an append
-use Rattle.std.proofs.Common.{◌≡◌, ℕ, ◌-◌, ◌==◌, Bool, true, false, if◌then◌else◌, nat_lt, List, [], ◌∷◌, ◌++◌, length, take, drop, Option, Result, Ok, Err, IfOk, refl, ap, ◌∙◌, arith, length-drop}
+use Rattle.std.proofs.Common.{◌≡◌, ℕ, ◌-◌, ◌==◌, Bool, true, false, if◌then◌else◌, nat_lt, List, [], ◌∷◌, ◌++◌, length, take, drop, Result, Ok, Err, IfOk, refl, ap, ◌∙◌, arith, length-drop}
 use Rattle.std.proofs.lemmas.Bool.{le-ltb, eqb-true}
 use Rattle.std.proofs.lemmas.Bool.Decides.{nat_tests}
 use Rattle.blk_spec.specs.declared.BlkZone.{BlkZone}
@@ -8,14 +8,14 @@ use Rattle.blk_spec.specs.declared.BlkCut.{BlkCut}
 use Rattle.blk_spec.specs.Layout.{capacity}
 use Rattle.blk_spec.specs.Writes.{Write}
 use Rattle.blk_spec.specs.Rings.{header_write, run_writes, first_run, first_words, run_words, is_short, last_words, kept_writes, append_writes, words_after}
-use Rattle.blk_spec.specs.Answers.{Makes, FailsWithin}
+use Rattle.blk_spec.specs.Answers.{Device, Makes, FailsWithin}
 use Rattle.box_io.specs.declared.outside.Failed.{Failed}
 use Rattle.zone_blk.specs.declared.appending.Turn.{Turn}
 use Rattle.zone_spec.specs.Told.{last_items}
 use Rattle.zone_blk.proofs.Sequences.{makes-no-write, then-makes, then-fails, fails-before, makes-same, fails-same}
 
-pub makes-unless : (b : Bool) (ws : List Write) (c : BlkCut) (store : Option (List ℕ)) → b ≡ false
-    → Makes (if b then ws else []) c c store store
+pub makes-unless : (b : Bool) (ws : List Write) (c : BlkCut) (store : Device) → b ≡ false
+    → Makes (if b then ws else []) (if b then ws else []) c c store store
 makes-unless true ws c store e = cc
 makes-unless false ws c store e = makes-no-write store c
 
@@ -87,29 +87,32 @@ parts z words bytes front back t is =
 
 -- how the whole ends by how its parts end
 module _ (z : BlkZone) (words : BlkWords) (bytes front back : List ℕ) (t : Turn)
-    (is : IsTurn z words bytes front back t) (c0 c1 c2 c3 : BlkCut) (h0 h1 h2 h3 : Option (List ℕ)) where
-  pub run-fails : FailsWithin (run-part z words front t) c0 c1 h0 h1
-      → FailsWithin (kept_writes z words bytes) c0 c1 h0 h1
+    (is : IsTurn z words bytes front back t) (c0 c1 c2 c3 : BlkCut) (h0 h1 h2 h3 : Device) where
+  pub run-fails : FailsWithin (run-part z words front t) (run-part z words front t) c0 c1 h0 h1
+      → FailsWithin (kept_writes z words bytes) (kept_writes z words bytes) c0 c1 h0 h1
   run-fails p = fails-same _ _ _ _ _ _ (parts z words bytes front back t is)
       (fails-before (run-part z words front t ++ rest-part z back t) (further-part z t) c0 c1 c1 h0 h1 h1
       (fails-before (run-part z words front t) (rest-part z back t) c0 c1 c1 h0 h1 h1 p))
 
-  module _ (run : Makes (run-part z words front t) c0 c1 h0 h1) where
-    pub rest-fails : FailsWithin (rest-part z back t) c1 c2 h1 h2 → FailsWithin (kept_writes z words bytes) c0 c2 h0 h2
+  module _ (run : Makes (run-part z words front t) (run-part z words front t) c0 c1 h0 h1) where
+    pub rest-fails : FailsWithin (rest-part z back t) (rest-part z back t) c1 c2 h1 h2 → FailsWithin
+        (kept_writes z words bytes) (kept_writes z words bytes) c0 c2 h0 h2
     rest-fails p = fails-same _ _ _ _ _ _ (parts z words bytes front back t is)
         (fails-before (run-part z words front t ++ rest-part z back t) (further-part z t) c0 c2 c2 h0 h2 h2
         (then-fails (run-part z words front t) (rest-part z back t) c0 c1 c2 h0 h1 h2 run p))
 
-    module _ (rest : Makes (rest-part z back t) c1 c2 h1 h2) where
-      runs : Makes (run-part z words front t ++ rest-part z back t) c0 c2 h0 h2
+    module _ (rest : Makes (rest-part z back t) (rest-part z back t) c1 c2 h1 h2) where
+      runs : Makes (run-part z words front t ++ rest-part z back t) (run-part z words front t ++ rest-part z back t)
+          c0 c2 h0 h2
       runs = then-makes (run-part z words front t) (rest-part z back t) c0 c1 c2 h0 h1 h2 run rest
 
-      pub further-fails : FailsWithin (further-part z t) c2 c3 h2 h3
-          → FailsWithin (kept_writes z words bytes) c0 c3 h0 h3
+      pub further-fails : FailsWithin (further-part z t) (further-part z t) c2 c3 h2 h3
+          → FailsWithin (kept_writes z words bytes) (kept_writes z words bytes) c0 c3 h0 h3
       further-fails p = fails-same _ _ _ _ _ _ (parts z words bytes front back t is)
           (then-fails (run-part z words front t ++ rest-part z back t) (further-part z t) c0 c2 c3 h0 h2 h3 runs p)
 
-      pub all-made : Makes (further-part z t) c2 c3 h2 h3 → Makes (kept_writes z words bytes) c0 c3 h0 h3
+      pub all-made : Makes (further-part z t) (further-part z t) c2 c3 h2 h3 → Makes (kept_writes z words bytes)
+          (kept_writes z words bytes) c0 c3 h0 h3
       all-made p = makes-same _ _ _ _ _ _ (parts z words bytes front back t is)
           (then-makes (run-part z words front t ++ rest-part z back t) (further-part z t) c0 c2 c3 h0 h2 h3 runs p)
 

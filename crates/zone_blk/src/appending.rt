@@ -2,7 +2,7 @@
 ghost use Rattle.std.specs.Prelude.{◌≡◌, ◌+◌, ◌-◌, ◌<◌, ◌≤◌, [], ◌∷◌, length, nat_lt, if◌then◌else◌, IfOk};
 ghost use Rattle.box_io.specs.Outside.{HasCause};
 ghost use Rattle.blk_spec.specs.Layout.{capacity};
-ghost use Rattle.blk_spec.specs.Answers.{HasRoom};
+ghost use Rattle.blk_spec.specs.Answers.{HasRoom, device};
 ghost use Rattle.blk_spec.specs.Rings.{header_write, run_writes, first_run, first_words, run_words, is_short, last_words, kept_writes, append_writes, words_after};
 ghost use Rattle.zone_blk.specs.Outcomes.{Ends};
 ghost use Rattle.zone_blk.specs.Fits.{IsZone, IsWithin};
@@ -87,8 +87,10 @@ fn write_rest<M: Store>(
     requires zone { IsZone zone }
     requires inside { 12 + length bytes.now ≤ zone.size }
     requires room { HasRoom (zone.at + zone.size) (M.holds store.old) }
-    ensures ends { Ends result (if nat_lt 0 (length bytes.now) then run_writes zone 0 bytes.now words else [])
-        cut.old cut.new (M.holds store.old) (M.holds store.new) }
+    ensures ends { let a = device (M.holds store.old) (M.writes store.old) (M.read_faults store.old) in
+        let b = device (M.holds store.new) (M.writes store.new) (M.read_faults store.new) in
+        Ends result (if nat_lt 0 (length bytes.now) then run_writes zone 0 bytes.now words else [])
+        cut.old cut.new a b }
     ensures room { HasRoom (zone.at + zone.size) (M.holds store.new) }
     ensures cause { HasCause (M.faults store.old) (M.faults store.new) result }
 {
@@ -109,8 +111,10 @@ fn write_further<M: Store>(
     requires zone { IsZone zone }
     requires sized { 12 ≤ zone.size }
     requires room { HasRoom (zone.at + zone.size) (M.holds store.old) }
-    ensures ends { Ends result (if is_short then header_write zone words ∷ [] else []) cut.old cut.new
-        (M.holds store.old) (M.holds store.new) }
+    ensures ends { let a = device (M.holds store.old) (M.writes store.old) (M.read_faults store.old) in
+        let b = device (M.holds store.new) (M.writes store.new) (M.read_faults store.new) in
+        Ends result (if is_short then header_write zone words ∷ [] else []) cut.old cut.new
+        a b }
     ensures room { HasRoom (zone.at + zone.size) (M.holds store.new) }
     ensures cause { HasCause (M.faults store.old) (M.faults store.new) result }
 {
@@ -134,8 +138,9 @@ fn write_turn<M: Store>(
     requires some { 0 < length bytes.now }
     requires fits { length bytes.now ≤ capacity zone }
     requires room { HasRoom (zone.at + zone.size) (M.holds store.old) }
-    ensures ends { Ends result (kept_writes zone words bytes.now) cut.old cut.new (M.holds store.old)
-        (M.holds store.new) }
+    ensures ends { let a = device (M.holds store.old) (M.writes store.old) (M.read_faults store.old) in
+        let b = device (M.holds store.new) (M.writes store.new) (M.read_faults store.new) in
+        Ends result (kept_writes zone words bytes.now) cut.old cut.new a b }
     ensures words { IfOk result (λ after. after ≡ last_words zone words (length bytes.now)) }
     ensures start { IfOk result (λ after. after.start < capacity zone) }
     ensures size { IfOk result (λ after. after.size ≤ capacity zone) }
@@ -171,8 +176,9 @@ pub fn append_ring<M: Store>(
     requires sized { 0 < zone.size }
     requires within { IsWithin zone words }
     requires room { HasRoom (zone.at + zone.size) (M.holds store.old) }
-    ensures ends { Ends result (append_writes zone words payload.now) cut.old cut.new (M.holds store.old)
-        (M.holds store.new) }
+    ensures ends { let a = device (M.holds store.old) (M.writes store.old) (M.read_faults store.old) in
+        let b = device (M.holds store.new) (M.writes store.new) (M.read_faults store.new) in
+        Ends result (append_writes zone words payload.now) cut.old cut.new a b }
     ensures words { IfOk result (λ after. after ≡ words_after zone words payload.now) }
     ensures within { IfOk result (λ after. IsWithin zone after) }
     ensures room { HasRoom (zone.at + zone.size) (M.holds store.new) }

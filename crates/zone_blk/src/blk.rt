@@ -1,18 +1,18 @@
 // A loaded block store.
-ghost use Rattle.std.specs.Prelude.{◌≡◌, ℕ, ◌+◌, ◌-◌, ◌^◌, ◌<◌, ◌≤◌, bytes_eq, length, IfOk, IfErr, IfSome, Err, Some, None, is_some, IsTrue};
+ghost use Rattle.std.specs.Prelude.{◌≡◌, ℕ, ◌+◌, ◌-◌, ◌^◌, ◌<◌, ◌≤◌, bytes_eq, length, IfOk, IfSome, Err, Some, None, is_some, IsTrue};
 ghost use Rattle.std.specs.List.{find};
 ghost use Rattle.std.specs.Option.{option_map};
 ghost use Rattle.box_io.specs.Outside.{HasCause, Rose};
 ghost use Rattle.blk_spec.specs.Layout.{IsLayout};
-ghost use Rattle.blk_spec.specs.Answers.{HasRoom, Answers, Loads};
-ghost use Rattle.blk_spec.specs.States.{append_refusal, append_of, appended, dump_refusal, dump_of, dumped, erase_refusal, erase_of, erased, cut_after as cut_state, names_of, content_of, time_of, is_listed, zone_of, loaded, load_writes, clearing};
+ghost use Rattle.blk_spec.specs.Answers.{HasRoom, device, Answers, Loads, KeptUnlessFault};
+ghost use Rattle.blk_spec.specs.States.{append_refusal, append_of, appended, dump_refusal, dump_of, dump_pieces_of, dumped, erase_refusal, erase_of, erased, cut_after as cut_state, names_of, content_of, time_of, is_listed, zone_of, loaded, load_writes, clearing};
 ghost use Rattle.blk_spec.specs.Rings.{empty_words};
 ghost use Rattle.blk_spec.specs.Writes.{limited as limited_to};
 ghost use Rattle.blk_spec.specs.Reading.{BlkDump};
 ghost use Rattle.blk_spec.specs.Names.{is_name as is_same, name_text, dump_name as name_of_dump, dump_content as content_of_dump};
 ghost use Rattle.blk_spec.specs.Dumps.{counter_for as counter_of, counted as counted_of};
 ghost use Rattle.zone_blk.specs.Outcomes.{Ends};
-ghost use Rattle.zone_blk.specs.Loading.{IsReadFault};
+ghost use Rattle.zone_blk.specs.Loading.{ReadEnds};
 ghost use Rattle.zone_blk.specs.Answering.{IsContent, IsLoadedState};
 ghost use Rattle.blk_spec.specs.declared.BlkFault.TheVariants.{StoreFault};
 ghost use Rattle.zone_blk.specs.Fits.{IsZone, IsWithin};
@@ -28,7 +28,7 @@ use crate::reading::{Dump, greatest_counter, read_dumps, read_ring};
 use crate::writing::write_header;
 use crate::zones::{dump_zone, ring_zone};
 use blk_spec::{BlkCut, BlkFault, BlkLayout, BlkName, BlkRing, BlkTime, BlkWords, BlkZone, Reason};
-use box_io::{Bytes, Failed, Store};
+use box_io::{Bytes, Failed, Load, Store};
 use std::alloc::{AllocError, Global};
 use std::marker::Model;
 
@@ -121,12 +121,14 @@ fn append_to<M: Store>(
     requires zone { IsZone zone }
     requires within { IsWithin zone ring.old.words }
     requires room { HasRoom (zone.at + zone.size) (M.holds store.old) }
-    ensures answer { RingAnswers result zone payload.now ring.old ring.new cut.old cut.new (M.holds store.old)
-        (M.holds store.new) }
+    ensures answer { let a = device (M.holds store.old) (M.writes store.old) (M.read_faults store.old) in
+        let b = device (M.holds store.new) (M.writes store.new) (M.read_faults store.new) in
+        RingAnswers result zone payload.now ring.old ring.new cut.old cut.new a b }
     ensures within { IsWithin zone ring.new.words }
     ensures room { (n : ℕ) → HasRoom n (M.holds store.old) → HasRoom n (M.holds store.new) }
     ensures later { M.faults store.old ≤ M.faults store.new }
     ensures cause { result ≡ Err StoreFault → Rose (M.faults store.old) (M.faults store.new) }
+    ensures kept { KeptUnlessFault result (M.faults store.old) (M.faults store.new) }
 {
     if zone.size == 0 {
         return Err(BlkFault::NoZone);
@@ -184,7 +186,9 @@ fn named_content(alloc: Global, dumps: &[Dump], name: BlkName) -> Result<Bytes, 
 fn clear_ring<M: Store>(store: &mut M, cut: &mut BlkCut, zone: BlkZone) -> Result<(), Failed>
     requires zone { IsZone zone }
     requires room { HasRoom (zone.at + zone.size) (M.holds store.old) }
-    ensures ends { Ends result (clearing zone) cut.old cut.new (M.holds store.old) (M.holds store.new) }
+    ensures ends { let a = device (M.holds store.old) (M.writes store.old) (M.read_faults store.old) in
+        let b = device (M.holds store.new) (M.writes store.new) (M.read_faults store.new) in
+        Ends result (clearing zone) cut.old cut.new a b }
     ensures more { (n : ℕ) → HasRoom n (M.holds store.old) → HasRoom n (M.holds store.new) }
     ensures cause { HasCause (M.faults store.old) (M.faults store.new) result }
 {
@@ -198,7 +202,9 @@ fn clear_ring<M: Store>(store: &mut M, cut: &mut BlkCut, zone: BlkZone) -> Resul
 fn clear_rings<M: Store>(store: &mut M, cut: &mut BlkCut, layout: BlkLayout) -> Result<(), Failed>
     requires layout { IsLayout layout }
     requires room { HasRoom layout.total (M.holds store.old) }
-    ensures ends { Ends result (load_writes layout) cut.old cut.new (M.holds store.old) (M.holds store.new) }
+    ensures ends { let a = device (M.holds store.old) (M.writes store.old) (M.read_faults store.old) in
+        let b = device (M.holds store.new) (M.writes store.new) (M.read_faults store.new) in
+        Ends result (load_writes layout) cut.old cut.new a b }
     ensures cause { HasCause (M.faults store.old) (M.faults store.new) result }
 {
     match clear_ring(store, cut, ring_zone(layout, BlkRing::Pmsg)) {
@@ -208,13 +214,15 @@ fn clear_rings<M: Store>(store: &mut M, cut: &mut BlkCut, layout: BlkLayout) -> 
 }
 
 /// Reads all zones.
-fn read_all<M: Store>(alloc: Global, store: &mut M, layout: BlkLayout) -> Result<Blk, BlkFault>
+fn read_all<M: Load>(alloc: Global, store: &mut M, layout: BlkLayout) -> Result<Blk, BlkFault>
     requires layout { IsLayout layout }
     requires room { HasRoom layout.total (M.holds store.old) }
     ensures layout { IfOk result (λ b. b.layout ≡ layout) }
     ensures read { IfOk result (λ b. IfSome (M.holds store.old) (λ bs. b ≡ loaded layout bs)) }
-    ensures fault { IfErr result (λ e. IsReadFault e (M.faults store.old) (M.faults store.new)) }
+    ensures ends { ReadEnds result (M.faults store.old) (M.faults store.new) (M.read_faults store.old)
+        (M.read_faults store.new) }
     ensures same { M.holds store.new ≡ M.holds store.old }
+    ensures unwritten { M.writes store.new ≡ M.writes store.old }
     ensures later { M.faults store.old ≤ M.faults store.new }
 {
     let pmsg = match read_ring(alloc, store, ring_zone(layout, BlkRing::Pmsg)) {
@@ -256,10 +264,13 @@ impl Blk {
     pub fn load<M: Store>(alloc: Global, store: &mut M, layout: BlkLayout) -> Result<Blk, BlkFault>
         requires layout { IsLayout layout }
         requires room { HasRoom layout.total (M.holds store.old) }
-        ensures answer { Loads result layout (M.holds store.old) (M.holds store.new) }
+        ensures answer { let a = device (M.holds store.old) (M.writes store.old) (M.read_faults store.old) in
+            let b = device (M.holds store.new) (M.writes store.new) (M.read_faults store.new) in
+            Loads result layout a b }
         ensures room { (n : ℕ) → HasRoom n (M.holds store.old) → HasRoom n (M.holds store.new) }
         ensures later { M.faults store.old ≤ M.faults store.new }
         ensures cause { result ≡ Err StoreFault → Rose (M.faults store.old) (M.faults store.new) }
+        ensures kept { KeptUnlessFault result (M.faults store.old) (M.faults store.new) }
     {
         let blk = match read_all(alloc, store, layout) {
             Ok(blk) => blk,
@@ -289,13 +300,16 @@ impl Blk {
         payload: &[u8],
     ) -> Result<(), BlkFault>
         requires { HasRoom self.old.layout.total (M.holds store.old) }
-        ensures answer { Answers result (append_refusal self.old ring) (append_of self.old ring payload.now)
-            (appended self.old ring payload.now)
-            self.old self.new (M.holds store.old) (M.holds store.new) }
+        ensures answer { let a = device (M.holds store.old) (M.writes store.old) (M.read_faults store.old) in
+            let b = device (M.holds store.new) (M.writes store.new) (M.read_faults store.new) in
+            Answers result (append_refusal self.old ring) (append_of self.old ring payload.now)
+            (append_of self.old ring payload.now) (appended self.old ring payload.now)
+            self.old self.new a b }
         ensures layout { self.new.layout ≡ self.old.layout }
         ensures room { (n : ℕ) → HasRoom n (M.holds store.old) → HasRoom n (M.holds store.new) }
         ensures later { M.faults store.old ≤ M.faults store.new }
         ensures cause { result ≡ Err StoreFault → Rose (M.faults store.old) (M.faults store.new) }
+        ensures kept { KeptUnlessFault result (M.faults store.old) (M.faults store.new) }
     {
         match ring {
             BlkRing::Console => {
@@ -322,13 +336,17 @@ impl Blk {
         requires secs { time.secs < 2 ^ 63 }
         requires nanos { time.nanos < 1000000000 }
         requires room { HasRoom self.old.layout.total (M.holds store.old) }
-        ensures answer { Answers result (dump_refusal self.old) (dump_of self.old time packed reason body.now)
+        ensures answer { let a = device (M.holds store.old) (M.writes store.old) (M.read_faults store.old) in
+            let b = device (M.holds store.new) (M.writes store.new) (M.read_faults store.new) in
+            Answers result (dump_refusal self.old) (dump_of self.old time packed reason body.now)
+            (dump_pieces_of self.old time packed reason body.now)
             (dumped self.old reason)
-            self.old self.new (M.holds store.old) (M.holds store.new) }
+            self.old self.new a b }
         ensures layout { self.new.layout ≡ self.old.layout }
         ensures room { (n : ℕ) → HasRoom n (M.holds store.old) → HasRoom n (M.holds store.new) }
         ensures later { M.faults store.old ≤ M.faults store.new }
         ensures cause { result ≡ Err StoreFault → Rose (M.faults store.old) (M.faults store.new) }
+        ensures kept { KeptUnlessFault result (M.faults store.old) (M.faults store.new) }
     {
         if self.layout.dumps == 0 {
             return Err(BlkFault::NoZone);
@@ -439,12 +457,16 @@ impl Blk {
     /// stands, a dump's zone with what was written there since. Takes no memory.
     pub fn erase<M: Store>(&mut self, store: &mut M, name: BlkName) -> Result<(), BlkFault>
         requires { HasRoom self.old.layout.total (M.holds store.old) }
-        ensures answer { Answers result (erase_refusal self.old name) (erase_of self.old name) (erased self.old name)
-            self.old self.new (M.holds store.old) (M.holds store.new) }
+        ensures answer { let a = device (M.holds store.old) (M.writes store.old) (M.read_faults store.old) in
+            let b = device (M.holds store.new) (M.writes store.new) (M.read_faults store.new) in
+            Answers result (erase_refusal self.old name) (erase_of self.old name) (erase_of self.old name)
+            (erased self.old name)
+            self.old self.new a b }
         ensures layout { self.new.layout ≡ self.old.layout }
         ensures room { (n : ℕ) → HasRoom n (M.holds store.old) → HasRoom n (M.holds store.new) }
         ensures later { M.faults store.old ≤ M.faults store.new }
         ensures cause { result ≡ Err StoreFault → Rose (M.faults store.old) (M.faults store.new) }
+        ensures kept { KeptUnlessFault result (M.faults store.old) (M.faults store.new) }
     {
         if !self.lists(name) {
             return Err(BlkFault::NoRecord);

@@ -3,10 +3,10 @@ ghost use Rattle.std.specs.Prelude.{◌≡◌, ◌+◌, ◌-◌, ◌<◌, ◌≤
 ghost use Rattle.std.specs.Int.{to_le_bytes};
 ghost use Rattle.std.proofs.Common.{w32, w64};
 ghost use Rattle.box_io.specs.Outside.{HasCause};
-ghost use Rattle.blk_spec.specs.Answers.{HasRoom};
+ghost use Rattle.blk_spec.specs.Answers.{HasRoom, device};
 ghost use Rattle.blk_spec.specs.Reasons.{reason_number};
-ghost use Rattle.blk_spec.specs.Dumps.{dump_header, dump_writes};
-ghost use Rattle.zone_blk.specs.Outcomes.{Ends};
+ghost use Rattle.blk_spec.specs.Dumps.{dump_header, dump_writes, dump_pieces};
+ghost use Rattle.zone_blk.specs.Outcomes.{EndsAs};
 ghost use Rattle.zone_blk.specs.Fits.{IsZone};
 
 use crate::writing::{header, write_zone};
@@ -82,8 +82,11 @@ pub fn write_dump<M: Store>(
     requires zone { IsZone zone }
     requires sized { 4096 ≤ zone.size }
     requires room { HasRoom (zone.at + zone.size) (M.holds store.old) }
-    ensures ends { Ends result (dump_writes zone dump.time dump.packed dump.counter dump.reason body.now)
-        cut.old cut.new (M.holds store.old) (M.holds store.new) }
+    ensures ends { let a = device (M.holds store.old) (M.writes store.old) (M.read_faults store.old) in
+        let b = device (M.holds store.new) (M.writes store.new) (M.read_faults store.new) in
+        EndsAs result (dump_writes zone dump.time dump.packed dump.counter dump.reason body.now)
+        (dump_pieces zone dump.time dump.packed dump.counter dump.reason body.now)
+        cut.old cut.new a b }
     ensures room { HasRoom (zone.at + zone.size) (M.holds store.new) }
     ensures cause { HasCause (M.faults store.old) (M.faults store.new) result }
 {

@@ -1,5 +1,5 @@
 // What a loading reads of the store.
-ghost use Rattle.std.specs.Prelude.{◌≡◌, ◌+◌, ◌-◌, ◌<◌, ◌≤◌, length, take, drop, slice_range, IfOk, IfErr, IfSome, OnOk, IsTrue, ◌++◌, option_to_list, vec_len, None, nat_lt, ◌&&◌};
+ghost use Rattle.std.specs.Prelude.{◌≡◌, ◌+◌, ◌-◌, ◌<◌, ◌≤◌, length, take, drop, slice_range, IfOk, IfSome, OnOk, IsTrue, ◌++◌, option_to_list, vec_len, None, nat_lt, ◌&&◌};
 ghost use Rattle.std.specs.List.{All};
 ghost use Rattle.std.specs.Int.{from_le_bytes};
 ghost use Rattle.std.proofs.Common.{w32, w64};
@@ -7,11 +7,11 @@ ghost use Rattle.blk_spec.specs.Layout.{IsLayout};
 ghost use Rattle.blk_spec.specs.Answers.{HasRoom};
 ghost use Rattle.blk_spec.specs.Reading.{zone_bytes, header_words as words_of, is_valid as is_valid_zone, is_dump as is_dump_zone, ring_log, saved_ring as saved_of, dump_seen, listed_dump as dump_of, dumps_listed, greatest_counter as greatest_of};
 ghost use Rattle.zone_blk.specs.Fits.{IsZone};
-ghost use Rattle.zone_blk.specs.Loading.{IsReadFault, IsIn};
+ghost use Rattle.zone_blk.specs.Loading.{ReadEnds, IsIn};
 
 use crate::zones::dump_zone;
 use blk_spec::{BlkFault, BlkLayout, BlkTime, BlkZone};
-use box_io::{Bytes, Failed, Store};
+use box_io::{Bytes, Failed, Load};
 use std::alloc::{AllocError, Global};
 use std::marker::Model;
 use zone_spec::Words;
@@ -115,7 +115,7 @@ fn is_listed(zone: BlkZone, words: Words, content: &[u8]) -> bool
 }
 
 /// Reads a part of a zone, from its byte `from` on.
-fn read_part<M: Store>(
+fn read_part<M: Load>(
     store: &mut M,
     zone: BlkZone,
     from: u32,
@@ -126,8 +126,10 @@ fn read_part<M: Store>(
     requires room { HasRoom (zone.at + zone.size) (M.holds store.old) }
     ensures bytes { OnOk result (IfSome (M.holds store.old)
         (λ bs. into.new ≡ take (length into.old) (drop from (zone_bytes bs zone)))) }
-    ensures fault { IfErr result (λ e. IsReadFault e (M.faults store.old) (M.faults store.new)) }
+    ensures ends { ReadEnds result (M.faults store.old) (M.faults store.new) (M.read_faults store.old)
+        (M.read_faults store.new) }
     ensures same { M.holds store.new ≡ M.holds store.old }
+    ensures unwritten { M.writes store.new ≡ M.writes store.old }
     ensures later { M.faults store.old ≤ M.faults store.new }
 {
     match store.read_at(u64::from(zone.at + from), into) {
@@ -137,7 +139,7 @@ fn read_part<M: Store>(
 }
 
 /// Reads so many bytes of a zone, from its byte `from` on, into memory of their own.
-fn read_bytes<M: Store>(
+fn read_bytes<M: Load>(
     alloc: Global,
     store: &mut M,
     zone: BlkZone,
@@ -150,8 +152,10 @@ fn read_bytes<M: Store>(
     ensures bytes { IfOk result (λ v. IfSome (M.holds store.old)
         (λ bs. v.items ≡ take len (drop from (zone_bytes bs zone)))) }
     ensures len { IfOk result (λ v. vec_len v ≡ len) }
-    ensures fault { IfErr result (λ e. IsReadFault e (M.faults store.old) (M.faults store.new)) }
+    ensures ends { ReadEnds result (M.faults store.old) (M.faults store.new) (M.read_faults store.old)
+        (M.read_faults store.new) }
     ensures same { M.holds store.new ≡ M.holds store.old }
+    ensures unwritten { M.writes store.new ≡ M.writes store.old }
     ensures later { M.faults store.old ≤ M.faults store.new }
 {
     let mut bytes = vec![in alloc; 0u8; len as usize]?;
@@ -162,13 +166,15 @@ fn read_bytes<M: Store>(
 }
 
 /// Reads the words of a ring's header.
-fn read_header<M: Store>(store: &mut M, zone: BlkZone) -> Result<Words, BlkFault>
+fn read_header<M: Load>(store: &mut M, zone: BlkZone) -> Result<Words, BlkFault>
     requires zone { IsZone zone }
     requires sized { 12 ≤ zone.size }
     requires room { HasRoom (zone.at + zone.size) (M.holds store.old) }
     ensures words { IfOk result (λ words. IfSome (M.holds store.old) (λ bs. words ≡ words_of (zone_bytes bs zone))) }
-    ensures fault { IfErr result (λ e. IsReadFault e (M.faults store.old) (M.faults store.new)) }
+    ensures ends { ReadEnds result (M.faults store.old) (M.faults store.new) (M.read_faults store.old)
+        (M.read_faults store.new) }
     ensures same { M.holds store.new ≡ M.holds store.old }
+    ensures unwritten { M.writes store.new ≡ M.writes store.old }
     ensures later { M.faults store.old ≤ M.faults store.new }
 {
     let mut header = [0u8; HEADER as usize];
@@ -179,7 +185,7 @@ fn read_header<M: Store>(store: &mut M, zone: BlkZone) -> Result<Words, BlkFault
 }
 
 /// Reads the log of a ring whose header has these words: its bytes alone.
-fn read_log<M: Store>(
+fn read_log<M: Load>(
     alloc: Global,
     store: &mut M,
     zone: BlkZone,
@@ -191,8 +197,10 @@ fn read_log<M: Store>(
     requires room { HasRoom (zone.at + zone.size) (M.holds store.old) }
     ensures log { IfOk result (λ log. IfSome (M.holds store.old)
         (λ bs. log ≡ ring_log words (drop 12 (zone_bytes bs zone)))) }
-    ensures fault { IfErr result (λ e. IsReadFault e (M.faults store.old) (M.faults store.new)) }
+    ensures ends { ReadEnds result (M.faults store.old) (M.faults store.new) (M.read_faults store.old)
+        (M.read_faults store.new) }
     ensures same { M.holds store.new ≡ M.holds store.old }
+    ensures unwritten { M.writes store.new ≡ M.writes store.old }
     ensures later { M.faults store.old ≤ M.faults store.new }
 {
     let mut log = match read_bytes(alloc, store, zone, HEADER, words.size) {
@@ -204,7 +212,7 @@ fn read_log<M: Store>(
 }
 
 /// Reads the saved log of a ring: its header, and then its log alone.
-pub fn read_ring<M: Store>(
+pub fn read_ring<M: Load>(
     alloc: Global,
     store: &mut M,
     zone: BlkZone,
@@ -215,8 +223,10 @@ pub fn read_ring<M: Store>(
     ensures saved { IfOk result (λ saved. IfSome (M.holds store.old)
         (λ bs. saved ≡ saved_of zone (zone_bytes bs zone))) }
     ensures none { IfOk result (λ saved. zone.size ≡ 0 → saved ≡ None) }
-    ensures fault { IfErr result (λ e. IsReadFault e (M.faults store.old) (M.faults store.new)) }
+    ensures ends { ReadEnds result (M.faults store.old) (M.faults store.new) (M.read_faults store.old)
+        (M.read_faults store.new) }
     ensures same { M.holds store.new ≡ M.holds store.old }
+    ensures unwritten { M.writes store.new ≡ M.writes store.old }
     ensures later { M.faults store.old ≤ M.faults store.new }
 {
     if zone.size < HEADER {
@@ -255,13 +265,15 @@ fn dump_with(index: u32, words: Words, content: &[u8], body: Bytes) -> Dump
 }
 
 /// Reads the front of a dump's zone: both its headers.
-fn read_front<M: Store>(store: &mut M, zone: BlkZone) -> Result<[u8; FRONT], BlkFault>
+fn read_front<M: Load>(store: &mut M, zone: BlkZone) -> Result<[u8; FRONT], BlkFault>
     requires zone { IsZone zone }
     requires sized { 4096 ≤ zone.size }
     requires room { HasRoom (zone.at + zone.size) (M.holds store.old) }
     ensures front { IfOk result (λ front. IfSome (M.holds store.old) (λ bs. front ≡ take 52 (zone_bytes bs zone))) }
-    ensures fault { IfErr result (λ e. IsReadFault e (M.faults store.old) (M.faults store.new)) }
+    ensures ends { ReadEnds result (M.faults store.old) (M.faults store.new) (M.read_faults store.old)
+        (M.read_faults store.new) }
     ensures same { M.holds store.new ≡ M.holds store.old }
+    ensures unwritten { M.writes store.new ≡ M.writes store.old }
     ensures later { M.faults store.old ≤ M.faults store.new }
 {
     let mut front = [0u8; FRONT];
@@ -272,7 +284,7 @@ fn read_front<M: Store>(store: &mut M, zone: BlkZone) -> Result<[u8; FRONT], Blk
 }
 
 /// Reads the dump of a zone, where it is listed: its headers, and then its body alone.
-fn read_dump<M: Store>(
+fn read_dump<M: Load>(
     alloc: Global,
     store: &mut M,
     index: u32,
@@ -284,8 +296,10 @@ fn read_dump<M: Store>(
     ensures dump { IfOk result (λ dump. IfSome (M.holds store.old)
         (λ bs. dump ≡ dump_of index zone (zone_bytes bs zone))) }
     ensures index { IfOk result (λ dump. IfSome dump (λ d. d.index ≡ index)) }
-    ensures fault { IfErr result (λ e. IsReadFault e (M.faults store.old) (M.faults store.new)) }
+    ensures ends { ReadEnds result (M.faults store.old) (M.faults store.new) (M.read_faults store.old)
+        (M.read_faults store.new) }
     ensures same { M.holds store.new ≡ M.holds store.old }
+    ensures unwritten { M.writes store.new ≡ M.writes store.old }
     ensures later { M.faults store.old ≤ M.faults store.new }
 {
     let front = match read_front(store, zone) {
@@ -313,7 +327,7 @@ fn add_dump(dumps: &mut Vec<Dump>, dump: Option<Dump>) -> Result<(), AllocError>
 }
 
 /// Reads the listed dumps, by rising number.
-pub fn read_dumps<M: Store>(
+pub fn read_dumps<M: Load>(
     alloc: Global,
     store: &mut M,
     layout: BlkLayout,
@@ -322,8 +336,10 @@ pub fn read_dumps<M: Store>(
     requires room { HasRoom layout.total (M.holds store.old) }
     ensures dumps { IfOk result (λ v. IfSome (M.holds store.old) (λ bs. v.items ≡ dumps_listed layout bs)) }
     ensures inside { IfOk result (λ v. All (IsIn layout) v.items) }
-    ensures fault { IfErr result (λ e. IsReadFault e (M.faults store.old) (M.faults store.new)) }
+    ensures ends { ReadEnds result (M.faults store.old) (M.faults store.new) (M.read_faults store.old)
+        (M.read_faults store.new) }
     ensures same { M.holds store.new ≡ M.holds store.old }
+    ensures unwritten { M.writes store.new ≡ M.writes store.old }
     ensures later { M.faults store.old ≤ M.faults store.new }
 {
     let mut dumps = Vec::new(alloc);

@@ -1,9 +1,10 @@
 // Writes to the store, as far as a cut lets them through.
-ghost use Rattle.std.specs.Prelude.{◌≡◌, ◌+◌, ◌-◌, ◌<◌, ◌≤◌, [], ◌∷◌, ◌++◌, length, replicate, MatchResult};
+ghost use Rattle.std.specs.Prelude.{◌≡◌, ◌+◌, ◌-◌, ◌<◌, ◌≤◌, [], ◌∷◌, length, MatchResult};
 ghost use Rattle.box_io.specs.Outside.{HasCause};
-ghost use Rattle.blk_spec.specs.Writes.{through, spent};
-ghost use Rattle.blk_spec.specs.Answers.{HasRoom};
+ghost use Rattle.blk_spec.specs.Writes.{through, spent, in_pieces};
+ghost use Rattle.blk_spec.specs.Answers.{HasRoom, device};
 ghost use Rattle.blk_spec.specs.Rings.{header_bytes, header_write, run_writes};
+ghost use Rattle.blk_spec.specs.Dumps.{zeros_by};
 ghost use Rattle.zone_blk.specs.Outcomes.{Ends, one_write};
 ghost use Rattle.zone_blk.specs.Fits.{IsZone};
 
@@ -56,7 +57,9 @@ pub fn write<M: Store>(
     requires zone { IsZone zone }
     requires inside { at + length bytes.now ≤ zone.at + zone.size }
     requires room { HasRoom (zone.at + zone.size) (M.holds store.old) }
-    ensures ends { Ends result (one_write at bytes.now) cut.old cut.new (M.holds store.old) (M.holds store.new) }
+    ensures ends { let a = device (M.holds store.old) (M.writes store.old) (M.read_faults store.old) in
+        let b = device (M.holds store.new) (M.writes store.new) (M.read_faults store.new) in
+        Ends result (one_write at bytes.now) cut.old cut.new a b }
     ensures room { HasRoom (zone.at + zone.size) (M.holds store.new) }
     ensures cause { HasCause (M.faults store.old) (M.faults store.new) result }
 {
@@ -88,7 +91,9 @@ pub fn write_header<M: Store>(
     requires zone { IsZone zone }
     requires sized { 12 ≤ zone.size }
     requires room { HasRoom (zone.at + zone.size) (M.holds store.old) }
-    ensures ends { Ends result (header_write zone words ∷ []) cut.old cut.new (M.holds store.old) (M.holds store.new) }
+    ensures ends { let a = device (M.holds store.old) (M.writes store.old) (M.read_faults store.old) in
+        let b = device (M.holds store.new) (M.writes store.new) (M.read_faults store.new) in
+        Ends result (header_write zone words ∷ []) cut.old cut.new a b }
     ensures room { HasRoom (zone.at + zone.size) (M.holds store.new) }
     ensures cause { HasCause (M.faults store.old) (M.faults store.new) result }
 {
@@ -108,8 +113,9 @@ pub fn write_run<M: Store>(
     requires zone { IsZone zone }
     requires inside { 12 + place + length bytes.now ≤ zone.size }
     requires room { HasRoom (zone.at + zone.size) (M.holds store.old) }
-    ensures ends { Ends result (run_writes zone place bytes.now words) cut.old cut.new (M.holds store.old)
-        (M.holds store.new) }
+    ensures ends { let a = device (M.holds store.old) (M.writes store.old) (M.read_faults store.old) in
+        let b = device (M.holds store.new) (M.writes store.new) (M.read_faults store.new) in
+        Ends result (run_writes zone place bytes.now words) cut.old cut.new a b }
     ensures room { HasRoom (zone.at + zone.size) (M.holds store.new) }
     ensures cause { HasCause (M.faults store.old) (M.faults store.new) result }
 {
@@ -129,8 +135,10 @@ fn write_zeros<M: Store>(
     requires zone { IsZone zone }
     requires inside { from ≤ zone.at + zone.size }
     requires room { HasRoom (zone.at + zone.size) (M.holds store.old) }
-    ensures ends { Ends result (one_write from (replicate ((zone.at + zone.size) - from) 0)) cut.old cut.new
-        (M.holds store.old) (M.holds store.new) }
+    ensures ends { let a = device (M.holds store.old) (M.writes store.old) (M.read_faults store.old) in
+        let b = device (M.holds store.new) (M.writes store.new) (M.read_faults store.new) in
+        Ends result (in_pieces from (zeros_by 65536 ((zone.at + zone.size) - from))) cut.old cut.new
+        a b }
     ensures room { HasRoom (zone.at + zone.size) (M.holds store.new) }
     ensures cause { HasCause (M.faults store.old) (M.faults store.new) result }
 {
@@ -159,9 +167,11 @@ pub fn write_zone<M: Store>(
     requires zone { IsZone zone }
     requires inside { length header.now + length front.now + length body.now ≤ zone.size }
     requires room { HasRoom (zone.at + zone.size) (M.holds store.old) }
-    ensures ends { Ends result (one_write zone.at (header.now ++ front.now ++ body.now
-        ++ replicate (zone.size - (length header.now + length front.now + length body.now)) 0)) cut.old cut.new
-        (M.holds store.old) (M.holds store.new) }
+    ensures ends { let a = device (M.holds store.old) (M.writes store.old) (M.read_faults store.old) in
+        let b = device (M.holds store.new) (M.writes store.new) (M.read_faults store.new) in
+        Ends result (in_pieces zone.at (header.now ∷ front.now ∷ body.now
+        ∷ zeros_by 65536 (zone.size - (length header.now + length front.now + length body.now)))) cut.old cut.new
+        a b }
     ensures room { HasRoom (zone.at + zone.size) (M.holds store.new) }
     ensures cause { HasCause (M.faults store.old) (M.faults store.new) result }
 {

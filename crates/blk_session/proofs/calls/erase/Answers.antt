@@ -10,12 +10,12 @@ returns-in-Some-clause-done g c =
     line_ends c.args.blk.now.layout (Some c.args.blk.now) (Erase c.args.name.now) (EraseRecord (Some c.in-Some.name))
     (erase_is (Some c.args.blk.now) c.args.name.now (Some c.in-Some.name)
     (sym c.in-Some.is ∙ (rw c.as_slice.ensures at c.find.ensures)))
-    c.erase_named.result (Some c.erase_named.new.blk) (g.S.Store.holds c.args.store.now)
-    (g.S.Store.holds c.erase_named.new.store) (g.S.Store.faults c.args.store.now)
-    (g.S.Store.faults c.erase_named.new.store) c.erase_named.ensures.done
+    c.erase_named.result (Some c.erase_named.new.blk) _
+    _ (g.S.Load.faults c.args.store.now)
+    (g.S.Load.faults c.erase_named.new.store) c.erase_named.ensures.done
 
 pub returns-in-None-clause-done : goal.returns-in-None-clause-done
 returns-in-None-clause-done g c =
-    erase_refused c.args.blk.now c.args.name.now (g.S.Store.holds c.args.store.now)
-    (g.S.Store.faults c.args.store.now) (sym c.in-None.is
+    erase_refused c.args.blk.now c.args.name.now _
+    (g.S.Load.faults c.args.store.now) (sym c.in-None.is
     ∙ (rw c.as_slice.ensures at c.find.ensures))

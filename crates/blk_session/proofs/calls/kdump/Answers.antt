@@ -12,5 +12,5 @@ returns-clause-done g c =
     (DumpNow c.args.time c.args.packed c.reason_of.result c.as_slice.result.now)
     (kdump_is (Some c.args.blk.now) c.args.time c.args.packed c.args.reason c.reason_of.result c.args.body.now
     c.as_slice.result.now c.reason_of.ensures c.as_slice.ensures)
-    c.dump.result (Some c.dump.new.blk) (g.S.Store.holds c.args.store.now) (g.S.Store.holds c.dump.new.store)
-    (g.S.Store.faults c.args.store.now) (g.S.Store.faults c.dump.new.store) c.dump.ensures.done
+    c.dump.result (Some c.dump.new.blk) _ _
+    (g.S.Load.faults c.args.store.now) (g.S.Load.faults c.dump.new.store) c.dump.ensures.done

@@ -11,10 +11,10 @@ returns-in-Some-clause-done g c =
     (Append c.in-Some.ring c.as_slice.result.now)
     (write_is (Some c.args.blk.now) c.args.zone c.in-Some.ring c.args.bytes.now c.as_slice.result.now
     (sym c.in-Some.is ∙ c.ring_for.ensures) c.as_slice.ensures)
-    c.append.result (Some c.append.new.blk) (g.S.Store.holds c.args.store.now) (g.S.Store.holds c.append.new.store)
-    (g.S.Store.faults c.args.store.now) (g.S.Store.faults c.append.new.store) c.append.ensures.done
+    c.append.result (Some c.append.new.blk) _ _
+    (g.S.Load.faults c.args.store.now) (g.S.Load.faults c.append.new.store) c.append.ensures.done
 
 pub returns-in-None-clause-done : goal.returns-in-None-clause-done
 returns-in-None-clause-done g c =
-    write_refused c.args.blk.now c.args.zone c.args.bytes.now (g.S.Store.holds c.args.store.now)
-    (g.S.Store.faults c.args.store.now) (sym c.in-None.is ∙ c.ring_for.ensures)
+    write_refused c.args.blk.now c.args.zone c.args.bytes.now _
+    (g.S.Load.faults c.args.store.now) (sym c.in-None.is ∙ c.ring_for.ensures)

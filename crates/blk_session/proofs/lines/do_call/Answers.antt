@@ -4,6 +4,7 @@ use Rattle.grammar_spec.specs.declared.line.Line.{Line}
 use Rattle.blk_session.specs.Lines.{LineDone}
 use Rattle.blk_session.proofs.CallLines.{cut_done}
 use Rattle.blk_session.proofs.OtherLines.{kdump_fields}
+use Rattle.blk_spec.specs.Answers.{Device, device}
 use Rattle.blk_session.proofs.lines.do_call.Goals as goal
 
 pub kdump-requires-clause-secs : goal.kdump-requires-clause-secs
@@ -16,7 +17,9 @@ kdump-requires-clause-nanos g c = (kdump_fields c.in-KDump.secs c.in-KDump.nanos
 
 pub returns-in-CutAfter-clause-done : goal.returns-in-CutAfter-clause-done
 returns-in-CutAfter-clause-done g c =
-    subst (λ (line : Line). LineDone c.args.blk.now.layout (Some c.args.blk.now) line (Some c.cut_after.new.self) []
-    (g.S.Store.holds c.args.store.now) (g.S.Store.holds c.args.store.now)) (sym c.in-CutAfter.is)
-    (cut_done c.args.blk.now c.cut_after.new.self c.in-CutAfter.limit (g.S.Store.holds c.args.store.now)
-    (rw c.from.ensures at c.cut_after.ensures))
+    let a : Device = device (g.S.Load.holds c.args.store.now) (g.S.Load.writes c.args.store.now)
+    (g.S.Load.read_faults c.args.store.now) in
+    subst (λ (line : Line). LineDone c.args.blk.now.layout (Some c.args.blk.now) line (Some c.cut_after.new.self) [] a
+    a)
+    (sym c.in-CutAfter.is)
+    (cut_done c.args.blk.now c.cut_after.new.self c.in-CutAfter.limit a (rw c.from.ensures at c.cut_after.ensures))

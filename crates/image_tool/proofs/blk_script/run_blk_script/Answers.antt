@@ -15,7 +15,7 @@ returns-clause-work g c = record {
   caused = played_caused c.play.result _ _ _ _ _ _ _ _ c.check_size.ensures.later (omega arith) c.play.ensures.caused;
   kept = λ w. absurd w;
   ended = play_ended c.args.layout _ _ c.in-Ok-read_script.text.items c.in-Ok-lines.lines c.play.result
-      (g.M.Store.holds c.check_size.new.image) _ _ _ _ c.in-Ok.ensures.ok
+      (g.M.Load.holds c.check_size.new.image) _ _ _ _ c.in-Ok.ensures.ok
       (read_whole _ _ c.in-Ok-read_script.text c.in-Ok-read_script.ensures.ok c.in-Ok-read_script.ensures.end)
       (rw c.deref.ensures.value at c.in-Ok-lines.ensures.read) c.check_size.ensures.same c.play.ensures.caused
       (rw c.as_slice.ensures at c.play.ensures.played);

@@ -1,11 +1,11 @@
 -- How each stage of a script on an image ends it
-use Rattle.std.proofs.Common.{refl, arith, Err}
+use Rattle.std.proofs.Common.{refl, ◌∙◌, arith, Err}
 use Rattle.zone_spec.specs.Layout.{rounded}
 use Rattle.zone_params.specs.Laid.{params_of, zones_of}
 use Rattle.tool_spec.specs.Commands.{RunScript}
 use Rattle.tool_frame.specs.Words.{plan_for}
 use Rattle.tool_frame.proofs.ReadParts.{read_whole}
-use Rattle.tool_frame.proofs.Script.{out_of_memory, parse_stopped, parse_caused}
+use Rattle.tool_frame.proofs.Script.{load_stopped, script_stopped, out_of_memory, parse_stopped, load_caused, script_caused, parse_caused}
 use Rattle.image_tool.proofs.ScriptEnds.{scripted, play_caused, play_stopped, play_saved, play_unsaved}
 use Rattle.image_tool.proofs.WorkEnds.{kept_same}
 use Rattle.image_tool.proofs.Due.{no_text, text_put, lines_put}
@@ -15,7 +15,13 @@ pub returns-in-Err-play-clause-work : goal.returns-in-Err-play-clause-work
 returns-in-Err-play-clause-work g c = record {
   later = record { source = omega arith; store = omega arith; sink = omega arith };
   caused = play_caused _ _ _ _ _ _ _ _ _ _ _ _ (c.in-Err-play.ensures.played _ _ _ c.in-Ok-fresh_store.ensures);
+  counts = record {
+    source = λ other. c.in-Ok-read_script.ensures.counts;
+    store = λ other. c.in-Ok.ensures.counts;
+    sink = c.in-Err-play.ensures.counts;
+  };
   kept = λ w. kept_same (Err c.in-Err-play.stop) _ _ c.in-Ok.ensures.same;
+  asks = kept_same (Err c.in-Err-play.stop) _ _ c.in-Ok.ensures.unwritten;
   ended = play_stopped (plan_for RunScript c.args.layout) refl _ _ c.in-Ok.bytes.items
       (record { read = rw c.mem.ensures at c.in-Ok.ensures.ok.1 })
       c.in-Ok-read_script.text.items
@@ -31,7 +37,13 @@ returns-in-Ok-save-clause-work g c =
     record {
       later = record { source = omega arith; store = omega arith; sink = omega arith };
       caused = tt;
+      counts = record {
+        source = c.in-Ok-read_script.ensures.counts;
+        store = c.in-Ok-save.ensures.cause.done ∙ c.in-Ok.ensures.counts;
+        sink = c.in-Ok-play.ensures.counts;
+      };
       kept = λ w. tt;
+      asks = tt;
       ended = play_saved (plan_for RunScript c.args.layout) refl _ _ c.in-Ok.bytes.items
           (record { read = rw c.mem.ensures at c.in-Ok.ensures.ok.1 })
           c.in-Ok-read_script.text.items
@@ -49,7 +61,13 @@ returns-clause-work g c =
     record {
       later = record { source = omega arith; store = omega arith; sink = omega arith };
       caused = omega (arith, c.in-Err-save.ensures.cause.failed);
+      counts = record {
+        source = λ other. c.in-Ok-read_script.ensures.counts;
+        store = λ other. absurd (other refl);
+        sink = λ other. c.in-Ok-play.ensures.counts;
+      };
       kept = λ w. tt;
+      asks = tt;
       ended = play_unsaved (plan_for RunScript c.args.layout) refl _ _ c.in-Ok.bytes.items
           (record { read = rw c.mem.ensures at c.in-Ok.ensures.ok.1 })
           c.in-Ok-read_script.text.items
@@ -61,11 +79,50 @@ returns-clause-work g c =
           (rw (c.as_slice-2.ensures, c.in-Ok.ensures.same) at c.in-Err-save.ensures.bytes);
     }
 
+pub returns-in-Err-clause-work : goal.returns-in-Err-clause-work
+returns-in-Err-clause-work g c = record {
+  later = record { source = omega arith; store = omega arith; sink = omega arith };
+  caused = load_caused c.in-Err.stop c.mem.result (g.M.Load.holds c.args.image.now) _ _ _ _ _ _ c.in-Err.ensures.err;
+  counts = record {
+    source = λ other. refl;
+    store = c.in-Err.ensures.counts;
+    sink = λ other. refl;
+  };
+  kept = λ w. kept_same (Err c.in-Err.stop) _ _ c.in-Err.ensures.same;
+  asks = kept_same (Err c.in-Err.stop) _ _ c.in-Err.ensures.unwritten;
+  ended = load_stopped (plan_for RunScript c.args.layout) _ (scripted _ refl) _ _ c.in-Err.stop _ _
+      (record { left = refl; source = refl }) (record { given = refl; holds = c.in-Err.ensures.same })
+      (rw c.mem.ensures at c.in-Err.ensures.err);
+}
+
+pub returns-in-Err-read_script-clause-work : goal.returns-in-Err-read_script-clause-work
+returns-in-Err-read_script-clause-work g c = record {
+  later = record { source = omega arith; store = omega arith; sink = omega arith };
+  caused = script_caused c.in-Err-read_script.stop (g.S.Source.left c.args.script.now) _ _ _ _ _ _
+      c.in-Err-read_script.ensures.err;
+  counts = record {
+    source = c.in-Err-read_script.ensures.counts;
+    store = λ other. c.in-Ok.ensures.counts;
+    sink = λ other. refl;
+  };
+  kept = λ w. kept_same (Err c.in-Err-read_script.stop) _ _ c.in-Ok.ensures.same;
+  asks = kept_same (Err c.in-Err-read_script.stop) _ _ c.in-Ok.ensures.unwritten;
+  ended = script_stopped (plan_for RunScript c.args.layout) _ (scripted _ refl) _ _ c.in-Ok.bytes.items
+      (record { read = rw c.mem.ensures at c.in-Ok.ensures.ok.1 }) c.in-Err-read_script.stop _ _
+      (record { given = refl; holds = c.in-Ok.ensures.same }) c.in-Err-read_script.ensures.err;
+}
+
 pub returns-in-Err-lines-clause-work : goal.returns-in-Err-lines-clause-work
 returns-in-Err-lines-clause-work g c = record {
   later = record { source = omega arith; store = omega arith; sink = omega arith };
   caused = parse_caused c.in-Err-lines.stop _ _ _ _ _ _ _ c.in-Err-lines.ensures.read;
+  counts = record {
+    source = λ other. c.in-Ok-read_script.ensures.counts;
+    store = λ other. c.in-Ok.ensures.counts;
+    sink = λ other. refl;
+  };
   kept = λ w. kept_same (Err c.in-Err-lines.stop) _ _ c.in-Ok.ensures.same;
+  asks = kept_same (Err c.in-Err-lines.stop) _ _ c.in-Ok.ensures.unwritten;
   ended = parse_stopped (plan_for RunScript c.args.layout) _ (scripted _ refl) _ _ c.in-Ok.bytes.items
       (record { read = rw c.mem.ensures at c.in-Ok.ensures.ok.1 })
       c.in-Ok-read_script.text.items
@@ -78,7 +135,13 @@ pub returns-in-Err-fresh_store-clause-work : goal.returns-in-Err-fresh_store-cla
 returns-in-Err-fresh_store-clause-work g c = record {
   later = record { source = omega arith; store = omega arith; sink = omega arith };
   caused = tt;
+  counts = record {
+    source = λ other. c.in-Ok-read_script.ensures.counts;
+    store = λ other. c.in-Ok.ensures.counts;
+    sink = λ other. refl;
+  };
   kept = λ w. c.in-Ok.ensures.same;
+  asks = c.in-Ok.ensures.unwritten;
   ended = out_of_memory (plan_for RunScript c.args.layout) _ (scripted _ refl) _ _ c.in-Ok.bytes.items
       (record { read = rw c.mem.ensures at c.in-Ok.ensures.ok.1 })
       (record { given = refl; holds = c.in-Ok.ensures.same });

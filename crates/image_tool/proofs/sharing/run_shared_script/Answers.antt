@@ -1,5 +1,5 @@
 -- How each stage of a script on a shared zone ends it
-use Rattle.std.proofs.Common.{refl, arith, Err}
+use Rattle.std.proofs.Common.{refl, ◌∙◌, arith, Err}
 use Rattle.tool_spec.specs.Commands.{RunShared}
 use Rattle.tool_frame.specs.Words.{plan_for}
 use Rattle.tool_frame.proofs.ReadParts.{read_whole}
@@ -13,7 +13,13 @@ pub returns-in-Err-share-clause-work : goal.returns-in-Err-share-clause-work
 returns-in-Err-share-clause-work g c = record {
   later = record { source = omega arith; store = omega arith; sink = omega arith };
   caused = share_caused _ _ _ _ _ _ _ _ c.in-Err-share.ensures;
+  counts = record {
+    source = λ other. c.in-Ok-read_script.ensures.counts;
+    store = λ other. c.in-Ok.ensures.counts;
+    sink = λ other. refl;
+  };
   kept = λ w. kept_same (Err c.in-Err-share.stop) _ _ c.in-Ok.ensures.same;
+  asks = kept_same (Err c.in-Err-share.stop) _ _ c.in-Ok.ensures.unwritten;
   ended = share_ended (plan_for RunShared c.args.booted) refl _ _ c.in-Ok.bytes.items
       (record { read = rw c.mem.ensures at c.in-Ok.ensures.ok.1 })
       c.in-Ok-read_script.text.items
@@ -26,7 +32,13 @@ pub returns-in-Err-put-clause-work : goal.returns-in-Err-put-clause-work
 returns-in-Err-put-clause-work g c = record {
   later = record { source = omega arith; store = omega arith; sink = omega arith };
   caused = omega (arith, c.in-Err-put.ensures.cause.failed);
+  counts = record {
+    source = λ other. c.in-Ok-read_script.ensures.counts;
+    store = λ other. c.in-Ok.ensures.counts;
+    sink = λ other. absurd (other refl);
+  };
   kept = λ w. c.in-Ok.ensures.same;
+  asks = c.in-Ok.ensures.unwritten;
   ended = text_unput (plan_for RunShared c.args.booted) refl _ _ c.in-Ok.bytes.items
       (record { read = rw c.mem.ensures at c.in-Ok.ensures.ok.1 })
       c.in-Ok-read_script.text.items
@@ -40,7 +52,13 @@ pub returns-in-Ok-save-clause-work : goal.returns-in-Ok-save-clause-work
 returns-in-Ok-save-clause-work g c = record {
   later = record { source = omega arith; store = omega arith; sink = omega arith };
   caused = tt;
+  counts = record {
+    source = c.in-Ok-read_script.ensures.counts;
+    store = c.in-Ok-save.ensures.cause.done ∙ c.in-Ok.ensures.counts;
+    sink = c.in-Ok-put.ensures.cause.done;
+  };
   kept = λ w. tt;
+  asks = tt;
   ended = image_saved (plan_for RunShared c.args.booted) refl _ _ c.in-Ok.bytes.items
       (record { read = rw c.mem.ensures at c.in-Ok.ensures.ok.1 })
       c.in-Ok-read_script.text.items
@@ -55,7 +73,13 @@ pub returns-clause-work : goal.returns-clause-work
 returns-clause-work g c = record {
   later = record { source = omega arith; store = omega arith; sink = omega arith };
   caused = omega (arith, c.in-Err-save.ensures.cause.failed);
+  counts = record {
+    source = λ other. c.in-Ok-read_script.ensures.counts;
+    store = λ other. absurd (other refl);
+    sink = λ other. c.in-Ok-put.ensures.cause.done;
+  };
   kept = λ w. tt;
+  asks = tt;
   ended = image_unsaved (plan_for RunShared c.args.booted) refl _ _ c.in-Ok.bytes.items
       (record { read = rw c.mem.ensures at c.in-Ok.ensures.ok.1 })
       c.in-Ok-read_script.text.items
@@ -69,8 +93,14 @@ returns-clause-work g c = record {
 pub returns-in-Err-clause-work : goal.returns-in-Err-clause-work
 returns-in-Err-clause-work g c = record {
   later = record { source = omega arith; store = omega arith; sink = omega arith };
-  caused = load_caused c.in-Err.stop c.mem.result (g.M.Store.holds c.args.image.now) _ _ _ _ _ _ c.in-Err.ensures.err;
+  caused = load_caused c.in-Err.stop c.mem.result (g.M.Load.holds c.args.image.now) _ _ _ _ _ _ c.in-Err.ensures.err;
+  counts = record {
+    source = λ other. refl;
+    store = c.in-Err.ensures.counts;
+    sink = λ other. refl;
+  };
   kept = λ w. kept_same (Err c.in-Err.stop) _ _ c.in-Err.ensures.same;
+  asks = kept_same (Err c.in-Err.stop) _ _ c.in-Err.ensures.unwritten;
   ended = load_stopped (plan_for RunShared c.args.booted) _ (shared_scripted _ refl) _ _ c.in-Err.stop _ _
       (record { left = refl; source = refl }) (record { given = refl; holds = c.in-Err.ensures.same })
       (rw c.mem.ensures at c.in-Err.ensures.err);
@@ -81,7 +111,13 @@ returns-in-Err-read_script-clause-work g c = record {
   later = record { source = omega arith; store = omega arith; sink = omega arith };
   caused = script_caused c.in-Err-read_script.stop (g.S.Source.left c.args.script.now) _ _ _ _ _ _
       c.in-Err-read_script.ensures.err;
+  counts = record {
+    source = c.in-Err-read_script.ensures.counts;
+    store = λ other. c.in-Ok.ensures.counts;
+    sink = λ other. refl;
+  };
   kept = λ w. kept_same (Err c.in-Err-read_script.stop) _ _ c.in-Ok.ensures.same;
+  asks = kept_same (Err c.in-Err-read_script.stop) _ _ c.in-Ok.ensures.unwritten;
   ended = script_stopped (plan_for RunShared c.args.booted) _ (shared_scripted _ refl) _ _ c.in-Ok.bytes.items
       (record { read = rw c.mem.ensures at c.in-Ok.ensures.ok.1 }) c.in-Err-read_script.stop _ _
       (record { given = refl; holds = c.in-Ok.ensures.same }) c.in-Err-read_script.ensures.err;
@@ -91,7 +127,13 @@ pub returns-in-Err-lines-clause-work : goal.returns-in-Err-lines-clause-work
 returns-in-Err-lines-clause-work g c = record {
   later = record { source = omega arith; store = omega arith; sink = omega arith };
   caused = parse_caused c.in-Err-lines.stop _ _ _ _ _ _ _ c.in-Err-lines.ensures.read;
+  counts = record {
+    source = λ other. c.in-Ok-read_script.ensures.counts;
+    store = λ other. c.in-Ok.ensures.counts;
+    sink = λ other. refl;
+  };
   kept = λ w. kept_same (Err c.in-Err-lines.stop) _ _ c.in-Ok.ensures.same;
+  asks = kept_same (Err c.in-Err-lines.stop) _ _ c.in-Ok.ensures.unwritten;
   ended = parse_stopped (plan_for RunShared c.args.booted) _ (shared_scripted _ refl) _ _ c.in-Ok.bytes.items
       (record { read = rw c.mem.ensures at c.in-Ok.ensures.ok.1 })
       c.in-Ok-read_script.text.items

@@ -2,7 +2,7 @@ use Rattle.std.proofs.Common.{refl, arith}
 use Rattle.tool_spec.specs.Commands.{ShowLayout, BlankImage}
 use Rattle.tool_frame.specs.Words.{plan_for}
 use Rattle.tool_frame.specs.declared.words.RamCommand.TheVariants.{Run, List, Extract, Erase, Layout, Blank, Make, Salvage, Rescue}
-use Rattle.image_tool.proofs.WorkEnds.{arm_done, kept_same, layout_shown, blank_left}
+use Rattle.image_tool.proofs.WorkEnds.{arm_done, kept_same, count_same, layout_shown, blank_left}
 use Rattle.image_tool.proofs.Due.{arm_put, none_put}
 use Rattle.image_tool.proofs.work.do_command.Goals as goal
 
@@ -13,7 +13,13 @@ pub returns-in-List-clause-work : goal.returns-in-List-clause-work
 returns-in-List-clause-work g c = arm_done _ List c.args.layout _ _ _ c.in-List.is (record {
   later = record { source = omega arith; store = c.list.ensures.later.0; sink = c.list.ensures.later.1 };
   caused = c.list.ensures.caused _ _;
+  counts = record {
+    source = count_same _ _ _ _ refl;
+    store = c.list.ensures.image_count;
+    sink = c.list.ensures.out_count;
+  };
   kept = λ w. kept_same _ _ _ c.list.ensures.same;
+  asks = c.list.ensures.unwritten;
   ended = c.list.ensures.ended _ _;
 })
 
@@ -22,7 +28,13 @@ returns-in-Extract-clause-work g c = arm_done _ (Extract c.in-Extract.name) c.ar
     (record {
       later = record { source = omega arith; store = c.extract.ensures.later.0; sink = c.extract.ensures.later.1 };
       caused = c.extract.ensures.caused _ _;
+      counts = record {
+        source = count_same _ _ _ _ refl;
+        store = c.extract.ensures.image_count;
+        sink = c.extract.ensures.out_count;
+      };
       kept = λ w. kept_same _ _ _ c.extract.ensures.same;
+      asks = c.extract.ensures.unwritten;
       ended = c.extract.ensures.ended _ _;
     })
 
@@ -30,7 +42,13 @@ pub returns-in-Erase-clause-work : goal.returns-in-Erase-clause-work
 returns-in-Erase-clause-work g c = arm_done _ (Erase c.in-Erase.name) c.args.layout _ _ _ c.in-Erase.is (record {
   later = record { source = omega arith; store = c.erase.ensures.later; sink = omega arith };
   caused = c.erase.ensures.caused _ _ _ _;
+  counts = record {
+    source = count_same _ _ _ _ refl;
+    store = c.erase.ensures.image_count;
+    sink = count_same _ _ _ _ refl;
+  };
   kept = λ w. c.erase.ensures.kept;
+  asks = c.erase.ensures.asks;
   ended = c.erase.ensures.ended _ _ _ _;
 })
 
@@ -38,7 +56,13 @@ pub returns-in-Layout-clause-work : goal.returns-in-Layout-clause-work
 returns-in-Layout-clause-work g c = arm_done _ Layout c.args.layout _ _ _ c.in-Layout.is (record {
   later = record { source = omega arith; store = omega arith; sink = c.show_layout.ensures.later };
   caused = c.show_layout.ensures.caused _ _ _ _;
+  counts = record {
+    source = count_same _ _ _ _ refl;
+    store = count_same _ _ _ _ refl;
+    sink = c.show_layout.ensures.out_count;
+  };
   kept = λ w. kept_same _ _ _ refl;
+  asks = refl;
   ended = layout_shown (plan_for ShowLayout c.args.layout) _ _ _ refl (record { left = refl; source = refl })
       (record { holds = refl; store = refl }) c.show_layout.ensures.can (c.show_layout.ensures.ended _);
 })
@@ -47,7 +71,13 @@ pub returns-in-Blank-clause-work : goal.returns-in-Blank-clause-work
 returns-in-Blank-clause-work g c = arm_done _ Blank c.args.layout _ _ _ c.in-Blank.is (record {
   later = record { source = omega arith; store = c.blank.ensures.later; sink = omega arith };
   caused = c.blank.ensures.caused _ _ _ _;
+  counts = record {
+    source = count_same _ _ _ _ refl;
+    store = c.blank.ensures.image_count;
+    sink = count_same _ _ _ _ refl;
+  };
   kept = λ w. c.blank.ensures.kept;
+  asks = (c.blank.ensures.asks, c.blank.ensures.asked);
   ended = blank_left (plan_for BlankImage c.args.layout) c.mem.result _ _ _ c.mem.ensures refl
       (record { left = refl; source = refl }) refl c.blank.ensures.can (c.blank.ensures.ended _)
       c.blank.ensures.written;
@@ -57,7 +87,13 @@ pub returns-in-Make-clause-work : goal.returns-in-Make-clause-work
 returns-in-Make-clause-work g c = arm_done _ (Make c.in-Make.n) c.args.layout _ _ _ c.in-Make.is (record {
   later = record { source = omega arith; store = c.make.ensures.later.0; sink = c.make.ensures.later.1 };
   caused = c.make.ensures.caused _ _;
+  counts = record {
+    source = count_same _ _ _ _ refl;
+    store = c.make.ensures.image_count;
+    sink = c.make.ensures.out_count;
+  };
   kept = λ w. c.make.ensures.kept;
+  asks = (c.make.ensures.asks, c.make.ensures.asked);
   ended = c.make.ensures.ended _ _;
 })
 
@@ -65,7 +101,13 @@ pub returns-in-Salvage-clause-work : goal.returns-in-Salvage-clause-work
 returns-in-Salvage-clause-work g c = arm_done _ Salvage c.args.layout _ _ _ c.in-Salvage.is (record {
   later = record { source = omega arith; store = c.salvage.ensures.later.0; sink = c.salvage.ensures.later.1 };
   caused = c.salvage.ensures.caused _ _;
+  counts = record {
+    source = count_same _ _ _ _ refl;
+    store = c.salvage.ensures.image_count;
+    sink = c.salvage.ensures.out_count;
+  };
   kept = λ w. kept_same _ _ _ c.salvage.ensures.same;
+  asks = c.salvage.ensures.unwritten;
   ended = c.salvage.ensures.ended _ _;
 })
 
@@ -74,7 +116,13 @@ returns-in-Rescue-clause-work g c = arm_done _ (Rescue c.in-Rescue.at c.in-Rescu
     c.in-Rescue.is (record {
       later = record { source = omega arith; store = c.rescue.ensures.later.0; sink = c.rescue.ensures.later.1 };
       caused = c.rescue.ensures.caused _ _;
+      counts = record {
+        source = count_same _ _ _ _ refl;
+        store = c.rescue.ensures.image_count;
+        sink = c.rescue.ensures.out_count;
+      };
       kept = λ w. kept_same _ _ _ c.rescue.ensures.same;
+      asks = c.rescue.ensures.unwritten;
       ended = c.rescue.ensures.ended _ _;
     })
 

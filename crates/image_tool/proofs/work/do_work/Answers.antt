@@ -1,7 +1,7 @@
 use Rattle.std.proofs.Common.{refl, arith, Err}
 use Rattle.tool_spec.specs.Commands.{OfMove, plan_of}
 use Rattle.tool_frame.specs.Words.{texts, move_for}
-use Rattle.image_tool.proofs.WorkEnds.{none_done, plan_done}
+use Rattle.image_tool.proofs.WorkEnds.{none_done, plan_done, count_same}
 use Rattle.image_tool.proofs.Due.{plan_put, plan_same}
 use Rattle.image_tool.proofs.work.do_work.Goals as goal
 
@@ -12,7 +12,7 @@ returns-in-Err-clause-work g c = none_done (plan_of (texts c.args.words.now)) c.
       script = record { left = refl; source = refl };
       image = record { holds = refl; store = refl };
       given = refl;
-    }) refl
+    }) refl refl
 
 pub returns-in-Ok-Move-clause-work : goal.returns-in-Ok-Move-clause-work
 returns-in-Ok-Move-clause-work g c = plan_done (plan_of (texts c.args.words.now))
@@ -25,7 +25,13 @@ returns-in-Ok-Move-clause-work g c = plan_done (plan_of (texts c.args.words.now)
         sink = c.move_image.ensures.later.1;
       };
       caused = c.move_image.ensures.caused _ _;
+      counts = record {
+        source = count_same _ _ _ _ refl;
+        store = c.move_image.ensures.image_count;
+        sink = c.move_image.ensures.out_count;
+      };
       kept = λ w. c.move_image.ensures.kept;
+      asks = c.move_image.ensures.asks;
       ended = c.move_image.ensures.ended _ _;
     })
 

@@ -1,7 +1,8 @@
 use Rattle.std.proofs.Common.{refl}
 use Rattle.tool_spec.specs.Commands.{asked, plan_of}
 use Rattle.tool_frame.specs.Words.{texts}
-use Rattle.tool_frame.proofs.AnyWords.{work_answers, work_untouched}
+use Rattle.tool_frame.proofs.AnyWords.{work_answers}
+use Rattle.tool_frame.proofs.Counts.{work_untouched, work_writes, work_no_other_fault}
 use Rattle.image_tool.proofs.Completed.{completes}
 use Rattle.image_tool.proofs.HeadlineReads.{run_reads}
 use Rattle.image_tool.proofs.Due.{last_line_put}
@@ -9,15 +10,21 @@ use Rattle.image_tool.proofs.work.run.Goals as goal
 
 pub returns-clause-runs : goal.returns-clause-runs
 returns-clause-runs g c =
-    let answers = work_answers (plan_of (texts c.args.words.now)) _ _ _ _ _ (record { left = refl; source = refl })
-    (record { holds = refl; store = refl }) c.do_work-end.ensures.work c.finish.ensures in
+    let plan = plan_of (texts c.args.words.now) in
+    let work = c.do_work-end.ensures.work in
+    let answers = work_answers plan _ _ _ _ _ (record { left = refl; source = refl })
+    (record { holds = refl; store = refl }) work c.finish.ensures in
     record {
-      untouched = work_untouched (plan_of (texts c.args.words.now)) _ _ _ _ _ (record { left = refl; source = refl })
-          (record { holds = refl; store = refl }) c.do_work-end.ensures.work c.finish.ensures;
+      untouched = work_untouched plan _ _ _ _ _ (record { left = refl; source = refl })
+          (record { holds = refl; store = refl }) work c.finish.ensures;
+      writes = work_writes plan _ _ _ _ _ (record { left = refl; source = refl })
+          (record { holds = refl; store = refl }) work c.finish.ensures refl;
+      faults = work_no_other_fault plan _ _ _ _ _ (record { left = refl; source = refl })
+          (record { holds = refl; store = refl }) work c.finish.ensures;
       answers = answers;
       complete = completes (texts c.args.words.now) _ _ _ answers;
       reads = run_reads c.later_boot_lists_crash.ensures (asked (texts c.args.words.now)) _ _ _ _ refl
-          (g.met.M.Store.held_bytes c.args.image.now)
+          (g.met.M.Load.held_bytes c.args.image.now)
           answers;
-      last = last_line_put _ _ _ _ _ (plan_of (texts c.args.words.now)) _ c.do_work-end.ensures.put c.finish.ensures;
+      last = last_line_put _ _ _ _ _ plan _ c.do_work-end.ensures.put c.finish.ensures;
     }

@@ -25,10 +25,10 @@ use denote.Triple.Walked.{Stays, stay_dropped, walk_of, ends_at, says, Goes-drop
 use Rattle.core.proofs.alloc.Shapes.{after}
 use Rattle.std.proofs.raw_atomic.Walks.{proved}
 use Rattle.std.proofs.lemmas.List.{length-map}
-use Rattle.ram_region.specs.declared.spans.Piece.{Piece}
+use Rattle.ram_region.specs.declared.pieces.Piece.{Piece}
 use Rattle.ram_region.specs.declared.spans.Span.TheInside.{Inside}
 use Rattle.ram_region.specs.Chain.{piece_bytes}
-use Rattle.ram_region.specs.contracts.spans.Piece.{the_row as Pr}
+use Rattle.ram_region.specs.contracts.pieces.Piece.{the_row as Pr}
 use Rattle.ram_region.specs.contracts.spans.Span.{the_row as Sp, the_view, the_invariant}
 use Rattle.ram_region.specs.contracts.spans.Span.TheInside.{the_row as Fr}
 use Rattle.ram_region.specs.contracts.block.as_spans as f

@@ -1,5 +1,5 @@
 -- The lines that are left of a script at each turn of its loop
-use Rattle.std.proofs.Common.{[], ◌∷◌, length-append, refl, rules, arith}
+use Rattle.std.proofs.Common.{[], ◌∷◌, length-append, refl, ◌∙◌, rules, arith}
 use Rattle.std.proofs.lemmas.Iterator.Adapters.{YieldsList-from_vec}
 use Rattle.std.proofs.lemmas.Iterator.Consumers.{YieldsList-end}
 use Rattle.box_script.proofs.Taken.{line_taken}
@@ -12,6 +12,7 @@ pub loop-line-init : goal.loop-line-init
 loop-line-init g c = record {
   counted = refl;
   few = omega arith;
+  same = refl;
   later = omega arith;
   played = plays_none c.args.off c.args.lines (g.O.Sink.given c.args.out.now);
 }
@@ -53,12 +54,19 @@ loop-line-preserved g c =
     record {
       counted = omega (arith, c.loop-line.invariant.counted, length-append c.loop-line.yielded (c.in-Some.line ∷ []));
       few = omega (arith, c.loop-line.invariant.few, c.in-Ok.ensures.count);
+      same = c.in-Ok.ensures.counts ∙ c.loop-line.invariant.same;
       later = omega (arith, c.loop-line.invariant.later, c.play_line.ensures.later);
       played = plays_next states_sound (Off c.args.off) c.args.lines c.requires.fields c.loop-line.number
           c.in-Some.line turn.0 turn.1 c.loop-line.machine (g.O.Sink.given c.args.out.now)
           (g.O.Sink.given c.loop-line.out) c.loop-line.invariant.played
           c.in-Ok.next (g.O.Sink.given c.play_line.new.out) c.in-Ok.ensures.played;
     }
+
+pub returns-in-Err-clause-counts : goal.returns-in-Err-clause-counts
+returns-in-Err-clause-counts g c = λ other. c.in-Err.ensures.counts other ∙ c.loop-line.invariant.same
+
+pub returns-clause-counts : goal.returns-clause-counts
+returns-clause-counts g c = c.loop-line.invariant.same
 
 pub returns-clause-later : goal.returns-clause-later
 returns-clause-later g c = c.loop-line.invariant.later

@@ -8,6 +8,7 @@ abbrev pub invariant-loop-line : goal.invariant-loop-line
 invariant-loop-line g l = record {
   counted : l.number ≡ length l.yielded;
   few : crashes_of l.machine ≤ l.number;
+  same : g.O.Sink.faults l.out ≡ g.O.Sink.faults l.initial.out;
   later : g.O.Sink.faults l.initial.out ≤ g.O.Sink.faults l.out;
   played : PlaysSoFar l.initial.machine l.fn.lines l.number l.machine (g.O.Sink.given l.initial.out)
       (g.O.Sink.given l.out);

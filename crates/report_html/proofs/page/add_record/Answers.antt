@@ -6,8 +6,8 @@ use Rattle.report_html.specs.Pages.{name_parts, length_parts, time_parts, conten
 use Rattle.report_html.proofs.Joined.{joined}
 use Rattle.report_html.proofs.page.add_record.Goals as goal
 
-pub returns : goal.returns
-returns c =
+pub returns-clause-parts : goal.returns-clause-parts
+returns-clause-parts c =
     let r = c.args.held.now in
     let old = parts c.args.pieces.now.items in
     let begun = parts c.add.new.pieces.items in

@@ -1,8 +1,11 @@
--- The text of all parts
-use Rattle.std.proofs.Common.{◌∙◌, List, ap}
+-- The text of all parts, and what of it is foreign
+use Rattle.std.proofs.Common.{◌≡◌, ◌∙◌, ℕ, List, ap, arith}
+use Rattle.std.specs.Prelude.{IfOk}
 use Rattle.report_html.specs.declared.pieces.Piece.{Piece}
 use Rattle.report_html.specs.Pieces.{Part, parts, parts_text}
 use Rattle.report_html.specs.Pages.{page_of}
+use Rattle.report_html.specs.Escaping.{IsWithoutMarkup}
+use Rattle.report_html.proofs.Foreign.{without_markup}
 use Rattle.report_html.proofs.page.html.Goals as goal
 
 pub returns-clause-page : goal.returns-clause-page
@@ -10,4 +13,13 @@ unfolding page_of
 returns-clause-page c =
     c.in_ok-text.ensures
     ∙ ap (λ (ps : List Piece). parts_text (parts ps)) c.as_slice.ensures.value
-    ∙ ap (λ (ps : List Part). parts_text ps) c.in_ok-pieces.ensures
+    ∙ ap (λ (ps : List Part). parts_text ps) c.in_ok-pieces.ensures.parts
+
+pub returns-clause-no_markup : goal.returns-clause-no_markup
+unfolding page_of
+returns-clause-no_markup c =
+    without_markup c.args.title.now c.args.zones.now c.args.report.now c.in_ok-text.text.items
+    (λ i. (c.type_inv.title i).fits) c.in_ok-pieces.ensures.bytes
+    (c.in_ok-text.ensures
+    ∙ ap (λ (ps : List Piece). parts_text (parts ps)) c.as_slice.ensures.value
+    ∙ ap (λ (ps : List Part). parts_text ps) c.in_ok-pieces.ensures.parts)

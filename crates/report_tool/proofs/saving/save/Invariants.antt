@@ -1,4 +1,4 @@
-use Rattle.std.proofs.Common.{◌≤◌, take}
+use Rattle.std.proofs.Common.{◌≡◌, take}
 use Rattle.report_tool.specs.Saved.{Makes, files_of}
 use Rattle.report_tool.proofs.saving.save.Given as goal
 
@@ -6,4 +6,4 @@ use Rattle.report_tool.proofs.saving.save.Given as goal
 abbrev pub invariant-loop-held : goal.invariant-loop-held
 invariant-loop-held g l =
     Makes (g.F.Folder.made l.initial.folder) (g.F.Folder.made l.folder) (files_of (take l.held-index l.held-items))
-    × (g.F.Folder.faults l.initial.folder ≤ g.F.Folder.faults l.folder)
+    × (g.F.Folder.faults l.folder ≡ g.F.Folder.faults l.initial.folder)

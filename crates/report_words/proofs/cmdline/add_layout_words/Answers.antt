@@ -1,23 +1,34 @@
-use Rattle.std.proofs.Common.{rules, ◌++◌, arith, Some}
-use Rattle.std.proofs.lemmas.Str.Pattern.{split_once_first}
+use Rattle.std.proofs.Common.{rules, ap, sym, ◌∙◌, ◌≡◌, bytes_eq, codes, false, subst, List, ℕ}
 use Rattle.grammar_spec.specs.Words.{texts}
-use Rattle.report_words.specs.Cmdline.{is_of_layout, layout_words}
-use Rattle.report_words.proofs.Splits.{words_end}
-use Rattle.report_words.proofs.Lines.{next_word, last_word}
+use Rattle.report_words.specs.Cmdline.{underscored, IsWordFault, IsLineFault}
+use Rattle.report_words.proofs.Adding.{Added, none_added, word_added, word_refused}
 use Rattle.report_words.proofs.cmdline.add_layout_words.Goals as goal
+
+pub words-init : goal.words-init
+words-init c = none_added (texts c.args.words.now.items) c.args.line.now
+
+pub returns-in_err-add_word-clause-err : goal.returns-in_err-add_word-clause-err
+returns-in_err-add_word-clause-err c =
+    let other : bytes_eq c.in_ok-word.word.items (codes "--") ≡ false =
+    ap (λ w. bytes_eq w (codes "--")) (sym c.deref.ensures.value) ∙ sym c.is_end.ensures ∙ c.if-is_end.false in
+    let plain : c.in_ok-underscored.field-0.items ≡ underscored c.in_ok-word.word.items =
+    c.in_ok-underscored.ensures ∙ ap underscored c.deref-in-words.ensures.value in
+    let fault : IsWordFault c.in_ok-underscored.field-0.items c.in_err-add_word.field-0.0 =
+    subst (λ (w : List ℕ). IsWordFault w c.in_err-add_word.field-0.0) c.deref-in-words-2.ensures.value
+    c.in_err-add_word.ensures.err in
+    let refused : IsLineFault c.args.line.now c.in_err-add_word.field-0.0 =
+    word_refused _ _ c.args.line.now c.words.rest.now c.in_ok-word.word.items c.in_ok-underscored.field-0.items
+    c.word_end-end.result c.in_err-add_word.field-0.0 c.words.invariant c.word_end-end.ensures.words
+    c.in_ok-word.ensures other plain fault in
+    search rules
 
 pub words-preserved : goal.words-preserved
 words-preserved c =
-    let first = split_once_first 32 c.words.rest.now (Some (c.in-Some.word, c.in-Some.behind)) c.in-Some.ensures.cases
-    (omega arith) in (
-      search rules,
-      next_word (texts c.words.words.items) (texts c.add_word.new.words.items)
-          (texts c.args.words.now.items ++ layout_words c.args.line.now) c.words.rest.now c.in-Some.word.now
-          c.in-Some.behind.now c.words.invariant.1 c.in_ok-add_word.ensures first.0 first.1 first.2,
-    )
-
-pub returns : goal.returns
-returns c = last_word c.add_word-2.result (texts c.words.words.items) (texts c.add_word-2.new.words.items)
-    (texts c.args.words.now.items ++ layout_words c.args.line.now) c.words.rest.now c.words.invariant.1
-    (words_end is_of_layout c.words.rest.now c.split_once.result c.split_once.ensures.cases c.in_default.is)
-    c.add_word-2.ensures
+    let other : bytes_eq c.in_ok-word.word.items (codes "--") ≡ false =
+    ap (λ w. bytes_eq w (codes "--")) (sym c.deref.ensures.value) ∙ sym c.is_end.ensures ∙ c.if-is_end.false in
+    let plain : c.deref-in-words-2.result.now ≡ underscored c.in_ok-word.word.items =
+    c.deref-in-words-2.ensures.value ∙ c.in_ok-underscored.ensures ∙ ap underscored c.deref-in-words.ensures.value in
+    rw c.behind-rest.ensures
+    (word_added _ _ _ c.args.line.now c.words.rest.now c.in_ok-word.word.items c.deref-in-words-2.result.now
+    c.word_end-end.result c.words.invariant c.word_end-end.ensures.words c.if-end-rest.false c.in_ok-word.ensures
+    other plain c.in_ok-add_word.ensures.ok)

@@ -1,13 +1,10 @@
-use Rattle.std.proofs.Common.{◌≡◌, ◌++◌, length}
-use denote.Text.{Utf8}
-use denote.Shadow.{shadow}
+use Rattle.std.proofs.Common.{length}
 use Rattle.grammar_spec.specs.Words.{texts}
-use Rattle.report_words.specs.Cmdline.{layout_words}
+use Rattle.report_words.proofs.Adding.{Added}
 use Rattle.report_words.proofs.cmdline.add_layout_words.Given as goal
 
 abbrev pub invariant-words : goal.invariant-words
-invariant-words l = shadow (Utf8 l.rest)
-    × (texts l.words.items ++ layout_words l.rest ≡ texts l.initial.words.items ++ layout_words l.initial.rest)
+invariant-words l = Added (texts l.initial.words.items) (texts l.words.items) l.initial.line l.rest
 
 abbrev pub decreases-words : goal.decreases-words
 decreases-words l = length l.rest

@@ -1,5 +1,6 @@
-use Rattle.std.proofs.Common.{arith, refl}
-use Rattle.tool_frame.proofs.Pieces.{zeros_short}
+use Rattle.std.proofs.Common.{arith, refl, replicate, ℕ}
+use Rattle.std.proofs.lemmas.List.{length-replicate}
+use Rattle.tool_frame.proofs.Pieces.{written_reach, zeros_short}
 use Rattle.tool_frame.proofs.stages.fill.Goals as goal
 
 pub returns-in-Err-clause-bytes : goal.returns-in-Err-clause-bytes
@@ -7,3 +8,7 @@ returns-in-Err-clause-bytes g c =
     zeros_short _ _ _ c.pieces.at c.min-count.result c.args.mem _ (omega (arith, c.min-count.ensures))
     (omega (arith, c.min-count.ensures, c.pieces-test.true, c.pieces.invariant.0))
     refl c.pieces.invariant.1 c.in-Err.ensures.bytes
+
+pub write_at-requires : goal.write_at-requires
+write_at-requires g c = written_reach (g.M.Load.holds c.args.image.now) _ c.pieces.at (replicate c.pieces.at 0)
+    (omega (arith, length-replicate {A = ℕ} c.pieces.at 0)) c.pieces.invariant.1

@@ -2,9 +2,11 @@ use Rattle.std.proofs.Common.{◌≡◌, ◌≤◌, ◌-◌, vec_len, take, IfSo
 use Rattle.tool_frame.proofs.stages.read_pieces.Given as goal
 
 abbrev pub invariant-pieces : goal.invariant-pieces
-invariant-pieces g l = (vec_len l.bytes ≤ l.size) × (g.M.Store.holds l.image ≡ g.M.Store.holds l.initial.image)
-    × IfSome (g.M.Store.holds l.initial.image) (λ bs. l.bytes.items ≡ take (vec_len l.bytes) bs)
-    × (g.M.Store.faults l.initial.image ≤ g.M.Store.faults l.image)
+invariant-pieces g l = (l.at ≤ l.size) × (vec_len l.bytes ≡ l.size)
+    × (g.M.Load.holds l.image ≡ g.M.Load.holds l.initial.image)
+    × IfSome (g.M.Load.holds l.initial.image) (λ bs. take l.at l.bytes.items ≡ take l.at bs)
+    × (g.M.Load.faults l.image ≡ g.M.Load.faults l.initial.image)
+    × (g.M.Load.writes l.image ≡ g.M.Load.writes l.initial.image)
 
 abbrev pub decreases-pieces : goal.decreases-pieces
-decreases-pieces g l = l.size - vec_len l.bytes
+decreases-pieces g l = l.size - l.at

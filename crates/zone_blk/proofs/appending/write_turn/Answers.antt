@@ -1,4 +1,5 @@
 -- The runs of an append and its further header, each made or failed
+use Rattle.blk_spec.specs.Answers.{device}
 use Rattle.zone_blk.proofs.Turns.{IsTurn, run-fails, rest-fails, further-fails, all-made}
 use Rattle.zone_blk.proofs.appending.write_turn.Given as given
 use Rattle.zone_blk.proofs.appending.write_turn.Goals as goal
@@ -21,8 +22,10 @@ returns-in-Err-clause-ends g c =
     run-fails c.args.zone c.args.words c.args.bytes.now c.split_at.result.0.now c.split_at.result.1.now
     c.turn_of-turn.result (turned g (goal.at.returns-in-Err-clause-ends g c).After-split_at)
     c.args.cut.now c.write_run.new.cut c.write_run.new.cut c.write_run.new.cut
-    (g.M.Store.holds c.args.store.now) (g.M.Store.holds c.write_run.new.store) (g.M.Store.holds c.write_run.new.store)
-    (g.M.Store.holds c.write_run.new.store)
+    _ _ (device (g.M.Load.holds c.write_run.new.store) (g.M.Load.writes c.write_run.new.store)
+    (g.M.Load.read_faults c.write_run.new.store))
+    (device (g.M.Load.holds c.write_run.new.store) (g.M.Load.writes c.write_run.new.store)
+    (g.M.Load.read_faults c.write_run.new.store))
     c.in-Err.ensures.ends
 
 pub returns-in-Err-write_rest-clause-ends : goal.returns-in-Err-write_rest-clause-ends
@@ -30,8 +33,8 @@ returns-in-Err-write_rest-clause-ends g c =
     rest-fails c.args.zone c.args.words c.args.bytes.now c.split_at.result.0.now c.split_at.result.1.now
     c.turn_of-turn.result (turned g (goal.at.returns-in-Err-write_rest-clause-ends g c).After-split_at)
     c.args.cut.now c.write_run.new.cut c.write_rest.new.cut c.write_rest.new.cut
-    (g.M.Store.holds c.args.store.now) (g.M.Store.holds c.write_run.new.store) (g.M.Store.holds c.write_rest.new.store)
-    (g.M.Store.holds c.write_rest.new.store)
+    _ _ _ (device (g.M.Load.holds c.write_rest.new.store) (g.M.Load.writes c.write_rest.new.store)
+    (g.M.Load.read_faults c.write_rest.new.store))
     c.in-Ok.ensures.ends c.in-Err-write_rest.ensures.ends
 
 pub returns-in-Ok-write_further-clause-ends : goal.returns-in-Ok-write_further-clause-ends
@@ -39,8 +42,7 @@ returns-in-Ok-write_further-clause-ends g c =
     all-made c.args.zone c.args.words c.args.bytes.now c.split_at.result.0.now c.split_at.result.1.now
     c.turn_of-turn.result (turned g (goal.at.returns-in-Ok-write_further-clause-ends g c).After-split_at)
     c.args.cut.now c.write_run.new.cut c.write_rest.new.cut c.write_further.new.cut
-    (g.M.Store.holds c.args.store.now) (g.M.Store.holds c.write_run.new.store) (g.M.Store.holds c.write_rest.new.store)
-    (g.M.Store.holds c.write_further.new.store)
+    _ _ _ _
     c.in-Ok.ensures.ends c.in-Ok-write_rest.ensures.ends c.in-Ok-write_further.ensures.ends
 
 pub returns-in-Err-write_further-clause-ends : goal.returns-in-Err-write_further-clause-ends
@@ -48,6 +50,5 @@ returns-in-Err-write_further-clause-ends g c =
     further-fails c.args.zone c.args.words c.args.bytes.now c.split_at.result.0.now c.split_at.result.1.now
     c.turn_of-turn.result (turned g (goal.at.returns-in-Err-write_further-clause-ends g c).After-split_at)
     c.args.cut.now c.write_run.new.cut c.write_rest.new.cut c.write_further.new.cut
-    (g.M.Store.holds c.args.store.now) (g.M.Store.holds c.write_run.new.store) (g.M.Store.holds c.write_rest.new.store)
-    (g.M.Store.holds c.write_further.new.store)
+    _ _ _ _
     c.in-Ok.ensures.ends c.in-Ok-write_rest.ensures.ends c.in-Err-write_further.ensures.ends

@@ -2,7 +2,7 @@ use Rattle.zone_blk.proofs.Clearing.{room-makes, room-fails}
 use Rattle.zone_blk.proofs.blk.append_to.Goals as goal
 
 pub returns-in-Ok-clause-room : goal.returns-in-Ok-clause-room
-returns-in-Ok-clause-room g c = room-makes _ _ _ _ _ c.in-Ok.ensures.ends
+returns-in-Ok-clause-room g c = room-makes _ _ _ _ _ _ c.in-Ok.ensures.ends
 
 pub returns-in-Err-clause-room : goal.returns-in-Err-clause-room
-returns-in-Err-clause-room g c = room-fails _ _ _ _ _ c.in-Err.ensures.ends
+returns-in-Err-clause-room g c = room-fails _ _ _ _ _ _ c.in-Err.ensures.ends

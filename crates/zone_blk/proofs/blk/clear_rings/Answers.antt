@@ -1,6 +1,7 @@
 use Rattle.std.proofs.Common.{refl}
 use Rattle.blk_spec.specs.declared.BlkRing.TheVariants.{Console}
 use Rattle.blk_spec.specs.Layout.{ring_zone}
+use Rattle.blk_spec.specs.Answers.{device}
 use Rattle.blk_spec.specs.States.{clearing}
 use Rattle.zone_blk.proofs.Clearing.{load-writes}
 use Rattle.zone_blk.proofs.Sequences.{then-ends, fails-before, ends-same, fails-same}
@@ -12,8 +13,7 @@ returns-in-Ok-clause-ends g c =
     c.ring_zone-in-Ok.result c.ring_zone.ensures.zone c.ring_zone-in-Ok.ensures.zone)
     (then-ends c.clear_ring-in-Ok.result (clearing c.ring_zone.result) (clearing c.ring_zone-in-Ok.result)
     c.args.cut.now c.clear_ring.new.cut c.clear_ring-in-Ok.new.cut
-    (g.M.Store.holds c.args.store.now) (g.M.Store.holds c.clear_ring.new.store)
-    (g.M.Store.holds c.clear_ring-in-Ok.new.store) c.in-Ok.ensures.ends c.clear_ring-in-Ok.ensures.ends)
+    _ _ _ c.in-Ok.ensures.ends c.clear_ring-in-Ok.ensures.ends)
 
 pub returns-in-Err-clause-ends : goal.returns-in-Err-clause-ends
 returns-in-Err-clause-ends g c =
@@ -21,5 +21,6 @@ returns-in-Err-clause-ends g c =
     c.ring_zone.ensures.zone refl)
     (fails-before (clearing c.ring_zone.result) (clearing (ring_zone c.args.layout Console))
     c.args.cut.now c.clear_ring.new.cut c.clear_ring.new.cut
-    (g.M.Store.holds c.args.store.now) (g.M.Store.holds c.clear_ring.new.store)
-    (g.M.Store.holds c.clear_ring.new.store) c.in-Err.ensures.ends)
+    _ _ (device (g.M.Load.holds c.clear_ring.new.store) (g.M.Load.writes c.clear_ring.new.store)
+    (g.M.Load.read_faults c.clear_ring.new.store))
+    c.in-Err.ensures.ends)

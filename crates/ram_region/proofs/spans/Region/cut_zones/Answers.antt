@@ -1,6 +1,6 @@
 use Rattle.std.proofs.Common.{◌≡◌, ℕ, ◌<◌, ◌≤◌, List, [], ◌∷◌, ◌++◌, length, take, drop, map, sym, ap, subst, ◌∙◌, arith}
 use Rattle.std.proofs.lemmas.List.{map-append}
-use Rattle.core.specs.Mem.Slots.{slots_len, slots_items, slots_counts}
+use Rattle.core.specs.Mem.Slots.{slots_len, slots_ptr, slots_items, slots_counts}
 use Rattle.zone_spec.specs.declared.Zone.{Zone}
 use Rattle.zone_spec.specs.Parts.{AreBytes}
 use Rattle.ram_region.specs.Chain.{all_bytes}
@@ -27,14 +27,14 @@ loop-zone-preserved c =
       (slots_counts rest).0,
       fits-next xs zs i lt c.requires.room,
     ) in
-    let bytes : slots_items c.based-slots.result.0 ≡ bytes_in xs (zone zs i) =
-    row.0 ∙ low.0 ∙ ap (λ (l : List ℕ). take (zone zs i).size l) inv.rest
+    let bytes : slots_items c.over.result.slots ≡ bytes_in xs (zone zs i) =
+    ap slots_items c.over.ensures ∙ row.0 ∙ low.0 ∙ ap (λ (l : List ℕ). take (zone zs i).size l) inv.rest
     ∙ bytes_in-next xs zs i lt c.requires.side_by_side in
     record {
-      laid = laid-more _ _ (zone zs i).size _ _ _ _ _ inv.laid c.push_reserved.ensures.items (row.2 ∙ low.2)
-          (row.3 ∙ low.3) le high.2 high.3 high.1;
+      laid = laid-more _ _ (zone zs i).size _ _ _ _ _ inv.laid c.push_reserved.ensures.items (ap slots_ptr c.over.ensures ∙ row.2 ∙ low.2)
+          (ap slots_len c.over.ensures ∙ row.3 ∙ low.3) le high.2 high.3 high.1;
       spans = ap all_bytes c.push_reserved.ensures.items ∙ bytes-append c.loop-zone.list.items _
-          ∙ ap (λ (l : List (List ℕ)). l ++ slots_items c.based-slots.result.0 ∷ []) inv.spans
+          ∙ ap (λ (l : List (List ℕ)). l ++ slots_items c.over.result.slots ∷ []) inv.spans
           ∙ ap (λ (b : List ℕ). map (bytes_in xs) (take i zs) ++ b ∷ []) bytes
           ∙ sym (map-append (bytes_in xs) (take i zs) (zone zs i ∷ []))
           ∙ ap (λ (l : List Zone). map (bytes_in xs) l) (sym (take-next zs i lt));

@@ -1,8 +1,8 @@
-use Rattle.std.proofs.Common.{sym, ap, ◌∙◌, subst, Some, None}
+use Rattle.std.proofs.Common.{sym, ap, ◌∙◌, subst}
 use Rattle.shared_spec.specs.Machine.{refusal}
 use Rattle.shared_spec.specs.Runs.{Reserve}
 use Rattle.shared_spec.specs.Histories.{shared_zone, and_then}
-use Rattle.shared_ring.specs.Seen.{SharedSeen, IsLeftBy, seated}
+use Rattle.shared_ring.specs.Seen.{SharedSeen, IsLeftBy}
 use Rattle.shared_ring.proofs.Leaving.{left_reserved, left_refused}
 use Rattle.shared_ring.proofs.shared.Shared.reserve.Goals as goal
 

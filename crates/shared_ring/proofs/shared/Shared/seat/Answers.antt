@@ -2,7 +2,7 @@ use Rattle.std.proofs.Common.{◌≡◌, ℕ, ◌+◌, ◌%◌, min, List, [], �
 use Rattle.std.specs.Int.{to_le_bytes}
 use Rattle.zone_spec.specs.declared.Words.{Words}
 use Rattle.zone_spec.specs.Stores.{put}
-use Rattle.ram_region.specs.CutRegion.{CutRegion, with_span}
+use Rattle.ram_region.specs.CutRegion.{CountedRegion, with_span, stored}
 use Rattle.shared_ring.specs.declared.seats.Seat.{Seat}
 use Rattle.shared_ring.specs.Seen.{SharedSeen, bytes_of, words_of, IsWhole, seated}
 use Rattle.shared_ring.proofs.Wholes.{seated_whole}
@@ -14,36 +14,46 @@ after v w n payload = record {
   region = with_span v.region v.place
       (put (bytes_of v) 4
       (to_le_bytes w32 ((w.start + n) % v.zone.cap) ++ to_le_bytes w32 (min v.zone.cap (w.size + n))));
+  stores = v.stores + 1;
   place = v.place;
   zone = v.zone;
   reserved = v.reserved + 1;
   seats = v.seats ++ record { ticket = v.reserved; place = w.start; stored = 0; payload = payload } ∷ [];
 }
 
-left : (v : SharedSeen) (payload : List ℕ) (w : Words) (n size : ℕ) (region : CutRegion) (seats : List Seat)
+left : (v : SharedSeen) (payload : List ℕ) (w : Words) (n size : ℕ) (spans : CountedRegion) (seats : List Seat)
     → w ≡ words_of v → n ≡ length payload → size ≡ min v.zone.cap (w.size + n)
-    → region ≡ with_span v.region v.place
+    → spans ≡ stored (record { region = v.region; stores = v.stores }) v.place
     (put (bytes_of v) 4 (to_le_bytes w32 ((w.start + n) % v.zone.cap) ++ to_le_bytes w32 size))
     → seats ≡ v.seats ++ record { ticket = v.reserved; place = w.start; stored = 0; payload = payload } ∷ []
     → seated v payload
-    ≡ record { region = region; place = v.place; zone = v.zone; reserved = v.reserved + 1; seats = seats }
-left v payload w n size region seats e f g r s =
+    ≡ record {
+      region = spans.region;
+      stores = spans.stores;
+      place = v.place;
+      zone = v.zone;
+      reserved = v.reserved + 1;
+      seats = seats;
+    }
+left v payload w n size spans seats e f g r s =
     ap₂ (λ (x : Words) k. after v x k payload) (sym e) (sym f)
-    ∙ ap₂ (λ (c : CutRegion) (xs : List Seat). let u : SharedSeen = record {
-      region = c;
+    ∙ ap₂ (λ (c : CountedRegion) (xs : List Seat). let u : SharedSeen = record {
+      region = c.region;
+      stores = c.stores;
       place = v.place;
       zone = v.zone;
       reserved = v.reserved + 1;
       seats = xs;
     } in u)
-    (ap (λ k. with_span v.region v.place
+    (ap (λ k. stored (record { region = v.region; stores = v.stores }) v.place
     (put (bytes_of v) 4 (to_le_bytes w32 ((w.start + n) % v.zone.cap) ++ to_le_bytes w32 k))) (sym g) ∙ sym r)
     (sym s)
 
 pub invariant_of-self : goal.invariant_of-self
 invariant_of-self c =
     let v : SharedSeen = record {
-      region = c.self.inside.spans;
+      region = c.self.inside.spans.region;
+      stores = c.self.inside.spans.stores;
       place = c.self.inside.place;
       zone = c.self.inside.zone;
       reserved = c.self.inside.reserved;
@@ -53,10 +63,10 @@ invariant_of-self c =
     let cap : v.zone.cap ≡ c.args.self.now.zone.cap = ap (λ (x : SharedSeen). x.zone.cap) c.self.view_is in (
       omega (arith, c.self.invariant.0, c.push_reserved.ensures.capacity),
       subst IsWhole
-          (left v c.args.payload c.words-words.result c.len-len.result c.min.result c.store_words.new.spans
+          (left v c.args.payload c.words-words.result c.len-len.result c.min.result c.store_pair.new.self
           c.push_reserved.new.self.items
           (c.words-words.ensures.value ∙ ap (λ (x : SharedSeen). words_of x) (sym c.self.view_is))
-          c.len-len.ensures.len c.min.ensures c.store_words.ensures c.push_reserved.ensures.items)
+          c.len-len.ensures.len c.min.ensures c.store_pair.ensures c.push_reserved.ensures.items)
           (seated_whole v c.args.payload c.self.invariant.1 (omega (arith, few, c.requires.seat)) c.requires.some
           (omega (arith, cap, c.requires.room))),
     )

@@ -3,7 +3,7 @@ use Rattle.std.specs.Prelude.{position}
 use Rattle.shared_spec.specs.Runs.{StoreNext}
 use Rattle.shared_spec.specs.Histories.{and_then}
 use Rattle.shared_ring.specs.Seats.{is_of}
-use Rattle.shared_ring.specs.Seen.{SharedSeen, IsLeftBy, stepped}
+use Rattle.shared_ring.specs.Seen.{SharedSeen, IsLeftBy}
 use Rattle.shared_ring.proofs.Standing.{the_seat}
 use Rattle.shared_ring.proofs.Leaving.{left_stepped, left_idle, step_answers, idle_answers}
 use Rattle.shared_ring.proofs.shared.Shared.step.Goals as goal
@@ -40,3 +40,11 @@ returns-in-None-clause-answer c = λ h l.
     ap (λ (x : SharedSeen). position (is_of c.args.ticket) x.seats) (sym c.self.view_is)
     ∙ ap (position (is_of c.args.ticket)) (sym c.deref.ensures.value) ∙ sym c.find.ensures ∙ c.in-None.is in
     idle_answers h c.args.self.now c.args.ticket l e
+
+pub returns-in-Some-clause-stores : goal.returns-in-Some-clause-stores
+returns-in-Some-clause-stores c =
+    let e : position (is_of c.args.ticket) c.args.self.now.seats ≡ Some c.in-Some.i =
+    ap (λ (x : SharedSeen). position (is_of c.args.ticket) x.seats) (sym c.self.view_is)
+    ∙ ap (position (is_of c.args.ticket)) (sym c.deref.ensures.value) ∙ sym c.find.ensures ∙ c.in-Some.is in
+    let s = the_seat c.args.ticket c.args.self.now.seats c.in-Some.i e in
+    ap (λ (x : SharedSeen). x.stores) (c.store_next.ensures.stepped s.0 s.1)

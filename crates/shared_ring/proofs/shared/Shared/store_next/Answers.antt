@@ -1,6 +1,6 @@
 use Rattle.std.proofs.Common.{◌≡◌, ℕ, ◌+◌, ◌%◌, List, length, set, arith, sym, ap, ap₂, ◌∙◌, subst, Some}
 use Rattle.std.specs.Prelude.{slice_get, slice_index}
-use Rattle.ram_region.specs.CutRegion.{CutRegion, with_span}
+use Rattle.ram_region.specs.CutRegion.{CountedRegion, with_span, stored}
 use Rattle.shared_ring.specs.declared.seats.Seat.{Seat}
 use Rattle.shared_ring.specs.Seats.{seats_stepped}
 use Rattle.shared_ring.specs.Seen.{SharedSeen, IsWhole, bytes_of, stepped}
@@ -10,27 +10,39 @@ use Rattle.shared_ring.proofs.Wholes.{stepped_whole}
 use Rattle.shared_ring.proofs.shared.Shared.store_next.Goals as goal
 
 -- what the stores of a step leave
-left : (v : SharedSeen) (i place byte : ℕ) (x : Seat) (region : CutRegion) (seats : List Seat)
+left : (v : SharedSeen) (i place byte : ℕ) (x : Seat) (spans : CountedRegion) (seats : List Seat)
     → place ≡ (x.place + x.stored) % v.zone.cap → byte ≡ slice_index x.payload x.stored
-    → region ≡ with_span v.region v.place (set (bytes_of v) (12 + place) byte) → seats ≡ seats_stepped v.seats i x
-    → stepped v i x ≡ record { region = region; place = v.place; zone = v.zone; reserved = v.reserved; seats = seats }
-left v i place byte x region seats p b r s =
+    → spans ≡ stored (record { region = v.region; stores = v.stores }) v.place (set (bytes_of v) (12 + place) byte)
+    → seats ≡ seats_stepped v.seats i x
+    → stepped v i x
+    ≡ record {
+      region = spans.region;
+      stores = spans.stores;
+      place = v.place;
+      zone = v.zone;
+      reserved = v.reserved;
+      seats = seats;
+    }
+left v i place byte x spans seats p b r s =
     let at : stepped v i x ≡ record {
       region = with_span v.region v.place (set (bytes_of v) (12 + place) byte);
+      stores = v.stores + 1;
       place = v.place;
       zone = v.zone;
       reserved = v.reserved;
       seats = seats_stepped v.seats i x;
     } = ap (λ (bytes : List ℕ). let w : SharedSeen = record {
       region = with_span v.region v.place bytes;
+      stores = v.stores + 1;
       place = v.place;
       zone = v.zone;
       reserved = v.reserved;
       seats = seats_stepped v.seats i x;
     } in w) (put_one (bytes_of v) (12 + (x.place + x.stored) % v.zone.cap) (slice_index x.payload x.stored)
     ∙ ap₂ (λ p b. set (bytes_of v) (12 + p) b) (sym p) (sym b)) in
-    at ∙ ap₂ (λ (r : CutRegion) (xs : List Seat). let w : SharedSeen = record {
-      region = r;
+    at ∙ ap₂ (λ (r : CountedRegion) (xs : List Seat). let w : SharedSeen = record {
+      region = r.region;
+      stores = r.stores;
       place = v.place;
       zone = v.zone;
       reserved = v.reserved;
@@ -47,7 +59,8 @@ next_byte-place-requires-clause-seat c =
 pub invariant_of-self : goal.invariant_of-self
 invariant_of-self c =
     let v : SharedSeen = record {
-      region = c.self.inside.spans;
+      region = c.self.inside.spans.region;
+      stores = c.self.inside.spans.stores;
       place = c.self.inside.place;
       zone = c.self.inside.zone;
       reserved = c.self.inside.reserved;
@@ -68,7 +81,8 @@ invariant_of-self c =
 pub returns-clause-stepped : goal.returns-clause-stepped
 returns-clause-stepped c = λ s g.
     let v : SharedSeen = record {
-      region = c.self.inside.spans;
+      region = c.self.inside.spans.region;
+      stores = c.self.inside.spans.stores;
       place = c.self.inside.place;
       zone = c.self.inside.zone;
       reserved = c.self.inside.reserved;

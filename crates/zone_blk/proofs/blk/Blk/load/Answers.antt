@@ -1,34 +1,39 @@
-use Rattle.std.proofs.Common.{◌∙◌, sym, ap, subst, Option, List, ℕ}
-use Rattle.blk_spec.specs.Answers.{HasRoom, HasFront}
+use Rattle.std.proofs.Common.{◌≡◌, ◌∙◌, sym, ap, subst, ℕ, inr}
+use Rattle.blk_spec.specs.Answers.{HasRoom, Device, device, further}
 use Rattle.blk_spec.specs.Writes.{store_after}
 use Rattle.blk_spec.specs.States.{load_writes}
-use Rattle.zone_blk.proofs.Clearing.{load-refused, uncut-store, uncut-front, room-makes, room-fails}
+use Rattle.zone_blk.proofs.Clearing.{load-refused, uncut-store, uncut-asks, uncut-stays, fails-behind, room-makes, room-fails}
 use Rattle.zone_blk.proofs.blk.Blk.load.Goals as goal
 
 pub returns-in-Err-clause-answer : goal.returns-in-Err-clause-answer
-returns-in-Err-clause-answer g c = load-refused c.in-Err.fault c.args.layout _ _ (g.M.Store.holds c.args.store.now)
-    (g.M.Store.holds c.read_all.new.store) c.in-Err.ensures.fault c.in-Err.ensures.same
+returns-in-Err-clause-answer g c = load-refused c.in-Err.fault c.args.layout _ _ _ _ _ _ c.in-Err.ensures.ends
+    c.in-Err.ensures.same c.in-Err.ensures.unwritten
 
 pub returns-in-Ok-clear_rings-clause-answer : goal.returns-in-Ok-clear_rings-clause-answer
 returns-in-Ok-clear_rings-clause-answer g c = (
   c.in-Ok.ensures.layout,
   c.in-Ok.ensures.read,
-  uncut-store (load_writes c.args.layout) c.clear_rings.new.cut (g.M.Store.holds c.read_all.new.store)
-      (g.M.Store.holds c.clear_rings.new.store) c.in-Ok-clear_rings.ensures.ends
+  uncut-store (load_writes c.args.layout) c.clear_rings.new.cut _ _ c.in-Ok-clear_rings.ensures.ends
       ∙ ap (store_after (load_writes c.args.layout)) c.in-Ok.ensures.same,
+  c.in-Ok-clear_rings.ensures.ends.asked
+      ∙ ap (λ (n : ℕ). further n (g.M.Load.writes c.read_all.new.store)) (uncut-asks c.args.layout)
+      ∙ ap (further _) c.in-Ok.ensures.unwritten,
 )
 
 pub returns-in-Err-clear_rings-clause-answer : goal.returns-in-Err-clear_rings-clause-answer
 returns-in-Err-clear_rings-clause-answer g c =
-    subst (λ (before : Option (List ℕ)). HasFront (load_writes c.args.layout) before
-    (g.M.Store.holds c.clear_rings.new.store)) c.in-Ok.ensures.same
-    (uncut-front (load_writes c.args.layout) c.clear_rings.new.cut (g.M.Store.holds c.read_all.new.store)
-    (g.M.Store.holds c.clear_rings.new.store) c.in-Err-clear_rings.ensures.ends)
+    let a : Device = device (g.M.Load.holds c.args.store.now) (g.M.Load.writes c.args.store.now)
+    (g.M.Load.read_faults c.args.store.now) in
+    let b : Device = device (g.M.Load.holds c.read_all.new.store) (g.M.Load.writes c.read_all.new.store)
+    (g.M.Load.read_faults c.read_all.new.store) in
+    let same : b ≡ a = cc (c.in-Ok.ensures.same, c.in-Ok.ensures.unwritten, c.in-Ok.ensures.ends.1) in
+    inr (fails-behind (load_writes c.args.layout) a b _ same
+    (uncut-stays (load_writes c.args.layout) c.clear_rings.new.cut b _ c.in-Err-clear_rings.ensures.ends))
 
 pub returns-in-Ok-clear_rings-clause-room : goal.returns-in-Ok-clear_rings-clause-room
-returns-in-Ok-clear_rings-clause-room g c = λ n room. room-makes _ _ _ _ _ c.in-Ok-clear_rings.ensures.ends n
+returns-in-Ok-clear_rings-clause-room g c = λ n room. room-makes _ _ _ _ _ _ c.in-Ok-clear_rings.ensures.ends n
     (subst (HasRoom n) (sym c.in-Ok.ensures.same) room)
 
 pub returns-in-Err-clear_rings-clause-room : goal.returns-in-Err-clear_rings-clause-room
-returns-in-Err-clear_rings-clause-room g c = λ n room. room-fails _ _ _ _ _ c.in-Err-clear_rings.ensures.ends n
+returns-in-Err-clear_rings-clause-room g c = λ n room. room-fails _ _ _ _ _ _ c.in-Err-clear_rings.ensures.ends n
     (subst (HasRoom n) (sym c.in-Ok.ensures.same) room)

@@ -1,0 +1,153 @@
+-- The foreign parts of a page
+use Rattle.std.proofs.Common.{◌≡◌, ℕ, suc, ◌+◌, ◌<◌, ◌≤◌, ◌==◌, Bool, true, false, cond, nat_lt, List, [], ◌∷◌, ◌++◌, length, map, slice_get, All, Option, Some, None, codes, refl, sym, ap, ap₂, ◌∙◌, subst, append-nil, get_or, inl, inr, arith}
+use Rattle.std.specs.Prelude.{flat_map}
+use Rattle.std.specs.List.{zip}
+use Rattle.std.proofs.lemmas.Bool.{cases_order}
+use Rattle.std.proofs.lemmas.List.Elements.{All-cons, All-nil}
+use Rattle.std.proofs.lemmas.List.Concat.{flat_map-append}
+use Rattle.std.proofs.lemmas.Option.{get_or_from_slice_get, slice_get_within}
+use Rattle.zone_spec.specs.declared.Name.{Name}
+use Rattle.zone_spec.specs.declared.Name.TheVariants.{Dump, Console, Pmsg, Ftrace}
+use Rattle.zone_spec.specs.declared.Time.{Time}
+use Rattle.zone_spec.specs.declared.Zone.{Zone}
+use Rattle.zone_spec.specs.Parts.{AreBytes}
+use Rattle.zone_spec.specs.Records.{Saved}
+use Rattle.report_spec.specs.declared.PartState.{PartState}
+use Rattle.report_spec.specs.declared.PartState.TheVariants.{Read, Bad}
+use Rattle.report_spec.specs.Escaped.{escaped, IsText}
+use Rattle.report_spec.specs.Parts.{PartStates}
+use Rattle.report_spec.specs.Records.{RecordHeld}
+use Rattle.record_report.specs.Reports.{ReportHeld}
+use Rattle.report_html.specs.Pieces.{Part, Words, Count, Bytes, parts_text}
+use Rattle.report_html.specs.Pictures.{Run, count_parts, corrected_parts, blocks_parts, run_parts, runs, unused_parts, place_parts, read_words, zone_parts, legend_parts, picture_opening, picture}
+use Rattle.report_html.specs.Pages.{name_parts, time_parts, length_parts, content_parts, record_parts, heading_parts, page_parts}
+use Rattle.report_html.specs.Escaping.{foreign_in, foreign_of, HoldBytes, IsWithoutMarkup}
+use Rattle.report_html.proofs.Texts.{is-text}
+
+both : (a b : List Part) → foreign_of (a ++ b) ≡ foreign_of a ++ foreign_of b
+both a b = flat_map-append foreign_in a b
+
+none-and : (a b : List Part) → foreign_of a ≡ [] → foreign_of (a ++ b) ≡ foreign_of b
+none-and a b e = both a b ∙ ap (λ (bs : List (List ℕ)). bs ++ foreign_of b) e
+
+none-of : {X : Type 0} (f : X → List Part) → ((x : X) → foreign_of (f x) ≡ []) → (xs : List X)
+    → foreign_of (flat_map f xs) ≡ []
+none-of f each [] = refl
+none-of f each (x ∷ xs) = none-and (f x) (flat_map f xs) (each x) ∙ none-of f each xs
+
+-- ---- the picture has none
+
+of-corrected : (s : Option PartState) (rest : List Part) → foreign_of (corrected_parts s ++ rest) ≡ foreign_of rest
+of-corrected None rest = refl
+of-corrected (Some Bad) rest = refl
+of-corrected (Some (Read n)) rest = by (n == 0)
+  where
+    by : (t : Bool) → foreign_of (cond t [] (Words (codes ", bytes corrected in each: ") ∷ Count n ∷ []) ++ rest)
+        ≡ foreign_of rest
+    by true = refl
+    by false = refl
+
+of-blocks : (z : Zone) (from to : ℕ) (s : Option PartState) → foreign_of (blocks_parts z from to s) ≡ []
+of-blocks z from to s = of-corrected s (Words (codes "</title></rect>\n") ∷ [])
+
+of-unused : (z : Zone) (used : ℕ) → foreign_of (unused_parts z used) ≡ []
+of-unused z used = by (nat_lt used z.blocks)
+  where
+    by : (t : Bool) → foreign_of (cond t (blocks_parts z used z.blocks None) []) ≡ []
+    by true = of-blocks z used z.blocks None
+    by false = refl
+
+of-zone : (d : Saved × PartStates) → foreign_of (zone_parts d) ≡ []
+of-zone d =
+    let place : List Part = place_parts d.0.0 (read_words d.0.1) in
+    let blocks : List Part = flat_map (run_parts d.0.0) (runs 0 d.1.blocks) in
+    none-and (place ++ blocks) (unused_parts d.0.0 (length d.1.blocks))
+    (none-and place blocks refl
+    ∙ none-of (run_parts d.0.0) (λ r. of-blocks d.0.0 r.from r.to (Some r.state)) (runs 0 d.1.blocks))
+    ∙ of-unused d.0.0 (length d.1.blocks)
+
+of-picture : (zones : List Zone) (report : ReportHeld) → foreign_of (picture zones report) ≡ []
+of-picture zones report =
+    let drawn : List Part = flat_map zone_parts (zip (zip zones report.logs.readings) report.parts) in
+    none-and (picture_opening zones ++ drawn) legend_parts
+    (none-and (picture_opening zones) drawn refl
+    ∙ none-of zone_parts of-zone (zip (zip zones report.logs.readings) report.parts))
+
+-- ---- a record has its content
+
+of-name : (name : Name) → foreign_of (Words (codes "<details><summary>") ∷ [] ++ name_parts name) ≡ []
+of-name (Dump index packed) = refl
+of-name Console = refl
+of-name Pmsg = refl
+of-name Ftrace = refl
+
+of-time : (time : Option Time) → foreign_of (time_parts time) ≡ []
+of-time None = refl
+of-time (Some time) = refl
+
+of-record : (r : RecordHeld) → foreign_of (record_parts r) ≡ r.content ∷ []
+of-record r =
+    let named : List Part = Words (codes "<details><summary>") ∷ [] ++ name_parts r.name in
+    let long : List Part = named ++ length_parts (length r.content) in
+    none-and (long ++ time_parts r.time) (content_parts r.content)
+    (none-and long (time_parts r.time) (none-and named (length_parts (length r.content)) (of-name r.name))
+    ∙ of-time r.time)
+
+of-records : (rs : List RecordHeld) → foreign_of (flat_map record_parts rs) ≡ map (λ (r : RecordHeld). r.content) rs
+of-records [] = refl
+of-records (r ∷ rs) =
+    both (record_parts r) (flat_map record_parts rs)
+    ∙ ap₂ (λ (a b : List (List ℕ)). a ++ b) (of-record r) (of-records rs)
+
+-- ---- the page has its title, and the contents of its records
+
+of-page : (title : List ℕ) (zones : List Zone) (report : ReportHeld)
+    → foreign_of (page_parts title zones report) ≡ title ∷ map (λ (r : RecordHeld). r.content) report.records
+of-page title zones report =
+    let head : List Part = heading_parts title in
+    let records : List Part = flat_map record_parts report.records in
+    both (head ++ picture zones report ++ records) (Words (codes "</body>\n</html>\n") ∷ [])
+    ∙ append-nil (foreign_of (head ++ picture zones report ++ records))
+    ∙ both (head ++ picture zones report) records
+    ∙ ap₂ (λ (a b : List (List ℕ)). a ++ b)
+    (both head (picture zones report) ∙ ap (λ (a : List (List ℕ)). (title ∷ []) ++ a) (of-picture zones report))
+    (of-records report.records)
+
+texts-of : (rs : List RecordHeld) → HoldBytes rs
+    → All (λ (bytes : List ℕ). IsText (escaped bytes)) (map (λ (r : RecordHeld). r.content) rs)
+texts-of [] h = All-nil (λ (bytes : List ℕ). IsText (escaped bytes))
+texts-of (r ∷ rs) h = All-cons (λ (bytes : List ℕ). IsText (escaped bytes)) r.content
+    (map (λ (q : RecordHeld). q.content) rs) (is-text r.content (h 0 r refl)) (texts-of rs (λ k q e. h (suc k) q e))
+
+pub without_markup : (title : List ℕ) (zones : List Zone) (report : ReportHeld) (page : List ℕ) → AreBytes title
+    → HoldBytes report.records → page ≡ parts_text (page_parts title zones report)
+    → IsWithoutMarkup title report.records page
+without_markup title zones report page bytes hold is = record {
+  parts = page_parts title zones report;
+  page_is = is;
+  foreign = of-page title zones report;
+  texts = subst (λ (xs : List (List ℕ)). All (λ (bytes : List ℕ). IsText (escaped bytes)) xs)
+      (sym (of-page title zones report))
+      (All-cons (λ (bytes : List ℕ). IsText (escaped bytes)) title (map (λ (r : RecordHeld). r.content) report.records)
+      (is-text title bytes) (texts-of report.records hold));
+}
+
+-- ---- what records hold are bytes
+
+-- one record more
+pub held_next : (rs : List RecordHeld) (i : ℕ) (held : RecordHeld) → held ≡ get_or rs i held
+    → ((k : ℕ) (r : RecordHeld) → k < i → slice_get rs k ≡ Some r → AreBytes r.content) → AreBytes held.content
+    → (k : ℕ) (r : RecordHeld) → k < i + 1 → slice_get rs k ≡ Some r → AreBytes r.content
+held_next rs i held is before bytes k r below at = elim (cases_order k i) [
+  | inl same ↦
+      let r_is : get_or rs i held ≡ r =
+      get_or_from_slice_get rs i r held (subst (λ (n : ℕ). slice_get rs n ≡ Some r) same at) in
+      subst (λ (q : RecordHeld). AreBytes q.content) (is ∙ r_is) bytes
+  | inr (inl low) ↦ before k r low at
+  | inr (inr high) ↦ absurd (omega (arith, below, high))
+]
+
+pub held_all : (rs : List RecordHeld) (i : ℕ) → length rs ≤ i
+    → ((k : ℕ) (r : RecordHeld) → k < i → slice_get rs k ≡ Some r → AreBytes r.content) → HoldBytes rs
+held_all rs i past before k r at =
+    let below : k < length rs = slice_get_within rs k r at in before k r (omega (arith, below, past)) at

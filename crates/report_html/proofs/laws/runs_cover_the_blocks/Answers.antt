@@ -1,0 +1,8 @@
+use Rattle.report_html.proofs.Covered.{cover, states}
+use Rattle.report_html.proofs.laws.runs_cover_the_blocks.Goals as goal
+
+pub returns-clause-cover : goal.returns-clause-cover
+returns-clause-cover c = cover
+
+pub returns-clause-states : goal.returns-clause-states
+returns-clause-states c = states

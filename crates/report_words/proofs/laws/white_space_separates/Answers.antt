@@ -1,0 +1,5 @@
+use Rattle.report_words.proofs.Plain.{plain}
+use Rattle.report_words.proofs.laws.white_space_separates.Goals as goal
+
+pub returns : goal.returns
+returns c = plain
