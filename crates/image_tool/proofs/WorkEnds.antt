@@ -1,5 +1,5 @@
 -- How the work of each command ends
-use Rattle.std.proofs.Common.{◌≡◌, ℕ, List, [], ◌∷◌, Option, Result, Ok, Err, refl, inr, replicate, arith}
+use Rattle.std.proofs.Common.{◌≡◌, ℕ, List, [], ◌∷◌, Option, Result, Ok, Err, refl, subst, inr, replicate, arith}
 use Rattle.box_io.specs.Outside.{WritesFront}
 use Rattle.tool_spec.specs.Ends.{End, status_of}
 use Rattle.tool_spec.specs.Texts.{layout_text}
@@ -51,6 +51,10 @@ kept_same (Err (Refused x y)) holds holds' h = h
 pub count_same : (fault : Stop) (e : End) (before now : ℕ) → now ≡ before → KeptUnless fault e before now
 count_same fault (Ok u) before now h = h
 count_same fault (Err s) before now h = λ other. h
+
+pub count_since : (fault : Stop) (e : End) (before mid now : ℕ) → mid ≡ before → KeptUnless fault e mid now
+    → KeptUnless fault e before now
+count_since fault e before mid now same h = subst (λ (n : ℕ). KeptUnless fault e n now) same h
 
 -- the lines of a script on the block store asked for nothing
 pub none_asked : (e : End) (old new : ℕ) → new ≡ old → LinesAsk old new e

@@ -13,7 +13,7 @@ use Rattle.tool_spec.specs.declared.Cause.{Cause}
 use Rattle.tool_spec.specs.declared.Stop.{Stop}
 use Rattle.tool_spec.specs.declared.Stop.TheVariants.{Memory, Usage, Param, Layout, NoSharedZone, Short, ScriptFault, ImageFault, SinkFault, TooLong, BadLine, Refused}
 use Rattle.tool_frame.specs.Stages.{SizeStop, ScriptStop, ParseStop}
-use Rattle.tool_frame.specs.Ended.{CausedAt, ScriptEnds, LinesEnded, LinesOrStopEnded, KeptBefore, BlkEnds}
+use Rattle.tool_frame.specs.Ended.{CausedAt, ScriptEnds, LinesEnded, LinesOrStopEnded, KeptBefore, LinesAsk, BlkEnds}
 use Rattle.tool_frame.proofs.ReadParts.{Read, read_of, room_of, unread_memory, unread_fault, unread_short, read_memory, read_fault, read_long, read_bad, read_unput, read_unsaved, read_refused, read_done}
 use Rattle.tool_frame.proofs.Script.{Quiet, nat_lt-true, nat_lt-false, quiet_memory, put_nothing}
 use Rattle.tool_frame.proofs.StageStops.{load_stops, script_stops, parse_stops}
@@ -207,9 +207,13 @@ module _ (mem : ℕ) (a b : Outside) (room : IfSome a.holds (λ bs. mem ≤ leng
       (λ rose. read_unsaved mem a b room text read) (λ rose. read_unput mem a b room text read)
       (λ n cause. read_refused mem a b room text read lines ok n cause) e c
 
-pub played_kept : {A : Type 0} (e : End) (g g' h h' : ℕ) (before now : A) → BlkPlayCaused e g g' h h'
+played_kept : (e : End) (g g' h h' : ℕ) (before now : Option (List ℕ)) → BlkPlayCaused e g g' h h'
     → KeptBefore before now e
 played_kept e g g' h h' before now c = played_ends (λ d. KeptBefore before now d) g g' h h' (λ u. tt) tt (λ rose. tt)
+    (λ rose. tt) (λ n cause. tt) e c
+
+pub played_asks : (e : End) (g g' h h' old new : ℕ) → BlkPlayCaused e g g' h h' → LinesAsk old new e
+played_asks e g g' h h' old new c = played_ends (λ d. LinesAsk old new d) g g' h h' (λ u. tt) tt (λ rose. tt)
     (λ rose. tt) (λ n cause. tt) e c
 
 -- a fault is named only if its count rose since the moment before the lines, at which no count was lower

@@ -1,7 +1,10 @@
 -- How each stage of a script on the block store ends it
-use Rattle.std.proofs.Common.{arith}
+use Rattle.std.proofs.Common.{refl, arith, Err}
 use Rattle.tool_frame.proofs.ReadParts.{read_whole}
-use Rattle.tool_frame.proofs.BlkScript.{play_ended, played_caused}
+use Rattle.tool_frame.proofs.Sizes.{size_load}
+use Rattle.tool_frame.proofs.Script.{load_caused, script_caused, parse_caused}
+use Rattle.tool_frame.proofs.BlkScript.{size_stopped, script_stopped, parse_stopped, play_ended, played_caused, played_asks}
+use Rattle.image_tool.proofs.WorkEnds.{count_same, count_since, none_asked}
 use Rattle.image_tool.proofs.Due.{no_text, ended_put}
 use Rattle.image_tool.proofs.blk_script.run_blk_script.Goals as goal
 
@@ -13,12 +16,67 @@ returns-clause-work g c = record {
     sink = omega (arith, c.play.ensures.later.1);
   };
   caused = played_caused c.play.result _ _ _ _ _ _ _ _ c.check_size.ensures.later (omega arith) c.play.ensures.caused;
+  counts = record {
+    source = count_same _ c.play.result _ _ c.in-Ok-read_script.ensures.counts;
+    store = count_since _ c.play.result _ _ _ c.in-Ok.ensures.counts c.play.ensures.kept_store;
+    sink = c.play.ensures.kept_sink;
+  };
   kept = λ w. absurd w;
+  asks = played_asks c.play.result _ _ _ _ _ _ c.play.ensures.caused;
   ended = play_ended c.args.layout _ _ c.in-Ok-read_script.text.items c.in-Ok-lines.lines c.play.result
       (g.M.Load.holds c.check_size.new.image) _ _ _ _ c.in-Ok.ensures.ok
       (read_whole _ _ c.in-Ok-read_script.text c.in-Ok-read_script.ensures.ok c.in-Ok-read_script.ensures.end)
       (rw c.deref.ensures.value at c.in-Ok-lines.ensures.read) c.check_size.ensures.same c.play.ensures.caused
       (rw c.as_slice.ensures at c.play.ensures.played);
+}
+
+pub returns-in-Err-clause-work : goal.returns-in-Err-clause-work
+returns-in-Err-clause-work g c = record {
+  later = record { source = omega arith; store = omega arith; sink = omega arith };
+  caused = load_caused c.in-Err.stop c.args.layout.total (g.M.Load.holds c.args.image.now) _ _ _ _ _ _
+      (size_load _ _ _ _ _ c.in-Err.ensures.err);
+  counts = record {
+    source = λ other. refl;
+    store = c.in-Err.ensures.counts;
+    sink = λ other. refl;
+  };
+  kept = λ w. absurd w;
+  asks = none_asked (Err c.in-Err.stop) _ _ c.in-Err.ensures.unwritten;
+  ended = size_stopped c.args.layout _ _ c.in-Err.stop _ _ (record { left = refl; source = refl })
+      (record { given = refl; holds = c.in-Err.ensures.same }) c.in-Err.ensures.err;
+}
+
+pub returns-in-Err-read_script-clause-work : goal.returns-in-Err-read_script-clause-work
+returns-in-Err-read_script-clause-work g c = record {
+  later = record { source = omega arith; store = omega arith; sink = omega arith };
+  caused = script_caused c.in-Err-read_script.stop (g.S.Source.left c.args.script.now) _ _ _ _ _ _
+      c.in-Err-read_script.ensures.err;
+  counts = record {
+    source = c.in-Err-read_script.ensures.counts;
+    store = λ other. c.in-Ok.ensures.counts;
+    sink = λ other. refl;
+  };
+  kept = λ w. absurd w;
+  asks = none_asked (Err c.in-Err-read_script.stop) _ _ c.in-Ok.ensures.unwritten;
+  ended = script_stopped c.args.layout _ _ c.in-Ok.ensures.ok c.in-Err-read_script.stop _ _
+      (record { given = refl; holds = c.in-Ok.ensures.same }) c.in-Err-read_script.ensures.err;
+}
+
+pub returns-in-Err-lines-clause-work : goal.returns-in-Err-lines-clause-work
+returns-in-Err-lines-clause-work g c = record {
+  later = record { source = omega arith; store = omega arith; sink = omega arith };
+  caused = parse_caused c.in-Err-lines.stop _ _ _ _ _ _ _ c.in-Err-lines.ensures.read;
+  counts = record {
+    source = λ other. c.in-Ok-read_script.ensures.counts;
+    store = λ other. c.in-Ok.ensures.counts;
+    sink = λ other. refl;
+  };
+  kept = λ w. absurd w;
+  asks = none_asked (Err c.in-Err-lines.stop) _ _ c.in-Ok.ensures.unwritten;
+  ended = parse_stopped c.args.layout _ _ c.in-Ok.ensures.ok c.in-Ok-read_script.text.items
+      (read_whole _ _ c.in-Ok-read_script.text c.in-Ok-read_script.ensures.ok c.in-Ok-read_script.ensures.end)
+      c.in-Err-lines.stop (record { given = refl; holds = c.in-Ok.ensures.same })
+      (rw c.deref.ensures.value at c.in-Err-lines.ensures.read);
 }
 
 pub returns-clause-put : goal.returns-clause-put
