@@ -3,3 +3,4 @@ mod Kernels
 pub mod Sound
 pub mod Steps
 pub mod BlkScripts
+pub mod SharedScripts

@@ -2,3 +2,4 @@ pub mod Scripts
 pub mod Steps
 pub mod BlkScripts
 pub mod Crashes
+pub mod SharedScripts
