@@ -4,10 +4,13 @@ ghost use Rattle.std.specs.Prelude.{None};
 use box_io::Failed;
 use report_tool::Folder;
 use std::alloc::Global;
-use std::fs::File;
-use std::io::Write;
+use std::fs::{File, OpenFile};
+use std::io::{ErrorKind, Write};
 use std::rt::Files;
 use std::{fs, io};
+
+/// How many names are tried for a file of its own.
+const NAMES: u32 = 100;
 
 /// A folder by its path, and what went wrong last.
 #[derive(Drop)]
@@ -38,6 +41,32 @@ impl<R: Files + Drop> Dir<R> {
     }
 }
 
+// A new file for what is to be written, under a name that no file had: a run that was killed may have left some.
+fn own_file<R: Files>(
+    rt: &R,
+    alloc: Global,
+    folder: &str,
+    name: &str,
+) -> io::Result<(String, R::File)> {
+    for number in 0..NAMES {
+        let path = format!(in alloc; "{folder}/.{name}.{number}")?;
+        match File::create_new(rt, path.as_str()) {
+            Ok(file) => return Ok((path, file)),
+            Err(e) if e.kind() == ErrorKind::AlreadyExists => (),
+            Err(e) => return Err(e),
+        }
+    }
+    Err(io::Error::from(ErrorKind::AlreadyExists))
+}
+
+// The whole content, on the disk: a full disk may show as late as that.
+fn write_whole<F: Write + OpenFile>(file: &mut F, content: &[u8]) -> io::Result<()> {
+    file.write_all(content)?;
+    file.sync_all()
+}
+
+// A file is written under a name of its own and gets the record's name by a link, once it is whole. A link never takes
+// the place of another file. The first name goes in each case; a failure there changes nothing of the record.
 fn make_file<R: Files>(
     rt: &R,
     alloc: Global,
@@ -46,8 +75,13 @@ fn make_file<R: Files>(
     content: &[u8],
 ) -> io::Result<()> {
     let path = format!(in alloc; "{folder}/{name}")?;
-    let mut file = File::create_new(rt, path.as_str())?;
-    file.write_all(content)
+    let (own, mut file) = own_file(rt, alloc, folder, name)?;
+    let made = match write_whole(&mut file, content) {
+        Ok(()) => fs::hard_link(rt, own.as_str(), path.as_str()),
+        Err(e) => Err(e),
+    };
+    let _left = fs::remove_file(rt, own.as_str());
+    made
 }
 
 impl<R: Files + Drop> Folder for Dir<R> {

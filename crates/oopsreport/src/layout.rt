@@ -1,11 +1,12 @@
 // The plan that the words of the command line ask for.
-use anyhow::{Context, anyhow};
+use anyhow::anyhow;
 use clap::ArgMatches;
 use grammar_spec::ParamFault;
 use report_tool::{Plan, PlanFault};
-use report_words::{add_layout_words, add_tag, ftrace_tag};
+use report_words::{LineFault, add_layout_words, add_tag, ftrace_tag};
 use std::alloc::{AllocError, Global};
 use std::fs;
+use std::io::ErrorKind;
 use std::rt::Runtime;
 
 /// Why there is no plan: a want of memory, or what is wrong with the words.
@@ -20,6 +21,29 @@ impl From<AllocError> for NoPlan {
     }
 }
 
+// The words of one command line of a kernel.
+fn add_line(alloc: Global, words: &mut Vec<String>, line: &[u8]) -> Result<(), NoPlan> {
+    match add_layout_words(alloc, words, line) {
+        Ok(()) => Ok(()),
+        Err(LineFault::Memory) => Err(NoPlan::Memory),
+        Err(LineFault::OpenQuote) => Err(NoPlan::Words(anyhow!(
+            "a quote of the kernel's command line has no end"
+        ))),
+        Err(LineFault::NoText) => Err(NoPlan::Words(anyhow!(
+            "a word ramoops. of the kernel's command line is no text"
+        ))),
+    }
+}
+
+// The command line that a file holds.
+fn read_line<R: Runtime>(rt: &R, path: &str) -> Result<Vec<u8, R::A>, NoPlan> {
+    match fs::read(rt, path) {
+        Ok(line) => Ok(line),
+        Err(e) if e.kind() == ErrorKind::OutOfMemory => Err(NoPlan::Memory),
+        Err(e) => Err(NoPlan::Words(anyhow!("{path}: {e}"))),
+    }
+}
+
 // The words of a kernel's command line, given as text or in a file.
 fn add_cmdline<R: Runtime>(
     rt: &R,
@@ -28,13 +52,11 @@ fn add_cmdline<R: Runtime>(
     matches: &ArgMatches<'_>,
 ) -> Result<(), NoPlan> {
     if let Some(text) = matches.get_str("cmdline") {
-        add_layout_words(alloc, words, text.trim())?;
+        add_line(alloc, words, text.as_bytes())?;
     }
     if let Some(path) = matches.get_str("cmdline-file") {
-        let text = fs::read_to_string(rt, path)
-            .context(format_args!("{path}"))
-            .map_err(NoPlan::Words)?;
-        add_layout_words(alloc, words, text.as_str().trim())?;
+        let line = read_line(rt, path)?;
+        add_line(alloc, words, &line)?;
     }
     Ok(())
 }

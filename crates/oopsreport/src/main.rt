@@ -6,7 +6,7 @@ mod folder;
 mod layout;
 
 use anyhow::{Context, Result, anyhow};
-use box_io::{FileStore, WriterSink};
+use box_io::{FileLoad, WriterSink};
 use clap::ArgMatches;
 use clap::error::ErrorKind;
 use command::command;
@@ -53,7 +53,7 @@ fn one_image<R: Runtime>(
     path: &str,
 ) -> Result<()> {
     fs::metadata(rt, path)?;
-    let mut image = FileStore::new(rt, alloc, path)?;
+    let mut image = FileLoad::new(rt, alloc, path)?;
     let mut out = WriterSink::new(io::writer(rt));
     let report = match report(alloc, plan, format, path, &mut image, &mut out) {
         Ok(report) => report,
@@ -72,40 +72,41 @@ fn one_image<R: Runtime>(
     }
 }
 
-// All images, one after another, and the status.
+// All images, one after another, and the status. A line that standard error does not take ends nothing.
 fn all_images<R: Runtime>(
     rt: &R,
     alloc: Global,
     plan: &Plan,
     matches: &ArgMatches<'_>,
     shows_progress: bool,
-) -> Result<u8> {
+) -> u8 {
     let paths = matches.get_strs("image").unwrap_or(&[]);
     let count = paths.len();
     let mut status = 0;
     for (i, path) in paths.iter().enumerate() {
-        if shows_progress && count > 1 {
-            eprint!(rt; "\r{i} of {count} ")?;
+        if shows_progress && count > 1 && eprint!(rt; "\r{i} of {count} ").is_err() {
+            status = NOT_DONE;
         }
         let folder = matches.get_str("save");
         match one_image(rt, alloc, plan, format(matches), folder, path) {
             Ok(()) => (),
             Err(e) => {
                 status = NOT_DONE;
-                eprintln!(rt; "oopsreport: {path}: {e:#}")?;
+                let _told = eprintln!(rt; "oopsreport: {path}: {e:#}");
             }
         }
     }
-    if shows_progress && count > 1 {
-        eprintln!(rt; "\r{count} of {count} ")?;
+    if shows_progress && count > 1 && eprintln!(rt; "\r{count} of {count} ").is_err() {
+        status = NOT_DONE;
     }
-    Ok(status)
+    status
 }
 
 // Reads the words, and does what they ask.
 fn run<R: Runtime>(rt: &R, alloc: Global, words: &[String], shows_progress: bool) -> Result<u8> {
     let matches = match command(alloc)?.try_get_matches_from(words) {
         Ok(matches) => matches,
+        Err(error) if error.kind() == ErrorKind::OutOfMemory => return Err(AllocError.into()),
         Err(error) => {
             error.print(rt)?;
             return Ok(error.exit_code() as u8);
@@ -118,7 +119,7 @@ fn run<R: Runtime>(rt: &R, alloc: Global, words: &[String], shows_progress: bool
         return Ok(WRONG_WORDS);
     }
     match plan(rt, alloc, &matches) {
-        Ok(plan) => all_images(rt, alloc, &plan, &matches, shows_progress),
+        Ok(plan) => Ok(all_images(rt, alloc, &plan, &matches, shows_progress)),
         Err(NoPlan::Memory) => Err(AllocError.into()),
         Err(NoPlan::Words(e)) => {
             eprintln!(rt; "error: {e:#}")?;
