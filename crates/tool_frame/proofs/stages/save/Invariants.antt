@@ -1,11 +1,11 @@
-use Rattle.std.proofs.Common.{◌≡◌, ◌≤◌, ◌-◌, ◌^◌, min, length, take}
+use Rattle.std.proofs.Common.{◌≡◌, ◌≤◌, ◌-◌, length, take}
 use Rattle.box_io.specs.Outside.{Writes}
 use Rattle.tool_frame.proofs.stages.save.Given as goal
 
 abbrev pub invariant-pieces : goal.invariant-pieces
 invariant-pieces g l = (l.at ≤ length l.bytes) × Writes (g.M.Load.holds l.initial.image) (g.M.Load.holds l.image) 0
     (take l.at l.bytes) × (g.M.Load.faults l.image ≡ g.M.Load.faults l.initial.image)
-    × (min (g.M.Load.writes l.initial.image) (2 ^ 64 - 1) ≤ g.M.Load.writes l.image)
+    × (g.M.Load.writes l.initial.image ≤ g.M.Load.writes l.image)
 
 abbrev pub decreases-pieces : goal.decreases-pieces
 decreases-pieces g l = length l.bytes - l.at
