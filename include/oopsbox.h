@@ -1,9 +1,9 @@
 /*
  * oopsbox.h - the crash log store of Linux (ramoops) as a library.
  *
- * Every call works on memory of the caller's, keeps nothing between calls, and can run in several threads at once. All
- * numbers are in the machine's own order; bytes of a region are as the kernel stores them. docs/LIBRARY.md has
- * examples.
+ * Every call works on memory of the caller's and keeps nothing between calls. Calls may run in several threads at once;
+ * that is tested, and no proof says it. All numbers are in the machine's own order; bytes of a region are as the kernel
+ * stores them. docs/LIBRARY.md has examples, and what is proved.
  *
  * A call is undefined only if a pointer is not what it should be: the first byte of so many bytes (or so many structs)
  * that stand there for the whole call, and that nothing else reads or writes meanwhile if the call may write them. Two
@@ -32,6 +32,13 @@ enum {
 	OOPSBOX_MEMORY = 14,   /* malloc answered NULL; nothing was written */
 	OOPSBOX_BAD = 15       /* no codeword is near enough */
 };
+
+/*
+ * The most bytes of stack that a call takes, its callees in the library included: each of the two calls on a block, and
+ * each other call. tools/library-checks measures them on x86-64; no proof says it.
+ */
+#define OOPSBOX_STACK_CODES 16384
+#define OOPSBOX_STACK 65536
 
 /* ---- one block of the Reed-Solomon code; these two calls allocate nothing ---------------------------------------- */
 
@@ -135,8 +142,8 @@ struct oopsbox_lengths {
  * still to be made (blank, make). lengths->text is not read.
  *
  * 0 to 10: the program's exit status. The first lengths->text bytes of text are what the program would print, and the
- * first lengths->image bytes of image what the image then holds; the rest of both is as it was. 5 never comes; 6 and 7
- * come only where malloc answered NULL for the image or the text.
+ * first lengths->image bytes of image what the image then holds; the rest of both is as it was. 5 never comes. 1, 6 and 7
+ * tell that memory was refused for the work, the image or the text; that they come only then is tested, not proved.
  * OOPSBOX_ROOM: image_len is below lengths->image or text_len below lengths->text, which tell what the run needs; image
  * and text are as they were. Call again with room, and set lengths->image to the bytes that there are again: then the
  * run is the same.

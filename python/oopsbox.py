@@ -8,7 +8,8 @@ module's folder, else the package's. `tools/build-library FOLDER` makes it.
     >>> for record in oopsbox.records(region, "mem_size=65536 ecc=1"):
     ...     print(record.name, len(record.content))
 
-Parameters are words key=value with one space between, as on a kernel's command line.
+Parameters are words key=value with one space between, as on a kernel's command line. All words are str or bytes. Data,
+images and scripts are bytes, or anything that has bytes: a bytearray, a memoryview, an array of any type.
 """
 
 import ctypes
@@ -68,20 +69,28 @@ def _load():
 _library = _load()
 
 
+def _bytes(content):
+    # an array has fewer items than bytes, and bytes(5) are five zeros
+    if isinstance(content, int):
+        raise TypeError("bytes are wanted, not a number")
+    return bytes(content)
+
+
+def _words(words):
+    return words.encode(errors="surrogateescape") if isinstance(words, str) else _bytes(words)
+
+
 def _buffer(content, size=None):
     # ctypes has no array of 0 bytes that it can point to, so each has one more
     size = len(content) if size is None else size
     buffer = (ctypes.c_uint8 * (size + 1))()
-    ctypes.memmove(buffer, bytes(content), len(content))
+    ctypes.memmove(buffer, content, len(content))
     return buffer
-
-
-def _words(words):
-    return words.encode() if isinstance(words, str) else bytes(words)
 
 
 def rs_encode(data, parity_length):
     """The parity, of `parity_length` bytes, of 1 to 254 bytes of data; both together have at most 255."""
+    data = _bytes(data)
     source, parity = _buffer(data), _buffer(b"", parity_length)
     status = _library.oopsbox_rs_encode(source, len(data), parity, parity_length)
     if status != DONE:
@@ -94,6 +103,7 @@ def rs_decode(data, parity):
 
     Raises Error with status 15 if no codeword differs in at most half as many bytes as there is parity.
     """
+    data, parity = _bytes(data), _bytes(parity)
     target, source, places = _buffer(data), _buffer(parity), _buffer(b"", len(parity))
     corrected = ctypes.c_uint32()
     status = _library.oopsbox_rs_decode(target, len(data), source, len(parity), places, len(parity),
@@ -135,7 +145,8 @@ def run(command, parameters, image=b"", script=b""):
     Answers the program's exit status, 0 to 10, what it would print, and what the image then holds. Raises Error only if
     the words are no text (13) or malloc answers NULL (14).
     """
-    words, script = _words("image " + command + " " + parameters if parameters else "image " + command), bytes(script)
+    parts = [b"image", _words(command)] + ([_words(parameters)] if parameters else [])
+    words, script, image = b" ".join(parts), _bytes(script), _bytes(image)
     image_room, text_room = len(image), 65536
     while True:
         lengths = _Lengths(len(image), 0)
@@ -166,7 +177,7 @@ def records(image, parameters):
 
     Raises Error with the program's exit status if the image is too short or the parameters are faulty.
     """
-    found = []
+    image, found = _bytes(image), []
     for line in _done(run("list", parameters, image)).text.decode().splitlines()[1:]:
         name, _, time = (line.split(" ") + [None])[:3]
         found.append(Record(name, time, _done(run("extract " + name, parameters, image)).text))

@@ -1,12 +1,14 @@
 -- A session, a stop, flips and a boot
-use Rattle.std.proofs.Common.{◌≡◌, ℕ, zero, suc, Bool, true, false, cond, nat_lt, List, [], ◌∷◌, ◌++◌, map, length, slice_get, refl, sym, ap, ◌∙◌, subst, Some, None, Ok, Err}
+use Rattle.std.proofs.Common.{◌≡◌, ℕ, zero, suc, Bool, true, false, cond, nat_lt, nat_le, ◌≤◌, true≢false, get_or, arith, List, [], ◌∷◌, ◌++◌, map, length, slice_get, refl, sym, ap, ◌∙◌, subst, Some, None, Ok, Err}
 use Rattle.std.specs.Prelude.{zip}
 use Rattle.std.specs.Option.{option_map}
 use Rattle.std.specs.List.{AllByRecursion}
-use Rattle.std.proofs.lemmas.Option.{slice_get-map}
+use Rattle.std.proofs.lemmas.Bool.Decides.{nat_tests}
+use Rattle.std.proofs.lemmas.Option.{slice_get-map, slice_get_within, slice_get-get_or}
 use Rattle.zone_spec.specs.declared.Zone.{Zone}
 use Rattle.zone_spec.specs.declared.Refusal.TheVariants.{OutOfImage}
 use Rattle.zone_spec.specs.Reading.{zone_reading}
+use Rattle.zone_spec.specs.Boot.{boot_fixes}
 use Rattle.zone_spec.specs.Told.{last_items}
 use Rattle.zone_spec.specs.Layouts.{IsLayout}
 use Rattle.session_spec.specs.Zones.{zone_bytes}
@@ -14,11 +16,15 @@ use Rattle.session_spec.specs.States.{OffZone, OffState, LiveState, Session, Off
 use Rattle.session_spec.specs.Off.{fresh, flipped}
 use Rattle.session_spec.specs.Stop.{cut_of, zone_stopped, stopped}
 use Rattle.session_spec.specs.Boot.{booted}
+use Rattle.session_spec.specs.BootPart.{boot_count, is_finished, left_at, zone_finished, zone_cut, zone_parted, boot_parted}
 use Rattle.session_spec.specs.Operations.{Operation, Flip, Boot, BootPart, Begin, Make, Step, Finish, EraseRecord, Stop, Refused, operated, left_by, session_after}
 use Rattle.session_spec.specs.Sound.{IsState, IsOperation, IsReached}
+use Rattle.session_laws.proofs.Lists.{length-parted}
+use Rattle.session_laws.proofs.OffStates.{stopped-state}
+use Rattle.session_laws.proofs.CutBoot.{new_zone}
 use Rattle.session_laws.proofs.Operations.{states_are_sound}
 use Rattle.history_spec.specs.Written.{written_in}
-use Rattle.history_laws.specs.Laws.{TellsWritten, IsFlip, NextBootReadsWritten}
+use Rattle.history_laws.specs.Laws.{TellsWritten, LeavesZone, AllLeaveZone, NextBootReadsWritten}
 use Rattle.history_laws.proofs.Told.{told_is_written, state_reads_written}
 
 get-zip : {X Y W : Type 0} (f : X × Y → W) (xs : List X) (ys : List Y) (i : ℕ) (x : X) (y : Y) → slice_get xs i ≡ Some x
@@ -27,19 +33,6 @@ get-zip f [] ys i x y e h = let b : Some x ≡ None = sym e in absurd (cc)
 get-zip f (u ∷ us) [] i x y e h = let b : Some y ≡ None = sym h in absurd (cc)
 get-zip f (u ∷ us) (v ∷ vs) zero x y e h = let a : u ≡ x = cc in let b : v ≡ y = cc in rw (a, b) refl
 get-zip f (u ∷ us) (v ∷ vs) (suc i) x y e h = get-zip f us vs i x y e h
-
--- flips may be asked
-flips_fit : (flips : List Operation) → AllByRecursion IsFlip flips → AllByRecursion IsOperation flips
-flips_fit [] h = tt
-flips_fit (Flip place mask ∷ flips) h = (h.0, flips_fit flips h.1)
-flips_fit (Boot ∷ flips) h = absurd h.0
-flips_fit (BootPart limit ∷ flips) h = absurd h.0
-flips_fit (Begin ask ∷ flips) h = absurd h.0
-flips_fit (Make ask ∷ flips) h = absurd h.0
-flips_fit (Step name count ∷ flips) h = absurd h.0
-flips_fit (Finish name ∷ flips) h = absurd h.0
-flips_fit (EraseRecord name ∷ flips) h = absurd h.0
-flips_fit (Stop ∷ flips) h = absurd h.0
 
 all-join : (P : Operation → Type 0) (xs ys : List Operation) → AllByRecursion P xs → AllByRecursion P ys
     → AllByRecursion P (xs ++ ys)
@@ -61,31 +54,87 @@ pub after_none : (layout : List Zone) (s : Session) → session_after layout s [
 unfolding session_after
 after_none layout s = refl
 
--- flips leave what is held of the zones
-flips_leave : (layout : List Zone) (off damaged : OffState) (flips : List Operation) → AllByRecursion IsFlip flips
-    → session_after layout (Off off) flips ≡ Off damaged → damaged.zones ≡ off.zones
-flips_leave layout off damaged [] h e =
-    let same : Off off ≡ Off damaged = sym (after_none layout (Off off)) ∙ e in
-    let s : off ≡ damaged = cc in ap (λ (x : OffState). x.zones) (sym s)
-flips_leave layout off damaged (Flip place mask ∷ flips) h e =
-    by (nat_lt place (length off.image)) (sym (after_one layout (Off off) (Flip place mask) flips) ∙ e)
-    (flips_leave layout (flipped off place mask) damaged flips h.1) (flips_leave layout off damaged flips h.1)
+-- ---- a zone that is left to its stop
+
+-- such operations may be asked
+leaves_fit : (layout : List Zone) (i : ℕ) (z : Zone) (session : Session) (os : List Operation)
+    → AllLeaveZone layout i z session os → AllByRecursion IsOperation os
+unfolding AllLeaveZone
+leaves_fit layout i z session [] h = tt
+leaves_fit layout i z (Live live) (o ∷ os) h = absurd h
+leaves_fit layout i z (Off off) (Flip place mask ∷ os) h =
+    (h.0, leaves_fit layout i z (left_by (Off off) (operated layout (Off off) (Flip place mask))) os h.1)
+leaves_fit layout i z (Off off) (BootPart limit ∷ os) h =
+    (tt, leaves_fit layout i z (left_by (Off off) (operated layout (Off off) (BootPart limit))) os h.1)
+leaves_fit layout i z (Off off) (Boot ∷ os) h = absurd h.0
+leaves_fit layout i z (Off off) (Begin ask ∷ os) h = absurd h.0
+leaves_fit layout i z (Off off) (Make ask ∷ os) h = absurd h.0
+leaves_fit layout i z (Off off) (Step name count ∷ os) h = absurd h.0
+leaves_fit layout i z (Off off) (Finish name ∷ os) h = absurd h.0
+leaves_fit layout i z (Off off) (EraseRecord name ∷ os) h = absurd h.0
+leaves_fit layout i z (Off off) (Stop ∷ os) h = absurd h.0
+
+-- a cut boot that did not come to the zone's erasure, nor finished it
+parted_stays : (z : Zone) (now : List ℕ) (all : Bool) (n : ℕ) (zone : OffZone) → is_finished z now all n ≡ false
+    → n ≤ length (boot_fixes z now) → zone_parted z now all n zone ≡ zone
+parted_stays z now all n zone unfinished few =
+    by (is_finished z now all n) (nat_lt (length (boot_fixes z now)) n) unfinished (grind (arith, nat_tests, few))
   where
-    by : (b : Bool) → session_after layout (left_by (Off off) (cond b (Ok (Off (flipped off place mask)))
-        (Err (Refused OutOfImage)))) flips ≡ Off damaged
-        → (session_after layout (Off (flipped off place mask)) flips ≡ Off damaged → damaged.zones ≡ off.zones)
-        → (session_after layout (Off off) flips ≡ Off damaged → damaged.zones ≡ off.zones)
-        → damaged.zones ≡ off.zones
-    by true e done refused = done e
-    by false e done refused = refused e
-flips_leave layout off damaged (Boot ∷ flips) h e = absurd h.0
-flips_leave layout off damaged (BootPart limit ∷ flips) h e = absurd h.0
-flips_leave layout off damaged (Begin ask ∷ flips) h e = absurd h.0
-flips_leave layout off damaged (Make ask ∷ flips) h e = absurd h.0
-flips_leave layout off damaged (Step name count ∷ flips) h e = absurd h.0
-flips_leave layout off damaged (Finish name ∷ flips) h e = absurd h.0
-flips_leave layout off damaged (EraseRecord name ∷ flips) h e = absurd h.0
-flips_leave layout off damaged (Stop ∷ flips) h e = absurd h.0
+    by : (a b : Bool) → a ≡ false → b ≡ false → cond a (zone_finished z now) (cond b (zone_cut z now n zone) zone) ≡ zone
+    by true b e f = absurd (true≢false e)
+    by false true e f = absurd (true≢false f)
+    by false false e f = refl
+
+-- so what is held of the zone stays
+part_stays : (layout : List Zone) (i : ℕ) (z : Zone) (zone : OffZone) (off : OffState) (limit : ℕ)
+    → length off.zones ≡ length layout → slice_get layout i ≡ Some z → slice_get off.zones i ≡ Some zone
+    → LeavesZone layout i z off (BootPart limit) → slice_get (boot_parted layout limit off).zones i ≡ Some zone
+part_stays layout i z zone off limit len hz hv h =
+    let after : OffState = boot_parted layout limit off in
+    let all : Bool = nat_le (boot_count layout off.image) limit in
+    let long : length after.zones ≡ length layout = length-parted off.image all layout limit off.zones len in
+    let new : OffZone = get_or after.zones i zone in
+    let at : slice_get after.zones i ≡ Some new =
+    slice_get-get_or after.zones i zone (omega (arith, long, slice_get_within layout i z hz)) in
+    at ∙ ap (λ (o : OffZone). Some o) (sym (new_zone layout off limit i z zone new hz hv at)
+    ∙ parted_stays z (zone_bytes z off.image) all (left_at layout off.image limit i) zone h.0 h.1)
+
+zone_stays : (layout : List Zone) (i : ℕ) (z : Zone) (zone : OffZone) (off damaged : OffState) (os : List Operation)
+    → length off.zones ≡ length layout → slice_get layout i ≡ Some z → slice_get off.zones i ≡ Some zone
+    → AllLeaveZone layout i z (Off off) os → session_after layout (Off off) os ≡ Off damaged
+    → slice_get damaged.zones i ≡ Some zone
+unfolding AllLeaveZone
+zone_stays layout i z zone off damaged [] len hz hv h e =
+    let same : Off off ≡ Off damaged = sym (after_none layout (Off off)) ∙ e in
+    let s : off ≡ damaged = cc in subst (λ (d : OffState). slice_get d.zones i ≡ Some zone) s hv
+zone_stays layout i z zone off damaged (Flip place mask ∷ os) len hz hv h e =
+    by (nat_lt place (length off.image)) h.1 (sym (after_one layout (Off off) (Flip place mask) os) ∙ e)
+    (zone_stays layout i z zone (flipped off place mask) damaged os len hz hv)
+    (zone_stays layout i z zone off damaged os len hz hv)
+  where
+    by : (b : Bool) → AllLeaveZone layout i z (left_by (Off off) (cond b (Ok (Off (flipped off place mask)))
+        (Err (Refused OutOfImage)))) os
+        → session_after layout (left_by (Off off) (cond b (Ok (Off (flipped off place mask)))
+        (Err (Refused OutOfImage)))) os ≡ Off damaged
+        → (AllLeaveZone layout i z (Off (flipped off place mask)) os
+        → session_after layout (Off (flipped off place mask)) os ≡ Off damaged → slice_get damaged.zones i ≡ Some zone)
+        → (AllLeaveZone layout i z (Off off) os
+        → session_after layout (Off off) os ≡ Off damaged → slice_get damaged.zones i ≡ Some zone)
+        → slice_get damaged.zones i ≡ Some zone
+    by true l e done refused = done l e
+    by false l e done refused = refused l e
+zone_stays layout i z zone off damaged (BootPart limit ∷ os) len hz hv h e =
+    zone_stays layout i z zone (boot_parted layout limit off) damaged os
+    (length-parted off.image (nat_le (boot_count layout off.image) limit) layout limit off.zones len) hz
+    (part_stays layout i z zone off limit len hz hv h.0) h.1
+    (sym (after_one layout (Off off) (BootPart limit) os) ∙ e)
+zone_stays layout i z zone off damaged (Boot ∷ os) len hz hv h e = absurd h.0
+zone_stays layout i z zone off damaged (Begin ask ∷ os) len hz hv h e = absurd h.0
+zone_stays layout i z zone off damaged (Make ask ∷ os) len hz hv h e = absurd h.0
+zone_stays layout i z zone off damaged (Step name count ∷ os) len hz hv h e = absurd h.0
+zone_stays layout i z zone off damaged (Finish name ∷ os) len hz hv h e = absurd h.0
+zone_stays layout i z zone off damaged (EraseRecord name ∷ os) len hz hv h e = absurd h.0
+zone_stays layout i z zone off damaged (Stop ∷ os) len hz hv h e = absurd h.0
 
 -- operations after a reached state reach what they leave
 pub reached_on : (layout : List Zone) (mem : ℕ) (session next : Session) (more : List Operation)
@@ -102,16 +151,18 @@ reached_on layout mem session next more r fit e = record {
 }
 
 pub next_boot_reads_written : NextBootReadsWritten
-next_boot_reads_written layout mem live next damaged flips i z zone bytes lies r all hz hv w f b =
+next_boot_reads_written layout mem live next damaged between i z zone bytes lies r hz hv w all f b =
     let state : IsState layout mem (Off damaged) = states_are_sound layout mem (Off damaged) lies
-    (reached_on layout mem (Live live) (Off damaged) (Stop ∷ flips) r (tt, flips_fit flips all) f) in
+    (reached_on layout mem (Live live) (Off damaged) (Stop ∷ between) r
+    (tt, leaves_fit layout i z (Off (stopped layout live)) between all) f) in
+    let stops : IsState layout mem (Off (stopped layout live)) = stopped-state layout mem lies live
+    (states_are_sound layout mem (Live live) lies r) in
     let tells : Some zone.told ≡ Some (last_items z.cap bytes) = told_is_written layout mem (Live live) i z lies r hz zone
     hv ∙ ap (option_map (last_items z.cap)) w in
-    let zones : damaged.zones ≡ (stopped layout live).zones =
-    flips_leave layout (stopped layout live) damaged flips all
-    (sym (after_one layout (Live live) Stop flips) ∙ f) in
     let held : slice_get damaged.zones i ≡ Some (zone_stopped (z, zone)) =
-    ap (λ zs. slice_get zs i) zones ∙ get-zip zone_stopped layout live.zones i z zone hz hv in
+    zone_stays layout i z (zone_stopped (z, zone)) (stopped layout live) damaged between stops.zones.0 hz
+    (get-zip zone_stopped layout live.zones i z zone hz hv) all
+    (sym (after_one layout (Live live) Stop between) ∙ f) in
     let known : TellsWritten i z (Some bytes) (Off damaged) =
     λ u hu. (let same : zone_stopped (z, zone) ≡ u = cc in ap (λ (x : OffZone). x.told) (sym same) ∙ tells) in
     let last : Live (booted layout damaged) ≡ Live next =

@@ -19,8 +19,9 @@ pub fn headline()
     ensures reported { CutsAreReported }
 {}
 
-/// The same without told lists, cuts and stops: after a session, a stop and flips, the boot's reading of each zone is by
-/// what was written, and by the zone's bytes and flight at the stop.
+/// The same without told lists, cuts and stops: after a session, a stop, flips and boots that are cut before they come to
+/// the zone's erasure or its end, the next boot's reading of the zone is by what was written, and by the zone's bytes and
+/// flight at the stop.
 pub fn next_boot_reads_written()
     ensures { NextBootReadsWritten }
 {}

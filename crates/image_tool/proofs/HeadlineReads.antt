@@ -1,5 +1,5 @@
 -- The headline at the boots of a run
-use Rattle.std.proofs.Common.{◌≡◌, ℕ, ◌+◌, ◌^◌, ◌<◌, ◌≤◌, Bool, true, false, cond, ◌&&◌, ◌||◌, nat_lt, List, [], ◌∷◌, ◌++◌, length, drop, take, map, zip, codes, Option, Some, None, Result, Ok, Err, IfSome, refl, sym, ap, ◌∙◌, subst, arith}
+use Rattle.std.proofs.Common.{◌≡◌, ◌≢◌, ℕ, ◌+◌, ◌^◌, ◌<◌, ◌≤◌, ◌⊎◌, inl, inr, Bool, true, false, cond, ◌&&◌, ◌||◌, nat_lt, List, [], ◌∷◌, ◌++◌, length, drop, take, map, zip, codes, Option, Some, None, Result, Ok, Err, IfSome, refl, sym, ap, ◌∙◌, subst, arith, append_assoc, append-nil}
 use Rattle.std.specs.Option.{option_and_then, unwrap_or}
 use Rattle.std.specs.List.{list_all}
 use Rattle.std.specs.Char.{is_digit}
@@ -43,18 +43,22 @@ use Rattle.box_script.proofs.Inside.{read_fields}
 use Rattle.tool_spec.specs.Texts.{boot_text}
 use Rattle.tool_spec.specs.Scripts.{Kernel, new_kernel, ran, store_line, line_done}
 use Rattle.tool_spec.specs.Commands.{Asked, RamCommand, RunScript, Command, OnRam, RunBlkScript, MoveImage, RamPlan, MovePlan, Laid, Plan, OfRam, OfBlk, OfMove, Wanted, planned, laid_out, with_params, with_layout, with_blk_params, with_blk_layout, with_first_params, with_second_params, with_first_layout, with_second_layout, mem_of, wanted, wanted_run, wanted_lines, script_limit, script_end, stops, lacks_zone}
-use Rattle.tool_spec.specs.Answers.{Outside, whole, RunAnswers}
+use Rattle.tool_spec.specs.Ends.{End, status_of, last_line}
+use Rattle.tool_spec.specs.Answers.{Outside, front, whole, IsFree, Answers, RunAnswers}
 use Rattle.tool_spec.specs.PlanAnswers.{RamAnswers, ToolAnswers}
 use Rattle.tool_spec.specs.declared.Cause.{Cause}
 use Rattle.tool_spec.specs.declared.Stop.{Stop}
 use Rattle.tool_spec.specs.declared.Stop.TheVariants.{TooLong, NoSharedZone}
 use Rattle.tool_frame.proofs.Play.{text_at}
 use Rattle.image_tool.proofs.ScriptEnds.{run_wanted}
-use Rattle.tool_laws.proofs.Sound.{states_sound}
+use Rattle.tool_laws.proofs.Sound.{states_sound, take_fit}
+use Rattle.tool_laws.specs.RamScripts.{ScriptReadsWritten}
+use Rattle.tool_laws.proofs.RamScripts.{scripts_read_written}
 use Rattle.crash_laws.specs.Listings.{LaterBootListsCrash}
 use Rattle.crash_laws.proofs.Scripts.{left_fields}
 use Rattle.image_tool.proofs.MoveReads.{IsLaidMove, move_reads}
-use Rattle.image_tool.specs.Headline.{BootsRead, ShowsBoot, CrashesListed, BootsShown, RunReads}
+use Rattle.image_tool.specs.Headline.{BootsRead, ShowsBoot, CrashesListed, BootsShown, done_lines, RunReads}
+use Rattle.image_tool.proofs.DoneLines.{done_are, front_take}
 
 -- ---- numbers of parameters are small
 
@@ -165,9 +169,12 @@ front_size : (mem : ℕ) (bytes : List ℕ) → mem ≤ length bytes → length 
 front_size mem bytes h = omega (arith, h, length-take mem bytes)
 
 -- the text of a boot is of the zones' readings and reports
-shows_boot : (layout : List Zone) (off : OffState) → EachOffZone layout off ReadsZone
-    → ShowsBoot layout off (boot_text (saved_logs layout (booted layout off)) (report layout off))
-shows_boot layout off reads =
+shows_boot : (layout : List Zone) (image : List ℕ) (before : List Line) (off : OffState)
+    → (ran layout image before).session ≡ Off off → EachOffZone layout off ReadsZone
+    → ScriptReadsWritten layout image before
+    → ShowsBoot layout image before off
+    (boot_text (saved_logs layout (booted layout off)) (report layout off))
+shows_boot layout image before off session reads written =
     let saves : Zone → Option ZoneReading = λ z. Some (zone_reading z (zone_bytes z off.image)) in
     let reports : Zone × OffZone → ZoneReport = λ pair. zone_report pair.0 pair.1 (zone_bytes pair.0 off.image) in
     record {
@@ -191,6 +198,7 @@ shows_boot layout off reads =
         zip-at layout (map saves layout) i z (saves z) at (get-of-map saves layout i z at),
         get-of-map reports (zip layout off.zones) i (z, zone) (zip-at layout off.zones i z zone at here),
         reads.1 i z zone at here,
+        λ bytes w. written off i z zone bytes session at here w,
       );
     }
 
@@ -204,6 +212,34 @@ boot_done : (layout : List Zone) (off : OffState) (kernel : Kernel) → line_don
 unfolding line_done store_line
 boot_done layout off kernel = refl
 
+-- what the boots of lines that were all done put, with anything put after them
+boots_put : (layout : List Zone) (image : List ℕ) (lines : List Line) (last : Text) (old new : Option (List ℕ))
+    → (ran layout image lines).refused ≡ None
+    → Appends old new (whole (ran layout image lines).texts ++ last)
+    → BootsRead layout image lines → ((k : ℕ) → ScriptReadsWritten layout image (take k lines))
+    → BootsShown layout image lines old new
+boots_put layout image lines last old new none put reads written k off at session =
+    let r = ran layout image lines in
+    let text = boot_text (saved_logs layout (booted layout off)) (report layout off) in
+    let before = ran layout image (take k lines) in
+    let done : line_done layout before.session before.kernel Boot
+    ≡ Ok (record { session = Live (booted layout off); kernel = new_kernel; text = text }) =
+    rw session (boot_done layout off before.kernel) in
+    let t = text_at layout image lines k Boot (record {
+      session = Live (booted layout off);
+      kernel = new_kernel;
+      text = text;
+    })
+    (slice_get_within lines k Boot at) (sym (get_or_from_slice_get lines k Boot Boot at)) none done in
+    let all : whole r.texts ++ last ≡ front r.texts k ++ text ++ (t.more ++ last) =
+    ap (λ (xs : Text). xs ++ last) t.is ∙ append_assoc (front r.texts k ++ text) t.more last in
+    record {
+      text = text;
+      shows = shows_boot layout image (take k lines) off session (reads k off session) (written k);
+      rest = t.more ++ last;
+      put = rw all at put;
+    }
+
 -- a script is too long, or is done line by line
 long_by : (layout : List Zone) (image script : List ℕ) → nat_lt script_limit (length script) ≡ true
     → wanted_run layout image script ≡ stops TooLong
@@ -214,21 +250,41 @@ lines_by : (layout : List Zone) (image script : List ℕ) (lines : List Line)
     → wanted_run layout image script ≡ wanted_lines (ran layout image lines)
 lines_by layout image script lines e good = rw (e, good) refl
 
-too_long : (w : Wanted) → w ≡ stops TooLong → w.end ≡ Ok tt → ⊥
-too_long w e h = let clash : Err TooLong ≡ Ok tt = sym (ap (λ (x : Wanted). x.end) e) ∙ h in cc
+-- a script that is too long has status 8
+too_long : (w : Wanted) (n : ℕ) → w ≡ stops TooLong → status_of w.end ≡ n → n ≢ 8 → ⊥
+too_long w n e h other = other (sym h ∙ ap (λ (x : Wanted). status_of x.end) e)
 
--- what a run that did all puts at a boot
+-- ---- what a run puts at its boots
+
+-- the end of a run with a status
+ten : (e : End) → status_of e ≡ 10 → (s : Stop) × (e ≡ Err s)
+ten (Ok u) h = absurd (omega (arith, h))
+ten (Err s) h = (s, refl)
+
+not_free : (a b : Outside) (status : ℕ) → status ≡ 10 → IsFree a b status → ⊥
+not_free a b status is (inl h) = omega (arith, is, h)
+not_free a b status is (inr (inl h)) = omega (arith, is, h.0)
+not_free a b status is (inr (inr (inl h))) = omega (arith, is, h.0)
+not_free a b status is (inr (inr (inr h))) = omega (arith, is, h.0)
+
+wanted_status : (a b : Outside) (status : ℕ) (w : Wanted) → status ≡ 10
+    → (status ≡ status_of w.end) ⊎ IsFree a b status → status_of w.end ≡ 10
+wanted_status a b status w is (inl h) = sym h ∙ is
+wanted_status a b status w is (inr h) = absurd (not_free a b status is h)
+
 module _ (plan : RamPlan) (bytes script : List ℕ) (lines : List Line) (is : plan.command ≡ RunScript)
     (long : mem_of plan ≤ length bytes) (good : script_of script ≡ Ok lines) where
   abbrev image : List ℕ
   image = take (mem_of plan) bytes
 
-  -- the script was not too long, and no line was refused
-  lines_wanted : (t : Bool) → nat_lt script_limit (length script) ≡ t → (wanted plan bytes script).end ≡ Ok tt
+  -- the script was not too long
+  lines_wanted : (t : Bool) (n : ℕ) → nat_lt script_limit (length script) ≡ t
+      → status_of (wanted plan bytes script).end ≡ n → n ≢ 8
       → wanted plan bytes script ≡ wanted_lines (ran plan.zones image lines)
-  lines_wanted true e h = absurd (too_long (wanted plan bytes script)
-      (run_wanted plan bytes script is long ∙ long_by plan.zones image script e) h)
-  lines_wanted false e h = run_wanted plan bytes script is long ∙ lines_by plan.zones image script lines e good
+  lines_wanted true n e h other = absurd (too_long (wanted plan bytes script) n
+      (run_wanted plan bytes script is long ∙ long_by plan.zones image script e) h other)
+  lines_wanted false n e h other =
+      run_wanted plan bytes script is long ∙ lines_by plan.zones image script lines e good
 
   none_refused : (c : Option Cause) (n : ℕ) → script_end n c ≡ Ok tt → c ≡ None
   none_refused None n h = refl
@@ -236,30 +292,36 @@ module _ (plan : RamPlan) (bytes script : List ℕ) (lines : List Line) (is : pl
 
   boots_shown : (a b : Outside) → (wanted plan bytes script).end ≡ Ok tt
       → Appends a.given b.given (whole (wanted plan bytes script).texts) → BootsRead plan.zones image lines
+      → ((k : ℕ) → ScriptReadsWritten plan.zones image (take k lines))
       → BootsShown plan.zones image lines a.given b.given
-  boots_shown a b end put reads k off at session =
-      let w = lines_wanted (nat_lt script_limit (length script)) refl end in
+  boots_shown a b end put reads written =
+      let w = lines_wanted (nat_lt script_limit (length script)) 0 refl (ap status_of end) (λ e. omega (arith, e)) in
       let r = ran plan.zones image lines in
       let ended : script_end (length r.texts) r.refused ≡ Ok tt = rw w at end in
       let all : Appends a.given b.given (whole r.texts) = rw w at put in
-      let text = boot_text (saved_logs plan.zones (booted plan.zones off)) (report plan.zones off) in
-      let before = ran plan.zones image (take k lines) in
-      let done : line_done plan.zones before.session before.kernel Boot
-      ≡ Ok (record { session = Live (booted plan.zones off); kernel = new_kernel; text = text }) =
-      rw session (boot_done plan.zones off before.kernel) in
-      let t = text_at plan.zones image lines k Boot (record {
-        session = Live (booted plan.zones off);
-        kernel = new_kernel;
-        text = text;
-      })
-      (slice_get_within lines k Boot at) (sym (get_or_from_slice_get lines k Boot Boot at))
-      (none_refused r.refused (length r.texts) ended) done in
-      record {
-        text = text;
-        shows = shows_boot plan.zones off (reads k off session);
-        rest = t.more;
-        put = rw t.is at all;
-      }
+      boots_put plan.zones image lines [] a.given b.given (none_refused r.refused (length r.texts) ended)
+      (rw (append-nil (whole r.texts)) all) reads written
+
+  -- the same before a refused line
+  boots_shown_before : (a b : Outside) (status : ℕ) → status ≡ 10 → Answers (wanted plan bytes script) a b status
+      → BootsRead plan.zones image lines → ((k : ℕ) → ScriptReadsWritten plan.zones image (take k lines))
+      → BootsShown plan.zones image (done_lines plan.zones image lines) a.given b.given
+  boots_shown_before a b status ten_is answers reads written =
+      let ends = wanted_status a b status (wanted plan bytes script) ten_is answers.exact in
+      let w = lines_wanted (nat_lt script_limit (length script)) 10 refl ends (λ e. omega (arith, e)) in
+      let stop = ten (wanted plan bytes script).end ends in
+      let put = answers.refused stop.0 stop.1 (not_free a b status ten_is) in
+      let r = ran plan.zones image lines in
+      let n : ℕ = length r.texts in
+      let d = done_are plan.zones image lines in
+      let all : Appends a.given b.given (whole r.texts ++ last_line stop.0) =
+      subst (λ (t : List Text). Appends a.given b.given (whole t ++ last_line stop.0)) (ap (λ (x : Wanted). x.texts) w)
+      put in
+      boots_put plan.zones image (done_lines plan.zones image lines) (last_line stop.0) a.given b.given d.none
+      (rw d.texts all)
+      (λ k off at. (let f = front_take k n lines in reads f.0 off (rw f.1 at at)))
+      (λ k. (let f = front_take k n lines in
+      subst (ScriptReadsWritten plan.zones image) (sym f.1) (written f.0)))
 
 -- the crashes of a script, by their law
 crashes_listed : LaterBootListsCrash → (layout : List Zone) (mem : ℕ) (image : List ℕ) (lines : List Line)
@@ -354,13 +416,19 @@ run_reads law o (Ok (OfRam plan)) a b status e held answers = λ is. record {
       (read_fields script lines good) in
       let reads : BootsRead plan.zones (take (mem_of plan) bytes) lines =
       λ k off at. sound_state_reads_zones plan.zones (mem_of plan) off lies (rw at at (sound k)) in
+      let written : (k : ℕ) → ScriptReadsWritten plan.zones (take (mem_of plan) bytes) (take k lines) =
+      λ k. scripts_read_written plan.zones (mem_of plan) (take (mem_of plan) bytes) (take k lines) lies size front
+      (take_fit k lines (read_fields script lines good)) in
       let run : RunAnswers plan a b status =
       subst (λ (c : RamCommand). RamAnswers c plan a b status) is answers.0 in
       record {
         read = reads;
+        written = written;
         crashes = crashes_listed law plan.zones (mem_of plan) (take (mem_of plan) bytes) lines lies size front
             (read_fields script lines good);
         shown = λ zero. let d = (run.whole.told bytes script holds left).done zero in
-            boots_shown plan bytes script lines is long good a b d.0 d.1 reads;
+            boots_shown plan bytes script lines is long good a b d.0 d.1 reads written;
+        shown_before = λ ten_is. boots_shown_before plan bytes script lines is long good a b status ten_is
+            (run.whole.told bytes script holds left) reads written;
       };
 }

@@ -3,6 +3,7 @@ pub mod Shown
 pub mod Booted
 pub mod RecordEnds
 pub mod MakeEnds
+pub mod DoneLines
 pub mod HeadlineReads
 pub mod ScriptEnds
 pub mod WorkEnds

@@ -11,12 +11,14 @@ use Rattle.session_spec.specs.LiveZones.{Target}
 use Rattle.session_spec.specs.Report.{ZoneReport, zone_report}
 use Rattle.session_spec.specs.Headline.{EachOffZone}
 use Rattle.session_laws.specs.ZoneReads.{ReadsZone}
+use Rattle.history_laws.specs.Headline.{ReadsWritten}
 use Rattle.grammar_spec.specs.Fields.{Text}
 use Rattle.grammar_spec.specs.Lines.{script_of}
 use Rattle.grammar_spec.specs.declared.line.Line.{Line}
 use Rattle.grammar_spec.specs.declared.line.Line.TheVariants.{Boot, Crash}
 use Rattle.tool_spec.specs.Texts.{boot_text}
 use Rattle.tool_spec.specs.Scripts.{ran, dump_target, crash_body}
+use Rattle.tool_laws.specs.RamScripts.{script_written, ScriptReadsWritten}
 use Rattle.crash_laws.specs.Lines.{AllSpare}
 use Rattle.crash_laws.specs.Listings.{Lists, crash_record}
 use Rattle.tool_spec.specs.Commands.{RunScript, Plan, OfRam, OfBlk, OfMove, mem_of}
@@ -30,9 +32,10 @@ abbrev pub BootsRead : List Zone → List ℕ → List Line → Type 0
 BootsRead layout image lines = (k : ℕ) (off : OffState)
     → (ran layout image (take k lines)).session ≡ Off off → EachOffZone layout off ReadsZone
 
--- a text is that of a boot: of one reading and one report for each zone, which are the zone's, and that reading and
--- report are as they must be
-pub record ShowsBoot (layout : List Zone) (off : OffState) (text : Text) : Type 0 where
+-- a text is that of a boot after these lines: of one reading and one report for each zone, which are the zone's; that
+-- reading and report are as they must be, and the reading is of what the lines wrote to the zone since its erasure
+pub record ShowsBoot (layout : List Zone) (image : List ℕ) (before : List Line) (off : OffState)
+    (text : Text) : Type 0 where
   pub logs : List Saved
   pub reports : List ZoneReport
   pub is : text ≡ boot_text logs reports
@@ -41,20 +44,26 @@ pub record ShowsBoot (layout : List Zone) (off : OffState) (text : Text) : Type 
       → let now = zone_bytes z off.image in
       (slice_get logs i ≡ Some (z, Some (zone_reading z now)))
       × (slice_get reports i ≡ Some (zone_report z zone now)) × ReadsZone z zone now
+      × ((bytes : List ℕ) → script_written layout image before i z ≡ Some bytes
+      → ReadsWritten z zone.cut zone.stop now bytes)
 
--- after the texts of the lines before it, a line `boot` put this text
-pub record PutsBoot (layout : List Zone) (off : OffState) (texts : List Text) (k : ℕ)
+-- after the texts of the k lines before it, a line `boot` put this text
+pub record PutsBoot (layout : List Zone) (image : List ℕ) (lines : List Line) (off : OffState) (k : ℕ)
     (old new : Option (List ℕ)) : Type 0 where
   pub text : Text
-  pub shows : ShowsBoot layout off text
+  pub shows : ShowsBoot layout image (take k lines) off text
   pub rest : Text
-  pub put : Appends old new (front texts k ++ text ++ rest)
+  pub put : Appends old new (front (ran layout image lines).texts k ++ text ++ rest)
 
 -- so did each
 abbrev pub BootsShown : List Zone → List ℕ → List Line → Option (List ℕ) → Option (List ℕ) → Type 0
 BootsShown layout image lines old new = (k : ℕ) (off : OffState) → slice_get lines k ≡ Some Boot
     → (ran layout image (take k lines)).session ≡ Off off
-    → PutsBoot layout off (ran layout image lines).texts k old new
+    → PutsBoot layout image lines off k old new
+
+-- the lines of a script that were done: all, or those before the one that was refused
+abbrev pub done_lines : List Zone → List ℕ → List Line → List Line
+done_lines layout image lines = take (length (ran layout image lines).texts) lines
 
 -- a crash, lines that leave its zone alone, and a boot stand at the front of a script: if none of them is refused, the
 -- boot lists the crash with its whole body
@@ -68,13 +77,15 @@ CrashesListed layout image lines =
     → Lists layout (ran layout image (before ++ Crash reason time ∷ [] ++ between ++ Boot ∷ [])).session
     (crash_record t.zone time (crash_body layout live (ran layout image before).kernel reason time))
 
--- of the script on the image, if both are told and good: what its boots read, what they list of its crashes, and on
--- status 0 what they put
+-- of the script on the image, if both are told and good: what its boots read, also by what the lines before them wrote;
+-- what they list of its crashes; and what they put, on status 0 all of them, on status 10 those before the refused line
 pub record ScriptReads (layout : List Zone) (image : List ℕ) (lines : List Line) (a b : Outside)
     (status : ℕ) : Type 0 where
   pub read : BootsRead layout image lines
+  pub written : (k : ℕ) → ScriptReadsWritten layout image (take k lines)
   pub crashes : CrashesListed layout image lines
   pub shown : status ≡ 0 → BootsShown layout image lines a.given b.given
+  pub shown_before : status ≡ 10 → BootsShown layout image (done_lines layout image lines) a.given b.given
 
 -- and of a move that is done, what a boot then lists and reads
 abbrev pub RunReads : Result Plan Stop → Outside → Outside → ℕ → Type 0

@@ -5,5 +5,4 @@ pub mod Standing
 pub mod Leaving
 pub mod Wholes
 pub mod Opened
-pub mod Closing
 pub mod Shareable

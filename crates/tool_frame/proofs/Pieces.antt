@@ -1,5 +1,5 @@
 -- An image that is read and written in pieces.
-use Rattle.std.proofs.Common.{◌≡◌, replicate, ℕ, ◌+◌, ◌≤◌, List, [], ◌++◌, length, take, drop, arith, Option, Some, None, IfSome, Result, Ok, Err, OnOk, length-append, zero-add, sym, ◌∙◌, refl}
+use Rattle.std.proofs.Common.{◌≡◌, ◌⊎◌, inl, inr, replicate, ℕ, ◌+◌, ◌≤◌, List, [], ◌++◌, length, take, drop, arith, Option, Some, None, IfSome, Result, Ok, Err, OnOk, length-append, zero-add, sym, ◌∙◌, refl}
 use borrow.Rule.Slice.PartMut.{put_mid}
 use Rattle.std.proofs.lemmas.Slice.{take-put_mid}
 use Rattle.std.proofs.lemmas.List.{take-replicate, replicate-append-replicate, length-replicate}
@@ -7,7 +7,7 @@ use Rattle.std.proofs.lemmas.Grind.{common_steps}
 use Rattle.std.proofs.lemmas.List.{drop-drop}
 use Rattle.std.proofs.Math.Seq.{take-add, take-append_seam, drop-append-add}
 use Rattle.box_io.specs.declared.outside.Failed.{Failed}
-use Rattle.box_io.specs.Outside.{Writes, WritesFront, written}
+use Rattle.box_io.specs.Outside.{next_count, Rose, Writes, WritesFront, written}
 
 -- bytes that were read up to a place, and a piece that was read into the places behind it
 pub read_into : (r : Result (Unit {0}) Failed) (holds : Option (List ℕ)) (at k n m : ℕ) (bytes into : List ℕ)
@@ -95,3 +95,8 @@ zeros_short a b c at n size piece small fits e h front =
       bytes = rw (take-replicate {X = ℕ} (at + m) size 0 within)
           (zeros_next a b c at m (take m piece) least some h front.bytes);
     }
+
+-- how often a store was asked to write, after one more time: a count of 64 bits may stand at its last value
+pub asked_on : (a m b : ℕ) → (m ≡ a) ⊎ Rose a m → b ≡ next_count m → Rose a b
+asked_on a m b (inl same) h = omega (arith, same, h)
+asked_on a m b (inr rose) h = omega (arith, rose, h)

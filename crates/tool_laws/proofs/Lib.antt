@@ -4,3 +4,4 @@ pub mod Sound
 pub mod Steps
 pub mod BlkScripts
 pub mod RamScripts
+pub mod SharedScripts

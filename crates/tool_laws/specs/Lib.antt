@@ -3,3 +3,4 @@ pub mod Steps
 pub mod BlkScripts
 pub mod Crashes
 pub mod RamScripts
+pub mod SharedScripts

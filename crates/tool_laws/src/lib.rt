@@ -5,6 +5,7 @@ ghost use Rattle.tool_laws.specs.Steps.{StepsAddUp, StepsEnd, CallsKeepLogs, NoS
 ghost use Rattle.tool_laws.specs.Scripts.{ScriptStatesAreSound, ScriptsReadLastWritten};
 ghost use Rattle.tool_laws.specs.RamScripts.{RamScriptsAreSessions, ScriptsReadWritten};
 ghost use Rattle.tool_laws.specs.Crashes.{CrashesAreToldWhole};
+ghost use Rattle.tool_laws.specs.SharedScripts.{SharedScriptsReadFullLog};
 ghost use Rattle.tool_laws.specs.BlkScripts.{ScriptsAreSessions, EveryBootListsReading, WholeScriptListsTold, EarlyCutScriptListsBefore};
 
 /// Every state that a script leads to is sound.
@@ -85,4 +86,11 @@ pub fn whole_script_lists_told()
 /// line.
 pub fn early_cut_script_lists_before()
     ensures { EarlyCutScriptListsBefore }
+{}
+
+/// After a script on a shared zone that ends with no call open, the zone reads the last bytes of its log before the
+/// script and of all payloads that the lines reserve. With calls open it differs from that at most at their places. All
+/// bytes that are not the zone's stay.
+pub fn shared_scripts_read_full_log()
+    ensures { SharedScriptsReadFullLog }
 {}

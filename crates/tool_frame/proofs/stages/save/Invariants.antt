@@ -1,11 +1,12 @@
-use Rattle.std.proofs.Common.{◌≡◌, ◌≤◌, ◌-◌, length, take}
-use Rattle.box_io.specs.Outside.{Writes}
+use Rattle.std.proofs.Common.{◌≡◌, ◌⊎◌, ◌≤◌, ◌-◌, length, take}
+use Rattle.box_io.specs.Outside.{Rose, Writes}
 use Rattle.tool_frame.proofs.stages.save.Given as goal
 
 abbrev pub invariant-pieces : goal.invariant-pieces
 invariant-pieces g l = (l.at ≤ length l.bytes) × Writes (g.M.Load.holds l.initial.image) (g.M.Load.holds l.image) 0
     (take l.at l.bytes) × (g.M.Load.faults l.image ≡ g.M.Load.faults l.initial.image)
-    × (g.M.Load.writes l.initial.image ≤ g.M.Load.writes l.image)
+    × ((g.M.Load.writes l.image ≡ g.M.Load.writes l.initial.image)
+    ⊎ Rose (g.M.Load.writes l.initial.image) (g.M.Load.writes l.image))
 
 abbrev pub decreases-pieces : goal.decreases-pieces
 decreases-pieces g l = length l.bytes - l.at

@@ -4,7 +4,7 @@ use Rattle.zone_spec.specs.Reading.{zone_reading}
 use Rattle.session_spec.specs.Zones.{zone_bytes}
 use Rattle.shared_ring.specs.Seen.{SharedSeen}
 use Rattle.shared_ring.proofs.Opened.{closed}
-use Rattle.shared_ring.proofs.Closing.{zone_left, log_left}
+use Rattle.shared_laws.proofs.Closing.{zone_left, log_left}
 use Rattle.shared_ring.proofs.shared.Shared.close.Goals as goal
 
 pub returns-clause-left : goal.returns-clause-left
