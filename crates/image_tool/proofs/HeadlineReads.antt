@@ -59,6 +59,7 @@ use Rattle.crash_laws.proofs.Scripts.{left_fields}
 use Rattle.image_tool.proofs.MoveReads.{IsLaidMove, move_reads}
 use Rattle.image_tool.specs.Headline.{BootsRead, ShowsBoot, CrashesListed, BootsShown, done_lines, RunReads}
 use Rattle.image_tool.proofs.DoneLines.{done_are, front_take}
+use Rattle.image_tool.proofs.SharedReads.{shared_reads}
 
 -- ---- numbers of parameters are small
 
@@ -162,6 +163,40 @@ command_whole (MoveImage to) before words plan h =
 planned_whole : (o : Option Asked) (plan : RamPlan) → planned o ≡ Ok (OfRam plan) → IsLayout plan.zones (mem_of plan)
 planned_whole None plan h = absurd (cc)
 planned_whole (Some a) plan h = command_whole a.command a.before a.params plan h
+
+-- a plan on an image has its parameters' layout, and a zone to share where its command wants one
+abbrev IsPlanned : RamPlan → Type 0
+IsPlanned plan = (layout_of plan.params ≡ Ok plan.zones) × (lacks_zone plan.command plan.params ≡ false)
+
+of_layout : (command : RamCommand) (params : Params) (plan : RamPlan) (o : Result (List Zone) LayoutFault)
+    → layout_of params ≡ o → with_layout command params o ≡ Ok (OfRam plan) → IsPlanned plan
+of_layout command params plan (Ok zones) e h = by (lacks_zone command params) refl h
+  where
+    by : (b : Bool) → lacks_zone command params ≡ b → cond b (Err NoSharedZone)
+        (Ok (OfRam (record { command = command; params = params; zones = zones })))
+        ≡ Ok (OfRam plan) → IsPlanned plan
+    by true f h = absurd (cc)
+    by false f h =
+        let same : record { command = command; params = params; zones = zones } ≡ plan = cc in
+        subst IsPlanned same (e, f)
+of_layout command params plan (Err fault) e h = absurd (cc)
+
+of_params : (command : RamCommand) (before : ℕ) (words : List Text) (plan : RamPlan) (o : Option ParamFault)
+    → with_params command before (ok_unless o (params_of words)) ≡ Ok (OfRam plan) → IsPlanned plan
+of_params command before words plan None h =
+    of_layout command (params_of words) plan (layout_of (params_of words)) refl h
+of_params command before words plan (Some fault) h = absurd (cc)
+
+of_command : (c : Command) (before : ℕ) (words : List Text) (plan : RamPlan)
+    → laid_out c before words ≡ Ok (OfRam plan) → IsPlanned plan
+of_command (OnRam command) before words plan h = of_params command before words plan (first_fault [] words) h
+of_command RunBlkScript before words plan h = absurd (blk_read before words plan (blk_first_fault [] words) h)
+of_command (MoveImage to) before words plan h =
+    absurd (first_read plan (before + length words + 1) before to words (first_fault [] words) h)
+
+planned_is : (o : Option Asked) (plan : RamPlan) → planned o ≡ Ok (OfRam plan) → IsPlanned plan
+planned_is None plan h = absurd (cc)
+planned_is (Some a) plan h = of_command a.command a.before a.params plan h
 
 -- ---- the headline
 
@@ -406,7 +441,7 @@ run_reads law o (Err s) a b status e held answers = tt
 run_reads law o (Ok (OfBlk layout)) a b status e held answers = tt
 run_reads law o (Ok (OfMove plan)) a b status e held answers =
     move_reads plan a b status (planned_move o plan e) held answers.0
-run_reads law o (Ok (OfRam plan)) a b status e held answers = λ is. record {
+run_reads law o (Ok (OfRam plan)) a b status e held answers = (λ is. record {
   told = λ bytes script holds left lines long good.
       let lies = planned_whole o plan e in
       let all : AreBytes bytes = rw holds at held in
@@ -431,4 +466,14 @@ run_reads law o (Ok (OfRam plan)) a b status e held answers = λ is. record {
         shown_before = λ ten_is. boots_shown_before plan bytes script lines is long good a b status ten_is
             (run.whole.told bytes script holds left) reads written;
       };
-}
+}, λ is zero. record {
+  told = λ bytes script holds left lines long good.
+      let all : AreBytes bytes = rw holds at held in
+      let run : RunAnswers plan a b status =
+      subst (λ (c : RamCommand). RamAnswers c plan a b status) is answers.0 in
+      let d = (run.whole.told bytes script holds left).done zero in
+      let p = planned_is o plan e in
+      shared_reads plan is bytes script lines long good p.0
+      (subst (λ (c : RamCommand). lacks_zone c plan.params ≡ false) is p.1) (planned_whole o plan e)
+      (front_size (mem_of plan) bytes long) (AreBytes-take (mem_of plan) bytes all) a b d.0 d.2;
+})

@@ -11,6 +11,7 @@ pub mod Completed
 pub mod MoveEnds
 pub mod SharedEnds
 pub mod Shareable
+mod SharedReads
 pub mod DumpEnds
 pub mod RingTexts
 pub mod MoveReads

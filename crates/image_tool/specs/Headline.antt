@@ -21,7 +21,11 @@ use Rattle.tool_spec.specs.Scripts.{ran, dump_target, crash_body}
 use Rattle.tool_laws.specs.RamScripts.{script_written, ScriptReadsWritten}
 use Rattle.crash_laws.specs.Lines.{AllSpare}
 use Rattle.crash_laws.specs.Listings.{Lists, crash_record}
-use Rattle.tool_spec.specs.Commands.{RunScript, Plan, OfRam, OfBlk, OfMove, mem_of}
+use Rattle.tool_spec.specs.Commands.{RunScript, RunShared, RamPlan, Plan, OfRam, OfBlk, OfMove, after_boot, mem_of}
+use Rattle.tool_spec.specs.SharedScripts.{zone_to_share}
+use Rattle.tool_laws.specs.SharedScripts.{ReadsShared}
+use Rattle.session_spec.specs.Stop.{stopped}
+use Rattle.box_io.specs.Outside.{Writes}
 use Rattle.tool_spec.specs.Answers.{Outside, IfHolds, IfTold, front}
 use Rattle.tool_spec.specs.declared.Stop.{Stop}
 use Rattle.image_tool.specs.Moves.{Moves}
@@ -87,11 +91,28 @@ pub record ScriptReads (layout : List Zone) (image : List ℕ) (lines : List Lin
   pub shown : status ≡ 0 → BootsShown layout image lines a.given b.given
   pub shown_before : status ≡ 10 → BootsShown layout image (done_lines layout image lines) a.given b.given
 
--- and of a move that is done, what a boot then lists and reads
-abbrev pub RunReads : Result Plan Stop → Outside → Outside → ℕ → Type 0
-RunReads (Ok (OfRam plan)) a b status = plan.command ≡ RunScript → IfTold a
+-- a script was done on the shared zone of an image that was booted and stopped before: what was written at the front
+-- of the store, and what a reader finds in it
+pub record SharedReads (layout : List Zone) (image : List ℕ) (lines : List Line) (a b : Outside) : Type 0 where
+  pub zone : Zone
+  pub named : zone_to_share layout ≡ Some zone
+  pub left : List ℕ
+  pub written : Writes a.holds b.holds 0 left
+  pub reads : ReadsShared zone (stopped layout (after_boot layout image)).image lines left
+
+-- of a script on an image; of one on a shared zone that is done; and of a move that is done, what a boot then lists and
+-- reads
+abbrev pub RamReads : RamPlan → Outside → Outside → ℕ → Type 0
+RamReads plan a b status =
+    (plan.command ≡ RunScript → IfTold a
     (λ bytes script. (lines : List Line) → mem_of plan ≤ length bytes → script_of script ≡ Ok lines
-    → ScriptReads plan.zones (take (mem_of plan) bytes) lines a b status)
+    → ScriptReads plan.zones (take (mem_of plan) bytes) lines a b status))
+    × (plan.command ≡ RunShared → status ≡ 0 → IfTold a
+    (λ bytes script. (lines : List Line) → mem_of plan ≤ length bytes → script_of script ≡ Ok lines
+    → SharedReads plan.zones (take (mem_of plan) bytes) lines a b))
+
+abbrev pub RunReads : Result Plan Stop → Outside → Outside → ℕ → Type 0
+RunReads (Ok (OfRam plan)) a b status = RamReads plan a b status
 RunReads (Ok (OfBlk layout)) a b status = ⊤
 RunReads (Ok (OfMove plan)) a b status = status ≡ 0 → IfHolds a (λ bytes. Moves plan bytes b)
 RunReads (Err s) a b status = ⊤
