@@ -167,6 +167,12 @@ pub record IsShort (zones : List Zone) (index : ℕ) (image : List ℕ) : Type 0
   pub is : slice_get zones index ≡ Some zone
   pub short : length image < zone.at + zone.size
 
+-- there is such a zone, and the image has it
+pub record HasZone (zones : List Zone) (index : ℕ) (image : List ℕ) : Type 0 where
+  pub zone : Zone
+  pub is : slice_get zones index ≡ Some zone
+  pub within : zone.at + zone.size ≤ length image
+
 -- nothing was written
 pub record Kept (old new : List ℕ) (before after : ZoneAnswer) : Type 0 where
   pub log : new ≡ old
@@ -177,7 +183,7 @@ ReadsZone Done zones index image old new before after = OfZone Done zones index 
 ReadsZone Room zones index image old new before after = OfZone Room zones index image old new after
 ReadsZone Short zones index image old new before after = IsShort zones index image × Kept old new before after
 ReadsZone Argument zones index image old new before after = (length zones ≤ index) × Kept old new before after
-ReadsZone Memory zones index image old new before after = Kept old new before after
+ReadsZone Memory zones index image old new before after = HasZone zones index image × Kept old new before after
 ReadsZone other zones index image old new before after = ⊥
 
 -- of the text's layout
