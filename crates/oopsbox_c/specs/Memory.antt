@@ -13,6 +13,9 @@ image_bytes s = s.bytes.items
 abbrev pub image_faults : Image → ℕ
 image_faults s = s.faults
 
+abbrev pub image_writes : Image → ℕ
+image_writes s = s.writes
+
 abbrev pub text_bytes : Text → List ℕ
 text_bytes s = s.bytes.items
 

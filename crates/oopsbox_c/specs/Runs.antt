@@ -14,9 +14,10 @@ use Rattle.oopsbox_c.specs.declared.running.Lengths.{Lengths}
 pub record IsRun (words : List Text) (script image : List ℕ) (status : ℕ) (after text : List ℕ) : Type 0 where
   pub left : List ℕ
   pub image_faults : ℕ
+  pub writes : ℕ
   pub text_faults : ℕ
-  pub runs : Runs words (outside (Some script) 0 (Some image) 0 (Some []) 0)
-      (outside (Some left) 0 (Some after) image_faults (Some text) text_faults) status
+  pub runs : Runs words (outside (Some script) 0 (Some image) 0 0 (Some []) 0)
+      (outside (Some left) 0 (Some after) image_faults writes (Some text) text_faults) status
   pub statuses : status ≤ 10
   pub script_works : status ≢ 5
   pub image_fault : status ≡ 6 → Rose 0 image_faults

@@ -3,7 +3,7 @@ ghost use Rattle.std.specs.Prelude.{◌≡◌, ◌+◌, ◌-◌, ◌<◌, ◌≤
 ghost use Rattle.box_io.specs.Bytes.{AreBytes, AreBytes-drop};
 ghost use Rattle.box_io.specs.Outside.{written};
 
-use box_io::{Bytes, Failed, Sink, Source, Store};
+use box_io::{Bytes, Failed, Load, Sink, Source, Store};
 use std::alloc::Global;
 
 /// The bytes of a script. It never fails.
@@ -59,19 +59,22 @@ impl Source for Script {
 pub struct Image {
     bytes: Vec<u8>,
     faults: u64,
+    writes: u64,
     ghost of_bytes: { AreBytes bytes.items },
 }
 
 impl Image {
-    ghost use Rattle.oopsbox_c.specs.Memory.{image_bytes, image_faults};
+    ghost use Rattle.oopsbox_c.specs.Memory.{image_bytes, image_faults, image_writes};
 
     pub fn new(bytes: Bytes) -> Image
         ensures bytes { image_bytes result ≡ bytes }
         ensures faults { image_faults result ≡ 0 }
+        ensures writes { image_writes result ≡ 0 }
     {
         Image {
             bytes: bytes.into_vec(),
             faults: 0,
+            writes: 0,
         }
     }
 
@@ -94,10 +97,14 @@ fn overwrite(bytes: &mut Vec<u8>, at: usize, with: &[u8])
     bytes.extend_from_slice(&with[over..]).unwrap();
 }
 
-impl Store for Image {
+impl Load for Image {
     ghost holds = { λ s. Some s.bytes.items };
 
     ghost faults = { λ s. s.faults };
+
+    ghost writes = { λ s. s.writes };
+
+    ghost read_faults = { λ _. 0 };
 
     ghost held_bytes = { λ s. s.of_bytes };
 
@@ -110,8 +117,11 @@ impl Store for Image {
         into.copy_from_slice(&self.bytes[at..at + into.len()]);
         Ok(())
     }
+}
 
+impl Store for Image {
     fn write_at(&mut self, at: u64, bytes: &[u8]) -> Result<(), Failed> {
+        self.writes = self.writes.saturating_add(1);
         let at = at as usize;
         let over = bytes.len().min(self.bytes.len() - at);
         if self.bytes.reserve(bytes.len() - over).is_err() {
