@@ -6,9 +6,8 @@ use Rattle.session_spec.specs.Headline.{EachOffZone, ReadsLastWritten}
 use Rattle.grammar_spec.specs.declared.line.Line.{Line}
 use Rattle.tool_spec.specs.Scripts.{ran}
 
--- behind each line of a script, where the machine is then off, the next boot reads the last bytes written of
--- each idle zone, and in a zone whose call a stop cut only touched blocks and the header, both reported, make
--- a difference
+-- after each line of a script, if the machine is then off, the next boot reads of each idle zone what it was told, and
+-- in a zone whose call a stop cut only touched blocks and the header make a difference
 abbrev pub ScriptReadsLastWritten : List Zone → List ℕ → List Line → Type 0
 ScriptReadsLastWritten layout image lines = (k : ℕ) (off : OffState)
     → (ran layout image (take k lines)).session ≡ Off off → EachOffZone layout off ReadsLastWritten
