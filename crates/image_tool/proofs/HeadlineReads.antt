@@ -441,39 +441,42 @@ run_reads law o (Err s) a b status e held answers = tt
 run_reads law o (Ok (OfBlk layout)) a b status e held answers = tt
 run_reads law o (Ok (OfMove plan)) a b status e held answers =
     move_reads plan a b status (planned_move o plan e) held answers.0
-run_reads law o (Ok (OfRam plan)) a b status e held answers = (λ is. record {
-  told = λ bytes script holds left lines long good.
-      let lies = planned_whole o plan e in
-      let all : AreBytes bytes = rw holds at held in
-      let size = front_size (mem_of plan) bytes long in
-      let front : AreBytes (take (mem_of plan) bytes) = AreBytes-take (mem_of plan) bytes all in
-      let sound = states_sound plan.zones (mem_of plan) (take (mem_of plan) bytes) lines lies size front
-      (read_fields script lines good) in
-      let reads : BootsRead plan.zones (take (mem_of plan) bytes) lines =
-      λ k off at. sound_state_reads_zones plan.zones (mem_of plan) off lies (rw at at (sound k)) in
-      let written : (k : ℕ) → ScriptReadsWritten plan.zones (take (mem_of plan) bytes) (take k lines) =
-      λ k. scripts_read_written plan.zones (mem_of plan) (take (mem_of plan) bytes) (take k lines) lies size front
-      (take_fit k lines (read_fields script lines good)) in
-      let run : RunAnswers plan a b status =
-      subst (λ (c : RamCommand). RamAnswers c plan a b status) is answers.0 in
-      record {
-        read = reads;
-        written = written;
-        crashes = crashes_listed law plan.zones (mem_of plan) (take (mem_of plan) bytes) lines lies size front
-            (read_fields script lines good);
-        shown = λ zero. let d = (run.whole.told bytes script holds left).done zero in
-            boots_shown plan bytes script lines is long good a b d.0 d.1 reads written;
-        shown_before = λ ten_is. boots_shown_before plan bytes script lines is long good a b status ten_is
-            (run.whole.told bytes script holds left) reads written;
-      };
-}, λ is zero. record {
-  told = λ bytes script holds left lines long good.
-      let all : AreBytes bytes = rw holds at held in
-      let run : RunAnswers plan a b status =
-      subst (λ (c : RamCommand). RamAnswers c plan a b status) is answers.0 in
-      let d = (run.whole.told bytes script holds left).done zero in
-      let p = planned_is o plan e in
-      shared_reads plan is bytes script lines long good p.0
-      (subst (λ (c : RamCommand). lacks_zone c plan.params ≡ false) is p.1) (planned_whole o plan e)
-      (front_size (mem_of plan) bytes long) (AreBytes-take (mem_of plan) bytes all) a b d.0 d.2;
-})
+run_reads law o (Ok (OfRam plan)) a b status e held answers = (
+  λ is. record {
+    told = λ bytes script holds left lines long good.
+        let lies = planned_whole o plan e in
+        let all : AreBytes bytes = rw holds at held in
+        let size = front_size (mem_of plan) bytes long in
+        let front : AreBytes (take (mem_of plan) bytes) = AreBytes-take (mem_of plan) bytes all in
+        let sound = states_sound plan.zones (mem_of plan) (take (mem_of plan) bytes) lines lies size front
+        (read_fields script lines good) in
+        let reads : BootsRead plan.zones (take (mem_of plan) bytes) lines =
+        λ k off at. sound_state_reads_zones plan.zones (mem_of plan) off lies (rw at at (sound k)) in
+        let written : (k : ℕ) → ScriptReadsWritten plan.zones (take (mem_of plan) bytes) (take k lines) =
+        λ k. scripts_read_written plan.zones (mem_of plan) (take (mem_of plan) bytes) (take k lines) lies size front
+        (take_fit k lines (read_fields script lines good)) in
+        let run : RunAnswers plan a b status =
+        subst (λ (c : RamCommand). RamAnswers c plan a b status) is answers.0 in
+        record {
+          read = reads;
+          written = written;
+          crashes = crashes_listed law plan.zones (mem_of plan) (take (mem_of plan) bytes) lines lies size front
+              (read_fields script lines good);
+          shown = λ zero. let d = (run.whole.told bytes script holds left).done zero in
+              boots_shown plan bytes script lines is long good a b d.0 d.1 reads written;
+          shown_before = λ ten_is. boots_shown_before plan bytes script lines is long good a b status ten_is
+              (run.whole.told bytes script holds left) reads written;
+        };
+  },
+  λ is zero. record {
+    told = λ bytes script holds left lines long good.
+        let all : AreBytes bytes = rw holds at held in
+        let run : RunAnswers plan a b status =
+        subst (λ (c : RamCommand). RamAnswers c plan a b status) is answers.0 in
+        let d = (run.whole.told bytes script holds left).done zero in
+        let p = planned_is o plan e in
+        shared_reads plan is bytes script lines long good p.0
+        (subst (λ (c : RamCommand). lacks_zone c plan.params ≡ false) is p.1) (planned_whole o plan e)
+        (front_size (mem_of plan) bytes long) (AreBytes-take (mem_of plan) bytes all) a b d.0 d.2;
+  },
+)

@@ -7,11 +7,12 @@ pub mod DoneLines
 pub mod HeadlineReads
 pub mod ScriptEnds
 pub mod WorkEnds
+pub mod RunEnds
 pub mod Completed
 pub mod MoveEnds
 pub mod SharedEnds
 pub mod Shareable
-mod SharedReads
+pub mod SharedReads
 pub mod DumpEnds
 pub mod RingTexts
 pub mod MoveReads

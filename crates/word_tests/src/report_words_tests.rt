@@ -31,19 +31,55 @@ fn lines_as_the_kernel_reads_them(rt: HostRuntime) {
     for (line, wanted) in [
         (b"".as_slice(), "[]"),
         (b" \t\x0b\x0c\r\n ".as_slice(), "[]"),
-        (b"quiet\tramoops.ecc=1\nramoops.cpus=2\n".as_slice(), "[\"ramoops.ecc=1\", \"ramoops.cpus=2\"]"),
+        (
+            b"quiet\tramoops.ecc=1\nramoops.cpus=2\n".as_slice(),
+            "[\"ramoops.ecc=1\", \"ramoops.cpus=2\"]",
+        ),
         (b"quiet\xa0ramoops.ecc=1".as_slice(), "[\"ramoops.ecc=1\"]"),
-        (b"\"ramoops.ecc=1\" \"ramoops.cpus=\"2\"\"".as_slice(), "[\"ramoops.ecc=1\", \"ramoops.cpus=2\\\"\"]"),
-        (b"ramoops.mem_size=\"0x100000\"".as_slice(), "[\"ramoops.mem_size=0x100000\"]"),
-        (b"ramoops.mem_size=\"\"".as_slice(), "[\"ramoops.mem_size=\"]"),
-        (b"ramoops.mem_size=0x1\"0\"".as_slice(), "[\"ramoops.mem_size=0x1\\\"0\\\"\"]"),
-        (b"a=\"b ramoops.ecc=2\" ramoops.ecc=1".as_slice(), "[\"ramoops.ecc=1\"]"),
-        (b"a=b\"c ramoops.ecc=2\"d ramoops.ecc=1".as_slice(), "[\"ramoops.ecc=1\"]"),
-        (b"ramoops.mem-size=1-2 ramoops.max-reason=2".as_slice(), "[\"ramoops.mem_size=1-2\"]"),
-        (b"ramoops.ecc=1 -- ramoops.cpus=2".as_slice(), "[\"ramoops.ecc=1\"]"),
-        (b"ramoops.ecc=1 \"--\" ramoops.cpus=2".as_slice(), "[\"ramoops.ecc=1\"]"),
-        (b"ramoops.ecc=1 --x ramoops.cpus=2".as_slice(), "[\"ramoops.ecc=1\", \"ramoops.cpus=2\"]"),
-        (b"ramoops.mem_name=\"\xff\" ramoops.ecc=1".as_slice(), "[\"ramoops.ecc=1\"]"),
+        (
+            b"\"ramoops.ecc=1\" \"ramoops.cpus=\"2\"\"".as_slice(),
+            "[\"ramoops.ecc=1\", \"ramoops.cpus=2\\\"\"]",
+        ),
+        (
+            b"ramoops.mem_size=\"0x100000\"".as_slice(),
+            "[\"ramoops.mem_size=0x100000\"]",
+        ),
+        (
+            b"ramoops.mem_size=\"\"".as_slice(),
+            "[\"ramoops.mem_size=\"]",
+        ),
+        (
+            b"ramoops.mem_size=0x1\"0\"".as_slice(),
+            "[\"ramoops.mem_size=0x1\\\"0\\\"\"]",
+        ),
+        (
+            b"a=\"b ramoops.ecc=2\" ramoops.ecc=1".as_slice(),
+            "[\"ramoops.ecc=1\"]",
+        ),
+        (
+            b"a=b\"c ramoops.ecc=2\"d ramoops.ecc=1".as_slice(),
+            "[\"ramoops.ecc=1\"]",
+        ),
+        (
+            b"ramoops.mem-size=1-2 ramoops.max-reason=2".as_slice(),
+            "[\"ramoops.mem_size=1-2\"]",
+        ),
+        (
+            b"ramoops.ecc=1 -- ramoops.cpus=2".as_slice(),
+            "[\"ramoops.ecc=1\"]",
+        ),
+        (
+            b"ramoops.ecc=1 \"--\" ramoops.cpus=2".as_slice(),
+            "[\"ramoops.ecc=1\"]",
+        ),
+        (
+            b"ramoops.ecc=1 --x ramoops.cpus=2".as_slice(),
+            "[\"ramoops.ecc=1\", \"ramoops.cpus=2\"]",
+        ),
+        (
+            b"ramoops.mem_name=\"\xff\" ramoops.ecc=1".as_slice(),
+            "[\"ramoops.ecc=1\"]",
+        ),
     ] {
         let words = shown(rt.alloc(), line);
         match words {

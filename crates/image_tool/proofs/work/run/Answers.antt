@@ -2,9 +2,9 @@ use Rattle.std.proofs.Common.{refl}
 use Rattle.tool_spec.specs.Commands.{asked, plan_of}
 use Rattle.tool_frame.specs.Words.{texts}
 use Rattle.tool_frame.proofs.AnyWords.{work_answers}
-use Rattle.tool_frame.proofs.Counts.{work_untouched, work_writes, work_no_other_fault}
 use Rattle.image_tool.proofs.Completed.{completes}
 use Rattle.image_tool.proofs.HeadlineReads.{run_reads}
+use Rattle.image_tool.proofs.RunEnds.{run_leaves}
 use Rattle.image_tool.proofs.Due.{last_line_put}
 use Rattle.image_tool.proofs.work.run.Goals as goal
 
@@ -14,13 +14,12 @@ returns-clause-runs g c =
     let work = c.do_work-end.ensures.work in
     let answers = work_answers plan _ _ _ _ _ (record { left = refl; source = refl })
     (record { holds = refl; store = refl }) work c.finish.ensures in
+    let leaves = run_leaves plan _ _ _ _ _ (record { left = refl; source = refl })
+    (record { holds = refl; store = refl }) refl work c.finish.ensures in
     record {
-      untouched = work_untouched plan _ _ _ _ _ (record { left = refl; source = refl })
-          (record { holds = refl; store = refl }) work c.finish.ensures;
-      writes = work_writes plan _ _ _ _ _ (record { left = refl; source = refl })
-          (record { holds = refl; store = refl }) work c.finish.ensures refl;
-      faults = work_no_other_fault plan _ _ _ _ _ (record { left = refl; source = refl })
-          (record { holds = refl; store = refl }) work c.finish.ensures;
+      untouched = leaves.untouched;
+      writes = leaves.writes;
+      faults = leaves.faults;
       answers = answers;
       complete = completes (texts c.args.words.now) _ _ _ answers;
       reads = run_reads c.later_boot_lists_crash.ensures (asked (texts c.args.words.now)) _ _ _ _ refl
