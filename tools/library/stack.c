@@ -72,12 +72,12 @@ static void *zone(void *unused)
 
 static void *runs(void *unused)
 {
-	check(run("run", "boot\ncrash 7 8 panic\nwrite console 616263\nboot\n") <= 10, "run");
+	check(run("run", "boot\nkmsg 6f6e65\ncrash Panic 7 8\nstop\nboot\nwrite console 616263\nstop\n") == OOPSBOX_DONE, "run");
 	check(run("list", "") == OOPSBOX_DONE, "list");
 	check(run("extract console-ramoops-0", "") == OOPSBOX_DONE, "extract");
 	check(run("make 7", "") == OOPSBOX_DONE, "make");
 	check(run("layout", "") == OOPSBOX_DONE, "layout");
-	check(run("salvage", "") <= 10, "salvage");
+	check(run("salvage", "") == OOPSBOX_DONE, "salvage");
 	check(run("blank", "") == OOPSBOX_DONE, "blank");
 	return unused;
 }
