@@ -84,7 +84,7 @@ fn lines_as_the_kernel_reads_them(rt: HostRuntime) {
         let words = shown(rt.alloc(), line);
         match words {
             Ok(text) => assert_eq!(rt; text.as_str(), wanted),
-            Err(fault) => panic!(rt; "{fault:?} for {wanted}"),
+            Err(fault) => panic!(rt; "{fault:?}"),
         }
     }
 }
