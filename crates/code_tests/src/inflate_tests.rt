@@ -2,7 +2,6 @@
 // text up to the fault.
 use inflate::*;
 use std::process::Abort;
-use std::test::Fail;
 
 // zlib's level 9 with fixed codes, and with codes of its own.
 const OOPS: [u8; 10] = [0xcb, 0xcf, 0x2f, 0x28, 0x56, 0xc8, 0x87, 0x11, 0x8a, 0];
@@ -99,11 +98,10 @@ fn texts_that_are_too_long(rt: HostRuntime) {
 
 // Run with each allocation refused in turn: the answer is a want of memory, or the text.
 #[test]
-fn a_refused_growth_is_told(rt: HostRuntime) -> Result<(), Fail> {
+fn a_refused_growth_is_told(rt: HostRuntime) {
     match inflate(rt.alloc(), &LETTERS, 100) {
         Ok(found) => assert_eq!(rt; found.taken, 29),
-        Err(InflateError::Memory) => println!(rt; "no memory")?,
-        Err(_) => panic!(rt; "another fault"),
+        Err(InflateError::Memory) => (),
+        _ => panic!(rt; "another fault"),
     }
-    Ok(())
 }
