@@ -6,6 +6,8 @@ mod gf256_tests;
 #[cfg(test)]
 mod gf_poly_tests;
 #[cfg(test)]
+mod inflate_tests;
+#[cfg(test)]
 mod rs_encode_tests;
 #[cfg(test)]
 mod rs_errors_tests;

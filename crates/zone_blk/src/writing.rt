@@ -15,6 +15,8 @@ use box_io::{Failed, Store};
 // How many zeros are written at once.
 const PIECE: usize = 65_536;
 
+static ZEROS: [u8; PIECE] = [0; PIECE];
+
 /// How many of the next bytes reach the store, and the cut after them.
 #[derive(Clone, Copy)]
 struct Passing {
@@ -142,12 +144,11 @@ fn write_zeros<M: Store>(
     ensures room { HasRoom (zone.at + zone.size) (M.holds store.new) }
     ensures cause { HasCause (M.faults store.old) (M.faults store.new) result }
 {
-    let zeros = [0u8; PIECE];
     let end = zone.at + zone.size;
     let mut at = from;
     'pieces: while at < end {
         let count = (PIECE as u32).min(end - at);
-        match write(store, cut, zone, at, &zeros[..count as usize]) {
+        match write(store, cut, zone, at, &ZEROS[..count as usize]) {
             Ok(()) => at += count,
             Err(Failed) => return Err(Failed),
         }
