@@ -37,7 +37,7 @@ enum {
  * The most bytes of stack that a call takes, its callees in the library included: each of the two calls on a block, and
  * each other call. tools/library-checks measures them on x86-64; no proof says it.
  */
-#define OOPSBOX_STACK_CODES 16384
+#define OOPSBOX_STACK_CODES 24576
 #define OOPSBOX_STACK 65536
 
 /* ---- one block of the Reed-Solomon code; these two calls allocate nothing ---------------------------------------- */
