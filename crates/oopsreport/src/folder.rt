@@ -65,6 +65,21 @@ fn write_whole<F: Write + OpenFile>(file: &mut F, content: &[u8]) -> io::Result<
     file.sync_all()
 }
 
+// What a link answers on a file system without them, as FAT.
+fn has_no_links(kind: ErrorKind) -> bool {
+    matches!(kind, ErrorKind::PermissionDenied | ErrorKind::Unsupported)
+}
+
+// A new file under the record's name, for a file system without links. It goes again if it cannot be written whole.
+fn new_file<R: Files>(rt: &R, path: &str, content: &[u8]) -> io::Result<()> {
+    let mut file = File::create_new(rt, path)?;
+    let written = write_whole(&mut file, content);
+    if written.is_err() {
+        let _gone = fs::remove_file(rt, path);
+    }
+    written
+}
+
 // A file is written under a name of its own and gets the record's name by a link, once it is whole. A link never takes
 // the place of another file. The first name goes in each case; a failure there changes nothing of the record.
 fn make_file<R: Files>(
@@ -81,7 +96,10 @@ fn make_file<R: Files>(
         Err(e) => Err(e),
     };
     let _left = fs::remove_file(rt, own.as_str());
-    made
+    match made {
+        Err(e) if has_no_links(e.kind()) => new_file(rt, path.as_str(), content),
+        made => made,
+    }
 }
 
 impl<R: Files + Drop> Folder for Dir<R> {
