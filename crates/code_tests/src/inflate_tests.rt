@@ -1,5 +1,5 @@
-// Streams that zlib wrote, and streams that it refuses, each with what zlib says: the text and the bytes it takes, or the
-// text up to the fault.
+// Streams that zlib wrote, and streams that it refuses, each with what zlib says: the text and the bytes it takes, or
+// the text up to the fault.
 use inflate::*;
 use std::process::Abort;
 
