@@ -1,5 +1,6 @@
 -- A part's reading, by what the decoder answers of its word
-use Rattle.std.proofs.Common.{◌≡◌, ℕ, zero, suc, ◌+◌, ◌-◌, ◌≤◌, List, [], ◌∷◌, ◌++◌, length, take, drop, refl, sym, ap, subst, ◌∙◌, arith, Option, Some, None, unwrap_or, length-drop, length-take, Bool, IsTrue}
+use Rattle.std.proofs.Common.{◌≡◌, ℕ, zero, suc, ◌+◌, ◌-◌, ◌≤◌, List, [], ◌∷◌, ◌++◌, length, take, drop, refl, sym, ap, subst, ◌∙◌, arith, Option, Some, None, unwrap_or, length-drop, length-take, Bool, true, eqb, IsTrue}
+use Rattle.std.proofs.lemmas.Bool.{eqb-true}
 use Rattle.std.specs.Prelude.{slice_range}
 use Rattle.code_spec.specs.Code.{IsCodeword, nearest, is_codeword, distance, parity_of, the_word, words_of}
 use Rattle.zone_spec.specs.declared.Zone.{Zone}
@@ -22,6 +23,10 @@ nearest-none r w e = ap (λ (k : ℕ). nearest k w) e
 pub codeword-none : (r : ℕ) (w : List ℕ) → r ≡ 0 → IsCodeword r w
 unfolding is_codeword
 codeword-none r w e = ap (λ (k : ℕ). is_codeword k w) e
+
+-- a list that is found empty
+pub none_is : (xs : List ℕ) (e : Bool) → e ≡ eqb (length xs) 0 → e ≡ true → length xs ≡ 0
+none_is xs e h t = eqb-true (length xs) 0 (sym h ∙ t)
 
 -- the front of two lists
 take-front : (xs ys : List ℕ) → take (length xs) (xs ++ ys) ≡ xs

@@ -1,3 +1,6 @@
+ghost use Rattle.std.specs.Prelude.{◌+◌, ◌≤◌, length};
+ghost use Rattle.rs_encode.specs.Lanes.{IsLent};
+
 use rs_encode::*;
 use std::process::Abort;
 
@@ -20,6 +23,34 @@ fn assert_parity(rt: &impl Abort, msg: &[u8], want: &[u8]) {
     assert!(rt; pair.0 && !pair.1, "the second is other at {r}");
     let pair = coder.are_parity_pair(msg, &other[..r], msg, &out[..r]);
     assert!(rt; !pair.0 && pair.1, "the first is other at {r}");
+    assert_parity_by(rt, coder.rows(), msg, want);
+    assert_parity_by(rt, &[], msg, want);
+}
+
+/// The same by a lent table, or by none.
+fn assert_parity_by(rt: &impl Abort, rows: &[u128], msg: &[u8], want: &[u8])
+    requires some { 1 ≤ length want.now }
+    requires few { length want.now ≤ 127 }
+    requires fits { length msg.now + length want.now ≤ 255 }
+    requires table { IsLent (length want.now) rows.now }
+{
+    let r = want.len();
+    let mut out = [7u8; 127];
+    parity_by(rows, msg, &mut out[..r]);
+    assert_eq!(rt; &out[..r], want, "lent at {r}");
+    assert!(rt;
+        is_parity_by(rows, msg, want),
+        "its own parity, lent at {r}"
+    );
+    out[r - 1] ^= 1;
+    assert!(rt;
+        !is_parity_by(rows, msg, &out[..r]),
+        "other parity, lent at {r}"
+    );
+    let pair = are_parity_pair_by(rows, msg, want, msg, &out[..r]);
+    assert!(rt; pair.0 && !pair.1, "the second is other, lent at {r}");
+    let pair = are_parity_pair_by(rows, msg, &out[..r], msg, want);
+    assert!(rt; !pair.0 && pair.1, "the first is other, lent at {r}");
 }
 
 /// 11, 48, 85 and so on, each 37 more than the last.
@@ -31,6 +62,23 @@ pub(crate) fn ramp() -> [u8; 128] {
         next = next.wrapping_add(37);
     }
     msg
+}
+
+/// A table for two symbols, whose generator is x squared + 3 x + 2, in the place of one for 127.
+#[test]
+fn a_table_in_the_place_of_another(rt: HostRuntime) {
+    let mut rows = [0u128; 256];
+    fill_table(127, &mut rows);
+    assert!(rt; rows[1] != 0x0302 << 112u32);
+    fill_table(2, &mut rows);
+    assert!(rt; rows[0] == 0);
+    assert!(rt; rows[1] == 0x0302 << 112u32);
+    assert!(rt; rows[2] == 0x0604 << 112u32);
+    assert!(rt; rows[255] == 0x1ce3 << 112u32);
+    assert!(rt; rows.as_slice() == Parity::new(2).rows());
+    let mut out = [7u8; 2];
+    parity_by(&rows, &[1], &mut out);
+    assert!(rt; out == [3, 2]);
 }
 
 /// The generators themselves, and zeros.

@@ -21,6 +21,7 @@ fn assert_decoded(
         1 <= msg.len() && msg.len() + par.len() <= 255,
         "at most 255 symbols"
     );
+    let coder = Parity::new(par.len());
     let mut buffer = [0u8; 255];
     let word = &mut buffer[..msg.len()];
     word.copy_from_slice(msg);
@@ -28,8 +29,17 @@ fn assert_decoded(
     let answer = decode(word, par, &mut fixes);
     assert!(rt; answer == want, "another answer");
     assert_eq!(rt; &*word, data);
+    assert_places(rt, fixes.as_slice(), places);
+    word.copy_from_slice(msg);
+    let answer = decode_by(coder.rows(), word, par, &mut fixes);
+    assert!(rt; answer == want, "another answer, by a table");
+    assert_eq!(rt; &*word, data);
+    assert_places(rt, fixes.as_slice(), places);
+}
+
+fn assert_places(rt: &impl Abort, fixes: &[Fix], places: &[(u8, u8)]) {
     assert_eq!(rt; fixes.len(), places.len());
-    for (fix, (place, mask)) in fixes.as_slice().iter().zip(places) {
+    for (fix, (place, mask)) in fixes.iter().zip(places) {
         assert_eq!(rt; fix.place, *place);
         assert_eq!(rt; fix.mask, *mask);
     }

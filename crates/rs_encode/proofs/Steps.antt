@@ -1,5 +1,5 @@
 -- The rest of a message, from one symbol to the next
-use Rattle.std.proofs.Common.{◌≡◌, ◌*◌, ◌/◌, ◌%◌, ◌^◌, bit_xor, subst, get_or-drop, length-drop, ℕ, zero, suc, ◌+◌, ◌-◌, ◌<◌, ◌≤◌, List, ◌++◌, ◌∷◌, [], length, get_or, refl, sym, ap, ap₂, ◌∙◌, arith, ◌⊎◌, inl, inr, drop, take, replicate, add-one}
+use Rattle.std.proofs.Common.{◌≡◌, Bool, true≢false, false, eqb, ◌*◌, ◌/◌, ◌%◌, ◌^◌, bit_xor, subst, get_or-drop, length-drop, ℕ, zero, suc, ◌+◌, ◌-◌, ◌<◌, ◌≤◌, List, ◌++◌, ◌∷◌, [], length, get_or, refl, sym, ap, ap₂, ◌∙◌, arith, ◌⊎◌, inl, inr, drop, take, replicate, add-one}
 use Rattle.std.proofs.lemmas.List.{get_or_past, length-replicate, take_more}
 use Rattle.std.proofs.lemmas.Grind.{same_number_lists}
 use Rattle.std.proofs.lemmas.Bool.{cases_lt}
@@ -15,7 +15,7 @@ use Rattle.code_laws.proofs.Steps.{encode_step, zeros_codeword}
 use Rattle.code_laws.proofs.Xor.{xor_zero_r}
 use Rattle.gf256.proofs.Tables.{zeros}
 use Rattle.rs_encode.specs.Generator.{IsGenerator}
-use Rattle.rs_encode.specs.Lanes.{digit, HoldLanes, IsColumn, IsMultiple, IsRest, IsTable}
+use Rattle.rs_encode.specs.Lanes.{digit, HoldLanes, IsColumn, IsMultiple, IsRest, IsTable, IsLent}
 use Rattle.rs_encode.proofs.Lanes.{digit-below, digit-top, digit-zero, moved_last, moved, multiple_sum}
 
 pub low_of : (g : List ℕ) → IsGenerator g → IsLow (drop 1 g)
@@ -177,11 +177,11 @@ one_below x zero h = h
 one_below x (suc j) h = omega arith
 
 -- one more symbol of the message, in one lane
-pub rest_one : (r s f x i : ℕ) (m table : List ℕ) → IsTable s table → s ≡ r → r ≤ 16 → i < length m
+pub rest_one : (r f x i : ℕ) (m table : List ℕ) → IsTable r table → r ≤ 16 → i < length m
     → get_or m i 0 < 256 → x < 2 ^ 128 → f < 256 → f ≡ gf_add (get_or m i 0) (x / 2 ^ 120)
     → IsRest r (take i m) (x ∷ [])
     → IsRest r (take (i + 1) m) (bit_xor (x * 2 ^ 8 % 2 ^ 128) (get_or table f 0) ∷ [])
-rest_one r s f x i m table t e few l bc bx bf ef h =
+rest_one r f x i m table t few l bc bx bf ef h =
     let new : List ℕ = bit_xor (x * 2 ^ 8 % 2 ^ 128) (get_or table f 0) ∷ [] in
     subst (λ (u : List ℕ). IsRest r u new) (sym (take_more m i 0 l))
     (rest_after r (get_or m i 0) f t.generator (take i m) (x ∷ []) new t.is_generator (omega (arith, t.len)) bc
@@ -239,3 +239,9 @@ pub parity_from : (r : ℕ) (m lanes out : List ℕ) → length m + r ≤ 255 �
     → out ≡ parity_of r m
 parity_from r m lanes out l bm bo lo h at =
     rest_is_parity r m out l bm (symbols_each out bo) lo (lanes_codeword r m lanes out lo h at)
+
+-- a table that is lent, where one is
+pub table_lent : (r : ℕ) (rows : List ℕ) (e : Bool) → IsLent r rows → e ≡ eqb (length rows) 0 → e ≡ false
+    → IsTable r rows
+table_lent r rows e (inr t) h f = t
+table_lent r rows e (inl n) h f = absurd (true≢false (sym (h ∙ ap (λ (w : List ℕ). eqb (length w) 0) n) ∙ f))

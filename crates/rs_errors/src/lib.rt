@@ -1,5 +1,7 @@
 //! The decoder of the Reed-Solomon code: the nearest codeword within half the parity, by Euclid's algorithm on the
 //! syndromes, a search of the word's own places, and Forney's masks.
+//!
+//! The steps with buffers of their own are not inlined, so that they take turns on the stack.
 #![tactic(auto)]
 
 ghost use Rattle.std.specs.Prelude.{◌≡◌, ◌≢◌, ◌+◌, ◌-◌, ◌/◌, ◌≤◌, ◌<◌, ◌↔◌, ℕ, ◌++◌, length, slice_index, slice_set, take, drop, reverse, List, true, false, IsTrue, None, unwrap_or};
@@ -8,6 +10,7 @@ ghost use Rattle.code_spec.specs.Code.{value_of, distance, nearest, parity_of};
 ghost use Rattle.code_laws.specs.Polynomials.{poly};
 ghost use Rattle.code_laws.specs.Series.{shift, one, Bytes};
 ghost use Rattle.code_laws.proofs.Symbols.{HasRoots, IsAdded};
+ghost use Rattle.rs_encode.specs.Lanes.{IsLent};
 ghost use Rattle.rs_errors.specs.Decoding.{decoded_by, fixes_by, within};
 ghost use Rattle.rs_errors.specs.Places.{roots_of, gap_ratio};
 ghost use Rattle.rs_errors.specs.Fixes.{Below255, AreFixes, AllInside, fixes_from, PowersBelow, IsDamage, applied, IsWithin, fixes_between, fix_sum};
@@ -16,7 +19,7 @@ ghost use Rattle.rs_errors.specs.Euclid.{IsStep, IsSolution, LeadingZeros};
 use arrayvec::ArrayVec;
 use gf_poly::{rising_values, syndromes, values_at};
 use gf256::{add, alpha_pow, antilog, inv, log, mul, mul_pow_by_bits, pow_ratio};
-use rs_encode::Parity;
+use rs_encode::{Parity, is_parity_by, parity_by};
 
 /// A place of a word, from 0 at its first symbol on, and the mask that corrects it by exclusive-or, which is not 0.
 #[derive(Clone, Copy, Debug, Default, PartialEq, Eq)]
@@ -222,6 +225,7 @@ fn euclid(
 }
 
 /// The locator and the evaluator, up to a factor, where at most t places differ from a codeword.
+#[inline(never)]
 fn solve(t: usize, syndromes: &[u8]) -> Solution
     requires len { length syndromes.now ≡ t + t }
     requires some { 0 < t }
@@ -244,6 +248,7 @@ fn solve(t: usize, syndromes: &[u8]) -> Solution
 
 /// The powers of the word's own places at which the locator is zero, from the highest on: Chien's search,
 /// on 64 places at once.
+#[inline(never)]
 fn own_roots(locator: &[u8], places: usize, powers: &mut ArrayVec<u8, 63>)
     requires some { 0 < length locator.now }
     requires fits { length locator.now ≤ 64 }
@@ -336,6 +341,7 @@ fn evaluated(evaluator: &[u8], powers: &[u8], values: &mut [u8])
     values_at(evaluator, logs, values);
 }
 
+#[inline(never)]
 fn fill(evaluator: &[u8], scale: u8, powers: &[u8], places: usize, fixes: &mut ArrayVec<Fix, 63>)
     requires places { places ≤ 255 }
     requires few { length powers.now ≤ 63 }
@@ -408,21 +414,25 @@ fn add_symbols(word: &mut [u8], other: &[u8])
 }
 
 /// Makes `out` the sum of `par` and the parity of `msg`, all zeros where the two are a codeword.
-fn excess(coder: &Parity, msg: &[u8], par: &[u8], out: &mut [u8])
-    requires coder { coder.now ≡ length par.now }
+fn excess(rows: &[u128], msg: &[u8], par: &[u8], out: &mut [u8])
+    requires some { 1 ≤ length par.now }
+    requires few { length par.now ≤ 127 }
     requires fits { length msg.now + length par.now ≤ 255 }
+    requires table { IsLent (length par.now) rows.now }
     requires len { length out.old ≡ length par.now }
     ensures { IsAdded 1 out.new (parity_of (length par.now) msg.now) par.now }
 {
-    coder.parity(msg, out);
+    parity_by(rows, msg, out);
     add_symbols(out, par);
 }
 
 /// Tells whether the word is no codeword, and then makes `values` its syndromes, which are those of the excess alone.
-fn is_damaged(coder: &Parity, msg: &[u8], par: &[u8], values: &mut [u8]) -> bool
-    requires coder { coder.now ≡ length par.now }
+#[inline(never)]
+fn has_excess(rows: &[u128], msg: &[u8], par: &[u8], values: &mut [u8]) -> bool
+    requires some { 1 ≤ length par.now }
     requires few { length par.now ≤ 127 }
     requires fits { length msg.now + length par.now ≤ 255 }
+    requires table { IsLent (length par.now) rows.now }
     requires len { length values.old ≡ length par.now }
     ensures clean { result ≡ false → HasRoots (length par.now) (msg.now ++ par.now) }
     ensures damaged { result ≡ true → ¬ HasRoots (length par.now) (msg.now ++ par.now) }
@@ -431,12 +441,44 @@ fn is_damaged(coder: &Parity, msg: &[u8], par: &[u8], values: &mut [u8]) -> bool
 {
     let mut buffer = [0u8; 127];
     let out = &mut buffer[..par.len()];
-    excess(coder, msg, par, out);
+    excess(rows, msg, par, out);
     if all_zero(out) {
         return false;
     }
     syndromes(&msg[..0], out, values);
     true
+}
+
+/// Tells whether the word is no codeword, and makes `values` its syndromes: without a table.
+fn has_values(msg: &[u8], par: &[u8], values: &mut [u8]) -> bool
+    requires fits { length msg.now + length par.now ≤ 255 }
+    requires len { length values.old ≡ length par.now }
+    ensures clean { result ≡ false → HasRoots (length par.now) (msg.now ++ par.now) }
+    ensures damaged { result ≡ true → ¬ HasRoots (length par.now) (msg.now ++ par.now) }
+    ensures values { (k : ℕ) → k < length par.now
+        → slice_index values.new k ≡ value_of (msg.now ++ par.now) (gf_pow 2 k) }
+{
+    syndromes(msg, par, values);
+    !all_zero(values)
+}
+
+/// Tells whether the word is no codeword, and then makes `values` its syndromes.
+fn is_damaged(rows: &[u128], msg: &[u8], par: &[u8], values: &mut [u8]) -> bool
+    requires some { 1 ≤ length par.now }
+    requires few { length par.now ≤ 127 }
+    requires fits { length msg.now + length par.now ≤ 255 }
+    requires table { IsLent (length par.now) rows.now }
+    requires len { length values.old ≡ length par.now }
+    ensures clean { result ≡ false → HasRoots (length par.now) (msg.now ++ par.now) }
+    ensures damaged { result ≡ true → ¬ HasRoots (length par.now) (msg.now ++ par.now) }
+    ensures values { result ≡ true → (k : ℕ) → k < length par.now
+        → slice_index values.new k ≡ value_of (msg.now ++ par.now) (gf_pow 2 k) }
+{
+    if rows.is_empty() {
+        has_values(msg, par, values)
+    } else {
+        has_excess(rows, msg, par, values)
+    }
 }
 
 /// The logarithm of a product, by those of its factors.
@@ -532,30 +574,33 @@ fn joined(msg: &[u8], par: &[u8]) -> ArrayVec<u8, 255>
 }
 
 /// Tells whether the word with the fixes is a codeword, by its parity.
-fn is_mended_by_parity(coder: &Parity, msg: &[u8], par: &[u8], fixes: &[Fix]) -> bool
-    requires coder { coder.now ≡ length par.now }
+#[inline(never)]
+fn is_mended_by_parity(rows: &[u128], msg: &[u8], par: &[u8], fixes: &[Fix]) -> bool
+    requires few { length par.now ≤ 127 }
     requires fits { length msg.now + length par.now ≤ 255 }
+    requires table { IsLent (length par.now) rows.now }
     ensures { IsTrue result ↔ HasRoots (length par.now) (applied fixes.now (msg.now ++ par.now)) }
 {
     let mut word = joined(msg, par);
     apply(word.as_mut_slice(), fixes);
     let (front, back) = word.as_slice().split_at(msg.len());
-    coder.is_parity(front, back)
+    is_parity_by(rows, front, back)
 }
 
 /// Tells whether the word with these values, and with the fixes, is a codeword. The values of few fixes take less time
-/// than the parity of a word.
-fn is_mended(coder: &Parity, msg: &[u8], par: &[u8], values: &mut [u8], fixes: &[Fix]) -> bool
-    requires coder { coder.now ≡ length par.now }
+/// than the parity of a word by a table.
+fn is_mended(rows: &[u128], msg: &[u8], par: &[u8], values: &mut [u8], fixes: &[Fix]) -> bool
+    requires few { length par.now ≤ 127 }
     requires fits { length msg.now + length par.now ≤ 255 }
+    requires table { IsLent (length par.now) rows.now }
     requires len { length values.old ≡ length par.now }
     requires values { (k : ℕ) → k < length par.now → slice_index values.old k
         ≡ value_of (msg.now ++ par.now) (gf_pow 2 k) }
     requires inside { AllInside (length msg.now + length par.now) fixes.now }
     ensures { IsTrue result ↔ HasRoots (length par.now) (applied fixes.now (msg.now ++ par.now)) }
 {
-    if fixes.len() > 10 {
-        return is_mended_by_parity(coder, msg, par, fixes);
+    if fixes.len() > 10 && !rows.is_empty() {
+        return is_mended_by_parity(rows, msg, par, fixes);
     }
     add_fixes(values, fixes, msg.len() + par.len());
     all_zero(values)
@@ -563,17 +608,17 @@ fn is_mended(coder: &Parity, msg: &[u8], par: &[u8], values: &mut [u8], fixes: &
 
 /// Finds the fixes that make the codeword within `most` places of the word with these values, where there is one.
 fn corrected(
-    coder: &Parity,
+    rows: &[u128],
     most: usize,
     msg: &[u8],
     par: &[u8],
     values: &mut [u8],
     fixes: &mut ArrayVec<Fix, 63>,
 ) -> bool
-    requires coder { coder.now ≡ length par.now }
     requires some { 1 ≤ length par.now }
     requires few { length par.now ≤ 127 }
     requires fits { length msg.now + length par.now ≤ 255 }
+    requires table { IsLent (length par.now) rows.now }
     requires most { most + most ≤ length par.now }
     requires len { length values.old ≡ length par.now }
     requires values { (k : ℕ) → k < length par.now → slice_index values.old k
@@ -597,11 +642,12 @@ fn corrected(
     if !found {
         return false;
     }
-    is_mended(coder, msg, par, values, fixes.as_slice())
+    is_mended(rows, msg, par, values, fixes.as_slice())
 }
 
 /// Corrects `msg`, read with the parity `par`, to the nearest codeword's data; `fixes` becomes the places of the whole
-/// word that differ, in rising order. This makes an encoder: a caller with many words keeps one for [`decode_with`].
+/// word that differ, in rising order. No table is made, and at most 2 KiB of the stack are taken; with a table, as by
+/// [`decode_by`], most words take less time.
 pub fn decode(msg: &mut [u8], par: &[u8], fixes: &mut ArrayVec<Fix, 63>) -> Decoded
     requires some_par { 1 ≤ length par.now }
     requires few_par { length par.now ≤ 127 }
@@ -612,7 +658,27 @@ pub fn decode(msg: &mut [u8], par: &[u8], fixes: &mut ArrayVec<Fix, 63>) -> Deco
         ≡ take (length msg.old) (unwrap_or (nearest (length par.now) word) word) }
     ensures fixes { let word = msg.old ++ par.now in fixes.new.items ≡ fixes_by word (nearest (length par.now) word) }
 {
-    decode_with(&Parity::new(par.len()), msg, par, fixes)
+    decode_by(&[], msg, par, fixes)
+}
+
+/// As [`decode`], by the rows of the table for as many symbols as `par` has, or by none.
+pub fn decode_by(
+    rows: &[u128],
+    msg: &mut [u8],
+    par: &[u8],
+    fixes: &mut ArrayVec<Fix, 63>,
+) -> Decoded
+    requires some_par { 1 ≤ length par.now }
+    requires few_par { length par.now ≤ 127 }
+    requires some_msg { 1 ≤ length msg.old }
+    requires fits { length msg.old + length par.now ≤ 255 }
+    requires table { IsLent (length par.now) rows.now }
+    ensures answer { let word = msg.old ++ par.now in result ≡ decoded_by word (nearest (length par.now) word) }
+    ensures data { let word = msg.old ++ par.now in msg.new
+        ≡ take (length msg.old) (unwrap_or (nearest (length par.now) word) word) }
+    ensures fixes { let word = msg.old ++ par.now in fixes.new.items ≡ fixes_by word (nearest (length par.now) word) }
+{
+    decode_within_by(rows, par.len() / 2, msg, par, fixes)
 }
 
 /// As [`decode`], with an encoder for as many symbols as `par` has.
@@ -632,7 +698,7 @@ pub fn decode_with(
         ≡ take (length msg.old) (unwrap_or (nearest (length par.now) word) word) }
     ensures fixes { let word = msg.old ++ par.now in fixes.new.items ≡ fixes_by word (nearest (length par.now) word) }
 {
-    decode_within(coder, par.len() / 2, msg, par, fixes)
+    decode_by(coder.rows(), msg, par, fixes)
 }
 
 /// As [`decode_with`], but no more than `most` places are corrected: `Bad` where the nearest codeword differs in more.
@@ -657,13 +723,37 @@ pub fn decode_within(
     ensures fixes { let word = msg.old ++ par.now in
         fixes.new.items ≡ fixes_by word (within most word (nearest (length par.now) word)) }
 {
+    decode_within_by(coder.rows(), most, msg, par, fixes)
+}
+
+/// As [`decode_by`], but no more than `most` places are corrected.
+fn decode_within_by(
+    rows: &[u128],
+    most: usize,
+    msg: &mut [u8],
+    par: &[u8],
+    fixes: &mut ArrayVec<Fix, 63>,
+) -> Decoded
+    requires some_par { 1 ≤ length par.now }
+    requires few_par { length par.now ≤ 127 }
+    requires some_msg { 1 ≤ length msg.old }
+    requires fits { length msg.old + length par.now ≤ 255 }
+    requires table { IsLent (length par.now) rows.now }
+    requires most { most + most ≤ length par.now }
+    ensures answer { let word = msg.old ++ par.now in
+        result ≡ decoded_by word (within most word (nearest (length par.now) word)) }
+    ensures data { let word = msg.old ++ par.now in msg.new
+        ≡ take (length msg.old) (unwrap_or (within most word (nearest (length par.now) word)) word) }
+    ensures fixes { let word = msg.old ++ par.now in
+        fixes.new.items ≡ fixes_by word (within most word (nearest (length par.now) word)) }
+{
     fixes.clear();
     let mut buffer = [0u8; 127];
     let values = &mut buffer[..par.len()];
-    if !is_damaged(coder, msg, par, values) {
+    if !is_damaged(rows, msg, par, values) {
         return Decoded::Clean;
     }
-    if corrected(coder, most, msg, par, values, fixes) {
+    if corrected(rows, most, msg, par, values, fixes) {
         apply(msg, fixes.as_slice());
         let count = fixes.len() as u8;
         Decoded::Fixed(count)

@@ -4,10 +4,9 @@ ghost use Rattle.std.specs.Prelude.{IfSome};
 ghost use Rattle.zone_spec.specs.Zones.{IsValidZone};
 
 use arrayvec::ArrayVec;
-use block_ecc::{Coder, Decoded, Fix, block_parity, header_parity, read_block, read_header};
-use box_io::Bytes;
-use ram_region::{Region, Spans};
-use std::alloc::{AllocError, Global};
+use block_ecc::{
+    Coder, Decoded, Fix, are_codewords, block_parity, header_parity, read_block, read_header,
+};
 use std::test::Fail;
 use zone_params::types::Layout;
 use zone_params::{Params, layout};
@@ -40,14 +39,6 @@ fn image(count: u8) -> [u8; 4096] {
     image
 }
 
-fn spans_of(alloc: Global, layout: &Layout, image: &[u8]) -> Result<Option<Spans>, AllocError> {
-    let bytes = Bytes::copy_of(alloc, image)?;
-    if image.len() != layout.mem() as usize {
-        return Ok(None);
-    }
-    Ok(Region::from_bytes(bytes).cut(layout).ok())
-}
-
 fn zone_of(layout: &Layout) -> Option<Zone>
     ensures { IfSome result IsValidZone }
 {
@@ -59,41 +50,43 @@ fn zone_of(layout: &Layout) -> Option<Zone>
 
 #[test]
 fn parities_of_a_first_record(rt: HostRuntime) -> Result<(), Fail> {
-    let alloc = rt.alloc();
-    let layout = layout(alloc, &PARAMS).map_err(|_| "no layout")?;
+    let layout = layout(rt.alloc(), &PARAMS).map_err(|_| "no layout")?;
     let zone = zone_of(&layout).ok_or("no zone")?;
+    assert!(rt; (zone.size, zone.cap, zone.block) == (4096, 4018, 128));
     let mut out = ArrayVec::new();
-    let spans = spans_of(alloc, &layout, &image(3))?.ok_or("no spans")?;
-    assert!(rt; (spans.all().len(), zone.cap, zone.block) == (1, 4018, 128));
-    assert!(rt; spans.all()[0].len() == zone.size);
-    header_parity(&spans.all()[0], &zone, &mut out);
+    let coder = Coder::new(&zone);
+    let written = image(3);
+    header_parity(coder.table(), &written, &zone, &mut out);
     assert!(rt; out.as_slice() == [0xfb, 0xf9].as_slice());
-    block_parity(&spans.all()[0], &zone, 0, &mut out);
+    header_parity(&[], &written, &zone, &mut out);
+    assert!(rt; out.as_slice() == [0xfb, 0xf9].as_slice());
+    block_parity(coder.table(), &written, &zone, 0, &mut out);
     assert!(rt; out.as_slice() == [0xe3, 0x83].as_slice());
-    let spans = spans_of(alloc, &layout, &image(0))?.ok_or("no spans")?;
-    assert!(rt; spans.all().len() == 1);
-    assert!(rt; spans.all()[0].len() == zone.size);
-    header_parity(&spans.all()[0], &zone, &mut out);
+    block_parity(&[], &written, &zone, 0, &mut out);
+    assert!(rt; out.as_slice() == [0xe3, 0x83].as_slice());
+    header_parity(&[], &image(0), &zone, &mut out);
     assert!(rt; out.as_slice() == [0xe1, 0xe3].as_slice());
     Ok(())
 }
 
 #[test]
 fn a_changed_byte_is_read_as_it_was(rt: HostRuntime) -> Result<(), Fail> {
-    let alloc = rt.alloc();
-    let layout = layout(alloc, &PARAMS).map_err(|_| "no layout")?;
+    let layout = layout(rt.alloc(), &PARAMS).map_err(|_| "no layout")?;
     let zone = zone_of(&layout).ok_or("no zone")?;
+    assert!(rt; (zone.size, zone.cap, zone.block) == (4096, 4018, 128));
     let mut image = image(3);
     image[13] = b'-';
-    let spans = spans_of(alloc, &layout, &image)?.ok_or("no spans")?;
-    assert!(rt; (spans.all().len(), zone.cap, zone.block) == (1, 4018, 128));
-    assert!(rt; spans.all()[0].len() == zone.size);
+    let coder = Coder::new(&zone);
     let mut fixes: ArrayVec<Fix, 63> = ArrayVec::new();
     let mut block = ArrayVec::new();
-    let outcome = read_block(&spans.all()[0], &zone, 0, &mut block, &mut fixes);
+    let outcome = read_block(coder.table(), &image, &zone, 0, &mut block, &mut fixes);
     assert!(rt; outcome == Decoded::Fixed(1));
     assert!(rt; block.as_slice().starts_with(b"abc".as_slice()));
-    let reading = read_header(&spans.all()[0], &zone, &mut fixes);
+    block.clear();
+    let outcome = read_block(&[], &image, &zone, 0, &mut block, &mut fixes);
+    assert!(rt; outcome == Decoded::Fixed(1));
+    assert!(rt; block.as_slice().starts_with(b"abc".as_slice()));
+    let reading = read_header(&[], &image, &zone, &mut fixes);
     assert!(rt; reading.outcome == Decoded::Clean);
     assert!(rt; (reading.words.start, reading.words.size) == (3, 3));
     Ok(())
@@ -101,16 +94,15 @@ fn a_changed_byte_is_read_as_it_was(rt: HostRuntime) -> Result<(), Fail> {
 
 #[test]
 fn a_changed_block_is_no_codeword(rt: HostRuntime) -> Result<(), Fail> {
-    let alloc = rt.alloc();
-    let layout = layout(alloc, &PARAMS).map_err(|_| "no layout")?;
+    let layout = layout(rt.alloc(), &PARAMS).map_err(|_| "no layout")?;
     let zone = zone_of(&layout).ok_or("no zone")?;
+    assert!(rt; (zone.size, zone.cap, zone.block) == (4096, 4018, 128));
     let mut image = image(3);
     image[13] = b'-';
-    let spans = spans_of(alloc, &layout, &image)?.ok_or("no spans")?;
-    assert!(rt; (spans.all().len(), zone.cap, zone.block) == (1, 4018, 128));
-    assert!(rt; spans.all()[0].len() == zone.size);
     let coder = Coder::new(&zone);
-    assert!(rt; coder.are_codewords(&spans.all()[0], &zone, 0) == (false, true));
-    assert!(rt; coder.are_codewords(&spans.all()[0], &zone, 1) == (true, true));
+    assert!(rt; are_codewords(coder.table(), &image, &zone, 0) == (false, true));
+    assert!(rt; are_codewords(coder.table(), &image, &zone, 1) == (true, true));
+    assert!(rt; are_codewords(&[], &image, &zone, 0) == (false, true));
+    assert!(rt; are_codewords(&[], &image, &zone, 1) == (true, true));
     Ok(())
 }

@@ -1,14 +1,13 @@
-use Rattle.std.proofs.Common.{◌+◌, ◌*◌, ℕ, List, drop, refl, ◌∙◌, subst, arith, below_more}
+use Rattle.std.proofs.Common.{◌+◌, ◌*◌, ℕ, List, drop, ◌∙◌, subst, arith, below_more}
 use Rattle.rs_encode.specs.Lanes.{IsColumn}
 use Rattle.std.proofs.lemmas.List.{take_rest}
 use Rattle.rs_encode.proofs.Lanes.{column_kept}
-use Rattle.gf256.proofs.Tables.{zeros}
 use Rattle.rs_encode.proofs.half_table.Goals as goal
 
 pub loop-j-init : goal.loop-j-init
 loop-j-init c = record {
-  len = refl;
-  zero = λ k l. zeros 256 k;
+  len = c.requires.len;
+  zero = λ k l. c.requires.zeros k;
   low = λ j l. absurd (omega arith);
   high = λ j l. absurd (omega arith);
 }
@@ -20,7 +19,7 @@ loop-j-preserved c =
     let b = c.fill_column-in-loop-j.ensures in
     let g : List ℕ = c.args.generator.now in
     let j : ℕ = c.loop-j.j in
-    let t : List ℕ = c.loop-j.table in
+    let t : List ℕ = c.loop-j.rows in
     let m : List ℕ = c.fill_column.new.table in
     let u : List ℕ = c.fill_column-in-loop-j.new.table in
     record {

@@ -1,4 +1,4 @@
-use Rattle.std.proofs.Common.{◌≡◌, ℕ, List, ◌++◌, length, take, drop, take-append-drop, arith, sym, ap, ap₂, ◌∙◌, subst}
+use Rattle.std.proofs.Common.{◌≡◌, ℕ, List, ◌++◌, length, take, drop, take-append-drop, length-drop, length-append, arith, sym, ap, ap₂, ◌∙◌, subst}
 use Rattle.code_laws.proofs.Symbols.{HasRoots}
 use Rattle.code_laws.proofs.Parity.{roots_of, codeword_of}
 use Rattle.gf_poly.proofs.Poly.{refill_same}
@@ -21,11 +21,21 @@ returns c =
     let back : List ℕ = c.split_at.result.1.now in
     let fixed : front ++ back ≡ applied c.args.fixes.now W =
     parts (length c.args.msg.now) front back c.as_slice.result.now c.split_at.ensures.front c.split_at.ensures.back
-    ∙ c.as_slice.ensures.value ∙ whole ∙ c.apply.ensures ∙ ap (applied c.args.fixes.now) em in (
-      (λ h. subst (λ (w : List ℕ). HasRoots (length c.args.par.now) w) fixed
-          (subst (λ (k : ℕ). HasRoots k (front ++ back)) c.requires.coder
-          (roots_of c.args.coder.now (front ++ back) (c.is_parity.ensures.0 h)))),
-      (λ h. c.is_parity.ensures.1 (codeword_of c.args.coder.now (front ++ back)
-          (subst (λ (k : ℕ). HasRoots k (front ++ back)) (sym c.requires.coder)
-          (subst (λ (w : List ℕ). HasRoots (length c.args.par.now) w) (sym fixed) h)))),
+    ∙ c.as_slice.ensures.value ∙ whole ∙ c.apply.ensures ∙ ap (applied c.args.fixes.now) em in
+    let r : ℕ = length c.args.par.now in
+    let same : length back ≡ r = omega (
+      arith,
+      ap length c.split_at.ensures.back,
+      length-drop (length c.args.msg.now) c.as_slice.result.now,
+      ap length (c.as_slice.ensures.value ∙ whole),
+      ln,
+      ap length em,
+      length-append c.args.msg.now c.args.par.now,
+    ) in (
+      (λ h. subst (λ (w : List ℕ). HasRoots r w) fixed
+          (subst (λ (k : ℕ). HasRoots k (front ++ back)) same
+          (roots_of (length back) (front ++ back) (c.is_parity_by.ensures.0 h)))),
+      (λ h. c.is_parity_by.ensures.1 (codeword_of (length back) (front ++ back)
+          (subst (λ (k : ℕ). HasRoots k (front ++ back)) (sym same)
+          (subst (λ (w : List ℕ). HasRoots r w) (sym fixed) h)))),
     )

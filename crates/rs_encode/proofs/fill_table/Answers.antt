@@ -1,0 +1,7 @@
+use Rattle.std.proofs.Common.{ℕ, List, length, get_or, ap, ◌∙◌}
+use Rattle.gf256.proofs.Tables.{zeros}
+use Rattle.rs_encode.proofs.fill_table.Goals as goal
+
+pub table_of-requires-clause-zeros : goal.table_of-requires-clause-zeros
+table_of-requires-clause-zeros c = λ k.
+    ap (λ (w : List ℕ). get_or w k 0) (c.fill.ensures.after (λ y e. e)) ∙ zeros (length c.args.rows.now) k
