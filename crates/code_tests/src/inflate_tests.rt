@@ -11,6 +11,28 @@ const LETTERS: [u8; 29] = [
     0x82, 0x36, 0x84, 0xc5, 0x28, 0xe9, 0x77, 0x63, 0x0e, 0x1d, 0x73,
 ];
 
+// A block with no text, whose two codes have codewords of 15 bits: the longest that there are.
+const LONG_CODES: [u8; 30] = [
+    5, 0xef, 1, 0x82, 0x24, 0x49, 0x92, 0x24, 0x49, 2, 0x12, 0x8b, 0x9a, 0x47, 0x56, 0xcf, 0xde,
+    0xff, 0x9f, 0x7b, 0x80, 0xc4, 0xa2, 0xe6, 0x91, 0xd5, 0xb3, 0x77, 0xff, 0x7f,
+];
+
+// Literals of 1 to 14 bits, and copies from codewords of 15, 15 and 14 bits behind a length's of 15 bits.
+const LONG_CODEWORDS: [u8; 55] = [
+    0x0d, 0xef, 0xdb, 0x82, 0x24, 0x49, 0x92, 0x24, 0xc9, 0x7e, 0x2b, 0x20, 0xb1, 0xa8, 0x79, 0x64,
+    0xf5, 0xec, 0xff, 0x3f, 0x9e, 0xcb, 0x4e, 0x57, 0x86, 0x9b, 0x0a, 0x13, 0x82, 0x76, 0xef, 0xfb,
+    0xfd, 0xfd, 0xfb, 0xef, 0x7f, 0xff, 0xf7, 0xff, 0xfe, 0xbf, 0xff, 0xff, 0xff, 0xef, 0xff, 0xff,
+    0xff, 0xff, 0xff, 0xff, 0x7f, 0xff, 0x3f,
+];
+
+// A block with the fixed codes, that block, and two more with the fixed codes.
+const FIXED_AGAIN: [u8; 62] = [
+    0x4a, 4, 0x30, 0xbc, 0x6f, 0x0b, 0x92, 0x24, 0x49, 0x92, 0x24, 0xfb, 0xad, 0x80, 0xc4, 0xa2,
+    0xe6, 0x91, 0xd5, 0xb3, 0xff, 0xff, 0x78, 0x2e, 0x3b, 0x5d, 0x19, 0x6e, 0x2a, 0x4c, 8, 0xda,
+    0xbd, 0xef, 0xf7, 0xf7, 0xef, 0xbf, 0xff, 0xfd, 0xdf, 0xff, 0xfb, 0xff, 0xfe, 0xff, 0xff, 0xbf,
+    0xff, 0xff, 0xff, 0xff, 0xff, 0xff, 0xff, 0xfd, 0xff, 0x94, 4, 0x58, 0x32, 0,
+];
+
 fn assert_text(rt: &(impl Abort + AllocGlobal), stream: &[u8], text: &[u8], taken: usize) {
     match inflate(rt.alloc(), stream, text.len()) {
         Ok(found) => {
@@ -64,6 +86,32 @@ fn blocks_behind_one_another(rt: HostRuntime) {
     assert_text(&rt, &stream, b"!aaaa", 10);
 }
 
+// No table is larger for codewords of more than ten bits: they are searched for, length by length.
+#[test]
+fn codewords_of_each_length(rt: HostRuntime) {
+    assert_text(&rt, &LONG_CODES, b"", 30);
+    assert_broken(&rt, &LONG_CODES[..29], b"", Fault::EndOfInput);
+    assert_text(&rt, &LONG_CODEWORDS, b"abcdefghijklmnnnnnnnnnn", 55);
+    assert_broken(
+        &rt,
+        &LONG_CODEWORDS[..45],
+        b"abcdefghijklmn",
+        Fault::EndOfInput,
+    );
+    assert_broken(
+        &rt,
+        &LONG_CODEWORDS[..54],
+        b"abcdefghijklmnnnnnnnnnn",
+        Fault::EndOfInput,
+    );
+}
+
+// The fixed codes are kept from block to block.
+#[test]
+fn fixed_codes_again(rt: HostRuntime) {
+    assert_text(&rt, &FIXED_AGAIN, b"aabcdefghijklmnnnnnnnnnnbc", 62);
+}
+
 #[test]
 fn streams_that_break(rt: HostRuntime) {
     for (stream, text, fault) in [
@@ -96,12 +144,17 @@ fn texts_that_are_too_long(rt: HostRuntime) {
     assert_too_long(&rt, &OOPS, 0, b"");
 }
 
-// Run with each allocation refused in turn: the answer is a want of memory, or the text.
-#[test]
-fn a_refused_growth_is_told(rt: HostRuntime) {
-    match inflate(rt.alloc(), &LETTERS, 100) {
-        Ok(found) => assert_eq!(rt; found.taken, 29),
+fn assert_taken_or_memory(rt: &(impl Abort + AllocGlobal), stream: &[u8]) {
+    match inflate(rt.alloc(), stream, 100) {
+        Ok(found) => assert_eq!(rt; found.taken, stream.len()),
         Err(InflateError::Memory) => (),
         _ => panic!(rt; "another fault"),
     }
+}
+
+// Run with each allocation refused in turn: the answer is a want of memory, or the text.
+#[test]
+fn a_refused_growth_is_told(rt: HostRuntime) {
+    assert_taken_or_memory(&rt, &LETTERS);
+    assert_taken_or_memory(&rt, &FIXED_AGAIN);
 }
