@@ -6,6 +6,7 @@ mod logs;
 mod parts;
 mod reading;
 mod settling;
+mod span_parts;
 
 pub use logs::Logs;
 pub use parts::ZoneParts;

@@ -9,6 +9,7 @@ ghost use Rattle.report_spec.specs.Parts.{part_states};
 ghost use Rattle.old_log.specs.Reads.{bytes_read, corrected_of, bad_of, corrected_below, bad_below, states_below};
 
 use crate::parts::{BlockStates, ZoneParts, part_state};
+use crate::span_parts::{are_codewords, read_block, read_header};
 use arrayvec::ArrayVec;
 use block_ecc::{Coder, Decoded, Fix};
 use box_io::Bytes;
@@ -146,7 +147,7 @@ impl Front {
         let _len = span.len();
         let mut block: ArrayVec<u8, 255> = ArrayVec::new();
         let mut fixes: ArrayVec<Fix, 63> = ArrayVec::new();
-        let outcome = coder.read_block(span, zone, b, &mut block, &mut fixes);
+        let outcome = read_block(coder, span, zone, b, &mut block, &mut fixes);
         let len = zone.block.min(size - zone.block * b);
         self.bytes
             .extend_from_slice(&block.as_slice()[..len as usize])?;
@@ -204,7 +205,7 @@ impl Front {
     {
         for pair in 0..count {
             let b = 2 * pair;
-            let (first, second) = coder.are_codewords(span, zone, b);
+            let (first, second) = are_codewords(coder, span, zone, b);
             self.push(coder, span, zone, b, size, first)?;
             self.push(coder, span, zone, b + 1, size, second)?;
         }
@@ -296,7 +297,7 @@ fn read_whole(
     ensures parts { IfOk result (λ r. with_states ≡ true → r.1 ≡ part_states zone.now span.now) }
 {
     let mut fixes: ArrayVec<Fix, 63> = ArrayVec::new();
-    let front = coder.read_header(span, zone, &mut fixes);
+    let front = read_header(coder, span, zone, &mut fixes);
     let counts = counts_of(front.outcome);
     let header = part_state(front.outcome);
     let words = front.words;

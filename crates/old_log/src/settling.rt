@@ -12,6 +12,7 @@ ghost use Rattle.ram_region.specs.CutRegion.{span, with_span};
 ghost use Rattle.old_log.specs.Reads.{bytes_read, read_end};
 
 use crate::reading::{Reading, keeps};
+use crate::span_parts::{header_parity, read_block};
 use arrayvec::ArrayVec;
 use block_ecc::{Coder, Fix};
 use ram_region::{Span, Spans};
@@ -190,7 +191,7 @@ impl Tally {
         let mut parity: ArrayVec<u8, 127> = ArrayVec::new();
         let bytes = &spans.all()[i as usize];
         let _len = bytes.len();
-        coder.header_parity(bytes, zone, &mut parity);
+        header_parity(coder, bytes, zone, &mut parity);
         let at = 12 + zone.cap + zone.blocks * zone.parity;
         self.store_all(spans, i, at, parity.as_slice());
     }
@@ -238,7 +239,7 @@ fn tail_read(coder: &Coder, span: &Span, zone: &Zone, size: u32) -> ArrayVec<u8,
     }
     let mut block: ArrayVec<u8, 255> = ArrayVec::new();
     let mut fixes: ArrayVec<Fix, 63> = ArrayVec::new();
-    let _outcome = coder.read_block(span, zone, size / zone.block, &mut block, &mut fixes);
+    let _outcome = read_block(coder, span, zone, size / zone.block, &mut block, &mut fixes);
     let (_below, tail) = block.as_slice().split_at(within as usize);
     copy_of(tail)
 }

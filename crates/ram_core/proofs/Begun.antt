@@ -14,7 +14,7 @@ use Rattle.session_spec.specs.ZoneCalls.{begun}
 use Rattle.session_spec.specs.LiveZones.{target_of, target_at, target, ring_only, with_zone}
 use Rattle.session_spec.specs.LiveCalls.{Ask, Append, Erase, Dump, call_of, asked_zone, is_barred, begins, begin}
 use Rattle.ram_core.specs.declared.zones.HeldZone.{HeldZone}
-use Rattle.zone_flight.specs.Flying.{Flying}
+use Rattle.store_steps.specs.Flying.{Flying}
 use Rattle.ram_core.specs.LiveSeen.{LiveSeen, StandsForSome, StandsForZone, StandsLive}
 use Rattle.ram_core.specs.Places.{unless_dump, ring_at, place_asked, barred, flies_at}
 use Rattle.ram_core.proofs.Changes.{any_flies}

@@ -6,7 +6,7 @@ use Rattle.std.proofs.lemmas.List.Sums.{sum_by-cons}
 use Rattle.zone_spec.specs.declared.Zone.{Zone}
 use Rattle.zone_spec.specs.declared.Kind.TheVariants.{Dump as DumpKind}
 use Rattle.zone_spec.specs.Records.{is_of}
-use Rattle.zone_flight.specs.Flying.{Flying}
+use Rattle.store_steps.specs.Flying.{Flying}
 use Rattle.ram_core.specs.declared.zones.HeldZone.{HeldZone}
 use Rattle.ram_core.specs.declared.zones.Stored.{Stored}
 use Rattle.ram_core.specs.Places.{dump_flies, dump_flight, dump_flights}

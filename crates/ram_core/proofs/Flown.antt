@@ -15,7 +15,7 @@ use Rattle.session_spec.specs.Sound.{Stands, IsLiveZone}
 use Rattle.session_laws.proofs.Zones.{stepped-sound}
 use Rattle.session_laws.proofs.LiveStates.{with_zone-sound}
 use Rattle.ram_region.specs.CutRegion.{CutRegion, span, with_span}
-use Rattle.zone_flight.specs.Flying.{Flying}
+use Rattle.store_steps.specs.Flying.{Flying}
 use Rattle.ram_core.specs.declared.zones.HeldZone.{HeldZone}
 use Rattle.ram_core.specs.declared.zones.Stored.{Stored}
 use Rattle.ram_core.specs.LiveSeen.{LiveSeen, StandsForSome, StandsForZone, StandsLive, StoresNext}

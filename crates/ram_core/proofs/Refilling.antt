@@ -18,7 +18,7 @@ use Rattle.session_laws.proofs.Zones.{begun-sound}
 use Rattle.session_laws.proofs.LiveStates.{with_zone-sound}
 use Rattle.old_log.proofs.Storing.{span-is}
 use Rattle.ram_region.specs.CutRegion.{span}
-use Rattle.zone_flight.specs.Flying.{Flying}
+use Rattle.store_steps.specs.Flying.{Flying}
 use Rattle.ram_core.specs.declared.zones.HeldZone.{HeldZone}
 use Rattle.ram_core.specs.LiveSeen.{LiveSeen, StandsForZone, StandsLive, ChangesZone}
 use Rattle.ram_core.specs.Running.{IsRunning}

@@ -31,7 +31,7 @@ use Rattle.session_laws.proofs.Targets.{open_ring}
 use Rattle.session_laws.proofs.TimeLines.{line_fits}
 use Rattle.session_laws.proofs.Operations.{operation-sound}
 use Rattle.ram_region.specs.CutRegion.{CutRegion, span, with_span}
-use Rattle.zone_flight.specs.Flying.{Flying}
+use Rattle.store_steps.specs.Flying.{Flying}
 use Rattle.ram_core.specs.declared.zones.HeldZone.{HeldZone}
 use Rattle.ram_core.specs.LiveSeen.{LiveSeen, StandsForSome, StandsForZone, StandsLive, Leaves}
 use Rattle.ram_core.specs.Running.{IsHeld, IsRunning}

@@ -6,9 +6,9 @@ use Rattle.zone_spec.specs.Told.{Call}
 use Rattle.zone_spec.specs.Calls.{call_stores}
 use Rattle.session_spec.specs.States.{LiveZone}
 use Rattle.session_spec.specs.ZoneCalls.{begun}
-use Rattle.zone_flight.specs.Flying.{Flying}
-use Rattle.zone_flight.specs.Counts.{total_of}
-use Rattle.zone_flight.specs.Machine.{StandsFor}
+use Rattle.store_steps.specs.Flying.{Flying}
+use Rattle.store_steps.specs.Counts.{total_of}
+use Rattle.store_steps.specs.Machine.{StandsFor}
 use Rattle.ram_core.specs.declared.zones.HeldZone.{HeldZone}
 use Rattle.ram_core.specs.LiveSeen.{StandsForZone}
 

@@ -6,7 +6,7 @@ use Rattle.zone_spec.specs.declared.ZoneName.{ZoneName}
 use Rattle.zone_spec.specs.declared.Refusal.TheVariants.{NoZone, Idle}
 use Rattle.zone_spec.specs.Layouts.{zone_place}
 use Rattle.session_spec.specs.States.{Flight, LiveZone, LiveState}
-use Rattle.zone_flight.specs.Flying.{Flying}
+use Rattle.store_steps.specs.Flying.{Flying}
 use Rattle.session_spec.specs.ZoneCalls.{stepped, stores_left}
 use Rattle.session_spec.specs.LiveZones.{Target, target_at, target, with_zone}
 use Rattle.session_spec.specs.LiveCalls.{goes_on, step}

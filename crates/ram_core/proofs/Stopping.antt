@@ -23,8 +23,8 @@ use Rattle.ring_laws.proofs.Images.{length-after_stores}
 use Rattle.ring_laws.proofs.HeaderWords.{words_same}
 use Rattle.ring_laws.proofs.Fixes.{slice_byte, slice_length, word_left}
 use Rattle.ram_region.specs.CutRegion.{span}
-use Rattle.zone_flight.specs.Flying.{Flying}
-use Rattle.zone_flight.specs.Counts.{total_of, pairs_of, touched_runs}
+use Rattle.store_steps.specs.Flying.{Flying}
+use Rattle.store_steps.specs.Counts.{total_of, pairs_of, touched_runs}
 use Rattle.ram_core.specs.declared.known.KnownZone.{KnownZone}
 use Rattle.ram_core.specs.SeenCut.{cut_of_flight}
 use Rattle.ram_core.specs.Stopped.{stop_zone}

@@ -9,11 +9,11 @@ use Rattle.zone_spec.specs.Calls.{call_stores, image_after}
 use Rattle.session_spec.specs.States.{Flight, LiveZone}
 use Rattle.session_spec.specs.ZoneCalls.{stepped, stepped_by, total_stores}
 use Rattle.session_spec.specs.LiveZones.{is_dump, flies_dump}
-use Rattle.zone_flight.specs.Flying.{Flying, IsSameCall}
-use Rattle.zone_flight.specs.Counts.{total_of}
-use Rattle.zone_flight.specs.Machine.{StandsFor}
-use Rattle.zone_flight.proofs.Standing.{stands_image}
-use Rattle.zone_flight.proofs.Stepping.{total_same}
+use Rattle.store_steps.specs.Flying.{Flying, IsSameCall}
+use Rattle.store_steps.specs.Counts.{total_of}
+use Rattle.store_steps.specs.Machine.{StandsFor}
+use Rattle.store_steps.proofs.Standing.{stands_image}
+use Rattle.store_steps.proofs.Stepping.{total_same}
 use Rattle.ram_core.specs.LiveSeen.{StandsForFlight, StandsForSome, StandsForZone}
 use Rattle.ram_core.specs.Storing.{is_dump_kind}
 

@@ -6,8 +6,8 @@ use Rattle.zone_spec.specs.declared.ZoneName.{ZoneName}
 use Rattle.zone_spec.specs.Layouts.{zone_place}
 use Rattle.zone_spec.specs.Ring.{IsRingForm}
 use Rattle.circular_buffer.specs.Buffer.{Buffer}
-use Rattle.zone_flight.specs.Flying.{Flying}
-use Rattle.zone_flight.specs.Machine.{StandsFor}
+use Rattle.store_steps.specs.Flying.{Flying}
+use Rattle.store_steps.specs.Machine.{StandsFor}
 use Rattle.ram_region.specs.CutRegion.{CutRegion, span}
 use Rattle.session_spec.specs.States.{Flight, LiveZone, LiveState}
 use Rattle.session_spec.specs.ZoneCalls.{stepped, stores_left}

@@ -3,7 +3,7 @@ use Rattle.std.specs.Prelude.{◌≡◌, ℕ, true, slice_get, Some}
 use Rattle.zone_spec.specs.declared.Zone.{Zone}
 use Rattle.zone_spec.specs.declared.Kind.TheVariants.{Dump}
 use Rattle.zone_spec.specs.Layouts.{IsLayout}
-use Rattle.zone_flight.specs.Flying.{Flying}
+use Rattle.store_steps.specs.Flying.{Flying}
 use Rattle.session_spec.specs.States.{LiveState, Live}
 use Rattle.session_spec.specs.LiveZones.{is_dump}
 use Rattle.session_spec.specs.Sound.{IsState}

@@ -5,8 +5,8 @@ use Rattle.zone_spec.specs.declared.CallKind.{CallKind}
 use Rattle.zone_spec.specs.declared.CallKind.TheVariants.{Erase}
 use Rattle.zone_spec.specs.declared.Words.{Words}
 use Rattle.zone_spec.specs.Told.{kind_of}
-use Rattle.zone_flight.specs.Flying.{Flying}
-use Rattle.zone_flight.specs.Counts.{total_of, pairs_of, touched_runs}
+use Rattle.store_steps.specs.Flying.{Flying}
+use Rattle.store_steps.specs.Counts.{total_of, pairs_of, touched_runs}
 
 -- the call's kind, the stores made and in all, its pairs, and the runs of the blocks that it touches
 pub record SeenCut : Type 0 where

@@ -2,8 +2,8 @@
 use Rattle.std.specs.Prelude.{◌≡◌, ℕ, ◌-◌, ◌<◌, Bool, true, false, List, length, Option, Some, None}
 use Rattle.zone_spec.specs.declared.CallKind.{CallKind}
 use Rattle.zone_spec.specs.declared.CallKind.TheVariants.{Append, Erase, Dump}
-use Rattle.zone_flight.specs.Flying.{Flying}
-use Rattle.zone_flight.specs.Counts.{total_of}
+use Rattle.store_steps.specs.Flying.{Flying}
+use Rattle.store_steps.specs.Counts.{total_of}
 use Rattle.ram_core.specs.declared.zones.Stored.{Stored}
 use Rattle.ram_core.specs.declared.zones.Stored.TheVariants.{Next, Last}
 

@@ -5,7 +5,7 @@ ghost use Rattle.zone_spec.specs.Parts.{IsImage};
 ghost use Rattle.zone_spec.specs.Ring.{IsRingForm};
 ghost use Rattle.zone_spec.specs.Calls.{CanBegin};
 ghost use Rattle.zone_flight.specs.Calls.{call_seen};
-ghost use Rattle.zone_flight.specs.Flying.{Flying};
+ghost use Rattle.store_steps.specs.Flying.{Flying};
 ghost use Rattle.ram_region.specs.CutRegion.{span, with_span};
 ghost use Rattle.session_spec.specs.States.{LiveZone};
 ghost use Rattle.session_spec.specs.ZoneCalls.{begun, stepped};

@@ -1,12 +1,2 @@
-pub mod Left
-pub mod Entering
-pub mod Parts
-pub mod Storing
-pub mod Stepping
-pub mod ParityBytes
-pub mod Totals
-pub mod Beginning
-pub mod PairLists
-pub mod Runs
-pub mod TouchedBlocks
-pub mod Standing
+pub mod Whole
+pub mod Making

@@ -1,8 +1,7 @@
 // The calls on a zone, with what they store.
-ghost use Rattle.std.specs.Prelude.{◌≡◌, ◌≤◌, List, ℕ, length};
+ghost use Rattle.std.specs.Prelude.{◌≡◌, ◌≤◌, length};
 ghost use Rattle.zone_spec.specs.Told.{kind_of};
-ghost use Rattle.zone_spec.specs.Parts.{AreBytes};
-ghost use Rattle.zone_flight.specs.Calls.{call_seen, AreCallBytes};
+ghost use Rattle.zone_flight.specs.Calls.{call_seen, kind_seen, line_seen, payload_seen};
 
 use arrayvec::ArrayString;
 use box_io::Bytes;
@@ -49,35 +48,38 @@ pub enum Call {
     Dump(Line36, Bytes),
 }
 
-// Tells that a line is of bytes.
-fn check_line(line: &[u8])
-    ensures { AreBytes line.now }
-{}
-
 impl Call {
-    /// Tells that what it stores is of bytes.
-    pub(crate) fn check(&self)
-        ensures { AreCallBytes (call_seen self.now) }
-    {
-        match self {
-            Call::Append(payload) => {
-                let _len = payload.len();
-            }
-            Call::Erase => {}
-            Call::Dump(line, body) => {
-                check_line(line.as_str().as_bytes());
-                let _len = body.len();
-            }
-        }
-    }
-
     pub fn kind(&self) -> CallKind
-        ensures { result ≡ kind_of (call_seen self.now) }
+        ensures seen { result ≡ kind_seen self.now }
+        ensures kind { result ≡ kind_of (call_seen self.now) }
     {
         match self {
             Call::Append(_) => CallKind::Append,
             Call::Erase => CallKind::Erase,
             Call::Dump(_, _) => CallKind::Dump,
+        }
+    }
+
+    /// The time line of a dump.
+    pub(crate) fn line(&self) -> &[u8]
+        ensures value { result.now ≡ line_seen self.now }
+        ensures fits { length result.now ≤ 36 }
+    {
+        match self {
+            Call::Append(_) => &[],
+            Call::Erase => &[],
+            Call::Dump(line, _) => line.as_str().as_bytes(),
+        }
+    }
+
+    /// The bytes of an append, or a dump's body.
+    pub(crate) fn payload(&self) -> &[u8]
+        ensures { result.now ≡ payload_seen self.now }
+    {
+        match self {
+            Call::Append(bytes) => bytes.as_slice(),
+            Call::Erase => &[],
+            Call::Dump(_, body) => body.as_slice(),
         }
     }
 }

@@ -1,5 +1,5 @@
 // One call on one zone.
-ghost use Rattle.std.specs.Prelude.{◌≡◌, ◌+◌, ◌-◌, ◌<◌, ◌≤◌, List, ℕ, length, min, ◌↔◌};
+ghost use Rattle.std.specs.Prelude.{◌≡◌, ◌+◌, ◌<◌, ◌≤◌, List, ℕ, length, min, ◌↔◌};
 ghost use Rattle.std.specs.Option.{ForSome};
 ghost use Rattle.zone_spec.specs.Zones.{IsValidZone};
 ghost use Rattle.zone_spec.specs.Parts.{standing_words};
@@ -7,13 +7,14 @@ ghost use Rattle.zone_spec.specs.Reading.{IsRing};
 ghost use Rattle.zone_spec.specs.Told.{kind_of};
 ghost use Rattle.zone_spec.specs.Calls.{call_stores, image_after};
 ghost use Rattle.ram_region.specs.CutRegion.{span, with_span};
-ghost use Rattle.zone_flight.specs.Calls.{call_seen, IsOpenFor};
-ghost use Rattle.zone_flight.specs.Counts.{pairs_of, touched_runs, total_of};
-ghost use Rattle.zone_flight.specs.Machine.{StandsFor};
-ghost use Rattle.zone_flight.specs.Flying.{IsSameCall};
+ghost use Rattle.store_steps.specs.Calls.{IsOpenFor};
+ghost use Rattle.store_steps.specs.Counts.{pairs_of, touched_runs, total_of};
+ghost use Rattle.store_steps.specs.Machine.{StandsFor};
+ghost use Rattle.store_steps.specs.Flying.{IsSameCall};
+ghost use Rattle.rs_encode.specs.Lanes.{IsLent};
+ghost use Rattle.zone_flight.specs.Calls.{call_seen};
 
 use crate::call::{Call, Step};
-use crate::counts::{call_pairs, call_runs, call_total};
 use crate::progress::Progress;
 use arrayvec::ArrayVec;
 use block_ecc::Coder;
@@ -28,15 +29,14 @@ pub struct Flight {
 }
 
 impl Model for Flight {
-    ghost use Rattle.zone_flight.specs.Flying.{Flying, seen};
+    ghost use Rattle.store_steps.specs.Flying.{Flying};
+    ghost use Rattle.zone_flight.specs.Seen.{seen, IsHeld};
 
     ghost Value = { Flying };
 
-    ghost use Rattle.zone_flight.specs.Machine.{IsKept};
-
     ghost view = { λ f. seen f.progress };
 
-    ghost invariant = { λ f. IsKept (seen f.progress) };
+    ghost invariant = { λ f. IsHeld f.progress };
 }
 
 impl Flight {
@@ -87,8 +87,10 @@ impl Flight {
         ensures len { length (span spans.new i) ≡ length (span spans.old i) }
         ensures done { (result ≡ Step.Done) ↔ (self.new.made ≡ total_of self.new) }
     {
-        self.progress.advance(coder, spans, i, count);
-        if self.progress.is_finished() {
+        let zone = self.progress.steps.zone;
+        self.progress
+            .advance(table_of(coder, &zone), spans, i, count);
+        if self.progress.steps.is_finished() {
             Step::Done
         } else {
             Step::Stored
@@ -111,7 +113,7 @@ impl Flight {
         ensures last { (now before : List ℕ) → StandsFor self.now now before → result ≡ total_of self.now
             → result ≡ length (call_stores self.now.zone self.now.call before) }
     {
-        self.progress.made
+        self.progress.steps.made
     }
 
     /// The stores that are left.
@@ -127,33 +129,24 @@ impl Flight {
         ensures stores { (now before : List ℕ) → StandsFor self.now now before
             → result ≡ length (call_stores self.now.zone self.now.call before) }
     {
-        call_total(
-            &self.progress.zone,
-            &self.progress.words,
-            &self.progress.call,
-        )
+        let call = &self.progress.call;
+        self.progress.steps.total(call.line(), call.payload())
     }
 
     /// Pair 0 is the words before the call, pair j those after its j-th store of a start or size word, made or not.
     pub fn pairs(&self) -> ArrayVec<Pair, 8>
         ensures { result.items ≡ pairs_of self.now }
     {
-        call_pairs(
-            &self.progress.zone,
-            &self.progress.words,
-            &self.progress.call,
-        )
+        let call = &self.progress.call;
+        self.progress.steps.pairs(call.line(), call.payload())
     }
 
     /// The first and the last of each run of blocks that the data stores of the whole call meet, rising.
     pub fn runs(&self) -> ArrayVec<(u32, u32), 2>
         ensures { result.items ≡ touched_runs self.now }
     {
-        call_runs(
-            &self.progress.zone,
-            &self.progress.words,
-            &self.progress.call,
-        )
+        let call = &self.progress.call;
+        self.progress.steps.runs(call.line(), call.payload())
     }
 
     /// The call that was begun.
@@ -161,5 +154,16 @@ impl Flight {
         ensures { call_seen result.now ≡ self.now.call }
     {
         &self.progress.call
+    }
+}
+
+/// The table of an encoder that is lent, or none.
+fn table_of<'a>(coder: Option<&'a Coder>, zone: &Zone) -> &'a [u128]
+    requires { ForSome coder (λ c. c.now ≡ zone.now.parity) }
+    ensures { IsLent zone.now.parity result.now }
+{
+    match coder {
+        Some(coder) => coder.table(),
+        None => &[],
     }
 }

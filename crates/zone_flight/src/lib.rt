@@ -1,12 +1,11 @@
-//! One call on one zone, made one store at a time in the order of `fs/pstore/ram_core.c` (`persistent_ram_write` and
-//! `persistent_ram_zap`; a dump as `ramoops_pstore_write`), so that it can be stopped after any of them.
+//! One call on one zone of a region, made one store at a time as `store_steps` hands them out, so that it can be stopped
+//! after any of them.
 #![tactic(auto)]
 
 mod call;
-mod counts;
 mod flight;
-mod parity;
 mod progress;
+mod putting;
 
 pub use call::{Call, Line36, Step};
 pub use flight::Flight;

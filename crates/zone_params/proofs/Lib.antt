@@ -4,3 +4,4 @@ pub mod LaidOut
 pub mod WholeLayout
 pub mod NamesDiffer
 pub mod RowPlaces
+pub mod FoundRows

@@ -88,7 +88,7 @@ place_in_rows p name at (row ∷ rows) =
         row_passed p row at name (zones_from p (at + taken row) rows) 0 row.count (λ j lt. cc other)
         ∙ omega (arith, rest)
 
-count_sum : (rows : List Row) → all_count rows ≡ sum_by (λ (row : Row). row.count) rows
+pub count_sum : (rows : List Row) → all_count rows ≡ sum_by (λ (row : Row). row.count) rows
 count_sum [] = refl
 count_sum (row ∷ rows) = ap (λ n. row.count + n) (count_sum rows) ∙ sym (sum_by-cons (λ (r : Row). r.count) row rows)
 

@@ -1,3 +1,4 @@
 pub mod Layouts
 pub mod Laid
 pub mod Rows
+pub mod Found

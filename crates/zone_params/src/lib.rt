@@ -2,6 +2,7 @@
 #![tactic(auto)]
 
 mod faults;
+mod finding;
 pub mod laws;
 mod laying;
 mod params;
@@ -9,6 +10,7 @@ pub mod rows;
 pub mod types;
 
 pub use faults::LayoutError;
+pub use finding::{Found, find};
 pub use grammar_spec::ParamFault;
 pub use laying::{layout, list_zones};
 pub use params::read_words;

@@ -241,7 +241,7 @@ pub fn zone_fault(p: &Params, rows: &[Row]) -> Option<LayoutFault>
     ])
 }
 
-fn holds(row: Row, name: ZoneName) -> bool
+pub(crate) fn holds(row: Row, name: ZoneName) -> bool
     ensures { result ≡ (is_of name.kind row.kind && nat_lt name.index row.count) }
 {
     row.kind == name.kind && u64::from(name.index) < row.count

@@ -14,4 +14,8 @@ mod ram_region_tests;
 #[cfg(test)]
 mod ring_header_tests;
 #[cfg(test)]
+mod store_steps_tests;
+#[cfg(test)]
+mod zone_boot_tests;
+#[cfg(test)]
 mod zone_flight_tests;

@@ -38,7 +38,14 @@ const PARITY_OF_72: [u8; 16] = [
     0xcf, 0xf4, 0x98, 0x73, 0x61, 0x41, 0x8c, 0xaf, 0xf9, 0xde, 0xf0, 0x56, 0xb1, 0xe6, 0xba, 0xbf,
 ];
 
-fn params(mem: u64, dump: u64, console: u64, ftrace: u64, pmsg: u64, ecc: u64) -> Params {
+pub(crate) fn params(
+    mem: u64,
+    dump: u64,
+    console: u64,
+    ftrace: u64,
+    pmsg: u64,
+    ecc: u64,
+) -> Params {
     Params {
         mem,
         dump,
@@ -57,17 +64,17 @@ fn params(mem: u64, dump: u64, console: u64, ftrace: u64, pmsg: u64, ecc: u64) -
 }
 
 // One console zone of 4096 bytes, with this parity.
-fn console(ecc: u64) -> Params {
+pub(crate) fn console(ecc: u64) -> Params {
     params(4096, 0, 4096, 0, 0, ecc)
 }
 
 // Dump zones 0 and 1, console 2 and pmsg 3, each of 4096 bytes, with this parity.
-fn four(ecc: u64) -> Params {
+pub(crate) fn four(ecc: u64) -> Params {
     params(16384, 4096, 4096, 0, 4096, ecc)
 }
 
 // Two ftrace zones of 2048 bytes.
-fn two_cpus() -> Params {
+pub(crate) fn two_cpus() -> Params {
     params(4096, 0, 0, 4096, 0, 0)
 }
 
@@ -94,7 +101,12 @@ fn store_byte(spans: &mut Spans, i: usize, at: usize, b: u8) {
 }
 
 // The layout's region of zeros, but for these bytes at the front of zone i.
-fn image(alloc: Global, p: &Params, i: usize, bytes: &[u8]) -> Result<(Layout, Spans), AllocError> {
+pub(crate) fn image(
+    alloc: Global,
+    p: &Params,
+    i: usize,
+    bytes: &[u8],
+) -> Result<(Layout, Spans), AllocError> {
     let (layout, mut spans) = zeros(alloc, p)?;
     for (at, b) in bytes.iter().enumerate() {
         store_byte(&mut spans, i, at, *b);
@@ -103,7 +115,12 @@ fn image(alloc: Global, p: &Params, i: usize, bytes: &[u8]) -> Result<(Layout, S
 }
 
 // The reading of zone i.
-fn read(alloc: Global, layout: &Layout, spans: &Spans, i: usize) -> Result<Reading, AllocError> {
+pub(crate) fn read(
+    alloc: Global,
+    layout: &Layout,
+    spans: &Spans,
+    i: usize,
+) -> Result<Reading, AllocError> {
     let zones = layout.zones();
     let all = spans.all();
     if i < zones.len() && i < all.len() {
@@ -137,7 +154,7 @@ fn reading_of(alloc: Global, p: &Params, i: usize, bytes: &[u8]) -> Result<Readi
 }
 
 // Settles zone i, and gives its bytes then.
-fn settled(
+pub(crate) fn settled(
     alloc: Global,
     p: &Params,
     i: usize,
@@ -159,7 +176,7 @@ fn settled(
     Err(AllocError)
 }
 
-fn put(image: &mut [u8], at: usize, bytes: &[u8]) {
+pub(crate) fn put(image: &mut [u8], at: usize, bytes: &[u8]) {
     for (j, b) in bytes.iter().enumerate() {
         if let Some(place) = image.get_mut(at.wrapping_add(j)) {
             *place = *b;
@@ -168,7 +185,12 @@ fn put(image: &mut [u8], at: usize, bytes: &[u8]) {
 }
 
 // A zone of 4096 bytes with a signature, these words and these data.
-fn ring(alloc: Global, start: u32, size: u32, data: &[u8]) -> Result<Vec<u8>, AllocError> {
+pub(crate) fn ring(
+    alloc: Global,
+    start: u32,
+    size: u32,
+    data: &[u8],
+) -> Result<Vec<u8>, AllocError> {
     let mut image = Vec::from_elem(alloc, 0u8, 4096)?;
     put(image.as_mut_slice(), 0, SIGNATURE.as_slice());
     put(image.as_mut_slice(), 4, start.to_le_bytes().as_slice());
@@ -178,7 +200,7 @@ fn ring(alloc: Global, start: u32, size: u32, data: &[u8]) -> Result<Vec<u8>, Al
 }
 
 // The same of 3 bytes, with the parity of a zone of 16 parity bytes.
-fn abc(alloc: Global) -> Result<Vec<u8>, AllocError> {
+pub(crate) fn abc(alloc: Global) -> Result<Vec<u8>, AllocError> {
     let mut image = ring(alloc, 3, 3, b"abc".as_slice())?;
     put(image.as_mut_slice(), 3616, PARITY_OF_ABC.as_slice());
     put(image.as_mut_slice(), 4080, PARITY_OF_3.as_slice());
@@ -280,7 +302,7 @@ fn a_full_ring_is_turned(rt: HostRuntime) -> Result<(), Fail> {
     Ok(())
 }
 
-const NO_RINGS: &[(u32, u32)] = &[(1, 0), (4, 3), (0, 4085), (0xffff_ffff, 0xffff_ffff)];
+pub(crate) const NO_RINGS: &[(u32, u32)] = &[(1, 0), (4, 3), (0, 4085), (0xffff_ffff, 0xffff_ffff)];
 
 #[test]
 fn words_that_are_no_ring_are_invalid(rt: HostRuntime) -> Result<(), Fail> {

@@ -2,7 +2,7 @@
 use Rattle.std.proofs.Common.{ℕ, Option, None, ap, sym, subst}
 use Rattle.session_spec.specs.ZoneCalls.{stepped}
 use Rattle.circular_buffer.specs.Buffer.{Buffer}
-use Rattle.zone_flight.specs.Flying.{Flying}
+use Rattle.store_steps.specs.Flying.{Flying}
 use Rattle.zone_spec.specs.Told.{Call, told_after}
 use Rattle.ram_region.specs.CutRegion.{span}
 use Rattle.ram_core.specs.LiveSeen.{StandsForZone, StandsForSome}

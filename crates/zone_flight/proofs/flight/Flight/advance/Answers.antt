@@ -1,7 +1,7 @@
 use Rattle.std.proofs.Common.{sym, subst}
 use Rattle.ram_region.specs.CutRegion.{span}
-use Rattle.zone_flight.specs.Machine.{StandsFor}
-use Rattle.zone_flight.specs.Flying.{Flying}
+use Rattle.store_steps.specs.Machine.{StandsFor}
+use Rattle.store_steps.specs.Flying.{Flying}
 use Rattle.zone_flight.proofs.flight.Flight.advance.Goals as goal
 
 pub returns-clause-stands : goal.returns-clause-stands

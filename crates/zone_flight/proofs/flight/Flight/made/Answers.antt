@@ -1,8 +1,8 @@
 use Rattle.std.proofs.Common.{◌≡◌, ap, sym, ◌∙◌, subst}
-use Rattle.zone_flight.specs.Flying.{Flying}
-use Rattle.zone_flight.specs.Machine.{IsKept}
+use Rattle.store_steps.specs.Flying.{Flying}
+use Rattle.store_steps.specs.Machine.{IsKept}
 use Rattle.zone_spec.specs.Calls.{image_after}
-use Rattle.zone_flight.proofs.Standing.{stands_image, stands_last}
+use Rattle.store_steps.proofs.Standing.{stands_image, stands_last}
 use Rattle.zone_flight.proofs.flight.Flight.made.Goals as goal
 
 pub returns-clause-image : goal.returns-clause-image
@@ -12,5 +12,5 @@ returns-clause-image c = λ now before stands.
 
 pub returns-clause-last : goal.returns-clause-last
 returns-clause-last c = λ now before stands e.
-    let m : c.args.self.now.made ≡ c.self.inside.progress.made = ap (λ (f : Flying). f.made) (sym c.self.view_is) in
-    sym m ∙ stands_last c.args.self.now now before (subst IsKept c.self.view_is c.self.invariant) stands (m ∙ e)
+    let m : c.args.self.now.made ≡ c.self.inside.progress.steps.made = ap (λ (f : Flying). f.made) (sym c.self.view_is) in
+    sym m ∙ stands_last c.args.self.now now before (subst IsKept c.self.view_is c.self.invariant.kept) stands (m ∙ e)

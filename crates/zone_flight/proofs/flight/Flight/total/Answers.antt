@@ -1,8 +1,12 @@
 use Rattle.std.proofs.Common.{ap, ◌∙◌}
-use Rattle.zone_flight.specs.Flying.{Flying}
-use Rattle.zone_flight.specs.Counts.{total_of}
+use Rattle.store_steps.specs.Flying.{Flying}
+use Rattle.store_steps.specs.Counts.{total_of}
+use Rattle.zone_flight.proofs.Whole.{seen_by}
 use Rattle.zone_flight.proofs.flight.Flight.total.Goals as goal
 
 pub returns-clause-stores : goal.returns-clause-stores
 returns-clause-stores c = λ now before stands.
-    c.call_total.ensures.value ∙ ap (λ (f : Flying). total_of f) c.self.view_is ∙ stands.total
+    c.total.ensures.value
+    ∙ ap (λ (f : Flying). total_of f) (seen_by c.self.inside.progress c.line.result.now c.payload.result.now
+    c.self.invariant.kind c.line.ensures.value c.payload.ensures ∙ c.self.view_is)
+    ∙ stands.total

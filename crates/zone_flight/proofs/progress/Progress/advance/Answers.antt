@@ -1,15 +1,18 @@
-use Rattle.std.proofs.Common.{length, ap, ◌∙◌, arith}
+use Rattle.std.proofs.Common.{length, ap, ◌∙◌, sym, subst, arith}
 use Rattle.ram_region.specs.CutRegion.{CutRegion, span, with_span}
 use Rattle.ram_region.proofs.Cuts.{with_span-again, spans-length}
+use Rattle.zone_spec.specs.declared.Zone.{Zone}
+use Rattle.rs_encode.specs.Lanes.{IsLent}
 use Rattle.zone_flight.proofs.progress.Progress.advance.Goals as goal
 
-pub phases-preserved : goal.phases-preserved
-phases-preserved c =
-    let inv = c.phases.invariant in
-    let next = c.store_phase-left.ensures in
-    let bytes = span c.store_phase-left.new.spans c.args.i in
+pub stores-preserved : goal.stores-preserved
+stores-preserved c =
+    let inv = c.stores.invariant in
+    let next = c.make_next-left.ensures in
+    let bytes = span c.make_next-left.new.spans c.args.i in
     record {
-      kept = next.kept;
+      held = next.held;
+      table = subst (λ (z : Zone). IsLent z.parity c.args.table.now) (sym next.same.zone) inv.table;
       same = record {
         zone = next.same.zone ∙ inv.same.zone;
         words = next.same.words ∙ inv.same.words;
@@ -23,7 +26,7 @@ phases-preserved c =
         arith,
         inv.has,
         ap (λ (x : CutRegion). length x.spans) next.others
-            ∙ spans-length c.phases.spans c.args.i bytes,
+            ∙ spans-length c.stores.spans c.args.i bytes,
       );
       len = next.len ∙ inv.len;
     }

@@ -1,14 +1,17 @@
 use Rattle.std.proofs.Common.{◌≡◌, ℕ, ◌+◌, ◌<◌, List, length}
 use Rattle.ram_region.specs.CutRegion.{span, with_span}
-use Rattle.zone_flight.specs.Flying.{seen, IsSameCall}
-use Rattle.zone_flight.specs.Machine.{IsKept, StandsFor}
+use Rattle.rs_encode.specs.Lanes.{IsLent}
+use Rattle.store_steps.specs.Flying.{IsSameCall}
+use Rattle.store_steps.specs.Machine.{StandsFor}
+use Rattle.zone_flight.specs.Seen.{seen, IsHeld}
 use Rattle.zone_flight.proofs.progress.Progress.advance.Given as goal
 
-abbrev pub invariant-phases : goal.invariant-phases
-invariant-phases l = record {
-  kept : IsKept (seen l.self);
+abbrev pub invariant-stores : goal.invariant-stores
+invariant-stores l = record {
+  held : IsHeld l.self;
+  table : IsLent l.self.steps.zone.parity l.table;
   same : IsSameCall (seen l.initial.self) (seen l.self);
-  made : l.self.made + l.left ≡ l.initial.self.made + l.count;
+  made : l.self.steps.made + l.left ≡ l.initial.self.steps.made + l.count;
   stands : (before : List ℕ) → StandsFor (seen l.initial.self) (span l.initial.spans l.i) before
       → StandsFor (seen l.self) (span l.spans l.i) before;
   others : l.spans ≡ with_span l.initial.spans l.i (span l.spans l.i);
@@ -16,5 +19,5 @@ invariant-phases l = record {
   len : length (span l.spans l.i) ≡ length (span l.initial.spans l.i);
 }
 
-abbrev pub decreases-phases : goal.decreases-phases
-decreases-phases l = l.left
+abbrev pub decreases-stores : goal.decreases-stores
+decreases-stores l = l.left

@@ -1,40 +1,27 @@
-use Rattle.std.proofs.Common.{arith, ◌≡◌, refl, sym, ap, subst}
-use Rattle.zone_spec.specs.declared.Words.{Words}
-use Rattle.zone_spec.specs.declared.Zone.{Zone}
-use Rattle.zone_spec.specs.Reading.{IsRing}
-use Rattle.zone_spec.specs.Told.{Call}
-use Rattle.zone_flight.specs.Calls.{call_seen, IsOpenFor}
-use Rattle.zone_flight.specs.First.{first_place}
-use Rattle.zone_flight.specs.declared.progress.Place.{Place}
-use Rattle.zone_flight.specs.Machine.{IsKept, StandsFor}
-use Rattle.zone_flight.proofs.Beginning.{starts, started, kept_starts, stands_starts}
+use Rattle.std.proofs.Common.{◌≡◌, ◌≤◌, List, ℕ, length, sym, ap, ◌∙◌, subst, arith}
+use Rattle.zone_flight.specs.declared.progress.Progress.{Progress}
+use Rattle.store_steps.specs.Flying.{Flying, flying}
+use Rattle.store_steps.specs.Machine.{IsKept, StandsFor}
+use Rattle.zone_flight.specs.Seen.{seen}
+use Rattle.zone_flight.proofs.Whole.{seen_by}
 use Rattle.zone_flight.proofs.progress.Progress.begin.Goals as goal
 
-is_started : (z : Zone) (w : Words) (call : Call) (place : Place) → place ≡ first_place z w call
-    → started z w call ≡ record { zone = z; words = w; call = call; made = 0; place = place }
-is_started z w call place e = ap (λ p. record (started z w call) { place = p }) (sym e)
+abbrev is_seen : (c : goal.After-begin-steps)
+    → flying c.begin-steps.result c.line.result.now c.payload.result.now
+    ≡ seen (record { steps = c.begin-steps.result; call = c.args.call })
+is_seen c =
+    seen_by (record { steps = c.begin-steps.result; call = c.args.call }) c.line.result.now c.payload.result.now
+    (c.begin-steps.ensures.kind ∙ c.kind-kind.ensures.seen) c.line.ensures.value c.payload.ensures
 
-pub returns-clause-kept : goal.returns-clause-kept
-returns-clause-kept c =
-    let z : Zone = c.args.zone in
-    let w : Words = c.read-words.result in
-    let call : Call = call_seen c.args.call in
-    let ring : IsRing w z.cap = subst (λ v. IsRing v z.cap) (sym c.read-words.ensures) c.requires.ring in
-    let open_for : IsOpenFor call w z.cap = subst (λ v. IsOpenFor call v z.cap) (sym c.read-words.ensures)
-    c.requires.is_open in
-    subst IsKept (is_started z w call c.first_place-place.result c.first_place-place.ensures)
-    (kept_starts (started z w call) (starts z w c.requires.valid ring call open_for c.call_total-total.ensures.line)
-    refl ring open_for (omega (arith, c.call_total-total.ensures.value, c.call_total-total.ensures.small)))
+pub returns-clause-held : goal.returns-clause-held
+returns-clause-held c = record {
+  kept = subst IsKept (is_seen c) c.begin-steps.ensures.kept;
+  kind = c.begin-steps.ensures.kind ∙ c.kind-kind.ensures.seen;
+  line = omega (arith, ap length c.line.ensures.value, c.line.ensures.fits);
+}
 
 pub returns-clause-stands : goal.returns-clause-stands
 returns-clause-stands c =
-    let z : Zone = c.args.zone in
-    let w : Words = c.read-words.result in
-    let call : Call = call_seen c.args.call in
-    let ring : IsRing w z.cap = subst (λ v. IsRing v z.cap) (sym c.read-words.ensures) c.requires.ring in
-    let open_for : IsOpenFor call w z.cap = subst (λ v. IsOpenFor call v z.cap) (sym c.read-words.ensures)
-    c.requires.is_open in
-    subst (λ f. StandsFor f c.args.span.now c.args.span.now)
-    (is_started z w call c.first_place-place.result c.first_place-place.ensures)
-    (stands_starts (started z w call) c.args.span.now (starts z w c.requires.valid ring call open_for
-    c.call_total-total.ensures.line) refl c.read-words.ensures c.len-len.ensures.bytes c.check.ensures)
+    subst (λ (f : Flying). StandsFor f c.args.span.now c.args.span.now) (is_seen c)
+    (subst (λ (x : List ℕ). StandsFor (flying c.begin-steps.result c.line.result.now c.payload.result.now) x x)
+    c.bytes.ensures c.begin-steps.ensures.stands)

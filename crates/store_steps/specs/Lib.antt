@@ -1,0 +1,9 @@
+pub mod Calls
+pub mod Flying
+pub mod Phases
+pub mod Machine
+pub mod First
+pub mod Counts
+pub mod PairSteps
+pub mod Handed
+pub mod LeftCounts

@@ -1,0 +1,10 @@
+pub mod Rows
+pub mod Blocks
+pub mod Logs
+pub mod Summing
+pub mod Fixing
+pub mod Parting
+pub mod Leaving
+pub mod Ending
+pub mod Starting
+pub mod Lines

@@ -1,0 +1,12 @@
+use Rattle.std.proofs.Common.{◌≡◌, ◌≤◌, ◌+◌, ◌-◌, ◌++◌, take, drop}
+use Rattle.zone_boot.specs.Reads.{bytes_at}
+use Rattle.zone_boot.proofs.copying.copy_run.Given as goal
+
+abbrev pub invariant-loop-done : goal.invariant-loop-done
+invariant-loop-done l = record {
+  most : l.done ≤ l.n;
+  copied : l.out ≡ take l.at l.fn.out ++ bytes_at l.zone l.image l.place l.done ++ drop (l.at + l.done) l.fn.out;
+}
+
+abbrev pub decreases-loop-done : goal.decreases-loop-done
+decreases-loop-done l = l.n - l.done

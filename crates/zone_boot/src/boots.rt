@@ -1,0 +1,305 @@
+// A boot between its stores.
+ghost use Rattle.std.specs.Prelude.{◌≡◌, ◌+◌, ◌-◌, ◌*◌, ◌≤◌, ◌<◌, ◌^◌, ◌↔◌, ◌++◌, List, ℕ, [], length, take, drop, slice_range, IsTrue};
+ghost use Rattle.zone_spec.specs.Zones.{IsValidZone};
+ghost use Rattle.zone_spec.specs.Stores.{after_stores};
+ghost use Rattle.zone_spec.specs.Boot.{boot_stores};
+ghost use Rattle.std.specs.Int.{to_le_bytes};
+ghost use Rattle.std.proofs.Common.{w32};
+ghost use Rattle.rs_encode.specs.Lanes.{IsLent};
+ghost use Rattle.zone_boot.specs.Handed.{handed, handed_len};
+
+use crate::deciding::{Erasure, block_count, erasure_of};
+use crate::handing::BootStore;
+use crate::summaries::state_of;
+use arrayvec::ArrayVec;
+use block_ecc::{Fix, header_parity, read_block, read_header};
+use zone_spec::{Words, Zone};
+
+/// Where a boot is: it corrects the header, and the blocks that hold the log; then it may store the signature, the
+/// start word, the size word and the header's parity.
+#[derive(Clone, Copy, Debug, PartialEq, Eq)]
+pub enum Phase {
+    Header,
+    Blocks,
+    Signature,
+    Start,
+    Size,
+    Parity,
+    Finished,
+}
+
+/// A boot of a zone. It is numbers alone: the zone's bytes are lent to each call. `made` is the number of stores that
+/// were handed out, `count` that of the blocks that it corrects, `block` the one that it has come to, and `within` how
+/// many bytes of header or block it has compared.
+#[derive(Clone, Copy, Debug, PartialEq, Eq)]
+pub struct Boot {
+    pub zone: Zone,
+    pub made: u64,
+    pub phase: Phase,
+    pub erasure: Erasure,
+    pub block: u32,
+    pub within: u32,
+    pub count: u32,
+}
+
+fn bytes_of(words: Words) -> ArrayVec<u8, 12>
+    ensures { result.items ≡ to_le_bytes w32 words.sig ++ to_le_bytes w32 words.start ++ to_le_bytes w32 words.size }
+{
+    let mut bytes: ArrayVec<u8, 12> = ArrayVec::new();
+    let _room = bytes.try_extend_from_slice(&words.sig.to_le_bytes());
+    let _room = bytes.try_extend_from_slice(&words.start.to_le_bytes());
+    let _room = bytes.try_extend_from_slice(&words.size.to_le_bytes());
+    bytes
+}
+
+fn bytes_at(image: &[u8], at: u32, len: usize) -> &[u8]
+    requires { at + len ≤ length image.now }
+    ensures { result.now ≡ slice_range image.now at (at + len) }
+{
+    &image[at as usize..at as usize + len]
+}
+
+impl Boot {
+    ghost use Rattle.zone_boot.specs.Booting.{left_of, IsKept, IsBooting, Gives};
+    ghost use Rattle.zone_boot.specs.declared.boots.Phase.TheVariants.{Header, Blocks, Parity};
+    ghost use Rattle.zone_boot.specs.declared.handing.Given.TheVariants.{Nothing};
+
+    /// A boot of the zone before its first store.
+    pub fn begin(table: &[u128], image: &[u8], zone: &Zone) -> Boot
+        requires table { IsLent zone.now.parity table.now }
+        requires valid { IsValidZone zone.now }
+        requires size { length image.now ≡ zone.now.size }
+        ensures zone { result.zone ≡ zone.now }
+        ensures made { result.made ≡ 0 }
+        ensures kept { IsKept result }
+        ensures stands { IsBooting result image.now image.now }
+    {
+        let mut fixes: ArrayVec<Fix, 63> = ArrayVec::new();
+        let header = read_header(table, image, zone, &mut fixes);
+        let words = header.words;
+        let state = state_of(zone, words);
+        Boot {
+            zone: *zone,
+            made: 0,
+            phase: Phase::Header,
+            erasure: erasure_of(table, image, zone, words, state),
+            block: 0,
+            within: 0,
+            count: block_count(zone, words, state),
+        }
+    }
+
+    /// Tests the numbers of a boot in a valid zone: that the blocks which it corrects have data in the zone, that
+    /// `within` is no more than the header or a block has, in the phase that corrects it, and `block` no more than
+    /// `count`, and that `made` is no more than the bytes and words that were passed until there. A boot that is kept
+    /// hands out no store outside the zone, whatever the zone's bytes are.
+    pub fn is_kept(&self) -> bool
+        requires { IsValidZone self.now.zone }
+        ensures { IsTrue result ↔ IsKept self.now }
+    {
+        let zone = &self.zone;
+        if self.count > (zone.cap + zone.block - 1) / zone.block {
+            return false;
+        }
+        let base = u64::from(zone.cap + 2 * zone.block);
+        match self.phase {
+            Phase::Header => self.within <= 12 && self.made <= u64::from(self.within),
+            Phase::Blocks => {
+                self.block <= self.count
+                    && self.within <= zone.block
+                    && self.made <= u64::from(12 + zone.block * self.block + self.within)
+            }
+            Phase::Signature => self.made <= 12 + base,
+            Phase::Start => self.made <= 13 + base,
+            Phase::Size => self.made <= 14 + base,
+            Phase::Parity => self.made <= 15 + base,
+            Phase::Finished => self.made <= 15 + base + u64::from(zone.parity),
+        }
+    }
+
+    /// Hands out the next stores. `image` is the zone's bytes after all stores that were handed out before: the caller
+    /// makes those of `out` before it asks again.
+    pub fn next(&mut self, table: &[u128], image: &[u8], out: &mut BootStore)
+        requires table { IsLent self.old.zone.parity table.now }
+        requires valid { IsValidZone self.old.zone }
+        requires kept { IsKept self.old }
+        requires size { length image.now ≡ self.old.zone.size }
+        ensures zone { self.new.zone ≡ self.old.zone }
+        ensures kept { IsKept self.new }
+        ensures made { self.new.made ≡ self.old.made + length (handed out.new) }
+        ensures inside { out.new.place + handed_len out.new ≤ self.old.zone.size }
+        ensures stands { (before : List ℕ) → IsBooting self.old before image.now
+            → IsBooting self.new before (after_stores image.now (handed out.new)) }
+        ensures handed { (before : List ℕ) → IsBooting self.old before image.now → handed out.new
+            ≡ take (length (handed out.new)) (drop self.old.made (boot_stores self.old.zone before)) }
+        ensures some { (before : List ℕ) → IsBooting self.old before image.now
+            → self.old.made < length (boot_stores self.old.zone before) → 0 < length (handed out.new) }
+        ensures finished { (before : List ℕ) → IsBooting self.old before image.now
+            → (out.new.given ≡ Nothing) ↔ (self.old.made ≡ length (boot_stores self.old.zone before)) }
+    {
+        self.go_on(table, image, out);
+    }
+
+    fn go_on(&mut self, table: &[u128], image: &[u8], out: &mut BootStore)
+        requires table { IsLent self.old.zone.parity table.now }
+        requires valid { IsValidZone self.old.zone }
+        requires kept { IsKept self.old }
+        requires size { length image.now ≡ self.old.zone.size }
+        ensures gives { Gives self.old image.now self.new out.new }
+        ensures some { handed out.new ≡ [] → left_of self.old image.now ≡ [] }
+    {
+        match self.phase {
+            Phase::Header => self.fix_header(table, image, out),
+            Phase::Blocks => self.fix_blocks(table, image, out),
+            _ => self.erase(table, image, out),
+        }
+    }
+
+    /// Corrects the header, and then what follows.
+    fn fix_header(&mut self, table: &[u128], image: &[u8], out: &mut BootStore)
+        requires table { IsLent self.old.zone.parity table.now }
+        requires valid { IsValidZone self.old.zone }
+        requires kept { IsKept self.old }
+        requires size { length image.now ≡ self.old.zone.size }
+        requires phase { self.old.phase ≡ Header }
+        ensures gives { Gives self.old image.now self.new out.new }
+        ensures some { handed out.new ≡ [] → left_of self.old image.now ≡ [] }
+    {
+        let mut fixes: ArrayVec<Fix, 63> = ArrayVec::new();
+        let header = read_header(table, image, &self.zone, &mut fixes);
+        let reads = bytes_of(header.words);
+        let stands = bytes_at(image, 0, 12);
+        let end = out.set_run(0, stands, reads.as_slice(), self.within);
+        if out.is_empty() {
+            self.phase = Phase::Blocks;
+            self.block = 0;
+            self.within = 0;
+            self.fix_blocks(table, image, out);
+        } else {
+            self.made += out.count();
+            self.within = end;
+        }
+    }
+
+    /// Corrects the block that it has come to: hands out a run, or goes on to the next block. It is not inlined, and
+    /// takes turns on the stack with the parity.
+    #[inline(never)]
+    fn fix_block(&mut self, table: &[u128], image: &[u8], out: &mut BootStore)
+        requires table { IsLent self.old.zone.parity table.now }
+        requires valid { IsValidZone self.old.zone }
+        requires kept { IsKept self.old }
+        requires size { length image.now ≡ self.old.zone.size }
+        requires phase { self.old.phase ≡ Blocks }
+        requires block { self.old.block < self.old.count }
+        ensures gives { Gives self.old image.now self.new out.new }
+        ensures phase { self.new.phase ≡ Blocks }
+        ensures count { self.new.count ≡ self.old.count }
+        ensures next { handed out.new ≡ [] → self.new.block ≡ self.old.block + 1 }
+    {
+        let zone = self.zone;
+        let mut block: ArrayVec<u8, 255> = ArrayVec::new();
+        let mut fixes: ArrayVec<Fix, 63> = ArrayVec::new();
+        let _outcome = read_block(table, image, &zone, self.block, &mut block, &mut fixes);
+        let at = 12 + zone.block * self.block;
+        let reads = block.as_slice();
+        let stands = bytes_at(image, at, reads.len());
+        let from = self.within.min(reads.len() as u32);
+        let end = out.set_run(at, stands, reads, from);
+        if out.is_empty() {
+            self.block += 1;
+            self.within = 0;
+        } else {
+            self.made += out.count();
+            self.within = end;
+        }
+    }
+
+    /// Corrects the blocks, and then erases.
+    fn fix_blocks(&mut self, table: &[u128], image: &[u8], out: &mut BootStore)
+        requires table { IsLent self.old.zone.parity table.now }
+        requires valid { IsValidZone self.old.zone }
+        requires kept { IsKept self.old }
+        requires size { length image.now ≡ self.old.zone.size }
+        requires phase { self.old.phase ≡ Blocks }
+        ensures gives { Gives self.old image.now self.new out.new }
+        ensures some { handed out.new ≡ [] → left_of self.old image.now ≡ [] }
+    {
+        while self.block < self.count {
+            self.fix_block(table, image, out);
+            if !out.is_empty() {
+                return;
+            }
+        }
+        self.enter_erasure();
+        self.erase(table, image, out);
+    }
+
+    /// Goes on from the corrections, all of which are made, to the erasure.
+    fn enter_erasure(&mut self)
+        requires kept { IsKept self.old }
+        requires phase { self.old.phase ≡ Blocks }
+        requires done { self.old.count ≤ self.old.block }
+        ensures left { (image : List ℕ) → left_of self.new image ≡ left_of self.old image }
+        ensures zone { self.new.zone ≡ self.old.zone }
+        ensures made { self.new.made ≡ self.old.made }
+        ensures kept { IsKept self.new }
+        ensures not_header { self.new.phase ≡ Header → ⊥ }
+        ensures not_blocks { self.new.phase ≡ Blocks → ⊥ }
+    {
+        match self.erasure {
+            Erasure::Kept => self.phase = Phase::Finished,
+            Erasure::Erased => self.phase = Phase::Start,
+            Erasure::Signed => self.phase = Phase::Signature,
+        }
+    }
+
+    /// Hands out the next store of the erasure, or the header's parity.
+    fn erase(&mut self, table: &[u128], image: &[u8], out: &mut BootStore)
+        requires table { IsLent self.old.zone.parity table.now }
+        requires valid { IsValidZone self.old.zone }
+        requires kept { IsKept self.old }
+        requires size { length image.now ≡ self.old.zone.size }
+        requires not_header { self.old.phase ≡ Header → ⊥ }
+        requires not_blocks { self.old.phase ≡ Blocks → ⊥ }
+        ensures gives { Gives self.old image.now self.new out.new }
+        ensures some { handed out.new ≡ [] → left_of self.old image.now ≡ [] }
+    {
+        match self.phase {
+            Phase::Signature => {
+                out.set_word(0, self.zone.sig);
+                self.phase = Phase::Start;
+                self.made += 1;
+            }
+            Phase::Start => {
+                out.set_word(4, 0);
+                self.phase = Phase::Size;
+                self.made += 1;
+            }
+            Phase::Size => {
+                out.set_word(8, 0);
+                self.phase = Phase::Parity;
+                self.made += 1;
+            }
+            Phase::Parity => self.give_parity(table, image, out),
+            _ => out.set_nothing(),
+        }
+    }
+
+    #[inline(never)]
+    fn give_parity(&mut self, table: &[u128], image: &[u8], out: &mut BootStore)
+        requires table { IsLent self.old.zone.parity table.now }
+        requires valid { IsValidZone self.old.zone }
+        requires kept { IsKept self.old }
+        requires size { length image.now ≡ self.old.zone.size }
+        requires phase { self.old.phase ≡ Parity }
+        ensures gives { Gives self.old image.now self.new out.new }
+        ensures some { handed out.new ≡ [] → left_of self.old image.now ≡ [] }
+    {
+        let mut parity: ArrayVec<u8, 127> = ArrayVec::new();
+        header_parity(table, image, &self.zone, &mut parity);
+        let at = 12 + self.zone.cap + self.zone.blocks * self.zone.parity;
+        out.set_bytes(at, parity.as_slice());
+        self.phase = Phase::Finished;
+        self.made += out.count();
+    }
+}
