@@ -30,15 +30,250 @@ enum {
 	OOPSBOX_ROOM = 12,     /* a slice of the caller's is too short; each call says which length it needs */
 	OOPSBOX_ARGUMENT = 13, /* an argument is outside its range; nothing was written */
 	OOPSBOX_MEMORY = 14,   /* malloc answered NULL; nothing was written */
-	OOPSBOX_BAD = 15       /* no codeword is near enough */
+	OOPSBOX_BAD = 15,      /* no codeword is near enough */
+	OOPSBOX_CLOSED = 16    /* the zone does not stand as one that can be written: unsigned, no ring, or a ring that
+				  cannot be appended to. Boot it first; nothing was written */
 };
 
 /*
- * The most bytes of stack that a call takes, its callees in the library included: each of the two calls on a block, and
- * each other call. tools/library-checks measures them on x86-64; no proof says it.
+ * The most bytes of stack that a call takes, its callees in the library included: each call on the store in place, each
+ * of the two calls on a block, and each other call. tools/library-checks measures them on x86-64; no proof says it.
  */
-#define OOPSBOX_STACK_CODES 24576
+#define OOPSBOX_STACK_PLACE 8192
+#define OOPSBOX_STACK_CODES 8192
 #define OOPSBOX_STACK 65536
+
+/* ---- zones, layouts and readings as numbers ---------------------------------------------------------------------- */
+
+enum { OOPSBOX_DUMP = 0, OOPSBOX_CONSOLE = 1, OOPSBOX_FTRACE = 2, OOPSBOX_PMSG = 3 };
+enum { OOPSBOX_UNSIGNED = 0, OOPSBOX_EMPTY = 1, OOPSBOX_INVALID = 2, OOPSBOX_FOUND = 3 };
+
+/* A zone of a layout. All lengths are bytes. 36 bytes. */
+struct oopsbox_zone_place {
+	uint32_t kind;   /* OOPSBOX_DUMP .. OOPSBOX_PMSG */
+	uint32_t index;  /* its number among the zones of this kind, from 0 */
+	uint32_t at;     /* its first byte in the image */
+	uint32_t size;   /* its length */
+	uint32_t cap;    /* the length of its data */
+	uint32_t blocks; /* how many parity blocks it has */
+	uint32_t parity; /* the parity bytes of each block, and of the header */
+	uint32_t block;  /* the data bytes of a block */
+	uint32_t sig;    /* the signature in its header */
+};
+
+/* 24 bytes. */
+struct oopsbox_layout_answer {
+	uint64_t zones; /* how many zones the layout has */
+	uint64_t word;  /* which word is at fault, from 1; 0 where no single word is */
+	uint32_t mem;   /* the bytes of the image */
+	uint32_t fault; /* the fault's number; docs/MESSAGES.md lists them. 0: there is a layout */
+};
+
+/* What a boot reads of a zone. 32 bytes. */
+struct oopsbox_zone_answer {
+	uint64_t log;       /* the length of the log, in bytes; 0 unless the zone was found */
+	uint32_t state;     /* OOPSBOX_UNSIGNED .. OOPSBOX_FOUND */
+	uint32_t sig;       /* the words of the header, corrected where they can be */
+	uint32_t start;
+	uint32_t size;
+	uint32_t corrected; /* corrected bytes of header and blocks, of their parity too */
+	uint32_t bad;       /* parts that could not be corrected: they read as they stand */
+};
+
+/* ---- the store in place ------------------------------------------------------------------------------------------ */
+
+/*
+ * A zone is read and written where it lies. The library looks at the zone's bytes and says which stores come next; the
+ * caller makes them in its own way (a plain store, a write to a device, a copy that is flushed). No call of this part
+ * allocates, and none needs a C library but memcpy, memmove and memset.
+ *
+ * In each call `place` is a zone as oopsbox_zone_at or oopsbox_layout tells it, and zone[0 .. zone_len) are that zone's
+ * own bytes, place->size of them, as they stand now. place->kind, at most OOPSBOX_PMSG, matters to a boot alone; index
+ * and at matter to none.
+ *
+ * `table` is NULL with table_len 0, or the 256 rows that oopsbox_table wrote for place->parity parity bytes and that
+ * nothing changed since. Without a table the calls are slower. What stands in the rows is not tested: with others no
+ * proof says what a call does.
+ */
+
+/* Parameters of a layout. Sizes are bytes, before any rounding; the words of oopsbox_layout have the same names and
+   tell what is assumed where one is absent. Here nothing is assumed: set each. 104 bytes. */
+struct oopsbox_params {
+	uint64_t mem;         /* the image; 1 to 16777216 */
+	uint64_t dump;        /* a dump zone (record_size); 0 for none */
+	uint64_t console;     /* the console zone; 0 for none */
+	uint64_t ftrace;      /* all ftrace zones together; 0 for none */
+	uint64_t pmsg;        /* the pmsg zone; 0 for none */
+	uint64_t ecc;         /* 0 no parity, 1 16 parity bytes, 2 to 127 so many */
+	uint64_t cpus;        /* the number of ftrace zones; 1 to 64 */
+	uint64_t block;       /* the data bytes of a parity block; 32, 64 or 128 */
+	uint64_t ecc_dump;    /* as ecc, for the zones of each kind; these four count, and ecc is only tested */
+	uint64_t ecc_console;
+	uint64_t ecc_ftrace;
+	uint64_t ecc_pmsg;
+	uint32_t ftrace_sig;  /* the tag in the signature of ftrace zones */
+	uint32_t unused;      /* not read */
+};
+
+/*
+ * The zone of this kind (OOPSBOX_DUMP .. OOPSBOX_PMSG) and this number among the zones of its kind, from 0, in the
+ * layout of *params. Sizes are rounded down as a kernel rounds them. oopsbox_layout tells the same zones of the same
+ * parameters as words.
+ *
+ * OOPSBOX_DONE: *place and *answer were written; the answer's word and fault are 0.
+ * OOPSBOX_FAULT: there is no layout; *answer tells the fault's number, its zones, word and mem are 0. *place is as it
+ * was.
+ * OOPSBOX_ARGUMENT: kind is above OOPSBOX_PMSG, or there is a layout without such a zone; nothing was written.
+ */
+uint32_t oopsbox_zone_at(const struct oopsbox_params *params, uint32_t kind, uint32_t index,
+			 struct oopsbox_zone_place *place, struct oopsbox_layout_answer *answer);
+
+/* The rows of an encoder's table, 4096 bytes in all. */
+#define OOPSBOX_TABLE 256
+
+/* One row: a number of 128 bits in two halves. 16 bytes. */
+struct oopsbox_row {
+	uint64_t low;
+	uint64_t high;
+};
+
+/*
+ * Writes table[0 .. 256) for so many parity bytes: 1 to 127. A table saves time in the calls below.
+ *
+ * OOPSBOX_DONE: all 256 rows were written. OOPSBOX_ARGUMENT: parity is not 1 to 127, or table_len is not 256; nothing
+ * was written.
+ */
+uint32_t oopsbox_table(uint32_t parity, struct oopsbox_row *table, size_t table_len);
+
+enum { OOPSBOX_APPEND = 0, OOPSBOX_ERASE = 1, OOPSBOX_WRITE_DUMP = 2 };
+
+/* A call on a zone that was begun: plain numbers, no pointer. Keep it, copy it, store it; change nothing in it. 96
+   bytes. */
+struct oopsbox_flight {
+	uint64_t made;     /* how many stores were handed out so far */
+	uint64_t payload;  /* the payload's length */
+	struct oopsbox_zone_place zone;
+	uint32_t line;     /* the line's length; 0 unless it is a dump */
+	uint32_t kind;     /* OOPSBOX_APPEND .. OOPSBOX_WRITE_DUMP */
+	uint32_t old_sig;  /* the header's words when the call began */
+	uint32_t old_start;
+	uint32_t old_size;
+	uint32_t leg;      /* where the call is: its part, .. */
+	uint32_t start;    /* .. the ring at the part's begin, .. */
+	uint32_t size;
+	uint32_t phase;    /* .. what the next store belongs to, .. */
+	uint32_t block;    /* .. the block whose parity is stored, .. */
+	uint32_t number;   /* .. and how many stores of the phase were handed out */
+};
+
+enum { OOPSBOX_WORD = 0, OOPSBOX_LINE = 1, OOPSBOX_PAYLOAD = 2, OOPSBOX_BYTES = 3, OOPSBOX_FINISHED = 4 };
+
+/* The next stores of a call. They lie at zone[place .. place + len), which is within the zone. A word is one store of
+   four bytes. All else is a store for each byte, at rising places. 152 bytes. */
+struct oopsbox_stores {
+	uint64_t from;      /* LINE, PAYLOAD: the bytes are line[from .. from + len) or payload[from .. from + len) */
+	uint32_t what;      /* OOPSBOX_WORD .. OOPSBOX_FINISHED */
+	uint32_t place;     /* counted from the zone's first byte */
+	uint32_t len;       /* how many bytes; 4 for a word, 0 when finished */
+	uint32_t word;      /* WORD: the word; it stands little-endian in memory */
+	uint8_t bytes[128]; /* BYTES: the first len of these; WORD: the first four are the word's */
+};
+
+/*
+ * Begins to append payload[0 .. payload_len) to a zone. What is longer than the zone's data is cut to its end, as a
+ * kernel does. No store is handed out yet: ask oopsbox_flight_next.
+ *
+ * OOPSBOX_DONE: *flight was written.
+ * OOPSBOX_ARGUMENT: no layout can have such a zone, or zone_len is not place->size; nothing was written.
+ * OOPSBOX_CLOSED: the header's words as they stand are not signed with place->sig, are no ring (start at most size,
+ * size at most place->cap), or are a ring that is not open: start is neither size nor is the ring full, or start is
+ * place->cap. Nothing was written. A boot (oopsbox_boot_begin) mends such a zone or erases it.
+ */
+uint32_t oopsbox_append_begin(const struct oopsbox_zone_place *place, const uint8_t *zone, size_t zone_len,
+			      const uint8_t *payload, size_t payload_len, struct oopsbox_flight *flight);
+
+/* Begins to erase a zone. As oopsbox_append_begin, but a ring need not be open. */
+uint32_t oopsbox_erase_begin(const struct oopsbox_zone_place *place, const uint8_t *zone, size_t zone_len,
+			     struct oopsbox_flight *flight);
+
+/*
+ * Begins to write a dump into a zone: it is erased, then line[0 .. line_len) and the front of payload[0 .. payload_len)
+ * that fits are written. The line is the dump's time line of at most 36 bytes with its newline. As
+ * oopsbox_append_begin, but a ring need not be open, and OOPSBOX_ARGUMENT also if line_len is above 36.
+ */
+uint32_t oopsbox_dump_begin(const struct oopsbox_zone_place *place, const uint8_t *zone, size_t zone_len,
+			    const uint8_t *line, size_t line_len, const uint8_t *payload, size_t payload_len,
+			    struct oopsbox_flight *flight);
+
+/*
+ * Hands out the next stores of a call, at most `most` of them. The caller makes them, in order, and then asks again,
+ * with zone[0 .. zone_len) as they then stand; line and payload are the same bytes as at the begin (an append and an
+ * erasure have no line, an erasure no payload). A flight of a begin that succeeded is never refused while these stay
+ * so. Ask for as many as can be made at once: with most 1 a part's parity is computed again for each byte.
+ *
+ * OOPSBOX_DONE: *stores are the next ones, at least one and at most `most`; *flight stands behind them. Where none are
+ * left stores->what is OOPSBOX_FINISHED.
+ * OOPSBOX_ARGUMENT: *flight is none of a call with a line and a payload of these lengths, zone_len is not the zone's
+ * size, line_len is above 36, table_len is neither 0 nor 256, or most is 0; nothing was written.
+ */
+uint32_t oopsbox_flight_next(struct oopsbox_flight *flight, const uint8_t *zone, size_t zone_len, const uint8_t *line,
+			     size_t line_len, const uint8_t *payload, size_t payload_len,
+			     const struct oopsbox_row *table, size_t table_len, uint32_t most,
+			     struct oopsbox_stores *stores);
+
+/*
+ * What a boot reads of a zone: its state, its words, its counts and the log's length, corrected where they can be.
+ *
+ * OOPSBOX_DONE: *answer was written. OOPSBOX_ARGUMENT: no layout can have such a zone, zone_len is not place->size, or
+ * table_len is neither 0 nor 256; nothing was written.
+ */
+uint32_t oopsbox_zone_read(const struct oopsbox_zone_place *place, const uint8_t *zone, size_t zone_len,
+			   const struct oopsbox_row *table, size_t table_len, struct oopsbox_zone_answer *answer);
+
+/*
+ * Bytes of a zone's log, from byte `from` on, oldest first: as many as there are and fit into log[0 .. log_len). Only
+ * the blocks of these bytes are decoded. oopsbox_zone_read tells how long the log is.
+ *
+ * OOPSBOX_DONE: *got is how many bytes of log were written, 0 where the log ends before `from`; the others are as they
+ * were. OOPSBOX_ARGUMENT: as oopsbox_zone_read.
+ */
+uint32_t oopsbox_zone_log(const struct oopsbox_zone_place *place, const uint8_t *zone, size_t zone_len,
+			  const struct oopsbox_row *table, size_t table_len, uint64_t from, uint8_t *log, size_t log_len,
+			  uint64_t *got);
+
+/* A boot of a zone that was begun: plain numbers, no pointer. Keep it, copy it, store it; change nothing in it. 64
+   bytes. */
+struct oopsbox_boot {
+	uint64_t made;    /* how many stores were handed out so far */
+	struct oopsbox_zone_place zone;
+	uint32_t phase;   /* where the boot is: what the next store belongs to, .. */
+	uint32_t erasure; /* .. 0 if the zone is kept, 1 if it is erased, 2 if it is signed and erased, .. */
+	uint32_t block;   /* .. the block that is corrected, .. */
+	uint32_t within;  /* .. how many bytes of header or block were compared, .. */
+	uint32_t count;   /* .. and how many blocks are corrected */
+};
+
+/*
+ * Begins what a boot does to a zone: corrected bytes are stored, and a zone that is not kept is signed where it is
+ * unsigned, and erased. Read the zone first (oopsbox_zone_read, oopsbox_zone_log): what is erased is gone. A boot takes
+ * no table.
+ *
+ * OOPSBOX_DONE: *boot was written. OOPSBOX_ARGUMENT: no layout can have such a zone, or zone_len is not place->size;
+ * nothing was written.
+ */
+uint32_t oopsbox_boot_begin(const struct oopsbox_zone_place *place, const uint8_t *zone, size_t zone_len,
+			    struct oopsbox_boot *boot);
+
+/*
+ * Hands out the next stores of a boot, as oopsbox_flight_next does of a call: at most 128. There is no line and no
+ * payload, so stores->what is OOPSBOX_WORD, OOPSBOX_BYTES or OOPSBOX_FINISHED. Once it is finished the zone can be
+ * written.
+ *
+ * OOPSBOX_DONE: *stores are the next ones, at least one, or OOPSBOX_FINISHED; *boot stands behind them.
+ * OOPSBOX_ARGUMENT: *boot has numbers that no boot has, or zone_len is not the zone's size; nothing was written.
+ */
+uint32_t oopsbox_boot_next(struct oopsbox_boot *boot, const uint8_t *zone, size_t zone_len,
+			   struct oopsbox_stores *stores);
 
 /* ---- one block of the Reed-Solomon code; these two calls allocate nothing ---------------------------------------- */
 
@@ -66,29 +301,6 @@ uint32_t oopsbox_rs_decode(uint8_t *data, size_t data_len, const uint8_t *parity
 
 /* ---- layouts and zones ------------------------------------------------------------------------------------------- */
 
-enum { OOPSBOX_DUMP = 0, OOPSBOX_CONSOLE = 1, OOPSBOX_FTRACE = 2, OOPSBOX_PMSG = 3 };
-enum { OOPSBOX_UNSIGNED = 0, OOPSBOX_EMPTY = 1, OOPSBOX_INVALID = 2, OOPSBOX_FOUND = 3 };
-
-/* A zone of a layout. All lengths are bytes. */
-struct oopsbox_zone_place {
-	uint32_t kind;   /* OOPSBOX_DUMP .. OOPSBOX_PMSG */
-	uint32_t index;  /* its number among the zones of this kind, from 0 */
-	uint32_t at;     /* its first byte in the image */
-	uint32_t size;   /* its length */
-	uint32_t cap;    /* the length of its data */
-	uint32_t blocks; /* how many parity blocks it has */
-	uint32_t parity; /* the parity bytes of each block, and of the header */
-	uint32_t block;  /* the data bytes of a block */
-	uint32_t sig;    /* the signature in its header */
-};
-
-struct oopsbox_layout_answer {
-	uint64_t zones; /* how many zones the layout has */
-	uint64_t word;  /* which word is at fault, from 1; 0 where no single word is */
-	uint32_t mem;   /* the bytes of the image */
-	uint32_t fault; /* the fault's number; docs/MESSAGES.md lists them. 0: there is a layout */
-};
-
 /*
  * The zones of the parameters in params[0 .. params_len), in the order in which they lie. Parameters are words
  * key=value, as on a kernel's command line, each two with one space between: "mem_size=65536 ecc=1". A text without
@@ -102,16 +314,6 @@ struct oopsbox_layout_answer {
  */
 uint32_t oopsbox_layout(const uint8_t *params, size_t params_len, struct oopsbox_zone_place *places, size_t places_len,
 			struct oopsbox_layout_answer *answer);
-
-struct oopsbox_zone_answer {
-	uint64_t log;       /* the length of the log, in bytes; 0 unless the zone was found */
-	uint32_t state;     /* OOPSBOX_UNSIGNED .. OOPSBOX_FOUND */
-	uint32_t sig;       /* the words of the header, corrected where they can be */
-	uint32_t start;
-	uint32_t size;
-	uint32_t corrected; /* corrected bytes of header and blocks, of their parity too */
-	uint32_t bad;       /* parts that could not be corrected: they read as they stand */
-};
 
 /*
  * What a boot reads of a zone of image[0 .. image_len): its state, its words, its counts, and its log, oldest byte

@@ -8,18 +8,24 @@ module's folder, else the package's. `tools/build-library FOLDER` makes it.
     >>> for record in oopsbox.records(region, "mem_size=65536 ecc=1"):
     ...     print(record.name, len(record.content))
 
+A process can log into a zone of its own, in a mapped file. What it appended is there after any end of it:
+
+    >>> with oopsbox.Ring.open("pump.bin", mem_size=65536, record_size=0, ecc=1) as ring:
+    ...     ring.append(b"the pump started\\n")
+
 Parameters are words key=value with one space between, as on a kernel's command line. All words are str or bytes. Data,
 images and scripts are bytes, or anything that has bytes: a bytearray, a memoryview, an array of any type.
 """
 
 import ctypes
+import mmap
 import os
 import sysconfig
 from collections import namedtuple
 
-__all__ = ["Error", "Record", "Run", "Zone", "boot", "layout", "records", "rs_decode", "rs_encode", "run"]
+__all__ = ["Error", "Record", "Ring", "Run", "Zone", "boot", "layout", "records", "rs_decode", "rs_encode", "run"]
 
-DONE, FAULT, SHORT, ROOM, ARGUMENT, MEMORY, BAD = 0, 3, 4, 12, 13, 14, 15
+DONE, FAULT, SHORT, ROOM, ARGUMENT, MEMORY, BAD, CLOSED = 0, 3, 4, 12, 13, 14, 15, 16
 
 Zone = namedtuple("Zone", "kind index at size cap blocks parity block sig")
 Record = namedtuple("Record", "name time content")
@@ -49,16 +55,53 @@ class _Lengths(ctypes.Structure):
     _fields_ = [("image", ctypes.c_uint64), ("text", ctypes.c_uint64)]
 
 
+class _Params(ctypes.Structure):
+    _fields_ = [(name, ctypes.c_uint64) for name in (
+        "mem", "dump", "console", "ftrace", "pmsg", "ecc", "cpus", "block", "ecc_dump", "ecc_console", "ecc_ftrace",
+        "ecc_pmsg")] + [("ftrace_sig", ctypes.c_uint32), ("unused", ctypes.c_uint32)]
+
+
+class _ZoneAnswer(ctypes.Structure):
+    _fields_ = [("log", ctypes.c_uint64)] + [(name, ctypes.c_uint32) for name in (
+        "state", "sig", "start", "size", "corrected", "bad")]
+
+
+class _Flight(ctypes.Structure):
+    _fields_ = [("made", ctypes.c_uint64), ("payload", ctypes.c_uint64), ("zone", _Place)] + [
+        (name, ctypes.c_uint32) for name in ("line", "kind", "old_sig", "old_start", "old_size", "leg", "start", "size",
+                                             "phase", "block", "number")]
+
+
+class _Boot(ctypes.Structure):
+    _fields_ = [("made", ctypes.c_uint64), ("zone", _Place)] + [(name, ctypes.c_uint32) for name in (
+        "phase", "erasure", "block", "within", "count")]
+
+
+class _Stores(ctypes.Structure):
+    _fields_ = [("from_", ctypes.c_uint64), ("what", ctypes.c_uint32), ("place", ctypes.c_uint32),
+                ("len", ctypes.c_uint32), ("word", ctypes.c_uint32), ("bytes", ctypes.c_uint8 * 128)]
+
+
 def _load():
     beside = os.path.join(os.path.dirname(os.path.abspath(__file__)), "liboopsbox.so")
     packaged = "/usr/lib/%s/oopsbox/liboopsbox.so" % sysconfig.get_config_var("MULTIARCH")
     library = ctypes.CDLL(os.environ.get("OOPSBOX_LIBRARY") or (beside if os.path.exists(beside) else packaged))
-    piece = [ctypes.c_void_p, ctypes.c_size_t]
+    piece, number = [ctypes.c_void_p, ctypes.c_size_t], ctypes.c_uint32
+    zone = [ctypes.POINTER(_Place)] + piece
     shapes = {
         "oopsbox_rs_encode": piece + piece,
         "oopsbox_rs_decode": piece + piece + piece + [ctypes.POINTER(ctypes.c_uint32)],
         "oopsbox_layout": piece + piece + [ctypes.POINTER(_LayoutAnswer)],
         "oopsbox_run": piece + piece + piece + piece + [ctypes.POINTER(_Lengths)],
+        "oopsbox_zone_at": [ctypes.POINTER(_Params), number, number, ctypes.POINTER(_Place),
+                            ctypes.POINTER(_LayoutAnswer)],
+        "oopsbox_table": [number] + piece,
+        "oopsbox_append_begin": zone + piece + [ctypes.POINTER(_Flight)],
+        "oopsbox_flight_next": [ctypes.POINTER(_Flight)] + piece * 4 + [number, ctypes.POINTER(_Stores)],
+        "oopsbox_zone_read": zone + piece + [ctypes.POINTER(_ZoneAnswer)],
+        "oopsbox_zone_log": zone + piece + [ctypes.c_uint64] + piece + [ctypes.POINTER(ctypes.c_uint64)],
+        "oopsbox_boot_begin": zone + [ctypes.POINTER(_Boot)],
+        "oopsbox_boot_next": [ctypes.POINTER(_Boot)] + piece + [ctypes.POINTER(_Stores)],
     }
     for name, arguments in shapes.items():
         call = getattr(library, name)
@@ -115,11 +158,7 @@ def rs_decode(data, parity):
     return bytes(target[:len(data)]), list(places[:corrected.value])
 
 
-def layout(parameters):
-    """The zones of the parameters, in the order in which they lie. Raises Error with the fault if there is no layout.
-
-    A zone's kind is "dump", "console", "ftrace" or "pmsg"; its other fields are those of the C header.
-    """
+def _layout(parameters):
     words, answer, room = _words(parameters), _LayoutAnswer(), 16
     while True:
         places = (_Place * room)()
@@ -136,7 +175,15 @@ def layout(parameters):
     for place in places[:answer.zones]:
         fields = [getattr(place, name) for name in Zone._fields]
         zones.append(Zone(_KINDS[fields[0]], *fields[1:]))
-    return zones
+    return zones, answer.mem
+
+
+def layout(parameters):
+    """The zones of the parameters, in the order in which they lie. Raises Error with the fault if there is no layout.
+
+    A zone's kind is "dump", "console", "ftrace" or "pmsg"; its other fields are those of the C header.
+    """
+    return _layout(parameters)[0]
 
 
 def run(command, parameters, image=b"", script=b""):
@@ -182,3 +229,165 @@ def records(image, parameters):
         name, _, time = (line.split(" ") + [None])[:3]
         found.append(Record(name, time, _done(run("extract " + name, parameters, image)).text))
     return found
+
+
+# The keys of parameters as numbers, the fields of the struct that they set, and the numbers of a key that is absent.
+_KEYS = {"mem_size": ("mem", 0), "record_size": ("dump", 4096), "console_size": ("console", 4096),
+         "ftrace_size": ("ftrace", 4096), "pmsg_size": ("pmsg", 4096), "ecc": ("ecc", 0), "cpus": ("cpus", 1),
+         "block_size": ("block", 128), "ecc_dump": ("ecc_dump", None), "ecc_console": ("ecc_console", None),
+         "ecc_ftrace": ("ecc_ftrace", None), "ecc_pmsg": ("ecc_pmsg", None), "ftrace_sig": ("ftrace_sig", 0)}
+_FTRACE = 2
+_WORD, _PAYLOAD, _FINISHED = 0, 2, 4
+_ROWS = 256
+
+
+def _numbers(values):
+    unknown = set(values) - set(_KEYS)
+    if unknown:
+        raise TypeError("no such parameter: " + ", ".join(sorted(unknown)))
+    params = _Params()
+    for key, (field, absent) in _KEYS.items():
+        absent = values.get("ecc", 0) if absent is None else absent
+        setattr(params, field, values.get(key, absent))
+    return params
+
+
+def _zone_by_words(words, kind, index):
+    zones, mem = _layout(words)
+    for zone in zones:
+        if (zone.kind, zone.index) == (kind, index):
+            return _Place(_KINDS.index(kind), *zone[1:]), mem
+    raise Error(ARGUMENT, "no zone %s %d" % (kind, index))
+
+
+def _zone_by_numbers(values, kind, index):
+    place, answer = _Place(), _LayoutAnswer()
+    status = _library.oopsbox_zone_at(ctypes.byref(_numbers(values)), _KINDS.index(kind), index, ctypes.byref(place),
+                                      ctypes.byref(answer))
+    if status == FAULT:
+        raise Error(status, "layout fault %d" % answer.fault)
+    if status != DONE:
+        raise Error(status, "no zone %s %d" % (kind, index))
+    return place, answer.mem
+
+
+class Ring:
+    """A zone in a mapped file, for an ordinary process: append to it, and read its log.
+
+    Each store of an append is made in the file by itself, in the order in which a kernel makes it. So the log stands
+    after any end of the process, SIGKILL too. An append that was cut is torn at most in the blocks that it touched.
+    The file is a ramoops region: `oopsbox` and `oopsreport` read it with the same parameters. One process at a time may
+    have a zone open, and one thread at a time may use a Ring. Two Rings on two zones of one file are fine.
+    """
+
+    def __init__(self, mapping, place):
+        """Takes a mapped region and a place in it. `open` is the way to make one."""
+        self._mapping, self._place = mapping, place
+        self._view = (ctypes.c_uint8 * place.size).from_buffer(mapping, place.at)
+        self._zone = (self._view, place.size)
+        rows = _ROWS if place.parity else 0
+        self._table = ((ctypes.c_uint64 * (2 * rows))() if rows else None, rows)
+        if rows:
+            _library.oopsbox_table(place.parity, *self._table)
+
+    @classmethod
+    def open(cls, path, kind="console", index=0, words=None, keep=True, **params):
+        """Opens the zone of this kind and number in a file, and makes the file if it is not there.
+
+        Parameters are numbers by keyword, as mem_size=65536, ecc=1, or a text of words, as "mem_size=65536 ecc=1"; what
+        is absent is as on the program's command line. A zone that is no log is signed and erased. A log that is there
+        is kept, its damage corrected. A boot of Linux does otherwise: it shows a console or a pmsg log once, in pstore,
+        and erases it. With keep=False the zone is booted like that.
+
+        Raises Error if there is no such zone or no layout.
+        """
+        if words is not None and params:
+            raise TypeError("parameters are words or keywords, not both")
+        find = _zone_by_numbers if words is None else _zone_by_words
+        place, mem = find(params if words is None else words, kind, index)
+        file = os.open(path, os.O_RDWR | os.O_CREAT, 0o666)
+        try:
+            if os.fstat(file).st_size < mem:
+                os.ftruncate(file, mem)
+            mapping = mmap.mmap(file, mem)
+        finally:
+            os.close(file)
+        ring = cls(mapping, place)
+        if keep:
+            ring._boot_kept()
+        else:
+            ring._boot(place)
+        return ring
+
+    def _make(self, stores, payload):
+        if stores.what == _WORD:
+            ctypes.c_uint32.from_buffer(self._mapping, self._place.at + stores.place).value = stores.word
+            return
+        source, start = (payload, stores.from_) if stores.what == _PAYLOAD else (stores.bytes, 0)
+        for i in range(stores.len):
+            self._view[stores.place + i] = source[start + i]
+
+    def _boot(self, place):
+        boot, stores = _Boot(), _Stores()
+        status = _library.oopsbox_boot_begin(ctypes.byref(place), *self._zone, ctypes.byref(boot))
+        while status == DONE:
+            status = _library.oopsbox_boot_next(ctypes.byref(boot), *self._zone, ctypes.byref(stores))
+            if status == DONE and stores.what == _FINISHED:
+                return
+            if status == DONE:
+                self._make(stores, b"")
+        raise Error(status, "the zone is refused")
+
+    def _boot_kept(self):
+        # a boot keeps an ftrace ring that can be appended to, and no other ring
+        as_ftrace, log = _Place.from_buffer_copy(self._place), self.log()
+        as_ftrace.kind = _FTRACE
+        self._boot(as_ftrace)
+        if log and not self._read().log:
+            self.append(log)
+
+    def _read(self):
+        answer = _ZoneAnswer()
+        status = _library.oopsbox_zone_read(ctypes.byref(self._place), *self._zone, *self._table, ctypes.byref(answer))
+        if status != DONE:
+            raise Error(status, "the zone is refused")
+        return answer
+
+    def append(self, content):
+        """Appends bytes, each store by itself. What is longer than the zone is cut to its end, as a kernel does.
+
+        Raises Error with status 16 if the zone was changed from outside so that it cannot be appended to.
+        """
+        content = _bytes(content)
+        payload, flight, stores = (_buffer(content), len(content)), _Flight(), _Stores()
+        status = _library.oopsbox_append_begin(ctypes.byref(self._place), *self._zone, *payload, ctypes.byref(flight))
+        while status == DONE:
+            status = _library.oopsbox_flight_next(ctypes.byref(flight), *self._zone, None, 0, *payload, *self._table,
+                                                  0xffffffff, ctypes.byref(stores))
+            if status == DONE and stores.what == _FINISHED:
+                return
+            if status == DONE:
+                self._make(stores, payload[0])
+        raise Error(status, "the zone cannot be appended to")
+
+    def log(self):
+        """The log as bytes, oldest first, its damage corrected where that is possible. The file is not changed."""
+        room, got = _buffer(b"", self._place.cap), ctypes.c_uint64()
+        status = _library.oopsbox_zone_log(ctypes.byref(self._place), *self._zone, *self._table, 0, room,
+                                           self._place.cap, ctypes.byref(got))
+        if status != DONE:
+            raise Error(status, "the zone is refused")
+        return ctypes.string_at(room, got.value)
+
+    def close(self):
+        """Lets go of the file. What was appended is in it; after this the Ring is of no use."""
+        if self._mapping is not None:
+            self._zone = self._view = None
+            self._mapping.close()
+            self._mapping = None
+
+    def __enter__(self):
+        return self
+
+    def __exit__(self, *error):
+        self.close()

@@ -1,9 +1,10 @@
 /*
  * How much stack each call takes: it runs in a thread whose stack was painted before, and what is still painted
- * afterwards was not used. Prints the bytes of each call. Fails if the two calls on a block take more than CODES bytes,
- * or another call more than CALLS (include/oopsbox.h).
+ * afterwards was not used. Prints the bytes of each call. Fails if a call on a store in place takes more than
+ * OOPSBOX_STACK_PLACE bytes, one of the two calls on a block more than OOPSBOX_STACK_CODES, or another call more than
+ * OOPSBOX_STACK (include/oopsbox.h).
  */
-#include <oopsbox.h>
+#include "store.h"
 #include <pthread.h>
 #include <stdio.h>
 #include <stdlib.h>
@@ -29,11 +30,6 @@ static uint32_t run(const char *command, const char *script)
 	int length = snprintf(words, sizeof(words), "image %s %s", command, params);
 	return oopsbox_run((const uint8_t *)words, (size_t)length, (const uint8_t *)script, strlen(script), image, MEM, text,
 			   TEXT, &lengths);
-}
-
-static void *nothing(void *unused)
-{
-	return unused;
 }
 
 static void *encode(void *unused)
@@ -72,7 +68,8 @@ static void *zone(void *unused)
 
 static void *runs(void *unused)
 {
-	check(run("run", "boot\nkmsg 6f6e65\ncrash Panic 7 8\nstop\nboot\nwrite console 616263\nstop\n") == OOPSBOX_DONE, "run");
+	check(run("run", "boot\nkmsg 6f6e65\ncrash Panic 7 8\nstop\nboot\nwrite console 616263\nstop\n") == OOPSBOX_DONE,
+	      "run");
 	check(run("list", "") == OOPSBOX_DONE, "list");
 	check(run("extract console-ramoops-0", "") == OOPSBOX_DONE, "extract");
 	check(run("make 7", "") == OOPSBOX_DONE, "make");
@@ -82,22 +79,201 @@ static void *runs(void *unused)
 	return unused;
 }
 
-/* The bytes of stack that a thread takes which does this. */
-static size_t taken(void *(*work)(void *))
+/* ---- the store in place: each zone of each parity, damaged or not, with a table and without ---- */
+
+static struct zone store;
+static uint8_t room[4096], log_room[4096];
+static struct oopsbox_flight flight;
+static struct oopsbox_boot boot;
+static struct oopsbox_stores stores;
+static struct oopsbox_zone_answer answer;
+static uint64_t got;
+
+static void *zone_at(void *unused)
 {
-	uint8_t *stack = aligned_alloc(4096, STACK);
+	struct oopsbox_params params = {1 << 24, 256, 65536, 65536, 65536, 0, 64, 128, 0, 1, 0, 0, 7, 0};
+	struct oopsbox_zone_place place;
+	struct oopsbox_layout_answer laid;
+	check(oopsbox_zone_at(&params, OOPSBOX_FTRACE, 63, &place, &laid) == OOPSBOX_DONE, "zone_at");
+	params.ecc_dump = 127;
+	check(oopsbox_zone_at(&params, OOPSBOX_PMSG, 0, &place, &laid) == OOPSBOX_FAULT, "zone_at");
+	return unused;
+}
+
+static void *table(void *unused)
+{
+	check(oopsbox_table(store.place.parity ? store.place.parity : 1, store.table, OOPSBOX_TABLE) == OOPSBOX_DONE, "table");
+	return unused;
+}
+
+static void *append_begin(void *unused)
+{
+	check(oopsbox_append_begin(&store.place, room, store.place.size, text, 9000, &flight) == OOPSBOX_DONE, "append_begin");
+	return unused;
+}
+
+static void *erase_begin(void *unused)
+{
+	check(oopsbox_erase_begin(&store.place, room, store.place.size, &flight) == OOPSBOX_DONE, "erase_begin");
+	return unused;
+}
+
+static void *dump_begin(void *unused)
+{
+	check(oopsbox_dump_begin(&store.place, room, store.place.size, text, 36, text, 9000, &flight) == OOPSBOX_DONE,
+	      "dump_begin");
+	return unused;
+}
+
+static void *flight_next(void *unused)
+{
+	int is_dump = flight.kind == OOPSBOX_WRITE_DUMP;
+	stores.what = OOPSBOX_WORD;
+	while (stores.what != OOPSBOX_FINISHED) {
+		check(next_stores(&store, &flight, text, is_dump ? 36 : 0, text, 9000, 100, &stores) == OOPSBOX_DONE,
+		      "flight_next");
+		make_stores(&store, &stores, text, text);
+	}
+	return unused;
+}
+
+static void *zone_read(void *unused)
+{
+	check(oopsbox_zone_read(&store.place, room, store.place.size, store.table, store.rows, &answer) == OOPSBOX_DONE,
+	      "zone_read");
+	return unused;
+}
+
+static void *zone_log(void *unused)
+{
+	check(oopsbox_zone_log(&store.place, room, store.place.size, store.table, store.rows, 1, log_room,
+			       sizeof(log_room), &got) == OOPSBOX_DONE, "zone_log");
+	return unused;
+}
+
+static void *boot_begin(void *unused)
+{
+	check(oopsbox_boot_begin(&store.place, room, store.place.size, &boot) == OOPSBOX_DONE,
+	      "boot_begin");
+	return unused;
+}
+
+static void *boot_next(void *unused)
+{
+	stores.what = OOPSBOX_WORD;
+	while (stores.what != OOPSBOX_FINISHED) {
+		check(oopsbox_boot_next(&boot, room, store.place.size, &stores) == OOPSBOX_DONE,
+		      "boot_next");
+		make_stores(&store, &stores, NULL, NULL);
+	}
+	return unused;
+}
+
+enum { PLACE_CALLS = 10, PLACE_STACK = 1 << 17 };
+
+static const struct {
+	const char *name;
+	void *(*work)(void *);
+} place_calls[PLACE_CALLS] = {
+	{"oopsbox_zone_at", zone_at}, {"oopsbox_table", table}, {"oopsbox_append_begin", append_begin},
+	{"oopsbox_erase_begin", erase_begin}, {"oopsbox_dump_begin", dump_begin}, {"oopsbox_flight_next", flight_next},
+	{"oopsbox_zone_read", zone_read}, {"oopsbox_zone_log", zone_log}, {"oopsbox_boot_begin", boot_begin},
+	{"oopsbox_boot_next", boot_next}};
+
+/* Half the parity of each part is wrong. */
+static void damage(void)
+{
+	const struct oopsbox_zone_place *p = &store.place;
+	for (uint32_t b = 0; b * p->block < p->cap; b++)
+		for (uint32_t i = 0; i < p->parity / 2 && b * p->block + i < p->cap; i++)
+			room[12 + b * p->block + i] ^= 0x5a;
+	for (uint32_t i = 0; i < p->parity / 2 && i < 12; i++)
+		room[i] ^= 0x5a;
+}
+
+static size_t taken(void *(*work)(void *), size_t size);
+
+static void note(size_t *most, void *(*work)(void *))
+{
+	size_t bytes = taken(work, PLACE_STACK);
+	for (unsigned i = 0; i < PLACE_CALLS; i++)
+		if (place_calls[i].work == work && bytes > most[i])
+			most[i] = bytes;
+}
+
+/* The most bytes that each call on a store in place takes, on zones of this parity. */
+static void note_zone(size_t *most, uint32_t parity, size_t rows)
+{
+	struct oopsbox_params params = {sizeof(room), 0, sizeof(room), 0, 0, 0, 1, 128, 0, parity, 0, 0, 0, 0};
+	memset(room, 0, sizeof(room));
+	check(find_zone(&store, &params, OOPSBOX_CONSOLE, 0, room) == OOPSBOX_DONE, "a zone");
+	store.rows = parity == 0 ? 0 : rows;
+	note(most, zone_at);
+	note(most, table);
+	for (int round = 0; round < 2; round++) {
+		store.place.kind = round == 0 ? OOPSBOX_CONSOLE : OOPSBOX_DUMP;
+		note(most, zone_read);
+		note(most, boot_begin);
+		note(most, boot_next);
+		note(most, round == 0 ? append_begin : dump_begin);
+		note(most, flight_next);
+		damage();
+		note(most, zone_read);
+		note(most, zone_log);
+		note(most, boot_begin);
+		note(most, boot_next);
+		note(most, erase_begin);
+	}
+}
+
+static int places_fail(void)
+{
+	static const uint32_t parities[] = {0, 1, 16, 32, 100, 127};
+	size_t most[PLACE_CALLS] = {0};
+	int failed = 0;
+	memcpy(text, "====1764201858.836908-D\n", 24);
+	for (unsigned i = 0; i < sizeof(parities) / sizeof(parities[0]); i++) {
+		note_zone(most, parities[i], 0);
+		note_zone(most, parities[i], OOPSBOX_TABLE);
+	}
+	for (unsigned i = 0; i < PLACE_CALLS; i++) {
+		printf("%s takes %zu bytes of stack\n", place_calls[i].name, most[i]);
+		failed |= most[i] > OOPSBOX_STACK_PLACE;
+	}
+	if (failed)
+		printf("a call on a store in place takes more than %d\n", OOPSBOX_STACK_PLACE);
+	return failed;
+}
+
+static void *(*work_of)(void *);
+static uint8_t *top;
+
+static void *enter(void *unused)
+{
+	top = __builtin_frame_address(0);
+	unused = work_of(unused);
+	__asm__ volatile("" : : : "memory"); /* no jump in place of the call */
+	return unused;
+}
+
+/* The bytes that this takes of a stack of so many, the small frame of the function that makes the call included. */
+static size_t taken(void *(*work)(void *), size_t size)
+{
+	uint8_t *stack = aligned_alloc(4096, size);
 	pthread_attr_t attributes;
 	pthread_t thread;
 	size_t painted = 0;
+	work_of = work;
 	check(stack != NULL && pthread_attr_init(&attributes) == 0, "memory");
-	memset(stack, PAINT, STACK);
-	check(pthread_attr_setstack(&attributes, stack, STACK) == 0, "a stack");
-	check(pthread_create(&thread, &attributes, work, NULL) == 0 && pthread_join(thread, NULL) == 0, "a thread");
-	while (painted < STACK && stack[painted] == PAINT)
+	memset(stack, PAINT, size);
+	check(pthread_attr_setstack(&attributes, stack, size) == 0, "a stack");
+	check(pthread_create(&thread, &attributes, enter, NULL) == 0 && pthread_join(thread, NULL) == 0, "a thread");
+	while (painted < size && stack[painted] == PAINT)
 		painted++;
 	pthread_attr_destroy(&attributes);
+	size_t bytes = (size_t)(top - (stack + painted));
 	free(stack);
-	return STACK - painted;
+	return bytes;
 }
 
 int main(void)
@@ -111,14 +287,14 @@ int main(void)
 		     {"oopsbox_layout", layout, OOPSBOX_STACK},
 		     {"oopsbox_zone", zone, OOPSBOX_STACK},
 		     {"oopsbox_run", runs, OOPSBOX_STACK}};
-	size_t bare = taken(nothing);
 	int failed = 0;
 	image = calloc(1, MEM);
 	text = malloc(TEXT);
 	check(image != NULL && text != NULL, "memory");
+	failed = places_fail();
 	check(run("make 7", "") == OOPSBOX_DONE, "make");
 	for (size_t i = 0; i < sizeof(calls) / sizeof(calls[0]); i++) {
-		size_t bytes = taken(calls[i].work) - bare;
+		size_t bytes = taken(calls[i].work, STACK);
 		printf("%s takes %zu bytes of stack\n", calls[i].name, bytes);
 		if (bytes > calls[i].most) {
 			printf("%s takes more than %zu\n", calls[i].name, calls[i].most);

@@ -1,6 +1,16 @@
+pub mod BootNumbers
+pub mod Boots
 pub mod Codes
 pub mod Ends
+pub mod Flights
+pub mod Layouts
 pub mod Memory
+pub mod Numbers
+pub mod Places
+pub mod Readings
 pub mod Runs
+pub mod Stores
+pub mod Tables
+pub mod WholeFlights
 pub mod Words
 pub mod Zones

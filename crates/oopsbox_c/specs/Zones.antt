@@ -1,13 +1,9 @@
 -- What the calls on a layout and on a zone answer
 use Rattle.std.specs.Prelude.{◌≡◌, ⊤, ℕ, ◌+◌, ◌≤◌, ◌<◌, ◌⊎◌, List, [], ◌++◌, length, drop, slice_get, Some, Result, Ok, Err, IsUtf8}
 use Rattle.zone_spec.specs.declared.Zone.{Zone}
-use Rattle.zone_spec.specs.declared.Kind.{Kind}
-use Rattle.zone_spec.specs.declared.Kind.TheVariants.{Dump, Console, Ftrace, Pmsg}
-use Rattle.zone_spec.specs.declared.State.{State}
-use Rattle.zone_spec.specs.declared.State.TheVariants.{Unsigned, Empty, Invalid, Found}
 use Rattle.zone_spec.specs.declared.params.Params.{Params}
 use Rattle.zone_spec.specs.declared.params.LayoutFault.{LayoutFault}
-use Rattle.zone_spec.specs.Layout.{layout_of, rounded}
+use Rattle.zone_spec.specs.Layout.{layout_of}
 use Rattle.zone_spec.specs.LayoutFaults.{fault_number as layout_number}
 use Rattle.zone_spec.specs.Reading.{ZoneReading, zone_reading}
 use Rattle.session_spec.specs.Zones.{zone_bytes}
@@ -20,38 +16,12 @@ use Rattle.grammar_spec.specs.declared.faults.ParamFault.{ParamFault}
 use Rattle.grammar_spec.specs.declared.faults.ParamFault.TheVariants.{UnknownKey, Twice, NotANumber}
 use Rattle.oopsbox_c.specs.declared.ends.End.{End}
 use Rattle.oopsbox_c.specs.declared.ends.End.TheVariants.{Done, Fault, Short, Room, Argument, Memory}
-use Rattle.oopsbox_c.specs.declared.zones.ZonePlace.{ZonePlace}
-use Rattle.oopsbox_c.specs.declared.zones.LayoutAnswer.{LayoutAnswer}
-use Rattle.oopsbox_c.specs.declared.zones.ZoneAnswer.{ZoneAnswer}
+use Rattle.oopsbox_c.specs.declared.places.ZonePlace.{ZonePlace}
+use Rattle.oopsbox_c.specs.declared.places.LayoutAnswer.{LayoutAnswer}
+use Rattle.oopsbox_c.specs.declared.places.ZoneAnswer.{ZoneAnswer}
+use Rattle.oopsbox_c.specs.Places.{place_of, layout_answer, fault_answer, zone_answer}
 use Rattle.oopsbox_c.specs.declared.zones.NoLayout.{NoLayout}
 use Rattle.oopsbox_c.specs.declared.zones.NoLayout.TheVariants.{NotText, Word, Layout as NoSuchLayout, Memory as NoMemory}
-
--- ---- numbers
-
-abbrev pub kind_number : Kind → ℕ
-kind_number Dump = 0
-kind_number Console = 1
-kind_number Ftrace = 2
-kind_number Pmsg = 3
-
-abbrev pub state_number : State → ℕ
-state_number Unsigned = 0
-state_number Empty = 1
-state_number Invalid = 2
-state_number Found = 3
-
-abbrev pub place_of : Zone → ZonePlace
-place_of z = record {
-  kind = kind_number z.name.kind;
-  index = z.name.index;
-  at = z.at;
-  size = z.size;
-  cap = z.cap;
-  blocks = z.blocks;
-  parity = z.parity;
-  block = z.block;
-  sig = z.sig;
-}
 
 -- the place of the word at fault, from 1
 abbrev pub fault_word : ParamFault → ℕ
@@ -93,10 +63,6 @@ pub record PlacesTo (n : ℕ) (zones : List Zone) (old new : List ZonePlace) : T
 abbrev pub PlacesOf : List Zone → List ZonePlace → List ZonePlace → Type 0
 PlacesOf zones old new = PlacesTo (length zones) zones old new
 
--- a layout as it is told
-abbrev pub layout_answer : Params → List Zone → LayoutAnswer
-layout_answer params zones = record { zones = length zones; word = 0; mem = rounded params.mem; fault = 0 }
-
 -- done where there is room for the places, else there is no room
 abbrev pub TellsLayout : End → Params → List Zone → List ZonePlace → List ZonePlace → LayoutAnswer → Type 0
 TellsLayout Done params zones old new answer = (answer ≡ layout_answer params zones)
@@ -104,10 +70,6 @@ TellsLayout Done params zones old new answer = (answer ≡ layout_answer params 
 TellsLayout Room params zones old new answer = (answer ≡ layout_answer params zones)
     × (length old < length zones) × (new ≡ old)
 TellsLayout other params zones old new answer = ⊥
-
--- a fault by its number and its word
-abbrev pub fault_answer : ℕ → ℕ → LayoutAnswer
-fault_answer number word = record { zones = 0; word = word; mem = 0; fault = number }
 
 abbrev pub TellsFault : End → NoLayout → LayoutAnswer → LayoutAnswer → Type 0
 TellsFault Argument NotText old new = new ≡ old
@@ -134,17 +96,6 @@ abbrev pub LayoutEnds : End → List ℕ → List ZonePlace → List ZonePlace �
 LayoutEnds end text old new before after = Laid end text old new after ⊎ NotLaid end text old new before after
 
 -- ---- a zone of an image
-
-abbrev pub zone_answer : ZoneReading → ZoneAnswer
-zone_answer r = record {
-  log = length r.log;
-  state = state_number r.state;
-  sig = r.words.sig;
-  start = r.words.start;
-  size = r.words.size;
-  corrected = r.corrected;
-  bad = r.bad;
-}
 
 -- done where there is room for the log, else there is no room
 abbrev pub TellsReading : ZoneReading → End → List ℕ → List ℕ → ZoneAnswer → Type 0

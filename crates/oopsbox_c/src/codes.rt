@@ -7,7 +7,7 @@ ghost use Rattle.oopsbox_c.specs.Ends.{status_of};
 
 use crate::End;
 use arrayvec::ArrayVec;
-use rs_encode::Parity;
+use rs_encode::bare_parity;
 use rs_errors::{Decoded, Fix, decode};
 
 // Whether so many data and parity bytes make a block.
@@ -27,7 +27,7 @@ pub extern "C" fn oopsbox_rs_encode(message: &[u8], parity: &mut [u8]) -> u32
     if !is_block(message.len(), parity.len()) {
         return End::Argument.status();
     }
-    Parity::new(parity.len()).parity(message, parity);
+    bare_parity(message, parity);
     End::Done.status()
 }
 

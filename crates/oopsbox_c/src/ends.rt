@@ -19,6 +19,8 @@ pub enum End {
     Memory,
     /// No codeword is near enough.
     Bad,
+    /// The zone does not stand as one that can be written.
+    Closed,
     /// The tool ran, with this status.
     Ran(u8),
 }
@@ -36,6 +38,7 @@ impl End {
             End::Argument => 13,
             End::Memory => 14,
             End::Bad => 15,
+            End::Closed => 16,
             End::Ran(status) => u32::from(status),
         }
     }

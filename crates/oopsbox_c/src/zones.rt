@@ -4,55 +4,17 @@ ghost use Rattle.zone_spec.specs.Zones.{IsValidZone};
 ghost use Rattle.zone_spec.specs.Reading.{zone_reading};
 ghost use Rattle.zone_params.specs.Laid.{params_of, zones_of};
 ghost use Rattle.session_spec.specs.Zones.{zone_bytes};
-ghost use Rattle.oopsbox_c.specs.Zones.{kind_number, state_number, place_of, fault_word, PlacesOf, IsLaid, IsNoLayout, TellsLayout, TellsFault, LayoutEnds, TellsReading, ReadsZone, ZoneEnds};
+ghost use Rattle.oopsbox_c.specs.Zones.{fault_word, PlacesOf, IsLaid, IsNoLayout, TellsLayout, TellsFault, LayoutEnds, TellsReading, ReadsZone, ZoneEnds};
 
 use crate::End;
+use crate::places::{LayoutAnswer, ZoneAnswer, ZonePlace, place_of, state_number};
 use crate::words::{WordsFault, fill, read_words_of};
-use old_log::{Reading, State, read_zone};
+use old_log::{Reading, read_zone};
 use ram_region::Probe;
 use std::alloc::{AllocError, Global};
 use zone_params::types::Layout;
 use zone_params::{LayoutError, ParamFault, layout, read_words};
-use zone_spec::{Kind, LayoutFault, Zone};
-
-/// A zone as C sees it. The kinds are 0 dump, 1 console, 2 ftrace, 3 pmsg; the rest is that of [`Zone`].
-#[repr(C)]
-#[derive(Clone, Copy, Debug, Default, PartialEq, Eq)]
-pub struct ZonePlace {
-    pub kind: u32,
-    pub index: u32,
-    pub at: u32,
-    pub size: u32,
-    pub cap: u32,
-    pub blocks: u32,
-    pub parity: u32,
-    pub block: u32,
-    pub sig: u32,
-}
-
-/// A layout's number of zones and bytes of memory, and where there is none the fault's number and the place of its
-/// word, from 1; 0 where no word is at fault.
-#[repr(C)]
-#[derive(Clone, Copy, Debug, Default, PartialEq, Eq)]
-pub struct LayoutAnswer {
-    pub zones: u64,
-    pub word: u64,
-    pub mem: u32,
-    pub fault: u32,
-}
-
-/// What a boot reads of a zone. The states are 0 unsigned, 1 empty, 2 invalid, 3 found; `log` is the log's length.
-#[repr(C)]
-#[derive(Clone, Copy, Debug, Default, PartialEq, Eq)]
-pub struct ZoneAnswer {
-    pub log: u64,
-    pub state: u32,
-    pub sig: u32,
-    pub start: u32,
-    pub size: u32,
-    pub corrected: u32,
-    pub bad: u32,
-}
+use zone_spec::{LayoutFault, Zone};
 
 /// Why a text has no layout.
 #[derive(Clone, Copy, Debug, PartialEq, Eq)]
@@ -61,44 +23,6 @@ enum NoLayout {
     Word(ParamFault),
     Layout(LayoutFault),
     Memory,
-}
-
-fn kind_number(kind: Kind) -> u32
-    ensures { result ≡ kind_number kind }
-{
-    match kind {
-        Kind::Dump => 0,
-        Kind::Console => 1,
-        Kind::Ftrace => 2,
-        Kind::Pmsg => 3,
-    }
-}
-
-fn state_number(state: State) -> u32
-    ensures { result ≡ state_number state }
-{
-    match state {
-        State::Unsigned => 0,
-        State::Empty => 1,
-        State::Invalid => 2,
-        State::Found => 3,
-    }
-}
-
-fn place_of(zone: &Zone) -> ZonePlace
-    ensures { result ≡ place_of zone.now }
-{
-    ZonePlace {
-        kind: kind_number(zone.name.kind),
-        index: zone.name.index,
-        at: zone.at,
-        size: zone.size,
-        cap: zone.cap,
-        blocks: zone.blocks,
-        parity: zone.parity,
-        block: zone.block,
-        sig: zone.sig,
-    }
 }
 
 fn store_zones(zones: &[Zone], places: &mut [ZonePlace])

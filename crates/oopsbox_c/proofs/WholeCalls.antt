@@ -1,0 +1,62 @@
+-- What is handed out from a flight on, end to end
+use Rattle.std.proofs.Common.{◌≡◌, ℕ, ◌+◌, zero, suc, List, [], ◌∷◌, ◌++◌, length, take, drop, refl, sym, ap, ap₂, ◌∙◌, arith, append-nil}
+use Rattle.std.specs.List.{flat_map}
+use Rattle.std.proofs.lemmas.List.{drop_all, drop-drop, take-append-drop}
+use Rattle.zone_spec.specs.declared.Zone.{Zone}
+use Rattle.zone_spec.specs.declared.CallKind.{CallKind}
+use Rattle.zone_spec.specs.Told.{Call}
+use Rattle.zone_spec.specs.Stores.{Store, after_stores}
+use Rattle.zone_spec.specs.Calls.{call_stores}
+use Rattle.store_steps.specs.Calls.{call_of}
+use Rattle.store_steps.specs.Machine.{StandsFor}
+use Rattle.oopsbox_c.specs.declared.places.ZonePlace.{ZonePlace}
+use Rattle.oopsbox_c.specs.declared.flights.Flight.{Flight}
+use Rattle.oopsbox_c.specs.Numbers.{call_in}
+use Rattle.oopsbox_c.specs.Places.{zone_in}
+use Rattle.oopsbox_c.specs.Stores.{stores_in}
+use Rattle.oopsbox_c.specs.Flights.{flight_in, IsBegun, IsNext}
+use Rattle.oopsbox_c.specs.WholeFlights.{Answer, AreAnswers, EndsFinished, stores_of, FlightsAreWhole}
+
+none_of_none : (n : ℕ) → ◌≡◌ {A = List Store} (take n []) []
+none_of_none zero = refl
+none_of_none (suc n) = refl
+
+-- the answer's stores among all
+next_of : (f : Flight) (a : Answer) (now before line payload : List ℕ) (z : Zone) (call : Call)
+    → zone_in f.zone ≡ z → call_of (call_in f.kind) line payload ≡ call
+    → StandsFor (flight_in f line payload) now before → IsNext f a.flight now line payload a.most a.stores
+    → stores_in a.stores line payload ≡ take (length (stores_in a.stores line payload))
+    (drop f.made (call_stores z call before))
+next_of f a now before line payload z call ez ec stands next =
+    next.handed before stands
+    ∙ ap₂ (λ (y : Zone) (c : Call). take (length (stores_in a.stores line payload))
+    (drop f.made (call_stores y c before))) ez ec
+
+whole_from : (f : Flight) (now before line payload : List ℕ) (z : Zone) (call : Call) (answers : List Answer)
+    → zone_in f.zone ≡ z → call_of (call_in f.kind) line payload ≡ call
+    → StandsFor (flight_in f line payload) now before → AreAnswers f now line payload answers → EndsFinished answers
+    → stores_of line payload answers ≡ drop f.made (call_stores z call before)
+whole_from f now before line payload z call [] ez ec stands h end = absurd end
+whole_from f now before line payload z call (a ∷ []) ez ec stands h end =
+    let all : List Store = call_stores z call before in
+    let xs : List Store = stores_in a.stores line payload in
+    let total : f.made ≡ length all =
+    h.0.finished.0 end ∙ stands.total ∙ ap₂ (λ (y : Zone) (c : Call). length (call_stores y c before)) ez ec in
+    let none : drop f.made all ≡ [] = drop_all f.made all (omega (arith, total)) in
+    append-nil xs ∙ next_of f a now before line payload z call ez ec stands h.0
+    ∙ ap (take (length xs)) none ∙ none_of_none (length xs) ∙ sym none
+whole_from f now before line payload z call (a ∷ b ∷ answers) ez ec stands h end =
+    let all : List Store = call_stores z call before in
+    let xs : List Store = stores_in a.stores line payload in
+    let rest = whole_from a.flight (after_stores now xs) before line payload z call (b ∷ answers)
+    (ap zone_in h.0.zone ∙ ez) (h.0.same.call ∙ ec) (h.0.stands before stands) h.1 end in
+    ap₂ (λ (u v : List Store). u ++ v) (next_of f a now before line payload z call ez ec stands h.0)
+    (rest ∙ ap (λ (k : ℕ). drop k all) h.0.made)
+    ∙ ap (λ (v : List Store). take (length xs) (drop f.made all) ++ v) (sym (drop-drop (length xs) f.made all))
+    ∙ take-append-drop (length xs) (drop f.made all)
+
+pub whole_flights : FlightsAreWhole
+whole_flights place kind image line payload f answers begun h end =
+    whole_from f image image line payload (zone_in place) (call_of kind line payload) answers
+    (ap zone_in begun.zone) (ap (λ (k : CallKind). call_of k line payload) begun.kind_is) begun.stands_for h end
+    ∙ ap (λ (m : ℕ). drop m (call_stores (zone_in place) (call_of kind line payload) image)) begun.made

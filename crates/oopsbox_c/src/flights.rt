@@ -1,0 +1,284 @@
+// Calls on a zone, in structs of the caller's. They take no memory.
+ghost use Rattle.std.specs.Prelude.{◌≡◌, ◌≤◌, ◌↔◌, [], length, IsTrue, ◌<◌};
+ghost use Rattle.zone_spec.specs.Parts.{standing_words};
+ghost use Rattle.rs_encode.specs.Lanes.{IsLent};
+ghost use Rattle.oopsbox_c.specs.Ends.{status_of};
+ghost use Rattle.oopsbox_c.specs.Places.{zone_in};
+ghost use Rattle.oopsbox_c.specs.Tables.{IsOwed, IsLendable};
+ghost use Rattle.oopsbox_c.specs.Flights.{steps_of, IsFlight, BeginEnds, IsAsked, IsNext, NextEnds};
+ghost use Rattle.zone_spec.specs.declared.CallKind.TheVariants.{Append, Erase, Dump};
+
+use crate::End;
+use crate::numbers::{call_in, call_number, leg_in, leg_number, phase_in, phase_number};
+use crate::places::{ZonePlace, is_place, zone_in};
+use crate::stores::Stores;
+use crate::tables::{TableRow, is_lendable, lend};
+use block_ecc::words_of;
+use store_steps::{CallKind, Phase, Place, Steps, Store, Words};
+
+/// A call that was begun. The caller keeps it, and changes nothing in it.
+#[repr(C)]
+#[derive(Clone, Copy, Debug, Default, PartialEq, Eq)]
+pub struct Flight {
+    pub made: u64,
+    pub payload: u64,
+    pub zone: ZonePlace,
+    pub line: u32,
+    pub kind: u32,
+    pub old_sig: u32,
+    pub old_start: u32,
+    pub old_size: u32,
+    pub leg: u32,
+    pub start: u32,
+    pub size: u32,
+    pub phase: u32,
+    pub block: u32,
+    pub number: u32,
+}
+
+fn steps_of(flight: &Flight) -> Steps
+    ensures { result ≡ steps_of flight.now }
+{
+    Steps {
+        zone: zone_in(&flight.zone),
+        words: Words {
+            sig: flight.old_sig,
+            start: flight.old_start,
+            size: flight.old_size,
+        },
+        kind: call_in(flight.kind),
+        made: flight.made,
+        place: Place {
+            leg: leg_in(flight.leg),
+            start: flight.start,
+            size: flight.size,
+            phase: phase_in(flight.phase),
+            block: flight.block,
+            number: flight.number,
+        },
+    }
+}
+
+// The flight of these steps, of a line and a payload of these lengths.
+fn flight_of(place: &ZonePlace, line: u32, payload: u64, steps: &Steps) -> Flight
+    requires { steps.now.zone ≡ zone_in place.now }
+    ensures steps { steps_of result ≡ steps.now }
+    ensures zone { result.zone ≡ place.now }
+    ensures line { result.line ≡ line }
+    ensures payload { result.payload ≡ payload }
+    ensures kind { result.kind ≤ 2 }
+    ensures leg { result.leg ≤ 3 }
+    ensures phase { result.phase ≤ 9 }
+{
+    Flight {
+        made: steps.made,
+        payload,
+        zone: *place,
+        line,
+        kind: call_number(steps.kind),
+        old_sig: steps.words.sig,
+        old_start: steps.words.start,
+        old_size: steps.words.size,
+        leg: leg_number(steps.place.leg),
+        start: steps.place.start,
+        size: steps.place.size,
+        phase: phase_number(steps.place.phase),
+        block: steps.place.block,
+        number: steps.place.number,
+    }
+}
+
+// Whether a call with this line can be asked for.
+fn is_asked(place: &ZonePlace, image: &[u8], line: &[u8]) -> bool
+    ensures { IsTrue result ↔ IsAsked place.now image.now line.now }
+{
+    is_place(place) && image.len() == place.size as usize && line.len() <= 36
+}
+
+// Whether this is a flight with this line and this payload.
+fn is_flight(flight: &Flight, line: &[u8], payload: &[u8]) -> bool
+    ensures { IsTrue result ↔ IsFlight flight.now line.now payload.now }
+{
+    if flight.kind > 2 || flight.leg > 3 || flight.phase > 9 || !is_place(&flight.zone) {
+        return false;
+    }
+    if flight.line as usize != line.len() || flight.payload != payload.len() as u64 {
+        return false;
+    }
+    line.len() <= 36 && steps_of(flight).is_kept(line, payload)
+}
+
+fn signature(image: &[u8]) -> u32
+    requires { 12 ≤ length image.now }
+    ensures { result ≡ (standing_words image.now).sig }
+{
+    words_of(&image[0..12]).sig
+}
+
+fn begin(
+    place: &ZonePlace,
+    kind: CallKind,
+    image: &[u8],
+    line: &[u8],
+    payload: &[u8],
+    flight: &mut Flight,
+) -> End
+    ensures { BeginEnds result place.now kind image.now line.now payload.now flight.old flight.new }
+{
+    if !is_asked(place, image, line) {
+        return End::Argument;
+    }
+    if signature(image) != place.sig {
+        return End::Closed;
+    }
+    match Steps::try_begin(zone_in(place), kind, image, line, payload) {
+        Some(steps) => {
+            *flight = flight_of(place, line.len() as u32, payload.len() as u64, &steps);
+            End::Done
+        }
+        None => End::Closed,
+    }
+}
+
+/// Begins to append `payload` to the zone that stands as `image`.
+#[unsafe(no_mangle)]
+pub extern "C" fn oopsbox_append_begin(
+    place: &ZonePlace,
+    image: &[u8],
+    payload: &[u8],
+    flight: &mut Flight,
+) -> u32
+    ensures { (end : End) × (result ≡ status_of end)
+        × BeginEnds end place.now Append image.now [] payload.now flight.old flight.new }
+{
+    let end = begin(place, CallKind::Append, image, &[], payload, flight);
+    end.status()
+}
+
+/// Begins to erase the zone that stands as `image`.
+#[unsafe(no_mangle)]
+pub extern "C" fn oopsbox_erase_begin(place: &ZonePlace, image: &[u8], flight: &mut Flight) -> u32
+    ensures { (end : End) × (result ≡ status_of end)
+        × BeginEnds end place.now Erase image.now [] [] flight.old flight.new }
+{
+    let end = begin(place, CallKind::Erase, image, &[], &[], flight);
+    end.status()
+}
+
+/// Begins a dump of `line` and, as its body, `payload` in the zone that stands as `image`.
+#[unsafe(no_mangle)]
+pub extern "C" fn oopsbox_dump_begin(
+    place: &ZonePlace,
+    image: &[u8],
+    line: &[u8],
+    payload: &[u8],
+    flight: &mut Flight,
+) -> u32
+    ensures { (end : End) × (result ≡ status_of end)
+        × BeginEnds end place.now Dump image.now line.now payload.now flight.old flight.new }
+{
+    let end = begin(place, CallKind::Dump, image, line, payload, flight);
+    end.status()
+}
+
+// The next stores of a flight.
+fn go_on(
+    flight: &mut Flight,
+    image: &[u8],
+    line: &[u8],
+    payload: &[u8],
+    rows: &[u128],
+    most: u32,
+    stores: &mut Stores,
+)
+    requires flight { IsFlight flight.old line.now payload.now }
+    requires len { length image.now ≡ flight.old.zone.size }
+    requires table { IsLent flight.old.zone.parity rows.now }
+    requires some { 0 < most }
+    ensures { IsNext flight.old flight.new image.now line.now payload.now most stores.new }
+{
+    let mut steps = steps_of(flight);
+    let mut store = Store::new();
+    steps.next(rows, image, line, payload, most, &mut store);
+    let place = flight.zone;
+    *flight = flight_of(&place, flight.line, flight.payload, &steps);
+    stores.set(&store);
+}
+
+// The next stores of a flight, by the caller's table.
+#[inline(never)]
+fn go_on_by(
+    flight: &mut Flight,
+    image: &[u8],
+    line: &[u8],
+    payload: &[u8],
+    table: &[TableRow],
+    most: u32,
+    stores: &mut Stores,
+)
+    requires flight { IsFlight flight.old line.now payload.now }
+    requires len { length image.now ≡ flight.old.zone.size }
+    requires lendable { IsLendable table.now }
+    requires table { IsOwed flight.old.zone.parity table.now }
+    requires some { 0 < most }
+    ensures { IsNext flight.old flight.new image.now line.now payload.now most stores.new }
+{
+    let mut rows = [0u128; 256];
+    let rows = lend(table, &mut rows);
+    go_on(flight, image, line, payload, rows, most, stores);
+}
+
+// Whether stores of this phase are parity: the table is read for these alone.
+fn is_parity(phase: Phase) -> bool {
+    match phase {
+        Phase::FirstParity | Phase::SecondParity | Phase::Header => true,
+        _ => false,
+    }
+}
+
+fn next(
+    flight: &mut Flight,
+    image: &[u8],
+    line: &[u8],
+    payload: &[u8],
+    table: &[TableRow],
+    most: u32,
+    stores: &mut Stores,
+) -> End
+    requires { IsOwed flight.old.zone.parity table.now }
+    ensures { NextEnds result flight.old flight.new image.now line.now payload.now table.now most stores.old
+        stores.new }
+{
+    if !is_flight(flight, line, payload) || image.len() != flight.zone.size as usize {
+        return End::Argument;
+    }
+    if !is_lendable(table) || most == 0 {
+        return End::Argument;
+    }
+    if is_parity(phase_in(flight.phase)) {
+        go_on_by(flight, image, line, payload, table, most, stores);
+    } else {
+        go_on(flight, image, line, payload, &[], most, stores);
+    }
+    End::Done
+}
+
+/// Hands out the next stores, at most `most`. `image` is the zone's bytes with all stores made that were handed out
+/// before; line and payload are those of the call's begin.
+#[unsafe(no_mangle)]
+pub extern "C" fn oopsbox_flight_next(
+    flight: &mut Flight,
+    image: &[u8],
+    line: &[u8],
+    payload: &[u8],
+    table: &[TableRow],
+    most: u32,
+    stores: &mut Stores,
+) -> u32
+    requires { IsOwed flight.old.zone.parity table.now }
+    ensures { (end : End) × (result ≡ status_of end)
+        × NextEnds end flight.old flight.new image.now line.now payload.now table.now most stores.old stores.new }
+{
+    let end = next(flight, image, line, payload, table, most, stores);
+    end.status()
+}

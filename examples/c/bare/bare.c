@@ -1,0 +1,135 @@
+/*
+ * A program without an operating system, a C library or an allocator. It writes its console into a ramoops region at a
+ * fixed address and resets the machine. After the reset it finds its last words there, and sends them over the serial
+ * port. ./run builds it and runs it in QEMU.
+ */
+#include <oopsbox.h>
+
+enum { REGION = 0x8000000, SERIAL = 0x3f8, KEYBOARD = 0x64 };
+
+/* mem_size=32768 record_size=4096 console_size=8192 ftrace_size=0 pmsg_size=4096 ecc=1 */
+static const struct oopsbox_params params = {.mem = 32768, .dump = 4096, .console = 8192, .pmsg = 4096, .ecc = 1,
+	.cpus = 1, .block = 128, .ecc_dump = 1, .ecc_console = 1, .ecc_ftrace = 1, .ecc_pmsg = 1};
+static struct oopsbox_zone_place place;
+static uint8_t *zone;
+
+/* The library's code calls these three. Without volatile a compiler may make a call of memcpy of its own loop. */
+void *memcpy(void *to, const void *from, size_t count)
+{
+	for (size_t i = 0; i < count; i++)
+		((volatile uint8_t *)to)[i] = ((const uint8_t *)from)[i];
+	return to;
+}
+
+void *memmove(void *to, const void *from, size_t count)
+{
+	if (to < from)
+		return memcpy(to, from, count);
+	while (count-- > 0)
+		((volatile uint8_t *)to)[count] = ((const uint8_t *)from)[count];
+	return to;
+}
+
+void *memset(void *to, int byte, size_t count)
+{
+	for (size_t i = 0; i < count; i++)
+		((volatile uint8_t *)to)[i] = (uint8_t)byte;
+	return to;
+}
+
+static void out(uint16_t port, uint8_t byte)
+{
+	__asm__ volatile("outb %0, %1" : : "a"(byte), "Nd"(port));
+}
+
+static void stop(void)
+{
+	for (;;)
+		__asm__ volatile("cli; hlt");
+}
+
+static void check(uint32_t status)
+{
+	if (status == OOPSBOX_DONE)
+		return;
+	out(SERIAL, '!');
+	stop();
+}
+
+/* Makes these stores, with a barrier after each. Where caches do not outlive a reset, flush the line here too. */
+static void make(const struct oopsbox_stores *stores, const uint8_t *payload)
+{
+	const uint8_t *from = stores->what == OOPSBOX_PAYLOAD ? payload + stores->from : stores->bytes;
+	volatile uint8_t *to = zone + stores->place;
+	if (stores->what == OOPSBOX_WORD)
+		*(volatile uint32_t *)to = stores->word;
+	for (uint32_t i = 0; i < stores->len && stores->what != OOPSBOX_WORD; i++) {
+		to[i] = from[i];
+		__asm__ volatile("sfence");
+	}
+	__asm__ volatile("sfence");
+}
+
+/* Without a table of the encoder: a line of a console has time, and the table would take 4 KiB. */
+static void say(const char *line)
+{
+	struct oopsbox_flight flight;
+	struct oopsbox_stores stores;
+	const uint8_t *bytes = (const uint8_t *)line;
+	size_t length = 0;
+	while (bytes[length] != 0)
+		length++;
+	check(oopsbox_append_begin(&place, zone, place.size, bytes, length, &flight));
+	for (;;) {
+		check(oopsbox_flight_next(&flight, zone, place.size, NULL, 0, bytes, length, NULL, 0, UINT32_MAX, &stores));
+		if (stores.what == OOPSBOX_FINISHED)
+			return;
+		make(&stores, bytes);
+	}
+}
+
+static void boot_zone(void)
+{
+	struct oopsbox_boot boot;
+	struct oopsbox_stores stores;
+	check(oopsbox_boot_begin(&place, zone, place.size, &boot));
+	for (;;) {
+		check(oopsbox_boot_next(&boot, zone, place.size, &stores));
+		if (stores.what == OOPSBOX_FINISHED)
+			return;
+		make(&stores, NULL);
+	}
+}
+
+/* Sends the log over the serial port, in pieces. */
+static void send_log(void)
+{
+	uint8_t piece[64];
+	uint64_t got = 1;
+	for (uint64_t from = 0; got > 0; from += got) {
+		check(oopsbox_zone_log(&place, zone, place.size, NULL, 0, from, piece, sizeof(piece), &got));
+		for (uint64_t i = 0; i < got; i++)
+			out(SERIAL, piece[i]);
+	}
+	out(SERIAL, '.');
+}
+
+void bare(void)
+{
+	struct oopsbox_layout_answer layout;
+	struct oopsbox_zone_answer answer;
+	check(oopsbox_zone_at(&params, OOPSBOX_CONSOLE, 0, &place, &layout));
+	zone = (uint8_t *)(uintptr_t)REGION + place.at;
+	check(oopsbox_zone_read(&place, zone, place.size, NULL, 0, &answer));
+	if (answer.state == OOPSBOX_FOUND) {
+		send_log();
+		stop();
+	}
+	boot_zone();
+	say("bare: the console is a ramoops zone\n");
+	say("bare: valve 3 opened\n");
+	say("bare: pressure 9.1 bar, limit 8.0\n");
+	say("bare: giving up, reset\n");
+	out(KEYBOARD, 0xfe);
+	stop();
+}

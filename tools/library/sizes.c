@@ -1,0 +1,29 @@
+/* The structs of oopsbox.h have the sizes that it states, in C and in C++. */
+#include <oopsbox.h>
+
+#ifdef __cplusplus
+#define HAS(type, size) static_assert(sizeof(struct type) == size, #type)
+#else
+#define HAS(type, size) _Static_assert(sizeof(struct type) == size, #type)
+#endif
+
+HAS(oopsbox_zone_place, 36);
+HAS(oopsbox_layout_answer, 24);
+HAS(oopsbox_zone_answer, 32);
+HAS(oopsbox_params, 104);
+HAS(oopsbox_row, 16);
+HAS(oopsbox_flight, 96);
+HAS(oopsbox_stores, 152);
+HAS(oopsbox_boot, 64);
+HAS(oopsbox_lengths, 16);
+
+/* Prints them, for the Python module to be compared. */
+#include <stdio.h>
+
+int main(void)
+{
+	printf("%zu %zu %zu %zu %zu %zu %zu %zu\n", sizeof(struct oopsbox_zone_place), sizeof(struct oopsbox_layout_answer),
+	       sizeof(struct oopsbox_lengths), sizeof(struct oopsbox_params), sizeof(struct oopsbox_zone_answer),
+	       sizeof(struct oopsbox_flight), sizeof(struct oopsbox_boot), sizeof(struct oopsbox_stores));
+	return 0;
+}

@@ -1,0 +1,95 @@
+/* Makes the stores of the library's calls on a zone in memory, one after another. */
+#ifndef STORE_H
+#define STORE_H
+
+#include <oopsbox.h>
+
+/* A number below this bound, by xorshift; the same ones in each run. */
+static inline uint32_t below(uint32_t bound)
+{
+	static uint64_t state = 88172645463325252u;
+	state ^= state << 13;
+	state ^= state >> 7;
+	state ^= state << 17;
+	return (uint32_t)((state >> 32) % bound);
+}
+
+/* A zone, its bytes and its encoder's table; rows is 0 without one. */
+struct zone {
+	struct oopsbox_zone_place place;
+	uint8_t *bytes;
+	size_t rows;
+	struct oopsbox_row table[OOPSBOX_TABLE];
+};
+
+/* A word is one store of four bytes; all else is stored byte by byte. */
+static inline void make_stores(struct zone *zone, const struct oopsbox_stores *stores, const uint8_t *line,
+			       const uint8_t *payload)
+{
+	volatile uint8_t *to = zone->bytes + stores->place;
+	const uint8_t *from = stores->bytes;
+	if (stores->what == OOPSBOX_WORD) {
+		__atomic_store_n((uint32_t *)to, stores->word, __ATOMIC_RELAXED);
+		return;
+	}
+	if (stores->what == OOPSBOX_LINE)
+		from = line + stores->from;
+	if (stores->what == OOPSBOX_PAYLOAD)
+		from = payload + stores->from;
+	for (uint32_t i = 0; i < stores->len; i++)
+		to[i] = from[i];
+}
+
+static inline uint32_t next_stores(struct zone *zone, struct oopsbox_flight *flight, const uint8_t *line,
+				   size_t line_len, const uint8_t *payload, size_t length, uint32_t most,
+				   struct oopsbox_stores *stores)
+{
+	return oopsbox_flight_next(flight, zone->bytes, zone->place.size, line, line_len, payload, length, zone->table,
+				   zone->rows, most, stores);
+}
+
+static inline uint32_t append(struct zone *zone, const uint8_t *payload, size_t length)
+{
+	struct oopsbox_flight flight;
+	struct oopsbox_stores stores;
+	uint32_t status = oopsbox_append_begin(&zone->place, zone->bytes, zone->place.size, payload, length, &flight);
+	while (status == OOPSBOX_DONE) {
+		status = next_stores(zone, &flight, NULL, 0, payload, length, UINT32_MAX, &stores);
+		if (status != OOPSBOX_DONE || stores.what == OOPSBOX_FINISHED)
+			break;
+		make_stores(zone, &stores, NULL, payload);
+	}
+	return status;
+}
+
+/* A boot of the zone as one of this kind: Linux erases a console and pmsg, and the library keeps an ftrace ring. */
+static inline uint32_t boot_as(struct zone *zone, uint32_t kind)
+{
+	struct oopsbox_zone_place place = zone->place;
+	struct oopsbox_boot boot;
+	struct oopsbox_stores stores;
+	place.kind = kind;
+	uint32_t status = oopsbox_boot_begin(&place, zone->bytes, place.size, &boot);
+	while (status == OOPSBOX_DONE) {
+		status = oopsbox_boot_next(&boot, zone->bytes, place.size, &stores);
+		if (status != OOPSBOX_DONE || stores.what == OOPSBOX_FINISHED)
+			break;
+		make_stores(zone, &stores, NULL, NULL);
+	}
+	return status;
+}
+
+/* The zone of this kind and number, in a region with these bytes. */
+static inline uint32_t find_zone(struct zone *zone, const struct oopsbox_params *params, uint32_t kind, uint32_t index,
+				 uint8_t *region)
+{
+	struct oopsbox_layout_answer answer;
+	uint32_t status = oopsbox_zone_at(params, kind, index, &zone->place, &answer);
+	if (status != OOPSBOX_DONE)
+		return status;
+	zone->bytes = region + zone->place.at;
+	zone->rows = zone->place.parity == 0 ? 0 : OOPSBOX_TABLE;
+	return zone->rows == 0 ? OOPSBOX_DONE : oopsbox_table(zone->place.parity, zone->table, zone->rows);
+}
+
+#endif
