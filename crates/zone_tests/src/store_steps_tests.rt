@@ -8,7 +8,7 @@ ghost use Rattle.rs_encode.specs.Lanes.{IsLent};
 
 use block_ecc::Coder;
 use std::process::Abort;
-use store_steps::{CallKind, Given, Leg, Phase, Steps, Store, Zone};
+use store_steps::{CallKind, Given, Leg, Phase, Place, Steps, Store, Zone};
 use zone_spec::{Kind, ZoneName};
 
 const SIG: u32 = 0x4347_4244;
@@ -378,40 +378,58 @@ fn rings_that_no_call_can_write_are_refused(rt: HostRuntime) {
     }
 }
 
+// The places of an append of three bytes, and others: its part, the ring, the phase, the block, the number within the
+// phase, how many stores are made, and whether it is one of them.
 #[test]
 fn numbers_that_are_no_steps_are_seen(rt: HostRuntime) {
     let (zone, image) = (zone(&rt), image(0, 0));
     let Some(begun) = Steps::try_begin(zone, CallKind::Append, &image, b"", b"abc") else {
         panic!(rt; "refused");
     };
-    assert!(rt; begun.is_kept(b"", b"abc"));
-    let mut later = begun;
-    later.made = 1;
-    assert!(rt; !later.is_kept(b"", b"abc"));
-    let mut later = begun;
-    later.place.phase = Phase::Start;
-    assert!(rt; !later.is_kept(b"", b"abc"));
-    later.made = 1;
-    assert!(rt; later.is_kept(b"", b"abc"));
-    let mut later = begun;
-    later.place.start = 4018;
-    assert!(rt; !later.is_kept(b"", b"abc"));
-    let mut later = begun;
-    (later.place.phase, later.place.number, later.made) = (Phase::First, 1, 3);
-    assert!(rt; later.is_kept(b"", b"abc"));
-    assert!(rt; !later.is_kept(b"", b""));
-    later.place.number = 4;
-    assert!(rt; !later.is_kept(b"", b"abc"));
-    let mut later = begun;
-    (later.place.phase, later.place.block, later.made) = (Phase::FirstParity, 0xFFFF_FFFF, 5);
-    assert!(rt; !later.is_kept(b"", b"abc"));
-    let mut later = begun;
-    (later.place.start, later.place.size) = (7, 7);
-    assert!(rt; !later.is_kept(b"", b"abc"));
-    let mut later = begun;
-    later.place.leg = Leg::Line;
-    assert!(rt; !later.is_kept(b"", b"abc"));
-    let mut later = begun;
-    later.kind = CallKind::Dump;
-    assert!(rt; !later.is_kept(b"", b"abc"));
+    let rows = [
+        (Leg::Payload, 0, Phase::Size, 0, 0, 0, true),
+        (Leg::Payload, 0, Phase::Size, 0, 0, 1, false),
+        (Leg::Payload, 0, Phase::Start, 0, 0, 0, false),
+        (Leg::Payload, 0, Phase::Start, 0, 0, 1, true),
+        (Leg::Payload, 0, Phase::First, 0, 1, 3, true),
+        (Leg::Payload, 0, Phase::First, 0, 4, 3, false),
+        (Leg::Payload, 0, Phase::FirstParity, 0, 0, 5, true),
+        (
+            Leg::Payload,
+            0,
+            Phase::FirstParity,
+            0xFFFF_FFFF,
+            0,
+            5,
+            false,
+        ),
+        (Leg::Payload, 7, Phase::Size, 0, 0, 0, false),
+        (Leg::Payload, 4018, Phase::Size, 0, 0, 0, false),
+        (Leg::Line, 0, Phase::Size, 0, 0, 0, false),
+    ];
+    for (leg, start, phase, block, number, made, is_kept) in rows {
+        let mut steps = begun;
+        steps.place = Place {
+            leg,
+            start,
+            size: start,
+            phase,
+            block,
+            number,
+        };
+        steps.made = made;
+        assert!(rt; steps.is_kept(b"", b"abc") == is_kept, "{phase:?} {made}");
+    }
+}
+
+#[test]
+fn steps_of_another_call_are_seen(rt: HostRuntime) {
+    let (zone, image) = (zone(&rt), image(0, 0));
+    let Some(mut steps) = Steps::try_begin(zone, CallKind::Append, &image, b"", b"abc") else {
+        panic!(rt; "refused");
+    };
+    assert!(rt; steps.is_kept(b"", b"abc"));
+    assert!(rt; !steps.is_kept(b"", b""));
+    steps.kind = CallKind::Dump;
+    assert!(rt; !steps.is_kept(b"", b"abc"));
 }
