@@ -12,4 +12,4 @@ dumps_in (Some d) = record { name = d.name; content = d.content.now; time = Some
 
 -- the records that these logs are, each with this notice
 abbrev pub noted : Name → List ℕ → List (List ℕ) → List RecordHeld
-noted name notice logs = map (λ log. record { name = name; time = None; content = log ++ notice }) logs
+noted name notice logs = map (λ log. record { name = name; time = None; content = log; notice = notice }) logs
