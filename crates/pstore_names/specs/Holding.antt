@@ -1,5 +1,5 @@
 -- Parts of the list of records with their contents
-use Rattle.std.specs.Prelude.{ℕ, ◌++◌, List, [], ◌∷◌, map, Option, Some, None}
+use Rattle.std.specs.Prelude.{ℕ, List, [], ◌∷◌, map, Option, Some, None}
 use Rattle.zone_spec.specs.declared.Name.{Name}
 use Rattle.zone_spec.specs.Records.{Listed}
 use Rattle.report_spec.specs.Records.{RecordHeld}

@@ -8,9 +8,9 @@ ghost use Rattle.zone_params.specs.Laid.{params_of, zones_of};
 ghost use Rattle.old_log.specs.Saving.{AreNumbered};
 ghost use Rattle.record_report.specs.Reports.{SpansFit, ReadsTo, IsReport};
 
+use crate::shown::{RecordReport, shown_records};
 use box_io::Bytes;
 use old_log::{Logs, ZoneParts, read_parts};
-use crate::shown::{RecordReport, shown_records};
 use pstore_names::held_records;
 use ram_region::{Region, Span, Spans};
 use std::alloc::{AllocError, Global};

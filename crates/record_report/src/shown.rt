@@ -1,6 +1,6 @@
 // The records as they are shown.
 ghost use Rattle.std.specs.Prelude.{◌≡◌, IfOk};
-ghost use Rattle.box_io.specs.Bytes.{AreBytes};
+ghost use Rattle.report_spec.specs.declared.Packing.TheVariants.{Part};
 ghost use Rattle.report_spec.specs.Packed.{most_of, as_it_stands, inflated, IsUnpacked, IsShown, AreShown, readable};
 
 use box_io::Bytes;
@@ -33,8 +33,7 @@ impl Model for RecordReport {
 impl RecordReport {
     /// What people read of it: the text up to a fault, else the content.
     pub fn readable(&self) -> &[u8]
-        ensures value { result.now ≡ readable self.now }
-        ensures bytes { AreBytes (readable self.now) }
+        ensures { result.now ≡ readable self.now }
     {
         match &self.packing {
             Packing::Plain | Packing::Whole { .. } => self.content.as_slice(),

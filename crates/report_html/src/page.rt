@@ -100,7 +100,8 @@ fn add_packing(pieces: &mut Vec<Piece<'_>>, packing: &Packing<Bytes>) -> Result<
 }
 
 fn add_content<'a>(pieces: &mut Vec<Piece<'a>>, content: &'a [u8]) -> Result<(), AllocError>
-    ensures { OnOk result (parts pieces.new.items ≡ parts pieces.old.items ++ content_parts content.entry.now) }
+    ensures bytes { AreBytes content.entry.now }
+    ensures parts { OnOk result (parts pieces.new.items ≡ parts pieces.old.items ++ content_parts content.entry.now) }
 {
     add(
         pieces,

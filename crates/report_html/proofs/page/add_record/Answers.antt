@@ -1,10 +1,14 @@
 -- The parts of a record are those of its fields
-use Rattle.std.proofs.Common.{◌≡◌, ◌++◌, ◌∙◌, List, [], ◌∷◌, ℕ, length, codes, ap}
+use Rattle.std.proofs.Common.{◌≡◌, ◌++◌, ◌∙◌, List, [], ◌∷◌, ℕ, length, codes, ap, subst}
+use Rattle.zone_spec.specs.Parts.{AreBytes}
 use Rattle.report_spec.specs.Packed.{RecordShown, readable}
 use Rattle.report_html.specs.Pieces.{Part, Words, parts}
 use Rattle.report_html.specs.Pages.{name_parts, length_parts, time_parts, packing_parts, content_parts}
 use Rattle.report_html.proofs.Joined.{joined}
 use Rattle.report_html.proofs.page.add_record.Goals as goal
+
+pub returns-clause-bytes : goal.returns-clause-bytes
+returns-clause-bytes c = subst AreBytes c.readable.ensures c.add_content.ensures.bytes
 
 pub returns-clause-parts : goal.returns-clause-parts
 returns-clause-parts c =
@@ -27,7 +31,7 @@ returns-clause-parts c =
     let packing : packed ≡ timed ++ packing_parts r.packing =
     c.in_ok-add_packing.ensures ∙ ap (λ (q : RecordShown). timed ++ packing_parts q.packing) c.held.view_is in
     let content : whole ≡ packed ++ content_parts (readable r) =
-    c.in_ok-add_content.ensures ∙ ap (λ (bs : List ℕ). packed ++ content_parts bs) c.readable.ensures.value in
+    c.in_ok-add_content.ensures.parts ∙ ap (λ (bs : List ℕ). packed ++ content_parts bs) c.readable.ensures in
     let to_name = joined old begin (name_parts r.name) begun named c.in_ok-add.ensures name in
     let to_length = joined old (begin ++ name_parts r.name) (length_parts (length r.content))
     named long to_name bytes in
