@@ -20,8 +20,8 @@ use Rattle.report_spec.specs.declared.Packing.{Packing}
 use Rattle.report_spec.specs.declared.Packing.TheVariants.{Plain, Whole, Part as PartOfText}
 use Rattle.report_spec.specs.Packed.{RecordShown, readable}
 use Rattle.record_report.specs.Reports.{ReportHeld}
-use Rattle.report_html.specs.Pieces.{Part, Words, Count, Bytes, parts_text}
-use Rattle.report_html.specs.Pictures.{Run, count_parts, corrected_parts, blocks_parts, run_parts, runs, unused_parts, place_parts, read_words, zone_parts, legend_parts, picture_opening, picture}
+use Rattle.report_html.specs.Pieces.{Part, Words, Count, parts_text}
+use Rattle.report_html.specs.Pictures.{corrected_parts, blocks_parts, run_parts, runs, unused_parts, place_parts, read_words, zone_parts, legend_parts, picture_opening, picture}
 use Rattle.report_html.specs.Pages.{name_parts, time_parts, length_parts, packing_parts, content_parts, record_parts, heading_parts, page_parts}
 use Rattle.report_html.specs.Escaping.{foreign_in, foreign_of, HoldBytes, IsWithoutMarkup}
 use Rattle.report_html.proofs.Texts.{is-text}
