@@ -1,13 +1,16 @@
 -- A record's content is text exactly where it is UTF-8
-use Rattle.std.proofs.Common.{◌≡◌, ℕ, List, Bool, true, false, ap, ◌∙◌, sym, refl}
+use Rattle.std.proofs.Common.{◌≡◌, ◌⊎◌, ℕ, List, Bool, true, false, ap, ◌∙◌, sym, refl, inl, inr}
 use Rattle.std.specs.Str.{IsUtf8, is_utf8}
 use Rattle.std.proofs.lemmas.Str.{is_utf8-from_IsUtf8, IsUtf8-from_is_utf8}
 use Rattle.base64.specs.Engines.{standard}
 use Rattle.base64.specs.GeneralPurpose.{encode_of}
 use Rattle.serde_json.specs.Data.{Data, null, string}
 use Rattle.zone_spec.specs.Records.{Saved}
+use Rattle.report_spec.specs.declared.TextFault.{TextFault}
+use Rattle.report_spec.specs.declared.Packing.{Packing}
+use Rattle.report_spec.specs.declared.Packing.TheVariants.{Plain, Whole, Part}
 use Rattle.report_spec.specs.Packed.{RecordShown}
-use Rattle.report_json.specs.Schema.{record_with, content_data}
+use Rattle.report_json.specs.Schema.{record_with, content_data, part_data_of, data_by, record_data}
 
 by_text : (zones : List Saved) (r : RecordShown) (b : Bool) → is_utf8 r.content ≡ b → b ≡ true
     → record_with zones r (string r.content) null ≡ content_data zones r
@@ -36,3 +39,18 @@ base64_record zones r bytes d n same bad is none =
     ap (λ m. record_with zones r m d) none ∙ ap (record_with zones r null)
     (is ∙ ap (λ bs. string (encode_of standard bs)) same)
     ∙ by_base64 zones r _ (ap is_utf8 (sym same)) (not_utf8 bytes _ refl bad)
+
+-- ---- a record by its packing
+
+pub part_record : (zones : List Saved) (r : RecordShown) (fault : TextFault) (text : List ℕ)
+    → r.packing ≡ Part fault text → part_data_of zones r text ≡ record_data zones r
+unfolding record_data
+part_record zones r fault text e = sym (ap (λ (p : Packing (List ℕ)). data_by p zones r) e)
+
+pub whole_record : (zones : List Saved) (r : RecordShown)
+    → (r.packing ≡ Plain) ⊎ ((taken : ℕ) × (r.packing ≡ Whole taken)) → content_data zones r ≡ record_data zones r
+unfolding record_data
+whole_record zones r how = elim how [
+  | inl e ↦ sym (ap (λ (p : Packing (List ℕ)). data_by p zones r) e)
+  | inr w ↦ sym (ap (λ (p : Packing (List ℕ)). data_by p zones r) w.1)
+]

@@ -1,0 +1,28 @@
+-- A record is shown by its packing
+use Rattle.std.proofs.Common.{◌≡◌, ◌⊎◌, ◌∙◌, ℕ, ap, sym, inl, inr}
+use Rattle.old_log.specs.Saving.{saved}
+use Rattle.report_spec.specs.declared.Packing.TheVariants.{Plain, Whole}
+use Rattle.report_spec.specs.Packed.{RecordShown}
+use Rattle.report_json.specs.Schema.{part_data_of}
+use Rattle.report_json.proofs.Contents.{part_record, whole_record}
+use Rattle.report_json.proofs.Places.{if_ok}
+use Rattle.report_json.proofs.records.record_value.Goals as goal
+
+pub returns-in-Part : goal.returns-in-Part
+returns-in-Part c =
+    let zones = saved c.args.logs.now in
+    let r : RecordShown = c.args.held.now in
+    if_ok c.part_value.result _ _ (λ v e. e ∙ ap (part_data_of zones r) c.as_slice.ensures
+    ∙ part_record zones r c.in-Part.fault c.in-Part.text
+    (sym (ap (λ (q : RecordShown). q.packing) c.held.view_is) ∙ c.in-Part.is)) c.part_value.ensures
+
+pub returns-in-Plain : goal.returns-in-Plain
+returns-in-Plain c =
+    let zones = saved c.args.logs.now in
+    let r : RecordShown = c.args.held.now in
+    let packing = sym (ap (λ (q : RecordShown). q.packing) c.held.view_is) in
+    let how : (r.packing ≡ Plain) ⊎ ((taken : ℕ) × (r.packing ≡ Whole taken)) = elim c.in-Plain.is [
+      | inl e ↦ inl (packing ∙ e)
+      | inr w ↦ inr (w.0, packing ∙ w.1)
+    ] in
+    if_ok c.content_value.result _ _ (λ v e. e ∙ whole_record zones r how) c.content_value.ensures
