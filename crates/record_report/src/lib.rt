@@ -2,9 +2,11 @@
 //! compressed dumps inflated.
 #![tactic(auto)]
 
+mod laws;
 mod report;
 mod shown;
 
+pub use laws::one_shown;
 pub use old_log::ZoneParts;
 pub use report::{Report, report_of, report_of_zones};
 pub use report_spec::{Packing, PartState, TextFault};
