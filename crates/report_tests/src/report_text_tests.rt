@@ -1,5 +1,5 @@
 // Texts of worked images, and dates in them.
-use crate::packed_dumps::{DAMAGED, WHOLE, report_on, zones_of};
+use crate::packed_dumps::{DAMAGED, WHOLE, image_of, zones_of};
 use box_io::Bytes;
 use record_report::report_of;
 use report_text::text;
@@ -73,10 +73,11 @@ fn two_records(rt: HostRuntime) -> Result<(), Fail> {
 // The text of a report on a compressed dump, from the table of its record on.
 fn shown_packed(alloc: Global, packed: &[u8]) -> Result<Bytes, Fail> {
     let zones = zones_of(alloc)?;
-    let report = report_on(alloc, packed)?;
-    if report.logs().len() as usize != zones.zones().len() {
-        return Err(Fail::from("the report has other zones"));
+    let image = Bytes::from_vec(image_of(alloc, packed)?);
+    if image.len() != zones.mem() as usize {
+        return Err(Fail::from("the image has another size"));
     }
+    let report = report_of(alloc, &zones, image)?;
     Ok(text(alloc, b"a", zones.zones(), &report)?)
 }
 
