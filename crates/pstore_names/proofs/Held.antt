@@ -34,7 +34,7 @@ pub noted_of-append : (name : Name) (notice : List ℕ) (kind : Kind) (xs ys : L
     → noted_of name notice kind (xs ++ ys) ≡ noted_of name notice kind xs ++ noted_of name notice kind ys
 noted_of-append name notice kind xs ys =
     ap (noted name notice) (logs_of-append kind xs ys)
-    ∙ map-append (λ (log : List ℕ). record { name = name; time = None; content = log ++ notice })
+    ∙ map-append (λ (log : List ℕ). record { name = name; time = None; content = log; notice = notice })
     (logs_of kind xs) (logs_of kind ys)
 
 -- logs with the notice of their name are its records
@@ -42,7 +42,7 @@ pub noted-plain : (zones : List Saved) (name : Name) (text : List ℕ) (logs : L
     → noted name text logs ≡ map (record_held zones) (plain name logs)
 noted-plain zones name text [] e = refl
 noted-plain zones name text (log ∷ logs) e =
-    ap₂ (λ (t : List ℕ) (rs : List RecordHeld). record { name = name; time = None; content = log ++ t } ∷ rs) e
+    ap₂ (λ (t : List ℕ) (rs : List RecordHeld). record { name = name; time = None; content = log; notice = t } ∷ rs) e
     (noted-plain zones name text logs e)
 
 -- the records of dumps of one number go by their notices
@@ -54,7 +54,8 @@ held-of-line a b n log (Some line) same =
     let held : List ℕ → RecordHeld = λ text. record {
       name = DumpName n line.packed;
       time = Some line.time;
-      content = drop line.len log ++ text;
+      content = drop line.len log;
+      notice = text;
     } in
     ap (λ (text : List ℕ). held text ∷ []) (same line.packed)
 

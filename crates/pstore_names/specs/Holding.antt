@@ -1,5 +1,5 @@
 -- Parts of the list of records with their contents
-use Rattle.std.specs.Prelude.{ℕ, ◌++◌, List, [], ◌∷◌, map, Option, Some, None}
+use Rattle.std.specs.Prelude.{ℕ, List, [], ◌∷◌, map, Option, Some, None}
 use Rattle.zone_spec.specs.declared.Name.{Name}
 use Rattle.zone_spec.specs.Records.{Listed}
 use Rattle.report_spec.specs.Records.{RecordHeld}
@@ -12,4 +12,4 @@ dumps_in (Some d) = record { name = d.name; content = d.content.now; time = Some
 
 -- the records that these logs are, each with this notice
 abbrev pub noted : Name → List ℕ → List (List ℕ) → List RecordHeld
-noted name notice logs = map (λ log. record { name = name; time = None; content = log ++ notice }) logs
+noted name notice logs = map (λ log. record { name = name; time = None; content = log; notice = notice }) logs

@@ -23,15 +23,47 @@ use zone_spec::{Kind, Name, Time};
 pub struct HeldRecord {
     pub name: Name,
     pub time: Option<Time>,
-    pub content: Bytes,
+    bytes: Bytes,
+    // Where the notice begins.
+    end: usize,
 }
 
 impl Model for HeldRecord {
+    ghost use Rattle.std.specs.Prelude.{◌≤◌, length, take, drop};
     ghost use Rattle.report_spec.specs.Records.{RecordHeld};
 
     ghost Value = { RecordHeld };
 
-    ghost view = { λ r. record { name = r.name; time = r.time; content = r.content } };
+    ghost view = { λ r. record {
+      name = r.name;
+      time = r.time;
+      content = take r.end r.bytes;
+      notice = drop r.end r.bytes;
+    } };
+
+    ghost invariant = { λ r. r.end ≤ length r.bytes };
+}
+
+impl HeldRecord {
+    /// The content without the notice.
+    pub fn content(&self) -> &[u8]
+        ensures { result.now ≡ self.now.content }
+    {
+        &self.bytes.as_slice()[..self.end]
+    }
+
+    pub fn notice(&self) -> &[u8]
+        ensures { result.now ≡ self.now.notice }
+    {
+        &self.bytes.as_slice()[self.end..]
+    }
+
+    /// The content with the notice.
+    pub fn into_bytes(self) -> Bytes
+        ensures { result ≡ self.content ++ self.notice }
+    {
+        self.bytes
+    }
 }
 
 /// The record with this content and the notice of these counts after it.
@@ -44,17 +76,20 @@ fn with_notice(
     ensures { IfOk result (λ r. r ≡ record {
       name = name;
       time = time;
-      content = content ++ notice_with counts.has_parity counts.corrected counts.bad;
+      content = content;
+      notice = notice_with counts.has_parity counts.corrected counts.bad;
     }) }
 {
-    let mut content = content;
+    let mut bytes = content;
+    let end = bytes.len();
     let mut notice = ArrayString::new();
     write_counted(counts, &mut notice);
-    content.append(notice.as_str().as_bytes())?;
+    bytes.append(notice.as_str().as_bytes())?;
     Ok(HeldRecord {
         name,
         time,
-        content,
+        bytes,
+        end,
     })
 }
 

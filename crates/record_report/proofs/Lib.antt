@@ -1,1 +1,3 @@
 pub mod Zones
+pub mod Each
+pub mod OneWay

@@ -14,7 +14,8 @@ use Rattle.ram_region.specs.CutRegion.{cut_at}
 use Rattle.report_spec.specs.Parts.{part_states, zone_bytes}
 use Rattle.record_report.specs.declared.report.Readings.{Readings}
 use Rattle.record_report.specs.Reports.{SpansFit, Adds, ReadsTo, IsReport}
-use Rattle.report_spec.specs.Records.{RecordHeld, records_held}
+use Rattle.report_spec.specs.Records.{records_held}
+use Rattle.report_spec.specs.Packed.{RecordShown, AreShown}
 
 get-map : {X Y : Type 0} (f : X → Y) (xs : List X) (i : ℕ) (x : X) → slice_get xs i ≡ Some x
     → slice_get (map f xs) i ≡ Some (f x)
@@ -126,8 +127,8 @@ reads-next zones spans n old new z bytes to ez eb adds = record {
 
 -- all zones and the records
 pub report-is : (zones : List Zone) (image : List ℕ) (spans : List (List ℕ)) (r : Readings)
-    (records : List RecordHeld) → spans ≡ (cut_at zones image).spans → ReadsTo zones spans (length zones) r
-    → records ≡ records_held (saved r.logs)
+    (records : List RecordShown) → spans ≡ (cut_at zones image).spans → ReadsTo zones spans (length zones) r
+    → AreShown zones (records_held (saved r.logs)) records
     → IsReport zones image (record { logs = r.logs; parts = r.parts.items; records = records })
 report-is zones image spans r records same to is = record {
   zones_same = to.zones_same;

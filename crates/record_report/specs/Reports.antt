@@ -4,14 +4,16 @@ use Rattle.zone_spec.specs.declared.Zone.{Zone}
 use Rattle.zone_spec.specs.Reading.{zone_reading}
 use Rattle.old_log.specs.Saving.{SavedLogs, saved}
 use Rattle.report_spec.specs.Parts.{PartStates, part_states, zone_bytes}
-use Rattle.report_spec.specs.Records.{RecordHeld, records_held}
+use Rattle.report_spec.specs.Records.{records_held}
+use Rattle.report_spec.specs.Packed.{RecordShown, AreShown}
 use Rattle.record_report.specs.declared.report.Readings.{Readings}
 
--- what a contract sees of a report: the saved logs of all zones, how the parts of each zone read, and the records
+-- what a contract sees of a report: the saved logs of all zones, how the parts of each zone read, and the records as
+-- they are shown
 pub record ReportHeld : Type 0 where
   pub logs : SavedLogs
   pub parts : List PartStates
-  pub records : List RecordHeld
+  pub records : List RecordShown
 
 -- each span has its zone's size
 pub record SpansFit (zones : List Zone) (spans : List (List ℕ)) : Type 0 where
@@ -35,7 +37,8 @@ pub record ReadsTo (zones : List Zone) (spans : List (List ℕ)) (n : ℕ) (r : 
   pub parts : (i : ℕ) (z : Zone) (bytes : List ℕ) → i < n → slice_get zones i ≡ Some z
       → slice_get spans i ≡ Some bytes → slice_get r.parts.items i ≡ Some (part_states z bytes)
 
--- the report of an image by a layout: each zone's reading, how its parts read, and the records that the readings list
+-- the report of an image by a layout: each zone's reading, how its parts read, and the records that the readings list,
+-- as they are shown
 pub record IsReport (zones : List Zone) (image : List ℕ) (r : ReportHeld) : Type 0 where
   pub zones_same : r.logs.zones ≡ zones
   pub readings_len : length r.logs.readings ≡ length zones
@@ -44,4 +47,4 @@ pub record IsReport (zones : List Zone) (image : List ℕ) (r : ReportHeld) : Ty
       → slice_get r.logs.readings i ≡ Some (Some (zone_reading z (zone_bytes z image)))
   pub parts : (i : ℕ) (z : Zone) → slice_get zones i ≡ Some z
       → slice_get r.parts i ≡ Some (part_states z (zone_bytes z image))
-  pub records : r.records ≡ records_held (saved r.logs)
+  pub records : AreShown zones (records_held (saved r.logs)) r.records

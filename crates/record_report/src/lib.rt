@@ -1,9 +1,13 @@
-//! What an image holds: each zone as it reads, its parts, and the records that the next boot would list.
+//! What an image holds: each zone as it reads, its parts, and the records that the next boot would list,
+//! compressed dumps inflated.
 #![tactic(auto)]
 
+mod laws;
 mod report;
+mod shown;
 
+pub use laws::one_shown;
 pub use old_log::ZoneParts;
-pub use pstore_names::HeldRecord as RecordReport;
 pub use report::{Report, report_of, report_of_zones};
-pub use report_spec::PartState;
+pub use report_spec::{Packing, PartState, TextFault};
+pub use shown::RecordReport;

@@ -8,9 +8,10 @@ ghost use Rattle.zone_params.specs.Laid.{params_of, zones_of};
 ghost use Rattle.old_log.specs.Saving.{AreNumbered};
 ghost use Rattle.record_report.specs.Reports.{SpansFit, ReadsTo, IsReport};
 
+use crate::shown::{RecordReport, shown_records};
 use box_io::Bytes;
 use old_log::{Logs, ZoneParts, read_parts};
-use pstore_names::{HeldRecord, held_records};
+use pstore_names::held_records;
 use ram_region::{Region, Span, Spans};
 use std::alloc::{AllocError, Global};
 use std::marker::Model;
@@ -22,7 +23,7 @@ use zone_spec::Zone;
 pub struct Report {
     logs: Logs,
     parts: Vec<ZoneParts>,
-    records: Vec<HeldRecord>,
+    records: Vec<RecordReport>,
 }
 
 impl Model for Report {
@@ -49,8 +50,8 @@ impl Report {
         &self.parts
     }
 
-    /// The records, as the next boot would list them.
-    pub fn records(&self) -> &[HeldRecord]
+    /// The records that the next boot would list, in that order, as they are shown.
+    pub fn records(&self) -> &[RecordReport]
         ensures { result.now ≡ self.now.records }
     {
         &self.records
@@ -99,7 +100,8 @@ fn read_zones(alloc: Global, zones: &[Zone], spans: &Spans) -> Result<Readings, 
     Ok(readings)
 }
 
-/// The report of an image by a whole list of zones. Each part is decoded once. Takes time linear in the image.
+/// The report of an image by a whole list of zones. Each part is decoded once, and each
+/// packed dump inflated once. Takes time linear in the image and in the texts, which have at most 64 times its bytes.
 pub fn report_of_zones(alloc: Global, zones: &[Zone], image: Bytes) -> Result<Report, AllocError>
     requires whole { IsLayout zones.now (length image) }
     requires few { length zones.now < 2 ^ 32 }
@@ -111,7 +113,8 @@ pub fn report_of_zones(alloc: Global, zones: &[Zone], image: Bytes) -> Result<Re
         Err((_, refused)) => return Err(refused),
     };
     let Readings { logs, parts } = read_zones(alloc, zones, &spans)?;
-    let records = held_records(alloc, &logs)?;
+    let held = held_records(alloc, &logs)?;
+    let records = shown_records(alloc, zones, held)?;
     Ok(Report {
         logs,
         parts,

@@ -16,11 +16,13 @@ use Rattle.report_spec.specs.declared.PartState.{PartState}
 use Rattle.report_spec.specs.declared.PartState.TheVariants.{Read, Bad}
 use Rattle.report_spec.specs.Escaped.{escaped, IsText}
 use Rattle.report_spec.specs.Parts.{PartStates}
-use Rattle.report_spec.specs.Records.{RecordHeld}
+use Rattle.report_spec.specs.declared.Packing.{Packing}
+use Rattle.report_spec.specs.declared.Packing.TheVariants.{Plain, Whole, Part as PartOfText}
+use Rattle.report_spec.specs.Packed.{RecordShown, readable}
 use Rattle.record_report.specs.Reports.{ReportHeld}
-use Rattle.report_html.specs.Pieces.{Part, Words, Count, Bytes, parts_text}
-use Rattle.report_html.specs.Pictures.{Run, count_parts, corrected_parts, blocks_parts, run_parts, runs, unused_parts, place_parts, read_words, zone_parts, legend_parts, picture_opening, picture}
-use Rattle.report_html.specs.Pages.{name_parts, time_parts, length_parts, content_parts, record_parts, heading_parts, page_parts}
+use Rattle.report_html.specs.Pieces.{Part, Words, Count, parts_text}
+use Rattle.report_html.specs.Pictures.{corrected_parts, blocks_parts, run_parts, runs, unused_parts, place_parts, read_words, zone_parts, legend_parts, picture_opening, picture}
+use Rattle.report_html.specs.Pages.{name_parts, time_parts, length_parts, packing_parts, content_parts, record_parts, heading_parts, page_parts}
 use Rattle.report_html.specs.Escaping.{foreign_in, foreign_of, HoldBytes, IsWithoutMarkup}
 use Rattle.report_html.proofs.Texts.{is-text}
 
@@ -73,7 +75,7 @@ of-picture zones report =
     (none-and (picture_opening zones) drawn refl
     ∙ none-of zone_parts of-zone (zip (zip zones report.logs.readings) report.parts))
 
--- ---- a record has its content
+-- ---- a record has what people read of it
 
 of-name : (name : Name) → foreign_of (Words (codes "<details><summary>") ∷ [] ++ name_parts name) ≡ []
 of-name (Dump index packed) = refl
@@ -85,24 +87,31 @@ of-time : (time : Option Time) → foreign_of (time_parts time) ≡ []
 of-time None = refl
 of-time (Some time) = refl
 
-of-record : (r : RecordHeld) → foreign_of (record_parts r) ≡ r.content ∷ []
+of-packing : (packing : Packing (List ℕ)) → foreign_of (packing_parts packing) ≡ []
+of-packing Plain = refl
+of-packing (Whole taken) = refl
+of-packing (PartOfText fault text) = refl
+
+of-record : (r : RecordShown) → foreign_of (record_parts r) ≡ readable r ∷ []
 of-record r =
     let named : List Part = Words (codes "<details><summary>") ∷ [] ++ name_parts r.name in
     let long : List Part = named ++ length_parts (length r.content) in
-    none-and (long ++ time_parts r.time) (content_parts r.content)
+    let timed : List Part = long ++ time_parts r.time in
+    none-and (timed ++ packing_parts r.packing) (content_parts (readable r))
+    (none-and timed (packing_parts r.packing)
     (none-and long (time_parts r.time) (none-and named (length_parts (length r.content)) (of-name r.name))
-    ∙ of-time r.time)
+    ∙ of-time r.time) ∙ of-packing r.packing)
 
-of-records : (rs : List RecordHeld) → foreign_of (flat_map record_parts rs) ≡ map (λ (r : RecordHeld). r.content) rs
+of-records : (rs : List RecordShown) → foreign_of (flat_map record_parts rs) ≡ map readable rs
 of-records [] = refl
 of-records (r ∷ rs) =
     both (record_parts r) (flat_map record_parts rs)
     ∙ ap₂ (λ (a b : List (List ℕ)). a ++ b) (of-record r) (of-records rs)
 
--- ---- the page has its title, and the contents of its records
+-- ---- the page has its title, and what people read of its records
 
 of-page : (title : List ℕ) (zones : List Zone) (report : ReportHeld)
-    → foreign_of (page_parts title zones report) ≡ title ∷ map (λ (r : RecordHeld). r.content) report.records
+    → foreign_of (page_parts title zones report) ≡ title ∷ map readable report.records
 of-page title zones report =
     let head : List Part = heading_parts title in
     let records : List Part = flat_map record_parts report.records in
@@ -113,11 +122,11 @@ of-page title zones report =
     (both head (picture zones report) ∙ ap (λ (a : List (List ℕ)). (title ∷ []) ++ a) (of-picture zones report))
     (of-records report.records)
 
-texts-of : (rs : List RecordHeld) → HoldBytes rs
-    → All (λ (bytes : List ℕ). IsText (escaped bytes)) (map (λ (r : RecordHeld). r.content) rs)
+texts-of : (rs : List RecordShown) → HoldBytes rs
+    → All (λ (bytes : List ℕ). IsText (escaped bytes)) (map readable rs)
 texts-of [] h = All-nil (λ (bytes : List ℕ). IsText (escaped bytes))
-texts-of (r ∷ rs) h = All-cons (λ (bytes : List ℕ). IsText (escaped bytes)) r.content
-    (map (λ (q : RecordHeld). q.content) rs) (is-text r.content (h 0 r refl)) (texts-of rs (λ k q e. h (suc k) q e))
+texts-of (r ∷ rs) h = All-cons (λ (bytes : List ℕ). IsText (escaped bytes)) (readable r)
+    (map readable rs) (is-text (readable r) (h 0 r refl)) (texts-of rs (λ k q e. h (suc k) q e))
 
 pub without_markup : (title : List ℕ) (zones : List Zone) (report : ReportHeld) (page : List ℕ) → AreBytes title
     → HoldBytes report.records → page ≡ parts_text (page_parts title zones report)
@@ -128,26 +137,26 @@ without_markup title zones report page bytes hold is = record {
   foreign = of-page title zones report;
   texts = subst (λ (xs : List (List ℕ)). All (λ (bytes : List ℕ). IsText (escaped bytes)) xs)
       (sym (of-page title zones report))
-      (All-cons (λ (bytes : List ℕ). IsText (escaped bytes)) title (map (λ (r : RecordHeld). r.content) report.records)
+      (All-cons (λ (bytes : List ℕ). IsText (escaped bytes)) title (map readable report.records)
       (is-text title bytes) (texts-of report.records hold));
 }
 
--- ---- what records hold are bytes
+-- ---- what people read of records are bytes
 
 -- one record more
-pub held_next : (rs : List RecordHeld) (i : ℕ) (held : RecordHeld) → held ≡ get_or rs i held
-    → ((k : ℕ) (r : RecordHeld) → k < i → slice_get rs k ≡ Some r → AreBytes r.content) → AreBytes held.content
-    → (k : ℕ) (r : RecordHeld) → k < i + 1 → slice_get rs k ≡ Some r → AreBytes r.content
+pub held_next : (rs : List RecordShown) (i : ℕ) (held : RecordShown) → held ≡ get_or rs i held
+    → ((k : ℕ) (r : RecordShown) → k < i → slice_get rs k ≡ Some r → AreBytes (readable r)) → AreBytes (readable held)
+    → (k : ℕ) (r : RecordShown) → k < i + 1 → slice_get rs k ≡ Some r → AreBytes (readable r)
 held_next rs i held is before bytes k r below at = elim (cases_order k i) [
   | inl same ↦
       let r_is : get_or rs i held ≡ r =
       get_or_from_slice_get rs i r held (subst (λ (n : ℕ). slice_get rs n ≡ Some r) same at) in
-      subst (λ (q : RecordHeld). AreBytes q.content) (is ∙ r_is) bytes
+      subst (λ (q : RecordShown). AreBytes (readable q)) (is ∙ r_is) bytes
   | inr (inl low) ↦ before k r low at
   | inr (inr high) ↦ absurd (omega (arith, below, high))
 ]
 
-pub held_all : (rs : List RecordHeld) (i : ℕ) → length rs ≤ i
-    → ((k : ℕ) (r : RecordHeld) → k < i → slice_get rs k ≡ Some r → AreBytes r.content) → HoldBytes rs
+pub held_all : (rs : List RecordShown) (i : ℕ) → length rs ≤ i
+    → ((k : ℕ) (r : RecordShown) → k < i → slice_get rs k ≡ Some r → AreBytes (readable r)) → HoldBytes rs
 held_all rs i past before k r at =
     let below : k < length rs = slice_get_within rs k r at in before k r (omega (arith, below, past)) at

@@ -4,7 +4,9 @@ use Rattle.zone_spec.specs.declared.Name.{Name}
 use Rattle.zone_spec.specs.declared.Name.TheVariants.{Dump, Console, Pmsg, Ftrace}
 use Rattle.zone_spec.specs.declared.Time.{Time}
 use Rattle.zone_spec.specs.declared.Zone.{Zone}
-use Rattle.report_spec.specs.Records.{RecordHeld}
+use Rattle.report_spec.specs.declared.Packing.{Packing}
+use Rattle.report_spec.specs.declared.Packing.TheVariants.{Plain, Whole, Part as PartOfText}
+use Rattle.report_spec.specs.Packed.{RecordShown, fault_words, readable}
 use Rattle.record_report.specs.Reports.{ReportHeld}
 use Rattle.report_html.specs.declared.page.TheConstants.{STYLE}
 use Rattle.report_html.specs.Pieces.{Part, Words, Count, Bytes, parts_text}
@@ -31,11 +33,17 @@ abbrev pub content_parts : List ℕ → List Part
 content_parts content =
     Words (codes "</summary><pre>\n") ∷ Bytes content ∷ Words (codes "</pre></details>\n") ∷ []
 
--- a record to fold out: its name, length and time, and its content
-abbrev pub record_parts : RecordHeld → List Part
+-- whether a dump was packed, and how far its bytes inflate
+abbrev pub packing_parts : Packing (List ℕ) → List Part
+packing_parts Plain = []
+packing_parts (Whole taken) = Words (codes ", inflated from ") ∷ Count taken ∷ Words (codes " bytes") ∷ []
+packing_parts (PartOfText fault text) = Words (codes ", inflated in part: ") ∷ Words (fault_words fault) ∷ []
+
+-- a record to fold out: its name, the length of its file, its time and packing, and what people read of it
+abbrev pub record_parts : RecordShown → List Part
 record_parts r =
     Words (codes "<details><summary>") ∷ [] ++ name_parts r.name ++ length_parts (length r.content)
-    ++ time_parts r.time ++ content_parts r.content
+    ++ time_parts r.time ++ packing_parts r.packing ++ content_parts (readable r)
 
 -- before the style sheet: no script, and nothing from elsewhere
 abbrev pub head_words : List ℕ

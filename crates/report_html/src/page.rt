@@ -1,13 +1,15 @@
 // The page.
 ghost use Rattle.std.specs.Prelude.{◌≡◌, ◌++◌, flat_map, IfOk, OnOk};
 ghost use Rattle.zone_spec.specs.Parts.{AreBytes};
+ghost use Rattle.report_spec.specs.Packed.{readable};
 ghost use Rattle.report_html.specs.Pieces.{parts};
-ghost use Rattle.report_html.specs.Pages.{name_parts, seconds_parts, time_parts, length_parts, content_parts, record_parts, heading_parts, page_parts, page_of};
+ghost use Rattle.report_html.specs.Pages.{name_parts, seconds_parts, time_parts, length_parts, packing_parts, content_parts, record_parts, heading_parts, page_parts, page_of};
 ghost use Rattle.report_html.specs.Escaping.{HoldBytes, IsWithoutMarkup};
 
 use crate::picture::add_picture;
 use crate::pieces::{Piece, add, render};
-use record_report::{RecordReport, Report};
+use box_io::Bytes;
+use record_report::{Packing, RecordReport, Report};
 use std::alloc::{AllocError, Global};
 use zone_spec::{Name, Time, Zone};
 
@@ -74,8 +76,32 @@ fn add_length(pieces: &mut Vec<Piece<'_>>, bytes: u64) -> Result<(), AllocError>
     add(pieces, &[Piece::Own(", bytes: "), Piece::Number(bytes)])
 }
 
+fn add_packing(pieces: &mut Vec<Piece<'_>>, packing: &Packing<Bytes>) -> Result<(), AllocError>
+    ensures { OnOk result (parts pieces.new.items ≡ parts pieces.old.items ++ packing_parts packing.now) }
+{
+    match packing {
+        Packing::Plain => Ok(()),
+        Packing::Whole { taken } => add(
+            pieces,
+            &[
+                Piece::Own(", inflated from "),
+                Piece::Number(*taken as u64),
+                Piece::Own(" bytes"),
+            ],
+        ),
+        Packing::Part { fault, .. } => add(
+            pieces,
+            &[
+                Piece::Own(", inflated in part: "),
+                Piece::Own(fault.words()),
+            ],
+        ),
+    }
+}
+
 fn add_content<'a>(pieces: &mut Vec<Piece<'a>>, content: &'a [u8]) -> Result<(), AllocError>
-    ensures { OnOk result (parts pieces.new.items ≡ parts pieces.old.items ++ content_parts content.entry.now) }
+    ensures bytes { AreBytes content.entry.now }
+    ensures parts { OnOk result (parts pieces.new.items ≡ parts pieces.old.items ++ content_parts content.entry.now) }
 {
     add(
         pieces,
@@ -89,14 +115,15 @@ fn add_content<'a>(pieces: &mut Vec<Piece<'a>>, content: &'a [u8]) -> Result<(),
 
 /// Adds a record.
 fn add_record<'a>(pieces: &mut Vec<Piece<'a>>, held: &'a RecordReport) -> Result<(), AllocError>
-    ensures bytes { OnOk result (AreBytes held.entry.now.content) }
+    ensures bytes { OnOk result (AreBytes (readable held.entry.now)) }
     ensures parts { OnOk result (parts pieces.new.items ≡ parts pieces.old.items ++ record_parts held.entry.now) }
 {
     add(pieces, &[Piece::Own("<details><summary>")])?;
     add_name(pieces, held.name)?;
     add_length(pieces, held.content.len() as u64)?;
     add_time(pieces, held.time)?;
-    add_content(pieces, held.content.as_slice())?;
+    add_packing(pieces, &held.packing)?;
+    add_content(pieces, held.readable())?;
     Ok(())
 }
 

@@ -1,11 +1,12 @@
 -- The data of a report's line, schema 1
-use Rattle.std.specs.Prelude.{◌≡◌, ℕ, ◌-◌, ◌<◌, if◌then◌else◌, List, ◌++◌, length, map, slice_get, Option, Some, None, option_to_list, replicate, codes}
+use Rattle.std.specs.Prelude.{◌≡◌, ℕ, ◌-◌, ◌<◌, Bool, true, false, if◌then◌else◌, List, ◌++◌, length, map, take, slice_get, Option, Some, None, option_to_list, replicate, codes}
 use Rattle.std.specs.Str.{is_utf8}
+use Rattle.std.specs.Str.Lossy.{utf8_valid_len}
 use Rattle.json.specs.Lex.{tokens}
 use Rattle.json.specs.Print.{print}
 use Rattle.base64.specs.Engines.{standard}
 use Rattle.base64.specs.GeneralPurpose.{encode_of}
-use Rattle.serde_json.specs.Data.{Data, null, number, unsigned, string, array, object, member, no_members}
+use Rattle.serde_json.specs.Data.{Data, null, boolean, number, unsigned, string, array, object, member, no_members}
 use Rattle.serde_json.specs.View.{items_of}
 use Rattle.serde_json.specs.Written.{IsInOrder}
 use Rattle.zone_spec.specs.declared.Kind.{Kind}
@@ -27,7 +28,9 @@ use Rattle.pstore_names.specs.Counts.{corrected_in, bad_in}
 use Rattle.report_spec.specs.declared.PartState.{PartState}
 use Rattle.report_spec.specs.declared.PartState.TheVariants.{Read, Bad}
 use Rattle.report_spec.specs.Parts.{PartStates}
-use Rattle.report_spec.specs.Records.{RecordHeld}
+use Rattle.report_spec.specs.declared.Packing.{Packing}
+use Rattle.report_spec.specs.declared.Packing.TheVariants.{Plain, Whole, Part}
+use Rattle.report_spec.specs.Packed.{RecordShown, fault_words}
 use Rattle.record_report.specs.Reports.{ReportHeld}
 
 abbrev pub count : ℕ → Data
@@ -114,21 +117,53 @@ zones_counted ConsoleName zones = zones
 zones_counted PmsgName zones = zones
 zones_counted FtraceName zones = zones
 
--- a record with its content as text and in base64
-abbrev pub record_with : List Saved → RecordHeld → Data → Data → Data
+-- whether a dump was packed, the bytes that its whole text took, and why its text goes no further
+abbrev pub is_packed : Packing (List ℕ) → Bool
+is_packed Plain = false
+is_packed (Whole taken) = true
+is_packed (Part fault text) = true
+
+abbrev pub taken_data : Packing (List ℕ) → Data
+taken_data Plain = null
+taken_data (Whole taken) = count taken
+taken_data (Part fault text) = null
+
+abbrev pub fault_data : Packing (List ℕ) → Data
+fault_data Plain = null
+fault_data (Whole taken) = null
+fault_data (Part fault text) = string (fault_words fault)
+
+-- a record with what is shown of it as text and in base64
+abbrev pub record_with : List Saved → RecordShown → Data → Data → Data
 record_with zones r text base64 = object (
     member (codes "bad") (count (bad_in r.name (zones_counted r.name zones))) (
     member (codes "base64") base64 (
+    member (codes "compressed") (boolean (is_packed r.packing)) (
     member (codes "corrected") (count (corrected_in r.name (zones_counted r.name zones))) (
+    member (codes "fault") (fault_data r.packing) (
     member (codes "name") (string (name_text r.name)) (
+    member (codes "taken") (taken_data r.packing) (
     member (codes "text") text (
-    member (codes "time") (time_data r.time) no_members))))))
+    member (codes "time") (time_data r.time) no_members)))))))))
 
 -- the content is text where it is UTF-8, else in base64
-unfoldable pub record_data : List Saved → RecordHeld → Data
-record_data zones r =
+unfoldable pub content_data : List Saved → RecordShown → Data
+content_data zones r =
     if is_utf8 r.content then record_with zones r (string r.content) null
     else record_with zones r null (string (encode_of standard r.content))
+
+-- of a text up to a fault, the longest front that is UTF-8; and the content as it stands, in base64
+abbrev pub part_data_of : List Saved → RecordShown → List ℕ → Data
+part_data_of zones r text =
+    record_with zones r (string (take (utf8_valid_len text) text)) (string (encode_of standard r.content))
+
+abbrev pub data_by : Packing (List ℕ) → List Saved → RecordShown → Data
+data_by Plain zones r = content_data zones r
+data_by (Whole taken) zones r = content_data zones r
+data_by (Part fault text) zones r = part_data_of zones r text
+
+unfoldable pub record_data : List Saved → RecordShown → Data
+record_data zones r = data_by r.packing zones r
 
 -- the value of the zone at a place
 abbrev pub IsZoneAt : List Zone → List (Option ZoneReading) → List PartStates → ℕ → Data → Type 0

@@ -1,16 +1,18 @@
 // The values of records.
-ghost use Rattle.std.specs.Prelude.{◌≡◌, map, IfOk};
+ghost use Rattle.std.specs.Prelude.{◌≡◌, map, take, IfOk};
+ghost use Rattle.std.specs.Str.Lossy.{utf8_valid_len};
 ghost use Rattle.serde_json.specs.Data.{null};
 ghost use Rattle.serde_json.specs.View.{view};
 ghost use Rattle.old_log.specs.Saving.{saved};
 ghost use Rattle.pstore_names.specs.Counts.{corrected_in, bad_in};
-ghost use Rattle.report_json.specs.Schema.{time_data, record_with, record_data, zones_counted};
+ghost use Rattle.report_json.specs.Schema.{time_data, taken_data, fault_data, is_packed, record_with, content_data, part_data_of, record_data, zones_counted};
 
 use arrayvec::ArrayString;
 use base64::engine::general_purpose::STANDARD;
+use box_io::Bytes;
 use old_log::Logs;
 use pstore_names::{Counts, counts_at, counts_of, name_text};
-use record_report::RecordReport;
+use record_report::{Packing, RecordReport};
 use serde_json::{Value, json};
 use simdutf8::compat::from_utf8;
 use std::alloc::{AllocError, Global};
@@ -41,7 +43,36 @@ fn counts(logs: &Logs, name: Name) -> Counts
     }
 }
 
-/// A record whose content is this text, or these bytes in base64.
+/// The bytes that a whole text took.
+fn taken_value(packing: &Packing<Bytes>) -> Value
+    ensures { view result ≡ taken_data packing.now }
+{
+    match packing {
+        Packing::Whole { taken } => Value::from(*taken),
+        Packing::Plain | Packing::Part { .. } => Value::Null,
+    }
+}
+
+/// Why a text goes no further.
+fn fault_value(alloc: Global, packing: &Packing<Bytes>) -> Result<Value, AllocError>
+    ensures { IfOk result (λ v. view v ≡ fault_data packing.now) }
+{
+    match packing {
+        Packing::Part { fault, .. } => Value::try_from_str(alloc, fault.words()),
+        Packing::Plain | Packing::Whole { .. } => Ok(Value::Null),
+    }
+}
+
+fn is_packed(packing: &Packing<Bytes>) -> bool
+    ensures { result ≡ is_packed packing.now }
+{
+    match packing {
+        Packing::Plain => false,
+        Packing::Whole { .. } | Packing::Part { .. } => true,
+    }
+}
+
+/// A record that is shown as this text, or by these bytes in base64.
 fn with_content(
     alloc: Global,
     logs: &Logs,
@@ -55,11 +86,17 @@ fn with_content(
     name_text(held.name, &mut name);
     let time = time_value(alloc, held.time)?;
     let counts = counts(logs, held.name);
+    let compressed = is_packed(&held.packing);
+    let fault = fault_value(alloc, &held.packing)?;
+    let taken = taken_value(&held.packing);
     json!(in alloc; {
         "bad": counts.bad,
         "base64": base64,
+        "compressed": compressed,
         "corrected": counts.corrected,
+        "fault": fault,
         "name": name.as_str(),
+        "taken": taken,
         "text": text,
         "time": time
     })
@@ -71,8 +108,9 @@ fn null_value() -> Value
     Value::Null
 }
 
-fn record_value(alloc: Global, logs: &Logs, held: &RecordReport) -> Result<Value, AllocError>
-    ensures { IfOk result (λ v. view v ≡ record_data (saved logs.now) held.now) }
+/// A record whose content is text, or in base64.
+fn content_value(alloc: Global, logs: &Logs, held: &RecordReport) -> Result<Value, AllocError>
+    ensures { IfOk result (λ v. view v ≡ content_data (saved logs.now) held.now) }
 {
     let bytes = held.content.as_slice();
     match from_utf8(bytes) {
@@ -86,6 +124,43 @@ fn record_value(alloc: Global, logs: &Logs, held: &RecordReport) -> Result<Value
             let text = null_value();
             with_content(alloc, logs, held, text, base64)
         }
+    }
+}
+
+/// The longest front of bytes that is UTF-8.
+fn utf8_front(bytes: &[u8]) -> &str
+    ensures { result.now ≡ take (utf8_valid_len bytes.now) bytes.now }
+{
+    let end = match from_utf8(bytes) {
+        Ok(text) => return text,
+        Err(fault) => fault.valid_up_to(),
+    };
+    match from_utf8(&bytes[..end]) {
+        Ok(text) => text,
+        Err(_) => unreachable!(),
+    }
+}
+
+/// A dump whose text breaks off, with that text as far as it is UTF-8, and its file in base64.
+fn part_value(
+    alloc: Global,
+    logs: &Logs,
+    held: &RecordReport,
+    text: &[u8],
+) -> Result<Value, AllocError>
+    ensures { IfOk result (λ v. view v ≡ part_data_of (saved logs.now) held.now text.now) }
+{
+    let text = Value::try_from_str(alloc, utf8_front(text))?;
+    let base64 = Value::from(STANDARD.encode(alloc, held.content.as_slice())?);
+    with_content(alloc, logs, held, text, base64)
+}
+
+fn record_value(alloc: Global, logs: &Logs, held: &RecordReport) -> Result<Value, AllocError>
+    ensures { IfOk result (λ v. view v ≡ record_data (saved logs.now) held.now) }
+{
+    match &held.packing {
+        Packing::Part { text, .. } => part_value(alloc, logs, held, text.as_slice()),
+        Packing::Plain | Packing::Whole { .. } => content_value(alloc, logs, held),
     }
 }
 

@@ -2,6 +2,8 @@
 #![tactic(auto)]
 
 #[cfg(test)]
+mod packed_dumps;
+#[cfg(test)]
 mod record_report_tests;
 #[cfg(test)]
 mod report_html_tests;

@@ -1,5 +1,7 @@
 // Worked images: what their reports hold.
+use crate::packed_dumps::{DAMAGED, TEXT, WHOLE, report_on};
 use box_io::Bytes;
+use inflate_spec::Fault;
 use record_report::*;
 use std::alloc::Global;
 use std::test::Fail;
@@ -90,5 +92,92 @@ fn record_with_its_notice(rt: HostRuntime) -> Result<(), Fail> {
     assert_eq!(rt; record.time, None);
     let content = b"abc\nECC: 1 Corrected bytes, 0 unrecoverable blocks\n";
     assert_eq!(rt; record.content.as_slice(), content.as_slice());
+    Ok(())
+}
+
+fn only_record(report: &Report) -> Result<&RecordReport, Fail> {
+    match report.records() {
+        [record] => Ok(record),
+        _ => Err(Fail::from("there is one record")),
+    }
+}
+
+#[test]
+fn a_dump_that_inflates(rt: HostRuntime) -> Result<(), Fail> {
+    for more in ["", "abc"] {
+        let mut packed = Vec::from_slice(rt.alloc(), &WHOLE)?;
+        packed.extend_from_slice(more.as_bytes())?;
+        let report = report_on(rt.alloc(), &packed)?;
+        let record = only_record(&report)?;
+        let name = Name::Dump {
+            index: 0,
+            packed: false,
+        };
+        assert_eq!(rt; record.name, name);
+        assert_eq!(rt; record.content.as_slice(), TEXT);
+        assert_eq!(rt; record.readable(), TEXT);
+        let Packing::Whole { taken } = record.packing else {
+            return Err(Fail::from("the dump inflates"));
+        };
+        assert_eq!(rt; taken, 26);
+    }
+    Ok(())
+}
+
+// A run of the letter a, as zlib packs it: two letters, 63 copies of 258 letters, and a copy of the rest. 16384 letters
+// are 64 times the zone. For one more the last copy does not count, and the text has 2 + 63 * 258 letters.
+fn run_of_letters(last: u8) -> [u8; 34] {
+    let mut packed = [0; 34];
+    let front = [
+        0xed, 0xc1, 0x31, 0x01, 0x00, 0x00, 0x00, 0xc2, 0xa0, 0xac, 0xeb, 0x5f, 0xc2, 0x18, 0x3e,
+        0x40, 0x01,
+    ];
+    packed[..17].copy_from_slice(&front);
+    packed[32] = last;
+    packed[33] = 0x03;
+    packed
+}
+
+#[test]
+fn the_longest_text(rt: HostRuntime) -> Result<(), Fail> {
+    let report = report_on(rt.alloc(), &run_of_letters(0x6f))?;
+    let record = only_record(&report)?;
+    assert!(rt; matches!(record.packing, Packing::Whole { taken: 34 }));
+    assert_eq!(rt; record.content.as_slice().len(), 16384);
+    assert!(rt; record.content.as_slice().iter().all(|b| *b == b'a'));
+    Ok(())
+}
+
+// Dumps that do not inflate, each with the fault and the text up to it.
+#[test]
+fn dumps_that_break_off(rt: HostRuntime) -> Result<(), Fail> {
+    // What lz4 makes of the first twenty bytes of the text: their number, and the bytes.
+    let other = b"\xf0\x05Panic#1 Part1\nred \x1b\\";
+    let letters = vec![in rt.alloc(); b'a'; 16256]?;
+    let broken = TextFault::Broken;
+    let rows: [(&[u8], TextFault, &[u8]); 6] = [
+        (&WHOLE[..22], broken(Fault::EndOfInput), &TEXT[..21]),
+        (&WHOLE[..1], broken(Fault::EndOfInput), b""),
+        (b"", broken(Fault::EndOfInput), b""),
+        (&DAMAGED, broken(Fault::ReservedBlock), b"\nred \xc3"),
+        (other, broken(Fault::StoredLength), b""),
+        (&run_of_letters(0x77), TextFault::TooLong, &letters),
+    ];
+    for (packed, wanted, front) in rows {
+        let report = report_on(rt.alloc(), packed)?;
+        let record = only_record(&report)?;
+        let name = Name::Dump {
+            index: 0,
+            packed: true,
+        };
+        assert_eq!(rt; record.name, name);
+        assert_eq!(rt; record.content.as_slice(), packed);
+        let Packing::Part { fault, text } = &record.packing else {
+            return Err(Fail::from("the dump breaks off"));
+        };
+        assert_eq!(rt; *fault, wanted);
+        assert_eq!(rt; text.as_slice(), front);
+        assert_eq!(rt; record.readable(), front);
+    }
     Ok(())
 }

@@ -1,4 +1,5 @@
 // Pages and escaped bytes.
+use crate::packed_dumps::{DAMAGED, WHOLE, report_on, zones_of};
 use box_io::Bytes;
 use record_report::report_of;
 use report_html::*;
@@ -78,5 +79,41 @@ fn hostile_record(rt: HostRuntime) -> Result<(), Fail> {
     );
     assert!(rt; text.contains("console-ramoops-0, bytes: 8</summary><pre>\n&lt;script&gt;</pre>"));
     assert!(rt; !text.contains("<script"));
+    Ok(())
+}
+
+#[test]
+fn compressed_dumps(rt: HostRuntime) -> Result<(), Fail> {
+    for (packed, record) in [
+        (
+            &WHOLE[..],
+            "<summary>dmesg-ramoops-0, bytes: 24, 1764201858 seconds since 1970, inflated from 26 bytes</summary><pre>
+Panic#1 Part1
+red \\x1b\\x5c&lt;b&gt;
+</pre>",
+        ),
+        (
+            &WHOLE[..22],
+            "<summary>dmesg-ramoops-0.enc.z, bytes: 22, 1764201858 seconds since 1970, inflated in part: end of input\
+</summary><pre>
+Panic#1 Part1
+red \\x1b\\x5c&lt;</pre>",
+        ),
+        (
+            &DAMAGED,
+            "<summary>dmesg-ramoops-0.enc.z, bytes: 12, 1764201858 seconds since 1970, \
+inflated in part: reserved block type</summary><pre>
+
+red \\xc3</pre>",
+        ),
+    ] {
+        let zones = zones_of(rt.alloc())?;
+        let report = report_on(rt.alloc(), packed)?;
+        let page = html(rt.alloc(), b"a", zones.zones(), &report)?;
+        assert!(rt;
+            str::from_utf8(page.as_slice())?.contains(record),
+            "{record}"
+        );
+    }
     Ok(())
 }

@@ -1,4 +1,5 @@
 // Lines of worked images.
+use crate::packed_dumps::{DAMAGED, PARAMS, WHOLE, report_on, zones_of};
 use box_io::Bytes;
 use record_report::report_of;
 use report_json::*;
@@ -47,14 +48,54 @@ fn record_as_text_and_in_base64(rt: HostRuntime) -> Result<(), Fail> {
     let front =
         "{\"parameters\":{\"block_size\":128,\"console_size\":4096,\"cpus\":1,\"ecc\":0,\"ecc_console\":0,\
 \"ecc_dump\":0,\"ecc_ftrace\":0,\"ecc_pmsg\":0,\"ftrace_sig\":0,\"ftrace_size\":0,\"mem_size\":4096,\"pmsg_size\":0,\
-\"record_size\":0},\"path\":\"a\\\"b\",\"records\":[{\"bad\":0,\"base64\":null,\"corrected\":0,\
-\"name\":\"console-ramoops-0\",\"text\":\"abc\",\"time\":null}],\"schema\":1,\"zones\":[{\"bad\":0,\"blocks\":[0,null";
+\"record_size\":0},\"path\":\"a\\\"b\",\"records\":[{\"bad\":0,\"base64\":null,\"compressed\":false,\
+\"corrected\":0,\"fault\":null,\"name\":\"console-ramoops-0\",\"taken\":null,\"text\":\"abc\",\"time\":null}],\"schema\":1,\"zones\":[{\"bad\":0,\"blocks\":[0,null";
     assert!(rt; line.as_str().starts_with(front));
     let raw = line_of(rt.alloc(), &[0xff, 0xfe, 0xfd])?;
     assert!(rt;
         raw.as_str().contains(
-            "\"base64\":\"//79\",\"corrected\":0,\"name\":\"console-ramoops-0\",\"text\":null"
+            "\"base64\":\"//79\",\"compressed\":false,\"corrected\":0,\"fault\":null,\"name\":\"console-ramoops-0\",\
+\"taken\":null,\"text\":null"
         )
     );
+    Ok(())
+}
+
+// A part's text ends before the first byte of a letter of two, and its bytes are in base64.
+#[test]
+fn compressed_dumps(rt: HostRuntime) -> Result<(), Fail> {
+    for (packed, record) in [
+        (
+            &WHOLE[..],
+            "{\"bad\":0,\"base64\":null,\"compressed\":true,\"corrected\":0,\"fault\":null,\"name\":\"dmesg-ramoops-0\",\
+\"taken\":26,\"text\":\"Panic#1 Part1\\nred \\u001b\\\\<b>\\n\",",
+        ),
+        (
+            &DAMAGED,
+            "{\"bad\":0,\"base64\":\"AAYA+f8KcmVkIMMH\",\"compressed\":true,\"corrected\":0,\
+\"fault\":\"reserved block type\",\"name\":\"dmesg-ramoops-0.enc.z\",\"taken\":null,\"text\":\"\\nred \",",
+        ),
+        (
+            b"",
+            "{\"bad\":0,\"base64\":\"\",\"compressed\":true,\"corrected\":0,\"fault\":\"end of input\",\
+\"name\":\"dmesg-ramoops-0.enc.z\",\"taken\":null,\"text\":\"\",",
+        ),
+        // A stored block of one byte that is no UTF-8, the last.
+        (
+            &[1, 1, 0, 0xfe, 0xff, 0xff],
+            "{\"bad\":0,\"base64\":\"/w==\",\"compressed\":true,\"corrected\":0,\"fault\":null,\
+\"name\":\"dmesg-ramoops-0\",\"taken\":6,\"text\":null,",
+        ),
+    ] {
+        let zones = zones_of(rt.alloc())?;
+        let report = report_on(rt.alloc(), packed)?;
+        if report.logs().len() as usize != zones.zones().len()
+            || report.parts().len() != zones.zones().len()
+        {
+            return Err(Fail::from("the report has other zones"));
+        }
+        let line = json(rt.alloc(), "a", &PARAMS, zones.zones(), &report)?;
+        assert!(rt; line.as_str().contains(record), "{record}");
+    }
     Ok(())
 }

@@ -1,4 +1,5 @@
 // Texts of worked images, and dates in them.
+use crate::packed_dumps::{DAMAGED, WHOLE, image_of, zones_of};
 use box_io::Bytes;
 use record_report::report_of;
 use report_text::text;
@@ -69,12 +70,61 @@ fn two_records(rt: HostRuntime) -> Result<(), Fail> {
     Ok(())
 }
 
+// The text of a report on a compressed dump, from the table of its record on.
+fn shown_packed(alloc: Global, packed: &[u8]) -> Result<Bytes, Fail> {
+    let zones = zones_of(alloc)?;
+    let image = Bytes::from_vec(image_of(alloc, packed)?);
+    if image.len() != zones.mem() as usize {
+        return Err(Fail::from("the image has another size"));
+    }
+    let report = report_of(alloc, &zones, image)?;
+    Ok(text(alloc, b"a", zones.zones(), &report)?)
+}
+
 #[test]
-fn a_compressed_dump(rt: HostRuntime) -> Result<(), Fail> {
-    let text = shown(rt.alloc(), b"====1764201858.836908-C\n")?;
-    let text = str::from_utf8(text.as_slice())?;
-    assert!(rt; text.contains("dmesg-ramoops-0.enc.z\n"));
-    assert!(rt; text.contains("last lines of the newest dump\n  (compressed)\n"));
+fn compressed_dumps(rt: HostRuntime) -> Result<(), Fail> {
+    for (packed, tail) in [
+        (
+            &WHOLE[..],
+            "        24  2025-11-27 00:04:18.836908 UTC  dmesg-ramoops-0
+
+last lines of the newest dump
+  Panic#1 Part1
+  red \\x1b\\x5c<b>
+",
+        ),
+        (
+            &WHOLE[..22],
+            "        22  2025-11-27 00:04:18.836908 UTC  dmesg-ramoops-0.enc.z
+
+last lines of the newest dump
+  Panic#1 Part1
+  red \\x1b\\x5c<
+  (breaks off: end of input)
+",
+        ),
+        (
+            &DAMAGED,
+            "        12  2025-11-27 00:04:18.836908 UTC  dmesg-ramoops-0.enc.z
+
+last lines of the newest dump
+  
+  red \\xc3
+  (breaks off: reserved block type)
+",
+        ),
+        (
+            b"\x07",
+            "         1  2025-11-27 00:04:18.836908 UTC  dmesg-ramoops-0.enc.z
+
+last lines of the newest dump
+  (breaks off: reserved block type)
+",
+        ),
+    ] {
+        let text = shown_packed(rt.alloc(), packed)?;
+        assert!(rt; str::from_utf8(text.as_slice())?.ends_with(tail), "{tail}");
+    }
     Ok(())
 }
 

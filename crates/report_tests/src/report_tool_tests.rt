@@ -1,6 +1,7 @@
 // Worked images, reported and saved.
 ghost use Rattle.std.specs.Prelude.{None};
 
+use crate::packed_dumps::{DAMAGED, WHOLE, image_of};
 use box_io::{Bytes, Calls, Failed, MemSink, MemStore};
 use grammar_spec::ParamFault;
 use report_tool::*;
@@ -147,15 +148,15 @@ impl Folder for Seen {
     }
 }
 
-// What a folder of so many files is told to make of the report.
-fn saved(alloc: Global, left: u32) -> Result<(Vec<u8>, bool), Fail> {
-    let words = console(alloc, "mem_size=4096")?;
-    let Ok(plan) = Plan::new(alloc, &words, false) else {
-        return Err(Fail::from("the words have a layout"));
-    };
-    let mut image = store(alloc, 4096)?;
+// What a folder of so many files is told to make of the report on an image.
+fn saved_of(
+    alloc: Global,
+    plan: &Plan,
+    image: &mut MemStore,
+    left: u32,
+) -> Result<(Vec<u8>, bool), Fail> {
     let mut out = MemSink::new(alloc, 65536, Calls::new(alloc, &[])?)?;
-    let Ok(report) = report(alloc, &plan, Format::Text, "a.img", &mut image, &mut out) else {
+    let Ok(report) = report(alloc, plan, Format::Text, "a.img", image, &mut out) else {
         return Err(Fail::from("the image was reported"));
     };
     let mut folder = Seen {
@@ -167,6 +168,15 @@ fn saved(alloc: Global, left: u32) -> Result<(Vec<u8>, bool), Fail> {
     Ok((folder.files, is_saved))
 }
 
+fn saved(alloc: Global, left: u32) -> Result<(Vec<u8>, bool), Fail> {
+    let words = console(alloc, "mem_size=4096")?;
+    let Ok(plan) = Plan::new(alloc, &words, false) else {
+        return Err(Fail::from("the words have a layout"));
+    };
+    let mut image = store(alloc, 4096)?;
+    saved_of(alloc, &plan, &mut image, left)
+}
+
 #[test]
 fn records_as_files(rt: HostRuntime) -> Result<(), Fail> {
     let (files, is_saved) = saved(rt.alloc(), 9)?;
@@ -175,5 +185,43 @@ fn records_as_files(rt: HostRuntime) -> Result<(), Fail> {
     let (files, is_saved) = saved(rt.alloc(), 0)?;
     assert!(rt; !is_saved);
     assert!(rt; files.is_empty());
+    Ok(())
+}
+
+// The file of a compressed dump that inflates has its text; that of another has its bytes.
+#[test]
+fn compressed_dumps_as_files(rt: HostRuntime) -> Result<(), Fail> {
+    let mut words = Vec::new(rt.alloc());
+    for word in [
+        "mem_size=256",
+        "record_size=256",
+        "console_size=0",
+        "ftrace_size=0",
+        "pmsg_size=0",
+    ] {
+        words.push(String::from_str(rt.alloc(), word)?)?;
+    }
+    let Ok(plan) = Plan::new(rt.alloc(), &words, false) else {
+        return Err(Fail::from("the words have a layout"));
+    };
+    for (packed, file) in [
+        (
+            &WHOLE[..],
+            b"dmesg-ramoops-0=Panic#1 Part1\nred \x1b\\<b>\n".as_slice(),
+        ),
+        (
+            &DAMAGED,
+            b"dmesg-ramoops-0.enc.z=\x00\x06\x00\xf9\xff\nred \xc3\x07".as_slice(),
+        ),
+    ] {
+        let bytes = Bytes::from_vec(image_of(rt.alloc(), packed)?);
+        if bytes.len() > 256 {
+            return Err(Fail::from("the image is too long"));
+        }
+        let mut image = MemStore::new(bytes, 256, Calls::new(rt.alloc(), &[])?)?;
+        let (files, is_saved) = saved_of(rt.alloc(), &plan, &mut image, 9)?;
+        assert!(rt; is_saved);
+        assert_eq!(rt; files.as_slice(), file);
+    }
     Ok(())
 }

@@ -11,7 +11,7 @@ use Rattle.std.proofs.lemmas.List.Sums.{fold_more}
 use Rattle.std.proofs.lemmas.Bool.Decides.{nat_tests}
 use Rattle.zone_spec.specs.declared.Time.{Time}
 use Rattle.zone_params.proofs.Faultless.{or_clear}
-use Rattle.report_spec.specs.Records.{RecordHeld}
+use Rattle.report_spec.specs.Packed.{RecordShown}
 use Rattle.report_text.specs.Newest.{is_later, later_than, is_newer, newer_of, newest}
 
 no-later : (t s u : Time) → is_later t u ≡ false → is_later s u ≡ true → is_later t s ≡ false
@@ -27,18 +27,18 @@ not-itself : (a : Option Time) → later_than a a ≡ false
 not-itself None = refl
 not-itself (Some t) = grind (arith, nat_tests)
 
-pub none-newer : (x : RecordHeld) (held : Option RecordHeld) (rs : List RecordHeld) → is_newer x held ≡ true
+pub none-newer : (x : RecordShown) (held : Option RecordShown) (rs : List RecordShown) → is_newer x held ≡ true
     → list_any (λ r. is_newer r held) rs ≡ false → list_any (λ r. is_newer r (Some x)) rs ≡ false
 none-newer x held [] f e = refl
 none-newer x held (r ∷ rs) f e =
     let both = or_clear (is_newer r held) (list_any (λ q. is_newer q held) rs) e in
     ap₂ (λ (a b : Bool). a || b) (none-later r.time x.time _ both.0 f) (none-newer x held rs f both.1)
 
-pub not-newer : (x : RecordHeld) → is_newer x (Some x) ≡ false
+pub not-newer : (x : RecordShown) → is_newer x (Some x) ≡ false
 not-newer x = not-itself x.time
 
 -- one record more, which is held where it is newer
-pub newest-more : (records : List RecordHeld) (i : ℕ) (x : RecordHeld) (old new : Option RecordHeld)
+pub newest-more : (records : List RecordShown) (i : ℕ) (x : RecordShown) (old new : Option RecordShown)
     → slice_get records i ≡ Some x → list_any (λ r. is_newer r old) (take i records) ≡ false
     → ((is_newer x old ≡ true) × (new ≡ Some x)) ⊎ ((is_newer x old ≡ false) × (new ≡ old))
     → list_any (λ r. is_newer r new) (take (i + 1) records) ≡ false
@@ -47,21 +47,21 @@ newest-more records i x old new at was how =
     let same : Some here.item ≡ Some x = sym here.here ∙ at in
     let own : here.item ≡ x = cc in
     let more : take (i + 1) records ≡ take i records ++ x ∷ [] =
-    here.more ∙ ap (λ (y : RecordHeld). take i records ++ y ∷ []) own in
-    let both : (held : Option RecordHeld) → list_any (λ r. is_newer r held) (take i records) ≡ false
+    here.more ∙ ap (λ (y : RecordShown). take i records ++ y ∷ []) own in
+    let both : (held : Option RecordShown) → list_any (λ r. is_newer r held) (take i records) ≡ false
     → is_newer x held ≡ false → list_any (λ r. is_newer r held) (take (i + 1) records) ≡ false =
     λ held front last. ap (list_any (λ r. is_newer r held)) more
     ∙ list_any-append (λ r. is_newer r held) (take i records) (x ∷ [])
     ∙ ap₂ (λ (a b : Bool). a || (b || false)) front last in
     elim how [
-      | inl h ↦ subst (λ (held : Option RecordHeld). list_any (λ r. is_newer r held) (take (i + 1) records) ≡ false)
+      | inl h ↦ subst (λ (held : Option RecordShown). list_any (λ r. is_newer r held) (take (i + 1) records) ≡ false)
           (sym h.1) (both (Some x) (none-newer x old (take i records) h.0 was) (not-newer x))
-      | inr h ↦ subst (λ (held : Option RecordHeld). list_any (λ r. is_newer r held) (take (i + 1) records) ≡ false)
+      | inr h ↦ subst (λ (held : Option RecordShown). list_any (λ r. is_newer r held) (take (i + 1) records) ≡ false)
           (sym h.1) (both old was h.0)
     ]
 
 -- the newest of one record more
-pub newest-held : (records : List RecordHeld) (i : ℕ) (x : RecordHeld) (old new : Option RecordHeld)
+pub newest-held : (records : List RecordShown) (i : ℕ) (x : RecordShown) (old new : Option RecordShown)
     → slice_get records i ≡ Some x → old ≡ newest (take i records)
     → ((is_newer x old ≡ true) × (new ≡ Some x)) ⊎ ((is_newer x old ≡ false) × (new ≡ old))
     → new ≡ newest (take (i + 1) records)
@@ -81,10 +81,10 @@ time-of None b e = cc
 time-of (Some t) b e = refl
 
 -- a newer record has a time
-pub newer-dated : (x : RecordHeld) (old : Option RecordHeld) → is_newer x old ≡ true → IsSome x.time
+pub newer-dated : (x : RecordShown) (old : Option RecordShown) → is_newer x old ≡ true → IsSome x.time
 newer-dated x old e = time-of x.time _ e
 
-pub dated-held : (held : Option (Bor RecordHeld)) (x : RecordHeld) → option_copied held ≡ Some x → IsSome x.time
+pub dated-held : (held : Option (Bor RecordShown)) (x : RecordShown) → option_copied held ≡ Some x → IsSome x.time
     → IfSome held (λ r. IsSome r.now.time)
 dated-held None x e h = tt
-dated-held (Some b) x e h = let same : b.now ≡ x = cc in subst (λ (r : RecordHeld). IsSome r.time) (sym same) h
+dated-held (Some b) x e h = let same : b.now ≡ x = cc in subst (λ (r : RecordShown). IsSome r.time) (sym same) h

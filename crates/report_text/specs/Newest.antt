@@ -3,7 +3,7 @@ use Rattle.std.specs.Prelude.{Bool, true, false, ◌&&◌, ◌||◌, ◌==◌, n
 use Rattle.std.specs.Option.{option_and_then}
 use Rattle.std.specs.List.{fold}
 use Rattle.zone_spec.specs.declared.Time.{Time}
-use Rattle.report_spec.specs.Records.{RecordHeld}
+use Rattle.report_spec.specs.Packed.{RecordShown}
 
 abbrev pub is_later : Time → Time → Bool
 is_later t u = nat_lt u.secs t.secs || ((t.secs == u.secs) && nat_lt u.micros t.micros)
@@ -15,13 +15,13 @@ later_than (Some t) None = true
 later_than (Some t) (Some u) = is_later t u
 
 -- whether a record has a later time than the one that is held
-abbrev pub is_newer : RecordHeld → Option RecordHeld → Bool
-is_newer r held = later_than r.time (option_and_then (λ (h : RecordHeld). h.time) held)
+abbrev pub is_newer : RecordShown → Option RecordShown → Bool
+is_newer r held = later_than r.time (option_and_then (λ (h : RecordShown). h.time) held)
 
 -- the record that is held, or one that is newer
-abbrev pub newer_of : Option RecordHeld → RecordHeld → Option RecordHeld
+abbrev pub newer_of : Option RecordShown → RecordShown → Option RecordShown
 newer_of held r = if is_newer r held then Some r else held
 
 -- the first of the records with the latest time
-abbrev pub newest : List RecordHeld → Option RecordHeld
+abbrev pub newest : List RecordShown → Option RecordShown
 newest records = fold newer_of None records

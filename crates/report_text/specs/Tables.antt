@@ -11,7 +11,7 @@ use Rattle.zone_spec.specs.declared.Name.TheVariants.{Dump, Console, Pmsg, Ftrac
 use Rattle.zone_spec.specs.declared.Time.{Time}
 use Rattle.zone_spec.specs.Reading.{ZoneReading}
 use Rattle.zone_spec.specs.Records.{Saved}
-use Rattle.report_spec.specs.Records.{RecordHeld}
+use Rattle.report_spec.specs.Packed.{RecordShown}
 use Rattle.report_text.specs.Pieces.{Part, Words, Count, Digits}
 
 -- ---- zones
@@ -87,13 +87,13 @@ name_parts Pmsg = Words (codes "pmsg-ramoops-0" ++ 10 ∷ []) ∷ []
 name_parts Ftrace = Words (codes "ftrace-ramoops-0" ++ 10 ∷ []) ∷ []
 
 -- the length of a record's content, its time, and its name
-pub record IsRecordRow (r : RecordHeld) (row : List Part) : Type 0 where
+pub record IsRecordRow (r : RecordShown) (row : List Part) : Type 0 where
   pub time : List Part
   pub is_time : IsTime r.time time
   pub row_is : row ≡ Count 10 (length r.content) ∷ Words (codes "  ") ∷ time ++ Words (codes "  ") ∷ name_parts r.name
 
 -- a row for each record, in order
-abbrev pub AreRecordRows : List RecordHeld → List Part → Type 0
+abbrev pub AreRecordRows : List RecordShown → List Part → Type 0
 AreRecordRows [] rows = rows ≡ []
 AreRecordRows (r ∷ rs) rows =
     (first rest : List Part) × IsRecordRow r first × AreRecordRows rs rest × (rows ≡ first ++ rest)

@@ -3,7 +3,9 @@ use Rattle.std.specs.Prelude.{ℕ, ◌+◌, Bool, true, false, ◌&&◌, not, �
 use Rattle.zone_spec.specs.declared.Name.{Name}
 use Rattle.zone_spec.specs.declared.Name.TheVariants.{Dump, Console, Pmsg, Ftrace}
 use Rattle.report_spec.specs.Escaped.{is_plain}
-use Rattle.report_spec.specs.Records.{RecordHeld}
+use Rattle.report_spec.specs.declared.Packing.{Packing}
+use Rattle.report_spec.specs.declared.Packing.TheVariants.{Plain, Whole, Part as PartOfText}
+use Rattle.report_spec.specs.Packed.{RecordShown, fault_words, readable}
 use Rattle.report_text.specs.Pieces.{Part, Words, Bytes}
 
 -- ---- the last ten lines
@@ -49,24 +51,23 @@ rows_parts rows = flat_map row_parts rows
 
 -- ---- a record's end
 
-abbrev pub is_packed : Name → Bool
-is_packed (Dump index packed) = packed
-is_packed Console = false
-is_packed Pmsg = false
-is_packed Ftrace = false
-
 abbrev pub is_console : Name → Bool
 is_console (Dump index packed) = false
 is_console Console = true
 is_console Pmsg = false
 is_console Ftrace = false
 
--- compressed bytes are not shown
-abbrev pub tail_rows : Bool → List ℕ → List Part
-tail_rows true bytes = Words (codes "  (compressed)" ++ 10 ∷ []) ∷ []
-tail_rows false bytes = rows_parts (rows_from [] 0 (last_lines bytes))
+abbrev pub tail_rows : List ℕ → List Part
+tail_rows bytes = rows_parts (rows_from [] 0 (last_lines bytes))
+
+-- a packed text that goes no further, and why
+abbrev pub break_parts : Packing (List ℕ) → List Part
+break_parts Plain = []
+break_parts (Whole taken) = []
+break_parts (PartOfText fault text) =
+    Words (codes "  (breaks off: ") ∷ Words (fault_words fault) ∷ Words (codes ")" ++ 10 ∷ []) ∷ []
 
 -- a heading and the last lines of a record, if there is one
-abbrev pub tail_parts : List ℕ → Option RecordHeld → List Part
+abbrev pub tail_parts : List ℕ → Option RecordShown → List Part
 tail_parts heading None = []
-tail_parts heading (Some r) = Words heading ∷ tail_rows (is_packed r.name) r.content
+tail_parts heading (Some r) = Words heading ∷ tail_rows (readable r) ++ break_parts r.packing

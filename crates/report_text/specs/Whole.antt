@@ -1,7 +1,7 @@
 -- The whole text of a report
 use Rattle.std.specs.Prelude.{◌≡◌, ℕ, List, [], ◌∷◌, ◌++◌, length, flat_map, find, codes, Option}
 use Rattle.old_log.specs.Saving.{SavedLogs, saved}
-use Rattle.report_spec.specs.Records.{RecordHeld}
+use Rattle.report_spec.specs.Packed.{RecordShown}
 use Rattle.record_report.specs.Reports.{ReportHeld}
 use Rattle.report_text.specs.Newest.{newest}
 use Rattle.report_text.specs.Pieces.{Part, Words, Count, Bytes, parts_text}
@@ -21,15 +21,15 @@ zone_table logs =
     ∷ flat_map zone_row (saved logs)
 
 -- a head, and a row for each record
-abbrev pub IsRecordTable : List RecordHeld → List Part → Type 0
+abbrev pub IsRecordTable : List RecordShown → List Part → Type 0
 IsRecordTable records table = (rows : List Part) × AreRecordRows records rows
     × (table ≡ Words (10 ∷ codes "     bytes  time                            record" ++ 10 ∷ []) ∷ rows)
 
-abbrev pub console_of : List RecordHeld → Option RecordHeld
-console_of records = find (λ (r : RecordHeld). is_console r.name) records
+abbrev pub console_of : List RecordShown → Option RecordShown
+console_of records = find (λ (r : RecordShown). is_console r.name) records
 
 -- the last lines of the newest dump and of the console
-abbrev pub tails : List RecordHeld → List Part
+abbrev pub tails : List RecordShown → List Part
 tails records =
     tail_parts (10 ∷ codes "last lines of the newest dump" ++ 10 ∷ []) (newest records)
     ++ tail_parts (10 ∷ codes "last lines of the console" ++ 10 ∷ []) (console_of records)

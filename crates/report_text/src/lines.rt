@@ -2,13 +2,14 @@
 ghost use Rattle.std.specs.Prelude.{◌≡◌, ◌≤◌, ◌++◌, [], drop, length, OnOk};
 ghost use Rattle.std.specs.Option.{option_copied};
 ghost use Rattle.report_text.specs.Pieces.{parts};
-ghost use Rattle.report_text.specs.Tails.{last_lines, rows_from, row_parts, rows_parts, columns, is_packed, is_console, tail_parts};
+ghost use Rattle.report_text.specs.Tails.{last_lines, rows_from, row_parts, rows_parts, columns, is_console, break_parts, tail_parts};
 ghost use Rattle.report_text.specs.Whole.{console_of, tails};
 
 use crate::newest::newest_dump;
 use crate::pieces::{Piece, add};
 use crate::visible::is_plain;
-use record_report::RecordReport;
+use box_io::Bytes;
+use record_report::{Packing, RecordReport};
 use std::alloc::AllocError;
 use zone_spec::Name;
 
@@ -81,16 +82,24 @@ fn add_rows<'a>(pieces: &mut Vec<Piece<'a>>, bytes: &'a [u8]) -> Result<(), Allo
     Ok(())
 }
 
-fn is_compressed(name: Name) -> bool
-    ensures { result ≡ is_packed name }
+/// Adds why a packed text goes no further, if it doesn't.
+fn add_break(pieces: &mut Vec<Piece<'_>>, packing: &Packing<Bytes>) -> Result<(), AllocError>
+    ensures { OnOk result (parts pieces.new.items ≡ parts pieces.old.items ++ break_parts packing.now) }
 {
-    match name {
-        Name::Dump { packed, .. } => packed,
-        Name::Console | Name::Pmsg | Name::Ftrace => false,
+    match packing {
+        Packing::Part { fault, .. } => add(
+            pieces,
+            &[
+                Piece::Own("  (breaks off: "),
+                Piece::Own(fault.words()),
+                Piece::Own(")\n"),
+            ],
+        ),
+        Packing::Plain | Packing::Whole { .. } => Ok(()),
     }
 }
 
-/// Adds a heading and the last lines of a record, if there is one. Compressed bytes are not shown.
+/// Adds a heading and the last lines of a record, if there is one. A packed text that breaks off ends with the reason.
 fn add_tail<'a>(
     pieces: &mut Vec<Piece<'a>>,
     heading: &'static str,
@@ -100,14 +109,11 @@ fn add_tail<'a>(
         ≡ parts pieces.old.items ++ tail_parts heading.entry.now (option_copied entry.entry)) }
 {
     match entry {
-        Some(entry) if is_compressed(entry.name) => add(
-            pieces,
-            &[Piece::Own(heading), Piece::Own("  (compressed)\n")],
-        ),
         Some(entry) => {
             add(pieces, &[Piece::Own(heading)])?;
-            let bytes = entry.content.as_slice();
-            add_rows(pieces, &bytes[tail_start(bytes)..])
+            let bytes = entry.readable();
+            add_rows(pieces, &bytes[tail_start(bytes)..])?;
+            add_break(pieces, &entry.packing)
         }
         None => Ok(()),
     }

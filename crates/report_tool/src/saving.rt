@@ -6,8 +6,8 @@ ghost use Rattle.report_tool.specs.Saved.{Makes, MakesFirst, files_of};
 
 use arrayvec::ArrayString;
 use box_io::Failed;
-use pstore_names::{HeldRecord, name_text};
-use record_report::Report;
+use pstore_names::name_text;
+use record_report::{RecordReport, Report};
 
 /// A folder in which files are made.
 pub trait Folder {
@@ -25,7 +25,7 @@ pub trait Folder {
         ensures cause { HasCause (faults self.old) (faults self.new) result };
 }
 
-fn save_record<F: Folder>(folder: &mut F, held: &HeldRecord) -> Result<(), Failed>
+fn save_record<F: Folder>(folder: &mut F, held: &RecordReport) -> Result<(), Failed>
     ensures made { OnOk result (Makes (F.made folder.old) (F.made folder.new)
         ((name_text held.now.name, held.now.content) ∷ [])) }
     ensures kept { OnErr result (F.made folder.new ≡ F.made folder.old) }
@@ -36,7 +36,8 @@ fn save_record<F: Folder>(folder: &mut F, held: &HeldRecord) -> Result<(), Faile
     folder.make(name.as_str(), held.content.as_slice())
 }
 
-/// Makes a file of each record, in order, under its name in a mounted pstore. Ends at the first fault, and leaves the
+/// Makes a file of each record, in order, under its name in a mounted pstore: that of a compressed dump has the text, if
+/// all of it was read, and else the bytes as they stand under a name that ends in `.enc.z`. Ends at the first fault, and leaves the
 /// files that were made before it.
 pub fn save<F: Folder>(folder: &mut F, report: &Report) -> Result<(), Failed>
     ensures made { MatchResult result

@@ -1,6 +1,8 @@
 -- The spans of the image are its zones' bytes
-use Rattle.std.proofs.Common.{length, sym, ap, subst, ◌∙◌, refl}
+use Rattle.std.proofs.Common.{List, length, sym, ap, subst, ◌∙◌, refl}
 use Rattle.ram_region.specs.CutRegion.{CutRegion, cut_at}
+use Rattle.report_spec.specs.Records.{RecordHeld}
+use Rattle.report_spec.specs.Packed.{AreShown}
 use Rattle.record_report.specs.Reports.{SpansFit}
 use Rattle.record_report.proofs.Zones.{spans-fit, report-is}
 use Rattle.record_report.proofs.report.report_of_zones.Goals as goal
@@ -21,4 +23,5 @@ pub returns : goal.returns
 returns c =
     report-is c.args.zones.now c.args.image c.in-Ok.spans.spans c.in_ok-logs.field-0 c.in_ok-records.records.items
     (ap (λ (cut : CutRegion). cut.spans) (c.in-Ok.ensures ∙ ap (cut_at c.args.zones.now) c.from_bytes.ensures))
-    c.in_ok-logs.ensures c.in_ok-records.ensures
+    c.in_ok-logs.ensures (subst (λ (rs : List RecordHeld). AreShown c.args.zones.now rs c.in_ok-records.records.items)
+    c.in_ok-held.ensures c.in_ok-records.ensures)

@@ -1,10 +1,14 @@
 -- The parts of a record are those of its fields
-use Rattle.std.proofs.Common.{◌≡◌, ◌++◌, ◌∙◌, List, [], ◌∷◌, ℕ, length, codes, ap}
-use Rattle.report_spec.specs.Records.{RecordHeld}
+use Rattle.std.proofs.Common.{◌≡◌, ◌++◌, ◌∙◌, List, [], ◌∷◌, ℕ, length, codes, ap, subst}
+use Rattle.zone_spec.specs.Parts.{AreBytes}
+use Rattle.report_spec.specs.Packed.{RecordShown, readable}
 use Rattle.report_html.specs.Pieces.{Part, Words, parts}
-use Rattle.report_html.specs.Pages.{name_parts, length_parts, time_parts, content_parts}
+use Rattle.report_html.specs.Pages.{name_parts, length_parts, time_parts, packing_parts, content_parts}
 use Rattle.report_html.proofs.Joined.{joined}
 use Rattle.report_html.proofs.page.add_record.Goals as goal
+
+pub returns-clause-bytes : goal.returns-clause-bytes
+returns-clause-bytes c = subst AreBytes c.readable.ensures c.add_content.ensures.bytes
 
 pub returns-clause-parts : goal.returns-clause-parts
 returns-clause-parts c =
@@ -14,23 +18,29 @@ returns-clause-parts c =
     let named = parts c.add_name.new.pieces.items in
     let long = parts c.add_length.new.pieces.items in
     let timed = parts c.add_time.new.pieces.items in
+    let packed = parts c.add_packing.new.pieces.items in
     let whole = parts c.add_content.new.pieces.items in
     let begin : List Part = Words (codes "<details><summary>") ∷ [] in
     let name : named ≡ begun ++ name_parts r.name =
-    c.in_ok-add_name.ensures ∙ ap (λ (q : RecordHeld). begun ++ name_parts q.name) c.held.view_is in
+    c.in_ok-add_name.ensures ∙ ap (λ (q : RecordShown). begun ++ name_parts q.name) c.held.view_is in
     let bytes : long ≡ named ++ length_parts (length r.content) =
     c.in_ok-add_length.ensures ∙ ap (λ (n : ℕ). named ++ length_parts n) c.len.ensures.len
-    ∙ ap (λ (q : RecordHeld). named ++ length_parts (length q.content)) c.held.view_is in
+    ∙ ap (λ (q : RecordShown). named ++ length_parts (length q.content)) c.held.view_is in
     let time : timed ≡ long ++ time_parts r.time =
-    c.in_ok-add_time.ensures ∙ ap (λ (q : RecordHeld). long ++ time_parts q.time) c.held.view_is in
-    let content : whole ≡ timed ++ content_parts r.content =
-    c.in_ok-add_content.ensures ∙ ap (λ (bs : List ℕ). timed ++ content_parts bs) c.as_slice.ensures
-    ∙ ap (λ (q : RecordHeld). timed ++ content_parts q.content) c.held.view_is in
+    c.in_ok-add_time.ensures ∙ ap (λ (q : RecordShown). long ++ time_parts q.time) c.held.view_is in
+    let packing : packed ≡ timed ++ packing_parts r.packing =
+    c.in_ok-add_packing.ensures ∙ ap (λ (q : RecordShown). timed ++ packing_parts q.packing) c.held.view_is in
+    let content : whole ≡ packed ++ content_parts (readable r) =
+    c.in_ok-add_content.ensures.parts ∙ ap (λ (bs : List ℕ). packed ++ content_parts bs) c.readable.ensures in
     let to_name = joined old begin (name_parts r.name) begun named c.in_ok-add.ensures name in
     let to_length = joined old (begin ++ name_parts r.name) (length_parts (length r.content))
     named long to_name bytes in
     let to_time =
     joined old (begin ++ name_parts r.name ++ length_parts (length r.content)) (time_parts r.time) long timed to_length
     time in
+    let to_packing =
     joined old (begin ++ name_parts r.name ++ length_parts (length r.content) ++ time_parts r.time)
-    (content_parts r.content) timed whole to_time content
+    (packing_parts r.packing) timed packed to_time packing in
+    joined old
+    (begin ++ name_parts r.name ++ length_parts (length r.content) ++ time_parts r.time ++ packing_parts r.packing)
+    (content_parts (readable r)) packed whole to_packing content

@@ -1,10 +1,8 @@
 -- The text of all parts, and what of it is foreign
-use Rattle.std.proofs.Common.{◌≡◌, ◌∙◌, ℕ, List, ap, arith}
-use Rattle.std.specs.Prelude.{IfOk}
+use Rattle.std.proofs.Common.{◌∙◌, List, ap}
 use Rattle.report_html.specs.declared.pieces.Piece.{Piece}
 use Rattle.report_html.specs.Pieces.{Part, parts, parts_text}
 use Rattle.report_html.specs.Pages.{page_of}
-use Rattle.report_html.specs.Escaping.{IsWithoutMarkup}
 use Rattle.report_html.proofs.Foreign.{without_markup}
 use Rattle.report_html.proofs.page.html.Goals as goal
 

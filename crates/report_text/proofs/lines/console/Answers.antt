@@ -1,18 +1,18 @@
 -- Each record is the console or is passed
 use Rattle.std.proofs.Common.{◌∙◌, sym, arith}
-use Rattle.report_spec.specs.Records.{RecordHeld}
+use Rattle.report_spec.specs.Packed.{RecordShown}
 use Rattle.report_text.proofs.Ends.{console-here, console-behind, no-console}
 use Rattle.report_text.proofs.lines.console.Goals as goal
 
 pub returns-then-is_console : goal.returns-then-is_console
 returns-then-is_console c =
-    let x : RecordHeld = c.entry-item.result in
+    let x : RecordShown = c.entry-item.result in
     console-here c.args.records.now c.loop-entry.entry-index x c.loop-entry-test.true c.entry-item.is
     c.loop-entry.invariant (sym c.is_console.ensures ∙ c.if-is_console.true)
 
 pub loop-entry-preserved : goal.loop-entry-preserved
 loop-entry-preserved c =
-    let x : RecordHeld = c.entry-item.result in
+    let x : RecordShown = c.entry-item.result in
     console-behind c.args.records.now c.loop-entry.entry-index x c.loop-entry-test.true c.entry-item.is
     c.loop-entry.invariant (sym c.is_console.ensures ∙ c.if-is_console.false)
 

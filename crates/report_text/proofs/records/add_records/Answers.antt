@@ -2,7 +2,7 @@
 use Rattle.std.proofs.Common.{◌≡◌, ◌∙◌, ap, sym, arith, Some}
 use Rattle.std.specs.Prelude.{slice_get}
 use Rattle.std.proofs.lemmas.Option.{slice_get-get_or}
-use Rattle.report_spec.specs.Records.{RecordHeld}
+use Rattle.report_spec.specs.Packed.{RecordShown}
 use Rattle.report_text.specs.Pieces.{parts}
 use Rattle.report_text.proofs.RecordRows.{row-more, table-of}
 use Rattle.report_text.proofs.records.add_records.Goals as goal
@@ -10,10 +10,10 @@ use Rattle.report_text.proofs.records.add_records.Goals as goal
 pub loop-entry-preserved : goal.loop-entry-preserved
 loop-entry-preserved c =
     let records = c.args.records.now in
-    let x : RecordHeld = c.entry-item.result in
+    let x : RecordShown = c.entry-item.result in
     let at : slice_get records c.loop-entry.entry-index ≡ Some x =
     slice_get-get_or records c.loop-entry.entry-index x c.loop-entry-test.true
-    ∙ ap (λ (r : RecordHeld). Some r) (sym c.entry-item.is) in
+    ∙ ap (λ (r : RecordShown). Some r) (sym c.entry-item.is) in
     row-more records c.loop-entry.entry-index x (parts c.add.new.pieces.items) (parts c.loop-entry.pieces.items)
     (parts c.add_record.new.pieces.items) at c.loop-entry.invariant c.in_ok-add_record.ensures
 

@@ -1,0 +1,5 @@
+use Rattle.record_report.proofs.OneWay.{one_shown}
+use Rattle.record_report.proofs.laws.one_shown.Goals as goal
+
+pub returns : goal.returns
+returns c = one_shown

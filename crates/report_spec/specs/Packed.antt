@@ -1,0 +1,102 @@
+-- A record as it is shown: a dump whose time line says compressed has the text that its bytes stand for
+-- (fs/pstore/platform.c, decompress_record)
+use Rattle.std.specs.Prelude.{◌≡◌, ℕ, ◌*◌, ◌≤◌, ⊤, true, false, List, [], ◌∷◌, ◌++◌, length, slice_get, codes, Option, Some, None}
+use Rattle.zone_spec.specs.declared.Name.{Name}
+use Rattle.zone_spec.specs.declared.Name.TheVariants.{Dump, Console, Pmsg, Ftrace}
+use Rattle.zone_spec.specs.declared.Time.{Time}
+use Rattle.zone_spec.specs.declared.Zone.{Zone}
+use Rattle.inflate_spec.specs.declared.Fault.{Fault}
+use Rattle.inflate_spec.specs.declared.Fault.TheVariants.{EndOfInput, ReservedBlock, StoredLength, TooManyCodes, OverSubscribed, Incomplete, NoEndCode, NoPrevious, TooManyLengths, MissingCode, DistanceTooFar}
+use Rattle.inflate_spec.specs.Texts.{Inflates, Breaks, Exceeds}
+use Rattle.report_spec.specs.declared.TextFault.{TextFault}
+use Rattle.report_spec.specs.declared.TextFault.TheVariants.{Broken, TooLong}
+use Rattle.report_spec.specs.declared.Packing.{Packing}
+use Rattle.report_spec.specs.declared.Packing.TheVariants.{Plain, Whole, Part}
+use Rattle.report_spec.specs.Records.{RecordHeld}
+
+-- a record's name and content as its file has them, the content with its notice; and whether its bytes were packed
+pub record RecordShown : Type 0 where
+  pub name : Name
+  pub time : Option Time
+  pub content : List ℕ
+  pub packing : Packing (List ℕ)
+
+-- ---- words
+
+abbrev pub stream_words : Fault → List ℕ
+stream_words EndOfInput = codes "end of input"
+stream_words ReservedBlock = codes "reserved block type"
+stream_words StoredLength = codes "wrong stored length"
+stream_words TooManyCodes = codes "too many codes"
+stream_words OverSubscribed = codes "over-subscribed code"
+stream_words Incomplete = codes "incomplete code"
+stream_words NoEndCode = codes "no end code"
+stream_words NoPrevious = codes "no previous length"
+stream_words TooManyLengths = codes "too many lengths"
+stream_words MissingCode = codes "unknown code"
+stream_words DistanceTooFar = codes "distance too far back"
+
+abbrev pub fault_words : TextFault → List ℕ
+fault_words (Broken fault) = stream_words fault
+fault_words TooLong = codes "text too long"
+
+-- ---- how a record is shown
+
+-- the most bytes of a dump's text: the kernel packs a text of at most 100/45 of the zone's size, and 64 times the size is
+-- more than that. Dump zone i is the i-th of a layout
+abbrev pub most_by : Option Zone → ℕ
+most_by None = 0
+most_by (Some z) = 64 * z.size
+
+abbrev pub most_of : List Zone → ℕ → ℕ
+most_of zones index = most_by (slice_get zones index)
+
+-- a record as it stands
+abbrev pub as_it_stands : RecordHeld → Packing (List ℕ) → RecordShown
+as_it_stands r packing =
+    record { name = r.name; time = r.time; content = r.content ++ r.notice; packing = packing }
+
+-- a dump with its text in place of its bytes
+abbrev pub inflated : RecordHeld → ℕ → List ℕ → ℕ → RecordShown
+inflated r index text taken =
+    record { name = Dump index false; time = r.time; content = text ++ r.notice; packing = Whole taken }
+
+-- the bytes stand for the text up to a fault, or up to where it gets too long
+abbrev pub StopsAt : List ℕ → ℕ → TextFault → List ℕ → Type 0
+StopsAt bytes most (Broken fault) text = Breaks bytes fault text × (length text ≤ most)
+StopsAt bytes most TooLong text = Exceeds bytes most text
+
+-- a packed dump is shown by all of its text, with the bytes that this took, or by the text up to a fault
+abbrev pub IsUnpacked : ℕ → ℕ → RecordHeld → Packing (List ℕ) → RecordShown → Type 0
+IsUnpacked most index r Plain shown = ⊥
+IsUnpacked most index r (Whole taken) shown = (text : List ℕ) × Inflates r.content text taken × (length text ≤ most)
+    × (shown ≡ inflated r index text taken)
+IsUnpacked most index r (Part fault text) shown =
+    StopsAt r.content most fault text × (shown ≡ as_it_stands r (Part fault text))
+
+abbrev pub IsShownBy : List Zone → Name → RecordHeld → RecordShown → Type 0
+IsShownBy zones (Dump index true) r shown = IsUnpacked (most_of zones index) index r shown.packing shown
+IsShownBy zones (Dump index false) r shown = shown ≡ as_it_stands r Plain
+IsShownBy zones Console r shown = shown ≡ as_it_stands r Plain
+IsShownBy zones Pmsg r shown = shown ≡ as_it_stands r Plain
+IsShownBy zones Ftrace r shown = shown ≡ as_it_stands r Plain
+
+-- a record of a layout's zones, and how it is shown
+abbrev pub IsShown : List Zone → RecordHeld → RecordShown → Type 0
+IsShown zones r shown = IsShownBy zones r.name r shown
+
+-- each of these records, in order
+abbrev pub AreShown : List Zone → List RecordHeld → List RecordShown → Type 0
+AreShown zones [] [] = ⊤
+AreShown zones [] (shown ∷ more) = ⊥
+AreShown zones (r ∷ rs) [] = ⊥
+AreShown zones (r ∷ rs) (shown ∷ more) = IsShown zones r shown × AreShown zones rs more
+
+-- what people read of a record: its content, or a text up to its fault
+abbrev pub readable_of : Packing (List ℕ) → List ℕ → List ℕ
+readable_of Plain content = content
+readable_of (Whole taken) content = content
+readable_of (Part fault text) content = text
+
+abbrev pub readable : RecordShown → List ℕ
+readable r = readable_of r.packing r.content
