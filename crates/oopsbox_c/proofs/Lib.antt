@@ -5,3 +5,5 @@ pub mod StoredRows
 pub mod Back
 pub mod Begun
 pub mod WholeCalls
+pub mod Gathering
+pub mod Answered

@@ -14,7 +14,7 @@ use Rattle.store_steps.specs.Machine.{IsKept, StandsFor}
 use Rattle.store_steps.specs.Counts.{total_of}
 use Rattle.oopsbox_c.specs.Numbers.{call_in, leg_in, phase_in}
 use Rattle.oopsbox_c.specs.Places.{zone_in, IsPlace}
-use Rattle.oopsbox_c.specs.Stores.{stores_in, IsInside}
+use Rattle.oopsbox_c.specs.Stores.{stores_in, AreInside}
 use Rattle.oopsbox_c.specs.Tables.{IsLendable}
 use Rattle.oopsbox_c.specs.declared.ends.End.{End}
 use Rattle.oopsbox_c.specs.declared.ends.End.TheVariants.{Done, Argument, Closed}
@@ -105,13 +105,15 @@ pub record IsNext (f g : Flight) (image line payload : List ℕ) (most : ℕ) (o
   pub made : g.made ≡ f.made + length (stores_in out line payload)
   pub at_most : length (stores_in out line payload) ≤ most
   pub some : f.made < total_of (flight_in f line payload) → 0 < length (stores_in out line payload)
-  pub inside : IsInside f.zone.size out line payload
+  pub inside : AreInside f.zone.size out line payload
   pub handed : (before : List ℕ) → StandsFor (flight_in f line payload) image before
       → stores_in out line payload ≡ take (length (stores_in out line payload))
       (drop f.made (call_stores (zone_in f.zone) (call_of (call_in f.kind) line payload) before))
   pub stands : (before : List ℕ) → StandsFor (flight_in f line payload) image before
       → StandsFor (flight_in g line payload) (after_stores image (stores_in out line payload)) before
-  pub finished : (out.what ≡ 4) ↔ (f.made ≡ total_of (flight_in f line payload))
+  pub none : f.made ≡ total_of (flight_in f line payload) → out.count ≡ 0
+  pub is_last : (out.is_last ≡ 1) ↔ (g.made ≡ total_of (flight_in f line payload))
+  pub flag : out.is_last ≤ 1
 
 abbrev pub NextEnds : End → Flight → Flight → List ℕ → List ℕ → List ℕ → List TableRow → ℕ → Stores → Stores
     → Type 0

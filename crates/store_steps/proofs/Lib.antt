@@ -14,3 +14,4 @@ pub mod Runs
 pub mod TouchedBlocks
 pub mod LeftCounts
 pub mod Placing
+pub mod Data

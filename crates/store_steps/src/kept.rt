@@ -7,13 +7,13 @@ ghost use Rattle.store_steps.specs.Calls.{call_of, IsOpenFor};
 
 use crate::counts::{append_stores, call_total, front_len, line_len};
 use crate::place::{Leg, Phase};
-use crate::steps::{Steps, is_open};
+use crate::steps::{Steps, first_place, is_open};
 use zone_spec::CallKind;
 
 impl Steps {
     ghost use Rattle.store_steps.specs.Flying.{flying, later};
     ghost use Rattle.store_steps.specs.Phases.{IsSound, IsPlaced, IsWithin, IsFinished, phase_len, first_end, second_end};
-    ghost use Rattle.store_steps.specs.Machine.{IsKept, count_left};
+    ghost use Rattle.store_steps.specs.Machine.{IsKept, IsFresh, count_left};
     ghost use Rattle.store_steps.specs.LeftCounts.{second_count, runs_count, behind_count};
 
     /// The parity bytes of the blocks from `first` up to `end`.
@@ -196,6 +196,20 @@ impl Steps {
             && is_open(self.kind, &self.words, self.zone.cap)
     }
 
+    /// Whether these are the steps that a begin makes: a test that is cheaper than that of others.
+    fn is_fresh(&self, line: &[u8], payload: &[u8]) -> bool
+        requires valid { IsValidZone self.now.zone }
+        requires line { length line.now ≤ 36 }
+        ensures value { IsTrue result ↔ IsFresh (flying self.now line.now payload.now) }
+        ensures kept { IsFresh (flying self.now line.now payload.now) → IsKept (flying self.now line.now payload.now) }
+    {
+        if self.made != 0 || !self.is_open() {
+            return false;
+        }
+        let _total = call_total(&self.zone, &self.words, self.kind, line, payload);
+        self.place == first_place(&self.zone, &self.words, self.kind, line, payload)
+    }
+
     /// Whether these numbers can be the steps of a call with this line and this payload. Steps that were begun with
     /// them, and moved on with them alone, always are. A caller that got its steps back from elsewhere asks it first.
     pub fn is_kept(&self, line: &[u8], payload: &[u8]) -> bool
@@ -203,6 +217,9 @@ impl Steps {
         requires line { length line.now ≤ 36 }
         ensures { IsTrue result ↔ IsKept (flying self.now line.now payload.now) }
     {
+        if self.is_fresh(line, payload) {
+            return true;
+        }
         if !self.is_open() || !self.is_placed(line) {
             return false;
         }

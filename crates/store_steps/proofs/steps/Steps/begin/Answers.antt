@@ -4,7 +4,6 @@ use Rattle.zone_spec.specs.declared.Zone.{Zone}
 use Rattle.zone_spec.specs.Reading.{IsRing}
 use Rattle.zone_spec.specs.Told.{Call}
 use Rattle.zone_spec.specs.Parts.{standing_words}
-use Rattle.store_steps.specs.Flying.{flying}
 use Rattle.store_steps.proofs.Handing.{line_short, call_of_bytes}
 use Rattle.store_steps.specs.Calls.{call_of, line_of, IsOpenFor}
 use Rattle.store_steps.specs.First.{first_place}

@@ -1,4 +1,4 @@
-use Rattle.std.proofs.Common.{◌+◌, arith}
+use Rattle.std.proofs.Common.{arith}
 use Rattle.store_steps.proofs.Storing.{end_in}
 use Rattle.store_steps.proofs.steps.Steps.second_end.Goals as goal
 
