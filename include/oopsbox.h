@@ -168,15 +168,15 @@ struct oopsbox_flight {
 
 enum { OOPSBOX_WORD = 0, OOPSBOX_LINE = 1, OOPSBOX_PAYLOAD = 2, OOPSBOX_BYTES = 3 };
 
-/* One word, or one run of bytes. It lies at zone[place .. place + len), which is within the zone. A word is one store of
-   four bytes. All else is a store for each byte, at rising places. 152 bytes. */
+/* One word, or one run of bytes. It lies at zone[place .. place + len), which is within the zone. A word is one store
+   of four bytes. All else is a store for each byte, at rising places. 152 bytes. */
 struct oopsbox_store {
 	uint64_t from;      /* LINE, PAYLOAD: the bytes are line[from .. from + len) or payload[from .. from + len) */
 	uint32_t what;      /* OOPSBOX_WORD .. OOPSBOX_BYTES */
 	uint32_t place;     /* counted from the zone's first byte */
 	uint32_t len;       /* how many bytes; 4 for a word */
 	uint32_t word;      /* WORD: the word; it stands little-endian in memory */
-	uint8_t bytes[128]; /* BYTES: the first len of these */
+	uint8_t bytes[128]; /* BYTES: the first len of these; WORD: the first four are the word's */
 };
 
 /* The next stores of a call: stores[0 .. count), in this order. What is behind them in the array is not to be read.

@@ -77,7 +77,8 @@ grown f image line payload s t out new more g kept same made whole inside bytes 
           let all : List Store = call_stores f.zone f.call before in
           let next : more ≡ take (length more) (drop (length xs) (drop f.made all)) =
           handed before (g.stands before st)
-          ∙ ap₂ (λ (z : Zone) (c : Call). take (length more) (drop s.made (call_stores z c before))) g.same.zone g.same.call
+          ∙ ap₂ (λ (z : Zone) (c : Call). take (length more) (drop s.made (call_stores z c before))) g.same.zone
+          g.same.call
           ∙ ap (λ m. take (length more) (drop m all)) g.made
           ∙ ap (take (length more)) (sym (drop-drop (length xs) f.made all)) in
           whole ∙ joined xs more (drop f.made all) (g.handed before st) next

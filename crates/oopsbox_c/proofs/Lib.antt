@@ -7,3 +7,4 @@ pub mod Begun
 pub mod WholeCalls
 pub mod Gathering
 pub mod Answered
+pub mod Blocks

@@ -221,13 +221,7 @@ fn take_parities(
 }
 
 // Takes words and runs into the answer, those that come next: up to a parity, the end, or an answer of four rows.
-fn take_data(
-    steps: &mut Steps,
-    line: &[u8],
-    payload: &[u8],
-    until: u64,
-    stores: &mut Stores,
-)
+fn take_data(steps: &mut Steps, line: &[u8], payload: &[u8], until: u64, stores: &mut Stores)
     requires kept { IsKept (flying steps.old line.now payload.now) }
     requires line { length line.now ≤ 36 }
     requires near { until < steps.old.made + 2 ^ 32 }
@@ -340,8 +334,8 @@ fn next(
     End::Done
 }
 
-/// Hands out the next stores, at most `most` of them: those that do not depend on stores before them. `image` is the zone's bytes with all stores made that were handed out
-/// before; line and payload are those of the call's begin.
+/// Hands out the next stores, at most `most` of them, up to the next parity. `image` is the zone's bytes with all stores
+/// made that were handed out before; line and payload are those of the call's begin.
 #[unsafe(no_mangle)]
 pub extern "C" fn oopsbox_flight_next(
     flight: &mut Flight,

@@ -15,3 +15,4 @@ pub mod TouchedBlocks
 pub mod LeftCounts
 pub mod Placing
 pub mod Data
+pub mod Small

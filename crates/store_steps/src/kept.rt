@@ -5,7 +5,7 @@ ghost use Rattle.zone_spec.specs.Stages.{stage_count};
 ghost use Rattle.zone_spec.specs.Reading.{IsRing};
 ghost use Rattle.store_steps.specs.Calls.{call_of, IsOpenFor};
 
-use crate::counts::{append_stores, call_total, front_len, line_len};
+use crate::counts::{append_stores, call_total, front_len, line_len, whole_blocks};
 use crate::place::{Leg, Phase};
 use crate::steps::{Steps, first_place, is_open};
 use zone_spec::CallKind;
@@ -46,7 +46,7 @@ impl Steps {
         ensures value { result ≡ runs_count (flying self.now line.now payload.now) }
         ensures small { result < 2 ^ 34 }
     {
-        let first = self.place.start / self.zone.block;
+        let first = whole_blocks(&self.zone, self.place.start);
         let end = self.first_end(line, payload);
         self.first_len(line, payload) as u64
             + self.parities(first, end)
@@ -88,7 +88,7 @@ impl Steps {
             Phase::Size => 1 + (self.runs_count(line, payload) + closing),
             Phase::Start => self.runs_count(line, payload) + closing,
             Phase::First => {
-                let first = self.place.start / self.zone.block;
+                let first = whole_blocks(&self.zone, self.place.start);
                 let end = self.first_end(line, payload);
                 self.parities(first, end) + (self.second_count(line, payload) + closing)
             }
@@ -206,7 +206,6 @@ impl Steps {
         if self.made != 0 || !self.is_open() {
             return false;
         }
-        let _total = call_total(&self.zone, &self.words, self.kind, line, payload);
         self.place == first_place(&self.zone, &self.words, self.kind, line, payload)
     }
 

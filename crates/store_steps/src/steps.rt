@@ -10,7 +10,9 @@ ghost use Rattle.zone_spec.specs.Reading.{IsRing};
 ghost use Rattle.store_steps.specs.Calls.{call_of, line_of, front_of, last_of, IsOpenFor};
 ghost use Rattle.store_steps.specs.First.{first_place, append_phase, erasure};
 
-use crate::counts::{call_pairs, call_runs, call_total, front_len, last_len, line_len, skipped};
+use crate::counts::{
+    call_pairs, call_runs, call_total, front_len, last_len, line_len, skipped, whole_blocks,
+};
 use crate::place::{Leg, Phase, Place};
 use crate::store::{Given, Store};
 use arrayvec::ArrayVec;
@@ -53,7 +55,6 @@ impl Steps {
         ensures stands { StandsFor (flying result line.now payload.now) image.now image.now }
     {
         let words = words_of(&image[..12]);
-        let _total = call_total(&zone, &words, kind, line, payload);
         let place = first_place(&zone, &words, kind, line, payload);
         Steps {
             zone,
@@ -163,7 +164,8 @@ impl Steps {
         ensures value { result ≡ first_end (flying self.now line.now payload.now) }
         ensures within { result ≤ self.now.zone.blocks }
     {
-        (self.place.start + self.first_len(line, payload) + self.zone.block - 1) / self.zone.block
+        let end = self.place.start + self.first_len(line, payload);
+        whole_blocks(&self.zone, end + self.zone.block - 1)
     }
 
     pub(crate) fn second_end(&self, line: &[u8], payload: &[u8]) -> u32
@@ -173,9 +175,12 @@ impl Steps {
         ensures value { result ≡ second_end (flying self.now line.now payload.now) }
         ensures within { result ≤ self.now.zone.blocks }
     {
-        (self.second_len(line, payload) + self.zone.block - 1) / self.zone.block
+        let end = self.second_len(line, payload);
+        whole_blocks(&self.zone, end + self.zone.block - 1)
     }
 
+    /// How many stores the phase has. It is inlined: each turn of a call asks for it three times.
+    #[inline(always)]
     pub(crate) fn phase_len(&self, line: &[u8], payload: &[u8]) -> u32
         requires valid { IsValidZone self.now.zone }
         requires below { self.now.place.start < self.now.zone.cap }
@@ -319,7 +324,7 @@ impl Steps {
             Phase::Size => self.enter_phase(Phase::Start),
             Phase::Start => self.enter_phase(Phase::First),
             Phase::First => {
-                let block = self.place.start / self.zone.block;
+                let block = whole_blocks(&self.zone, self.place.start);
                 self.enter_block(Phase::FirstParity, block);
             }
             Phase::FirstParity => {

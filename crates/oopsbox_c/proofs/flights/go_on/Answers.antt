@@ -91,9 +91,10 @@ returns c =
       leg = of.leg;
       phase = of.phase;
     })
-    c.flag-stores.ensures.most
-    (λ f. c.is_finished.ensures.0 (c.flag-stores.ensures.value.0 f),
-    λ f. c.flag-stores.ensures.value.1 (c.is_finished.ensures.1 f))
+    c.flag-stores.ensures.most (
+      λ f. c.is_finished.ensures.0 (c.flag-stores.ensures.value.0 f),
+      λ f. c.flag-stores.ensures.value.1 (c.is_finished.ensures.1 f),
+    )
     (omega (arith, c.take_data.ensures.most, made))
     (λ h. let l = some (omega (arith, h, made, all)) in omega (arith, l, made))
     (λ h. none (omega (arith, h, made)))

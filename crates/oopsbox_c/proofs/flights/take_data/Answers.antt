@@ -26,8 +26,8 @@ loop-steps-preserved c =
       gathered = λ f image begun.
           let g = was.gathered f image begun in
           let now : List ℕ = after_stores image (stores_in c.loop-steps.stores line payload) in
-          grown f image line payload s c.next_data.new.self c.loop-steps.stores c.push.new.self more g next.kept next.same
-          next.made (c.push.ensures.stores line payload)
+          grown f image line payload s c.next_data.new.self c.loop-steps.stores c.push.new.self more g next.kept
+          next.same next.made (c.push.ensures.stores line payload)
           (c.push.ensures.inside f.zone.size line payload g.inside
           (subst (λ z. IsInside z c.next_data.new.out line payload) (ap (λ z. z.size) g.same.zone) next.inside))
           (next.bytes now g.bytes) (next.handed now)

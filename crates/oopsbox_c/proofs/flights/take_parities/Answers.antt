@@ -45,8 +45,8 @@ loop-steps-preserved c =
       kept = next.kept;
       gathered = λ f begun.
           let g = was.gathered f begun in
-          grown f image line payload s c.next_parity.new.self c.loop-steps.stores c.push.new.self more g next.kept next.same
-          next.made (c.push.ensures.stores line payload)
+          grown f image line payload s c.next_parity.new.self c.loop-steps.stores c.push.new.self more g next.kept
+          next.same next.made (c.push.ensures.stores line payload)
           (c.push.ensures.inside f.zone.size line payload g.inside
           (subst (λ z. IsInside z c.next_parity.new.out line payload) (ap (λ z. z.size) g.same.zone) next.inside))
           (next.bytes now g.bytes) (λ before stands. next.handed now before was.apart stands)

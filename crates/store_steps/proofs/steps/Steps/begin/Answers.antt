@@ -9,6 +9,7 @@ use Rattle.store_steps.specs.Calls.{call_of, line_of, IsOpenFor}
 use Rattle.store_steps.specs.First.{first_place}
 use Rattle.store_steps.specs.declared.place.Place.{Place}
 use Rattle.store_steps.specs.Machine.{IsKept, StandsFor}
+use Rattle.store_steps.proofs.Small.{total_small}
 use Rattle.store_steps.proofs.Beginning.{starts, started, placed_starts, kept_starts, stands_starts}
 use Rattle.store_steps.proofs.steps.Steps.begin.Goals as goal
 
@@ -28,7 +29,7 @@ returns-clause-kept c =
     c.requires.is_open in
     subst IsKept (is_started z w call c.first_place-place.result c.first_place-place.ensures)
     (kept_starts (started z w call) (starts z w c.requires.valid ring call open_for short) (placed_starts z w call)
-    refl ring open_for (omega (arith, c.call_total-total.ensures.value, c.call_total-total.ensures.small)))
+    refl ring open_for (total_small z w call c.requires.valid open_for short))
 
 pub returns-clause-stands : goal.returns-clause-stands
 returns-clause-stands c =
