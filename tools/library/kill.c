@@ -138,9 +138,11 @@ static void apply(struct model *m, const struct run *run)
 
 /* ---- the writer ---- */
 
+/* After a word. In one kill of three it is long, so that the ring is often not full yet, and the next word not there. */
 static void rest(void)
 {
-	for (volatile int i = 0; i < 60; i++)
+	int rounds = killed % 3 == 0 ? 40000 : 60;
+	for (volatile int i = 0; i < rounds; i++)
 		;
 }
 

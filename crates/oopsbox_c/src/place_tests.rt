@@ -45,7 +45,7 @@ fn no_stores() -> Stores {
 }
 
 // The row of this number: what it is, its place, its length, and its word or its first byte's number.
-fn row(stores: &Stores, number: usize) -> (u32, u32, u32, u64) {
+fn row_at(stores: &Stores, number: usize) -> (u32, u32, u32, u64) {
     match stores.stores.get(number) {
         Some(row) if row.what == 0 => (0, row.place, row.len, u64::from(row.word)),
         Some(row) => (row.what, row.place, row.len, row.from),
@@ -94,9 +94,9 @@ fn an_append_is_one_answer(rt: HostRuntime) -> Result<(), Fail> {
     assert!(rt; (flight.made, flight.payload, flight.line, flight.kind) == (0, 2, 0, 0));
     assert!(rt; oopsbox_flight_next(&mut flight, &image, &[], b"de", &[], 9, &mut stores) == 0);
     assert!(rt; (stores.count, stores.is_last, flight.made) == (3, 1, 4));
-    assert!(rt; row(&stores, 0) == (0, 8, 4, 5));
-    assert!(rt; row(&stores, 1) == (0, 4, 4, 5));
-    assert!(rt; row(&stores, 2) == (2, 15, 2, 0));
+    assert!(rt; row_at(&stores, 0) == (0, 8, 4, 5));
+    assert!(rt; row_at(&stores, 1) == (0, 4, 4, 5));
+    assert!(rt; row_at(&stores, 2) == (2, 15, 2, 0));
     assert!(rt; oopsbox_flight_next(&mut flight, &image, &[], b"de", &[], 9, &mut stores) == 0);
     assert!(rt; (stores.count, stores.is_last, flight.made) == (0, 1, 4));
     Ok(())
@@ -111,13 +111,13 @@ fn an_append_is_handed_out_in_parts(rt: HostRuntime) -> Result<(), Fail> {
     assert!(rt; oopsbox_append_begin(&place, &image, b"de", &mut flight) == 0);
     assert!(rt; oopsbox_flight_next(&mut flight, &image, &[], b"de", &[], 3, &mut stores) == 0);
     assert!(rt; (stores.count, stores.is_last, flight.made) == (3, 0, 3));
-    assert!(rt; row(&stores, 2) == (2, 15, 1, 0));
+    assert!(rt; row_at(&stores, 2) == (2, 15, 1, 0));
     image[8] = 5;
     image[4] = 5;
     image[15] = b'd';
     assert!(rt; oopsbox_flight_next(&mut flight, &image, &[], b"de", &[], 9, &mut stores) == 0);
     assert!(rt; (stores.count, stores.is_last, flight.made) == (1, 1, 4));
-    assert!(rt; row(&stores, 0) == (2, 16, 1, 1));
+    assert!(rt; row_at(&stores, 0) == (2, 16, 1, 1));
     Ok(())
 }
 
@@ -135,13 +135,13 @@ fn parities_are_one_answer(rt: HostRuntime) -> Result<(), Fail> {
     image[..15].copy_from_slice(b"DBGC\x03\0\0\0\x03\0\0\0abc");
     assert!(rt; oopsbox_flight_next(&mut flight, &image, &[], b"abc", &[], 99, &mut stores) == 0);
     assert!(rt; (stores.count, stores.is_last, flight.made) == (2, 1, 37));
-    assert!(rt; row(&stores, 0) == (3, place.cap + 12, 16, 0));
-    assert!(rt; row(&stores, 1) == (3, 4080, 16, 0));
+    assert!(rt; row_at(&stores, 0) == (3, 3616, 16, 0));
+    assert!(rt; row_at(&stores, 1) == (3, 4080, 16, 0));
     let mut parity = [0; 16];
     assert!(rt; oopsbox_rs_encode(&image[12..140], &mut parity) == 0);
-    assert!(rt; stores.stores[0].bytes[..16] == parity);
+    assert!(rt; &stores.stores[0].bytes[..16] == parity.as_slice());
     assert!(rt; oopsbox_rs_encode(&image[..12], &mut parity) == 0);
-    assert!(rt; stores.stores[1].bytes[..16] == parity);
+    assert!(rt; &stores.stores[1].bytes[..16] == parity.as_slice());
     Ok(())
 }
 
@@ -189,7 +189,7 @@ fn a_flight_is_refused(rt: HostRuntime) -> Result<(), Fail> {
     flight.phase = 10;
     assert!(rt; oopsbox_flight_next(&mut flight, &image, &[], b"de", &[], 9, &mut stores) == 13);
     assert!(rt; (stores.count, stores.is_last) == (9, 9));
-    assert!(rt; row(&stores, 3) == (9, 9, 9, 9));
+    assert!(rt; row_at(&stores, 3) == (9, 9, 9, 9));
     Ok(())
 }
 
@@ -236,11 +236,11 @@ fn a_zone_is_booted(rt: HostRuntime) -> Result<(), Fail> {
     for (at, word) in [(0, 0x4347_4244), (4, 0), (8, 0)] {
         assert!(rt; oopsbox_boot_next(&mut boot, &image, &mut stores) == 0);
         assert!(rt; (stores.count, stores.is_last) == (1, 0));
-        assert!(rt; row(&stores, 0) == (0, at, 4, word));
+        assert!(rt; row_at(&stores, 0) == (0, at, 4, word));
         make(&stores, &mut image);
     }
     assert!(rt; oopsbox_boot_next(&mut boot, &image, &mut stores) == 0);
-    assert!(rt; row(&stores, 0) == (3, 4080, 16, 0));
+    assert!(rt; row_at(&stores, 0) == (3, 4080, 16, 0));
     make(&stores, &mut image);
     assert!(rt; oopsbox_boot_next(&mut boot, &image, &mut stores) == 0);
     assert!(rt; (stores.count, stores.is_last, boot.made) == (0, 1, 19));
@@ -284,6 +284,6 @@ fn a_boot_is_refused(rt: HostRuntime) -> Result<(), Fail> {
     boot.made = 99;
     assert!(rt; oopsbox_boot_next(&mut boot, &image, &mut stores) == 13);
     assert!(rt; (stores.count, stores.is_last) == (9, 9));
-    assert!(rt; row(&stores, 3) == (9, 9, 9, 9));
+    assert!(rt; row_at(&stores, 3) == (9, 9, 9, 9));
     Ok(())
 }
