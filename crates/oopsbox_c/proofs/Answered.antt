@@ -50,8 +50,9 @@ module _ (f g : Flight) (image line payload : List ℕ) (most last : ℕ) (t : S
   pub answered : IsFlight f line payload → IsGathered (flight_in f line payload) image line payload t out → IsOf f g t
       → last ≤ 1 → ((last ≡ 1) ↔ (t.place.phase ≡ Finished)) → t.made ≤ f.made + most
       → (f.made < total_of (flight_in f line payload) → f.made < t.made) → (t.made ≡ f.made → out.count ≡ 0)
+      → (f.made + most ≤ t.made) ⊎ (4 ≤ out.count) ⊎ IsParity t.place.phase ⊎ (t.place.phase ≡ Finished)
       → IsNext f g image line payload most (record out { is_last = last })
-  answered was got of flag is_last at_most some none =
+  answered was got of flag is_last at_most some none stops =
       let made : g.made ≡ t.made = ap (λ (x : Steps). x.made) of.steps in
       let total : total_of (flying t line payload) ≡ total_of (flight_in f line payload) = total_same got.same in
       let end = ends (flying t line payload) got.kept in
@@ -81,4 +82,14 @@ module _ (f g : Flight) (image line payload : List ℕ) (most last : ℕ) (t : S
           λ e. is_last.1 (end.1 (sym made ∙ e ∙ sym total)),
         );
         flag = flag;
+        stops = elim stops [
+          | inl m ↦ inl (omega (arith, got.made, m))
+          | inr a ↦ elim a [
+            | inl c ↦ inr (inl (omega (arith, c, got.inside.count)))
+            | inr b ↦ elim b [
+              | inl p ↦ inr (inr (inl (subst (λ (x : Steps). IsParity x.place.phase) (sym of.steps) p)))
+              | inr d ↦ inr (inr (inr (is_last.1 d)))
+            ]
+          ]
+        ];
       }

@@ -1,5 +1,5 @@
 -- What the calls on a flight answer
-use Rattle.std.specs.Prelude.{◌≡◌, ℕ, ◌+◌, ◌<◌, ◌≤◌, ◌↔◌, List, length, take, drop}
+use Rattle.std.specs.Prelude.{◌≡◌, ℕ, ◌+◌, ◌<◌, ◌≤◌, ◌↔◌, ◌⊎◌, List, length, take, drop}
 use Rattle.zone_spec.specs.declared.CallKind.{CallKind}
 use Rattle.zone_spec.specs.declared.Zone.{Zone}
 use Rattle.zone_spec.specs.Told.{Call}
@@ -10,7 +10,7 @@ use Rattle.zone_spec.specs.Calls.{call_stores}
 use Rattle.store_steps.specs.declared.steps.Steps.{Steps}
 use Rattle.store_steps.specs.Calls.{call_of, IsOpenFor}
 use Rattle.store_steps.specs.Flying.{Flying, flying, IsSameCall}
-use Rattle.store_steps.specs.Machine.{IsKept, StandsFor}
+use Rattle.store_steps.specs.Machine.{IsKept, IsParity, StandsFor}
 use Rattle.store_steps.specs.Counts.{total_of}
 use Rattle.oopsbox_c.specs.Numbers.{call_in, leg_in, phase_in}
 use Rattle.oopsbox_c.specs.Places.{zone_in, IsPlace}
@@ -97,7 +97,8 @@ pub record CanGoOn (f : Flight) (image line payload : List ℕ) (table : List Ta
   pub lendable : IsLendable table
   pub some : 0 < most
 
--- the next stores were handed out, and the flight stands behind them
+-- the next stores were handed out, and the flight stands behind them: at the number asked for, at four rows, before the
+-- next parity, or at the end
 pub record IsNext (f g : Flight) (image line payload : List ℕ) (most : ℕ) (out : Stores) : Type 0 where
   pub flight : IsFlight g line payload
   pub zone : g.zone ≡ f.zone
@@ -114,6 +115,8 @@ pub record IsNext (f g : Flight) (image line payload : List ℕ) (most : ℕ) (o
   pub none : f.made ≡ total_of (flight_in f line payload) → out.count ≡ 0
   pub is_last : (out.is_last ≡ 1) ↔ (g.made ≡ total_of (flight_in f line payload))
   pub flag : out.is_last ≤ 1
+  pub stops : (most ≤ length (stores_in out line payload)) ⊎ (out.count ≡ 4) ⊎ IsParity (phase_in g.phase)
+      ⊎ (out.is_last ≡ 1)
 
 abbrev pub NextEnds : End → Flight → Flight → List ℕ → List ℕ → List ℕ → List TableRow → ℕ → Stores → Stores
     → Type 0

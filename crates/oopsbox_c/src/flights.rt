@@ -1,5 +1,5 @@
 // Calls on a zone, in structs of the caller's. They take no memory.
-ghost use Rattle.std.specs.Prelude.{◌≡◌, ◌+◌, ◌^◌, ◌≤◌, ◌↔◌, ◌<◌, [], List, ℕ, length, IsTrue};
+ghost use Rattle.std.specs.Prelude.{◌≡◌, ◌+◌, ◌^◌, ◌≤◌, ◌↔◌, ◌⊎◌, ◌<◌, [], List, ℕ, length, IsTrue};
 ghost use Rattle.zone_spec.specs.Parts.{standing_words};
 ghost use Rattle.rs_encode.specs.Lanes.{IsLent};
 ghost use Rattle.store_steps.specs.Flying.{Flying, flying};
@@ -233,6 +233,8 @@ fn take_data(steps: &mut Steps, line: &[u8], payload: &[u8], until: u64, stores:
     ensures later { HasGone steps.old steps.new stores.old stores.new }
     ensures some { (IsParity steps.old.place.phase → ⊥) → (steps.old.place.phase ≡ Finished → ⊥)
         → stores.old.count < 4 → steps.old.made < until → steps.old.made < steps.new.made }
+    ensures stops { (until ≤ steps.new.made) ⊎ (4 ≤ stores.new.count) ⊎ IsParity steps.new.place.phase
+        ⊎ (steps.new.place.phase ≡ Finished) }
     ensures kind { steps.new.kind ≡ steps.old.kind }
 {
     let mut store = Store::new();

@@ -98,3 +98,4 @@ returns c =
     (omega (arith, c.take_data.ensures.most, made))
     (λ h. let l = some (omega (arith, h, made, all)) in omega (arith, l, made))
     (λ h. none (omega (arith, h, made)))
+    (elim c.take_data.ensures.stops [ inl m ↦ inl (omega (arith, m, made)) | inr r ↦ inr r ])
