@@ -166,17 +166,25 @@ struct oopsbox_flight {
 	uint32_t number;   /* .. and how many stores of the phase were handed out */
 };
 
-enum { OOPSBOX_WORD = 0, OOPSBOX_LINE = 1, OOPSBOX_PAYLOAD = 2, OOPSBOX_BYTES = 3, OOPSBOX_FINISHED = 4 };
+enum { OOPSBOX_WORD = 0, OOPSBOX_LINE = 1, OOPSBOX_PAYLOAD = 2, OOPSBOX_BYTES = 3 };
 
-/* The next stores of a call. They lie at zone[place .. place + len), which is within the zone. A word is one store of
-   four bytes. All else is a store for each byte, at rising places. 152 bytes. */
-struct oopsbox_stores {
+/* One word, or one run of bytes. It lies at zone[place .. place + len), which is within the zone. A word is one store
+   of four bytes. All else is a store for each byte, at rising places. 152 bytes. */
+struct oopsbox_store {
 	uint64_t from;      /* LINE, PAYLOAD: the bytes are line[from .. from + len) or payload[from .. from + len) */
-	uint32_t what;      /* OOPSBOX_WORD .. OOPSBOX_FINISHED */
+	uint32_t what;      /* OOPSBOX_WORD .. OOPSBOX_BYTES */
 	uint32_t place;     /* counted from the zone's first byte */
-	uint32_t len;       /* how many bytes; 4 for a word, 0 when finished */
+	uint32_t len;       /* how many bytes; 4 for a word */
 	uint32_t word;      /* WORD: the word; it stands little-endian in memory */
 	uint8_t bytes[128]; /* BYTES: the first len of these; WORD: the first four are the word's */
+};
+
+/* The next stores of a call: stores[0 .. count), in this order. What is behind them in the array is not to be read.
+   616 bytes. */
+struct oopsbox_stores {
+	struct oopsbox_store stores[4];
+	uint32_t count;   /* 0 to 4 */
+	uint32_t is_last; /* 1: the call has no stores after these; 0: ask again */
 };
 
 /*
@@ -206,13 +214,15 @@ uint32_t oopsbox_dump_begin(const struct oopsbox_zone_place *place, const uint8_
 			    struct oopsbox_flight *flight);
 
 /*
- * Hands out the next stores of a call, at most `most` of them. The caller makes them, in order, and then asks again,
- * with zone[0 .. zone_len) as they then stand; line and payload are the same bytes as at the begin (an append and an
- * erasure have no line, an erasure no payload). A flight of a begin that succeeded is never refused while these stay
+ * Hands out the next stores of a call, at most `most` of them in all. The caller makes them, in order, and then asks
+ * again, with zone[0 .. zone_len) as they then stand; line and payload are the same bytes as at the begin (an append and
+ * an erasure have no line, an erasure no payload). A flight of a begin that succeeded is never refused while these stay
  * so. Ask for as many as can be made at once: with most 1 a part's parity is computed again for each byte.
  *
- * OOPSBOX_DONE: *stores are the next ones, at least one and at most `most`; *flight stands behind them. Where none are
- * left stores->what is OOPSBOX_FINISHED.
+ * One answer goes up to the next parity: an append without parity has one answer, one with parity mostly two.
+ *
+ * OOPSBOX_DONE: *stores are the next ones, at least one where one is left, and at most `most`; *flight stands behind
+ * them. stores->is_last is 1 if none is left then. Who asks again gets none, and is_last again.
  * OOPSBOX_ARGUMENT: *flight is none of a call with a line and a payload of these lengths, zone_len is not the zone's
  * size, line_len is above 36, table_len is neither 0 nor 256, or most is 0; nothing was written.
  */
@@ -265,11 +275,11 @@ uint32_t oopsbox_boot_begin(const struct oopsbox_zone_place *place, const uint8_
 			    struct oopsbox_boot *boot);
 
 /*
- * Hands out the next stores of a boot, as oopsbox_flight_next does of a call: at most 128. There is no line and no
- * payload, so stores->what is OOPSBOX_WORD, OOPSBOX_BYTES or OOPSBOX_FINISHED. Once it is finished the zone can be
- * written.
+ * Hands out the next stores of a boot, as oopsbox_flight_next does of a call: one word or one run, at most 128 stores.
+ * There is no line and no payload, so `what` is OOPSBOX_WORD or OOPSBOX_BYTES. The last answer has no stores: its count
+ * is 0 and its is_last 1, and both are so in no other. Then the zone can be written.
  *
- * OOPSBOX_DONE: *stores are the next ones, at least one, or OOPSBOX_FINISHED; *boot stands behind them.
+ * OOPSBOX_DONE: *stores are the next ones; *boot stands behind them.
  * OOPSBOX_ARGUMENT: *boot has numbers that no boot has, or zone_len is not the zone's size; nothing was written.
  */
 uint32_t oopsbox_boot_next(struct oopsbox_boot *boot, const uint8_t *zone, size_t zone_len,

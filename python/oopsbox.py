@@ -77,9 +77,13 @@ class _Boot(ctypes.Structure):
         "phase", "erasure", "block", "within", "count")]
 
 
-class _Stores(ctypes.Structure):
+class _Store(ctypes.Structure):
     _fields_ = [("from_", ctypes.c_uint64), ("what", ctypes.c_uint32), ("place", ctypes.c_uint32),
                 ("len", ctypes.c_uint32), ("word", ctypes.c_uint32), ("bytes", ctypes.c_uint8 * 128)]
+
+
+class _Stores(ctypes.Structure):
+    _fields_ = [("stores", _Store * 4), ("count", ctypes.c_uint32), ("is_last", ctypes.c_uint32)]
 
 
 def _load():
@@ -237,7 +241,7 @@ _KEYS = {"mem_size": ("mem", 0), "record_size": ("dump", 4096), "console_size": 
          "block_size": ("block", 128), "ecc_dump": ("ecc_dump", None), "ecc_console": ("ecc_console", None),
          "ecc_ftrace": ("ecc_ftrace", None), "ecc_pmsg": ("ecc_pmsg", None), "ftrace_sig": ("ftrace_sig", 0)}
 _FTRACE = 2
-_WORD, _PAYLOAD, _FINISHED = 0, 2, 4
+_WORD, _PAYLOAD = 0, 2
 _ROWS = 256
 
 
@@ -320,22 +324,26 @@ class Ring:
         return ring
 
     def _make(self, stores, payload):
-        if stores.what == _WORD:
-            ctypes.c_uint32.from_buffer(self._mapping, self._place.at + stores.place).value = stores.word
+        for store in stores.stores[:stores.count]:
+            self._make_one(store, payload)
+
+    def _make_one(self, store, payload):
+        if store.what == _WORD:
+            ctypes.c_uint32.from_buffer(self._mapping, self._place.at + store.place).value = store.word
             return
-        source, start = (payload, stores.from_) if stores.what == _PAYLOAD else (stores.bytes, 0)
-        for i in range(stores.len):
-            self._view[stores.place + i] = source[start + i]
+        source, start = (payload, store.from_) if store.what == _PAYLOAD else (store.bytes, 0)
+        for i in range(store.len):
+            self._view[store.place + i] = source[start + i]
 
     def _boot(self, place):
         boot, stores = _Boot(), _Stores()
         status = _library.oopsbox_boot_begin(ctypes.byref(place), *self._zone, ctypes.byref(boot))
         while status == DONE:
             status = _library.oopsbox_boot_next(ctypes.byref(boot), *self._zone, ctypes.byref(stores))
-            if status == DONE and stores.what == _FINISHED:
-                return
             if status == DONE:
                 self._make(stores, b"")
+                if stores.is_last:
+                    return
         raise Error(status, "the zone is refused")
 
     def _boot_kept(self):
@@ -364,10 +372,10 @@ class Ring:
         while status == DONE:
             status = _library.oopsbox_flight_next(ctypes.byref(flight), *self._zone, None, 0, *payload, *self._table,
                                                   0xffffffff, ctypes.byref(stores))
-            if status == DONE and stores.what == _FINISHED:
-                return
             if status == DONE:
                 self._make(stores, payload[0])
+                if stores.is_last:
+                    return
         raise Error(status, "the zone cannot be appended to")
 
     def log(self):

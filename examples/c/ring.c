@@ -24,16 +24,18 @@ struct ring {
 	uint8_t *zone;
 };
 
-/* Makes these stores in the zone. A word is one store of four bytes; all else is stored byte by byte. */
+/* Makes these stores in the zone, in order. A word is one store of four bytes; all else is stored byte by byte. */
 static void make(struct ring *ring, const struct oopsbox_stores *stores, const uint8_t *payload)
 {
-	volatile uint8_t *to = ring->zone + stores->place;
-	const uint8_t *from = stores->what == OOPSBOX_PAYLOAD ? payload + stores->from : stores->bytes;
-	if (stores->what == OOPSBOX_WORD)
-		*(volatile uint32_t *)to = stores->word;
-	else
-		for (uint32_t i = 0; i < stores->len; i++)
-			to[i] = from[i];
+	for (const struct oopsbox_store *s = stores->stores; s < stores->stores + stores->count; s++) {
+		volatile uint8_t *to = ring->zone + s->place;
+		const uint8_t *from = s->what == OOPSBOX_PAYLOAD ? payload + s->from : s->bytes;
+		if (s->what == OOPSBOX_WORD)
+			*(volatile uint32_t *)to = s->word;
+		else
+			for (uint32_t i = 0; i < s->len; i++)
+				to[i] = from[i];
+	}
 }
 
 static uint32_t ring_append(struct ring *ring, const uint8_t *bytes, size_t length)
@@ -41,12 +43,11 @@ static uint32_t ring_append(struct ring *ring, const uint8_t *bytes, size_t leng
 	struct oopsbox_flight flight;
 	struct oopsbox_stores stores;
 	uint32_t status = oopsbox_append_begin(&ring->place, ring->zone, ring->place.size, bytes, length, &flight);
-	while (status == OOPSBOX_DONE) {
+	for (stores.is_last = 0; status == OOPSBOX_DONE && !stores.is_last;) {
 		status = oopsbox_flight_next(&flight, ring->zone, ring->place.size, NULL, 0, bytes, length, ring->table,
 					     OOPSBOX_TABLE, UINT32_MAX, &stores);
-		if (status != OOPSBOX_DONE || stores.what == OOPSBOX_FINISHED)
-			break;
-		make(ring, &stores, bytes);
+		if (status == OOPSBOX_DONE)
+			make(ring, &stores, bytes);
 	}
 	return status;
 }
@@ -71,11 +72,10 @@ static uint32_t ring_boot(struct ring *ring)
 	uint32_t status;
 	place.kind = OOPSBOX_FTRACE;
 	status = oopsbox_boot_begin(&place, ring->zone, place.size, &boot);
-	while (status == OOPSBOX_DONE) {
+	for (stores.is_last = 0; status == OOPSBOX_DONE && !stores.is_last;) {
 		status = oopsbox_boot_next(&boot, ring->zone, place.size, &stores);
-		if (status != OOPSBOX_DONE || stores.what == OOPSBOX_FINISHED)
-			break;
-		make(ring, &stores, NULL);
+		if (status == OOPSBOX_DONE)
+			make(ring, &stores, NULL);
 	}
 	return status;
 }

@@ -18,6 +18,16 @@ static uint8_t ours[MOST] __attribute__((aligned(4096))), theirs[MOST] __attribu
 static struct zone zone;
 
 /* A word is one store, and a run of bytes one memcpy: Linux's function copies it so, too. */
+static inline void make_at_once(const struct oopsbox_store *store, const uint8_t *line)
+{
+	if (store->what == OOPSBOX_WORD)
+		__atomic_store_n((uint32_t *)(zone.bytes + store->place), store->word, __ATOMIC_RELAXED);
+	else if (store->what == OOPSBOX_PAYLOAD)
+		memcpy(zone.bytes + store->place, line + store->from, store->len);
+	else
+		memcpy(zone.bytes + store->place, store->bytes, store->len);
+}
+
 static void append_line(const uint8_t *line)
 {
 	struct oopsbox_flight flight;
@@ -25,14 +35,12 @@ static void append_line(const uint8_t *line)
 	uint32_t status = oopsbox_append_begin(&zone.place, zone.bytes, zone.place.size, line, LENGTH, &flight);
 	while (status == OOPSBOX_DONE) {
 		status = next_stores(&zone, &flight, NULL, 0, line, LENGTH, UINT32_MAX, &stores);
-		if (stores.what == OOPSBOX_FINISHED)
+		if (status != OOPSBOX_DONE)
+			break;
+		for (uint32_t i = 0; i < stores.count; i++)
+			make_at_once(&stores.stores[i], line);
+		if (stores.is_last)
 			return;
-		if (stores.what == OOPSBOX_WORD)
-			__atomic_store_n((uint32_t *)(zone.bytes + stores.place), stores.word, __ATOMIC_RELAXED);
-		else if (stores.what == OOPSBOX_PAYLOAD)
-			memcpy(zone.bytes + stores.place, line + stores.from, stores.len);
-		else
-			memcpy(zone.bytes + stores.place, stores.bytes, stores.len);
 	}
 	printf("an append is refused: %u\n", (unsigned)status);
 	exit(1);

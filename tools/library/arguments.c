@@ -314,6 +314,20 @@ static void flights(void)
 	}
 }
 
+/* Whether there are stores; each is tested. */
+static int are_within(const struct oopsbox_stores *stores)
+{
+	WANT(stores->count <= 4 && stores->is_last <= 1);
+	for (uint32_t i = 0; i < stores->count && !failed; i++) {
+		const struct oopsbox_store *s = &stores->stores[i];
+		size_t source = s->what == OOPSBOX_LINE ? 20 : s->what == OOPSBOX_PAYLOAD ? 300 : 128;
+		uint64_t from = s->what == OOPSBOX_LINE || s->what == OOPSBOX_PAYLOAD ? s->from : 0;
+		WANT(s->len > 0 && s->what <= OOPSBOX_BYTES && (uint64_t)s->place + s->len <= SIZE);
+		WANT(from <= source && s->len <= source - from);
+	}
+	return stores->count > 0;
+}
+
 /* Any numbers in a flight or a boot: refused, or stores that lie within the zone, the line and the payload. */
 static void any_numbers(void)
 {
@@ -336,19 +350,14 @@ static void any_numbers(void)
 		status = oopsbox_flight_next(&flight, bytes, SIZE, line, is_dump ? 20 : 0, payload, 300, NULL, 0, 1 + below(200),
 					     &stores);
 		WANT(status == OOPSBOX_ARGUMENT || status == OOPSBOX_DONE);
-		if (status == OOPSBOX_DONE && stores.what != OOPSBOX_FINISHED) {
-			size_t source = stores.what == OOPSBOX_LINE ? 20 : stores.what == OOPSBOX_PAYLOAD ? 300 : 128;
-			uint64_t from = stores.what == OOPSBOX_LINE || stores.what == OOPSBOX_PAYLOAD ? stores.from : 0;
-			WANT(stores.len > 0 && stores.what <= OOPSBOX_BYTES && (uint64_t)stores.place + stores.len <= SIZE);
-			WANT(from <= source && stores.len <= source - from);
+		if (status == OOPSBOX_DONE && are_within(&stores))
 			done++;
-		}
 		WANT(oopsbox_boot_begin(&zone.place, bytes, SIZE, &boot) == OOPSBOX_DONE);
 		((uint32_t *)&boot)[11 + below(5)] = value;
 		status = oopsbox_boot_next(&boot, bytes, SIZE, &stores);
 		WANT(status == OOPSBOX_ARGUMENT || status == OOPSBOX_DONE);
-		WANT(status != OOPSBOX_DONE || stores.what == OOPSBOX_FINISHED
-		     || (stores.len > 0 && (uint64_t)stores.place + stores.len <= SIZE && stores.len <= 128));
+		if (status == OOPSBOX_DONE)
+			are_within(&stores);
 	}
 	WANT(done > 0);
 	free(bytes);
@@ -383,12 +392,15 @@ static void empty(void)
 	const struct oopsbox_zone_place *place = &zone.place;
 	WANT(oopsbox_append_begin(place, stand, SIZE, NULL, 0, &flight) == OOPSBOX_DONE);
 	WANT(oopsbox_flight_next(&flight, stand, SIZE, NULL, 0, NULL, 0, NULL, 0, 1, &stores) == OOPSBOX_DONE);
-	WANT(stores.what == OOPSBOX_FINISHED && stores.len == 0 && flight.made == 0);
+	WANT(stores.count == 0 && stores.is_last == 1 && flight.made == 0);
 	WANT(oopsbox_flight_next(&flight, stand, SIZE, NULL, 0, NULL, 0, NULL, 0, 1, &stores) == OOPSBOX_DONE);
-	WANT(stores.what == OOPSBOX_FINISHED);
+	WANT(stores.count == 0 && stores.is_last == 1);
 	WANT(oopsbox_dump_begin(place, stand, SIZE, NULL, 0, NULL, 0, &flight) == OOPSBOX_DONE);
 	WANT(oopsbox_flight_next(&flight, stand, SIZE, NULL, 0, NULL, 0, NULL, 0, 9, &stores) == OOPSBOX_DONE);
-	WANT(stores.what == OOPSBOX_WORD && stores.place == 4 && stores.word == 0 && stores.len == 4 && flight.made == 1);
+	WANT(stores.count == 2 && stores.is_last == 1 && flight.made == 2);
+	WANT(stores.stores[0].what == OOPSBOX_WORD && stores.stores[0].place == 4 && stores.stores[0].word == 0
+	     && stores.stores[0].len == 4);
+	WANT(stores.stores[1].what == OOPSBOX_WORD && stores.stores[1].place == 8 && stores.stores[1].word == 0);
 	WANT(oopsbox_zone_log(place, stand, SIZE, NULL, 0, UINT64_MAX, NULL, 0, &got) == OOPSBOX_DONE && got == 0);
 }
 

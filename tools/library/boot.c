@@ -50,7 +50,7 @@ static long write_and_read(uint32_t kind, uint64_t ecc)
 	if (kind == OOPSBOX_DUMP
 	    && oopsbox_dump_begin(&zone.place, zone.bytes, zone.place.size, line, 15, text, 5, &flight) != OOPSBOX_DONE)
 		return 1;
-	while (kind == OOPSBOX_DUMP && stores.what != OOPSBOX_FINISHED) {
+	while (kind == OOPSBOX_DUMP && !stores.is_last) {
 		if (next_stores(&zone, &flight, line, 15, text, 5, 4, &stores) != OOPSBOX_DONE)
 			return 1;
 		make_stores(&zone, &stores, line, text);

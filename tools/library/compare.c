@@ -107,15 +107,15 @@ static uint64_t boot_stores(struct zone *z, uint64_t most)
 	while (made < most) {
 		if (oopsbox_boot_next(&boot, z->bytes, z->place.size, &stores) != OOPSBOX_DONE)
 			fails("no store of a boot", made);
-		if (stores.what == OOPSBOX_FINISHED)
-			break;
-		uint64_t count = stores.what == OOPSBOX_WORD ? 1 : stores.len;
-		if (boot.made != made + count)
+		uint64_t count = count_stores(&stores);
+		if (boot.made != made + count || stores.is_last != (count == 0))
 			fails("another number of stores of a boot", boot.made);
+		if (stores.is_last)
+			break;
 		if (count > most - made)
-			stores.len = (uint32_t)(most - made);
+			stores.stores[0].len = (uint32_t)(most - made);
 		make_stores(z, &stores, NULL, NULL);
-		made += stores.what == OOPSBOX_WORD ? 1 : stores.len;
+		made += count_stores(&stores);
 	}
 	return made;
 }
@@ -168,14 +168,13 @@ static uint64_t call(struct zone *z, uint32_t kind, const char *line, size_t len
 	struct oopsbox_stores stores;
 	if (begin(z, kind, line, length, &flight) != OOPSBOX_DONE)
 		fails("refused", kind);
-	while (flight.made < most_stores) {
+	stores.is_last = 0;
+	while (flight.made < most_stores && !stores.is_last) {
 		uint64_t left = most_stores - flight.made, made = flight.made;
 		if (next_stores(z, &flight, (const uint8_t *)line, strlen(line), payload, length,
 				left < most ? (uint32_t)left : most, &stores) != OOPSBOX_DONE)
 			fails("no store", made);
-		if (stores.what == OOPSBOX_FINISHED)
-			break;
-		if (flight.made - made != (stores.what == OOPSBOX_WORD ? 1 : stores.len) || flight.made > most_stores)
+		if (flight.made - made != count_stores(&stores) || flight.made == made || flight.made > most_stores)
 			fails("another number of stores", flight.made);
 		make_stores(z, &stores, (const uint8_t *)line, payload);
 	}

@@ -138,38 +138,43 @@ static void apply(struct model *m, const struct run *run)
 
 /* ---- the writer ---- */
 
+/* After a word. In one kill of three it is long, so that the ring is often not full yet, and the next word not there. */
 static void rest(void)
 {
-	for (volatile int i = 0; i < 60; i++)
+	int rounds = killed % 3 == 0 ? 40000 : 60;
+	for (volatile int i = 0; i < rounds; i++)
 		;
 }
 
 static void write_line(struct zone *zone, const uint8_t *line, uint32_t length)
 {
 	struct oopsbox_flight flight;
-	struct oopsbox_stores stores, held;
+	struct oopsbox_stores stores;
+	struct oopsbox_store held;
 	uint32_t header = zone->place.size - zone->place.parity;
 	int holds = 0;
+	stores.is_last = 0;
 	if (oopsbox_append_begin(&zone->place, zone->bytes, zone->place.size, line, length, &flight) != OOPSBOX_DONE)
 		_exit(3);
-	for (;;) {
+	while (!stores.is_last) {
 		if (next_stores(zone, &flight, NULL, 0, line, length, UINT32_MAX, &stores) != OOPSBOX_DONE)
 			_exit(4);
-		if (stores.what == OOPSBOX_FINISHED)
-			return;
-		if (writer == NO_PARITY && stores.what == OOPSBOX_BYTES && stores.place < header)
-			continue;
-		if (writer == WRONG_ORDER && stores.what == OOPSBOX_WORD && stores.place == 8) {
-			held = stores;
-			holds = 1;
-			continue;
+		for (uint32_t i = 0; i < stores.count; i++) {
+			const struct oopsbox_store *store = &stores.stores[i];
+			if (writer == NO_PARITY && store->what == OOPSBOX_BYTES && store->place < header)
+				continue;
+			if (writer == WRONG_ORDER && store->what == OOPSBOX_WORD && store->place == 8) {
+				held = *store;
+				holds = 1;
+				continue;
+			}
+			make_store(zone, store, NULL, line);
+			if (store->what == OOPSBOX_WORD)
+				rest();
+			if (holds)
+				make_store(zone, &held, NULL, line);
+			holds = 0;
 		}
-		make_stores(zone, &stores, NULL, line);
-		if (stores.what == OOPSBOX_WORD)
-			rest();
-		if (holds)
-			make_stores(zone, &held, NULL, line);
-		holds = 0;
 	}
 }
 

@@ -13,7 +13,8 @@ HAS(oopsbox_zone_answer, 32);
 HAS(oopsbox_params, 104);
 HAS(oopsbox_row, 16);
 HAS(oopsbox_flight, 96);
-HAS(oopsbox_stores, 152);
+HAS(oopsbox_store, 152);
+HAS(oopsbox_stores, 616);
 HAS(oopsbox_boot, 64);
 HAS(oopsbox_lengths, 16);
 

@@ -128,8 +128,8 @@ static void *dump_begin(void *unused)
 static void *flight_next(void *unused)
 {
 	int is_dump = flight.kind == OOPSBOX_WRITE_DUMP;
-	stores.what = OOPSBOX_WORD;
-	while (stores.what != OOPSBOX_FINISHED) {
+	stores.is_last = 0;
+	while (!stores.is_last) {
 		check(next_stores(&store, &flight, text, is_dump ? 36 : 0, text, 9000, 100, &stores) == OOPSBOX_DONE,
 		      "flight_next");
 		make_stores(&store, &stores, text, text);
@@ -160,8 +160,8 @@ static void *boot_begin(void *unused)
 
 static void *boot_next(void *unused)
 {
-	stores.what = OOPSBOX_WORD;
-	while (stores.what != OOPSBOX_FINISHED) {
+	stores.is_last = 0;
+	while (!stores.is_last) {
 		check(oopsbox_boot_next(&boot, room, store.place.size, &stores) == OOPSBOX_DONE,
 		      "boot_next");
 		make_stores(&store, &stores, NULL, NULL);

@@ -23,21 +23,37 @@ struct zone {
 };
 
 /* A word is one store of four bytes; all else is stored byte by byte. */
+static inline void make_store(struct zone *zone, const struct oopsbox_store *store, const uint8_t *line,
+			      const uint8_t *payload)
+{
+	volatile uint8_t *to = zone->bytes + store->place;
+	const uint8_t *from = store->bytes;
+	if (store->what == OOPSBOX_WORD) {
+		__atomic_store_n((uint32_t *)to, store->word, __ATOMIC_RELAXED);
+		return;
+	}
+	if (store->what == OOPSBOX_LINE)
+		from = line + store->from;
+	if (store->what == OOPSBOX_PAYLOAD)
+		from = payload + store->from;
+	for (uint32_t i = 0; i < store->len; i++)
+		to[i] = from[i];
+}
+
+/* How many stores an answer has. */
+static inline uint64_t count_stores(const struct oopsbox_stores *stores)
+{
+	uint64_t count = 0;
+	for (uint32_t i = 0; i < stores->count; i++)
+		count += stores->stores[i].what == OOPSBOX_WORD ? 1 : stores->stores[i].len;
+	return count;
+}
+
 static inline void make_stores(struct zone *zone, const struct oopsbox_stores *stores, const uint8_t *line,
 			       const uint8_t *payload)
 {
-	volatile uint8_t *to = zone->bytes + stores->place;
-	const uint8_t *from = stores->bytes;
-	if (stores->what == OOPSBOX_WORD) {
-		__atomic_store_n((uint32_t *)to, stores->word, __ATOMIC_RELAXED);
-		return;
-	}
-	if (stores->what == OOPSBOX_LINE)
-		from = line + stores->from;
-	if (stores->what == OOPSBOX_PAYLOAD)
-		from = payload + stores->from;
-	for (uint32_t i = 0; i < stores->len; i++)
-		to[i] = from[i];
+	for (uint32_t i = 0; i < stores->count; i++)
+		make_store(zone, &stores->stores[i], line, payload);
 }
 
 static inline uint32_t next_stores(struct zone *zone, struct oopsbox_flight *flight, const uint8_t *line,
@@ -53,11 +69,11 @@ static inline uint32_t append(struct zone *zone, const uint8_t *payload, size_t 
 	struct oopsbox_flight flight;
 	struct oopsbox_stores stores;
 	uint32_t status = oopsbox_append_begin(&zone->place, zone->bytes, zone->place.size, payload, length, &flight);
-	while (status == OOPSBOX_DONE) {
+	stores.is_last = 0;
+	while (status == OOPSBOX_DONE && !stores.is_last) {
 		status = next_stores(zone, &flight, NULL, 0, payload, length, UINT32_MAX, &stores);
-		if (status != OOPSBOX_DONE || stores.what == OOPSBOX_FINISHED)
-			break;
-		make_stores(zone, &stores, NULL, payload);
+		if (status == OOPSBOX_DONE)
+			make_stores(zone, &stores, NULL, payload);
 	}
 	return status;
 }
@@ -70,11 +86,11 @@ static inline uint32_t boot_as(struct zone *zone, uint32_t kind)
 	struct oopsbox_stores stores;
 	place.kind = kind;
 	uint32_t status = oopsbox_boot_begin(&place, zone->bytes, place.size, &boot);
-	while (status == OOPSBOX_DONE) {
+	stores.is_last = 0;
+	while (status == OOPSBOX_DONE && !stores.is_last) {
 		status = oopsbox_boot_next(&boot, zone->bytes, place.size, &stores);
-		if (status != OOPSBOX_DONE || stores.what == OOPSBOX_FINISHED)
-			break;
-		make_stores(zone, &stores, NULL, NULL);
+		if (status == OOPSBOX_DONE)
+			make_stores(zone, &stores, NULL, NULL);
 	}
 	return status;
 }

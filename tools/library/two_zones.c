@@ -39,7 +39,7 @@ static int write_dump(struct zone *zone)
 	struct oopsbox_stores stores = {0};
 	const uint8_t *head = (const uint8_t *)line;
 	int failed = oopsbox_dump_begin(&zone->place, zone->bytes, zone->place.size, head, 15, head, 15, &flight) != 0;
-	while (!failed && stores.what != OOPSBOX_FINISHED) {
+	while (!failed && !stores.is_last) {
 		failed = next_stores(zone, &flight, head, 15, head, 15, 7, &stores) != OOPSBOX_DONE;
 		make_stores(zone, &stores, head, head);
 	}

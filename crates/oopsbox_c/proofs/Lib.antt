@@ -5,3 +5,6 @@ pub mod StoredRows
 pub mod Back
 pub mod Begun
 pub mod WholeCalls
+pub mod Gathering
+pub mod Answered
+pub mod Blocks

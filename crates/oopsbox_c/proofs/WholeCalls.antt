@@ -1,7 +1,7 @@
 -- What is handed out from a flight on, end to end
-use Rattle.std.proofs.Common.{◌≡◌, ℕ, ◌+◌, zero, suc, List, [], ◌∷◌, ◌++◌, length, take, drop, refl, sym, ap, ap₂, ◌∙◌, arith, append-nil}
+use Rattle.std.proofs.Common.{◌≡◌, ℕ, ◌+◌, ◌≤◌, List, [], ◌∷◌, ◌++◌, length, take, drop, refl, sym, ap, ap₂, ◌∙◌, arith, append-nil, length-drop}
 use Rattle.std.specs.List.{flat_map}
-use Rattle.std.proofs.lemmas.List.{drop_all, drop-drop, take-append-drop}
+use Rattle.std.proofs.lemmas.List.{take_all, drop-drop, take-append-drop}
 use Rattle.zone_spec.specs.declared.Zone.{Zone}
 use Rattle.zone_spec.specs.declared.CallKind.{CallKind}
 use Rattle.zone_spec.specs.Told.{Call}
@@ -16,10 +16,6 @@ use Rattle.oopsbox_c.specs.Places.{zone_in}
 use Rattle.oopsbox_c.specs.Stores.{stores_in}
 use Rattle.oopsbox_c.specs.Flights.{flight_in, IsBegun, IsNext}
 use Rattle.oopsbox_c.specs.WholeFlights.{Answer, AreAnswers, EndsFinished, stores_of, FlightsAreWhole}
-
-none_of_none : (n : ℕ) → ◌≡◌ {A = List Store} (take n []) []
-none_of_none zero = refl
-none_of_none (suc n) = refl
 
 -- the answer's stores among all
 next_of : (f : Flight) (a : Answer) (now before line payload : List ℕ) (z : Zone) (call : Call)
@@ -40,11 +36,12 @@ whole_from f now before line payload z call [] ez ec stands h end = absurd end
 whole_from f now before line payload z call (a ∷ []) ez ec stands h end =
     let all : List Store = call_stores z call before in
     let xs : List Store = stores_in a.stores line payload in
-    let total : f.made ≡ length all =
-    h.0.finished.0 end ∙ stands.total ∙ ap₂ (λ (y : Zone) (c : Call). length (call_stores y c before)) ez ec in
-    let none : drop f.made all ≡ [] = drop_all f.made all (omega (arith, total)) in
+    let total : f.made + length xs ≡ length all =
+    sym h.0.made ∙ h.0.is_last.0 end ∙ stands.total
+    ∙ ap₂ (λ (y : Zone) (c : Call). length (call_stores y c before)) ez ec in
+    let rest : length (drop f.made all) ≤ length xs = omega (arith, total, length-drop f.made all) in
     append-nil xs ∙ next_of f a now before line payload z call ez ec stands h.0
-    ∙ ap (take (length xs)) none ∙ none_of_none (length xs) ∙ sym none
+    ∙ take_all (length xs) (drop f.made all) rest
 whole_from f now before line payload z call (a ∷ b ∷ answers) ez ec stands h end =
     let all : List Store = call_stores z call before in
     let xs : List Store = stores_in a.stores line payload in

@@ -1,12 +1,12 @@
 -- What the calls on a boot answer
-use Rattle.std.specs.Prelude.{◌≡◌, ℕ, ◌+◌, ◌<◌, ◌≤◌, ◌⊎◌, ◌↔◌, List, [], length, take, drop}
+use Rattle.std.specs.Prelude.{◌≡◌, ℕ, ◌+◌, ◌<◌, ◌≤◌, ◌↔◌, List, [], length, take, drop}
 use Rattle.zone_spec.specs.Stores.{Store, after_stores}
 use Rattle.zone_spec.specs.Boot.{boot_stores}
 use Rattle.zone_boot.specs.declared.boots.Boot.{Boot}
 use Rattle.zone_boot.specs.Booting.{IsKept, IsBooting}
 use Rattle.oopsbox_c.specs.BootNumbers.{phase_in, erasure_in}
 use Rattle.oopsbox_c.specs.Places.{zone_in, IsPlace}
-use Rattle.oopsbox_c.specs.Stores.{stores_in, IsInside}
+use Rattle.oopsbox_c.specs.Stores.{stores_in, AreInside, AreOfBoot}
 use Rattle.oopsbox_c.specs.declared.ends.End.{End}
 use Rattle.oopsbox_c.specs.declared.ends.End.TheVariants.{Done, Argument}
 use Rattle.oopsbox_c.specs.declared.places.ZonePlace.{ZonePlace}
@@ -63,8 +63,8 @@ pub record IsBootNext (b g : ZoneBoot) (image : List ℕ) (out : Stores) : Type 
   pub boot : IsBoot g
   pub zone : g.zone ≡ b.zone
   pub made : g.made ≡ b.made + length (boot_stores_in out)
-  pub what : (out.what ≡ 0) ⊎ (out.what ≡ 3) ⊎ (out.what ≡ 4)
-  pub inside : IsInside b.zone.size out [] []
+  pub what : AreOfBoot out
+  pub inside : AreInside b.zone.size out [] []
   pub handed : (before : List ℕ) → IsBooting (boot_in b) before image → boot_stores_in out
       ≡ take (length (boot_stores_in out)) (drop b.made (boot_stores (zone_in b.zone) before))
   pub stands : (before : List ℕ) → IsBooting (boot_in b) before image
@@ -72,7 +72,8 @@ pub record IsBootNext (b g : ZoneBoot) (image : List ℕ) (out : Stores) : Type 
   pub some : (before : List ℕ) → IsBooting (boot_in b) before image
       → b.made < length (boot_stores (zone_in b.zone) before) → 0 < length (boot_stores_in out)
   pub finished : (before : List ℕ) → IsBooting (boot_in b) before image
-      → (out.what ≡ 4) ↔ (b.made ≡ length (boot_stores (zone_in b.zone) before))
+      → (out.is_last ≡ 1) ↔ (b.made ≡ length (boot_stores (zone_in b.zone) before))
+  pub flag : out.is_last ≤ 1
 
 abbrev pub BootNextEnds : End → ZoneBoot → ZoneBoot → List ℕ → Stores → Stores → Type 0
 BootNextEnds Done b g image old new = CanBootOn b image × IsBootNext b g image new

@@ -1,5 +1,5 @@
 -- What the calls on a flight answer
-use Rattle.std.specs.Prelude.{◌≡◌, ℕ, ◌+◌, ◌<◌, ◌≤◌, ◌↔◌, List, length, take, drop}
+use Rattle.std.specs.Prelude.{◌≡◌, ℕ, ◌+◌, ◌<◌, ◌≤◌, ◌↔◌, ◌⊎◌, List, length, take, drop}
 use Rattle.zone_spec.specs.declared.CallKind.{CallKind}
 use Rattle.zone_spec.specs.declared.Zone.{Zone}
 use Rattle.zone_spec.specs.Told.{Call}
@@ -10,11 +10,11 @@ use Rattle.zone_spec.specs.Calls.{call_stores}
 use Rattle.store_steps.specs.declared.steps.Steps.{Steps}
 use Rattle.store_steps.specs.Calls.{call_of, IsOpenFor}
 use Rattle.store_steps.specs.Flying.{Flying, flying, IsSameCall}
-use Rattle.store_steps.specs.Machine.{IsKept, StandsFor}
+use Rattle.store_steps.specs.Machine.{IsKept, IsParity, StandsFor}
 use Rattle.store_steps.specs.Counts.{total_of}
 use Rattle.oopsbox_c.specs.Numbers.{call_in, leg_in, phase_in}
 use Rattle.oopsbox_c.specs.Places.{zone_in, IsPlace}
-use Rattle.oopsbox_c.specs.Stores.{stores_in, IsInside}
+use Rattle.oopsbox_c.specs.Stores.{stores_in, AreInside}
 use Rattle.oopsbox_c.specs.Tables.{IsLendable}
 use Rattle.oopsbox_c.specs.declared.ends.End.{End}
 use Rattle.oopsbox_c.specs.declared.ends.End.TheVariants.{Done, Argument, Closed}
@@ -97,7 +97,8 @@ pub record CanGoOn (f : Flight) (image line payload : List ℕ) (table : List Ta
   pub lendable : IsLendable table
   pub some : 0 < most
 
--- the next stores were handed out, and the flight stands behind them
+-- the next stores were handed out, and the flight stands behind them: at the number asked for, at four rows, before the
+-- next parity, or at the end
 pub record IsNext (f g : Flight) (image line payload : List ℕ) (most : ℕ) (out : Stores) : Type 0 where
   pub flight : IsFlight g line payload
   pub zone : g.zone ≡ f.zone
@@ -105,13 +106,17 @@ pub record IsNext (f g : Flight) (image line payload : List ℕ) (most : ℕ) (o
   pub made : g.made ≡ f.made + length (stores_in out line payload)
   pub at_most : length (stores_in out line payload) ≤ most
   pub some : f.made < total_of (flight_in f line payload) → 0 < length (stores_in out line payload)
-  pub inside : IsInside f.zone.size out line payload
+  pub inside : AreInside f.zone.size out line payload
   pub handed : (before : List ℕ) → StandsFor (flight_in f line payload) image before
       → stores_in out line payload ≡ take (length (stores_in out line payload))
       (drop f.made (call_stores (zone_in f.zone) (call_of (call_in f.kind) line payload) before))
   pub stands : (before : List ℕ) → StandsFor (flight_in f line payload) image before
       → StandsFor (flight_in g line payload) (after_stores image (stores_in out line payload)) before
-  pub finished : (out.what ≡ 4) ↔ (f.made ≡ total_of (flight_in f line payload))
+  pub none : f.made ≡ total_of (flight_in f line payload) → out.count ≡ 0
+  pub is_last : (out.is_last ≡ 1) ↔ (g.made ≡ total_of (flight_in f line payload))
+  pub flag : out.is_last ≤ 1
+  pub stops : (most ≤ length (stores_in out line payload)) ⊎ (out.count ≡ 4) ⊎ IsParity (phase_in g.phase)
+      ⊎ (out.is_last ≡ 1)
 
 abbrev pub NextEnds : End → Flight → Flight → List ℕ → List ℕ → List ℕ → List TableRow → ℕ → Stores → Stores
     → Type 0

@@ -3,6 +3,7 @@ pub mod Boots
 pub mod Codes
 pub mod Ends
 pub mod Flights
+pub mod Gathered
 pub mod Layouts
 pub mod Memory
 pub mod Numbers

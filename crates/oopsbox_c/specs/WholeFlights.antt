@@ -23,10 +23,10 @@ AreAnswers f image line payload [] = Unit {0}
 AreAnswers f image line payload (a ∷ answers) = IsNext f a.flight image line payload a.most a.stores
     × AreAnswers a.flight (after_stores image (stores_in a.stores line payload)) line payload answers
 
--- the last of them tells that the call is finished
+-- the last of them tells that no store is left
 abbrev pub EndsFinished : List Answer → Type 0
 EndsFinished [] = ⊥
-EndsFinished (a ∷ []) = a.stores.what ≡ 4
+EndsFinished (a ∷ []) = a.stores.is_last ≡ 1
 EndsFinished (a ∷ b ∷ answers) = EndsFinished (b ∷ answers)
 
 -- the stores of all answers, end to end

@@ -1,7 +1,11 @@
 // Calls on a zone, in structs of the caller's. They take no memory.
-ghost use Rattle.std.specs.Prelude.{◌≡◌, ◌≤◌, ◌↔◌, [], length, IsTrue, ◌<◌};
+ghost use Rattle.std.specs.Prelude.{◌≡◌, ◌+◌, ◌^◌, ◌≤◌, ◌↔◌, ◌⊎◌, ◌<◌, [], List, ℕ, length, IsTrue};
 ghost use Rattle.zone_spec.specs.Parts.{standing_words};
 ghost use Rattle.rs_encode.specs.Lanes.{IsLent};
+ghost use Rattle.store_steps.specs.Flying.{Flying, flying};
+ghost use Rattle.store_steps.specs.Machine.{IsKept, IsParity};
+ghost use Rattle.store_steps.specs.declared.place.Phase.TheVariants.{Finished};
+ghost use Rattle.oopsbox_c.specs.Gathered.{IsGathered, HasGone};
 ghost use Rattle.oopsbox_c.specs.Ends.{status_of};
 ghost use Rattle.oopsbox_c.specs.Places.{zone_in};
 ghost use Rattle.oopsbox_c.specs.Tables.{IsOwed, IsLendable};
@@ -181,7 +185,74 @@ pub extern "C" fn oopsbox_dump_begin(
     end.status()
 }
 
-// The next stores of a flight.
+// Takes parities into the answer, those that come next: up to a word or a run, the end, or an answer of four rows. The
+// parity of a part is of its header and data, and so the same whether that of others is stored or not.
+fn take_parities(
+    steps: &mut Steps,
+    rows: &[u128],
+    image: &[u8],
+    line: &[u8],
+    payload: &[u8],
+    until: u64,
+    stores: &mut Stores,
+)
+    requires kept { IsKept (flying steps.old line.now payload.now) }
+    requires line { length line.now ≤ 36 }
+    requires table { IsLent steps.old.zone.parity rows.now }
+    requires len { length image.now ≡ steps.old.zone.size }
+    requires empty { stores.old.count ≡ 0 }
+    requires near { until < steps.old.made + 2 ^ 32 }
+    requires most { steps.old.made ≤ until }
+    ensures gathered { (f : Flying) → IsGathered f image.now line.now payload.now steps.old stores.old
+        → IsGathered f image.now line.now payload.now steps.new stores.new }
+    ensures kept { IsKept (flying steps.new line.now payload.now) }
+    ensures room { stores.new.count ≤ 4 }
+    ensures most { steps.new.made ≤ until }
+    ensures later { HasGone steps.old steps.new stores.old stores.new }
+    ensures some { IsParity steps.old.place.phase → steps.old.made < until → steps.old.made < steps.new.made }
+    ensures kind { steps.new.kind ≡ steps.old.kind }
+{
+    let mut store = Store::new();
+    while steps.made < until && !stores.is_full() && steps.is_parity() {
+        let most = (until - steps.made) as u32;
+        steps.next_parity(rows, image, line, payload, most, &mut store);
+        stores.push(&store);
+    }
+}
+
+// Takes words and runs into the answer, those that come next: up to a parity, the end, or an answer of four rows.
+fn take_data(steps: &mut Steps, line: &[u8], payload: &[u8], until: u64, stores: &mut Stores)
+    requires kept { IsKept (flying steps.old line.now payload.now) }
+    requires line { length line.now ≤ 36 }
+    requires near { until < steps.old.made + 2 ^ 32 }
+    requires most { steps.old.made ≤ until }
+    requires room { stores.old.count ≤ 4 }
+    ensures gathered { (f : Flying) (image : List ℕ) → IsGathered f image line.now payload.now steps.old stores.old
+        → IsGathered f image line.now payload.now steps.new stores.new }
+    ensures most { steps.new.made ≤ until }
+    ensures later { HasGone steps.old steps.new stores.old stores.new }
+    ensures some { (IsParity steps.old.place.phase → ⊥) → (steps.old.place.phase ≡ Finished → ⊥)
+        → stores.old.count < 4 → steps.old.made < until → steps.old.made < steps.new.made }
+    ensures stops { (until ≤ steps.new.made) ⊎ (4 ≤ stores.new.count) ⊎ IsParity steps.new.place.phase
+        ⊎ (steps.new.place.phase ≡ Finished) }
+    ensures kind { steps.new.kind ≡ steps.old.kind }
+{
+    let mut store = Store::new();
+    while steps.made < until && !stores.is_full() && !steps.is_parity() && !steps.is_finished() {
+        let most = (until - steps.made) as u32;
+        steps.next_data(line, payload, most, &mut store);
+        stores.push(&store);
+    }
+}
+
+fn flag(is: bool) -> u32
+    ensures value { (result ≡ 1) ↔ IsTrue is }
+    ensures most { result ≤ 1 }
+{
+    if is { 1 } else { 0 }
+}
+
+// The next stores of a flight: parities, and then words and runs.
 fn go_on(
     flight: &mut Flight,
     image: &[u8],
@@ -198,11 +269,13 @@ fn go_on(
     ensures { IsNext flight.old flight.new image.now line.now payload.now most stores.new }
 {
     let mut steps = steps_of(flight);
-    let mut store = Store::new();
-    steps.next(rows, image, line, payload, most, &mut store);
+    let until = steps.made + most as u64;
+    stores.clear();
+    take_parities(&mut steps, rows, image, line, payload, until, stores);
+    take_data(&mut steps, line, payload, until, stores);
+    stores.is_last = flag(steps.is_finished());
     let place = flight.zone;
     *flight = flight_of(&place, flight.line, flight.payload, &steps);
-    stores.set(&store);
 }
 
 // The next stores of a flight, by the caller's table.
@@ -263,8 +336,8 @@ fn next(
     End::Done
 }
 
-/// Hands out the next stores, at most `most`. `image` is the zone's bytes with all stores made that were handed out
-/// before; line and payload are those of the call's begin.
+/// Hands out the next stores, at most `most` of them, up to the next parity. `image` is the zone's bytes with all stores
+/// made that were handed out before; line and payload are those of the call's begin.
 #[unsafe(no_mangle)]
 pub extern "C" fn oopsbox_flight_next(
     flight: &mut Flight,

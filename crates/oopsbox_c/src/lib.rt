@@ -32,7 +32,7 @@ pub use layouts::{LayoutParams, oopsbox_zone_at};
 pub use places::{LayoutAnswer, ZoneAnswer, ZonePlace};
 pub use readings::{oopsbox_zone_log, oopsbox_zone_read};
 pub use running::Lengths;
-pub use stores::Stores;
+pub use stores::{StoreRow, Stores};
 pub use tables::{TableRow, oopsbox_table};
 
 #[cfg(test)]

@@ -29,13 +29,27 @@ fn image() -> [u8; 4096] {
 }
 
 fn no_stores() -> Stores {
-    Stores {
+    let row = StoreRow {
         from: 9,
         what: 9,
         place: 9,
         len: 9,
         word: 9,
         bytes: [9; 128],
+    };
+    Stores {
+        stores: [row; 4],
+        count: 9,
+        is_last: 9,
+    }
+}
+
+// The row of this number: what it is, its place, its length, and its word or its first byte's number.
+fn row_at(stores: &Stores, number: usize) -> (u32, u32, u32, u64) {
+    match stores.stores.get(number) {
+        Some(row) if row.what == 0 => (0, row.place, row.len, u64::from(row.word)),
+        Some(row) => (row.what, row.place, row.len, row.from),
+        None => (9, 9, 9, 9),
     }
 }
 
@@ -71,28 +85,63 @@ fn a_table_is_filled(rt: HostRuntime) -> Result<(), Fail> {
 }
 
 #[test]
-fn an_append_is_handed_out(rt: HostRuntime) -> Result<(), Fail> {
+fn an_append_is_one_answer(rt: HostRuntime) -> Result<(), Fail> {
     let place = console(0);
-    let mut image = image();
+    let image = image();
     let mut flight = Flight::default();
     let mut stores = no_stores();
     assert!(rt; oopsbox_append_begin(&place, &image, b"de", &mut flight) == 0);
     assert!(rt; (flight.made, flight.payload, flight.line, flight.kind) == (0, 2, 0, 0));
     assert!(rt; oopsbox_flight_next(&mut flight, &image, &[], b"de", &[], 9, &mut stores) == 0);
-    assert!(rt; (stores.what, stores.place, stores.len, stores.word) == (0, 8, 4, 5));
-    assert!(rt; stores.bytes[..4] == [5, 0, 0, 0]);
-    image[8] = 5;
+    assert!(rt; (stores.count, stores.is_last, flight.made) == (3, 1, 4));
+    assert!(rt; row_at(&stores, 0) == (0, 8, 4, 5));
+    assert!(rt; row_at(&stores, 1) == (0, 4, 4, 5));
+    assert!(rt; row_at(&stores, 2) == (2, 15, 2, 0));
     assert!(rt; oopsbox_flight_next(&mut flight, &image, &[], b"de", &[], 9, &mut stores) == 0);
-    assert!(rt; (stores.what, stores.place, stores.len, stores.word) == (0, 4, 4, 5));
+    assert!(rt; (stores.count, stores.is_last, flight.made) == (0, 1, 4));
+    Ok(())
+}
+
+#[test]
+fn an_append_is_handed_out_in_parts(rt: HostRuntime) -> Result<(), Fail> {
+    let place = console(0);
+    let mut image = image();
+    let mut flight = Flight::default();
+    let mut stores = no_stores();
+    assert!(rt; oopsbox_append_begin(&place, &image, b"de", &mut flight) == 0);
+    assert!(rt; oopsbox_flight_next(&mut flight, &image, &[], b"de", &[], 3, &mut stores) == 0);
+    assert!(rt; (stores.count, stores.is_last, flight.made) == (3, 0, 3));
+    assert!(rt; row_at(&stores, 2) == (2, 15, 1, 0));
+    image[8] = 5;
     image[4] = 5;
-    assert!(rt; oopsbox_flight_next(&mut flight, &image, &[], b"de", &[], 1, &mut stores) == 0);
-    assert!(rt; (stores.what, stores.place, stores.len, stores.from) == (2, 15, 1, 0));
     image[15] = b'd';
     assert!(rt; oopsbox_flight_next(&mut flight, &image, &[], b"de", &[], 9, &mut stores) == 0);
-    assert!(rt; (stores.what, stores.place, stores.len, stores.from) == (2, 16, 1, 1));
-    image[16] = b'e';
-    assert!(rt; oopsbox_flight_next(&mut flight, &image, &[], b"de", &[], 9, &mut stores) == 0);
-    assert!(rt; (stores.what, stores.len, flight.made) == (4, 0, 4));
+    assert!(rt; (stores.count, stores.is_last, flight.made) == (1, 1, 4));
+    assert!(rt; row_at(&stores, 0) == (2, 16, 1, 1));
+    Ok(())
+}
+
+// `abc` in a zone with 16 parity bytes, whose header says it: the parity bytes are those of `oopsbox_rs_encode`.
+#[test]
+fn parities_are_one_answer(rt: HostRuntime) -> Result<(), Fail> {
+    let place = console(1);
+    let mut image = [0; 4096];
+    let mut flight = Flight::default();
+    let mut stores = no_stores();
+    image[..12].copy_from_slice(b"DBGC\0\0\0\0\0\0\0\0");
+    assert!(rt; oopsbox_append_begin(&place, &image, b"abc", &mut flight) == 0);
+    assert!(rt; oopsbox_flight_next(&mut flight, &image, &[], b"abc", &[], 99, &mut stores) == 0);
+    assert!(rt; (stores.count, stores.is_last, flight.made) == (3, 0, 5));
+    image[..15].copy_from_slice(b"DBGC\x03\0\0\0\x03\0\0\0abc");
+    assert!(rt; oopsbox_flight_next(&mut flight, &image, &[], b"abc", &[], 99, &mut stores) == 0);
+    assert!(rt; (stores.count, stores.is_last, flight.made) == (2, 1, 37));
+    assert!(rt; row_at(&stores, 0) == (3, 3616, 16, 0));
+    assert!(rt; row_at(&stores, 1) == (3, 4080, 16, 0));
+    let mut parity = [0; 16];
+    assert!(rt; oopsbox_rs_encode(&image[12..140], &mut parity) == 0);
+    assert!(rt; &stores.stores[0].bytes[..16] == parity.as_slice());
+    assert!(rt; oopsbox_rs_encode(&image[..12], &mut parity) == 0);
+    assert!(rt; &stores.stores[1].bytes[..16] == parity.as_slice());
     Ok(())
 }
 
@@ -139,7 +188,8 @@ fn a_flight_is_refused(rt: HostRuntime) -> Result<(), Fail> {
     flight = was;
     flight.phase = 10;
     assert!(rt; oopsbox_flight_next(&mut flight, &image, &[], b"de", &[], 9, &mut stores) == 13);
-    assert!(rt; (stores.what, stores.place, stores.len, stores.from) == (9, 9, 9, 9));
+    assert!(rt; (stores.count, stores.is_last) == (9, 9));
+    assert!(rt; row_at(&stores, 3) == (9, 9, 9, 9));
     Ok(())
 }
 
@@ -160,12 +210,18 @@ fn a_zone_is_read_in_place(rt: HostRuntime) -> Result<(), Fail> {
     Ok(())
 }
 
-// Makes a word, or bytes.
+// Makes the first row: a word, or bytes.
 fn make(stores: &Stores, image: &mut [u8]) {
-    for i in 0..stores.bytes.len().min(stores.len as usize) {
-        let place = stores.place as usize + i;
+    let row = &stores.stores[0];
+    let word = row.word.to_le_bytes();
+    for i in 0..row.bytes.len().min(row.len as usize) {
+        let place = row.place as usize + i;
         if place < image.len() {
-            image[place] = stores.bytes[i];
+            image[place] = if row.what == 0 && i < 4 {
+                word[i]
+            } else {
+                row.bytes[i]
+            };
         }
     }
 }
@@ -179,14 +235,15 @@ fn a_zone_is_booted(rt: HostRuntime) -> Result<(), Fail> {
     assert!(rt; oopsbox_boot_begin(&place, &image, &mut boot) == 0);
     for (at, word) in [(0, 0x4347_4244), (4, 0), (8, 0)] {
         assert!(rt; oopsbox_boot_next(&mut boot, &image, &mut stores) == 0);
-        assert!(rt; (stores.what, stores.place, stores.len, stores.word) == (0, at, 4, word));
+        assert!(rt; (stores.count, stores.is_last) == (1, 0));
+        assert!(rt; row_at(&stores, 0) == (0, at, 4, word));
         make(&stores, &mut image);
     }
     assert!(rt; oopsbox_boot_next(&mut boot, &image, &mut stores) == 0);
-    assert!(rt; (stores.what, stores.place, stores.len) == (3, 4080, 16));
+    assert!(rt; row_at(&stores, 0) == (3, 4080, 16, 0));
     make(&stores, &mut image);
     assert!(rt; oopsbox_boot_next(&mut boot, &image, &mut stores) == 0);
-    assert!(rt; (stores.what, stores.len, boot.made) == (4, 0, 19));
+    assert!(rt; (stores.count, stores.is_last, boot.made) == (0, 1, 19));
     assert!(rt; oopsbox_append_begin(&place, &image, b"abc", &mut Flight::default()) == 0);
     Ok(())
 }
@@ -226,6 +283,7 @@ fn a_boot_is_refused(rt: HostRuntime) -> Result<(), Fail> {
     boot = was;
     boot.made = 99;
     assert!(rt; oopsbox_boot_next(&mut boot, &image, &mut stores) == 13);
-    assert!(rt; (stores.what, stores.place, stores.len, stores.from) == (9, 9, 9, 9));
+    assert!(rt; (stores.count, stores.is_last) == (9, 9));
+    assert!(rt; row_at(&stores, 3) == (9, 9, 9, 9));
     Ok(())
 }

@@ -1,6 +1,6 @@
 // Zones, layouts and readings as C sees them, and back.
-ghost use Rattle.std.specs.Prelude.{◌≡◌, ◌↔◌, IsTrue};
-ghost use Rattle.zone_spec.specs.Zones.{IsValidZone};
+ghost use Rattle.std.specs.Prelude.{◌≡◌, ◌≤◌, ◌^◌, ◌↔◌, IsTrue};
+ghost use Rattle.zone_spec.specs.Zones.{IsValidZone, blocks_in};
 ghost use Rattle.oopsbox_c.specs.Places.{kind_number, kind_in, state_number, place_of, zone_in, IsPlace};
 
 use zone_spec::{Kind, State, Zone, ZoneName};
@@ -113,6 +113,24 @@ pub(crate) fn zone_in(place: &ZonePlace) -> Zone
     }
 }
 
+// Whether a zone of this size has so many blocks. Two products are faster than a division.
+fn has_blocks(zone: &Zone) -> bool
+    requires size { 256 ≤ zone.now.size }
+    requires most { zone.now.size ≤ 2 ^ 24 }
+    requires block { 32 ≤ zone.now.block }
+    requires blocks { zone.now.block ≤ 128 }
+    requires parity { zone.now.parity ≤ 127 }
+    ensures { IsTrue result ↔ (zone.now.blocks ≡ blocks_in zone.now.size zone.now.parity zone.now.block) }
+{
+    let data = u64::from(zone.size - 12 - zone.parity);
+    let whole = u64::from(zone.block + zone.parity);
+    let covered = u64::from(zone.blocks) * whole;
+    if covered < data {
+        return false;
+    }
+    covered < data + whole
+}
+
 // Whether a layout can have a zone that is divided so.
 fn is_valid(zone: &Zone) -> bool
     ensures { IsTrue result ↔ IsValidZone zone.now }
@@ -126,8 +144,7 @@ fn is_valid(zone: &Zone) -> bool
     if zone.cap > zone.size || zone.blocks > zone.size {
         return false;
     }
-    let whole = zone.block + zone.parity;
-    if zone.blocks != (zone.size - 12 - zone.parity + whole - 1) / whole {
+    if !has_blocks(zone) {
         return false;
     }
     u64::from(zone.cap) + (u64::from(zone.blocks) + 1) * u64::from(zone.parity) + 12

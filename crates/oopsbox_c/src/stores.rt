@@ -1,5 +1,5 @@
 // Stores as C sees them.
-ghost use Rattle.std.specs.Prelude.{◌≡◌, ◌+◌, ◌≤◌, ◌↔◌, ◌⊎◌, List, ℕ, length, take, drop};
+ghost use Rattle.std.specs.Prelude.{◌≡◌, ◌+◌, ◌≤◌, ◌<◌, ◌↔◌, ◌⊎◌, ◌++◌, [], List, ℕ, IsTrue, length, take, drop};
 ghost use Rattle.store_steps.specs.Handed.{handed, IsInside};
 ghost use Rattle.store_steps.specs.declared.store.Given.TheVariants.{Nothing};
 ghost use Rattle.zone_boot.specs.Handed.{handed as boot_handed, handed_len};
@@ -8,13 +8,12 @@ ghost use Rattle.zone_boot.specs.declared.handing.Given.TheVariants.{Nothing as 
 use store_steps::{Given, Store};
 use zone_boot::BootStore;
 
-/// Stores that the caller is to make. `what` is 0 for a word: the first four of `bytes` at once; 1 for `len` bytes of
-/// the line and 2 for `len` bytes of the payload, those from `from` on; 3 for the first `len` of `bytes`; and 4 where
-/// the call is finished. Bytes of a run are stored one by one, rising, from `place` on. A place is counted from the
-/// zone's begin.
+/// A word, or bytes that are stored one by one, rising, from `place` on. `what` is 0 for a word: the first four of
+/// `bytes`, which are those of `word`, at once; 1 for `len` bytes of the line and 2 for `len` bytes of the payload,
+/// those from `from` on; and 3 for the first `len` of `bytes`. A place is counted from the zone's begin.
 #[repr(C)]
 #[derive(Clone, Copy)]
-pub struct Stores {
+pub struct StoreRow {
     pub from: u64,
     pub what: u32,
     pub place: u32,
@@ -23,15 +22,25 @@ pub struct Stores {
     pub bytes: [u8; 128],
 }
 
-impl Stores {
-    ghost use Rattle.oopsbox_c.specs.Stores.{stores_in, IsInside as AreInside};
+/// Stores that the caller is to make: those of the first `count` rows, in turn. `is_last` is 1 if the call has no
+/// stores after them, and else 0.
+#[repr(C)]
+#[derive(Clone, Copy)]
+pub struct Stores {
+    pub stores: [StoreRow; 4],
+    pub count: u32,
+    pub is_last: u32,
+}
+
+impl StoreRow {
+    ghost use Rattle.oopsbox_c.specs.Stores.{row_stores, IsRowInside};
 
     /// The same stores.
-    pub(crate) fn set(&mut self, store: &Store)
-        ensures stores { (line payload : List ℕ) → stores_in self.new line payload ≡ handed store.now line payload }
-        ensures inside { (size : ℕ) → (line payload : List ℕ) → IsInside size store.now line payload
-            → AreInside size self.new line payload }
-        ensures finished { (self.new.what ≡ 4) ↔ (store.now.given ≡ Nothing) }
+    fn set(&mut self, store: &Store)
+        requires { store.now.given ≡ Nothing → ⊥ }
+        ensures stores { (line payload : List ℕ) → row_stores self.new line payload ≡ handed store.now line payload }
+        ensures inside { (size : ℕ) (line payload : List ℕ) → IsInside size store.now line payload
+            → IsRowInside size self.new line payload }
     {
         self.from = store.from;
         self.place = store.place;
@@ -54,19 +63,17 @@ impl Stores {
                 self.len = count as u32;
                 self.bytes[..count].copy_from_slice(&all[from..end]);
             }
-            Given::Nothing => {
-                self.what = 4;
-                self.len = 0;
-            }
+            Given::Nothing => {}
         }
     }
+
     /// The same stores, of a boot.
-    pub(crate) fn set_boot(&mut self, store: &BootStore)
-        ensures stores { (line payload : List ℕ) → stores_in self.new line payload ≡ boot_handed store.now }
-        ensures what { (self.new.what ≡ 0) ⊎ (self.new.what ≡ 3) ⊎ (self.new.what ≡ 4) }
-        ensures inside { (size : ℕ) → (line payload : List ℕ) → store.now.place + handed_len store.now ≤ size
-            → AreInside size self.new line payload }
-        ensures finished { (self.new.what ≡ 4) ↔ (store.now.given ≡ BootNothing) }
+    fn set_boot(&mut self, store: &BootStore)
+        requires { store.now.given ≡ BootNothing → ⊥ }
+        ensures stores { (line payload : List ℕ) → row_stores self.new line payload ≡ boot_handed store.now }
+        ensures what { (self.new.what ≡ 0) ⊎ (self.new.what ≡ 3) }
+        ensures inside { (size : ℕ) (line payload : List ℕ) → store.now.place + handed_len store.now ≤ size
+            → IsRowInside size self.new line payload }
     {
         self.from = 0;
         self.place = store.place;
@@ -83,9 +90,60 @@ impl Stores {
                 self.len = bytes.len() as u32;
                 self.bytes[..bytes.len()].copy_from_slice(bytes);
             }
-            zone_boot::Given::Nothing => {
-                self.what = 4;
-                self.len = 0;
+            zone_boot::Given::Nothing => {}
+        }
+    }
+}
+
+impl Stores {
+    ghost use Rattle.oopsbox_c.specs.Stores.{stores_in, AreInside, AreOfBoot};
+
+    /// No stores.
+    pub(crate) fn clear(&mut self)
+        ensures count { self.new.count ≡ 0 }
+        ensures stores { (line payload : List ℕ) → stores_in self.new line payload ≡ [] }
+        ensures inside { (size : ℕ) (line payload : List ℕ) → AreInside size self.new line payload }
+        ensures is_last { self.new.is_last ≡ 0 }
+    {
+        self.count = 0;
+        self.is_last = 0;
+    }
+
+    pub(crate) fn is_full(&self) -> bool
+        ensures { IsTrue result ↔ (4 ≤ self.now.count) }
+    {
+        self.count >= 4
+    }
+
+    /// These stores, and then those.
+    pub(crate) fn push(&mut self, store: &Store)
+        requires room { self.old.count < 4 }
+        requires some { store.now.given ≡ Nothing → ⊥ }
+        ensures count { self.new.count ≡ self.old.count + 1 }
+        ensures stores { (line payload : List ℕ) → stores_in self.new line payload
+            ≡ stores_in self.old line payload ++ handed store.now line payload }
+        ensures inside { (size : ℕ) (line payload : List ℕ) → AreInside size self.old line payload
+            → IsInside size store.now line payload → AreInside size self.new line payload }
+    {
+        self.stores[self.count as usize].set(store);
+        self.count += 1;
+    }
+
+    /// The stores of a boot alone; where it has none they are the last.
+    pub(crate) fn set_boot(&mut self, store: &BootStore)
+        ensures stores { (line payload : List ℕ) → stores_in self.new line payload ≡ boot_handed store.now }
+        ensures inside { (size : ℕ) (line payload : List ℕ) → store.now.place + handed_len store.now ≤ size
+            → AreInside size self.new line payload }
+        ensures what { AreOfBoot self.new }
+        ensures last { (self.new.is_last ≡ 1) ↔ (store.now.given ≡ BootNothing) }
+        ensures flag { self.new.is_last ≤ 1 }
+    {
+        self.clear();
+        match store.given {
+            zone_boot::Given::Nothing => self.is_last = 1,
+            _ => {
+                self.stores[0].set_boot(store);
+                self.count = 1;
             }
         }
     }

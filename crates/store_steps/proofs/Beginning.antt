@@ -21,7 +21,7 @@ use Rattle.ring_laws.proofs.StoreBytes.{HasCallBytes, call_stages-all}
 use Rattle.ring_laws.proofs.StoreCounts.{length-stores}
 use Rattle.store_steps.specs.Flying.{Flying, payload}
 use Rattle.store_steps.specs.Phases.{IsSound, IsPlaced, IsWithin, IsFinished, phase_len}
-use Rattle.store_steps.specs.Machine.{stores_of, behind, stores_left, count_left, IsKept, StandsFor}
+use Rattle.store_steps.specs.Machine.{stores_of, behind, stores_left, count_left, IsKept, IsFresh, StandsFor}
 use Rattle.store_steps.specs.Counts.{total_of}
 use Rattle.store_steps.specs.First.{first_place, erasure}
 use Rattle.store_steps.proofs.Left.{counted, left_begun, count_begun, in_turn_next}
@@ -153,6 +153,16 @@ kept_starts f starts placed none ring open_for small = record {
   counted = omega (arith, none, starts.count);
   small = small;
 }
+
+-- steps as a begin makes them are kept
+pub fresh_kept : (f : Flying) → IsFresh f → IsValidZone f.zone → length (line_of f.call) ≤ 36 → total_of f < 2 ^ 32
+    → IsKept f
+fresh_kept f fresh valid short small =
+    let s : Flying = started f.zone f.words f.call in
+    let placed : s ≡ record f { made = 0 } = ap (λ p. record s { place = p }) (sym fresh.place) in
+    let e : s ≡ f = placed ∙ ap (λ m. record f { made = m }) (sym fresh.made) in
+    subst IsKept e (kept_starts s (starts f.zone f.words valid fresh.ring f.call fresh.is_open short)
+    (placed_starts f.zone f.words f.call) refl fresh.ring fresh.is_open small)
 
 call_bytes : (call : Call) → AreCallBytes call → HasCallBytes call
 call_bytes (Append payload) h = h

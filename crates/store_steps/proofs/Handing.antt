@@ -1,5 +1,5 @@
 -- What is handed out, against the stores that come next
-use Rattle.std.proofs.Common.{◌≡◌, ℕ, zero, suc, ◌+◌, ◌-◌, ◌<◌, ◌≤◌, List, [], ◌∷◌, length, take, drop, refl, sym, ap, ◌∙◌, subst, arith, length-take, length-drop}
+use Rattle.std.proofs.Common.{◌≡◌, ℕ, zero, suc, ◌+◌, ◌-◌, ◌<◌, ◌≤◌, List, [], ◌∷◌, length, take, drop, refl, sym, ap, ◌∙◌, arith, length-take, length-drop}
 use Rattle.std.proofs.lemmas.List.{drop-drop}
 use Rattle.std.specs.List.{AllByRecursion}
 use Rattle.ring_laws.proofs.StoreBytes.{IsStore, all-take, byte_stores-all, stage_stores-all}
@@ -10,7 +10,7 @@ use Rattle.zone_spec.specs.Parts.{AreBytes, Header, Block}
 use Rattle.zone_spec.specs.Told.{Call, Append, Erase, Dump}
 use Rattle.zone_spec.specs.declared.CallKind.{CallKind}
 use Rattle.zone_spec.specs.declared.CallKind.TheVariants.{Append as AppendKind, Erase as EraseKind, Dump as DumpKind}
-use Rattle.zone_spec.specs.Stores.{Store, byte_stores}
+use Rattle.zone_spec.specs.Stores.{byte_stores}
 use Rattle.zone_spec.specs.Stages.{ParityOf}
 use Rattle.store_steps.specs.Calls.{call_of, line_of, last_of, front_of, leg_bytes, AreCallBytes}
 use Rattle.store_steps.specs.declared.place.Leg.{Leg}
@@ -134,7 +134,7 @@ second_given f image n e h some =
     ∙ ap (λ m. drop (m + f.place.number) (payload f)) room))
 
 -- the bytes of each leg are bytes
-no_bytes : AreBytes []
+pub no_bytes : AreBytes []
 no_bytes = bytes-each [] tt
 
 last_are : (cap : ℕ) (call : Call) → AreCallBytes call → AreBytes (last_of cap call)

@@ -14,3 +14,5 @@ pub mod Runs
 pub mod TouchedBlocks
 pub mod LeftCounts
 pub mod Placing
+pub mod Data
+pub mod Small

@@ -1,18 +1,14 @@
 -- The stores that a phase makes next
-use Rattle.std.proofs.Common.{◌≡◌, ℕ, zero, suc, ◌+◌, ◌-◌, ◌*◌, ◌/◌, ◌<◌, ◌≤◌, ◌⊎◌, List, [], ◌∷◌, take, drop, refl, sym, ap, ◌∙◌, subst, arith, w32, mul-le-mul_right}
-use Rattle.std.proofs.lemmas.List.{take-take, drop-drop, drop-take}
-use Rattle.std.specs.Int.{to_le_bytes}
+use Rattle.std.proofs.Common.{◌≡◌, ℕ, zero, suc, ◌+◌, ◌-◌, ◌*◌, ◌/◌, ◌<◌, ◌≤◌, ◌⊎◌, List, [], ◌∷◌, take, drop, refl, ap, ◌∙◌, subst, arith, mul-le-mul_right}
+use Rattle.std.proofs.lemmas.List.{take-take, drop-take}
 use Rattle.std.proofs.Math.Nat.{div-lt_iff_lt-mul, le-div_iff_mul-le}
 use Rattle.zone_spec.specs.Zones.{IsValidZone}
 use Rattle.zone_spec.specs.declared.Zone.{Zone}
 use Rattle.ring_laws.proofs.RunLaw.{cap_within}
-use Rattle.ring_laws.proofs.Images.{after_stores-byte_stores}
-use Rattle.zone_spec.specs.Stores.{Store, put, after_stores, byte_stores, word_store}
+use Rattle.zone_spec.specs.Stores.{byte_stores}
 use Rattle.store_steps.specs.declared.place.Phase.{Phase}
-use Rattle.store_steps.specs.declared.place.Phase.TheVariants.{First, Second}
-use Rattle.store_steps.specs.Flying.{Flying, payload}
-use Rattle.store_steps.specs.Phases.{phase_len, first_run, second_run, first_len, second_len}
-use Rattle.store_steps.specs.Machine.{stores_of, next_stores}
+use Rattle.store_steps.specs.Flying.{Flying}
+use Rattle.store_steps.specs.Phases.{phase_len}
 
 pub block_some : (k : ℕ) → (k ≡ 32) ⊎ (k ≡ 64) ⊎ (k ≡ 128) → (0 < k) × (k ≤ 128)
 block_some k h = (grind (arith, h), grind (arith, h))

@@ -1,7 +1,8 @@
 -- The stores that a flight has still to make, and what it stands for
 use Rattle.std.specs.Prelude.{◌≡◌, ℕ, ◌+◌, ◌-◌, ◌/◌, ◌%◌, ◌^◌, ◌<◌, min, ◌⊎◌, List, [], ◌∷◌, ◌++◌, length, take, drop, map, sum_by}
 use Rattle.std.specs.List.{range_with_len}
-use Rattle.zone_spec.specs.Parts.{AreBytes, Part, Header, Block, standing_words}
+use Rattle.zone_spec.specs.Parts.{AreBytes, Header, Block, standing_words}
+use Rattle.zone_spec.specs.declared.Zone.{Zone}
 use Rattle.zone_spec.specs.Reading.{IsRing}
 use Rattle.zone_spec.specs.Stores.{Store, after_stores, byte_stores, word_store}
 use Rattle.zone_spec.specs.Stages.{Stage, StartWord, SizeWord, ParityOf, stage_stores, stage_count, stores_in_turn}
@@ -9,6 +10,7 @@ use Rattle.zone_spec.specs.Calls.{call_stores, run_stages, IsUnderway}
 use Rattle.store_steps.specs.declared.place.Phase.{Phase}
 use Rattle.store_steps.specs.declared.place.Phase.TheVariants.{ZeroStart, ZeroSize, Size, Start, First, FirstParity, Second, SecondParity, Header as HeaderPhase, Finished}
 use Rattle.store_steps.specs.Calls.{IsOpenFor}
+use Rattle.store_steps.specs.First.{first_place}
 use Rattle.store_steps.specs.Counts.{total_of}
 use Rattle.store_steps.specs.Flying.{Flying, IsSameCall, payload, later}
 use Rattle.store_steps.specs.Phases.{first_run, second_run, first_end, second_end, phase_len, IsFinished, IsSound, IsPlaced}
@@ -70,6 +72,13 @@ pub record IsKept (f : Flying) : Type 0 where
   pub counted : f.made + count_left f ≡ total_of f
   pub small : total_of f < 2 ^ 32
 
+-- the flight as a begin makes it, before its first store
+pub record IsFresh (f : Flying) : Type 0 where
+  pub made : f.made ≡ 0
+  pub place : f.place ≡ first_place f.zone f.words f.call
+  pub ring : IsRing f.words f.zone.cap
+  pub is_open : IsOpenFor f.call f.words f.zone.cap
+
 -- the flight and a zone's image stand for the image before: pair 0 is its words, the image is that after the stores
 -- made of the call, what the flight stores next is what the call stores next, and it counts as many stores as the
 -- call has
@@ -99,6 +108,23 @@ pub record IsSettled (f g : Flying) : Type 0 where
   pub ready : IsFinished g ⊎ (g.place.number < phase_len g g.place.phase)
   pub same : IsSameCall f g
   pub made : g.made ≡ f.made
+
+-- the stores of this phase are parity: they are of the zone's bytes. All others are the same on any image
+abbrev pub IsParity : Phase → Type 0
+IsParity ZeroStart = ⊥
+IsParity ZeroSize = ⊥
+IsParity Size = ⊥
+IsParity Start = ⊥
+IsParity First = ⊥
+IsParity FirstParity = Unit {0}
+IsParity Second = ⊥
+IsParity SecondParity = Unit {0}
+IsParity HeaderPhase = Unit {0}
+IsParity Finished = ⊥
+
+-- two images with the same header and data: they differ in parity at most
+abbrev pub IsSameData : Zone → List ℕ → List ℕ → Type 0
+IsSameData z a b = take (12 + z.cap) a ≡ take (12 + z.cap) b
 
 -- the next n stores of the flight's phase
 abbrev pub next_stores : Flying → List ℕ → ℕ → List Store

@@ -5,15 +5,15 @@ ghost use Rattle.zone_spec.specs.Stages.{stage_count};
 ghost use Rattle.zone_spec.specs.Reading.{IsRing};
 ghost use Rattle.store_steps.specs.Calls.{call_of, IsOpenFor};
 
-use crate::counts::{append_stores, call_total, front_len, line_len};
+use crate::counts::{append_stores, call_total, front_len, line_len, whole_blocks};
 use crate::place::{Leg, Phase};
-use crate::steps::{Steps, is_open};
+use crate::steps::{Steps, first_place, is_open};
 use zone_spec::CallKind;
 
 impl Steps {
     ghost use Rattle.store_steps.specs.Flying.{flying, later};
     ghost use Rattle.store_steps.specs.Phases.{IsSound, IsPlaced, IsWithin, IsFinished, phase_len, first_end, second_end};
-    ghost use Rattle.store_steps.specs.Machine.{IsKept, count_left};
+    ghost use Rattle.store_steps.specs.Machine.{IsKept, IsFresh, count_left};
     ghost use Rattle.store_steps.specs.LeftCounts.{second_count, runs_count, behind_count};
 
     /// The parity bytes of the blocks from `first` up to `end`.
@@ -46,7 +46,7 @@ impl Steps {
         ensures value { result ≡ runs_count (flying self.now line.now payload.now) }
         ensures small { result < 2 ^ 34 }
     {
-        let first = self.place.start / self.zone.block;
+        let first = whole_blocks(&self.zone, self.place.start);
         let end = self.first_end(line, payload);
         self.first_len(line, payload) as u64
             + self.parities(first, end)
@@ -88,7 +88,7 @@ impl Steps {
             Phase::Size => 1 + (self.runs_count(line, payload) + closing),
             Phase::Start => self.runs_count(line, payload) + closing,
             Phase::First => {
-                let first = self.place.start / self.zone.block;
+                let first = whole_blocks(&self.zone, self.place.start);
                 let end = self.first_end(line, payload);
                 self.parities(first, end) + (self.second_count(line, payload) + closing)
             }
@@ -196,6 +196,19 @@ impl Steps {
             && is_open(self.kind, &self.words, self.zone.cap)
     }
 
+    /// Whether these are the steps that a begin makes: a test that is cheaper than that of others.
+    fn is_fresh(&self, line: &[u8], payload: &[u8]) -> bool
+        requires valid { IsValidZone self.now.zone }
+        requires line { length line.now ≤ 36 }
+        ensures value { IsTrue result ↔ IsFresh (flying self.now line.now payload.now) }
+        ensures kept { IsFresh (flying self.now line.now payload.now) → IsKept (flying self.now line.now payload.now) }
+    {
+        if self.made != 0 || !self.is_open() {
+            return false;
+        }
+        self.place == first_place(&self.zone, &self.words, self.kind, line, payload)
+    }
+
     /// Whether these numbers can be the steps of a call with this line and this payload. Steps that were begun with
     /// them, and moved on with them alone, always are. A caller that got its steps back from elsewhere asks it first.
     pub fn is_kept(&self, line: &[u8], payload: &[u8]) -> bool
@@ -203,6 +216,9 @@ impl Steps {
         requires line { length line.now ≤ 36 }
         ensures { IsTrue result ↔ IsKept (flying self.now line.now payload.now) }
     {
+        if self.is_fresh(line, payload) {
+            return true;
+        }
         if !self.is_open() || !self.is_placed(line) {
             return false;
         }

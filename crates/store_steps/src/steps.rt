@@ -2,7 +2,7 @@
 ghost use Rattle.std.specs.Prelude.{◌≡◌, ◌+◌, ◌-◌, ◌*◌, ◌/◌, ◌%◌, ◌<◌, ◌≤◌, ◌^◌, false, List, ℕ, length, take, drop, IsTrue, ◌↔◌, min};
 ghost use Rattle.std.specs.Prelude.{IfSome, IsSome};
 ghost use Rattle.rs_encode.specs.Lanes.{IsLent};
-ghost use Rattle.zone_spec.specs.Parts.{Header, Block, standing_words};
+ghost use Rattle.zone_spec.specs.Parts.{AreBytes, Header, Block, standing_words};
 ghost use Rattle.zone_spec.specs.Zones.{IsValidZone};
 ghost use Rattle.zone_spec.specs.Stores.{after_stores, byte_stores};
 ghost use Rattle.zone_spec.specs.Stages.{ParityOf, stage_stores};
@@ -10,7 +10,9 @@ ghost use Rattle.zone_spec.specs.Reading.{IsRing};
 ghost use Rattle.store_steps.specs.Calls.{call_of, line_of, front_of, last_of, IsOpenFor};
 ghost use Rattle.store_steps.specs.First.{first_place, append_phase, erasure};
 
-use crate::counts::{call_pairs, call_runs, call_total, front_len, last_len, line_len, skipped};
+use crate::counts::{
+    call_pairs, call_runs, call_total, front_len, last_len, line_len, skipped, whole_blocks,
+};
 use crate::place::{Leg, Phase, Place};
 use crate::store::{Given, Store};
 use arrayvec::ArrayVec;
@@ -32,7 +34,7 @@ impl Steps {
     ghost use Rattle.store_steps.specs.Flying.{flying, payload as leg_payload, later, IsSameCall};
     ghost use Rattle.store_steps.specs.Calls.{call_of, body_stages};
     ghost use Rattle.store_steps.specs.Phases.{IsSound, IsPlaced, IsFinished, IsDone, first_len, second_len, first_end, second_end, phase_len};
-    ghost use Rattle.store_steps.specs.Machine.{Enters, next_stores, IsKept, StandsFor, IsSettled};
+    ghost use Rattle.store_steps.specs.Machine.{Enters, next_stores, IsKept, StandsFor, IsSettled, IsParity, IsSameData};
     ghost use Rattle.store_steps.specs.Counts.{pairs_of, total_of, touched_runs};
     ghost use Rattle.store_steps.specs.Handed.{handed, handed_count, IsInside};
     ghost use Rattle.zone_spec.specs.Calls.{call_stores};
@@ -53,7 +55,6 @@ impl Steps {
         ensures stands { StandsFor (flying result line.now payload.now) image.now image.now }
     {
         let words = words_of(&image[..12]);
-        let _total = call_total(&zone, &words, kind, line, payload);
         let place = first_place(&zone, &words, kind, line, payload);
         Steps {
             zone,
@@ -163,7 +164,8 @@ impl Steps {
         ensures value { result ≡ first_end (flying self.now line.now payload.now) }
         ensures within { result ≤ self.now.zone.blocks }
     {
-        (self.place.start + self.first_len(line, payload) + self.zone.block - 1) / self.zone.block
+        let end = self.place.start + self.first_len(line, payload);
+        whole_blocks(&self.zone, end + self.zone.block - 1)
     }
 
     pub(crate) fn second_end(&self, line: &[u8], payload: &[u8]) -> u32
@@ -173,9 +175,12 @@ impl Steps {
         ensures value { result ≡ second_end (flying self.now line.now payload.now) }
         ensures within { result ≤ self.now.zone.blocks }
     {
-        (self.second_len(line, payload) + self.zone.block - 1) / self.zone.block
+        let end = self.second_len(line, payload);
+        whole_blocks(&self.zone, end + self.zone.block - 1)
     }
 
+    /// How many stores the phase has. It is inlined: each turn of a call asks for it three times.
+    #[inline(always)]
     pub(crate) fn phase_len(&self, line: &[u8], payload: &[u8]) -> u32
         requires valid { IsValidZone self.now.zone }
         requires below { self.now.place.start < self.now.zone.cap }
@@ -193,6 +198,24 @@ impl Steps {
             Phase::SecondParity => self.zone.parity,
             Phase::Header => self.zone.parity,
             Phase::Finished => 0,
+        }
+    }
+
+    /// Whether the next store is one of parity, and so of the zone's bytes.
+    pub fn is_parity(&self) -> bool
+        ensures { IsTrue result ↔ IsParity self.now.place.phase }
+    {
+        match self.place.phase {
+            Phase::ZeroStart => false,
+            Phase::ZeroSize => false,
+            Phase::Size => false,
+            Phase::Start => false,
+            Phase::First => false,
+            Phase::FirstParity => true,
+            Phase::Second => false,
+            Phase::SecondParity => true,
+            Phase::Header => true,
+            Phase::Finished => false,
         }
     }
 
@@ -301,7 +324,7 @@ impl Steps {
             Phase::Size => self.enter_phase(Phase::Start),
             Phase::Start => self.enter_phase(Phase::First),
             Phase::First => {
-                let block = self.place.start / self.zone.block;
+                let block = whole_blocks(&self.zone, self.place.start);
                 self.enter_block(Phase::FirstParity, block);
             }
             Phase::FirstParity => {
@@ -328,25 +351,16 @@ impl Steps {
         }
     }
 
-    /// Hands out the next `count` stores of the phase.
-    fn give(
-        &self,
-        table: &[u128],
-        image: &[u8],
-        line: &[u8],
-        payload: &[u8],
-        count: u32,
-        out: &mut Store,
-    )
+    /// Hands out the next `count` stores of a phase that is no parity.
+    fn give_data(&self, line: &[u8], payload: &[u8], count: u32, out: &mut Store)
         requires sound { IsSound (flying self.now line.now payload.now) }
         requires line { length line.now ≤ 36 }
-        requires table { IsLent self.now.zone.parity table.now }
-        requires len { length image.now ≡ self.now.zone.size }
+        requires data { IsParity self.now.place.phase → ⊥ }
         requires some { 0 < count }
         requires ready { self.now.place.number + count
             ≤ phase_len (flying self.now line.now payload.now) self.now.place.phase }
-        ensures stores { handed out.new line.now payload.now
-            ≡ next_stores (flying self.now line.now payload.now) image.now count }
+        ensures stores { (image : List ℕ) → handed out.new line.now payload.now
+            ≡ next_stores (flying self.now line.now payload.now) image count }
         ensures inside { IsInside self.now.zone.size out.new line.now payload.now }
     {
         let number = self.place.number;
@@ -365,20 +379,52 @@ impl Steps {
                 out.set_word(4, start);
             }
             Phase::First => {
-                self.give_payload(
-                    line,
-                    payload,
-                    12 + self.place.start + number,
-                    number,
-                    count,
-                    out,
-                );
+                let at = 12 + self.place.start + number;
+                self.give_payload(line, payload, at, number, count, out);
             }
-            Phase::FirstParity => self.give_block_parity(table, image, count, out),
+            Phase::FirstParity => {}
             Phase::Second => {
                 let first = self.first_len(line, payload);
                 self.give_payload(line, payload, 12 + number, first + number, count, out);
             }
+            Phase::SecondParity => {}
+            Phase::Header => {}
+            Phase::Finished => {}
+        }
+    }
+
+    /// Hands out the next `count` stores of a phase that is parity.
+    fn give_parities(
+        &self,
+        table: &[u128],
+        image: &[u8],
+        line: &[u8],
+        payload: &[u8],
+        count: u32,
+        out: &mut Store,
+    )
+        requires sound { IsSound (flying self.now line.now payload.now) }
+        requires line { length line.now ≤ 36 }
+        requires table { IsLent self.now.zone.parity table.now }
+        requires len { length image.now ≡ self.now.zone.size }
+        requires parity { IsParity self.now.place.phase }
+        requires ready { self.now.place.number + count
+            ≤ phase_len (flying self.now line.now payload.now) self.now.place.phase }
+        ensures stores { handed out.new line.now payload.now
+            ≡ next_stores (flying self.now line.now payload.now) image.now count }
+        ensures inside { IsInside self.now.zone.size out.new line.now payload.now }
+        ensures given { out.new.given ≡ Given.Parity }
+    {
+        let _ = line;
+        let _ = payload;
+        match self.place.phase {
+            Phase::ZeroStart => {}
+            Phase::ZeroSize => {}
+            Phase::Size => {}
+            Phase::Start => {}
+            Phase::First => {}
+            Phase::FirstParity => self.give_block_parity(table, image, count, out),
+            Phase::Second => {}
             Phase::SecondParity => self.give_block_parity(table, image, count, out),
             Phase::Header => self.give_header_parity(table, image, count, out),
             Phase::Finished => {}
@@ -423,6 +469,7 @@ impl Steps {
         ensures stores { (line payload : List ℕ) → handed out.new line payload ≡ take count
             (drop self.now.place.number (stage_stores self.now.zone (ParityOf (Block self.now.place.block)) image.now)) }
         ensures inside { (line payload : List ℕ) → IsInside self.now.zone.size out.new line payload }
+        ensures given { out.new.given ≡ Given.Parity }
     {
         block_parity(table, image, &self.zone, self.place.block, &mut out.parity);
         let at = 12 + self.zone.cap + self.place.block * self.zone.parity;
@@ -438,6 +485,7 @@ impl Steps {
         ensures stores { (line payload : List ℕ) → handed out.new line payload ≡ take count
             (drop self.now.place.number (stage_stores self.now.zone (ParityOf Header) image.now)) }
         ensures inside { (line payload : List ℕ) → IsInside self.now.zone.size out.new line payload }
+        ensures given { out.new.given ≡ Given.Parity }
     {
         header_parity(table, image, &self.zone, &mut out.parity);
         let at = 12 + self.zone.cap + self.zone.blocks * self.zone.parity;
@@ -452,6 +500,7 @@ impl Steps {
         ensures stores { (line payload : List ℕ) → handed out.new line payload ≡ byte_stores (at + self.now.place.number)
             (take count (drop self.now.place.number out.old.parity.items)) }
         ensures inside { (line payload : List ℕ) → IsInside self.now.zone.size out.new line payload }
+        ensures given { out.new.given ≡ Given.Parity }
     {
         let number = self.place.number;
         out.set_bytes(Given::Parity, at + number, number as u64, count);
@@ -485,6 +534,107 @@ impl Steps {
             ≤ phase_len (flying self.now line.now payload.now) self.now.place.phase }
     {
         most.min(self.phase_len(line, payload) - self.place.number)
+    }
+
+    /// Goes past the next `count` stores of this phase, to where the store after them is.
+    fn move_on(&mut self, line: &[u8], payload: &[u8], count: u32)
+        requires kept { IsKept (flying self.old line.now payload.now) }
+        requires line { length line.now ≤ 36 }
+        requires ready { self.old.place.number + count
+            ≤ phase_len (flying self.old line.now payload.now) self.old.place.phase }
+        ensures kept { IsKept (flying self.new line.now payload.now) }
+        ensures same { IsSameCall (flying self.old line.now payload.now) (flying self.new line.now payload.now) }
+        ensures kind { self.new.kind ≡ self.old.kind }
+        ensures made { self.new.made ≡ self.old.made + count }
+        ensures stands { (now before : List ℕ) → AreBytes now
+            → StandsFor (flying self.old line.now payload.now) now before
+            → StandsFor (flying self.new line.now payload.now)
+            (after_stores now (next_stores (flying self.old line.now payload.now) now count)) before }
+    {
+        self.place.number += count;
+        self.made += count as u64;
+        self.settle(line, payload);
+    }
+
+    /// Hands out the next stores, at most `most`, all of one word or run; or tells that the call is finished. Words and
+    /// runs are the same whatever the zone's bytes are.
+    pub fn next_data(&mut self, line: &[u8], payload: &[u8], most: u32, out: &mut Store)
+        requires kept { IsKept (flying self.old line.now payload.now) }
+        requires line { length line.now ≤ 36 }
+        requires data { IsParity self.old.place.phase → ⊥ }
+        requires some { 0 < most }
+        ensures kept { IsKept (flying self.new line.now payload.now) }
+        ensures same { IsSameCall (flying self.old line.now payload.now) (flying self.new line.now payload.now) }
+        ensures kind { self.new.kind ≡ self.old.kind }
+        ensures made { self.new.made ≡ self.old.made + handed_count out.new line.now payload.now }
+        ensures most { handed_count out.new line.now payload.now ≤ most }
+        ensures inside { IsInside self.old.zone.size out.new line.now payload.now }
+        ensures some { self.old.made < total_of (flying self.old line.now payload.now)
+            → 0 < handed_count out.new line.now payload.now }
+        ensures bytes { (now : List ℕ) → AreBytes now
+            → AreBytes (after_stores now (handed out.new line.now payload.now)) }
+        ensures handed { (now before : List ℕ) → StandsFor (flying self.old line.now payload.now) now before
+            → handed out.new line.now payload.now ≡ take (handed_count out.new line.now payload.now)
+            (drop self.old.made (call_stores self.old.zone (call_of self.old.kind line.now payload.now) before)) }
+        ensures stands { (now before : List ℕ) → AreBytes now
+            → StandsFor (flying self.old line.now payload.now) now before
+            → StandsFor (flying self.new line.now payload.now)
+            (after_stores now (handed out.new line.now payload.now)) before }
+        ensures finished { (out.new.given ≡ Given.Nothing)
+            ↔ (self.old.made ≡ total_of (flying self.old line.now payload.now)) }
+    {
+        if self.is_finished() {
+            out.set_nothing();
+            return;
+        }
+        let count = self.next_count(line, payload, most);
+        self.give_data(line, payload, count, out);
+        self.move_on(line, payload, count);
+    }
+
+    /// Hands out the next stores, at most `most`, all of the parity of one part. `image` is the zone's bytes as they
+    /// stand, but for parity, which may be any; `table` is an encoder's for the zone's parity, or empty, which is
+    /// slower.
+    pub fn next_parity(
+        &mut self,
+        table: &[u128],
+        image: &[u8],
+        line: &[u8],
+        payload: &[u8],
+        most: u32,
+        out: &mut Store,
+    )
+        requires kept { IsKept (flying self.old line.now payload.now) }
+        requires line { length line.now ≤ 36 }
+        requires table { IsLent self.old.zone.parity table.now }
+        requires len { length image.now ≡ self.old.zone.size }
+        requires parity { IsParity self.old.place.phase }
+        requires some { 0 < most }
+        ensures kept { IsKept (flying self.new line.now payload.now) }
+        ensures same { IsSameCall (flying self.old line.now payload.now) (flying self.new line.now payload.now) }
+        ensures kind { self.new.kind ≡ self.old.kind }
+        ensures made { self.new.made ≡ self.old.made + handed_count out.new line.now payload.now }
+        ensures most { handed_count out.new line.now payload.now ≤ most }
+        ensures inside { IsInside self.old.zone.size out.new line.now payload.now }
+        ensures given { out.new.given ≡ Given.Parity }
+        ensures left { self.old.made < total_of (flying self.old line.now payload.now) }
+        ensures some { 0 < handed_count out.new line.now payload.now }
+        ensures bytes { (now : List ℕ) → AreBytes now
+            → AreBytes (after_stores now (handed out.new line.now payload.now)) }
+        ensures apart { (now : List ℕ)
+            → IsSameData self.old.zone (after_stores now (handed out.new line.now payload.now)) now }
+        ensures handed { (now before : List ℕ) → IsSameData self.old.zone now image.now
+            → StandsFor (flying self.old line.now payload.now) now before
+            → handed out.new line.now payload.now ≡ take (handed_count out.new line.now payload.now)
+            (drop self.old.made (call_stores self.old.zone (call_of self.old.kind line.now payload.now) before)) }
+        ensures stands { (now before : List ℕ) → AreBytes now → IsSameData self.old.zone now image.now
+            → StandsFor (flying self.old line.now payload.now) now before
+            → StandsFor (flying self.new line.now payload.now)
+            (after_stores now (handed out.new line.now payload.now)) before }
+    {
+        let count = self.next_count(line, payload, most);
+        self.give_parities(table, image, line, payload, count, out);
+        self.move_on(line, payload, count);
     }
 
     /// Hands out the next stores, at most `most`, all of one word, run or parity; or tells that the call is finished.
@@ -521,15 +671,11 @@ impl Steps {
         ensures finished { (out.new.given ≡ Given.Nothing)
             ↔ (self.old.made ≡ total_of (flying self.old line.now payload.now)) }
     {
-        if self.is_finished() {
-            out.set_nothing();
-            return;
+        if self.is_parity() {
+            self.next_parity(table, image, line, payload, most, out);
+        } else {
+            self.next_data(line, payload, most, out);
         }
-        let count = self.next_count(line, payload, most);
-        self.give(table, image, line, payload, count, out);
-        self.place.number += count;
-        self.made += count as u64;
-        self.settle(line, payload);
     }
 }
 
@@ -545,7 +691,13 @@ pub(crate) fn is_open(kind: CallKind, words: &Words, cap: u32) -> bool
 }
 
 /// Where the call begins.
-fn first_place(zone: &Zone, words: &Words, kind: CallKind, line: &[u8], payload: &[u8]) -> Place
+pub(crate) fn first_place(
+    zone: &Zone,
+    words: &Words,
+    kind: CallKind,
+    line: &[u8],
+    payload: &[u8],
+) -> Place
     ensures { result ≡ first_place zone.now words.now (call_of kind line.now payload.now) }
 {
     match kind {

@@ -191,6 +191,34 @@ fn a_lent_table_makes_the_same_parity(rt: HostRuntime) {
 }
 
 #[test]
+fn words_and_runs_want_no_image_and_parities_no_parity(rt: HostRuntime) {
+    let (zone, mut image) = (zone(&rt), image(0, 0));
+    let Some(mut steps) = Steps::try_begin(zone, CallKind::Append, &image, b"", b"abc") else {
+        panic!(rt; "refused");
+    };
+    let mut store = Store::new();
+    assert!(rt; !steps.is_parity());
+    steps.next_data(b"", b"abc", MOST, &mut store);
+    assert!(rt; make(&rt, &mut image, b"", b"abc", &store) == (Given::Word, 8, 4, 3));
+    assert!(rt; !steps.is_parity());
+    steps.next_data(b"", b"abc", MOST, &mut store);
+    assert!(rt; make(&rt, &mut image, b"", b"abc", &store) == (Given::Word, 4, 4, 3));
+    assert!(rt; !steps.is_parity());
+    steps.next_data(b"", b"abc", MOST, &mut store);
+    assert!(rt; make(&rt, &mut image, b"", b"abc", &store) == (Given::Payload, 12, 3, 0));
+    let stands = image;
+    assert!(rt; steps.is_parity());
+    steps.next_parity(&[], &stands, b"", b"abc", MOST, &mut store);
+    assert!(rt; make(&rt, &mut image, b"", b"abc", &store) == (Given::Parity, 4030, 2, 0));
+    assert!(rt; steps.is_parity());
+    steps.next_parity(&[], &stands, b"", b"abc", MOST, &mut store);
+    assert!(rt; make(&rt, &mut image, b"", b"abc", &store) == (Given::Parity, 4094, 2, 0));
+    assert!(rt; steps.is_finished());
+    assert!(rt; &image[4030..4032] == b"\xe3\x83".as_slice());
+    assert!(rt; &image[4094..4096] == b"\xfb\xf9".as_slice());
+}
+
+#[test]
 fn one_store_at_a_time(rt: HostRuntime) {
     let (zone, mut image) = (zone(&rt), image(0, 0));
     let expected = [

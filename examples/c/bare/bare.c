@@ -57,17 +57,23 @@ static void check(uint32_t status)
 }
 
 /* Makes these stores, with a barrier after each. Where caches do not outlive a reset, flush the line here too. */
-static void make(const struct oopsbox_stores *stores, const uint8_t *payload)
+static void make_one(const struct oopsbox_store *store, const uint8_t *payload)
 {
-	const uint8_t *from = stores->what == OOPSBOX_PAYLOAD ? payload + stores->from : stores->bytes;
-	volatile uint8_t *to = zone + stores->place;
-	if (stores->what == OOPSBOX_WORD)
-		*(volatile uint32_t *)to = stores->word;
-	for (uint32_t i = 0; i < stores->len && stores->what != OOPSBOX_WORD; i++) {
+	const uint8_t *from = store->what == OOPSBOX_PAYLOAD ? payload + store->from : store->bytes;
+	volatile uint8_t *to = zone + store->place;
+	if (store->what == OOPSBOX_WORD)
+		*(volatile uint32_t *)to = store->word;
+	for (uint32_t i = 0; i < store->len && store->what != OOPSBOX_WORD; i++) {
 		to[i] = from[i];
 		__asm__ volatile("sfence");
 	}
 	__asm__ volatile("sfence");
+}
+
+static void make(const struct oopsbox_stores *stores, const uint8_t *payload)
+{
+	for (uint32_t i = 0; i < stores->count; i++)
+		make_one(&stores->stores[i], payload);
 }
 
 /* Without a table of the encoder: a line of a console has time, and the table would take 4 KiB. */
@@ -80,12 +86,10 @@ static void say(const char *line)
 	while (bytes[length] != 0)
 		length++;
 	check(oopsbox_append_begin(&place, zone, place.size, bytes, length, &flight));
-	for (;;) {
+	do {
 		check(oopsbox_flight_next(&flight, zone, place.size, NULL, 0, bytes, length, NULL, 0, UINT32_MAX, &stores));
-		if (stores.what == OOPSBOX_FINISHED)
-			return;
 		make(&stores, bytes);
-	}
+	} while (!stores.is_last);
 }
 
 static void boot_zone(void)
@@ -93,12 +97,10 @@ static void boot_zone(void)
 	struct oopsbox_boot boot;
 	struct oopsbox_stores stores;
 	check(oopsbox_boot_begin(&place, zone, place.size, &boot));
-	for (;;) {
+	do {
 		check(oopsbox_boot_next(&boot, zone, place.size, &stores));
-		if (stores.what == OOPSBOX_FINISHED)
-			return;
 		make(&stores, NULL);
-	}
+	} while (!stores.is_last);
 }
 
 /* Sends the log over the serial port, in pieces. */

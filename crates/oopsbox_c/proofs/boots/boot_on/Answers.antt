@@ -53,8 +53,9 @@ returns c =
           (subst (λ (x : Boot). x.made < length (boot_stores x.zone before)) (sym e) h));
       finished = λ before stands. (
         λ w. subst (λ (x : Boot). x.made ≡ length (boot_stores x.zone before)) e
-            ((c.next.ensures.finished before (back before stands)).0 (c.set_boot.ensures.finished.0 w)),
-        λ w. c.set_boot.ensures.finished.1 ((c.next.ensures.finished before (back before stands)).1
+            ((c.next.ensures.finished before (back before stands)).0 (c.set_boot.ensures.last.0 w)),
+        λ w. c.set_boot.ensures.last.1 ((c.next.ensures.finished before (back before stands)).1
             (subst (λ (x : Boot). x.made ≡ length (boot_stores x.zone before)) (sym e) w)),
       );
+      flag = c.set_boot.ensures.flag;
     }

@@ -1,21 +1,36 @@
--- The stores are those of the steps, and the flight is that of the steps behind them
-use Rattle.std.proofs.Common.{◌≡◌, ℕ, ◌<◌, List, length, sym, ap, ◌∙◌, subst, take, drop, arith}
-use Rattle.zone_spec.specs.Stores.{after_stores}
-use Rattle.zone_spec.specs.Calls.{call_stores}
+-- Parities and then words and runs, from no stores on
+use Rattle.std.proofs.Common.{◌≡◌, ℕ, ◌+◌, ◌<◌, ◌≤◌, ◌↔◌, List, sym, ap, ◌∙◌, subst, inl, inr, arith}
 use Rattle.store_steps.specs.declared.steps.Steps.{Steps}
-use Rattle.store_steps.specs.Calls.{call_of}
-use Rattle.store_steps.specs.Flying.{flying, IsSameCall}
-use Rattle.store_steps.specs.Handed.{IsInside}
-use Rattle.store_steps.specs.Machine.{IsKept, StandsFor}
+use Rattle.store_steps.specs.declared.place.Phase.TheVariants.{Finished}
+use Rattle.store_steps.specs.Flying.{flying}
+use Rattle.store_steps.specs.Machine.{IsKept, IsParity}
 use Rattle.store_steps.specs.Counts.{total_of}
-use Rattle.oopsbox_c.specs.Places.{IsPlace}
-use Rattle.oopsbox_c.specs.Stores.{stores_in}
+use Rattle.store_steps.proofs.Stepping.{ends}
+use Rattle.oopsbox_c.specs.Gathered.{IsGathered}
 use Rattle.oopsbox_c.specs.Flights.{steps_of}
+use Rattle.oopsbox_c.specs.declared.stores.Stores.{Stores}
+use Rattle.oopsbox_c.proofs.Gathering.{nothing_yet}
+use Rattle.oopsbox_c.proofs.Answered.{answered, no_less, none_taken, parity_or_not}
 use Rattle.oopsbox_c.proofs.flights.go_on.Goals as goal
 
-pub next-requires-clause-kept : goal.next-requires-clause-kept
-next-requires-clause-kept c = subst (λ s. IsKept (flying s c.args.line.now c.args.payload.now))
+pub take_parities-requires-clause-kept : goal.take_parities-requires-clause-kept
+take_parities-requires-clause-kept c = subst (λ s. IsKept (flying s c.args.line.now c.args.payload.now))
     (sym c.steps_of-steps.ensures) c.requires.flight.kept
+
+pub flight_of-requires : goal.flight_of-requires
+flight_of-requires c =
+    let image : List ℕ = c.args.image.now in
+    let line : List ℕ = c.args.line.now in
+    let payload : List ℕ = c.args.payload.now in
+    let s : Steps = c.steps_of-steps.result in
+    let e : s ≡ steps_of c.args.flight.now = c.steps_of-steps.ensures in
+    let kept : IsKept (flying s line payload) = subst (λ x. IsKept (flying x line payload)) (sym e)
+    c.requires.flight.kept in
+    let begun = nothing_yet image line payload s c.clear.new.self kept (c.clear.ensures.stores line payload)
+    (c.clear.ensures.inside s.zone.size line payload) (λ i. omega (arith, c.type_inv.image i)) in
+    let got = c.take_data.ensures.gathered (flying s line payload) image
+    (c.take_parities.ensures.gathered (flying s line payload) begun) in
+    got.same.zone ∙ ap (λ (x : Steps). x.zone) e
 
 pub returns : goal.returns
 returns c =
@@ -23,52 +38,64 @@ returns c =
     let line : List ℕ = c.args.line.now in
     let payload : List ℕ = c.args.payload.now in
     let s : Steps = c.steps_of-steps.result in
-    let e = c.steps_of-steps.ensures in
+    let p : Steps = c.take_parities.new.steps in
+    let t : Steps = c.take_data.new.steps in
+    let e : s ≡ steps_of c.args.flight.now = c.steps_of-steps.ensures in
+    let kept : IsKept (flying s line payload) = subst (λ x. IsKept (flying x line payload)) (sym e)
+    c.requires.flight.kept in
+    let begun = nothing_yet image line payload s c.clear.new.self kept (c.clear.ensures.stores line payload)
+    (c.clear.ensures.inside s.zone.size line payload) (λ i. omega (arith, c.type_inv.image i)) in
+    let got = c.take_data.ensures.gathered (flying s line payload) image
+    (c.take_parities.ensures.gathered (flying s line payload) begun) in
+    let first = c.take_parities.ensures.later in
+    let second = c.take_data.ensures.later in
+    let made : s.made ≡ c.args.flight.now.made = ap (λ (x : Steps). x.made) e in
+    let all : total_of (flying s line payload) ≡ total_of (flying (steps_of c.args.flight.now) line payload) =
+    ap (λ x. total_of (flying x line payload)) e in
+    let some : s.made < total_of (flying s line payload) → s.made < t.made =
+    (λ h.
+    let open_still : s.place.phase ≡ Finished → ⊥ = (λ done.
+    let end = (ends (flying s line payload) kept).0 done in omega (arith, h, end)) in
+    elim (parity_or_not s.place.phase) [
+      | inl is ↦ (let l = c.take_parities.ensures.some is (omega (arith, c.requires.some)) in
+          let m = no_less second in omega (arith, l, m))
+      | inr not ↦ elim first [
+        | inl same ↦ (let ep : p ≡ s = same.0 in
+            let es : c.take_parities.new.stores ≡ c.clear.new.self = same.1 in
+            let count = ap (λ (o : Stores). o.count) es in
+            let pm = ap (λ (x : Steps). x.made) ep in
+            let l = c.take_data.ensures.some
+            (subst (λ (x : Steps). IsParity x.place.phase → ⊥) (sym ep) not)
+            (subst (λ (x : Steps). x.place.phase ≡ Finished → ⊥) (sym ep) open_still)
+            (omega (arith, count, c.clear.ensures.count)) (omega (arith, pm, c.requires.some)) in
+            omega (arith, l, pm))
+        | inr l ↦ (let m = no_less second in omega (arith, l, m))
+      ]
+    ]) in
+    let none : t.made ≡ s.made → c.take_data.new.stores.count ≡ 0 = (λ h.
+    let m = no_less first in
+    let n = no_less second in
+    let ea = none_taken first (omega (arith, h, m, n)) in
+    let eb = none_taken second (omega (arith, h, m, n)) in
+    ap (λ (o : Stores). o.count) eb ∙ ap (λ (o : Stores). o.count) ea ∙ c.clear.ensures.count) in
     let of = c.flight_of.ensures in
-    let g = c.set.ensures.stores line payload in
-    let was = c.requires.flight in record {
-      flight = record {
-        place = subst IsPlace (sym of.zone) was.place;
-        kind = of.kind;
-        leg = of.leg;
-        phase = of.phase;
-        line_len = of.line ∙ was.line_len;
-        payload_len = of.payload ∙ was.payload_len;
-        short = was.short;
-        kept = subst (λ x. IsKept (flying x line payload)) (sym of.steps) c.next.ensures.kept;
-      };
+    answered c.args.flight.now c.flight_of.result image line payload c.args.most c.flag-stores.result t
+    c.take_data.new.stores c.requires.flight
+    (subst (λ x. IsGathered (flying x line payload) image line payload t c.take_data.new.stores) e got)
+    (record {
+      steps = of.steps;
       zone = of.zone;
-      same = subst (λ x. IsSameCall (flying x line payload) (flying (steps_of c.flight_of.result) line payload)) e
-          (subst (λ x. IsSameCall (flying s line payload) (flying x line payload)) (sym of.steps) c.next.ensures.same);
-      made = omega (
-        arith,
-        ap (λ (x : Steps). x.made) of.steps,
-        c.next.ensures.made,
-        ap (λ (x : Steps). x.made) e,
-        ap length g,
-      );
-      at_most = omega (arith, ap length g, c.next.ensures.most);
-      some = λ h. subst (λ ss. 0 < length ss) (sym g) (c.next.ensures.some
-          (subst (λ (x : Steps). x.made < total_of (flying x line payload)) (sym e) h));
-      inside = c.set.ensures.inside c.args.flight.now.zone.size line payload
-          (subst (λ (x : Steps). IsInside x.zone.size c.next.new.out line payload) e c.next.ensures.inside);
-      handed = λ before stands.
-          let st = subst (λ x. StandsFor (flying x line payload) image before) (sym e) stands in
-          g ∙ c.next.ensures.handed before st
-          ∙ ap (λ k. take k (drop s.made (call_stores s.zone (call_of s.kind line payload) before))) (sym (ap length g))
-          ∙ ap (λ (x : Steps). take (length (stores_in c.set.new.self line payload))
-          (drop x.made (call_stores x.zone (call_of x.kind line payload) before))) e;
-      stands = λ before stands.
-          let st = subst (λ x. StandsFor (flying x line payload) image before) (sym e) stands in
-          subst (λ x. StandsFor (flying x line payload) (after_stores image (stores_in c.set.new.self line
-          payload)) before)
-          (sym of.steps)
-          (subst (λ ss. StandsFor (flying c.next.new.self line payload) (after_stores image ss) before) (sym g)
-          (c.next.ensures.stands before st));
-      finished = (
-        λ w. subst (λ (x : Steps). x.made ≡ total_of (flying x line payload)) e
-            (c.next.ensures.finished.0 (c.set.ensures.finished.0 w)),
-        λ w. c.set.ensures.finished.1 (c.next.ensures.finished.1
-            (subst (λ (x : Steps). x.made ≡ total_of (flying x line payload)) (sym e) w)),
-      );
-    }
+      line = of.line;
+      payload = of.payload;
+      kind = of.kind;
+      leg = of.leg;
+      phase = of.phase;
+    })
+    c.flag-stores.ensures.most (
+      λ f. c.is_finished.ensures.0 (c.flag-stores.ensures.value.0 f),
+      λ f. c.flag-stores.ensures.value.1 (c.is_finished.ensures.1 f),
+    )
+    (omega (arith, c.take_data.ensures.most, made))
+    (λ h. let l = some (omega (arith, h, made, all)) in omega (arith, l, made))
+    (λ h. none (omega (arith, h, made)))
+    (elim c.take_data.ensures.stops [ inl m ↦ inl (omega (arith, m, made)) | inr r ↦ inr r ])

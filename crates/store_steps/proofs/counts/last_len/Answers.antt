@@ -1,5 +1,4 @@
-use Rattle.std.proofs.Common.{refl, arith, ◌-◌, length, length-drop, length-take}
-use Rattle.std.proofs.lemmas.Grind.{common_steps}
+use Rattle.std.proofs.Common.{refl, arith, ◌-◌, length, length-drop}
 use Rattle.store_steps.specs.Calls.{last_of}
 use Rattle.store_steps.proofs.counts.last_len.Goals as goal
 

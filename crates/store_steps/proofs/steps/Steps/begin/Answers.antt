@@ -4,12 +4,12 @@ use Rattle.zone_spec.specs.declared.Zone.{Zone}
 use Rattle.zone_spec.specs.Reading.{IsRing}
 use Rattle.zone_spec.specs.Told.{Call}
 use Rattle.zone_spec.specs.Parts.{standing_words}
-use Rattle.store_steps.specs.Flying.{flying}
 use Rattle.store_steps.proofs.Handing.{line_short, call_of_bytes}
 use Rattle.store_steps.specs.Calls.{call_of, line_of, IsOpenFor}
 use Rattle.store_steps.specs.First.{first_place}
 use Rattle.store_steps.specs.declared.place.Place.{Place}
 use Rattle.store_steps.specs.Machine.{IsKept, StandsFor}
+use Rattle.store_steps.proofs.Small.{total_small}
 use Rattle.store_steps.proofs.Beginning.{starts, started, placed_starts, kept_starts, stands_starts}
 use Rattle.store_steps.proofs.steps.Steps.begin.Goals as goal
 
@@ -29,7 +29,7 @@ returns-clause-kept c =
     c.requires.is_open in
     subst IsKept (is_started z w call c.first_place-place.result c.first_place-place.ensures)
     (kept_starts (started z w call) (starts z w c.requires.valid ring call open_for short) (placed_starts z w call)
-    refl ring open_for (omega (arith, c.call_total-total.ensures.value, c.call_total-total.ensures.small)))
+    refl ring open_for (total_small z w call c.requires.valid open_for short))
 
 pub returns-clause-stands : goal.returns-clause-stands
 returns-clause-stands c =

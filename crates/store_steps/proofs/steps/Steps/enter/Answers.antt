@@ -1,8 +1,8 @@
-use Rattle.std.proofs.Common.{arith, ◌+◌, ◌/◌, refl, sym, subst}
+use Rattle.std.proofs.Common.{arith, ◌+◌, ◌<◌, refl, sym, subst}
 use Rattle.std.proofs.lemmas.List.{nil_from_length}
 use Rattle.store_steps.specs.declared.place.Phase.TheVariants.{Start, First, Second}
 use Rattle.store_steps.specs.Flying.{Flying, flying}
-use Rattle.store_steps.specs.Phases.{IsWithin, second_run, second_len, first_len}
+use Rattle.store_steps.specs.Phases.{IsWithin, first_end, second_run, second_len, first_len}
 use Rattle.store_steps.specs.Machine.{Enters}
 use Rattle.store_steps.proofs.Left.{all_stored}
 use Rattle.store_steps.proofs.Storing.{block_some}
@@ -42,10 +42,11 @@ returns-in-First-clause-enters c =
     let f : Flying = flying c.args.self.now c.args.line.now c.args.payload.now in
     let w : IsWithin f First = subst (IsWithin f) c.in-First.is c.requires.sound.within in
     subst (λ s. Enters f (flying s c.args.line.now c.args.payload.now)) (sym c.enter_block.ensures)
-    (enter_first_parity f (all_stored f c.requires.done) c.requires.done (f.place.start / f.zone.block)
-    c.in-First.is refl
+    (enter_first_parity f (all_stored f c.requires.done) c.requires.done c.whole_blocks-block.result c.in-First.is
+    c.whole_blocks-block.ensures
+    (subst (λ b. b < first_end f) (sym c.whole_blocks-block.ensures)
     (end_above f.zone.block f.place.start (first_len f) (block_some f.zone.block c.requires.sound.valid.block).0
-    (omega (arith, c.requires.sound.below, w))))
+    (omega (arith, c.requires.sound.below, w)))))
 
 pub returns-then-block-first_end-clause-enters : goal.returns-then-block-first_end-clause-enters
 returns-then-block-first_end-clause-enters c =

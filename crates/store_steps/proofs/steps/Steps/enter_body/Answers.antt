@@ -1,4 +1,4 @@
-use Rattle.std.proofs.Common.{◌≡◌, ℕ, ◌<◌, length, sym, ap, ◌∙◌, subst, arith}
+use Rattle.std.proofs.Common.{◌≡◌, ℕ, ◌<◌, length, sym, ◌∙◌, subst, arith}
 use Rattle.store_steps.specs.Calls.{front_of, line_of}
 use Rattle.store_steps.specs.Flying.{Flying, flying, at_place}
 use Rattle.store_steps.specs.Machine.{Enters}

@@ -1,7 +1,8 @@
-use Rattle.std.proofs.Common.{◌+◌, arith}
+use Rattle.std.proofs.Common.{◌+◌, ◌≤◌, sym, subst, arith}
 use Rattle.store_steps.proofs.Storing.{end_in}
 use Rattle.store_steps.proofs.steps.Steps.first_end.Goals as goal
 
 pub returns-clause-within : goal.returns-clause-within
-returns-clause-within c = end_in c.args.self.now.zone (c.args.self.now.place.start + c.first_len.result) c.requires.valid
-    (omega (arith, c.first_len.ensures))
+returns-clause-within c = subst (λ n. n ≤ c.args.self.now.zone.blocks) (sym c.whole_blocks.ensures)
+    (end_in c.args.self.now.zone (c.args.self.now.place.start + c.first_len.result) c.requires.valid
+    (omega (arith, c.first_len.ensures)))

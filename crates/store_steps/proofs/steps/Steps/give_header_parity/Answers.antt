@@ -1,11 +1,11 @@
-use Rattle.std.proofs.Common.{◌≡◌, ℕ, ◌+◌, List, sym, ap, ◌∙◌, take, drop, length, arith}
+use Rattle.std.proofs.Common.{ℕ, ◌+◌, sym, ap, ◌∙◌, take, drop, length, arith}
 use Rattle.code_spec.specs.Code.{parity_of}
 use Rattle.zone_spec.specs.declared.Zone.{Zone}
-use Rattle.zone_spec.specs.Parts.{Part, Header, Block, part_bytes, part_parity_at}
+use Rattle.zone_spec.specs.Parts.{Part, Header, part_bytes, part_parity_at}
 use Rattle.zone_spec.specs.Stores.{byte_stores}
 use Rattle.zone_spec.specs.Stages.{stage_stores}
 use Rattle.store_steps.proofs.ParityBytes.{parity_length}
-use Rattle.store_steps.proofs.Storing.{part-byte_stores, parity_in}
+use Rattle.store_steps.proofs.Storing.{part-byte_stores}
 use Rattle.store_steps.proofs.steps.Steps.give_header_parity.Goals as goal
 
 pub give_parity-requires-clause-number : goal.give_parity-requires-clause-number

@@ -1,4 +1,4 @@
-use Rattle.std.proofs.Common.{◌≡◌, ℕ, ◌+◌, ◌≤◌, List, length, sym, ap, ◌∙◌, subst, take, drop, arith}
+use Rattle.std.proofs.Common.{◌≡◌, ℕ, ◌+◌, ◌≤◌, length, sym, ap, ◌∙◌, subst, take, drop, arith}
 use Rattle.zone_spec.specs.Stores.{byte_stores}
 use Rattle.zone_spec.specs.Told.{Call}
 use Rattle.store_steps.specs.Calls.{call_of, leg_bytes}

@@ -1,0 +1,65 @@
+-- Each turn takes the stores that come next
+use Rattle.std.proofs.Common.{◌≡◌, ◌+◌, ◌<◌, ◌≤◌, ℕ, List, length, take, refl, sym, ap, ◌∙◌, subst, inl, inr, arith}
+use Rattle.std.proofs.lemmas.Grind.{common_steps}
+use Rattle.zone_spec.specs.Stores.{Store as DefinedStore, after_stores}
+use Rattle.store_steps.specs.declared.steps.Steps.{Steps}
+use Rattle.store_steps.specs.declared.store.Given.TheVariants.{Nothing}
+use Rattle.store_steps.specs.Flying.{Flying, flying}
+use Rattle.store_steps.specs.Handed.{handed, handed_count, IsInside}
+use Rattle.std.specs.List.{flat_map}
+use Rattle.oopsbox_c.specs.Stores.{row_stores, stores_in}
+use Rattle.oopsbox_c.specs.declared.stores.StoreRow.{StoreRow}
+use Rattle.ring_laws.proofs.Images.{after_stores-append}
+use Rattle.store_steps.specs.Machine.{IsSameData}
+use Rattle.oopsbox_c.proofs.Gathering.{grown}
+use Rattle.oopsbox_c.proofs.flights.take_parities.Goals as goal
+
+pub loop-steps-init : goal.loop-steps-init
+unfolding after_stores
+loop-steps-init c = record {
+  kept = c.requires.kept;
+  gathered = λ f begun. begun;
+  zone = refl;
+  apart = ap (λ n. take (12 + c.args.steps.now.zone.cap) (after_stores c.args.image.now
+      (flat_map (λ (row : StoreRow). row_stores row c.args.line.now c.args.payload.now)
+      (take n c.args.stores.now.stores)))) c.requires.empty;
+  most = c.requires.most;
+  least = omega arith;
+  room = omega (arith, c.requires.empty);
+  gone = inl (refl, refl);
+  kind = refl;
+}
+
+pub loop-steps-preserved : goal.loop-steps-preserved
+loop-steps-preserved c =
+    let line : List ℕ = c.args.line.now in
+    let payload : List ℕ = c.args.payload.now in
+    let s : Steps = c.loop-steps.steps in
+    let was = c.loop-steps.invariant in
+    let next = c.next_parity.ensures in
+    let more : List DefinedStore = handed c.next_parity.new.out line payload in
+    let image : List ℕ = c.args.image.now in
+    let now : List ℕ = after_stores image (stores_in c.loop-steps.stores line payload) in
+    let some : 0 < length more = next.some in
+    record {
+      kept = next.kept;
+      gathered = λ f begun.
+          let g = was.gathered f begun in
+          grown f image line payload s c.next_parity.new.self c.loop-steps.stores c.push.new.self more g next.kept
+          next.same next.made (c.push.ensures.stores line payload)
+          (c.push.ensures.inside f.zone.size line payload g.inside
+          (subst (λ z. IsInside z c.next_parity.new.out line payload) (ap (λ z. z.size) g.same.zone) next.inside))
+          (next.bytes now g.bytes) (λ before stands. next.handed now before was.apart stands)
+          (λ before stands. next.stands now before g.bytes was.apart stands);
+      zone = next.same.zone ∙ was.zone;
+      apart = subst (λ z. IsSameData z (after_stores image (stores_in c.push.new.self line payload)) image)
+          (sym next.same.zone)
+          (ap (take (12 + s.zone.cap)) (ap (after_stores image) (c.push.ensures.stores line payload)
+          ∙ after_stores-append image (stores_in c.loop-steps.stores line payload) more)
+          ∙ next.apart now ∙ was.apart);
+      most = grind (arith, common_steps, next.made, next.most);
+      least = omega (arith, was.least, next.made);
+      room = grind (arith, common_steps, c.push.ensures.count);
+      gone = inr (omega (arith, was.least, next.made, some));
+      kind = next.kind ∙ was.kind;
+    }

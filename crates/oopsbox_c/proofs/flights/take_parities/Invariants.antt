@@ -1,0 +1,24 @@
+use Rattle.std.proofs.Common.{◌≡◌, ◌-◌, ◌≤◌, List, ℕ}
+use Rattle.zone_spec.specs.Stores.{after_stores}
+use Rattle.store_steps.specs.Flying.{Flying, flying}
+use Rattle.store_steps.specs.Machine.{IsKept, IsSameData}
+use Rattle.oopsbox_c.specs.Stores.{stores_in}
+use Rattle.oopsbox_c.specs.Gathered.{IsGathered, HasGone}
+use Rattle.oopsbox_c.proofs.flights.take_parities.Given as goal
+
+abbrev pub invariant-loop-steps : goal.invariant-loop-steps
+invariant-loop-steps l = record {
+  kept : IsKept (flying l.steps l.line l.payload);
+  gathered : (f : Flying) → IsGathered f l.image l.line l.payload l.initial.steps l.initial.stores
+      → IsGathered f l.image l.line l.payload l.steps l.stores;
+  zone : l.steps.zone ≡ l.initial.steps.zone;
+  apart : IsSameData l.steps.zone (after_stores l.image (stores_in l.stores l.line l.payload)) l.image;
+  most : l.steps.made ≤ l.until;
+  least : l.initial.steps.made ≤ l.steps.made;
+  room : l.stores.count ≤ 4;
+  gone : HasGone l.initial.steps l.steps l.initial.stores l.stores;
+  kind : l.steps.kind ≡ l.initial.steps.kind;
+}
+
+abbrev pub decreases-loop-steps : goal.decreases-loop-steps
+decreases-loop-steps l = l.until - l.steps.made

@@ -1,0 +1,25 @@
+use Rattle.std.proofs.Common.{ℕ, refl, arith}
+use Rattle.zone_spec.specs.Stores.{after_stores}
+use Rattle.store_steps.specs.Flying.{Flying, flying}
+use Rattle.store_steps.specs.Machine.{next_stores}
+use Rattle.store_steps.proofs.Stepping.{next_length, stands_later, kept_later}
+use Rattle.store_steps.proofs.Handing.{call_of_bytes}
+use Rattle.store_steps.proofs.Data.{bytes_next}
+use Rattle.store_steps.proofs.steps.Steps.move_on.Goals as goal
+
+pub returns-clause-kept : goal.returns-clause-kept
+returns-clause-kept c =
+    kept_later (flying c.args.self.now c.args.line.now c.args.payload.now)
+    (flying c.settle.new.self c.args.line.now c.args.payload.now) c.args.count c.requires.kept c.requires.ready
+    c.settle.ensures.sound c.settle.ensures.placed c.settle.ensures.settled
+
+pub returns-clause-stands : goal.returns-clause-stands
+returns-clause-stands c = λ now before bytes stands.
+    let f : Flying = flying c.args.self.now c.args.line.now c.args.payload.now in
+    let n : ℕ = c.args.count in
+    let call_bytes = call_of_bytes c.args.self.now.kind c.args.line.now c.args.payload.now
+    (λ i. omega (arith, c.type_inv.line i)) (λ i. omega (arith, c.type_inv.payload i)) in
+    stands_later f (flying c.settle.new.self c.args.line.now c.args.payload.now) n now
+    (after_stores now (next_stores f now n)) before (omega (arith, c.requires.kept.sound.valid.room))
+    (next_length f now n bytes c.requires.ready) refl
+    (bytes_next f now now n c.requires.kept.sound.valid call_bytes bytes bytes) c.settle.ensures.settled stands
