@@ -32,30 +32,6 @@ pub dumps_of-append : (xs ys : List Saved) → dumps_of (xs ++ ys) ≡ dumps_of 
 dumps_of-append xs ys = flat_map-append (λ (zone : Saved). if is_of Dump zone.0.name.kind then flat_map
     (λ (r : ZoneReading). dump_of zone.0.name.index r.log (read_line r.log)) (found zone.1) else []) xs ys
 
-abbrev pub dump_names : List Saved → List Name
-dump_names zones = map (λ (r : Listed). r.name) (dumps_of zones)
-
-pub dump_names-append : (xs ys : List Saved) → dump_names (xs ++ ys) ≡ dump_names xs ++ dump_names ys
-dump_names-append xs ys = ap (λ (rs : List Listed). map (λ (r : Listed). r.name) rs) (dumps_of-append xs ys)
-    ∙ map-append (λ (r : Listed). r.name) (dumps_of xs) (dumps_of ys)
-
--- the names of records that are logs
-abbrev pub plain_names : Kind → Name → List Saved → List Name
-plain_names kind name zones = map (λ (r : Listed). r.name) (plain name (logs_of kind zones))
-
-pub plain_names-are : (name : Name) (logs : List (List ℕ))
-    → map (λ (r : Listed). r.name) (plain name logs) ≡ map (λ log. name) logs
-plain_names-are name [] = refl
-plain_names-are name (log ∷ logs) = ap (λ (ns : List Name). name ∷ ns) (plain_names-are name logs)
-
-pub plain_names-append : (kind : Kind) (name : Name) (xs ys : List Saved)
-    → plain_names kind name (xs ++ ys) ≡ plain_names kind name xs ++ plain_names kind name ys
-plain_names-append kind name xs ys =
-    ap (λ (logs : List (List ℕ)). map (λ (r : Listed). r.name) (plain name logs)) (logs_of-append kind xs ys)
-    ∙ plain_names-are name (logs_of kind xs ++ logs_of kind ys)
-    ∙ map-append (λ (log : List ℕ). name) (logs_of kind xs) (logs_of kind ys)
-    ∙ rw (plain_names-are name (logs_of kind xs), plain_names-are name (logs_of kind ys)) refl
-
 -- the zones of a record, and what they count
 pub zones_of-append : (name : Name) (xs ys : List Saved)
     → zones_of name (xs ++ ys) ≡ zones_of name xs ++ zones_of name ys

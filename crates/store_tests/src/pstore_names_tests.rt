@@ -98,10 +98,14 @@ fn saved(alloc: Global, p: &Params, zones: [Seen; 4]) -> Result<Logs, AllocError
 }
 
 fn lists(alloc: Global, logs: &Logs, wanted: &[Name]) -> bool {
-    match names(alloc, logs) {
-        Ok(listed) => listed.as_slice() == wanted,
-        Err(_) => false,
+    let Ok(table) = listed(alloc, logs) else {
+        return false;
+    };
+    let mut are_same = table.len() == wanted.len();
+    for (entry, name) in table.iter().zip(wanted) {
+        are_same &= entry.name == *name;
     }
+    are_same
 }
 
 // Whether the content of this name is these bytes, with their length.

@@ -1,7 +1,6 @@
-use Rattle.std.proofs.Common.{◌≡◌, ℕ, List, ◌++◌, length, take, drop, take-append-drop, length-drop, length-append, arith, sym, ap, ap₂, ◌∙◌, subst}
+use Rattle.std.proofs.Common.{◌≡◌, ℕ, List, ◌++◌, length, take, drop, take-append-drop, length-drop, length-append, arith, sym, ap, ap₂, ◌∙◌, subst, take_at}
 use Rattle.code_laws.proofs.Symbols.{HasRoots}
 use Rattle.code_laws.proofs.Parity.{roots_of, codeword_of}
-use Rattle.gf_poly.proofs.Poly.{refill_same}
 use Rattle.rs_errors.specs.Fixes.{applied}
 use Rattle.rs_errors.proofs.is_mended_by_parity.Goals as goal
 
@@ -16,7 +15,7 @@ returns c =
     let em : c.as_mut_slice.result.now ≡ W = c.as_mut_slice.ensures.value ∙ c.joined-word.ensures in
     let ln : length n ≡ length c.as_mut_slice.result.now = omega arith in
     let whole : take (length j) (n ++ drop (length n) j) ≡ n =
-    refill_same j n (ln ∙ ap length c.as_mut_slice.ensures.value) in
+    take_at n (drop (length n) j) (length j) (ln ∙ ap length c.as_mut_slice.ensures.value) in
     let front : List ℕ = c.split_at.result.0.now in
     let back : List ℕ = c.split_at.result.1.now in
     let fixed : front ++ back ≡ applied c.args.fixes.now W =
