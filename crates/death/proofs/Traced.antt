@@ -1,5 +1,5 @@
 -- The entries of a call trace, one line after the other
-use Rattle.std.proofs.Common.{◌≡◌, ℕ, Bool, true, false, ◌||◌, cond, List, [], ◌∷◌, Option, None, refl, sym, ap, ◌∙◌}
+use Rattle.std.proofs.Common.{◌≡◌, ℕ, Bool, true, false, ◌||◌, ◌==◌, cond, List, [], ◌∷◌, length, Option, None, refl, sym, ap, ◌∙◌}
 use Rattle.std.proofs.lemmas.List.Sums.{take_while-cons}
 use Rattle.std.specs.List.{filter, take_while}
 use Rattle.death_spec.specs.declared.Line.{Line}
@@ -29,13 +29,14 @@ step text line lines =
 -- an entry is of the trace
 entry_is_of_trace : (words : List ℕ) → is_entry words ≡ true → is_of_trace words ≡ true
 entry_is_of_trace words e =
-    ap (λ t. begins Stack words || begins Unsure (unplaced words) || t) e
-    ∙ all (begins Stack words) (begins Unsure (unplaced words))
+    ap (λ t. length words == 0 || begins Stack words || begins Unsure (unplaced words) || t) e
+    ∙ all (length words == 0) (begins Stack words) (begins Unsure (unplaced words))
   where
-    all : (a b : Bool) → (a || b || true) ≡ true
-    all true b = refl
-    all false true = refl
-    all false false = refl
+    all : (a b c : Bool) → (a || b || c || true) ≡ true
+    all true b c = refl
+    all false true c = refl
+    all false false true = refl
+    all false false false = refl
 
 pub entry_yes : (text : List ℕ) (at : ℕ) (line : Line) → lines_from text at ≡ line ∷ lines_from text line.next
     → is_entry (said text line) ≡ true → entries text at ≡ line ∷ entries text line.next

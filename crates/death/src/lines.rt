@@ -1,6 +1,6 @@
 // Lines of a text, and their parts.
 ghost use Rattle.std.specs.Prelude.{◌≡◌, ◌≤◌, ◌<◌, ◌+◌, ◌^◌, ℕ, [], ◌∷◌, length, IfSome, IfNone};
-ghost use Rattle.death_spec.specs.Lines.{bracket_end, level_len, stamp_len, caller_len, content_len, line_of, lines_from, part, said, is_a};
+ghost use Rattle.death_spec.specs.Lines.{bracket_end, level_len, stamp_len, caller_len, content_len, line_of, lines_from, part, is_kernels, said, is_a};
 
 use crate::marks::{begins, byte_at, run, run_from, tail};
 use death_spec::{Class, Line, Mark};
@@ -98,12 +98,26 @@ pub fn part(text: &[u8], from: usize, to: usize) -> &[u8]
     if from < end { &text[from..end] } else { &[] }
 }
 
-/// What a line says.
+fn is_kernels(text: &[u8], line: Line) -> bool
+    ensures { result ≡ is_kernels text.now line }
+{
+    if line.stamp < line.start {
+        return false;
+    }
+    let len = line.stamp - line.start;
+    len == 0 || (len == 3 && byte_at(text, line.start + 1) < b'8')
+}
+
+/// What the kernel says in a line.
 pub fn said(text: &[u8], line: Line) -> &[u8]
     ensures said { result.now ≡ said text.now line }
     ensures within { 0 < length result.now → line.text + length result.now ≤ line.end }
 {
-    part(text, line.text, line.end)
+    if is_kernels(text, line) {
+        part(text, line.text, line.end)
+    } else {
+        &[]
+    }
 }
 
 pub fn is_a(text: &[u8], mark: Mark, line: Line) -> bool

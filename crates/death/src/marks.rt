@@ -17,6 +17,22 @@ fn word_len(text: &[u8], word: &[u8]) -> usize
     }
 }
 
+// A fault whose line has the oops's head in front.
+#[tactic(auto, unfolding(death_spec::specs::Marks::front_of))]
+fn fault_of_oops_len(text: &[u8]) -> usize
+    ensures { result ≡ front_of (drop 10 (words_of Fault)) text.now }
+{
+    if text.starts_with(b"Oops: general protection fault") {
+        30
+    } else if text.starts_with(b"Oops: divide error") {
+        18
+    } else if text.starts_with(b"Oops: double fault") {
+        18
+    } else {
+        word_len(text, b"Oops: stack segment")
+    }
+}
+
 #[tactic(auto, unfolding(death_spec::specs::Marks::front_of))]
 fn fault_len(text: &[u8]) -> usize
     ensures { result ≡ front_len Fault text.now }
@@ -39,8 +55,10 @@ fn fault_len(text: &[u8]) -> usize
         15
     } else if text.starts_with(b"watchdog: BUG:") {
         14
+    } else if text.starts_with(b"SError Interrupt") {
+        16
     } else {
-        word_len(text, b"SError Interrupt")
+        fault_of_oops_len(text)
     }
 }
 

@@ -39,7 +39,10 @@ fn is_entry(words: &[u8]) -> bool
 fn is_of_trace(words: &[u8]) -> bool
     ensures { result ≡ is_of_trace words.now }
 {
-    begins(words, Mark::Stack) || begins(unplaced(words), Mark::Unsure) || is_entry(words)
+    words.is_empty()
+        || begins(words, Mark::Stack)
+        || begins(unplaced(words), Mark::Unsure)
+        || is_entry(words)
 }
 
 fn name_of(text: &[u8], line: Line) -> Span

@@ -60,9 +60,15 @@ lines_from text at =
 abbrev pub part : List ℕ → ℕ → ℕ → List ℕ
 part text from to = take (to - from) (drop from text)
 
--- what a line says
+-- a line of the kernel's own has a level from `<0>` to `<7>`, or no level is printed. A line that a program wrote has
+-- a facility too, so its number is 8 or more (devkmsg_emit)
+abbrev pub is_kernels : List ℕ → Line → Bool
+is_kernels text line =
+    line.stamp == line.start || (line.stamp == line.start + 3 && nat_lt (slice_index text (line.start + 1)) 56)
+
+-- what the kernel says in a line
 abbrev pub said : List ℕ → Line → List ℕ
-said text line = part text line.text line.end
+said text line = if is_kernels text line then part text line.text line.end else []
 
 abbrev pub is_a : List ℕ → Mark → Line → Bool
 is_a text mark line = begins mark (said text line)

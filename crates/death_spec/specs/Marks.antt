@@ -12,7 +12,8 @@ words_of Panic = codes "Kernel panic - not syncing" ∷ []
 words_of Fault =
     codes "BUG: " ∷ codes "kernel BUG at " ∷ codes "Unable to handle kernel" ∷ codes "general protection fault"
     ∷ codes "divide error" ∷ codes "double fault" ∷ codes "stack segment" ∷ codes "Unhandled fault"
-    ∷ codes "watchdog: BUG:" ∷ codes "SError Interrupt" ∷ []
+    ∷ codes "watchdog: BUG:" ∷ codes "SError Interrupt" ∷ codes "Oops: general protection fault"
+    ∷ codes "Oops: divide error" ∷ codes "Oops: double fault" ∷ codes "Oops: stack segment" ∷ []
 words_of Oops =
     codes "Oops: " ∷ codes "Oops - " ∷ codes "Oops [" ∷ codes "Internal error: " ∷ codes "invalid opcode" ∷ []
 words_of Warning =

@@ -1,5 +1,5 @@
 -- A call trace: the functions that had called one another, the last one first
-use Rattle.std.specs.Prelude.{ℕ, ◌+◌, Bool, ◌&&◌, ◌||◌, nat_lt, if◌then◌else◌, List, [], ◌∷◌, map, take, drop, codes, bytes_eq, Option, Some, None}
+use Rattle.std.specs.Prelude.{ℕ, ◌+◌, Bool, ◌&&◌, ◌||◌, ◌==◌, nat_lt, if◌then◌else◌, List, [], ◌∷◌, length, take, drop, codes, bytes_eq, Option, Some, None}
 use Rattle.std.specs.List.{filter, take_while}
 use Rattle.death_spec.specs.declared.Line.{Line}
 use Rattle.death_spec.specs.declared.Span.{Span}
@@ -21,9 +21,11 @@ abbrev pub is_entry : List ℕ → Bool
 is_entry words =
     nat_lt 0 (run Name (unplaced words)) && begins Offset (drop (run Name (unplaced words)) (unplaced words))
 
--- also `? name+0x1f/0x30`, which the stack holds but perhaps no call left, and the name of a stack, `<TASK>`
+-- also `? name+0x1f/0x30`, which the stack holds but perhaps no call left; the name of a stack, `<TASK>`; and a line in
+-- which the kernel says nothing
 abbrev pub is_of_trace : List ℕ → Bool
-is_of_trace words = begins Stack words || begins Unsure (unplaced words) || is_entry words
+is_of_trace words =
+    length words == 0 || begins Stack words || begins Unsure (unplaced words) || is_entry words
 
 abbrev pub names : List ℕ → Line → Span
 names text line =

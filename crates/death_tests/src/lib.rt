@@ -1,13 +1,11 @@
-// A library with one function.
+//! Tests of death: logs by hand, in the forms of the kernel's architectures, and records that real kernels left.
 #![tactic(auto)]
 
-ghost use Rattle.std.specs.Prelude.{◌≡◌};
-ghost use Rattle.death_tests.specs.Echo.{echo_of};
-
-// The `ensures` clause is the contract: what `echo` returns is `echo_of` of its argument, a definition
-// in `specs/Echo.antt`, which a caller's clause can cite too.
-pub fn echo(x: usize) -> usize
-    ensures { result ≡ echo_of x }
-{
-    x
-}
+#[cfg(test)]
+mod death_tests;
+#[cfg(test)]
+mod lines_tests;
+#[cfg(test)]
+mod records;
+#[cfg(test)]
+mod trace_tests;
