@@ -3,7 +3,7 @@ ghost use Rattle.std.specs.Prelude.{◌≡◌, ◌≤◌, ◌<◌, ◌+◌, leng
 ghost use Rattle.death_spec.specs.Lines.{said};
 ghost use Rattle.std.specs.Option.{option_or};
 ghost use Rattle.death_spec.specs.Reports.{ends_report, report, first_of, span, number_end, task_at, task_end, cpu_in, task_in, kernel_in, place_in, entry_in, trace_in, function_in, death_with, death_at};
-ghost use Rattle.death_spec.specs.Traces.{names, caller_of_panic};
+ghost use Rattle.death_spec.specs.Traces.{name_in, caller_of_panic};
 
 use crate::lines::{is_a, next_line, said};
 use crate::marks::{front_len, place_of, run_from};
@@ -157,7 +157,7 @@ pub fn death_at(text: &[u8], telling: Line, second: Option<Line>) -> Death
 
 /// The functions of the call trace in the report below the telling line.
 pub fn trace_in(alloc: Global, text: &[u8], telling: Line) -> Result<Vec<Span>, AllocError>
-    ensures { IfOk result (λ v. v.items ≡ map (names text.now) (trace_in text.now telling)) }
+    ensures { IfOk result (λ v. v.items ≡ map (name_in text.now) (trace_in text.now telling)) }
 {
     match first_in(text, telling, Mark::Trace) {
         Some(head) => traces::names(alloc, text, head.next),

@@ -2,7 +2,7 @@
 ghost use Rattle.std.specs.Prelude.{◌≡◌, ◌≤◌, ◌<◌, [], ◌∷◌, length, map, drop, IfSome, IfNone, IfOk, None};
 ghost use Rattle.death_spec.specs.Marks.{run};
 ghost use Rattle.death_spec.specs.Lines.{said};
-ghost use Rattle.death_spec.specs.Traces.{name_at, unplaced, is_entry, is_of_trace, names, entries, first, is_panic, caller_of_panic};
+ghost use Rattle.death_spec.specs.Traces.{name_at, unplaced, is_entry, is_of_trace, name_in, entries, first, is_panic, caller_of_panic};
 ghost use Rattle.death_spec.specs.declared.Class.TheVariants.{Name};
 
 use crate::lines::{next_line, said};
@@ -45,8 +45,8 @@ fn is_of_trace(words: &[u8]) -> bool
         || is_entry(words)
 }
 
-fn name_of(text: &[u8], line: Line) -> Span
-    ensures { result ≡ names text.now line }
+fn name_in(text: &[u8], line: Line) -> Span
+    ensures { result ≡ name_in text.now line }
 {
     let words = said(text, line);
     let at = name_at(words);
@@ -101,12 +101,12 @@ pub fn caller_of_panic(text: &[u8], from: usize) -> Option<Line>
 
 /// The names of the entries.
 pub fn names(alloc: Global, text: &[u8], from: usize) -> Result<Vec<Span>, AllocError>
-    ensures { IfOk result (λ v. v.items ≡ map (names text.now) (entries text.now from)) }
+    ensures { IfOk result (λ v. v.items ≡ map (name_in text.now) (entries text.now from)) }
 {
     let mut spans = Vec::new(alloc);
     let mut at = from;
     'entries: while let Some(line) = first_entry(text, at) {
-        spans.push(name_of(text, line))?;
+        spans.push(name_in(text, line))?;
         at = line.next;
     }
     Ok(spans)

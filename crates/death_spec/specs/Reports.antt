@@ -11,7 +11,7 @@ use Rattle.death_spec.specs.declared.Mark.TheVariants.{Panic, Fault, Warning, En
 use Rattle.death_spec.specs.Marks.{run, front_len, place_of}
 use Rattle.death_spec.specs.Lines.{lines_from, said, is_a}
 use Rattle.death_spec.specs.Telling.{telling_line, cause_of}
-use Rattle.death_spec.specs.Traces.{name_at, names, entries, caller_of_panic}
+use Rattle.death_spec.specs.Traces.{name_at, name_in, entries, caller_of_panic}
 
 -- another report begins, or this one ends: `---[ end trace`, `---[ end Kernel panic`
 abbrev pub ends_report : List ℕ → Line → Bool
@@ -101,7 +101,7 @@ death_of text = option_map (λ line. death_by text line (cause_of text line)) (t
 
 abbrev pub trace_by : List ℕ → Option Death → List Span
 trace_by text None = []
-trace_by text (Some death) = map (names text) (trace_in text death.telling)
+trace_by text (Some death) = map (name_in text) (trace_in text death.telling)
 
 -- the functions of the call trace in the telling line's report, the innermost first
 unfoldable pub trace_of : List ℕ → List Span

@@ -27,8 +27,8 @@ abbrev pub is_of_trace : List ℕ → Bool
 is_of_trace words =
     length words == 0 || begins Stack words || begins Unsure (unplaced words) || is_entry words
 
-abbrev pub names : List ℕ → Line → Span
-names text line =
+abbrev pub name_in : List ℕ → Line → Span
+name_in text line =
     let start = line.text + name_at (said text line) in
     record { start = start; end = start + run Name (unplaced (said text line)) }
 

@@ -1,4 +1,4 @@
-use Rattle.std.proofs.Common.{◌∙◌, sym, ap, arith, ◌+◌}
+use Rattle.std.proofs.Common.{◌∙◌, sym, ap, arith}
 use Rattle.death_spec.specs.Marks.{begins}
 use Rattle.death.proofs.Places.{here, behind, past}
 use Rattle.death.proofs.marks.place_of.Goals as goal

@@ -1,6 +1,6 @@
-use Rattle.std.proofs.Common.{refl, ◌≡◌, ◌∷◌, ap, sym, ◌∙◌}
+use Rattle.std.proofs.Common.{refl, ap, sym, ◌∙◌}
 use Rattle.death_spec.specs.Lines.{lines_from}
-use Rattle.death_spec.specs.Reports.{first_of, report}
+use Rattle.death_spec.specs.Reports.{first_of}
 use Rattle.death.proofs.Listed.{in_report, first_ended, first_yes, first_no, first_none}
 use Rattle.death.proofs.reports.first_in.Goals as goal
 

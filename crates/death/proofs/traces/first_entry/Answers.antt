@@ -1,5 +1,4 @@
-use Rattle.std.proofs.Common.{◌≡◌, ◌∷◌, [], true, false, ap, sym, ◌∙◌, arith}
-use Rattle.death_spec.specs.Lines.{said}
+use Rattle.std.proofs.Common.{◌≡◌, ◌∷◌, [], ap, sym, ◌∙◌, arith}
 use Rattle.death_spec.specs.Traces.{is_entry, is_of_trace, entries, first}
 use Rattle.death.proofs.Traced.{entry_yes, entry_no, entry_end, entry_past}
 use Rattle.death.proofs.traces.first_entry.Goals as goal
