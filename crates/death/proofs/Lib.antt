@@ -1,4 +1,5 @@
 mod Places
+mod Levels
 mod Steps
 mod Listed
 mod Traced

@@ -1,6 +1,6 @@
 // Lines of a text, and their parts.
 ghost use Rattle.std.specs.Prelude.{◌≡◌, ◌≤◌, ◌<◌, ◌+◌, ◌^◌, ℕ, [], ◌∷◌, length, IfSome, IfNone};
-ghost use Rattle.death_spec.specs.Lines.{bracket_end, level_len, stamp_len, caller_len, content_len, line_of, lines_from, part, is_kernels, said, is_a};
+ghost use Rattle.death_spec.specs.Lines.{bracket_end, level_len, stamp_len, caller_len, content_len, line_of, lines_from, part, digits_level, level_of, is_kernels, said, is_a};
 
 use crate::marks::{begins, byte_at, run, run_from, tail};
 use death_spec::{Class, Line, Mark};
@@ -96,6 +96,29 @@ pub fn part(text: &[u8], from: usize, to: usize) -> &[u8]
 {
     let end = to.min(text.len());
     if from < end { &text[from..end] } else { &[] }
+}
+
+fn digits_level(digits: &[u8]) -> u8
+    ensures { result ≡ digits_level 0 digits.now }
+{
+    let mut level = 0;
+    let mut at = 0;
+    'digits: while at < digits.len() {
+        level = (10 * level + u32::from(digits[at].saturating_sub(b'0'))) % 8;
+        at += 1;
+    }
+    level as u8
+}
+
+/// The level of a line, from 0, the gravest, to 7; `None` if it has none.
+pub fn level(text: &[u8], line: Line) -> Option<u8>
+    ensures { result ≡ level_of text.now line }
+{
+    if line.start < line.stamp {
+        Some(digits_level(part(text, line.start + 1, line.stamp - 1)))
+    } else {
+        None
+    }
 }
 
 fn is_kernels(text: &[u8], line: Line) -> bool

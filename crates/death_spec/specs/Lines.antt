@@ -1,5 +1,5 @@
 -- The lines of a crash log, as printk writes them (kernel/printk/printk.c): `<4>[    2.973642][   T12] text`
-use Rattle.std.specs.Prelude.{ℕ, ◌+◌, ◌-◌, Bool, ◌&&◌, ◌||◌, ◌==◌, nat_lt, nat_le, if◌then◌else◌, List, [], ◌∷◌, length, take, drop, slice_index}
+use Rattle.std.specs.Prelude.{ℕ, ◌+◌, ◌-◌, ◌*◌, ◌%◌, Bool, ◌&&◌, ◌||◌, ◌==◌, nat_lt, nat_le, if◌then◌else◌, List, [], ◌∷◌, length, take, drop, slice_index, Option, Some, None}
 use Rattle.std.specs.List.{slice_split}
 use Rattle.death_spec.specs.declared.Line.{Line}
 use Rattle.death_spec.specs.declared.Class.TheVariants.{Blank, Digit, Number}
@@ -59,6 +59,16 @@ lines_from text at =
 -- the bytes between two places
 abbrev pub part : List ℕ → ℕ → ℕ → List ℕ
 part text from to = take (to - from) (drop from text)
+
+-- the number that digits spell after those of another, modulo 8
+unfoldable pub digits_level : ℕ → List ℕ → ℕ
+digits_level n [] = n
+digits_level n (b ∷ bs) = digits_level ((10 * n + (b - 48)) % 8) bs
+
+-- the level of a line, from 0, the gravest, to 7; what its number has above that is the facility (LOG_LEVEL)
+abbrev pub level_of : List ℕ → Line → Option ℕ
+level_of text line =
+    if nat_lt line.start line.stamp then Some (digits_level 0 (part text (line.start + 1) (line.stamp - 1))) else None
 
 -- a line of the kernel's own has a level from `<0>` to `<7>`, or no level is printed. A line that a program wrote has
 -- a facility too, so its number is 8 or more (devkmsg_emit)

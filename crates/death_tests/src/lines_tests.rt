@@ -57,3 +57,30 @@ fn lines_of_a_text(rt: HostRuntime) {
     assert_eq!(rt; next_line(text, 5), None);
     assert!(rt; next_line(text, 4).is_some());
 }
+
+#[test]
+fn levels_of_lines(rt: HostRuntime) {
+    for (text, wanted) in [
+        (b"<0>a".as_slice(), Some(0)),
+        (b"<7>a", Some(7)),
+        // the facility 1, and 176 with the level 6
+        (b"<12>a", Some(4)),
+        (b"<1414>a", Some(6)),
+        (b"a", None),
+        (b"[    1.0] a", None),
+    ] {
+        match next_line(text, 0) {
+            Some(line) => assert_eq!(rt; level(text, line), wanted),
+            None => panic!(rt; "no line"),
+        }
+    }
+}
+
+#[test]
+fn parts_of_a_text(rt: HostRuntime) {
+    let text = b"abcd";
+    assert_eq!(rt; part(text, 1, 3), b"bc".as_slice());
+    assert_eq!(rt; part(text, 2, 9), b"cd".as_slice());
+    assert_eq!(rt; part(text, 3, 1), b"".as_slice());
+    assert_eq!(rt; part(text, 9, 12), b"".as_slice());
+}
