@@ -1,3 +1,4 @@
+mod Ends
 mod Places
 mod Levels
 mod Steps

@@ -1,5 +1,5 @@
-//! Why a machine died: the telling line of a crash log, and what the report below it names. A crash log is a dump's body
-//! or a console, as the kernel's printk wrote it.
+//! Why a machine died: the telling line of a crash log, and what the report below it names. A crash log is a dump's
+//! body or a console, as the kernel's printk wrote it.
 #![tactic(auto)]
 
 ghost use Rattle.std.specs.Prelude.{◌≡◌, OnOk, IfOk};
@@ -15,8 +15,8 @@ pub use death_spec::{Class, Death, Line, Mark, Span};
 pub use lines::{level, next_line, part};
 use std::alloc::{AllocError, Global};
 
-/// Why the machine died, as a text tells it; `None` if it has no telling line. It takes no memory, and time for each byte
-/// of the text.
+/// Why the machine died, as a text tells it; `None` if it has no telling line. It takes no memory, and at most nine
+/// passes over the text.
 #[tactic(auto, unfolding(death_spec::specs::Reports::death_of))]
 pub fn death(text: &[u8]) -> Option<Death>
     ensures { result ≡ death_of text.now }

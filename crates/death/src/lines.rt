@@ -2,7 +2,7 @@
 ghost use Rattle.std.specs.Prelude.{◌≡◌, ◌≤◌, ◌<◌, ◌+◌, ◌^◌, ℕ, [], ◌∷◌, length, IfSome, IfNone};
 ghost use Rattle.death_spec.specs.Lines.{bracket_end, level_len, stamp_len, caller_len, content_len, line_of, lines_from, part, digits_level, level_of, is_kernels, said, is_a};
 
-use crate::marks::{begins, byte_at, run, run_from, tail};
+use crate::marks::{begins, byte_at, line_len, run_from, tail};
 use death_spec::{Class, Line, Mark};
 
 fn bracket_end(text: &[u8], opening: u8, from: usize, to: usize, close: u8) -> usize
@@ -86,7 +86,7 @@ pub fn next_line(text: &[u8], at: usize) -> Option<Line>
         return None;
     }
     let rest = tail(text, at);
-    Some(line_of(at, &rest[..run(rest, Class::Line)]))
+    Some(line_of(at, &rest[..line_len(rest)]))
 }
 
 /// The bytes between two places, as far as the text has them.

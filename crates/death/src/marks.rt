@@ -1,9 +1,11 @@
 // Words at the front of a text, and runs of bytes.
 ghost use Rattle.std.specs.Prelude.{◌≡◌, ◌≤◌, ◌<◌, ◌+◌, [], ◌∷◌, nat_lt, length, drop, slice_index};
 ghost use Rattle.death_spec.specs.Marks.{front_of, front_len, begins, place_of, is_in, is_blank, run, words_of};
+ghost use Rattle.death_spec.specs.declared.Class.TheVariants.{Line};
 ghost use Rattle.death_spec.specs.declared.Mark.TheVariants.{Fault, Oops, Warning, Place, Trace, Kernel, Offset};
 
 use death_spec::{Class, Mark};
+use memchr::memchr;
 
 // The length of a word where the text begins with it, or 0.
 #[tactic(auto, unfolding(death_spec::specs::Marks::front_of))]
@@ -226,6 +228,17 @@ pub fn run(text: &[u8], class: Class) -> usize
         len += 1;
     }
     len
+}
+
+/// The length of the first line.
+pub fn line_len(text: &[u8]) -> usize
+    ensures len { result ≡ run Line text.now }
+    ensures within { result ≤ length text.now }
+{
+    match memchr(b'\n', text) {
+        Some(len) => len,
+        None => text.len(),
+    }
 }
 
 /// A place, and how many bytes from it on are of a class.

@@ -19,7 +19,8 @@ last_in text mark = last_of text mark (lines_from text 0)
 -- the last panic; without one the last fault; then the last oops; then the last warning
 unfoldable pub telling_line : List ℕ → Option Line
 telling_line text =
-    option_or (last_in text Panic) (option_or (last_in text Fault) (option_or (last_in text Oops) (last_in text Warning)))
+    option_or (last_in text Panic)
+    (option_or (last_in text Fault) (option_or (last_in text Oops) (last_in text Warning)))
 
 -- a panic because of an oops (oops_end, die)
 abbrev pub is_fatal : List ℕ → Line → Bool

@@ -52,8 +52,8 @@ pub enum Class {
     Number,
 }
 
-/// Where a line and its parts begin in the text, in bytes from 0. Each part ends where the next one begins, and is empty
-/// if the line has none.
+/// Where a line and its parts begin in the text, in bytes from 0. Each part ends where the next one begins, and is
+/// empty if the line has none.
 #[derive(Clone, Copy, Debug, PartialEq, Eq)]
 pub struct Line {
     /// The level, such as `<4>`.
