@@ -1,5 +1,5 @@
 -- The first newline is where the first line ends
-use Rattle.std.proofs.Common.{◌≡◌, ℕ, ◌<◌, Bool, true, false, not, ◌==◌, List, length, Some, None, refl, sym, ap, get_or, arith}
+use Rattle.std.proofs.Common.{◌≡◌, ℕ, Bool, true, false, not, List, length, Some, None, refl, sym, ap, get_or, arith}
 use Rattle.std.proofs.lemmas.List.Sums.{prefix_len_is}
 use Rattle.memchr.specs.Find.{IsFirstByte, is_byte}
 use Rattle.death_spec.specs.declared.Class.TheVariants.{Line}

@@ -15,7 +15,7 @@ pub use death_spec::{Class, Death, Line, Mark, Span};
 pub use lines::{level, next_line, part};
 use std::alloc::{AllocError, Global};
 
-/// Why the machine died, as a text tells it; `None` if it has no telling line. It takes no memory, and at most seven
+/// Why the machine died, as a text tells it; `None` if it has no telling line. It takes no memory, and at most six
 /// passes over the text.
 #[tactic(auto, unfolding(death_spec::specs::Reports::death_of))]
 pub fn death(text: &[u8]) -> Option<Death>

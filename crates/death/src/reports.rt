@@ -2,31 +2,24 @@
 ghost use Rattle.std.specs.Prelude.{◌≡◌, ◌≤◌, ◌<◌, ◌+◌, length, map, IfOk};
 ghost use Rattle.death_spec.specs.Lines.{said};
 ghost use Rattle.std.specs.Option.{option_or};
-ghost use Rattle.death_spec.specs.Reports.{ends_report, report, first_of, span, number_end, task_at, task_end, cpu_in, task_in, kernel_in, place_in, entry_in, trace_in, function_in, death_with, death_at};
+ghost use Rattle.death_spec.specs.Reports.{report, first_of, span, number_end, task_at, task_end, cpu_in, task_in, kernel_in, place_in, entry_in, trace_in, function_in, death_with, death_at};
 ghost use Rattle.death_spec.specs.Traces.{name_in, caller_of_panic};
 
 use crate::lines::{is_a, next_line, said};
 use crate::marks::{front_len, place_of, run_from};
+use crate::telling::{ends_report, is_of_oops};
 use crate::traces;
 use death_spec::{Class, Death, Line, Mark, Span};
 use std::alloc::{AllocError, Global};
-
-fn ends_report(text: &[u8], line: Line) -> bool
-    ensures { result ≡ ends_report text.now line }
-{
-    is_a(text, Mark::Panic, line)
-        || is_a(text, Mark::Fault, line)
-        || is_a(text, Mark::Warning, line)
-        || is_a(text, Mark::End, line)
-}
 
 // The first line with a mark in the report below the telling line.
 fn first_in(text: &[u8], telling: Line, mark: Mark) -> Option<Line>
     ensures { result ≡ first_of text.now mark (report text.now telling) }
 {
+    let is_open = is_of_oops(text, telling);
     let mut at = telling.next;
     'lines: while let Some(line) = next_line(text, at) {
-        if ends_report(text, line) {
+        if ends_report(text, is_open, line) {
             return None;
         }
         if is_a(text, mark, line) {

@@ -1,5 +1,5 @@
 -- What the report below the telling line names
-use Rattle.std.specs.Prelude.{ℕ, ◌+◌, Bool, not, ◌||◌, nat_lt, if◌then◌else◌, List, [], ◌∷◌, map, length, drop, Option, Some, None}
+use Rattle.std.specs.Prelude.{ℕ, ◌+◌, not, nat_lt, if◌then◌else◌, List, [], ◌∷◌, map, length, drop, Option, Some, None}
 use Rattle.std.specs.List.{take_while}
 use Rattle.std.specs.Option.{option_map, option_or}
 use Rattle.death_spec.specs.declared.Line.{Line}
@@ -7,19 +7,16 @@ use Rattle.death_spec.specs.declared.Span.{Span}
 use Rattle.death_spec.specs.declared.Death.{Death}
 use Rattle.death_spec.specs.declared.Class.TheVariants.{Blank, Digit}
 use Rattle.death_spec.specs.declared.Mark.{Mark}
-use Rattle.death_spec.specs.declared.Mark.TheVariants.{Panic, Fault, Warning, End, Processor, Place, Trace, Kernel}
+use Rattle.death_spec.specs.declared.Mark.TheVariants.{Panic, Processor, Place, Trace, Kernel}
 use Rattle.death_spec.specs.Marks.{run, front_len, place_of}
 use Rattle.death_spec.specs.Lines.{lines_from, said, is_a}
-use Rattle.death_spec.specs.Telling.{telling_line, cause_of}
+use Rattle.death_spec.specs.Telling.{is_of_oops, ends_report, telling_line, cause_of}
 use Rattle.death_spec.specs.Traces.{name_at, name_in, entries, caller_of_panic}
-
--- another report begins, or this one ends: `---[ end trace`, `---[ end Kernel panic`
-abbrev pub ends_report : List ℕ → Line → Bool
-ends_report text line = is_a text Panic line || is_a text Fault line || is_a text Warning line || is_a text End line
 
 -- the lines of the report below a line
 abbrev pub report : List ℕ → Line → List Line
-report text telling = take_while (λ line. not (ends_report text line)) (lines_from text telling.next)
+report text telling =
+    take_while (λ line. not (ends_report text (is_of_oops text telling) line)) (lines_from text telling.next)
 
 unfoldable pub first_of : List ℕ → Mark → List Line → Option Line
 first_of text mark [] = None

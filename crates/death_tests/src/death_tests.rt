@@ -189,11 +189,17 @@ fn a_fatal_exception(rt: HostRuntime) {
     );
 }
 
-// Without a line that names the fault, the oops's head is the cause; arm64 says first what was fatal.
+// Without a line that names the fault, the oops's head is the cause, and not the fault of an oops that the machine
+// survived. arm64 says first what was fatal.
 #[test]
 fn a_fatal_exception_by_the_head_of_an_oops(rt: HostRuntime) {
     let text =
-        b"[    3.000000] Internal error: Oops - Undefined instruction: 0000000002000000 [#1] SMP\n\
+        b"[    2.000000] Unable to handle kernel paging request at virtual address dead000000000100\n\
+[    2.000001] Internal error: Oops: 0000000096000004 [#1] SMP\n\
+[    2.000002] CPU: 1 PID: 8 Comm: first Not tainted 6.1.0 #1\n\
+[    2.000003] pc : first_fault+0x4/0x8\n\
+[    2.000004] ---[ end trace 0000000000000000 ]---\n\
+[    3.000000] Internal error: Oops - Undefined instruction: 0000000002000000 [#2] SMP\n\
 [    3.000001] CPU: 4 PID: 9 Comm: a Not tainted 6.1.0 #1\n\
 [    3.000002] pc : do_undefinstr+0x4/0x8\n\
 [    3.000003] ---[ end trace 0000000000000000 ]---\n\
@@ -202,13 +208,19 @@ fn a_fatal_exception_by_the_head_of_an_oops(rt: HostRuntime) {
         &rt,
         text,
         [
-            b"Internal error: Oops - Undefined instruction: 0000000002000000 [#1] SMP",
+            b"Internal error: Oops - Undefined instruction: 0000000002000000 [#2] SMP",
             b"Kernel panic - not syncing: Oops - Undefined instruction: Fatal exception",
             b"4",
             b"PID: 9 Comm: a",
             b"Not tainted 6.1.0 #1",
             b"do_undefinstr+0x4/0x8",
         ],
+    );
+    // the same without a panic
+    assert_told(
+        &rt,
+        b"BUG: a\nOops: b\npc : c\n---[ end trace 0 ]---\nOops - d [#2]\nOops: e\npc : f\n",
+        [b"Oops - d [#2]", b"-", b"-", b"-", b"-", b"f"],
     );
     // the oops is lost: the panic tells
     assert_line(
@@ -267,9 +279,9 @@ fn a_warning_alone(rt: HostRuntime) {
     );
 }
 
-// A processor that the panic cannot stop warns below it: that report is another.
+// A processor that the panic cannot stop warns below it, or has an oops: that report is another.
 #[test]
-fn a_warning_below_a_panic(rt: HostRuntime) {
+fn another_report_below_a_panic(rt: HostRuntime) {
     let panic = b"Kernel panic - not syncing: hung_task: blocked tasks";
     assert_line(
         &rt,
@@ -286,9 +298,18 @@ fn a_warning_below_a_panic(rt: HostRuntime) {
 [    8.2] CPU: 1 PID: 0 Comm: swapper/1 Not tainted 4.4.0 #1\n",
         panic,
     );
+    assert_line(
+        &rt,
+        b"[    8.0] Kernel panic - not syncing: hung_task: blocked tasks\n\
+[    8.1] Internal error: Oops - BUG: 0 [#1] SMP\n\
+[    8.2] CPU: 1 PID: 0 Comm: swapper/1 Not tainted 4.4.0 #1\n\
+[    8.3] pc : below+0x5c/0x60\n",
+        panic,
+    );
 }
 
-// A panic comes before a fault, a fault before an oops, an oops before a warning, wherever they stand.
+// A panic comes before an oops, and an oops before a warning, wherever they stand. The fault tells an oops, and its
+// head only if no fault is above it.
 #[test]
 fn rows_come_before_one_another(rt: HostRuntime) {
     let lines = b"Kernel panic - not syncing: a\nUnhandled fault: b\nOops - c\nOut of memory: d\n";

@@ -1,4 +1,4 @@
-use Rattle.std.proofs.Common.{◌≡◌, ◌+◌, ◌-◌, ◌*◌, ◌%◌, drop, get_or, ap, sym, ◌∙◌, arith}
+use Rattle.std.proofs.Common.{◌+◌, ◌*◌, ◌%◌, drop, ap, sym, ◌∙◌, arith}
 use Rattle.death_spec.specs.Lines.{digits_level}
 use Rattle.death.proofs.Levels.{digit_more, digits_past}
 use Rattle.death.proofs.lines.digits_level.Goals as goal

@@ -1,4 +1,3 @@
-use Rattle.std.proofs.Common.{arith}
 use Rattle.death.proofs.Ends.{ended, unended}
 use Rattle.death.proofs.marks.line_len.Goals as goal
 

@@ -6,7 +6,7 @@ use Rattle.death.proofs.reports.first_in.Given as goal
 
 abbrev pub invariant-lines : goal.invariant-lines
 invariant-lines l = first_of l.text l.mark (report l.text l.fn.telling)
-    ≡ first_of l.text l.mark (in_report l.text (lines_from l.text l.at))
+    ≡ first_of l.text l.mark (in_report l.text l.is_open (lines_from l.text l.at))
 
 abbrev pub decreases-lines : goal.decreases-lines
 decreases-lines l = length l.text + 1 - l.at
