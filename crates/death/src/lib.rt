@@ -5,6 +5,7 @@
 ghost use Rattle.std.specs.Prelude.{◌≡◌, OnOk, IfOk};
 ghost use Rattle.death_spec.specs.Reports.{death_of, trace_of};
 
+pub mod laws;
 mod lines;
 mod marks;
 mod reports;

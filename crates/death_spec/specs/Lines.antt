@@ -71,7 +71,7 @@ level_of text line =
     if nat_lt line.start line.stamp then Some (digits_level 0 (part text (line.start + 1) (line.stamp - 1))) else None
 
 -- a line of the kernel's own has a level from `<0>` to `<7>`, or no level is printed. A line that a program wrote has
--- a facility too, so its number is 8 or more (devkmsg_emit)
+-- a facility too, so its number is 8 or more (devkmsg_write)
 abbrev pub is_kernels : List ℕ → Line → Bool
 is_kernels text line =
     line.stamp == line.start || (line.stamp == line.start + 3 && nat_lt (slice_index text (line.start + 1)) 56)
