@@ -397,7 +397,7 @@ static void empty(void)
 	WANT(stores.count == 0 && stores.is_last == 1);
 	WANT(oopsbox_dump_begin(place, stand, SIZE, NULL, 0, NULL, 0, &flight) == OOPSBOX_DONE);
 	WANT(oopsbox_flight_next(&flight, stand, SIZE, NULL, 0, NULL, 0, NULL, 0, 9, &stores) == OOPSBOX_DONE);
-	WANT(stores.count == 2 && stores.is_last == 1 && flight.made == 2);
+	WANT(stores.count == 2 && stores.is_last == 0 && flight.made == 2);
 	WANT(stores.stores[0].what == OOPSBOX_WORD && stores.stores[0].place == 4 && stores.stores[0].word == 0
 	     && stores.stores[0].len == 4);
 	WANT(stores.stores[1].what == OOPSBOX_WORD && stores.stores[1].place == 8 && stores.stores[1].word == 0);
