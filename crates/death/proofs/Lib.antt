@@ -1,0 +1,6 @@
+mod Ends
+mod Places
+mod Levels
+mod Steps
+mod Listed
+mod Traced

@@ -1,0 +1,9 @@
+use Rattle.std.proofs.Common.{◌≡◌, ◌≤◌, ◌-◌, ◌+◌, length, drop}
+use Rattle.death_spec.specs.Marks.{run}
+use Rattle.death.proofs.marks.run.Given as goal
+
+abbrev pub invariant-bytes : goal.invariant-bytes
+invariant-bytes l = (l.len ≤ length l.text) × (run l.class l.text ≡ l.len + run l.class (drop l.len l.text))
+
+abbrev pub decreases-bytes : goal.decreases-bytes
+decreases-bytes l = length l.text - l.len

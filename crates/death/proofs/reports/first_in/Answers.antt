@@ -1,0 +1,35 @@
+use Rattle.std.proofs.Common.{refl, ap, sym, ◌∙◌}
+use Rattle.death_spec.specs.Lines.{lines_from}
+use Rattle.death_spec.specs.Reports.{first_of}
+use Rattle.death.proofs.Listed.{in_report, first_ended, first_yes, first_no, first_none}
+use Rattle.death.proofs.reports.first_in.Goals as goal
+
+pub lines-init : goal.lines-init
+lines-init c = refl
+
+pub returns-then-ends_report : goal.returns-then-ends_report
+returns-then-ends_report c =
+    sym (c.lines.invariant
+    ∙ ap (λ ls. first_of c.args.text.now c.args.mark (in_report c.args.text.now ls)) c.in-Some.ensures.line
+    ∙ first_ended c.args.text.now c.args.mark c.in-Some.line (lines_from c.args.text.now c.in-Some.line.next)
+    (sym c.ends_report.ensures ∙ c.if-ends_report.true))
+
+pub returns-then-is_a : goal.returns-then-is_a
+returns-then-is_a c =
+    sym (c.lines.invariant
+    ∙ ap (λ ls. first_of c.args.text.now c.args.mark (in_report c.args.text.now ls)) c.in-Some.ensures.line
+    ∙ first_yes c.args.text.now c.args.mark c.in-Some.line (lines_from c.args.text.now c.in-Some.line.next)
+    (sym c.ends_report.ensures ∙ c.if-ends_report.false) (sym c.is_a.ensures ∙ c.if-is_a.true))
+
+pub lines-preserved : goal.lines-preserved
+lines-preserved c =
+    c.lines.invariant
+    ∙ ap (λ ls. first_of c.args.text.now c.args.mark (in_report c.args.text.now ls)) c.in-Some.ensures.line
+    ∙ first_no c.args.text.now c.args.mark c.in-Some.line (lines_from c.args.text.now c.in-Some.line.next)
+    (sym c.ends_report.ensures ∙ c.if-ends_report.false) (sym c.is_a.ensures ∙ c.if-is_a.false)
+
+pub returns : goal.returns
+returns c =
+    sym (c.lines.invariant
+    ∙ ap (λ ls. first_of c.args.text.now c.args.mark (in_report c.args.text.now ls)) c.in_default.ensures.none
+    ∙ first_none c.args.text.now c.args.mark)

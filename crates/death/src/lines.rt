@@ -1,0 +1,150 @@
+// Lines of a text, and their parts.
+ghost use Rattle.std.specs.Prelude.{◌≡◌, ◌≤◌, ◌<◌, ◌+◌, ◌^◌, ℕ, [], ◌∷◌, length, IfSome, IfNone};
+ghost use Rattle.death_spec.specs.Lines.{bracket_end, level_len, stamp_len, caller_len, content_len, line_of, lines_from, part, digits_level, level_of, is_kernels, said, is_a};
+
+use crate::marks::{begins, byte_at, line_len, run_from, tail};
+use death_spec::{Class, Line, Mark};
+
+fn bracket_end(text: &[u8], opening: u8, from: usize, to: usize, close: u8) -> usize
+    requires { 0 < close }
+    ensures end { result ≡ bracket_end opening from to close text.now }
+    ensures within { result ≤ length text.now }
+{
+    if byte_at(text, 0) == opening && from < to && byte_at(text, to) == close {
+        to + 1
+    } else {
+        0
+    }
+}
+
+fn level_len(text: &[u8]) -> usize
+    ensures len { result ≡ level_len text.now }
+    ensures within { result ≤ length text.now }
+{
+    bracket_end(text, b'<', 1, run_from(text, 1, Class::Digit), b'>')
+}
+
+fn stamp_len(text: &[u8]) -> usize
+    ensures len { result ≡ stamp_len text.now }
+    ensures within { result ≤ length text.now }
+{
+    let from = run_from(text, 1, Class::Blank);
+    bracket_end(text, b'[', from, run_from(text, from, Class::Number), b']')
+}
+
+fn caller_len(text: &[u8]) -> usize
+    ensures len { result ≡ caller_len text.now }
+    ensures within { result ≤ length text.now }
+{
+    let letter = run_from(text, 1, Class::Blank);
+    let b = byte_at(text, letter);
+    if b == b'T' || b == b'C' {
+        let end = run_from(text, letter + 1, Class::Digit);
+        bracket_end(text, b'[', letter + 1, end, b']')
+    } else {
+        0
+    }
+}
+
+fn content_len(piece: &[u8]) -> usize
+    ensures len { result ≡ content_len piece.now }
+    ensures within { result ≤ length piece.now }
+{
+    let len = piece.len();
+    if byte_at(piece, len.saturating_sub(1)) == b'\r' {
+        len - 1
+    } else {
+        len
+    }
+}
+
+#[tactic(auto, unfolding(death_spec::specs::Lines::line_of))]
+fn line_of(at: usize, piece: &[u8]) -> Line
+    requires { at + length piece.now < 2 ^ 63 }
+    ensures { result ≡ line_of at piece.now }
+{
+    let stamp = level_len(piece);
+    let caller = stamp + stamp_len(&piece[stamp..]);
+    let blanks = caller + caller_len(&piece[caller..]);
+    Line {
+        start: at,
+        stamp: at + stamp,
+        caller: at + caller,
+        text: at + run_from(piece, blanks, Class::Blank),
+        end: at + content_len(piece),
+        next: at + piece.len() + 1,
+    }
+}
+
+/// The line that begins at a place of the text. The next one begins at its `next`.
+pub fn next_line(text: &[u8], at: usize) -> Option<Line>
+    ensures line { IfSome result (λ line. lines_from text.now at ≡ line ∷ lines_from text.now line.next) }
+    ensures next { IfSome result (λ line. (at < line.next) × (at ≤ length text.now)) }
+    ensures none { IfNone result (lines_from text.now at ≡ []) }
+{
+    if text.len() < at {
+        return None;
+    }
+    let rest = tail(text, at);
+    Some(line_of(at, &rest[..line_len(rest)]))
+}
+
+/// The bytes between two places, as far as the text has them.
+pub fn part(text: &[u8], from: usize, to: usize) -> &[u8]
+    ensures part { result.now ≡ part text.now from to }
+    ensures within { 0 < length result.now → from + length result.now ≤ to }
+{
+    let end = to.min(text.len());
+    if from < end { &text[from..end] } else { &[] }
+}
+
+fn digits_level(digits: &[u8]) -> u8
+    ensures { result ≡ digits_level 0 digits.now }
+{
+    let mut level = 0;
+    let mut at = 0;
+    'digits: while at < digits.len() {
+        level = (10 * level + u32::from(digits[at].saturating_sub(b'0'))) % 8;
+        at += 1;
+    }
+    level as u8
+}
+
+/// The level of a line, from 0, the gravest, to 7; `None` if it has none.
+pub fn level(text: &[u8], line: Line) -> Option<u8>
+    ensures { result ≡ level_of text.now line }
+{
+    if line.start < line.stamp {
+        Some(digits_level(part(text, line.start + 1, line.stamp - 1)))
+    } else {
+        None
+    }
+}
+
+fn is_kernels(text: &[u8], line: Line) -> bool
+    ensures { result ≡ is_kernels text.now line }
+{
+    if line.stamp < line.start {
+        return false;
+    }
+    let len = line.stamp - line.start;
+    len == 0 || (len == 3 && byte_at(text, line.start + 1) < b'8')
+}
+
+/// What the kernel says in a line.
+pub fn said(text: &[u8], line: Line) -> &[u8]
+    ensures said { result.now ≡ said text.now line }
+    ensures within { 0 < length result.now → line.text + length result.now ≤ line.end }
+{
+    if is_kernels(text, line) {
+        part(text, line.text, line.end)
+    } else {
+        &[]
+    }
+}
+
+pub fn is_a(text: &[u8], mark: Mark, line: Line) -> bool
+    ensures { result ≡ is_a text.now mark line }
+{
+    begins(said(text, line), mark)
+}

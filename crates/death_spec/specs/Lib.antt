@@ -1,0 +1,5 @@
+pub mod Marks
+pub mod Lines
+pub mod Telling
+pub mod Traces
+pub mod Reports

@@ -1,0 +1,84 @@
+-- The lines of a crash log, as printk writes them (kernel/printk/printk.c): `<4>[    2.973642][   T12] text`
+use Rattle.std.specs.Prelude.{ℕ, ◌+◌, ◌-◌, ◌*◌, ◌%◌, Bool, ◌&&◌, ◌||◌, ◌==◌, nat_lt, nat_le, if◌then◌else◌, List, [], ◌∷◌, length, take, drop, slice_index, Option, Some, None}
+use Rattle.std.specs.List.{slice_split}
+use Rattle.death_spec.specs.declared.Line.{Line}
+use Rattle.death_spec.specs.declared.Class.TheVariants.{Blank, Digit, Number}
+use Rattle.death_spec.specs.declared.Mark.{Mark}
+use Rattle.death_spec.specs.Marks.{run, begins}
+
+-- where a bracket ends that opens at the front and has the bytes between two places in it; 0 if it is none
+abbrev pub bracket_end : ℕ → ℕ → ℕ → ℕ → List ℕ → ℕ
+bracket_end opening from to close text =
+    if slice_index text 0 == opening && nat_lt from to && slice_index text to == close then to + 1 else 0
+
+-- `<`, digits, `>`
+abbrev pub level_len : List ℕ → ℕ
+level_len text = bracket_end 60 1 (1 + run Digit (drop 1 text)) 62 text
+
+-- `[`, blanks, digits and points, `]`
+abbrev pub stamp_len : List ℕ → ℕ
+stamp_len text =
+    let from = 1 + run Blank (drop 1 text) in
+    bracket_end 91 from (from + run Number (drop from text)) 93 text
+
+-- `[`, blanks, `T` or `C`, digits, `]` (CONFIG_PRINTK_CALLER)
+abbrev pub caller_len : List ℕ → ℕ
+caller_len text =
+    let letter = 1 + run Blank (drop 1 text) in
+    if slice_index text letter == 84 || slice_index text letter == 67
+    then bracket_end 91 (letter + 1) (letter + 1 + run Digit (drop (letter + 1) text)) 93 text else 0
+
+-- without the carriage return that a serial console adds
+abbrev pub content_len : List ℕ → ℕ
+content_len piece = if slice_index piece (length piece - 1) == 13 then length piece - 1 else length piece
+
+-- the line with these bytes, at a place of the text
+unfoldable pub line_of : ℕ → List ℕ → Line
+line_of at piece =
+    let stamp = level_len piece in
+    let caller = stamp + stamp_len (drop stamp piece) in
+    let blanks = caller + caller_len (drop caller piece) in
+    record {
+      start = at;
+      stamp = at + stamp;
+      caller = at + caller;
+      text = at + (blanks + run Blank (drop blanks piece));
+      end = at + content_len piece;
+      next = at + length piece + 1;
+    }
+
+unfoldable pub lines_at : ℕ → List (List ℕ) → List Line
+lines_at at [] = []
+lines_at at (piece ∷ pieces) = line_of at piece ∷ lines_at (at + length piece + 1) pieces
+
+-- the lines of a text from a place on: what stands between newlines
+unfoldable pub lines_from : List ℕ → ℕ → List Line
+lines_from text at =
+    if nat_le at (length text) then lines_at at (slice_split (λ b. b == 10) (drop at text)) else []
+
+-- the bytes between two places
+abbrev pub part : List ℕ → ℕ → ℕ → List ℕ
+part text from to = take (to - from) (drop from text)
+
+-- the number that digits spell after those of another, modulo 8
+unfoldable pub digits_level : ℕ → List ℕ → ℕ
+digits_level n [] = n
+digits_level n (b ∷ bs) = digits_level ((10 * n + (b - 48)) % 8) bs
+
+-- the level of a line, from 0, the gravest, to 7; what its number has above that is the facility (LOG_LEVEL)
+abbrev pub level_of : List ℕ → Line → Option ℕ
+level_of text line =
+    if nat_lt line.start line.stamp then Some (digits_level 0 (part text (line.start + 1) (line.stamp - 1))) else None
+
+-- a line of the kernel's own has a level from `<0>` to `<7>`, or no level is printed. A line that a program wrote has
+-- a facility too, so its number is 8 or more (devkmsg_emit)
+abbrev pub is_kernels : List ℕ → Line → Bool
+is_kernels text line =
+    line.stamp == line.start || (line.stamp == line.start + 3 && nat_lt (slice_index text (line.start + 1)) 56)
+
+-- what the kernel says in a line
+abbrev pub said : List ℕ → Line → List ℕ
+said text line = if is_kernels text line then part text line.text line.end else []
+
+abbrev pub is_a : List ℕ → Mark → Line → Bool
+is_a text mark line = begins mark (said text line)

@@ -1,0 +1,11 @@
+//! Tests of death: logs by hand, in the forms of the kernel's architectures, and records that real kernels left.
+#![tactic(auto)]
+
+#[cfg(test)]
+mod death_tests;
+#[cfg(test)]
+mod lines_tests;
+#[cfg(test)]
+mod records;
+#[cfg(test)]
+mod trace_tests;
