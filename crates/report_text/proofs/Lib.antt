@@ -1,4 +1,5 @@
 mod Cuts
+pub mod Deaths
 pub mod Shown
 pub mod Rows
 pub mod Rendered
