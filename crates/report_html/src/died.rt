@@ -61,11 +61,7 @@ fn add_context<'a>(
     )
 }
 
-fn add_said<'a>(
-    pieces: &mut Vec<Piece<'a>>,
-    text: &'a [u8],
-    death: Death,
-) -> Result<(), AllocError>
+fn add_said<'a>(pieces: &mut Vec<Piece<'a>>, text: &'a [u8], death: Death) -> Result<(), AllocError>
     ensures { OnOk result (parts pieces.new.items ≡ parts pieces.old.items ++ said_parts text.entry.now death) }
 {
     add(

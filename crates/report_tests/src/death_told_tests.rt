@@ -49,7 +49,13 @@ const SILENT: &[u8] =
 fn the_newest_dump_tells(rt: HostRuntime) -> Result<(), Fail> {
     assert_told(&rt, rt.alloc(), [OOPS, PANIC, b"", CONSOLE], dump(1), SYSRQ)?;
     assert_told(&rt, rt.alloc(), [PANIC, OOPS, b"", b""], dump(0), SYSRQ)?;
-    assert_told(&rt, rt.alloc(), [b"", OOPS, b"", b"[    1.000000] a\n"], dump(1), FAULT)?;
+    assert_told(
+        &rt,
+        rt.alloc(),
+        [b"", OOPS, b"", b"[    1.000000] a\n"],
+        dump(1),
+        FAULT,
+    )?;
     // an oops on the console is no panic, whatever the dump has
     let oops = b"[    9.000000] BUG: kernel NULL pointer dereference\n";
     assert_told(&rt, rt.alloc(), [OOPS, PANIC, b"", oops], dump(1), SYSRQ)
@@ -68,14 +74,38 @@ fn no_place_of_an_older_oops(rt: HostRuntime) -> Result<(), Fail> {
 #[test]
 fn the_console_tells(rt: HostRuntime) -> Result<(), Fail> {
     // without a dump
-    assert_told(&rt, rt.alloc(), [b"", b"", b"", CONSOLE], Name::Console, SYSRQ)?;
+    assert_told(
+        &rt,
+        rt.alloc(),
+        [b"", b"", b"", CONSOLE],
+        Name::Console,
+        SYSRQ,
+    )?;
     // the newest dump does not tell
-    assert_told(&rt, rt.alloc(), [PANIC, SILENT, b"", CONSOLE], Name::Console, SYSRQ)?;
+    assert_told(
+        &rt,
+        rt.alloc(),
+        [PANIC, SILENT, b"", CONSOLE],
+        Name::Console,
+        SYSRQ,
+    )?;
     // the newest dump has the oops before the panic
-    assert_told(&rt, rt.alloc(), [OOPS, b"", b"", CONSOLE], Name::Console, SYSRQ)?;
+    assert_told(
+        &rt,
+        rt.alloc(),
+        [OOPS, b"", b"", CONSOLE],
+        Name::Console,
+        SYSRQ,
+    )?;
     // the panic is of another time
     let later = b"[    3.034972] Kernel panic - not syncing: sysrq triggered crash\r\n";
-    assert_told(&rt, rt.alloc(), [OOPS, PANIC, b"", later], Name::Console, SYSRQ)?;
+    assert_told(
+        &rt,
+        rt.alloc(),
+        [OOPS, PANIC, b"", later],
+        Name::Console,
+        SYSRQ,
+    )?;
     // the dump has the line, and an end that a serial console adds counts for nothing
     let same = b"[    3.034971] Kernel panic - not syncing: sysrq triggered crash\r\n";
     assert_told(&rt, rt.alloc(), [OOPS, PANIC, b"", same], dump(1), SYSRQ)
@@ -87,7 +117,13 @@ fn a_panic_after_its_cause(rt: HostRuntime) -> Result<(), Fail> {
     let fatal = b"[    3.000000] BUG: unable to handle page fault for address: 10\n\
 [    3.100000] Kernel panic - not syncing: Fatal exception\n";
     let cause = b"BUG: unable to handle page fault for address: 10";
-    assert_told(&rt, rt.alloc(), [OOPS, b"", b"", fatal], Name::Console, cause)
+    assert_told(
+        &rt,
+        rt.alloc(),
+        [OOPS, b"", b"", fatal],
+        Name::Console,
+        cause,
+    )
 }
 
 #[test]

@@ -131,7 +131,13 @@ fn why_it_died(rt: HostRuntime) -> Result<(), Fail> {
         {
             return Err(Fail::from("the report has other zones"));
         }
-        let line = json(rt.alloc(), "a", &worked_deaths::PARAMS, zones.zones(), &report)?;
+        let line = json(
+            rt.alloc(),
+            "a",
+            &worked_deaths::PARAMS,
+            zones.zones(),
+            &report,
+        )?;
         assert!(rt; line.as_str().starts_with(death), "{death}");
     }
     Ok(())

@@ -5,8 +5,8 @@
 //! printable ASCII, tabs and newlines reach the terminal.
 #![tactic(auto)]
 
-pub mod laws;
 mod died;
+pub mod laws;
 mod lines;
 mod pieces;
 mod records;
