@@ -47,8 +47,8 @@ heading_parts title =
 -- the heading, why the machine died, the picture of the zones, and the records
 abbrev pub page_parts : List ℕ → List Zone → ReportHeld → List Part
 page_parts title zones report =
-    heading_parts title ++ died_parts (death_told report.records) ++ picture zones report ++ flat_map record_parts report.records
-    ++ Words (codes "</body>\n</html>\n") ∷ []
+    heading_parts title ++ died_parts (death_told report.records) ++ picture zones report
+    ++ flat_map record_parts report.records ++ Words (codes "</body>\n</html>\n") ∷ []
 
 -- the page under this title of the report of these zones
 unfoldable pub page_of : List ℕ → List Zone → ReportHeld → List ℕ
