@@ -13,7 +13,7 @@ mod telling;
 mod traces;
 
 pub use death_spec::{Class, Death, Line, Mark, Span};
-pub use lines::{level, next_line, part};
+pub use lines::{is_a, level, next_line, part};
 use std::alloc::{AllocError, Global};
 
 /// Why the machine died, as a text tells it; `None` if it has no telling line. It takes no memory, and at most six

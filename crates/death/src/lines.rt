@@ -143,6 +143,7 @@ pub fn said(text: &[u8], line: Line) -> &[u8]
     }
 }
 
+/// Whether the kernel says words of a mark at the front of a line.
 pub fn is_a(text: &[u8], mark: Mark, line: Line) -> bool
     ensures { result ≡ is_a text.now mark line }
 {

@@ -1,3 +1,5 @@
 pub mod Zones
 pub mod Each
 pub mod OneWay
+pub mod Later
+pub mod Consoles

@@ -1,12 +1,16 @@
 //! What an image holds: each zone as it reads, its parts, and the records that the next boot would list,
-//! compressed dumps inflated.
+//! compressed dumps inflated, and why the machine died.
 #![tactic(auto)]
 
+mod deaths;
 mod laws;
+mod newest;
 mod report;
 mod shown;
 
+pub use deaths::{Told, death_told};
 pub use laws::one_shown;
+pub use newest::{console, newest_dump};
 pub use old_log::ZoneParts;
 pub use report::{Report, report_of, report_of_zones};
 pub use report_spec::{Packing, PartState, TextFault};

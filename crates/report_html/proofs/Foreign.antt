@@ -1,6 +1,6 @@
 -- The foreign parts of a page
-use Rattle.std.proofs.Common.{◌≡◌, ℕ, suc, ◌+◌, ◌<◌, ◌≤◌, ◌==◌, Bool, true, false, cond, nat_lt, List, [], ◌∷◌, ◌++◌, length, map, slice_get, All, Option, Some, None, codes, refl, sym, ap, ap₂, ◌∙◌, subst, append-nil, get_or, inl, inr, arith}
-use Rattle.std.specs.Prelude.{flat_map}
+use Rattle.std.proofs.Common.{◌≡◌, ℕ, suc, ◌+◌, ◌<◌, ◌≤◌, ◌==◌, Bool, true, false, cond, nat_lt, List, [], ◌∷◌, ◌++◌, length, map, slice_get, drop, ◌-◌, ◌||◌, All, Option, Some, None, codes, append_assoc, refl, sym, ap, ap₂, ◌∙◌, subst, append-nil, get_or, inl, inr, arith}
+use Rattle.std.specs.Prelude.{flat_map, is_some}
 use Rattle.std.specs.List.{zip}
 use Rattle.std.proofs.lemmas.Bool.{cases_order}
 use Rattle.std.proofs.lemmas.List.Elements.{All-cons, All-nil}
@@ -19,11 +19,18 @@ use Rattle.report_spec.specs.Parts.{PartStates}
 use Rattle.report_spec.specs.declared.Packing.{Packing}
 use Rattle.report_spec.specs.declared.Packing.TheVariants.{Plain, Whole, Part as PartOfText}
 use Rattle.report_spec.specs.Packed.{RecordShown, readable}
+use Rattle.report_spec.specs.Deaths.{DeathTold, death_told}
+use Rattle.death_spec.specs.declared.Span.{Span}
+use Rattle.death_spec.specs.declared.Death.{Death}
+use Rattle.death_spec.specs.Lines.{part}
+use Rattle.ram_region.proofs.Chains.{AreBytes-take, AreBytes-drop}
 use Rattle.record_report.specs.Reports.{ReportHeld}
 use Rattle.report_html.specs.Pieces.{Part, Words, Count, parts_text}
 use Rattle.report_html.specs.Pictures.{corrected_parts, blocks_parts, run_parts, runs, unused_parts, place_parts, read_words, zone_parts, legend_parts, picture_opening, picture}
-use Rattle.report_html.specs.Pages.{name_parts, time_parts, length_parts, packing_parts, content_parts, record_parts, heading_parts, page_parts}
-use Rattle.report_html.specs.Escaping.{foreign_in, foreign_of, HoldBytes, IsWithoutMarkup}
+use Rattle.report_html.specs.Names.{name_parts, time_parts}
+use Rattle.report_html.specs.Died.{named_parts, context_parts, said_parts, death_parts, died_parts, named_bytes, death_bytes, died_bytes, end_words}
+use Rattle.report_html.specs.Pages.{length_parts, packing_parts, content_parts, record_parts, heading_parts, page_parts}
+use Rattle.report_html.specs.Escaping.{foreign_in, foreign_of, HoldBytes, TellsBytes, IsWithoutMarkup}
 use Rattle.report_html.proofs.Texts.{is-text}
 
 both : (a b : List Part) → foreign_of (a ++ b) ≡ foreign_of a ++ foreign_of b
@@ -108,38 +115,131 @@ of-records (r ∷ rs) =
     both (record_parts r) (flat_map record_parts rs)
     ∙ ap₂ (λ (a b : List (List ℕ)). a ++ b) (of-record r) (of-records rs)
 
--- ---- the page has its title, and what people read of its records
+-- ---- why the machine died has parts of the text that tells it
 
-of-page : (title : List ℕ) (zones : List Zone) (report : ReportHeld)
-    → foreign_of (page_parts title zones report) ≡ title ∷ map readable report.records
+of-named : (begun : Bool) (label text : List ℕ) (span : Option Span)
+    → foreign_of (named_parts begun label text span) ≡ named_bytes text span
+of-named begun label text None = refl
+of-named begun label text (Some span) = refl
+
+of-context : (text : List ℕ) (d : Death) → foreign_of (context_parts text d)
+    ≡ named_bytes text d.cpu ++ named_bytes text d.task ++ named_bytes text d.function
+of-context text d =
+    let cpu : List Part = named_parts false (codes "cpu ") text d.cpu in
+    let task : List Part = named_parts (is_some d.cpu) [] text d.task in
+    let function : List Part = named_parts (is_some d.cpu || is_some d.task) [] text d.function in
+    let end : List Part = Words (end_words (is_some d.cpu || is_some d.task || is_some d.function)) ∷ [] in
+    both (cpu ++ task ++ function) end ∙ append-nil (foreign_of (cpu ++ task ++ function))
+    ∙ both (cpu ++ task) function
+    ∙ ap₂ (λ (a b : List (List ℕ)). a ++ b)
+    (both cpu task ∙ ap₂ (λ (a b : List (List ℕ)). a ++ b) (of-named false (codes "cpu ") text d.cpu)
+    (of-named (is_some d.cpu) [] text d.task))
+    (of-named (is_some d.cpu || is_some d.task) [] text d.function)
+
+of-named-record : (name : Name) → foreign_of (name_parts name) ≡ []
+of-named-record (Dump index packed) = refl
+of-named-record Console = refl
+of-named-record Pmsg = refl
+of-named-record Ftrace = refl
+
+of-death : (t : DeathTold) → foreign_of (death_parts t) ≡ death_bytes (readable t.teller) t.death
+of-death t =
+    let text : List ℕ = readable t.teller in
+    let said : List Part = said_parts text t.death in
+    let name : List Part = name_parts t.teller.name in
+    let time : List Part = time_parts t.teller.time in
+    let close : List Part = Words (codes ")\n") ∷ [] in
+    let line : List (List ℕ) = part text t.death.telling.text t.death.telling.end ∷ [] in
+    let named : foreign_of (said ++ name) ≡ line =
+    both said name ∙ ap (λ (a : List (List ℕ)). line ++ a) (of-named-record t.teller.name) in
+    let timed : foreign_of (said ++ name ++ time) ≡ line =
+    both (said ++ name) time ∙ ap₂ (λ (a b : List (List ℕ)). a ++ b) named (of-time t.teller.time) in
+    let closed : foreign_of (said ++ name ++ time ++ close) ≡ line =
+    both (said ++ name ++ time) close ∙ ap (λ (a : List (List ℕ)). a ++ []) timed in
+    both (said ++ name ++ time ++ close) (context_parts text t.death)
+    ∙ ap₂ (λ (a b : List (List ℕ)). a ++ b) closed (of-context text t.death)
+
+of-died : (t : Option DeathTold) → foreign_of (died_parts t) ≡ died_bytes t
+of-died None = refl
+of-died (Some t) = of-death t
+
+-- ---- the page has its title, those parts, and what people read of its records
+
+of-page : (title : List ℕ) (zones : List Zone) (report : ReportHeld) → foreign_of (page_parts title zones report)
+    ≡ title ∷ died_bytes (death_told report.records) ++ map readable report.records
 of-page title zones report =
     let head : List Part = heading_parts title in
+    let died : List Part = died_parts (death_told report.records) in
     let records : List Part = flat_map record_parts report.records in
-    both (head ++ picture zones report ++ records) (Words (codes "</body>\n</html>\n") ∷ [])
-    ∙ append-nil (foreign_of (head ++ picture zones report ++ records))
-    ∙ both (head ++ picture zones report) records
+    both (head ++ died ++ picture zones report ++ records) (Words (codes "</body>\n</html>\n") ∷ [])
+    ∙ append-nil (foreign_of (head ++ died ++ picture zones report ++ records))
+    ∙ both (head ++ died ++ picture zones report) records
     ∙ ap₂ (λ (a b : List (List ℕ)). a ++ b)
-    (both head (picture zones report) ∙ ap (λ (a : List (List ℕ)). (title ∷ []) ++ a) (of-picture zones report))
+    (both (head ++ died) (picture zones report)
+    ∙ ap (λ (a : List (List ℕ)). foreign_of (head ++ died) ++ a) (of-picture zones report)
+    ∙ append-nil (foreign_of (head ++ died)) ∙ both head died
+    ∙ ap (λ (a : List (List ℕ)). (title ∷ []) ++ a) (of-died (death_told report.records)))
     (of-records report.records)
 
-texts-of : (rs : List RecordShown) → HoldBytes rs
-    → All (λ (bytes : List ℕ). IsText (escaped bytes)) (map readable rs)
+-- ---- each of them is escaped to text
+
+abbrev EscapeToTexts : List (List ℕ) → Type 0
+EscapeToTexts all = All (λ (bytes : List ℕ). IsText (escaped bytes)) all
+
+part-text : (text : List ℕ) (from to : ℕ) → AreBytes text → IsText (escaped (part text from to))
+part-text text from to h =
+    is-text (part text from to) (AreBytes-take (to - from) (drop from text) (AreBytes-drop from text h))
+
+-- before texts
+onto : (bytes : List ℕ) (more : List (List ℕ)) → IsText (escaped bytes) → EscapeToTexts more
+    → EscapeToTexts (bytes ∷ more)
+onto bytes more h all = All-cons (λ (bytes : List ℕ). IsText (escaped bytes)) bytes more h all
+
+texts-named : (text : List ℕ) (span : Option Span) (more : List (List ℕ)) → AreBytes text → EscapeToTexts more
+    → EscapeToTexts (named_bytes text span ++ more)
+texts-named text None more h all = all
+texts-named text (Some span) more h all =
+    onto (part text span.start span.end) more (part-text text span.start span.end h) all
+
+texts-death : (text : List ℕ) (d : Death) (more : List (List ℕ)) → AreBytes text → EscapeToTexts more
+    → EscapeToTexts (death_bytes text d ++ more)
+texts-death text d more h all =
+    let cpu = named_bytes text d.cpu in
+    let task = named_bytes text d.task in
+    let function = named_bytes text d.function in
+    let line = part text d.telling.text d.telling.end in
+    let below : EscapeToTexts (cpu ++ (task ++ (function ++ more))) =
+    texts-named text d.cpu (task ++ (function ++ more)) h
+    (texts-named text d.task (function ++ more) h (texts-named text d.function more h all)) in
+    subst EscapeToTexts
+    (sym (append_assoc ((line ∷ cpu) ++ task) function more ∙ append_assoc (line ∷ cpu) task (function ++ more)))
+    (onto line (cpu ++ (task ++ (function ++ more)))
+    (part-text text d.telling.text d.telling.end h) below)
+
+texts-died : (t : Option DeathTold) (more : List (List ℕ)) → TellsBytes t → EscapeToTexts more
+    → EscapeToTexts (died_bytes t ++ more)
+texts-died None more h all = all
+texts-died (Some t) more h all = texts-death (readable t.teller) t.death more h all
+
+texts-of : (rs : List RecordShown) → HoldBytes rs → EscapeToTexts (map readable rs)
 texts-of [] h = All-nil (λ (bytes : List ℕ). IsText (escaped bytes))
 texts-of (r ∷ rs) h = All-cons (λ (bytes : List ℕ). IsText (escaped bytes)) (readable r)
     (map readable rs) (is-text (readable r) (h 0 r refl)) (texts-of rs (λ k q e. h (suc k) q e))
 
 pub without_markup : (title : List ℕ) (zones : List Zone) (report : ReportHeld) (page : List ℕ) → AreBytes title
-    → HoldBytes report.records → page ≡ parts_text (page_parts title zones report)
-    → IsWithoutMarkup title report.records page
-without_markup title zones report page bytes hold is = record {
-  parts = page_parts title zones report;
-  page_is = is;
-  foreign = of-page title zones report;
-  texts = subst (λ (xs : List (List ℕ)). All (λ (bytes : List ℕ). IsText (escaped bytes)) xs)
-      (sym (of-page title zones report))
-      (All-cons (λ (bytes : List ℕ). IsText (escaped bytes)) title (map readable report.records)
-      (is-text title bytes) (texts-of report.records hold));
-}
+    → HoldBytes report.records → TellsBytes (death_told report.records)
+    → page ≡ parts_text (page_parts title zones report) → IsWithoutMarkup title report.records page
+without_markup title zones report page bytes hold tells is =
+    let records = map readable report.records in
+    let died = died_bytes (death_told report.records) in
+    record {
+      parts = page_parts title zones report;
+      page_is = is;
+      foreign = of-page title zones report;
+      texts = subst EscapeToTexts (sym (of-page title zones report))
+          (onto title (died ++ records) (is-text title bytes)
+          (texts-died (death_told report.records) records tells (texts-of report.records hold)));
+    }
 
 -- ---- what people read of records are bytes
 

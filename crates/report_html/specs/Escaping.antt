@@ -1,8 +1,10 @@
 -- What of a page is its own, and what comes from elsewhere
-use Rattle.std.specs.Prelude.{◌≡◌, ℕ, List, [], ◌∷◌, map, flat_map, slice_get, All, Some}
+use Rattle.std.specs.Prelude.{◌≡◌, ℕ, List, [], ◌∷◌, map, flat_map, ◌++◌, slice_get, All, ⊤, Option, Some, None}
 use Rattle.zone_spec.specs.Parts.{AreBytes}
 use Rattle.report_spec.specs.Escaped.{escaped, IsText}
 use Rattle.report_spec.specs.Packed.{RecordShown, readable}
+use Rattle.report_spec.specs.Deaths.{DeathTold, death_told}
+use Rattle.report_html.specs.Died.{died_bytes}
 use Rattle.report_html.specs.Pieces.{Part, Words, Count, Bytes, parts_text}
 
 abbrev pub foreign_in : Part → List (List ℕ)
@@ -18,11 +20,15 @@ foreign_of parts = flat_map foreign_in parts
 abbrev pub HoldBytes : List RecordShown → Type 0
 HoldBytes records = (k : ℕ) (r : RecordShown) → slice_get records k ≡ Some r → AreBytes (readable r)
 
--- a page whose foreign bytes are its title and what people read of its
--- records, in order, each escaped to text without
--- markup. All else are the page's own words and numbers
+-- what people read of the record that tells are bytes
+abbrev pub TellsBytes : Option DeathTold → Type 0
+TellsBytes None = ⊤
+TellsBytes (Some t) = AreBytes (readable t.teller)
+
+-- a page whose foreign bytes are its title, parts of the text that tells why the machine died, and what people read of
+-- its records, in order, each escaped to text without markup. All else are the page's own words and numbers
 pub record IsWithoutMarkup (title : List ℕ) (records : List RecordShown) (page : List ℕ) : Type 0 where
   pub parts : List Part
   pub page_is : page ≡ parts_text parts
-  pub foreign : foreign_of parts ≡ title ∷ map readable records
+  pub foreign : foreign_of parts ≡ title ∷ died_bytes (death_told records) ++ map readable records
   pub texts : All (λ (bytes : List ℕ). IsText (escaped bytes)) (foreign_of parts)

@@ -1,30 +1,16 @@
 -- The page of a report
-use Rattle.std.specs.Prelude.{ℕ, if◌then◌else◌, List, [], ◌∷◌, ◌++◌, length, flat_map, codes, Option, Some, None}
-use Rattle.zone_spec.specs.declared.Name.{Name}
-use Rattle.zone_spec.specs.declared.Name.TheVariants.{Dump, Console, Pmsg, Ftrace}
-use Rattle.zone_spec.specs.declared.Time.{Time}
+use Rattle.std.specs.Prelude.{ℕ, List, [], ◌∷◌, ◌++◌, length, flat_map, codes}
 use Rattle.zone_spec.specs.declared.Zone.{Zone}
 use Rattle.report_spec.specs.declared.Packing.{Packing}
 use Rattle.report_spec.specs.declared.Packing.TheVariants.{Plain, Whole, Part as PartOfText}
 use Rattle.report_spec.specs.Packed.{RecordShown, fault_words, readable}
+use Rattle.report_spec.specs.Deaths.{death_told}
 use Rattle.record_report.specs.Reports.{ReportHeld}
 use Rattle.report_html.specs.declared.page.TheConstants.{STYLE}
 use Rattle.report_html.specs.Pieces.{Part, Words, Count, Bytes, parts_text}
+use Rattle.report_html.specs.Names.{name_parts, time_parts}
+use Rattle.report_html.specs.Died.{died_parts}
 use Rattle.report_html.specs.Pictures.{picture}
-
-abbrev pub name_parts : Name → List Part
-name_parts (Dump index packed) =
-    Words (codes "dmesg-ramoops-") ∷ Count index ∷ Words (if packed then codes ".enc.z" else []) ∷ []
-name_parts Console = Words (codes "console-ramoops-0") ∷ []
-name_parts Pmsg = Words (codes "pmsg-ramoops-0") ∷ []
-name_parts Ftrace = Words (codes "ftrace-ramoops-0") ∷ []
-
-abbrev pub seconds_parts : Time → List Part
-seconds_parts time = Words (codes ", ") ∷ Count time.secs ∷ Words (codes " seconds since 1970") ∷ []
-
-abbrev pub time_parts : Option Time → List Part
-time_parts None = []
-time_parts (Some time) = seconds_parts time
 
 abbrev pub length_parts : ℕ → List Part
 length_parts bytes = Words (codes ", bytes: ") ∷ Count bytes ∷ []
@@ -58,11 +44,11 @@ heading_parts title =
     Words head_words ∷ Words STYLE.now ∷ Words (codes "</style>\n</head>\n<body>\n<h1>") ∷ Bytes title
     ∷ Words (codes "</h1>\n") ∷ []
 
--- the heading, the picture of the zones, and the records
+-- the heading, why the machine died, the picture of the zones, and the records
 abbrev pub page_parts : List ℕ → List Zone → ReportHeld → List Part
 page_parts title zones report =
-    heading_parts title ++ picture zones report ++ flat_map record_parts report.records
-    ++ Words (codes "</body>\n</html>\n") ∷ []
+    heading_parts title ++ died_parts (death_told report.records) ++ picture zones report
+    ++ flat_map record_parts report.records ++ Words (codes "</body>\n</html>\n") ∷ []
 
 -- the page under this title of the report of these zones
 unfoldable pub page_of : List ℕ → List Zone → ReportHeld → List ℕ

@@ -3,9 +3,12 @@ ghost use Rattle.std.specs.Prelude.{◌≡◌, ◌++◌, flat_map, IfOk, OnOk};
 ghost use Rattle.zone_spec.specs.Parts.{AreBytes};
 ghost use Rattle.report_spec.specs.Packed.{readable};
 ghost use Rattle.report_html.specs.Pieces.{parts};
-ghost use Rattle.report_html.specs.Pages.{name_parts, seconds_parts, time_parts, length_parts, packing_parts, content_parts, record_parts, heading_parts, page_parts, page_of};
-ghost use Rattle.report_html.specs.Escaping.{HoldBytes, IsWithoutMarkup};
+ghost use Rattle.report_html.specs.Names.{name_parts, seconds_parts, time_parts};
+ghost use Rattle.report_html.specs.Pages.{length_parts, packing_parts, content_parts, record_parts, heading_parts, page_parts, page_of};
+ghost use Rattle.report_spec.specs.Deaths.{death_told};
+ghost use Rattle.report_html.specs.Escaping.{HoldBytes, TellsBytes, IsWithoutMarkup};
 
+use crate::died::add_died;
 use crate::picture::add_picture;
 use crate::pieces::{Piece, add, render};
 use box_io::Bytes;
@@ -30,7 +33,7 @@ svg { width: 100%; height: 120px; }\nrect { stroke: var(--bg); vector-effect: no
 pre { white-space: pre-wrap; overflow-wrap: anywhere; }\n";
 
 /// Adds what names a record.
-fn add_name(pieces: &mut Vec<Piece<'_>>, name: Name) -> Result<(), AllocError>
+pub fn add_name(pieces: &mut Vec<Piece<'_>>, name: Name) -> Result<(), AllocError>
     ensures { OnOk result (parts pieces.new.items ≡ parts pieces.old.items ++ name_parts name) }
 {
     match name {
@@ -61,7 +64,7 @@ fn add_seconds(pieces: &mut Vec<Piece<'_>>, time: Time) -> Result<(), AllocError
     )
 }
 
-fn add_time(pieces: &mut Vec<Piece<'_>>, time: Option<Time>) -> Result<(), AllocError>
+pub fn add_time(pieces: &mut Vec<Piece<'_>>, time: Option<Time>) -> Result<(), AllocError>
     ensures { OnOk result (parts pieces.new.items ≡ parts pieces.old.items ++ time_parts time) }
 {
     match time {
@@ -165,11 +168,13 @@ fn all_pieces<'a>(
     report: &'a Report,
 ) -> Result<Vec<Piece<'a>>, AllocError>
     ensures bytes { OnOk result (HoldBytes report.entry.now.records) }
+    ensures tells { OnOk result (TellsBytes (death_told report.entry.now.records)) }
     ensures parts { IfOk result (λ pieces. parts pieces.items
         ≡ page_parts title.entry.now zones.now report.entry.now) }
 {
     let mut pieces = Vec::new(alloc);
     add_heading(&mut pieces, title)?;
+    add_died(&mut pieces, report.records())?;
     add_picture(&mut pieces, zones, report)?;
     add_records(&mut pieces, report.records())?;
     add(&mut pieces, &[Piece::Own("</body>\n</html>\n")])?;

@@ -25,12 +25,18 @@ use Rattle.zone_spec.specs.Reading.{ZoneReading}
 use Rattle.zone_spec.specs.Records.{Saved}
 use Rattle.old_log.specs.Saving.{saved}
 use Rattle.pstore_names.specs.Counts.{corrected_in, bad_in}
+use Rattle.death_spec.specs.declared.Line.{Line}
+use Rattle.death_spec.specs.declared.Span.{Span}
+use Rattle.death_spec.specs.declared.Death.{Death}
+use Rattle.death_spec.specs.Lines.{part}
+use Rattle.death_spec.specs.Reports.{trace_of}
 use Rattle.report_spec.specs.declared.PartState.{PartState}
 use Rattle.report_spec.specs.declared.PartState.TheVariants.{Read, Bad}
 use Rattle.report_spec.specs.Parts.{PartStates}
 use Rattle.report_spec.specs.declared.Packing.{Packing}
 use Rattle.report_spec.specs.declared.Packing.TheVariants.{Plain, Whole, Part}
-use Rattle.report_spec.specs.Packed.{RecordShown, fault_words}
+use Rattle.report_spec.specs.Packed.{RecordShown, fault_words, readable}
+use Rattle.report_spec.specs.Deaths.{DeathTold, death_told}
 use Rattle.record_report.specs.Reports.{ReportHeld}
 
 abbrev pub count : ℕ → Data
@@ -176,23 +182,68 @@ pub record AreZones (zones : List Zone) (readings : List (Option ZoneReading)) (
   pub count_same : length values ≡ n
   pub each : (i : ℕ) (d : Data) → i < n → slice_get values i ≡ Some d → IsZoneAt zones readings parts i d
 
-abbrev pub line_with : List ℕ → Data → Data → Data → Data
-line_with path parameters records zones = object (
+-- the longest front of bytes that is UTF-8
+abbrev pub front_data : List ℕ → Data
+front_data bytes = string (take (utf8_valid_len bytes) bytes)
+
+abbrev pub span_data : List ℕ → Span → Data
+span_data text span = front_data (part text span.start span.end)
+
+abbrev pub named_data : List ℕ → Option Span → Data
+named_data text None = null
+named_data text (Some span) = span_data text span
+
+-- what a line says
+abbrev pub said_data : List ℕ → Line → Data
+said_data text line = front_data (part text line.text line.end)
+
+abbrev pub second_data : List ℕ → Option Line → Data
+second_data text None = null
+second_data text (Some line) = said_data text line
+
+-- the functions of the call trace
+abbrev pub trace_data : List ℕ → Data
+trace_data text = array (items_of (map (span_data text) (trace_of text)))
+
+-- why the machine died by a record's text, with the record's name and the call trace
+abbrev pub death_with : List ℕ → Name → Death → Data → Data
+death_with text name death trace = object (
+    member (codes "cpu") (named_data text death.cpu) (
+    member (codes "function") (named_data text death.function) (
+    member (codes "kernel") (named_data text death.kernel) (
+    member (codes "line") (said_data text death.telling) (
+    member (codes "record") (string (name_text name)) (
+    member (codes "second") (second_data text death.second) (
+    member (codes "task") (named_data text death.task) (
+    member (codes "trace") trace no_members))))))))
+
+abbrev pub told_data : DeathTold → Data
+told_data t = death_with (readable t.teller) t.teller.name t.death (trace_data (readable t.teller))
+
+-- null where no record tells
+abbrev pub death_data : Option DeathTold → Data
+death_data None = null
+death_data (Some t) = told_data t
+
+abbrev pub line_with : Data → List ℕ → Data → Data → Data → Data
+line_with death path parameters records zones = object (
+    member (codes "death") death (
     member (codes "parameters") parameters (
     member (codes "path") (string path) (
     member (codes "records") records (
     member (codes "schema") (count 1) (
-    member (codes "zones") zones no_members)))))
+    member (codes "zones") zones no_members))))))
 
-abbrev pub line_data : List ℕ → Params → List Data → List Data → Data
-line_data path params zones records =
-    line_with path (parameters_data params) (array (items_of records)) (array (items_of zones))
+abbrev pub line_data : List RecordShown → List ℕ → Params → List Data → List Data → Data
+line_data shown path params zones records =
+    line_with (death_data (death_told shown)) path (parameters_data params) (array (items_of records))
+    (array (items_of zones))
 
 -- the line of a report: the tokens of this data, in order, with nothing between them
 pub record IsLine (path : List ℕ) (params : Params) (zones : List Zone) (report : ReportHeld) (text : List ℕ)
     : Type 0 where
   pub values : List Data
   pub each_zone : AreZones zones report.logs.readings report.parts (length zones) values
-  pub in_order : IsInOrder text (line_data path params values
+  pub in_order : IsInOrder text (line_data report.records path params values
       (map (record_data (saved report.logs)) report.records))
   pub compact : text ≡ print (tokens text)

@@ -1,8 +1,9 @@
 // The line of a report.
 ghost use Rattle.std.specs.Prelude.{◌≡◌, length, string_bytes, IfOk};
 ghost use Rattle.serde_json.specs.View.{view};
-ghost use Rattle.report_json.specs.Schema.{line_with, IsLine};
+ghost use Rattle.report_json.specs.Schema.{line_with, death_data, IsLine};
 
+use crate::deaths::death_value;
 use crate::records::record_values;
 use crate::zones::{parameters_value, zone_values};
 use record_report::Report;
@@ -15,14 +16,17 @@ const SCHEMA: u32 = 1;
 
 fn line_value(
     alloc: Global,
+    death: Value,
     path: &str,
     parameters: Value,
     records: Value,
     zones: Value,
 ) -> Result<Value, AllocError>
-    ensures { IfOk result (λ v. view v ≡ line_with path.now (view parameters) (view records) (view zones)) }
+    ensures { IfOk result (λ v. view v ≡ line_with (view death) path.now (view parameters) (view records)
+        (view zones)) }
 {
     json!(in alloc; {
+        "death": death,
         "parameters": parameters,
         "path": path,
         "records": records,
@@ -48,6 +52,7 @@ pub fn json(
     let records = Value::from(record_list);
     let zone_list = zone_values(alloc, zones, report.logs(), report.parts())?;
     let zones = Value::from(zone_list);
-    let value = line_value(alloc, path, parameters, records, zones)?;
+    let death = death_value(alloc, report.records())?;
+    let value = line_value(alloc, death, path, parameters, records, zones)?;
     value.to_string(alloc)
 }

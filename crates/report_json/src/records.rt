@@ -128,7 +128,7 @@ fn content_value(alloc: Global, logs: &Logs, held: &RecordReport) -> Result<Valu
 }
 
 /// The longest front of bytes that is UTF-8.
-fn utf8_front(bytes: &[u8]) -> &str
+pub fn utf8_front(bytes: &[u8]) -> &str
     ensures { result.now ≡ take (utf8_valid_len bytes.now) bytes.now }
 {
     let end = match from_utf8(bytes) {

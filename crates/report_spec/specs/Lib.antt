@@ -1,6 +1,8 @@
 pub mod Parts
 pub mod Records
 pub mod Packed
+pub mod Newest
+pub mod Deaths
 pub mod Escaped
 pub mod AsGiven
 pub mod Visible

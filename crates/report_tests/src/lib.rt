@@ -2,6 +2,8 @@
 #![tactic(auto)]
 
 #[cfg(test)]
+mod death_told_tests;
+#[cfg(test)]
 mod packed_dumps;
 #[cfg(test)]
 mod record_report_tests;
@@ -13,3 +15,5 @@ mod report_json_tests;
 mod report_text_tests;
 #[cfg(test)]
 mod report_tool_tests;
+#[cfg(test)]
+mod worked_deaths;

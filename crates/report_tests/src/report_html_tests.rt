@@ -1,5 +1,6 @@
 // Pages and escaped bytes.
 use crate::packed_dumps::{DAMAGED, WHOLE, report_on, zones_of};
+use crate::worked_deaths::{self, CONSOLE, NAMED, NONE};
 use box_io::Bytes;
 use record_report::report_of;
 use report_html::*;
@@ -114,6 +115,33 @@ red \\xc3</pre>",
             str::from_utf8(page.as_slice())?.contains(record),
             "{record}"
         );
+    }
+    Ok(())
+}
+
+#[test]
+fn why_it_died(rt: HostRuntime) -> Result<(), Fail> {
+    for (logs, died) in [
+        (
+            [NAMED, NONE, NONE, NONE],
+            "</h1>\n<pre>died: Kernel panic - not syncing: &lt;b&gt;\\xff  (dmesg-ramoops-0, \
+1764201858 seconds since 1970)
+      cpu 0, PID: 1 Comm: init, sysrq_handle_crash+0x16/0x20
+</pre>\n<svg ",
+        ),
+        (
+            [NONE, NONE, NONE, CONSOLE],
+            "</h1>\n<pre>died: Kernel panic - not syncing: sysrq triggered crash  (console-ramoops-0)\n</pre>\n<svg ",
+        ),
+        (
+            [NONE, NONE, NONE, NONE],
+            "</h1>\n<pre>died: no record tells why\n</pre>\n<svg ",
+        ),
+    ] {
+        let zones = worked_deaths::zones_of(rt.alloc())?;
+        let report = worked_deaths::report_on(rt.alloc(), logs)?;
+        let page = html(rt.alloc(), b"a", zones.zones(), &report)?;
+        assert!(rt; str::from_utf8(page.as_slice())?.contains(died), "{died}");
     }
     Ok(())
 }

@@ -1,5 +1,6 @@
 // Lines of worked images.
 use crate::packed_dumps::{DAMAGED, PARAMS, WHOLE, report_on, zones_of};
+use crate::worked_deaths::{self, CONSOLE, FATAL, NAMED, NONE, PANIC};
 use box_io::Bytes;
 use record_report::report_of;
 use report_json::*;
@@ -46,7 +47,7 @@ fn line_of(alloc: Global, text: &[u8]) -> Result<String, Fail> {
 fn record_as_text_and_in_base64(rt: HostRuntime) -> Result<(), Fail> {
     let line = line_of(rt.alloc(), b"abc")?;
     let front =
-        "{\"parameters\":{\"block_size\":128,\"console_size\":4096,\"cpus\":1,\"ecc\":0,\"ecc_console\":0,\
+        "{\"death\":null,\"parameters\":{\"block_size\":128,\"console_size\":4096,\"cpus\":1,\"ecc\":0,\"ecc_console\":0,\
 \"ecc_dump\":0,\"ecc_ftrace\":0,\"ecc_pmsg\":0,\"ftrace_sig\":0,\"ftrace_size\":0,\"mem_size\":4096,\"pmsg_size\":0,\
 \"record_size\":0},\"path\":\"a\\\"b\",\"records\":[{\"bad\":0,\"base64\":null,\"compressed\":false,\
 \"corrected\":0,\"fault\":null,\"name\":\"console-ramoops-0\",\"taken\":null,\"text\":\"abc\",\"time\":null}],\"schema\":1,\"zones\":[{\"bad\":0,\"blocks\":[0,null";
@@ -96,6 +97,48 @@ fn compressed_dumps(rt: HostRuntime) -> Result<(), Fail> {
         }
         let line = json(rt.alloc(), "a", &PARAMS, zones.zones(), &report)?;
         assert!(rt; line.as_str().contains(record), "{record}");
+    }
+    Ok(())
+}
+
+// A line ends before the first byte that is no UTF-8. A part that is not named is null.
+#[test]
+fn why_it_died(rt: HostRuntime) -> Result<(), Fail> {
+    for (logs, death) in [
+        (
+            [NAMED, NONE, NONE, NONE],
+            "{\"death\":{\"cpu\":\"0\",\"function\":\"sysrq_handle_crash+0x16/0x20\",\"kernel\":\"Not tainted 6.1.0 #1\",\
+\"line\":\"Kernel panic - not syncing: <b>\",\"record\":\"dmesg-ramoops-0\",\"second\":null,\
+\"task\":\"PID: 1 Comm: init\",\"trace\":[\"panic\",\"sysrq_handle_crash\"]},\"parameters\":",
+        ),
+        (
+            [NONE, PANIC, NONE, CONSOLE],
+            "{\"death\":{\"cpu\":null,\"function\":null,\"kernel\":null,\
+\"line\":\"Kernel panic - not syncing: sysrq triggered crash\",\"record\":\"dmesg-ramoops-1\",\"second\":null,\
+\"task\":null,\"trace\":[]},\"parameters\":",
+        ),
+        (
+            [NONE, NONE, NONE, FATAL],
+            "{\"death\":{\"cpu\":null,\"function\":null,\"kernel\":null,\"line\":\"Oops: a\",\
+\"record\":\"console-ramoops-0\",\"second\":\"Kernel panic - not syncing: Fatal exception\",\
+\"task\":null,\"trace\":[]},\"parameters\":",
+        ),
+    ] {
+        let zones = worked_deaths::zones_of(rt.alloc())?;
+        let report = worked_deaths::report_on(rt.alloc(), logs)?;
+        if report.logs().len() as usize != zones.zones().len()
+            || report.parts().len() != zones.zones().len()
+        {
+            return Err(Fail::from("the report has other zones"));
+        }
+        let line = json(
+            rt.alloc(),
+            "a",
+            &worked_deaths::PARAMS,
+            zones.zones(),
+            &report,
+        )?;
+        assert!(rt; line.as_str().starts_with(death), "{death}");
     }
     Ok(())
 }

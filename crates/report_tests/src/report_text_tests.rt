@@ -1,5 +1,6 @@
 // Texts of worked images, and dates in them.
 use crate::packed_dumps::{DAMAGED, WHOLE, image_of, zones_of};
+use crate::worked_deaths::{self, CONSOLE, NAMED, NONE, OOPS, PANIC};
 use box_io::Bytes;
 use record_report::report_of;
 use report_text::text;
@@ -26,6 +27,7 @@ const PARAMS: Params = Params {
 
 const TEXT: &str = "a\\x1bb
 zones 2, records 2
+died: no record tells why
 
 zone          state        place     size      start       used corrected   bad
 dump        0 found            0     4096         38         38         0     0
@@ -124,6 +126,42 @@ last lines of the newest dump
     ] {
         let text = shown_packed(rt.alloc(), packed)?;
         assert!(rt; str::from_utf8(text.as_slice())?.ends_with(tail), "{tail}");
+    }
+    Ok(())
+}
+
+#[test]
+fn why_it_died(rt: HostRuntime) -> Result<(), Fail> {
+    for (logs, died) in [
+        (
+            [NAMED, NONE, NONE, NONE],
+            "died: Kernel panic - not syncing: <b>\\xff  (dmesg-ramoops-0, 2025-11-27 00:04:18.836908 UTC)
+      cpu 0, PID: 1 Comm: init, sysrq_handle_crash+0x16/0x20
+",
+        ),
+        (
+            [OOPS, PANIC, NONE, CONSOLE],
+            "died: Kernel panic - not syncing: sysrq triggered crash  (dmesg-ramoops-1, \
+2026-11-26 23:44:14.688627 UTC)
+",
+        ),
+        (
+            [NONE, NONE, NONE, CONSOLE],
+            "died: Kernel panic - not syncing: sysrq triggered crash  (console-ramoops-0)
+",
+        ),
+    ] {
+        let zones = worked_deaths::zones_of(rt.alloc())?;
+        let report = worked_deaths::report_on(rt.alloc(), logs)?;
+        if report.logs().len() as usize != zones.zones().len() {
+            return Err(Fail::from("the report has other zones"));
+        }
+        let text = text(rt.alloc(), b"a", zones.zones(), &report)?;
+        let wanted = format!(in rt.alloc(); "{died}\nzone ")?;
+        assert!(rt;
+            str::from_utf8(text.as_slice())?.contains(wanted.as_str()),
+            "{died}"
+        );
     }
     Ok(())
 }

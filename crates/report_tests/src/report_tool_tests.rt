@@ -50,12 +50,12 @@ fn each_format(rt: HostRuntime) -> Result<(), Fail> {
     for (format, front, piece) in [
         (
             Format::Text,
-            "a.img\nzones 1, records 1\n",
+            "a.img\nzones 1, records 1\ndied: no record tells why\n",
             "console-ramoops-0\n",
         ),
         (
             Format::Json,
-            "{\"parameters\":{\"block_size\":128,",
+            "{\"death\":null,\"parameters\":{\"block_size\":128,",
             "\"text\":\"a<\\n\"",
         ),
         (

@@ -2,5 +2,5 @@ pub mod Pieces
 pub mod Tables
 pub mod Tails
 pub mod Rows
-pub mod Newest
+pub mod Died
 pub mod Whole

@@ -80,17 +80,17 @@ IsTime (Some time) shown = IsDated time shown ⊎ IsUndated time shown
 
 abbrev pub name_parts : Name → List Part
 name_parts (Dump index packed) =
-    Words (codes "dmesg-ramoops-") ∷ Count 1 index ∷ Words (if packed then codes ".enc.z" ++ 10 ∷ [] else 10 ∷ [])
-    ∷ []
-name_parts Console = Words (codes "console-ramoops-0" ++ 10 ∷ []) ∷ []
-name_parts Pmsg = Words (codes "pmsg-ramoops-0" ++ 10 ∷ []) ∷ []
-name_parts Ftrace = Words (codes "ftrace-ramoops-0" ++ 10 ∷ []) ∷ []
+    Words (codes "dmesg-ramoops-") ∷ Count 1 index ∷ Words (if packed then codes ".enc.z" else []) ∷ []
+name_parts Console = Words (codes "console-ramoops-0") ∷ []
+name_parts Pmsg = Words (codes "pmsg-ramoops-0") ∷ []
+name_parts Ftrace = Words (codes "ftrace-ramoops-0") ∷ []
 
 -- the length of a record's content, its time, and its name
 pub record IsRecordRow (r : RecordShown) (row : List Part) : Type 0 where
   pub time : List Part
   pub is_time : IsTime r.time time
   pub row_is : row ≡ Count 10 (length r.content) ∷ Words (codes "  ") ∷ time ++ Words (codes "  ") ∷ name_parts r.name
+      ++ Words (10 ∷ []) ∷ []
 
 -- a row for each record, in order
 abbrev pub AreRecordRows : List RecordShown → List Part → Type 0

@@ -1,7 +1,5 @@
 -- The last lines of a record
 use Rattle.std.specs.Prelude.{ℕ, ◌+◌, Bool, true, false, ◌&&◌, not, ◌==◌, nat_lt, if◌then◌else◌, List, [], ◌∷◌, ◌++◌, flat_map, codes, Option, Some, None}
-use Rattle.zone_spec.specs.declared.Name.{Name}
-use Rattle.zone_spec.specs.declared.Name.TheVariants.{Dump, Console, Pmsg, Ftrace}
 use Rattle.report_spec.specs.Escaped.{is_plain}
 use Rattle.report_spec.specs.declared.Packing.{Packing}
 use Rattle.report_spec.specs.declared.Packing.TheVariants.{Plain, Whole, Part as PartOfText}
@@ -50,12 +48,6 @@ abbrev pub rows_parts : List (List ℕ) → List Part
 rows_parts rows = flat_map row_parts rows
 
 -- ---- a record's end
-
-abbrev pub is_console : Name → Bool
-is_console (Dump index packed) = false
-is_console Console = true
-is_console Pmsg = false
-is_console Ftrace = false
 
 abbrev pub tail_rows : List ℕ → List Part
 tail_rows bytes = rows_parts (rows_from [] 0 (last_lines bytes))

@@ -1,18 +1,20 @@
 -- The whole text of a report
-use Rattle.std.specs.Prelude.{◌≡◌, ℕ, List, [], ◌∷◌, ◌++◌, length, flat_map, find, codes, Option}
+use Rattle.std.specs.Prelude.{◌≡◌, ℕ, List, [], ◌∷◌, ◌++◌, length, flat_map, codes}
 use Rattle.old_log.specs.Saving.{SavedLogs, saved}
 use Rattle.report_spec.specs.Packed.{RecordShown}
+use Rattle.report_spec.specs.Newest.{newest, console_of}
+use Rattle.report_spec.specs.Deaths.{death_told}
 use Rattle.record_report.specs.Reports.{ReportHeld}
-use Rattle.report_text.specs.Newest.{newest}
 use Rattle.report_text.specs.Pieces.{Part, Words, Count, Bytes, parts_text}
 use Rattle.report_text.specs.Tables.{zone_row, AreRecordRows}
-use Rattle.report_text.specs.Tails.{is_console, tail_parts}
+use Rattle.report_text.specs.Tails.{tail_parts}
+use Rattle.report_text.specs.Died.{IsDied}
 
 -- the title, and how many zones and records there are
 abbrev pub heading_parts : List ℕ → ReportHeld → List Part
 heading_parts title r =
     Bytes title ∷ Words (10 ∷ codes "zones ") ∷ Count 1 (length r.logs.zones) ∷ Words (codes ", records ")
-    ∷ Count 1 (length r.records) ∷ Words (10 ∷ 10 ∷ []) ∷ []
+    ∷ Count 1 (length r.records) ∷ Words (10 ∷ []) ∷ []
 
 -- a head, and a row for each zone
 abbrev pub zone_table : SavedLogs → List Part
@@ -25,18 +27,17 @@ abbrev pub IsRecordTable : List RecordShown → List Part → Type 0
 IsRecordTable records table = (rows : List Part) × AreRecordRows records rows
     × (table ≡ Words (10 ∷ codes "     bytes  time                            record" ++ 10 ∷ []) ∷ rows)
 
-abbrev pub console_of : List RecordShown → Option RecordShown
-console_of records = find (λ (r : RecordShown). is_console r.name) records
-
 -- the last lines of the newest dump and of the console
 abbrev pub tails : List RecordShown → List Part
 tails records =
     tail_parts (10 ∷ codes "last lines of the newest dump" ++ 10 ∷ []) (newest records)
     ++ tail_parts (10 ∷ codes "last lines of the console" ++ 10 ∷ []) (console_of records)
 
+-- the heading, why the machine died, a free line, the tables, and the last lines
 abbrev pub AreParts : List ℕ → ReportHeld → List Part → Type 0
-AreParts title r parts = (table : List Part) × IsRecordTable r.records table
-    × (parts ≡ heading_parts title r ++ zone_table r.logs ++ table ++ tails r.records)
+AreParts title r parts = (died table : List Part) × IsDied (death_told r.records) died
+    × IsRecordTable r.records table
+    × (parts ≡ heading_parts title r ++ died ++ Words (10 ∷ []) ∷ [] ++ zone_table r.logs ++ table ++ tails r.records)
 
 -- the text under this title
 pub record IsTextOf (title : List ℕ) (report : ReportHeld) (text : List ℕ) : Type 0 where

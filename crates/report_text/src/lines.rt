@@ -2,16 +2,14 @@
 ghost use Rattle.std.specs.Prelude.{◌≡◌, ◌≤◌, ◌++◌, [], drop, length, OnOk};
 ghost use Rattle.std.specs.Option.{option_copied};
 ghost use Rattle.report_text.specs.Pieces.{parts};
-ghost use Rattle.report_text.specs.Tails.{last_lines, rows_from, row_parts, rows_parts, columns, is_console, break_parts, tail_parts};
-ghost use Rattle.report_text.specs.Whole.{console_of, tails};
+ghost use Rattle.report_text.specs.Tails.{last_lines, rows_from, row_parts, rows_parts, columns, break_parts, tail_parts};
+ghost use Rattle.report_text.specs.Whole.{tails};
 
-use crate::newest::newest_dump;
 use crate::pieces::{Piece, add};
 use crate::visible::is_plain;
 use box_io::Bytes;
-use record_report::{Packing, RecordReport};
+use record_report::{Packing, RecordReport, console, newest_dump};
 use std::alloc::AllocError;
-use zone_spec::Name;
 
 const LINES: usize = 10;
 
@@ -117,26 +115,6 @@ fn add_tail<'a>(
         }
         None => Ok(()),
     }
-}
-
-fn is_console(entry: &RecordReport) -> bool
-    ensures { result ≡ is_console entry.now.name }
-{
-    match entry.name {
-        Name::Console => true,
-        Name::Dump { .. } | Name::Pmsg | Name::Ftrace => false,
-    }
-}
-
-fn console(records: &[RecordReport]) -> Option<&RecordReport>
-    ensures { option_copied result ≡ console_of records.now }
-{
-    for entry in records {
-        if is_console(entry) {
-            return Some(entry);
-        }
-    }
-    None
 }
 
 /// Adds the last lines of the newest dump and of the console.

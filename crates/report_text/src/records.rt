@@ -81,7 +81,7 @@ fn add_time_or_blanks(pieces: &mut Vec<Piece<'_>>, time: Option<Time>) -> Result
     }
 }
 
-fn add_name(pieces: &mut Vec<Piece<'_>>, name: Name) -> Result<(), AllocError>
+pub fn add_name(pieces: &mut Vec<Piece<'_>>, name: Name) -> Result<(), AllocError>
     ensures { OnOk result (parts pieces.new.items ≡ parts pieces.old.items ++ name_parts name) }
 {
     match name {
@@ -90,12 +90,12 @@ fn add_name(pieces: &mut Vec<Piece<'_>>, name: Name) -> Result<(), AllocError>
             &[
                 Piece::Own("dmesg-ramoops-"),
                 Piece::Number(1, u64::from(index)),
-                Piece::Own(if packed { ".enc.z\n" } else { "\n" }),
+                Piece::Own(if packed { ".enc.z" } else { "" }),
             ],
         ),
-        Name::Console => add(pieces, &[Piece::Own("console-ramoops-0\n")]),
-        Name::Pmsg => add(pieces, &[Piece::Own("pmsg-ramoops-0\n")]),
-        Name::Ftrace => add(pieces, &[Piece::Own("ftrace-ramoops-0\n")]),
+        Name::Console => add(pieces, &[Piece::Own("console-ramoops-0")]),
+        Name::Pmsg => add(pieces, &[Piece::Own("pmsg-ramoops-0")]),
+        Name::Ftrace => add(pieces, &[Piece::Own("ftrace-ramoops-0")]),
     }
 }
 
@@ -106,7 +106,8 @@ fn add_record(pieces: &mut Vec<Piece<'_>>, entry: &RecordReport) -> Result<(), A
     add(pieces, &[Piece::Number(10, bytes), Piece::Own("  ")])?;
     add_time_or_blanks(pieces, entry.time)?;
     add(pieces, &[Piece::Own("  ")])?;
-    add_name(pieces, entry.name)
+    add_name(pieces, entry.name)?;
+    add(pieces, &[Piece::Own("\n")])
 }
 
 /// Adds a row for each record: the length of its content, a dump's time, and its name.

@@ -5,6 +5,7 @@ ghost use Rattle.report_spec.specs.Visible.{is_visible};
 ghost use Rattle.report_text.specs.Pieces.{parts};
 ghost use Rattle.report_text.specs.Whole.{AreParts, IsTextOf};
 
+use crate::died::add_died;
 use crate::lines::add_tails;
 use crate::pieces::{Piece, add, render};
 use crate::records::add_records;
@@ -34,18 +35,20 @@ fn all_pieces<'a>(
             Piece::Number(1, zones.len() as u64),
             Piece::Own(", records "),
             Piece::Number(1, records.len() as u64),
-            Piece::Own("\n\n"),
+            Piece::Own("\n"),
         ],
     )?;
+    add_died(&mut pieces, records)?;
+    add(&mut pieces, &[Piece::Own("\n")])?;
     add_zones(&mut pieces, zones, report.logs())?;
     add_records(&mut pieces, records)?;
     add_tails(&mut pieces, records)?;
     Ok(pieces)
 }
 
-/// The text of the report of these zones, headed by `title`, such as the image's path: the zones, the records, and the
-/// last lines of the newest dump and of the console. No byte of it but printable ASCII, tabs and newlines, whatever the
-/// title and the records are.
+/// The text of the report of these zones, headed by `title`, such as the image's path: why the machine died, the zones,
+/// the records, and the last lines of the newest dump and of the console. No byte of it but printable ASCII, tabs and
+/// newlines, whatever the title and the records are.
 pub fn text(
     alloc: Global,
     title: &[u8],

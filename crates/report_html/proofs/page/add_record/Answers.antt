@@ -3,7 +3,8 @@ use Rattle.std.proofs.Common.{◌≡◌, ◌++◌, ◌∙◌, List, [], ◌∷�
 use Rattle.zone_spec.specs.Parts.{AreBytes}
 use Rattle.report_spec.specs.Packed.{RecordShown, readable}
 use Rattle.report_html.specs.Pieces.{Part, Words, parts}
-use Rattle.report_html.specs.Pages.{name_parts, length_parts, time_parts, packing_parts, content_parts}
+use Rattle.report_html.specs.Names.{name_parts, time_parts}
+use Rattle.report_html.specs.Pages.{length_parts, packing_parts, content_parts}
 use Rattle.report_html.proofs.Joined.{joined}
 use Rattle.report_html.proofs.page.add_record.Goals as goal
 

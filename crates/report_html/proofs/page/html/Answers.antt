@@ -17,7 +17,7 @@ pub returns-clause-no_markup : goal.returns-clause-no_markup
 unfolding page_of
 returns-clause-no_markup c =
     without_markup c.args.title.now c.args.zones.now c.args.report.now c.in_ok-text.text.items
-    (λ i. (c.type_inv.title i).fits) c.in_ok-pieces.ensures.bytes
+    (λ i. (c.type_inv.title i).fits) c.in_ok-pieces.ensures.bytes c.in_ok-pieces.ensures.tells
     (c.in_ok-text.ensures
     ∙ ap (λ (ps : List Piece). parts_text (parts ps)) c.as_slice.ensures.value
     ∙ ap (λ (ps : List Part). parts_text ps) c.in_ok-pieces.ensures.parts)

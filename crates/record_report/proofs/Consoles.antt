@@ -4,8 +4,8 @@ use Rattle.std.specs.Prelude.{Some, None, if◌then◌else◌}
 use Rattle.std.proofs.lemmas.List.{drop_more}
 use Rattle.std.proofs.Math.ListN.{drop_of_length-le}
 use Rattle.report_spec.specs.Packed.{RecordShown}
-use Rattle.report_text.specs.Tails.{is_console}
-use Rattle.report_text.specs.Whole.{console_of}
+use Rattle.report_spec.specs.Newest.{is_console}
+use Rattle.report_spec.specs.Newest.{console_of}
 
 at-here : (records : List RecordShown) (i : ℕ) (x : RecordShown) → i < length records → x ≡ get_or records i x
     → drop i records ≡ x ∷ drop (i + 1) records

@@ -1,8 +1,8 @@
 -- Each record is the console or is passed
 use Rattle.std.proofs.Common.{◌∙◌, sym, arith}
 use Rattle.report_spec.specs.Packed.{RecordShown}
-use Rattle.report_text.proofs.Ends.{console-here, console-behind, no-console}
-use Rattle.report_text.proofs.lines.console.Goals as goal
+use Rattle.record_report.proofs.Consoles.{console-here, console-behind, no-console}
+use Rattle.record_report.proofs.newest.console.Goals as goal
 
 pub returns-then-is_console : goal.returns-then-is_console
 returns-then-is_console c =

@@ -12,7 +12,7 @@ use Rattle.std.proofs.lemmas.Bool.Decides.{nat_tests}
 use Rattle.zone_spec.specs.declared.Time.{Time}
 use Rattle.zone_params.proofs.Faultless.{or_clear}
 use Rattle.report_spec.specs.Packed.{RecordShown}
-use Rattle.report_text.specs.Newest.{is_later, later_than, is_newer, newer_of, newest}
+use Rattle.report_spec.specs.Newest.{is_later, later_than, is_newer, newer_of, newest}
 
 no-later : (t s u : Time) → is_later t u ≡ false → is_later s u ≡ true → is_later t s ≡ false
 no-later t s u e f = grind (arith, nat_tests, e, f)

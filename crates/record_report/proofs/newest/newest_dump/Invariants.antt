@@ -3,8 +3,8 @@ use Rattle.std.proofs.Common.{◌≡◌, false, take}
 use Rattle.std.specs.Prelude.{IfSome, IsSome}
 use Rattle.std.specs.Option.{option_copied}
 use Rattle.std.specs.List.{list_any}
-use Rattle.report_text.specs.Newest.{is_newer, newest}
-use Rattle.report_text.proofs.newest.newest_dump.Given as goal
+use Rattle.report_spec.specs.Newest.{is_newer, newest}
+use Rattle.record_report.proofs.newest.newest_dump.Given as goal
 
 abbrev pub invariant-loop-entry : goal.invariant-loop-entry
 invariant-loop-entry l = record {

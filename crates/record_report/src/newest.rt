@@ -1,11 +1,11 @@
-// The newest dump of the records.
+// The newest dump and the console among the records.
 ghost use Rattle.std.specs.Prelude.{◌≡◌, false, IfSome, IsSome};
 ghost use Rattle.std.specs.Option.{option_copied};
 ghost use Rattle.std.specs.List.{list_any};
-ghost use Rattle.report_text.specs.Newest.{is_later, later_than, is_newer, newest};
+ghost use Rattle.report_spec.specs.Newest.{is_later, later_than, is_newer, newest, is_console, console_of};
 
-use record_report::RecordReport;
-use zone_spec::Time;
+use crate::shown::RecordReport;
+use zone_spec::{Name, Time};
 
 fn is_later(time: Time, other: Time) -> bool
     ensures { result ≡ is_later time other }
@@ -47,4 +47,25 @@ pub fn newest_dump(records: &[RecordReport]) -> Option<&RecordReport>
         }
     }
     newest
+}
+
+fn is_console(entry: &RecordReport) -> bool
+    ensures { result ≡ is_console entry.now.name }
+{
+    match entry.name {
+        Name::Console => true,
+        Name::Dump { .. } | Name::Pmsg | Name::Ftrace => false,
+    }
+}
+
+/// The console's record.
+pub fn console(records: &[RecordReport]) -> Option<&RecordReport>
+    ensures { option_copied result ≡ console_of records.now }
+{
+    for entry in records {
+        if is_console(entry) {
+            return Some(entry);
+        }
+    }
+    None
 }

@@ -5,10 +5,10 @@ use Rattle.std.specs.Option.{option_copied}
 use Rattle.std.specs.Borrow.{Bor}
 use Rattle.std.proofs.lemmas.Option.{slice_get-get_or}
 use Rattle.report_spec.specs.Packed.{RecordShown}
-use Rattle.report_text.specs.Newest.{is_newer}
-use Rattle.report_text.proofs.Later.{newest-more, newest-held, newer-dated, dated-held}
-use Rattle.report_text.proofs.newest.newest_dump.Goals as goal
-use Rattle.report_text.proofs.newest.newest_dump.Goals.{then-is_newer, else-is_newer}
+use Rattle.report_spec.specs.Newest.{is_newer}
+use Rattle.record_report.proofs.Later.{newest-more, newest-held, newer-dated, dated-held}
+use Rattle.record_report.proofs.newest.newest_dump.Goals as goal
+use Rattle.record_report.proofs.newest.newest_dump.Goals.{then-is_newer, else-is_newer}
 
 pub loop-entry-preserved : goal.loop-entry-preserved
 loop-entry-preserved c =

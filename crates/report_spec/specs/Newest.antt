@@ -1,7 +1,9 @@
--- The newest dump
-use Rattle.std.specs.Prelude.{Bool, true, false, ◌&&◌, ◌||◌, ◌==◌, nat_lt, if◌then◌else◌, List, Option, Some, None}
+-- The newest dump, and the console
+use Rattle.std.specs.Prelude.{Bool, true, false, ◌&&◌, ◌||◌, ◌==◌, nat_lt, if◌then◌else◌, List, find, Option, Some, None}
 use Rattle.std.specs.Option.{option_and_then}
 use Rattle.std.specs.List.{fold}
+use Rattle.zone_spec.specs.declared.Name.{Name}
+use Rattle.zone_spec.specs.declared.Name.TheVariants.{Dump, Console, Pmsg, Ftrace}
 use Rattle.zone_spec.specs.declared.Time.{Time}
 use Rattle.report_spec.specs.Packed.{RecordShown}
 
@@ -25,3 +27,12 @@ newer_of held r = if is_newer r held then Some r else held
 -- the first of the records with the latest time
 abbrev pub newest : List RecordShown → Option RecordShown
 newest records = fold newer_of None records
+
+abbrev pub is_console : Name → Bool
+is_console (Dump index packed) = false
+is_console Console = true
+is_console Pmsg = false
+is_console Ftrace = false
+
+abbrev pub console_of : List RecordShown → Option RecordShown
+console_of records = find (λ (r : RecordShown). is_console r.name) records

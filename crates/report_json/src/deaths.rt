@@ -1,0 +1,121 @@
+// The value of why the machine died.
+ghost use Rattle.std.specs.Prelude.{◌≡◌, map, IfOk};
+ghost use Rattle.serde_json.specs.View.{view};
+ghost use Rattle.report_spec.specs.Deaths.{death_told};
+ghost use Rattle.record_report.specs.Tellers.{as_told};
+ghost use Rattle.report_json.specs.Schema.{front_data, span_data, named_data, said_data, second_data, trace_data, death_with, told_data, death_data};
+
+use crate::records::utf8_front;
+use arrayvec::ArrayString;
+use death::{part, trace};
+use death_spec::{Death, Line, Span};
+use pstore_names::name_text;
+use record_report::{RecordReport, Told, death_told};
+use serde_json::{Value, json};
+use std::alloc::{AllocError, Global};
+use zone_spec::Name;
+
+fn front_value(alloc: Global, bytes: &[u8]) -> Result<Value, AllocError>
+    ensures { IfOk result (λ v. view v ≡ front_data bytes.now) }
+{
+    Value::try_from_str(alloc, utf8_front(bytes))
+}
+
+fn span_value(alloc: Global, text: &[u8], span: Span) -> Result<Value, AllocError>
+    ensures { IfOk result (λ v. view v ≡ span_data text.now span) }
+{
+    front_value(alloc, part(text, span.start, span.end))
+}
+
+fn named_value(alloc: Global, text: &[u8], span: Option<Span>) -> Result<Value, AllocError>
+    ensures { IfOk result (λ v. view v ≡ named_data text.now span) }
+{
+    match span {
+        Some(span) => span_value(alloc, text, span),
+        None => Ok(Value::Null),
+    }
+}
+
+/// What a line says.
+fn said_value(alloc: Global, text: &[u8], line: Line) -> Result<Value, AllocError>
+    ensures { IfOk result (λ v. view v ≡ said_data text.now line) }
+{
+    front_value(alloc, part(text, line.text, line.end))
+}
+
+fn second_value(alloc: Global, text: &[u8], line: Option<Line>) -> Result<Value, AllocError>
+    ensures { IfOk result (λ v. view v ≡ second_data text.now line) }
+{
+    match line {
+        Some(line) => said_value(alloc, text, line),
+        None => Ok(Value::Null),
+    }
+}
+
+fn span_values(alloc: Global, text: &[u8], spans: &[Span]) -> Result<Vec<Value>, AllocError>
+    ensures { IfOk result (λ values. map view values.items ≡ map (span_data text.now) spans.now) }
+{
+    let mut values = Vec::with_capacity(alloc, spans.len())?;
+    for span in spans {
+        values.push(span_value(alloc, text, *span)?)?;
+    }
+    Ok(values)
+}
+
+/// The functions of the call trace.
+fn trace_value(alloc: Global, text: &[u8]) -> Result<Value, AllocError>
+    ensures { IfOk result (λ v. view v ≡ trace_data text.now) }
+{
+    let spans = trace(alloc, text)?;
+    let names = span_values(alloc, text, spans.as_slice())?;
+    Ok(Value::Array(names))
+}
+
+fn death_with(
+    alloc: Global,
+    text: &[u8],
+    name: Name,
+    death: Death,
+    trace: Value,
+) -> Result<Value, AllocError>
+    ensures { IfOk result (λ v. view v ≡ death_with text.now name death (view trace)) }
+{
+    let mut record_name = ArrayString::new();
+    name_text(name, &mut record_name);
+    let cpu = named_value(alloc, text, death.cpu)?;
+    let function = named_value(alloc, text, death.function)?;
+    let kernel = named_value(alloc, text, death.kernel)?;
+    let line = said_value(alloc, text, death.telling)?;
+    let second = second_value(alloc, text, death.second)?;
+    let task = named_value(alloc, text, death.task)?;
+    json!(in alloc; {
+        "cpu": cpu,
+        "function": function,
+        "kernel": kernel,
+        "line": line,
+        "record": record_name.as_str(),
+        "second": second,
+        "task": task,
+        "trace": trace
+    })
+}
+
+fn told_value(alloc: Global, told: &Told<'_>) -> Result<Value, AllocError>
+    ensures { IfOk result (λ v. view v ≡ told_data (as_told told.now)) }
+{
+    let teller: &RecordReport = told.teller;
+    let text = teller.readable();
+    let trace = trace_value(alloc, text)?;
+    death_with(alloc, text, teller.name, told.death, trace)
+}
+
+/// Why the machine died, as one of the records tells it, or null. Text that is no UTF-8 is cut before the first byte
+/// that isn't.
+pub fn death_value(alloc: Global, records: &[RecordReport]) -> Result<Value, AllocError>
+    ensures { IfOk result (λ v. view v ≡ death_data (death_told records.now)) }
+{
+    match death_told(records) {
+        Some(told) => told_value(alloc, &told),
+        None => Ok(Value::Null),
+    }
+}

@@ -1,0 +1,81 @@
+// Images of three dumps and a console, for the tests of why a machine died.
+use box_io::Bytes;
+use record_report::{Report, report_of};
+use std::alloc::Global;
+use std::test::Fail;
+use zone_params::types::Layout;
+use zone_params::{Params, layout};
+
+/// Lines of a dump that a real kernel made after an oops. It names a place in the code, which is of that oops.
+pub const PANIC: &[u8] = b"====1795736654.688627-D\nPanic#8 Part1\n\
+<4>[    2.989466] ---[ end trace 0000000000000000 ]---\n\
+<4>[    3.014227] RIP: 0010:lkdtm_EXCEPTION+0x8/0x14 [lkdtm]\n\
+<6>[    3.034160] sysrq: Trigger a crash\n\
+<0>[    3.034971] Kernel panic - not syncing: sysrq triggered crash\n\
+<0>[    3.036072] Kernel Offset: disabled\n";
+
+/// Lines of the dump before it.
+pub const OOPS: &[u8] = b"====1795736654.642000-D\nOops#7 Part1\n\
+<1>[    2.971909] BUG: kernel NULL pointer dereference, address: 0000000000000000\n\
+<4>[    2.973642] Oops: 0002 [#7] SMP\n\
+<4>[    2.973949] CPU: 0 PID: 40 Comm: init Tainted: G      D            6.1.192 #4 \n\
+<4>[    2.974496] RIP: 0010:lkdtm_EXCEPTION+0x8/0x14 [lkdtm]\n";
+
+/// Lines of the console of the same run.
+pub const CONSOLE: &[u8] = b"[    3.034160] sysrq: Trigger a crash\n\
+[    3.034971] Kernel panic - not syncing: sysrq triggered crash\n[    3.036072] Kernel Offset: disabled\n";
+
+/// A console of a fatal oops.
+pub const FATAL: &[u8] =
+    b"[    3.0] Oops: a\n[    3.1] Kernel panic - not syncing: Fatal exception\n";
+
+/// The log of an empty zone.
+pub const NONE: &[u8] = b"";
+
+/// A dump with all that a report names.
+pub const NAMED: &[u8] = b"====1764201858.836908-D\nPanic#1 Part1\n\
+<0>[    2.500000] Kernel panic - not syncing: <b>\xff\n\
+<4>[    2.600000] CPU: 0 PID: 1 Comm: init Not tainted 6.1.0 #1\n<4>[    2.700000] Call Trace:\n\
+<4>[    2.800000]  panic+0x1/0x2\n<4>[    2.900000]  sysrq_handle_crash+0x16/0x20\n";
+
+// Three dumps of 1024 bytes and a console of 1024.
+pub const PARAMS: Params = Params {
+    mem: 4096,
+    dump: 1024,
+    console: 1024,
+    ftrace: 0,
+    pmsg: 0,
+    ecc: 0,
+    cpus: 1,
+    ftrace_sig: 0,
+    block: 128,
+    ecc_dump: 0,
+    ecc_console: 0,
+    ecc_ftrace: 0,
+    ecc_pmsg: 0,
+};
+
+pub fn zones_of(alloc: Global) -> Result<Layout, Fail> {
+    Ok(layout(alloc, &PARAMS)?)
+}
+
+// The report of zones with these logs.
+pub fn report_on(alloc: Global, logs: [&[u8]; 4]) -> Result<Report, Fail> {
+    let mut bytes = Vec::new(alloc);
+    let mut end = 0usize;
+    for log in logs {
+        let used = u32::try_from(log.len())?.to_le_bytes();
+        bytes.extend_from_slice(b"DBGC")?;
+        bytes.extend_from_slice(&used)?;
+        bytes.extend_from_slice(&used)?;
+        bytes.extend_from_slice(log)?;
+        end = end.saturating_add(1024);
+        bytes.resize(end, 0)?;
+    }
+    let zones = zones_of(alloc)?;
+    let image = Bytes::from_vec(bytes);
+    if image.len() != zones.mem() as usize {
+        return Err(Fail::from("the image has another size"));
+    }
+    Ok(report_of(alloc, &zones, image)?)
+}
