@@ -8,7 +8,7 @@ mod making;
 mod moving;
 mod records;
 mod salvaging;
-mod script;
+mod ram_script;
 mod sharing;
 mod stores;
 mod work;

@@ -14,7 +14,7 @@ use crate::making::make;
 use crate::moving::move_image;
 use crate::records::{erase, extract, list};
 use crate::salvaging::{rescue, salvage};
-use crate::script::run_script;
+use crate::ram_script::run_script;
 use crate::sharing::run_shared_script;
 use box_io::{Sink, Source, Store};
 use crash_laws::later_boot_lists_crash;

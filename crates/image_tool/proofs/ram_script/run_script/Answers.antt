@@ -9,7 +9,7 @@ use Rattle.tool_frame.proofs.Script.{load_stopped, script_stopped, out_of_memory
 use Rattle.image_tool.proofs.ScriptEnds.{scripted, play_caused, play_stopped, play_saved, play_unsaved}
 use Rattle.image_tool.proofs.WorkEnds.{kept_same}
 use Rattle.image_tool.proofs.Due.{no_text, text_put, lines_put}
-use Rattle.image_tool.proofs.script.run_script.Goals as goal
+use Rattle.image_tool.proofs.ram_script.run_script.Goals as goal
 
 pub returns-in-Err-play-clause-work : goal.returns-in-Err-play-clause-work
 returns-in-Err-play-clause-work g c = record {
