@@ -7,8 +7,8 @@ ghost use Rattle.kmsg_dump.specs.Kept.{IsLine};
 
 use arrayvec::ArrayVec;
 use kmsg_dump::KLog;
+use rs_decode::{Decoded, Fix, decode, decode_with};
 use rs_encode::{Parity, parity_by};
-use rs_errors::{Decoded, Fix, decode, decode_with};
 use std::alloc::{AllocError, Global};
 use std::rt::Clock;
 use std::time::Instant;

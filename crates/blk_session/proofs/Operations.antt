@@ -1,7 +1,7 @@
 -- Calls on a loaded store as operations of the session, and these as lines
 use Rattle.std.proofs.Common.{◌≡◌, ◌≢◌, ℕ, ◌<◌, ◌==◌, Bool, true, false, if◌then◌else◌, List, [], Option, Some, None, Result, Ok, Err, refl, sym, ap, ◌∙◌, subst, arith, inr}
 use Rattle.std.specs.Prelude.{MatchResult}
-use Rattle.box_io.specs.Outside.{Rose}
+use Rattle.outside.specs.Outside.{Rose}
 use Rattle.blk_spec.specs.declared.BlkLayout.{BlkLayout}
 use Rattle.blk_spec.specs.declared.BlkRing.{BlkRing}
 use Rattle.blk_spec.specs.declared.BlkTime.{BlkTime}

@@ -1,7 +1,7 @@
 -- A line of a script done on the block store, and its text put
 use Rattle.std.specs.Prelude.{◌≡◌, ℕ, ◌≤◌, List, Option}
 use Rattle.std.specs.Io.KnownBytes.{Appends}
-use Rattle.box_io.specs.Outside.{AppendsFront, Rose}
+use Rattle.outside.specs.Outside.{AppendsFront, Rose}
 use Rattle.blk_spec.specs.declared.BlkLayout.{BlkLayout}
 use Rattle.blk_spec.specs.States.{BlkState}
 use Rattle.blk_spec.specs.Answers.{Device}

@@ -9,7 +9,7 @@ ghost use Rattle.tool_spec.specs.BlkScripts.{ring_for as ring_of_kind, reason_of
 ghost use Rattle.blk_session.specs.Lines.{LineDone, LineFails, OperationDone, OperationFails, KeptUnlessFault};
 
 use crate::errors::{LineError, line_error};
-use box_io::{Bytes, Store};
+use outside::{Bytes, Store};
 use std::alloc::Global;
 use tool_spec::Cause;
 use zone_blk::{Blk, BlkLayout, BlkName, BlkRing, BlkTime, Reason};

@@ -8,8 +8,8 @@ ghost use Rattle.blk_session.specs.Lines.{LineDone, LineFails, KeptUnlessFault, 
 use crate::errors::LineError;
 use crate::texts::listing;
 use crate::{calls, records};
-use box_io::Store;
-use box_script::Line;
+use outside::Store;
+use script::Line;
 use std::alloc::{AllocError, Global};
 use tool_spec::Cause;
 use zone_blk::{Blk, BlkLayout, BlkTime};

@@ -13,8 +13,8 @@ ghost use Rattle.blk_session.specs.Playing.{seen, Puts, LineStops, Later};
 
 use crate::errors::LineError;
 use crate::lines::do_line;
-use box_io::{Failed, Sink, Store};
-use box_script::Line;
+use outside::{Failed, Sink, Store};
+use script::Line;
 use std::alloc::Global;
 use tool_spec::Stop;
 use zone_blk::{Blk, BlkLayout};

@@ -3,7 +3,7 @@ ghost use Rattle.blk_session.specs.Lines.{IsExtract};
 
 use crate::errors::LineError;
 use crate::texts::extract_text;
-use box_io::Bytes;
+use outside::Bytes;
 use std::alloc::{AllocError, Global};
 use tool_spec::Cause;
 use zone_blk::Blk;

@@ -6,8 +6,8 @@ ghost use Rattle.tool_spec.specs.BlkScripts.{record_time as record_time_of, cont
 ghost use Rattle.blk_session.specs.Texts.{entry_text};
 
 use arrayvec::ArrayString;
-use box_io::Bytes;
 use itoa::Buffer;
+use outside::Bytes;
 use std::alloc::{AllocError, Global};
 use text_pieces::{extracted, push_number, push_padded, push_record, push_seconds};
 use zone_blk::{Blk, BlkFault, BlkName, BlkTime};

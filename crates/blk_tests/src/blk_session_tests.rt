@@ -1,11 +1,11 @@
 // Worked sessions, and sessions in which the store or the output fails.
 ghost use Rattle.std.specs.Prelude.{Some, IfOk};
-ghost use Rattle.box_io.specs.Memory.{store_holds};
+ghost use Rattle.outside.specs.Memory.{store_holds};
 ghost use Rattle.blk_spec.specs.Answers.{HasRoom};
 
 use blk_session::play;
-use box_io::{Bytes, Calls, MemSink, MemStore};
-use box_script::parse;
+use outside::{Bytes, Calls, MemSink, MemStore};
+use script::parse;
 use std::alloc::{AllocError, Global};
 use std::process::Abort;
 use std::test::Fail;

@@ -1,10 +1,10 @@
 // Worked sessions: their bytes, and what a loading lists after each stop.
 ghost use Rattle.std.specs.Prelude.{◌≡◌, ◌<◌, Some, IfOk};
-ghost use Rattle.box_io.specs.Memory.{store_holds};
+ghost use Rattle.outside.specs.Memory.{store_holds};
 ghost use Rattle.blk_spec.specs.Answers.{HasRoom};
 ghost use Rattle.blk_spec.specs.Layout.{IsLayout};
 
-use box_io::{Bytes, Calls, MemStore};
+use outside::{Bytes, Calls, MemStore};
 use std::alloc::{AllocError, Global};
 use std::process::Abort;
 use std::test::Fail;

@@ -8,6 +8,6 @@ mod gf_poly_tests;
 #[cfg(test)]
 mod inflate_tests;
 #[cfg(test)]
-mod rs_encode_tests;
+mod rs_decode_tests;
 #[cfg(test)]
-mod rs_errors_tests;
+mod rs_encode_tests;

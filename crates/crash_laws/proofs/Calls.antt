@@ -12,11 +12,11 @@ use Rattle.zone_spec.specs.Stores.{after_stores}
 use Rattle.zone_spec.specs.Stages.{Stage, StartWord, stage_stores, stores_in_turn}
 use Rattle.zone_spec.specs.Calls.{call_stores, image_after}
 use Rattle.zone_spec.specs.Layouts.{is_zone, zone_place}
-use Rattle.session_spec.specs.States.{Flight, LiveZone, LiveState}
-use Rattle.session_spec.specs.ZoneCalls.{begun, finished}
-use Rattle.session_spec.specs.LiveZones.{Target, target, target_of, target_at, ring_only, with_zone, changed}
-use Rattle.session_spec.specs.LiveCalls.{Ask, Append as AskAppend, Erase as AskErase, Dump as AskDump, asked_name, call_of, is_barred, begin, begins, make, goes_on, finish_at, and_finish}
-use Rattle.session_laws.proofs.Targets.{IsAt, target-some, ring_only-is}
+use Rattle.machine_spec.specs.States.{Flight, LiveZone, LiveState}
+use Rattle.machine_spec.specs.ZoneCalls.{begun, finished}
+use Rattle.machine_spec.specs.LiveZones.{Target, target, target_of, target_at, ring_only, with_zone, changed}
+use Rattle.machine_spec.specs.LiveCalls.{Ask, Append as AskAppend, Erase as AskErase, Dump as AskDump, asked_name, call_of, is_barred, begin, begins, make, goes_on, finish_at, and_finish}
+use Rattle.machine_laws.proofs.Targets.{IsAt, target-some, ring_only-is}
 use Rattle.crash_laws.specs.Standing.{IsToldLive}
 use Rattle.crash_laws.proofs.Items.{other_item, set_item}
 

@@ -16,16 +16,16 @@ use Rattle.zone_spec.specs.Calls.{erase_stages}
 use Rattle.zone_spec.specs.Reading.{zone_reading, blocks_below}
 use Rattle.zone_spec.specs.Ring.{IsRingForm, ReadsAsStands}
 use Rattle.zone_spec.specs.Boot.{fix_stores, part_fixes, blocks_read, boot_fixes, boot_erasure, boot_stores, signing, keeps}
-use Rattle.session_spec.specs.States.{OffZone}
+use Rattle.machine_spec.specs.States.{OffZone}
 use Rattle.zone_spec.specs.Records.{is_of}
 use Rattle.zone_spec.specs.TimeLines.{has_line}
 use Rattle.zone_spec.specs.Layouts.{IsLayout}
-use Rattle.session_spec.specs.States.{OffState, Off}
-use Rattle.session_spec.specs.Zones.{zone_bytes}
-use Rattle.session_spec.specs.Sound.{IsState}
-use Rattle.session_spec.specs.BootPart.{zone_parted, zone_finished, zone_cut, boot_parted, boot_count, left_at}
-use Rattle.session_laws.proofs.Lists.{length-parted}
-use Rattle.session_laws.proofs.CutBoot.{cut_boot_makes_stores, new_zone}
+use Rattle.machine_spec.specs.States.{OffState, Off}
+use Rattle.machine_spec.specs.Zones.{zone_bytes}
+use Rattle.machine_spec.specs.Sound.{IsState}
+use Rattle.machine_spec.specs.BootPart.{zone_parted, zone_finished, zone_cut, boot_parted, boot_count, left_at}
+use Rattle.machine_laws.proofs.Lists.{length-parted}
+use Rattle.machine_laws.proofs.CutBoot.{cut_boot_makes_stores, new_zone}
 use Rattle.crash_laws.specs.Standing.{IsToldOff}
 use Rattle.crash_laws.proofs.Stops.{dump_kind, kept_is, ring_told, reads_told, found_told, told_kept}
 use Rattle.std.proofs.lemmas.Bool.Decides.{nat_tests}

@@ -16,8 +16,8 @@ use Rattle.zone_spec.specs.Names.{is_name}
 use Rattle.zone_spec.specs.Records.{Saved, Listed, is_of, found, logs_of, dump_of, dumps_of, plain, ftrace_of, listed_of, first_listed, record_of}
 use Rattle.zone_spec.specs.Notices.{is_in}
 use Rattle.zone_spec.specs.Layouts.{is_zone, zone_place}
-use Rattle.session_spec.specs.States.{LiveState}
-use Rattle.session_spec.specs.LiveZones.{Target, target}
+use Rattle.machine_spec.specs.States.{LiveState}
+use Rattle.machine_spec.specs.LiveZones.{Target, target}
 use Rattle.crash_laws.proofs.Calls.{target_place, named}
 
 -- whether a record is that of the dump zone of this number, not compressed

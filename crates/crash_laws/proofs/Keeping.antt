@@ -15,18 +15,18 @@ use Rattle.zone_spec.specs.Notices.{is_in}
 use Rattle.zone_spec.specs.TimeLines.{has_line}
 use Rattle.zone_spec.specs.Layouts.{IsLayout, is_zone}
 use Rattle.zone_spec.specs.declared.Refusal.TheVariants.{Busy, OutOfImage}
-use Rattle.session_spec.specs.States.{LiveState, Session, Off, Live}
-use Rattle.session_spec.specs.Erasures.{saved_logs, erased}
-use Rattle.session_spec.specs.Off.{flipped}
-use Rattle.session_spec.specs.BootPart.{boot_parted}
-use Rattle.session_spec.specs.Stop.{stopped}
-use Rattle.session_spec.specs.Boot.{booted}
-use Rattle.session_spec.specs.ZoneCalls.{stepped, finished}
-use Rattle.session_spec.specs.LiveZones.{target, flies}
-use Rattle.session_spec.specs.LiveCalls.{Ask, Append as AskAppend, Erase as AskErase, Dump as AskDump, asked_name, begin, make, step, finish}
-use Rattle.session_spec.specs.Operations.{Operation, operated, Begin, Make, Step as StepFlight, Finish as FinishFlight, EraseRecord, Stop as StopStore, Boot as BootStore, BootPart as BootInPart, Flip as FlipByte, Refused, NoRecord}
-use Rattle.session_spec.specs.Sound.{IsState}
-use Rattle.session_laws.proofs.Targets.{target-some}
+use Rattle.machine_spec.specs.States.{LiveState, Session, Off, Live}
+use Rattle.machine_spec.specs.Erasures.{saved_logs, erased}
+use Rattle.machine_spec.specs.Off.{flipped}
+use Rattle.machine_spec.specs.BootPart.{boot_parted}
+use Rattle.machine_spec.specs.Stop.{stopped}
+use Rattle.machine_spec.specs.Boot.{booted}
+use Rattle.machine_spec.specs.ZoneCalls.{stepped, finished}
+use Rattle.machine_spec.specs.LiveZones.{target, flies}
+use Rattle.machine_spec.specs.LiveCalls.{Ask, Append as AskAppend, Erase as AskErase, Dump as AskDump, asked_name, begin, make, step, finish}
+use Rattle.machine_spec.specs.Operations.{Operation, operated, Begin, Make, Step as StepFlight, Finish as FinishFlight, EraseRecord, Stop as StopStore, Boot as BootStore, BootPart as BootInPart, Flip as FlipByte, Refused, NoRecord}
+use Rattle.machine_spec.specs.Sound.{IsState}
+use Rattle.machine_laws.proofs.Targets.{target-some}
 use Rattle.grammar_spec.specs.Fields.{Text}
 use Rattle.grammar_spec.specs.declared.line.Line.{Line}
 use Rattle.grammar_spec.specs.declared.line.Line.TheVariants.{Blank, Write, Dump, BeginWrite, BeginErase, BeginDump, Step, Finish, Stop, Flip, Boot, BootPart, List as ListLine, Extract, Erase, KDump, CutAfter, KMsg, Crash, Reserve, StoreNext}

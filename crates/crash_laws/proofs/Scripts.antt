@@ -14,15 +14,15 @@ use Rattle.zone_spec.specs.Parts.{AreBytes}
 use Rattle.zone_spec.specs.Layouts.{IsLayout}
 use Rattle.zone_spec.specs.TimeLines.{line_text, read_line, has_line}
 use Rattle.zone_spec.specs.Records.{is_of, listed_of}
-use Rattle.session_spec.specs.States.{LiveState, OffState, Session, Off, Live}
-use Rattle.session_spec.specs.Erasures.{saved_logs}
-use Rattle.session_spec.specs.Stop.{stopped}
-use Rattle.session_spec.specs.Boot.{booted}
-use Rattle.session_spec.specs.LiveZones.{Target}
-use Rattle.session_spec.specs.Sound.{IsState, IsTime}
-use Rattle.session_spec.specs.Operations.{operated, Boot as BootStore}
-use Rattle.session_laws.proofs.Operations.{fresh_is_sound}
-use Rattle.session_laws.proofs.Targets.{target-some}
+use Rattle.machine_spec.specs.States.{LiveState, OffState, Session, Off, Live}
+use Rattle.machine_spec.specs.Erasures.{saved_logs}
+use Rattle.machine_spec.specs.Stop.{stopped}
+use Rattle.machine_spec.specs.Boot.{booted}
+use Rattle.machine_spec.specs.LiveZones.{Target}
+use Rattle.machine_spec.specs.Sound.{IsState, IsTime}
+use Rattle.machine_spec.specs.Operations.{operated, Boot as BootStore}
+use Rattle.machine_laws.proofs.Operations.{fresh_is_sound}
+use Rattle.machine_laws.proofs.Targets.{target-some}
 use Rattle.dump_records.proofs.Lines.{read_back}
 use Rattle.grammar_spec.specs.declared.line.Line.{Line}
 use Rattle.grammar_spec.specs.declared.line.Line.TheVariants.{Boot, Crash, Stop}

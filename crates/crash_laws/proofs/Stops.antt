@@ -19,12 +19,12 @@ use Rattle.zone_spec.specs.Ring.{IsRingForm}
 use Rattle.zone_spec.specs.Records.{Saved, Listed, is_of, found, found_in, logs_of, dump_of, dumps_of, plain, ftrace_of, listed_of, record_of}
 use Rattle.zone_spec.specs.Notices.{is_in}
 use Rattle.zone_spec.specs.Layouts.{IsLayout, zones_end}
-use Rattle.session_spec.specs.States.{Flight, LiveZone, LiveState, OffState, Off, Live}
-use Rattle.session_spec.specs.Zones.{zone_bytes}
-use Rattle.session_spec.specs.Stop.{cut_of, zone_stopped, stopped, live_image}
-use Rattle.session_spec.specs.Boot.{booted_zone, booted}
-use Rattle.session_spec.specs.Erasures.{saved_logs, erase_zone, erased}
-use Rattle.session_spec.specs.Sound.{IsOffZone, IsState}
+use Rattle.machine_spec.specs.States.{Flight, LiveZone, LiveState, OffState, Off, Live}
+use Rattle.machine_spec.specs.Zones.{zone_bytes}
+use Rattle.machine_spec.specs.Stop.{cut_of, zone_stopped, stopped, live_image}
+use Rattle.machine_spec.specs.Boot.{booted_zone, booted}
+use Rattle.machine_spec.specs.Erasures.{saved_logs, erase_zone, erased}
+use Rattle.machine_spec.specs.Sound.{IsOffZone, IsState}
 use Rattle.ring_laws.specs.Laws.{ReadsTold}
 use Rattle.ring_laws.proofs.Laws.{ring_form_reads_told}
 use Rattle.crash_laws.specs.Standing.{IsToldLive, IsToldOff}
@@ -32,7 +32,7 @@ use Rattle.crash_laws.proofs.Items.{map_item, zip_item, in_flat, front_of, behin
 use Rattle.crash_laws.specs.Lines.{is_outside}
 use Rattle.crash_laws.proofs.Entries.{IsFirst, first_of_name, zone_entries}
 use Rattle.zone_spec.specs.declared.Time.{Time}
-use Rattle.session_spec.specs.Off.{flipped}
+use Rattle.machine_spec.specs.Off.{flipped}
 use Rattle.std.proofs.lemmas.Bool.{ltb-true, leb-true}
 
 -- ---- a zone's bytes among those of all

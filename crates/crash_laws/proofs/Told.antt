@@ -7,10 +7,10 @@ use Rattle.zone_spec.specs.declared.Kind.TheVariants.{Dump as DumpKind}
 use Rattle.zone_spec.specs.TimeLines.{line_text}
 use Rattle.zone_spec.specs.Told.{Dump as DumpCall, told_after}
 use Rattle.zone_spec.specs.Records.{is_of}
-use Rattle.session_spec.specs.States.{LiveState, Session, Live}
-use Rattle.session_spec.specs.LiveZones.{Target, flies}
-use Rattle.session_spec.specs.LiveCalls.{Dump as AskDump, asked_name, begins, make, and_finish}
-use Rattle.session_spec.specs.Operations.{operated, answered, Make, Cause as SessionCause}
+use Rattle.machine_spec.specs.States.{LiveState, Session, Live}
+use Rattle.machine_spec.specs.LiveZones.{Target, flies}
+use Rattle.machine_spec.specs.LiveCalls.{Dump as AskDump, asked_name, begins, make, and_finish}
+use Rattle.machine_spec.specs.Operations.{operated, answered, Make, Cause as SessionCause}
 use Rattle.grammar_spec.specs.Fields.{Text}
 use Rattle.grammar_spec.specs.declared.line.Line.TheVariants.{Dump, Crash}
 use Rattle.tool_spec.specs.Scripts.{StoreDone, Kernel, Done, beside, done_or_refused, put_by, store_line, line_done, crash_body, crashed, dump_target}

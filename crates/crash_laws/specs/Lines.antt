@@ -5,7 +5,7 @@ use Rattle.zone_spec.specs.declared.Kind.TheVariants.{Dump as DumpKind}
 use Rattle.zone_spec.specs.declared.Name.TheVariants.{Dump as DumpName}
 use Rattle.zone_spec.specs.Names.{name_text}
 use Rattle.zone_spec.specs.Layouts.{is_zone}
-use Rattle.session_spec.specs.States.{Session, Off, Live}
+use Rattle.machine_spec.specs.States.{Session, Off, Live}
 use Rattle.grammar_spec.specs.Fields.{Text}
 use Rattle.grammar_spec.specs.declared.line.Line.{Line}
 use Rattle.grammar_spec.specs.declared.line.Line.TheVariants.{Write, Dump, BeginWrite, BeginErase, BeginDump, Flip, Erase, Crash}

@@ -8,10 +8,10 @@ use Rattle.zone_spec.specs.Parts.{AreBytes}
 use Rattle.zone_spec.specs.Layouts.{IsLayout}
 use Rattle.zone_spec.specs.TimeLines.{line_text, has_line}
 use Rattle.zone_spec.specs.Records.{Listed, listed_of, record_of, is_of}
-use Rattle.session_spec.specs.States.{LiveState, Session, Live}
-use Rattle.session_spec.specs.Sound.{IsState}
-use Rattle.session_spec.specs.Erasures.{saved_logs}
-use Rattle.session_spec.specs.LiveZones.{Target}
+use Rattle.machine_spec.specs.States.{LiveState, Session, Live}
+use Rattle.machine_spec.specs.Sound.{IsState}
+use Rattle.machine_spec.specs.Erasures.{saved_logs}
+use Rattle.machine_spec.specs.LiveZones.{Target}
 use Rattle.grammar_spec.specs.declared.line.Line.{Line}
 use Rattle.grammar_spec.specs.declared.line.Line.TheVariants.{Boot, Crash, Stop}
 use Rattle.grammar_spec.specs.Printed.{AllHaveFields}

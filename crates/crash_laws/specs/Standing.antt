@@ -1,8 +1,8 @@
 -- How a zone stands that was told a list, and has no call begun since
 use Rattle.std.specs.Prelude.{◌≡◌, ℕ, List, slice_get, Some, None}
 use Rattle.zone_spec.specs.declared.Zone.{Zone}
-use Rattle.session_spec.specs.States.{LiveZone, LiveState, OffZone, OffState, Session, Off, Live}
-use Rattle.session_spec.specs.Zones.{zone_bytes}
+use Rattle.machine_spec.specs.States.{LiveZone, LiveState, OffZone, OffState, Session, Off, Live}
+use Rattle.machine_spec.specs.Zones.{zone_bytes}
 
 -- the zone at this place of a live machine was told this, and no flight stands there
 pub record IsToldLive (place : ℕ) (told : List ℕ) (live : LiveState) : Type 0 where

@@ -21,7 +21,7 @@ use Rattle.zone_spec.specs.Boot.{boot_fixes, boot_erasure, boot_stores, signing}
 use Rattle.zone_spec.specs.Pairs.{pairs_from, seen_at, header_seen, pair_of}
 use Rattle.zone_spec.specs.Cut.{cut_parts, cut_stages, cut_pairs}
 use Rattle.zone_spec.specs.Windows.{words_after}
-use Rattle.session_spec.specs.BootPart.{boot_cut}
+use Rattle.machine_spec.specs.BootPart.{boot_cut}
 use Rattle.damage_laws.specs.CutErasures.{BootCutZoneReads, BootCutReads, after_boot_stores}
 use Rattle.damage_laws.specs.Idle.{BlocksWithinBounds}
 use Rattle.ring_laws.proofs.Images.{length-put, after_stores-append}

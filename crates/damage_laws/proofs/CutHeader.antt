@@ -23,9 +23,9 @@ use Rattle.zone_spec.specs.Damage.{IsNotDamagedFurther}
 use Rattle.zone_spec.specs.Pairs.{pairs_from, pair_of}
 use Rattle.zone_spec.specs.Cut.{Cut, cut_parts, cut_pairs}
 use Rattle.zone_spec.specs.Windows.{Window, words_after, header_codeword, windows_from, window_at}
-use Rattle.session_spec.specs.States.{Flight}
-use Rattle.session_spec.specs.Stop.{cut_of}
-use Rattle.session_spec.specs.Sound.{IsInFlight}
+use Rattle.machine_spec.specs.States.{Flight}
+use Rattle.machine_spec.specs.Stop.{cut_of}
+use Rattle.machine_spec.specs.Sound.{IsInFlight}
 use Rattle.damage_laws.specs.CutCalls.{IsNearHeader, HeaderReads, CutZoneReads}
 use Rattle.code_laws.proofs.Nearest.{nearest-IsNear}
 use Rattle.code_laws.proofs.Laws.{parity_made}

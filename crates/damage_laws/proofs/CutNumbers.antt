@@ -16,10 +16,10 @@ use Rattle.zone_spec.specs.Calls.{erase_stages, call_stages, call_stores}
 use Rattle.zone_spec.specs.Boot.{boot_fixes, boot_erasure, boot_stores, signing, keeps}
 use Rattle.zone_spec.specs.Touched.{touched_by, before_runs, runs_of}
 use Rattle.zone_spec.specs.Cut.{Cut, cut_stages, cut_pairs, is_touched}
-use Rattle.session_spec.specs.States.{Flight}
-use Rattle.session_spec.specs.Stop.{cut_of}
-use Rattle.session_spec.specs.BootPart.{boot_cut}
-use Rattle.session_spec.specs.Sound.{IsInFlight}
+use Rattle.machine_spec.specs.States.{Flight}
+use Rattle.machine_spec.specs.Stop.{cut_of}
+use Rattle.machine_spec.specs.BootPart.{boot_cut}
+use Rattle.machine_spec.specs.Sound.{IsInFlight}
 use Rattle.damage_laws.specs.Exact.{RunsAreTouched, RisesFrom}
 use Rattle.damage_laws.specs.CutCalls.{CutReportIsExact}
 use Rattle.damage_laws.specs.CutErasures.{BootCutReportIsExact}

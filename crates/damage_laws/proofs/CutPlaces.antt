@@ -21,10 +21,10 @@ use Rattle.zone_spec.specs.Ring.{ReadsAsStands}
 use Rattle.zone_spec.specs.Pairs.{pairs_from, pair_of}
 use Rattle.zone_spec.specs.Touched.{touched_by}
 use Rattle.zone_spec.specs.Cut.{words_before}
-use Rattle.session_spec.specs.States.{Flight}
-use Rattle.session_spec.specs.Stop.{cut_of}
-use Rattle.session_spec.specs.Sound.{IsInFlight}
-use Rattle.session_spec.specs.Headline.{OldPlacesRead, NoOtherPlaces}
+use Rattle.machine_spec.specs.States.{Flight}
+use Rattle.machine_spec.specs.Stop.{cut_of}
+use Rattle.machine_spec.specs.Sound.{IsInFlight}
+use Rattle.machine_spec.specs.Headline.{OldPlacesRead, NoOtherPlaces}
 use Rattle.ring_laws.proofs.PartsLaw.{block_some, SamePart, ReadsAsStands-same}
 use Rattle.ring_laws.proofs.RingLaw.{open_after}
 use Rattle.ring_laws.proofs.EveryParity.{block_has}

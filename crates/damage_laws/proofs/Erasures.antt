@@ -10,7 +10,7 @@ use Rattle.zone_spec.specs.Stages.{stores_in_turn}
 use Rattle.zone_spec.specs.Calls.{erase_stages}
 use Rattle.zone_spec.specs.Boot.{boot_fixes, boot_erasure, boot_stores, signing, keeps}
 use Rattle.zone_spec.specs.Cut.{words_before, cut_parts}
-use Rattle.session_spec.specs.BootPart.{IsWithinErasure, boot_cut}
+use Rattle.machine_spec.specs.BootPart.{IsWithinErasure, boot_cut}
 use Rattle.ring_laws.proofs.BootLaw.{booted_bytes, booted_image, stands_as_read}
 use Rattle.ring_laws.proofs.HeaderWords.{header_words}
 use Rattle.ring_laws.proofs.States.{reading_state}

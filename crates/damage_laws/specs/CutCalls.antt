@@ -12,11 +12,11 @@ use Rattle.zone_spec.specs.Damage.{IsNotDamagedFurther}
 use Rattle.zone_spec.specs.Pairs.{pair_of}
 use Rattle.zone_spec.specs.Cut.{Cut, words_before, cut_pairs, cut_report}
 use Rattle.zone_spec.specs.Windows.{Window, current_window}
-use Rattle.session_spec.specs.States.{Flight}
-use Rattle.session_spec.specs.Stop.{cut_of}
-use Rattle.session_spec.specs.Sound.{IsInFlight}
+use Rattle.machine_spec.specs.States.{Flight}
+use Rattle.machine_spec.specs.Stop.{cut_of}
+use Rattle.machine_spec.specs.Sound.{IsInFlight}
 use Rattle.damage_laws.specs.Exact.{IsExactReport}
-use Rattle.session_spec.specs.Headline.{OldPlacesRead, NoOtherPlaces}
+use Rattle.machine_spec.specs.Headline.{OldPlacesRead, NoOtherPlaces}
 
 -- the header is within half the parity of a word
 abbrev pub IsNearHeader : Zone → List ℕ → List ℕ → Type 0

@@ -15,7 +15,7 @@ use Rattle.zone_spec.specs.Boot.{boot_fixes, boot_stores}
 use Rattle.zone_spec.specs.Damage.{IsNotDamagedFurther}
 use Rattle.zone_spec.specs.Pairs.{header_seen}
 use Rattle.zone_spec.specs.Cut.{Cut, cut_pairs, cut_report, words_before}
-use Rattle.session_spec.specs.BootPart.{IsWithinErasure, boot_cut}
+use Rattle.machine_spec.specs.BootPart.{IsWithinErasure, boot_cut}
 use Rattle.damage_laws.specs.Exact.{IsExactReport}
 use Rattle.damage_laws.specs.Idle.{BlocksWithinBounds}
 use Rattle.damage_laws.specs.CutCalls.{HeaderReads}

@@ -12,10 +12,10 @@ use Rattle.zone_spec.specs.Reading.{zone_reading}
 use Rattle.zone_spec.specs.Told.{kind_of}
 use Rattle.zone_spec.specs.Pairs.{pair_of}
 use Rattle.zone_spec.specs.Cut.{Cut, CutReport, cut_pairs, is_touched}
-use Rattle.session_spec.specs.States.{Flight, OffZone}
-use Rattle.session_spec.specs.ZoneCalls.{total_stores}
-use Rattle.session_spec.specs.Report.{zone_report}
-use Rattle.session_spec.specs.Sound.{IsCutFlight}
+use Rattle.machine_spec.specs.States.{Flight, OffZone}
+use Rattle.machine_spec.specs.ZoneCalls.{total_stores}
+use Rattle.machine_spec.specs.Report.{zone_report}
+use Rattle.machine_spec.specs.Sound.{IsCutFlight}
 
 -- the verdict is nothing told exactly where no list is known, as told exactly where the list is the log,
 -- and else has both lengths and the length of the longest front that the two share

@@ -9,7 +9,7 @@ ghost use Rattle.ftrace_zone.specs.EntryBytes.{entry_bytes};
 
 pub mod types;
 
-use box_io::Bytes;
+use outside::Bytes;
 use std::alloc::{AllocError, Global};
 use types::Entries;
 

@@ -1,5 +1,5 @@
 // The lines of a script.
-use box_io::Bytes;
+use outside::Bytes;
 use zone_spec::{Time, ZoneName};
 
 /// A line of a script. The bool of a dump is true where it is compressed.

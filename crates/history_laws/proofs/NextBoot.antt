@@ -11,18 +11,18 @@ use Rattle.zone_spec.specs.Reading.{zone_reading}
 use Rattle.zone_spec.specs.Boot.{boot_fixes}
 use Rattle.zone_spec.specs.Told.{last_items}
 use Rattle.zone_spec.specs.Layouts.{IsLayout}
-use Rattle.session_spec.specs.Zones.{zone_bytes}
-use Rattle.session_spec.specs.States.{OffZone, OffState, LiveState, Session, Off, Live}
-use Rattle.session_spec.specs.Off.{fresh, flipped}
-use Rattle.session_spec.specs.Stop.{cut_of, zone_stopped, stopped}
-use Rattle.session_spec.specs.Boot.{booted}
-use Rattle.session_spec.specs.BootPart.{boot_count, is_finished, left_at, zone_finished, zone_cut, zone_parted, boot_parted}
-use Rattle.session_spec.specs.Operations.{Operation, Flip, Boot, BootPart, Begin, Make, Step, Finish, EraseRecord, Stop, Refused, operated, left_by, session_after}
-use Rattle.session_spec.specs.Sound.{IsState, IsOperation, IsReached}
-use Rattle.session_laws.proofs.Lists.{length-parted}
-use Rattle.session_laws.proofs.OffStates.{stopped-state}
-use Rattle.session_laws.proofs.CutBoot.{new_zone}
-use Rattle.session_laws.proofs.Operations.{states_are_sound}
+use Rattle.machine_spec.specs.Zones.{zone_bytes}
+use Rattle.machine_spec.specs.States.{OffZone, OffState, LiveState, Session, Off, Live}
+use Rattle.machine_spec.specs.Off.{fresh, flipped}
+use Rattle.machine_spec.specs.Stop.{cut_of, zone_stopped, stopped}
+use Rattle.machine_spec.specs.Boot.{booted}
+use Rattle.machine_spec.specs.BootPart.{boot_count, is_finished, left_at, zone_finished, zone_cut, zone_parted, boot_parted}
+use Rattle.machine_spec.specs.Operations.{Operation, Flip, Boot, BootPart, Begin, Make, Step, Finish, EraseRecord, Stop, Refused, operated, left_by, session_after}
+use Rattle.machine_spec.specs.Sound.{IsState, IsOperation, IsReached}
+use Rattle.machine_laws.proofs.Lists.{length-parted}
+use Rattle.machine_laws.proofs.OffStates.{stopped-state}
+use Rattle.machine_laws.proofs.CutBoot.{new_zone}
+use Rattle.machine_laws.proofs.Operations.{states_are_sound}
 use Rattle.history_spec.specs.Written.{written_in}
 use Rattle.history_laws.specs.Laws.{TellsWritten, LeavesZone, AllLeaveZone, NextBootReadsWritten}
 use Rattle.history_laws.proofs.Told.{told_is_written, state_reads_written}

@@ -8,14 +8,14 @@ use Rattle.zone_spec.specs.declared.Refusal.TheVariants.{Busy, Idle}
 use Rattle.zone_spec.specs.Told.{Call}
 use Rattle.zone_spec.specs.Notices.{is_in}
 use Rattle.zone_spec.specs.Layouts.{IsLayout, zone_place}
-use Rattle.session_spec.specs.States.{Flight, LiveZone, LiveState, Live}
-use Rattle.session_spec.specs.ZoneCalls.{begun, finished}
-use Rattle.session_spec.specs.LiveZones.{Target, target, target_at, target_of, flies, changed}
-use Rattle.session_spec.specs.LiveCalls.{Ask, Append as AskAppend, Erase as AskErase, Dump as AskDump, call_of, asked_name, asked_zone, is_barred, begins, begin, goes_on, finish_at, and_finish, make}
-use Rattle.session_spec.specs.Erasures.{erase_zone, erased}
-use Rattle.session_spec.specs.Sound.{IsState}
-use Rattle.session_laws.proofs.Lists.{get-set, get-zip-map, none_any}
-use Rattle.session_laws.proofs.Targets.{IsAt, target-some, ring_only-is, no_flight, busy-false}
+use Rattle.machine_spec.specs.States.{Flight, LiveZone, LiveState, Live}
+use Rattle.machine_spec.specs.ZoneCalls.{begun, finished}
+use Rattle.machine_spec.specs.LiveZones.{Target, target, target_at, target_of, flies, changed}
+use Rattle.machine_spec.specs.LiveCalls.{Ask, Append as AskAppend, Erase as AskErase, Dump as AskDump, call_of, asked_name, asked_zone, is_barred, begins, begin, goes_on, finish_at, and_finish, make}
+use Rattle.machine_spec.specs.Erasures.{erase_zone, erased}
+use Rattle.machine_spec.specs.Sound.{IsState}
+use Rattle.machine_laws.proofs.Lists.{get-set, get-zip-map, none_any}
+use Rattle.machine_laws.proofs.Targets.{IsAt, target-some, ring_only-is, no_flight, busy-false}
 use Rattle.history_spec.specs.Written.{with_call, with_flight}
 use Rattle.history_laws.specs.Laws.{TellsWritten}
 use Rattle.history_laws.proofs.ZoneSteps.{Tells, live_fits, same_flight, made_tells, erased_tells}

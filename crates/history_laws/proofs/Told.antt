@@ -12,23 +12,23 @@ use Rattle.zone_spec.specs.Notices.{is_in}
 use Rattle.zone_spec.specs.Boot.{boot_fixes, told_by_boot}
 use Rattle.zone_spec.specs.Told.{last_items}
 use Rattle.zone_spec.specs.Layouts.{IsLayout}
-use Rattle.session_spec.specs.Zones.{zone_bytes}
-use Rattle.session_spec.specs.States.{OffZone, OffState, LiveZone, LiveState, Session, Off, Live}
-use Rattle.session_spec.specs.Off.{fresh, flipped}
-use Rattle.session_spec.specs.ZoneCalls.{begun, stepped, finished, stores_left}
-use Rattle.session_spec.specs.LiveZones.{target, flies}
-use Rattle.session_spec.specs.LiveCalls.{Ask, asked_name, asked_zone, call_of, is_barred, begin, step, finish, make}
-use Rattle.session_spec.specs.Erasures.{saved_logs, erased}
-use Rattle.session_spec.specs.Stop.{zone_stopped}
-use Rattle.session_spec.specs.Boot.{booted_zone}
-use Rattle.session_spec.specs.BootPart.{is_finished, zone_finished, zone_cut, boot_count, left_at}
-use Rattle.session_spec.specs.Operations.{Operation, Flip, Boot, BootPart, Begin, Make, Step, Finish, EraseRecord, Stop, Cause, Refused, NoRecord, answered, erases, operated, left_by, session_after}
-use Rattle.session_spec.specs.Sound.{IsState, IsOperation, IsReached}
-use Rattle.session_laws.proofs.Lists.{get-map, get-zip-map, parted-at}
-use Rattle.session_laws.proofs.Targets.{target-some}
-use Rattle.session_laws.proofs.OffStates.{off_bytes, fresh-state}
-use Rattle.session_laws.proofs.Operations.{operation-sound, states_are_sound}
-use Rattle.session_laws.proofs.LastWritten.{state_reads, headline as reached_reads}
+use Rattle.machine_spec.specs.Zones.{zone_bytes}
+use Rattle.machine_spec.specs.States.{OffZone, OffState, LiveZone, LiveState, Session, Off, Live}
+use Rattle.machine_spec.specs.Off.{fresh, flipped}
+use Rattle.machine_spec.specs.ZoneCalls.{begun, stepped, finished, stores_left}
+use Rattle.machine_spec.specs.LiveZones.{target, flies}
+use Rattle.machine_spec.specs.LiveCalls.{Ask, asked_name, asked_zone, call_of, is_barred, begin, step, finish, make}
+use Rattle.machine_spec.specs.Erasures.{saved_logs, erased}
+use Rattle.machine_spec.specs.Stop.{zone_stopped}
+use Rattle.machine_spec.specs.Boot.{booted_zone}
+use Rattle.machine_spec.specs.BootPart.{is_finished, zone_finished, zone_cut, boot_count, left_at}
+use Rattle.machine_spec.specs.Operations.{Operation, Flip, Boot, BootPart, Begin, Make, Step, Finish, EraseRecord, Stop, Cause, Refused, NoRecord, answered, erases, operated, left_by, session_after}
+use Rattle.machine_spec.specs.Sound.{IsState, IsOperation, IsReached}
+use Rattle.machine_laws.proofs.Lists.{get-map, get-zip-map, parted-at}
+use Rattle.machine_laws.proofs.Targets.{target-some}
+use Rattle.machine_laws.proofs.OffStates.{off_bytes, fresh-state}
+use Rattle.machine_laws.proofs.Operations.{operation-sound, states_are_sound}
+use Rattle.machine_laws.proofs.LastWritten.{state_reads, headline as reached_reads}
 use Rattle.history_spec.specs.Written.{written_by, written, written_in}
 use Rattle.history_laws.specs.Headline.{ReadsWritten, Headline, CutsAreReported}
 use Rattle.history_laws.specs.Laws.{TellsWritten, ToldIsWritten}

@@ -13,13 +13,13 @@ use Rattle.zone_spec.specs.Stores.{after_stores}
 use Rattle.zone_spec.specs.Told.{Call, Append, Erase, Dump, told_after, last_items}
 use Rattle.zone_spec.specs.Calls.{call_stores, call_stages, append_stages, run_stages, image_after}
 use Rattle.zone_spec.specs.Boot.{boot_stores, told_by_boot}
-use Rattle.session_spec.specs.States.{Flight, LiveZone}
-use Rattle.session_spec.specs.ZoneCalls.{begun, stepped_by, finished, total_stores}
-use Rattle.session_spec.specs.Erasures.{erase_zone}
-use Rattle.session_spec.specs.Sound.{Stands, IsLiveZone}
+use Rattle.machine_spec.specs.States.{Flight, LiveZone}
+use Rattle.machine_spec.specs.ZoneCalls.{begun, stepped_by, finished, total_stores}
+use Rattle.machine_spec.specs.Erasures.{erase_zone}
+use Rattle.machine_spec.specs.Sound.{Stands, IsLiveZone}
 use Rattle.ring_laws.proofs.RingLaw.{last_items-short}
 use Rattle.ring_laws.proofs.BootRing.{boot_keeps}
-use Rattle.session_laws.proofs.Sessions.{appends_tell_last_bytes}
+use Rattle.machine_laws.proofs.Sessions.{appends_tell_last_bytes}
 use Rattle.history_spec.specs.Written.{with_call, with_flight}
 
 -- a told list is the last items of what was written

@@ -8,12 +8,12 @@ use Rattle.zone_spec.specs.Told.{Call, last_items}
 use Rattle.zone_spec.specs.Damage.{IsZoneWithinBounds}
 use Rattle.zone_spec.specs.Cut.{Cut, ByCall}
 use Rattle.zone_spec.specs.Layouts.{IsLayout}
-use Rattle.session_spec.specs.Zones.{zone_bytes}
-use Rattle.session_spec.specs.States.{OffZone, OffState, Off}
-use Rattle.session_spec.specs.Off.{fresh}
-use Rattle.session_spec.specs.Operations.{Operation, session_after}
-use Rattle.session_spec.specs.Sound.{IsOperation, IsReached}
-use Rattle.session_spec.specs.Headline.{EachOffZone, OldPlacesRead, NoOtherPlaces}
+use Rattle.machine_spec.specs.Zones.{zone_bytes}
+use Rattle.machine_spec.specs.States.{OffZone, OffState, Off}
+use Rattle.machine_spec.specs.Off.{fresh}
+use Rattle.machine_spec.specs.Operations.{Operation, session_after}
+use Rattle.machine_spec.specs.Sound.{IsOperation, IsReached}
+use Rattle.machine_spec.specs.Headline.{EachOffZone, OldPlacesRead, NoOtherPlaces}
 use Rattle.damage_laws.specs.Exact.{ReportsCall}
 use Rattle.history_spec.specs.Written.{written}
 

@@ -6,12 +6,12 @@ use Rattle.zone_spec.specs.Reading.{zone_reading}
 use Rattle.zone_spec.specs.Told.{last_items}
 use Rattle.zone_spec.specs.Boot.{boot_fixes}
 use Rattle.zone_spec.specs.Layouts.{IsLayout}
-use Rattle.session_spec.specs.Zones.{zone_bytes}
-use Rattle.session_spec.specs.States.{OffZone, OffState, LiveZone, LiveState, Session, Off, Live}
-use Rattle.session_spec.specs.Stop.{cut_of, stopped}
-use Rattle.session_spec.specs.BootPart.{boot_count, is_finished, left_at}
-use Rattle.session_spec.specs.Operations.{Operation, Flip, Boot, BootPart, Stop, operated, left_by, session_after}
-use Rattle.session_spec.specs.Sound.{IsReached}
+use Rattle.machine_spec.specs.Zones.{zone_bytes}
+use Rattle.machine_spec.specs.States.{OffZone, OffState, LiveZone, LiveState, Session, Off, Live}
+use Rattle.machine_spec.specs.Stop.{cut_of, stopped}
+use Rattle.machine_spec.specs.BootPart.{boot_count, is_finished, left_at}
+use Rattle.machine_spec.specs.Operations.{Operation, Flip, Boot, BootPart, Stop, operated, left_by, session_after}
+use Rattle.machine_spec.specs.Sound.{IsReached}
 use Rattle.history_spec.specs.Written.{written_in}
 use Rattle.history_laws.specs.Headline.{ReadsWritten}
 

@@ -6,13 +6,13 @@ use Rattle.zone_spec.specs.declared.Zone.{Zone}
 use Rattle.zone_spec.specs.Told.{Call, Append, Erase, Dump}
 use Rattle.zone_spec.specs.Boot.{told_by_boot}
 use Rattle.zone_spec.specs.Notices.{is_in}
-use Rattle.session_spec.specs.Zones.{zone_bytes}
-use Rattle.session_spec.specs.States.{Flight, OffState, LiveZone, LiveState, Session, Off, Live}
-use Rattle.session_spec.specs.Off.{fresh}
-use Rattle.session_spec.specs.LiveZones.{Target}
-use Rattle.session_spec.specs.LiveCalls.{call_of, asked_zone}
-use Rattle.session_spec.specs.BootPart.{boot_count, is_finished, left_at}
-use Rattle.session_spec.specs.Operations.{Operation, Boot, BootPart, Make, EraseRecord, Cause, operated, left_by}
+use Rattle.machine_spec.specs.Zones.{zone_bytes}
+use Rattle.machine_spec.specs.States.{Flight, OffState, LiveZone, LiveState, Session, Off, Live}
+use Rattle.machine_spec.specs.Off.{fresh}
+use Rattle.machine_spec.specs.LiveZones.{Target}
+use Rattle.machine_spec.specs.LiveCalls.{call_of, asked_zone}
+use Rattle.machine_spec.specs.BootPart.{boot_count, is_finished, left_at}
+use Rattle.machine_spec.specs.Operations.{Operation, Boot, BootPart, Make, EraseRecord, Cause, operated, left_by}
 
 -- after a finished call: an append adds its payload; an erasure begins anew; a dump begins anew with its time line and
 -- the front of its body

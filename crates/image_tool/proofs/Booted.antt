@@ -1,17 +1,17 @@
 -- The store behind the first boot of an image, and the logs that the boot saves
 use Rattle.std.proofs.Common.{◌≡◌, ℕ, ◌≤◌, List, length, take, Option, IfSome}
 use Rattle.zone_spec.specs.declared.Zone.{Zone}
-use Rattle.session_spec.specs.States.{OffState, Off as OffOf}
-use Rattle.session_spec.specs.Off.{fresh}
-use Rattle.session_spec.specs.Report.{ZoneReport}
-use Rattle.session_spec.specs.Boot.{booted}
-use Rattle.session_spec.specs.Erasures.{saved_logs}
-use Rattle.session_spec.specs.Operations.{Boot}
-use Rattle.session_laws.proofs.Operations.{fresh_is_sound, operations_keep_states_sound}
-use Rattle.old_log.specs.Saving.{SavedLogs, saved}
-use Rattle.ram_core.specs.OffSeen.{OffSeen, StandsOff}
-use Rattle.ram_core.specs.LiveSeen.{LiveSeen}
-use Rattle.ram_core.specs.Booted.{Booted}
+use Rattle.machine_spec.specs.States.{OffState, Off as OffOf}
+use Rattle.machine_spec.specs.Off.{fresh}
+use Rattle.machine_spec.specs.Report.{ZoneReport}
+use Rattle.machine_spec.specs.Boot.{booted}
+use Rattle.machine_spec.specs.Erasures.{saved_logs}
+use Rattle.machine_spec.specs.Operations.{Boot}
+use Rattle.machine_laws.proofs.Operations.{fresh_is_sound, operations_keep_states_sound}
+use Rattle.prz_read.specs.Saving.{SavedLogs, saved}
+use Rattle.ramoops.specs.OffSeen.{OffSeen, StandsOff}
+use Rattle.ramoops.specs.LiveSeen.{LiveSeen}
+use Rattle.ramoops.specs.Booted.{Booted}
 use Rattle.ram_session.specs.Playing.{StandsFresh}
 use Rattle.image_tool.specs.Stores.{BootedFrom}
 use Rattle.image_tool.specs.Records.{SavedFrom}

@@ -1,14 +1,14 @@
 -- How the commands that speak of a memory dump end
 use Rattle.std.proofs.Common.{◌≡◌, ℕ, false, List, [], ◌∷◌, take, Ok, Err, refl, sym, ap, ◌∙◌, inl}
 use Rattle.std.specs.Io.KnownBytes.{Appends}
-use Rattle.box_io.specs.Outside.{AppendsFront}
+use Rattle.outside.specs.Outside.{AppendsFront}
 use Rattle.zone_spec.specs.declared.ZoneName.{ZoneName}
 use Rattle.zone_spec.specs.Reading.{ZoneReading}
 use Rattle.salvage_spec.specs.Rings.{read_at}
 use Rattle.salvage_spec.specs.declared.FoundRing.{FoundRing}
 use Rattle.salvage_spec.specs.declared.RingFault.{RingFault}
 use Rattle.salvage_spec.specs.declared.RingFault.TheVariants.{NoZone, NoRing, Memory as RingMemory}
-use Rattle.box_salvage.specs.Scans.{Scanned, IsFault}
+use Rattle.salvage.specs.Scans.{Scanned, IsFault}
 use Rattle.grammar_spec.specs.Fields.{Text}
 use Rattle.tool_spec.specs.Ends.{End}
 use Rattle.tool_spec.specs.Texts.{rings_text}

@@ -15,14 +15,14 @@ use Rattle.zone_spec.specs.Layout.{layout_of}
 use Rattle.zone_spec.specs.Layouts.{IsLayout}
 use Rattle.zone_spec.specs.Parts.{AreBytes}
 use Rattle.zone_spec.specs.Reading.{ZoneReading, zone_reading}
-use Rattle.session_spec.specs.Zones.{zone_bytes}
-use Rattle.session_spec.specs.States.{OffZone, OffState, Off, Live}
-use Rattle.session_spec.specs.Boot.{booted}
-use Rattle.session_spec.specs.Erasures.{saved_logs}
-use Rattle.session_spec.specs.Report.{ZoneReport, zone_report, report}
-use Rattle.session_spec.specs.Headline.{EachOffZone}
-use Rattle.session_laws.specs.ZoneReads.{ReadsZone}
-use Rattle.session_laws.proofs.ZoneReads.{sound_state_reads_zones}
+use Rattle.machine_spec.specs.Zones.{zone_bytes}
+use Rattle.machine_spec.specs.States.{OffZone, OffState, Off, Live}
+use Rattle.machine_spec.specs.Boot.{booted}
+use Rattle.machine_spec.specs.Erasures.{saved_logs}
+use Rattle.machine_spec.specs.Report.{ZoneReport, zone_report, report}
+use Rattle.machine_spec.specs.Headline.{EachOffZone}
+use Rattle.machine_laws.specs.ZoneReads.{ReadsZone}
+use Rattle.machine_laws.proofs.ZoneReads.{sound_state_reads_zones}
 use Rattle.grammar_spec.specs.Numbers.{digits_number, number_of, begins}
 use Rattle.grammar_spec.specs.Words.{KeyTable, given, value_text, ok_unless}
 use Rattle.grammar_spec.specs.ZoneWords.{keys, first_fault, params_of}
@@ -31,15 +31,15 @@ use Rattle.blk_spec.specs.declared.BlkLayout.{BlkLayout}
 use Rattle.blk_spec.specs.Layout.{layout_of as blk_layout_of}
 use Rattle.grammar_spec.specs.declared.faults.ParamFault.{ParamFault}
 use Rattle.zone_params.proofs.WholeLayout.{whole_layout}
-use Rattle.ram_region.proofs.Chains.{AreBytes-take}
-use Rattle.old_log.proofs.Saves.{zip-at, zip-length}
-use Rattle.ram_core.proofs.Lists.{get-of-map}
+use Rattle.prz_region.proofs.Chains.{AreBytes-take}
+use Rattle.prz_read.proofs.Saves.{zip-at, zip-length}
+use Rattle.ramoops.proofs.Lists.{get-of-map}
 use Rattle.grammar_spec.specs.Fields.{Text}
 use Rattle.grammar_spec.specs.Lines.{script_of}
 use Rattle.grammar_spec.specs.declared.line.Line.{Line}
 use Rattle.grammar_spec.specs.declared.line.Line.TheVariants.{Boot, Crash}
 use Rattle.grammar_spec.specs.Printed.{AllHaveFields}
-use Rattle.box_script.proofs.Inside.{read_fields}
+use Rattle.script.proofs.Inside.{read_fields}
 use Rattle.tool_spec.specs.Texts.{boot_text}
 use Rattle.tool_spec.specs.Scripts.{Kernel, new_kernel, ran, store_line, line_done}
 use Rattle.tool_spec.specs.Commands.{Asked, RamCommand, RunScript, Command, OnRam, RunBlkScript, MoveImage, RamPlan, MovePlan, Laid, Plan, OfRam, OfBlk, OfMove, Wanted, planned, laid_out, with_params, with_layout, with_blk_params, with_blk_layout, with_first_params, with_second_params, with_first_layout, with_second_layout, mem_of, wanted, wanted_run, wanted_lines, script_limit, script_end, stops, lacks_zone}

@@ -1,8 +1,8 @@
 -- How the making of an image ends
 use Rattle.std.proofs.Common.{◌≡◌, ℕ, List, [], ◌∷◌, Ok, Err, refl, append-nil, inl, inr}
 use Rattle.std.specs.Io.KnownBytes.{Appends}
-use Rattle.box_io.specs.Outside.{AppendsFront, Writes, WritesFront}
-use Rattle.session_spec.specs.Stop.{session_image}
+use Rattle.outside.specs.Outside.{AppendsFront, Writes, WritesFront}
+use Rattle.machine_spec.specs.Stop.{session_image}
 use Rattle.grammar_spec.specs.Fields.{Text}
 use Rattle.tool_spec.specs.Generated.{generated, summary}
 use Rattle.tool_spec.specs.Commands.{MakeImage, RamPlan, wanted, wanted_make, mem_of}

@@ -1,11 +1,11 @@
 -- How the move of an image ends
 use Rattle.std.proofs.Common.{◌≡◌, ℕ, ◌<◌, ◌≤◌, List, [], ◌∷◌, length, take, Some, Ok, Err, IfSome, refl, sym, ap, ap₂, ◌∙◌, append-nil, inl, inr}
 use Rattle.std.specs.Io.KnownBytes.{Appends}
-use Rattle.box_io.specs.Outside.{AppendsFront, Writes, WritesFront}
+use Rattle.outside.specs.Outside.{AppendsFront, Writes, WritesFront}
 use Rattle.zone_spec.specs.Records.{Saved}
-use Rattle.session_spec.specs.Erasures.{saved_logs}
-use Rattle.session_spec.specs.Moved.{fitting, moved}
-use Rattle.old_log.specs.Saving.{SavedLogs, saved}
+use Rattle.machine_spec.specs.Erasures.{saved_logs}
+use Rattle.machine_spec.specs.Moved.{fitting, moved}
+use Rattle.prz_read.specs.Saving.{SavedLogs, saved}
 use Rattle.grammar_spec.specs.Fields.{Text}
 use Rattle.tool_spec.specs.Ends.{End}
 use Rattle.tool_spec.specs.Texts.{move_text}

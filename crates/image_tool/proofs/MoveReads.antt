@@ -3,20 +3,20 @@ use Rattle.std.proofs.Common.{◌≡◌, ℕ, ◌+◌, ◌^◌, ◌<◌, Bool, t
 use Rattle.std.specs.Prelude.{filter, slice_get}
 use Rattle.std.proofs.Math.Seq.{take-append_seam, drop-append_seam}
 use Rattle.std.proofs.lemmas.Option.{slice_get_within, slice_get-get_or}
-use Rattle.box_io.specs.Outside.{Writes, written}
+use Rattle.outside.specs.Outside.{Writes, written}
 use Rattle.zone_spec.specs.declared.Zone.{Zone}
 use Rattle.zone_spec.specs.Layout.{layout_of, zones_of}
 use Rattle.zone_spec.specs.Layouts.{IsLayout}
 use Rattle.zone_spec.specs.Parts.{AreBytes}
 use Rattle.zone_spec.specs.Records.{Saved, Listed, listed_of}
 use Rattle.zone_params.proofs.WholeLayout.{whole_layout, no_fault}
-use Rattle.ram_region.proofs.Chains.{AreBytes-take}
-use Rattle.session_spec.specs.Zones.{zone_bytes}
-use Rattle.session_spec.specs.States.{OffZone, OffState}
-use Rattle.session_spec.specs.Off.{fresh}
-use Rattle.session_spec.specs.Boot.{booted}
-use Rattle.session_spec.specs.Erasures.{saved_logs}
-use Rattle.session_spec.specs.Moved.{fits, fitting, moved}
+use Rattle.prz_region.proofs.Chains.{AreBytes-take}
+use Rattle.machine_spec.specs.Zones.{zone_bytes}
+use Rattle.machine_spec.specs.States.{OffZone, OffState}
+use Rattle.machine_spec.specs.Off.{fresh}
+use Rattle.machine_spec.specs.Boot.{booted}
+use Rattle.machine_spec.specs.Erasures.{saved_logs}
+use Rattle.machine_spec.specs.Moved.{fits, fitting, moved}
 use Rattle.move_laws.specs.Moves.{LogsFit, ReadsLog}
 use Rattle.move_laws.specs.Listed.{AreNamed}
 use Rattle.move_laws.proofs.Moved.{moved_image_reads, moved_image_is_sound}

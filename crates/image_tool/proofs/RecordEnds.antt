@@ -3,16 +3,16 @@ use Rattle.std.proofs.Common.{◌≡◌, ℕ, Bool, true, false, is_some, ◌&&�
 use Rattle.std.specs.List.{list_any}
 use Rattle.std.specs.Option.{option_map}
 use Rattle.std.specs.Io.KnownBytes.{Appends}
-use Rattle.box_io.specs.Outside.{AppendsFront, Writes, WritesFront}
+use Rattle.outside.specs.Outside.{AppendsFront, Writes, WritesFront}
 use Rattle.zone_spec.specs.declared.Zone.{Zone}
 use Rattle.zone_spec.specs.Records.{Saved, Listed}
 use Rattle.zone_spec.specs.Notices.{content, is_in}
-use Rattle.session_spec.specs.States.{LiveZone, LiveState}
-use Rattle.session_spec.specs.Boot.{booted_zone}
-use Rattle.session_spec.specs.Erasures.{saved_logs, erased}
-use Rattle.session_spec.specs.Stop.{live_image}
-use Rattle.old_log.specs.Saving.{SavedLogs, saved}
-use Rattle.ram_core.specs.LiveSeen.{LiveSeen, StandsLive}
+use Rattle.machine_spec.specs.States.{LiveZone, LiveState}
+use Rattle.machine_spec.specs.Boot.{booted_zone}
+use Rattle.machine_spec.specs.Erasures.{saved_logs, erased}
+use Rattle.machine_spec.specs.Stop.{live_image}
+use Rattle.prz_read.specs.Saving.{SavedLogs, saved}
+use Rattle.ramoops.specs.LiveSeen.{LiveSeen, StandsLive}
 use Rattle.grammar_spec.specs.Fields.{Text}
 use Rattle.tool_spec.specs.Ends.{End}
 use Rattle.tool_spec.specs.Texts.{listing}

@@ -1,9 +1,9 @@
 -- How a script's lines end its run
 use Rattle.std.proofs.Common.{◌≡◌, ℕ, ◌≤◌, List, length, take, Option, Ok, Err, IfSome, refl, ◌∙◌, inr}
-use Rattle.box_io.specs.Outside.{Rose, Writes, WritesFront}
+use Rattle.outside.specs.Outside.{Rose, Writes, WritesFront}
 use Rattle.zone_spec.specs.declared.Zone.{Zone}
-use Rattle.session_spec.specs.States.{Session}
-use Rattle.session_spec.specs.Stop.{session_image}
+use Rattle.machine_spec.specs.States.{Session}
+use Rattle.machine_spec.specs.Stop.{session_image}
 use Rattle.grammar_spec.specs.Lines.{script_of}
 use Rattle.grammar_spec.specs.declared.line.Line.{Line}
 use Rattle.tool_spec.specs.Ends.{End, status_of}

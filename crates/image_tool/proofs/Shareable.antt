@@ -10,7 +10,7 @@ use Rattle.zone_spec.specs.declared.Zone.{Zone}
 use Rattle.zone_spec.specs.declared.Words.{Words}
 use Rattle.zone_spec.specs.declared.params.Params.{Params}
 use Rattle.zone_spec.specs.declared.params.Row.{Row}
-use Rattle.ram_core.proofs.Lists.{get-of-map}
+use Rattle.ramoops.proofs.Lists.{get-of-map}
 use Rattle.zone_spec.specs.Layout.{rounded, even, dump_memory, dump_count, rows, zone_at, zones_from, layout_of, parity_bytes, ecc_of}
 use Rattle.zone_spec.specs.Layouts.{IsLayout, is_zone, zone_place}
 use Rattle.zone_spec.specs.Parts.{AreBytes, standing_words}
@@ -20,14 +20,14 @@ use Rattle.zone_params.proofs.WholeLayout.{no_fault, all_count, length_zones}
 use Rattle.zone_params.proofs.Faultless.{faultless}
 use Rattle.zone_params.proofs.Rounding.{rounded_pos}
 use Rattle.zone_params.proofs.RowPlaces.{rows_place, place_in_rows}
-use Rattle.session_spec.specs.Zones.{zone_bytes}
-use Rattle.session_spec.specs.States.{LiveState, Off as OffOf, Live as LiveOf}
-use Rattle.session_spec.specs.Off.{fresh}
-use Rattle.session_spec.specs.Boot.{booted, booted_zone}
-use Rattle.session_spec.specs.Stop.{stopped, live_image}
-use Rattle.session_spec.specs.Operations.{Boot, Stop as StopStore}
-use Rattle.session_spec.specs.Sound.{IsState, IsLiveZone}
-use Rattle.session_laws.proofs.Operations.{fresh_is_sound, operations_keep_states_sound}
+use Rattle.machine_spec.specs.Zones.{zone_bytes}
+use Rattle.machine_spec.specs.States.{LiveState, Off as OffOf, Live as LiveOf}
+use Rattle.machine_spec.specs.Off.{fresh}
+use Rattle.machine_spec.specs.Boot.{booted, booted_zone}
+use Rattle.machine_spec.specs.Stop.{stopped, live_image}
+use Rattle.machine_spec.specs.Operations.{Boot, Stop as StopStore}
+use Rattle.machine_spec.specs.Sound.{IsState, IsLiveZone}
+use Rattle.machine_laws.proofs.Operations.{fresh_is_sound, operations_keep_states_sound}
 use Rattle.crash_laws.proofs.Stops.{zone_in}
 use Rattle.shared_spec.specs.Machine.{CanShare}
 use Rattle.shared_spec.specs.Histories.{History, CanOpen, shared_zone, image_left}

@@ -1,7 +1,7 @@
 -- How the lines of a script on a shared zone end its run
 use Rattle.std.proofs.Common.{◌≡◌, ℕ, ◌≤◌, List, [], ◌∷◌, length, take, Some, Ok, Err, IfSome, refl, ◌∙◌, append-nil, inr}
 use Rattle.std.specs.Io.KnownBytes.{Appends}
-use Rattle.box_io.specs.Outside.{AppendsFront, Writes, WritesFront}
+use Rattle.outside.specs.Outside.{AppendsFront, Writes, WritesFront}
 use Rattle.grammar_spec.specs.Fields.{Text}
 use Rattle.grammar_spec.specs.Lines.{script_of}
 use Rattle.grammar_spec.specs.declared.line.Line.{Line}

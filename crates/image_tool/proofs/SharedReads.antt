@@ -4,7 +4,7 @@ use Rattle.zone_spec.specs.declared.Zone.{Zone}
 use Rattle.zone_spec.specs.Layout.{layout_of}
 use Rattle.zone_spec.specs.Layouts.{IsLayout}
 use Rattle.zone_spec.specs.Parts.{AreBytes}
-use Rattle.session_spec.specs.Stop.{stopped}
+use Rattle.machine_spec.specs.Stop.{stopped}
 use Rattle.shared_spec.specs.Histories.{CanOpen, image_left}
 use Rattle.grammar_spec.specs.Lines.{script_of}
 use Rattle.grammar_spec.specs.declared.line.Line.{Line}
@@ -13,7 +13,7 @@ use Rattle.tool_spec.specs.SharedScripts.{SharedRan, shared_name, shared_ran, zo
 use Rattle.tool_spec.specs.Answers.{Outside, WritesAll}
 use Rattle.tool_spec.specs.declared.Cause.{Cause}
 use Rattle.tool_spec.specs.declared.Stop.TheVariants.{TooLong}
-use Rattle.box_io.specs.Outside.{Writes}
+use Rattle.outside.specs.Outside.{Writes}
 use Rattle.tool_frame.proofs.Script.{nat_lt-false}
 use Rattle.tool_laws.proofs.SharedScripts.{full_log_read}
 use Rattle.image_tool.specs.Headline.{SharedReads}

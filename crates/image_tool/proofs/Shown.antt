@@ -1,7 +1,7 @@
 -- One text that was put, and an image that was written
 use Rattle.std.proofs.Common.{◌≡◌, ℕ, List, [], ◌∷◌, Option, Ok, Err, refl, append-nil, inr}
 use Rattle.std.specs.Io.KnownBytes.{Appends}
-use Rattle.box_io.specs.Outside.{AppendsFront, Writes, WritesFront}
+use Rattle.outside.specs.Outside.{AppendsFront, Writes, WritesFront}
 use Rattle.tool_spec.specs.Commands.{shows, leaves}
 use Rattle.tool_spec.specs.declared.Stop.TheVariants.{Memory, SinkFault, ImageFault}
 use Rattle.tool_frame.specs.Ended.{EndedAt}

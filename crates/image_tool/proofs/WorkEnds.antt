@@ -1,6 +1,6 @@
 -- How the work of each command ends
 use Rattle.std.proofs.Common.{◌≡◌, ℕ, List, [], ◌∷◌, Option, Result, Ok, Err, refl, subst, inr, replicate, arith}
-use Rattle.box_io.specs.Outside.{WritesFront}
+use Rattle.outside.specs.Outside.{WritesFront}
 use Rattle.tool_spec.specs.Ends.{End, status_of}
 use Rattle.tool_spec.specs.Texts.{layout_text}
 use Rattle.tool_spec.specs.Commands.{RamCommand, RunScript, ListRecords, ExtractRecord, EraseRecord, ShowLayout, BlankImage, MakeImage, FindRings, ReadRing, RunShared, RamPlan, Plan, OfRam, OfBlk, OfMove, Wanted, mem_of, shows, leaves}

@@ -4,7 +4,7 @@ use Rattle.zone_spec.specs.declared.Zone.{Zone}
 use Rattle.salvage_spec.specs.Rings.{rings}
 use Rattle.salvage_spec.specs.declared.RingFault.{RingFault}
 use Rattle.salvage_spec.specs.declared.RingFault.TheVariants.{NoZone, NoRing, Memory}
-use Rattle.box_salvage.specs.Scans.{Scanned}
+use Rattle.salvage.specs.Scans.{Scanned}
 use Rattle.tool_spec.specs.Commands.{dump_limit}
 use Rattle.tool_spec.specs.declared.Cause.TheVariants.{NoZone as NoZoneCause, NoRing as NoRingCause}
 use Rattle.tool_spec.specs.declared.Stop.{Stop}

@@ -5,12 +5,12 @@ use Rattle.zone_spec.specs.declared.Zone.{Zone}
 use Rattle.zone_spec.specs.declared.Time.{Time}
 use Rattle.zone_spec.specs.Reading.{zone_reading}
 use Rattle.zone_spec.specs.Records.{Saved}
-use Rattle.session_spec.specs.Zones.{zone_bytes}
-use Rattle.session_spec.specs.States.{OffZone, OffState, LiveState, Off, Live}
-use Rattle.session_spec.specs.LiveZones.{Target}
-use Rattle.session_spec.specs.Report.{ZoneReport, zone_report}
-use Rattle.session_spec.specs.Headline.{EachOffZone}
-use Rattle.session_laws.specs.ZoneReads.{ReadsZone}
+use Rattle.machine_spec.specs.Zones.{zone_bytes}
+use Rattle.machine_spec.specs.States.{OffZone, OffState, LiveState, Off, Live}
+use Rattle.machine_spec.specs.LiveZones.{Target}
+use Rattle.machine_spec.specs.Report.{ZoneReport, zone_report}
+use Rattle.machine_spec.specs.Headline.{EachOffZone}
+use Rattle.machine_laws.specs.ZoneReads.{ReadsZone}
 use Rattle.history_laws.specs.Headline.{ReadsWritten}
 use Rattle.grammar_spec.specs.Fields.{Text}
 use Rattle.grammar_spec.specs.Lines.{script_of}
@@ -24,8 +24,8 @@ use Rattle.crash_laws.specs.Listings.{Lists, crash_record}
 use Rattle.tool_spec.specs.Commands.{RunScript, RunShared, RamPlan, Plan, OfRam, OfBlk, OfMove, after_boot, mem_of}
 use Rattle.tool_spec.specs.SharedScripts.{zone_to_share}
 use Rattle.tool_laws.specs.SharedScripts.{ReadsShared}
-use Rattle.session_spec.specs.Stop.{stopped}
-use Rattle.box_io.specs.Outside.{Writes}
+use Rattle.machine_spec.specs.Stop.{stopped}
+use Rattle.outside.specs.Outside.{Writes}
 use Rattle.tool_spec.specs.Answers.{Outside, IfHolds, IfTold, front}
 use Rattle.tool_spec.specs.declared.Stop.{Stop}
 use Rattle.image_tool.specs.Moves.{Moves}

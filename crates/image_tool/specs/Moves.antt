@@ -2,9 +2,9 @@
 use Rattle.std.specs.Prelude.{◌≡◌, ℕ, List, drop, take, filter, slice_get, Some}
 use Rattle.zone_spec.specs.declared.Zone.{Zone}
 use Rattle.zone_spec.specs.Records.{Saved, Listed, listed_of}
-use Rattle.session_spec.specs.Zones.{zone_bytes}
-use Rattle.session_spec.specs.Erasures.{saved_logs}
-use Rattle.session_spec.specs.Moved.{fits, fitting}
+use Rattle.machine_spec.specs.Zones.{zone_bytes}
+use Rattle.machine_spec.specs.Erasures.{saved_logs}
+use Rattle.machine_spec.specs.Moved.{fits, fitting}
 use Rattle.move_laws.specs.Moves.{ReadsLog}
 use Rattle.tool_spec.specs.Commands.{MovePlan, Laid, laid_mem, after_boot}
 use Rattle.tool_spec.specs.Answers.{Outside}

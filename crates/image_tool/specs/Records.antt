@@ -1,8 +1,8 @@
 -- The logs of an image, and how a command ends whose record was not found
 use Rattle.std.specs.Prelude.{◌≡◌, ℕ, ◌≤◌, List, length, take, Option, IfSome}
 use Rattle.zone_spec.specs.declared.Zone.{Zone}
-use Rattle.session_spec.specs.Erasures.{saved_logs}
-use Rattle.old_log.specs.Saving.{SavedLogs, saved}
+use Rattle.machine_spec.specs.Erasures.{saved_logs}
+use Rattle.prz_read.specs.Saving.{SavedLogs, saved}
 use Rattle.tool_spec.specs.Commands.{after_boot}
 use Rattle.tool_spec.specs.declared.Stop.{Stop}
 use Rattle.tool_spec.specs.declared.Stop.TheVariants.{Memory as MemoryStop, Refused as RefusedStop}

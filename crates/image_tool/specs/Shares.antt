@@ -4,7 +4,7 @@ use Rattle.std.specs.Global.{Vec}
 use Rattle.zone_spec.specs.declared.params.Params.{Params}
 use Rattle.zone_spec.specs.declared.Zone.{Zone}
 use Rattle.zone_spec.specs.Layout.{rounded}
-use Rattle.session_spec.specs.Stop.{stopped}
+use Rattle.machine_spec.specs.Stop.{stopped}
 use Rattle.shared_spec.specs.Histories.{CanOpen}
 use Rattle.tool_spec.specs.SharedScripts.{shared_name, lacks_plain_ftrace}
 use Rattle.tool_spec.specs.Commands.{Wanted, stops, after_boot}

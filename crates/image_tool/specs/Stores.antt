@@ -2,11 +2,11 @@
 use Rattle.std.specs.Prelude.{◌≡◌, ℕ, ◌≤◌, List, length, take, Option, IfSome}
 use Rattle.zone_spec.specs.declared.Zone.{Zone}
 use Rattle.zone_spec.specs.Layouts.{IsLayout}
-use Rattle.session_spec.specs.States.{Live}
-use Rattle.session_spec.specs.Sound.{IsState}
-use Rattle.session_spec.specs.Erasures.{saved_logs}
-use Rattle.old_log.specs.Saving.{SavedLogs, saved}
-use Rattle.ram_core.specs.LiveSeen.{LiveSeen, StandsLive}
+use Rattle.machine_spec.specs.States.{Live}
+use Rattle.machine_spec.specs.Sound.{IsState}
+use Rattle.machine_spec.specs.Erasures.{saved_logs}
+use Rattle.prz_read.specs.Saving.{SavedLogs, saved}
+use Rattle.ramoops.specs.LiveSeen.{LiveSeen, StandsLive}
 use Rattle.tool_spec.specs.Commands.{after_boot}
 
 -- the store behind the first boot of the first mem bytes, where these are told

@@ -8,7 +8,7 @@ ghost use Rattle.image_tool.specs.Due.{PutsLines};
 
 use blk_params::BlkLayout;
 use blk_session::play;
-use box_io::{Sink, Source, Store};
+use outside::{Sink, Source, Store};
 use std::alloc::Global;
 use tool_frame::{Stop, check_size, lines, read_script};
 

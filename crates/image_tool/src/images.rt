@@ -1,6 +1,6 @@
 // The commands that read no image.
 ghost use Rattle.std.specs.Prelude.{◌≡◌, ℕ, ◌≤◌, ◌<◌, ◌∷◌, [], List, Option, Err, replicate};
-ghost use Rattle.box_io.specs.Outside.{WritesFront};
+ghost use Rattle.outside.specs.Outside.{WritesFront};
 ghost use Rattle.tool_spec.specs.declared.Stop.TheVariants.{ImageFault};
 ghost use Rattle.tool_spec.specs.Texts.{layout_text};
 ghost use Rattle.tool_spec.specs.Ends.{status_of};
@@ -12,7 +12,7 @@ ghost use Rattle.zone_params.specs.Laid.{params_of, zones_of};
 ghost use Rattle.image_tool.specs.Due.{PutsNone};
 
 use crate::layout_text::layout_text;
-use box_io::{Failed, Sink, Store};
+use outside::{Failed, Sink, Store};
 use std::alloc::{AllocError, Global};
 use tool_frame::{Stop, fill};
 use zone_params::types::Layout;

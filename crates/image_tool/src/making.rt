@@ -7,7 +7,7 @@ ghost use Rattle.tool_frame.specs.Ended.{CausedAt, KeptAt, FailsAsked, MakeEnds}
 ghost use Rattle.image_tool.specs.Plans.{plan_for};
 ghost use Rattle.image_tool.specs.Due.{PutsFirst};
 
-use box_io::{Failed, Sink, Store};
+use outside::{Failed, Sink, Store};
 use ram_generator::generate;
 use std::alloc::{AllocError, Global};
 use tool_frame::{Stop, save};

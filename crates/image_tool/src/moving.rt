@@ -2,8 +2,8 @@
 ghost use Rattle.std.specs.Prelude.{◌≡◌, ◌≤◌, ℕ, List, Option, IfOk};
 ghost use Rattle.zone_spec.specs.Layout.{rounded};
 ghost use Rattle.zone_params.specs.Laid.{params_of, zones_of};
-ghost use Rattle.session_spec.specs.Moved.{fitting, moved as moved_state};
-ghost use Rattle.old_log.specs.Saving.{saved};
+ghost use Rattle.machine_spec.specs.Moved.{fitting, moved as moved_state};
+ghost use Rattle.prz_read.specs.Saving.{saved};
 ghost use Rattle.tool_spec.specs.Commands.{OfMove, wanted_move};
 ghost use Rattle.tool_spec.specs.PlanAnswers.{statuses};
 ghost use Rattle.tool_spec.specs.Answers.{outside};
@@ -13,11 +13,11 @@ ghost use Rattle.tool_frame.specs.Ended.{CausedAt, KeptAt, ImageEnds};
 ghost use Rattle.image_tool.specs.Due.{PutsFirst};
 
 use crate::records::read_logs;
-use box_io::{Failed, Sink, Store};
-use old_log::Logs;
-use pstore_names::forget_unfit;
-use ram_core::Off;
+use outside::{Failed, Sink, Store};
+use prz_read::Logs;
+use pstore_records::forget_unfit;
 use ram_session::move_text;
+use ramoops::Off;
 use std::alloc::{AllocError, Global};
 use tool_frame::{Stop, save};
 use zone_params::types::Layout;

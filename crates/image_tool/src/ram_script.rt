@@ -7,7 +7,7 @@ ghost use Rattle.tool_frame.specs.Ended.{WorkDone};
 ghost use Rattle.image_tool.specs.Due.{PutsLines};
 
 use crate::stores::fresh_store;
-use box_io::{Failed, Sink, Source, Store};
+use outside::{Failed, Sink, Source, Store};
 use ram_session::play;
 use std::alloc::{AllocError, Global};
 use tool_frame::{Stop, lines, load, read_script, save};

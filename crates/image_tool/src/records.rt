@@ -11,8 +11,8 @@ ghost use Rattle.tool_frame.specs.Stages.{KeptUnless, LoadStop};
 ghost use Rattle.image_tool.specs.Records.{SavedFrom, stop_for};
 
 use crate::stores::{boot_store, fresh_store};
-use box_io::{Failed, Load, Sink, Store};
-use old_log::Logs;
+use outside::{Failed, Load, Sink, Store};
+use prz_read::Logs;
 use ram_session::{LineError, content_of, listing};
 use std::alloc::{AllocError, Global};
 use tool_frame::{Stop, load, save};

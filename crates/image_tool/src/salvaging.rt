@@ -10,8 +10,8 @@ ghost use Rattle.image_tool.specs.Plans.{plan_for};
 ghost use Rattle.image_tool.specs.Due.{PutsNone};
 ghost use Rattle.image_tool.specs.Dumps.{ScansFrom, ring_stop as stop_for};
 
-use box_io::{Bytes, Failed, Load, Sink};
-use box_salvage::{FoundRing, RingFault, Scan};
+use outside::{Bytes, Failed, Load, Sink};
+use salvage::{FoundRing, RingFault, Scan};
 use std::alloc::{AllocError, Global};
 use text_pieces::{push_number, push_zone};
 use tool_frame::{Cause, Stop, load_front};

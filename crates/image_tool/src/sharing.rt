@@ -11,8 +11,8 @@ ghost use Rattle.image_tool.specs.Shares.{SharesLines, IsBooted};
 ghost use Rattle.image_tool.specs.Due.{PutsFirst};
 
 use crate::stores::fresh_store;
-use box_io::{Bytes, Failed, Sink, Source, Store};
-use box_script::Lines;
+use outside::{Bytes, Failed, Sink, Source, Store};
+use script::Lines;
 use shared_ring::Shared;
 use shared_session::{play, shared_text};
 use std::alloc::{AllocError, Global};

@@ -6,9 +6,9 @@ ghost use Rattle.ram_session.specs.Playing.{StandsFresh};
 ghost use Rattle.tool_frame.specs.Stages.{KeptUnless, LoadStop};
 ghost use Rattle.image_tool.specs.Stores.{BootedFrom};
 
-use box_io::{Bytes, Load};
-use old_log::Logs;
-use ram_core::{Live, Off};
+use outside::{Bytes, Load};
+use prz_read::Logs;
+use ramoops::{Live, Off};
 use std::alloc::{AllocError, Global};
 use tool_frame::{Stop, load};
 use zone_params::types::Layout;

@@ -1,6 +1,6 @@
 // The run of a command.
 ghost use Rattle.std.specs.Prelude.{◌≡◌, ◌≤◌, Ok};
-ghost use Rattle.box_io.specs.Outside.{Rose};
+ghost use Rattle.outside.specs.Outside.{Rose};
 ghost use Rattle.tool_spec.specs.Commands.{OfRam, plan_of};
 ghost use Rattle.tool_spec.specs.Answers.{outside};
 ghost use Rattle.tool_frame.specs.Words.{plan_for, ram_command_seen, texts};
@@ -12,12 +12,12 @@ use crate::blk_script::run_blk_script;
 use crate::images::{blank, show_layout};
 use crate::making::make;
 use crate::moving::move_image;
+use crate::ram_script::run_script;
 use crate::records::{erase, extract, list};
 use crate::salvaging::{rescue, salvage};
-use crate::ram_script::run_script;
 use crate::sharing::run_shared_script;
-use box_io::{Sink, Source, Store};
 use crash_laws::later_boot_lists_crash;
+use outside::{Sink, Source, Store};
 use std::alloc::Global;
 use tool_frame::{Plan, RamCommand, Stop, finish, read_plan};
 use zone_params::types::Layout;

@@ -10,11 +10,11 @@ ghost use Rattle.kmsg_dump.specs.Kept.{IsLine, Keeps, LastLinesFit};
 ghost use Rattle.kmsg_dump.specs.Starts.{IsFirstStart};
 
 use arrayvec::ArrayString;
-use box_io::Bytes;
 use circular_buffer::HeapCircularBuffer;
 use itoa::Buffer;
 pub use kmsg_spec::Why;
 use memchr::memchr;
+use outside::Bytes;
 use std::alloc::{AllocError, Global};
 use std::marker::Model;
 

@@ -14,15 +14,15 @@ use Rattle.zone_spec.specs.Stores.{Store, after_stores}
 use Rattle.zone_spec.specs.Stages.{SigWord, StartWord, SizeWord, stores_in_turn}
 use Rattle.zone_spec.specs.Calls.{erase_stages}
 use Rattle.zone_spec.specs.Boot.{fix_stores, part_fixes, keeps, blocks_read, boot_fixes, signing, boot_erasure, boot_stores, told_by_boot}
-use Rattle.session_spec.specs.Zones.{zone_bytes}
+use Rattle.machine_spec.specs.Zones.{zone_bytes}
 use Rattle.code_laws.proofs.Parity.{codeword_of}
 use Rattle.code_laws.proofs.Steps.{zeros_codeword}
 use Rattle.ring_laws.proofs.AppendLaw.{all_stages, after_stores-stores_in_turn}
 use Rattle.ring_laws.proofs.PartsLaw.{nearest-codeword}
 use Rattle.ring_laws.proofs.PartWords.{reading_near, part_bytes-word}
 use Rattle.ring_laws.proofs.States.{reading_is, reading_state}
-use Rattle.session_laws.proofs.Zones.{zone_image, booted-sound}
-use Rattle.session_spec.specs.Boot.{booted_zone}
+use Rattle.machine_laws.proofs.Zones.{zone_image, booted-sound}
+use Rattle.machine_spec.specs.Boot.{booted_zone}
 use Rattle.move_laws.specs.Moves.{BlankZoneIsToldNothing}
 use Rattle.move_laws.proofs.Codes.{IsClean, HasCodes, header_clean}
 

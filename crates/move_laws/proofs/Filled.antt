@@ -12,12 +12,12 @@ use Rattle.zone_spec.specs.Stages.{Stage, StartWord, SizeWord, ParityOf, stage_s
 use Rattle.zone_spec.specs.declared.Words.{Words}
 use Rattle.zone_spec.specs.Calls.{CanBegin, call_stores, append_stages, run_stages, image_after}
 use Rattle.zone_spec.specs.Told.{Append, last_items}
-use Rattle.session_spec.specs.States.{LiveZone}
-use Rattle.session_spec.specs.ZoneCalls.{begun, finished, stepped_by, stores_left}
-use Rattle.session_spec.specs.Moved.{is_blank, with_log}
-use Rattle.session_spec.specs.Sound.{Stands, IsLiveZone}
+use Rattle.machine_spec.specs.States.{LiveZone}
+use Rattle.machine_spec.specs.ZoneCalls.{begun, finished, stepped_by, stores_left}
+use Rattle.machine_spec.specs.Moved.{is_blank, with_log}
+use Rattle.machine_spec.specs.Sound.{Stands, IsLiveZone}
 use Rattle.ring_laws.proofs.RingLaw.{last_items-short}
-use Rattle.session_laws.proofs.Zones.{begun-sound, finished-sound}
+use Rattle.machine_laws.proofs.Zones.{begun-sound, finished-sound}
 use Rattle.move_laws.specs.Moves.{IsLogFor}
 use Rattle.move_laws.proofs.Codes.{HasCodes, append_codes}
 

@@ -17,7 +17,7 @@ use Rattle.zone_spec.specs.Reading.{ZoneReading}
 use Rattle.zone_spec.specs.Records.{Saved, is_of, found_in, found}
 use Rattle.zone_spec.specs.Notices.{is_in}
 use Rattle.zone_spec.specs.Layouts.{is_zone}
-use Rattle.session_spec.specs.Moved.{zone_named, has_room, takes, record_name, is_fit, kept_if, found_of}
+use Rattle.machine_spec.specs.Moved.{zone_named, has_room, takes, record_name, is_fit, kept_if, found_of}
 use Rattle.ring_laws.proofs.StoreBytes.{all-append}
 use Rattle.move_laws.specs.Moves.{IsLogFor}
 use Rattle.move_laws.specs.Listed.{AreNamed, IsOfBytes, FittingLogsFit}

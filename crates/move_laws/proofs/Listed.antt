@@ -15,7 +15,7 @@ use Rattle.std.specs.Option.{option_map}
 use Rattle.zone_spec.specs.TimeLines.{read_line}
 use Rattle.zone_spec.specs.Reading.{ZoneReading}
 use Rattle.zone_spec.specs.Records.{Saved, Listed, is_of, found_in, found, logs_of, dump_of, dumps_of, plain, ftrace_of, listed_of}
-use Rattle.session_spec.specs.Moved.{fits, record_name, is_fit, kept_if}
+use Rattle.machine_spec.specs.Moved.{fits, record_name, is_fit, kept_if}
 use Rattle.move_laws.specs.Listed.{FittingListsWhatFits}
 
 found_if : (b : Bool) (r : ZoneReading) → found (cond b (Some r) None) ≡ cond b (found_in r r.state) []

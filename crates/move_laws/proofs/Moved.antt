@@ -13,22 +13,22 @@ use Rattle.zone_spec.specs.Parts.{IsImage}
 use Rattle.zone_spec.specs.Reading.{ZoneReading}
 use Rattle.zone_spec.specs.Records.{Saved}
 use Rattle.zone_spec.specs.Layouts.{IsLayout, zones_end}
-use Rattle.session_spec.specs.Zones.{EachZone, zone_bytes}
-use Rattle.session_spec.specs.States.{LiveZone, LiveState, Off, Live}
-use Rattle.session_spec.specs.Off.{fresh}
-use Rattle.session_spec.specs.Boot.{booted, booted_zone}
-use Rattle.session_spec.specs.Stop.{cut_of, zone_stopped, live_image}
-use Rattle.session_spec.specs.Moved.{found_of, with_log, refilled, moved}
-use Rattle.session_spec.specs.Sound.{IsOffZone, IsState}
-use Rattle.session_spec.specs.Headline.{EachOffZone}
+use Rattle.machine_spec.specs.Zones.{EachZone, zone_bytes}
+use Rattle.machine_spec.specs.States.{LiveZone, LiveState, Off, Live}
+use Rattle.machine_spec.specs.Off.{fresh}
+use Rattle.machine_spec.specs.Boot.{booted, booted_zone}
+use Rattle.machine_spec.specs.Stop.{cut_of, zone_stopped, live_image}
+use Rattle.machine_spec.specs.Moved.{found_of, with_log, refilled, moved}
+use Rattle.machine_spec.specs.Sound.{IsOffZone, IsState}
+use Rattle.machine_spec.specs.Headline.{EachOffZone}
 use Rattle.ring_laws.specs.Laws.{ReadsTold}
 use Rattle.ring_laws.proofs.Laws.{ring_form_reads_told}
 use Rattle.ring_laws.proofs.States.{reading_words}
 use Rattle.ring_laws.proofs.EveryParity.{part-bytes}
-use Rattle.session_laws.proofs.Lists.{each-map, each-zip-map, zone_within}
-use Rattle.session_laws.proofs.LiveStates.{live_state}
-use Rattle.session_laws.proofs.OffStates.{stopped-state}
-use Rattle.session_laws.proofs.ZoneReads.{sound_state_reads_zones}
+use Rattle.machine_laws.proofs.Lists.{each-map, each-zip-map, zone_within}
+use Rattle.machine_laws.proofs.LiveStates.{live_state}
+use Rattle.machine_laws.proofs.OffStates.{stopped-state}
+use Rattle.machine_laws.proofs.ZoneReads.{sound_state_reads_zones}
 use Rattle.move_laws.specs.Moves.{log_of, LogsFit, IsToldLog, ReadsLog, MovedImageIsSound, MovedZonesAreTold, MovedImageReads, MovedZonesRead}
 use Rattle.move_laws.proofs.Blank.{zeros, zeros_bytes, booted_codes, blank_zone_is_told_nothing}
 use Rattle.move_laws.proofs.Filled.{IsTold, ring_of, filled}

@@ -12,11 +12,11 @@ use Rattle.zone_spec.specs.declared.State.TheVariants.{Empty, Found}
 use Rattle.zone_spec.specs.TimeLines.{read_line}
 use Rattle.zone_spec.specs.Reading.{ZoneReading, zone_reading}
 use Rattle.zone_spec.specs.Records.{Saved, Listed, is_of, found_in, found, logs_of, dump_of, dumps_of, plain, ftrace_of, listed_of}
-use Rattle.session_spec.specs.Zones.{zone_bytes}
-use Rattle.session_spec.specs.Boot.{booted}
-use Rattle.session_spec.specs.Erasures.{saved_logs}
-use Rattle.session_spec.specs.Moved.{found_of, fitting, moved}
-use Rattle.session_laws.proofs.Lists.{get-below}
+use Rattle.machine_spec.specs.Zones.{zone_bytes}
+use Rattle.machine_spec.specs.Boot.{booted}
+use Rattle.machine_spec.specs.Erasures.{saved_logs}
+use Rattle.machine_spec.specs.Moved.{found_of, fitting, moved}
+use Rattle.machine_laws.proofs.Lists.{get-below}
 use Rattle.move_laws.specs.Moves.{ReadsLog}
 use Rattle.move_laws.specs.Listed.{named, IsOneLog, MovedImageLists, MoveListsWhatFits}
 use Rattle.move_laws.proofs.Moved.{moved-reads}

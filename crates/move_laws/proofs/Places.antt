@@ -12,7 +12,7 @@ use Rattle.zone_spec.specs.declared.State.TheVariants.{Unsigned, Empty, Invalid,
 use Rattle.zone_spec.specs.Reading.{ZoneReading}
 use Rattle.zone_spec.specs.Records.{Saved, found_in, found}
 use Rattle.zone_spec.specs.Layouts.{is_zone, zone_place}
-use Rattle.session_spec.specs.Moved.{zone_named, has_room, record_name, is_fit, kept_if, fitting, found_of}
+use Rattle.machine_spec.specs.Moved.{zone_named, has_room, record_name, is_fit, kept_if, fitting, found_of}
 use Rattle.move_laws.specs.Listed.{AreNamed, HaveBytes, IsOfBytes, ComeInOrder, named, IsOneLog, FittingTakesInOrder}
 use Rattle.move_laws.proofs.Fits.{same_name, room_is}
 

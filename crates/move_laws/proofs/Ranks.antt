@@ -15,7 +15,7 @@ use Rattle.zone_spec.specs.Layout.{rows, zone_at, zones_from, zones_of}
 use Rattle.zone_spec.specs.Layouts.{is_zone, zone_place}
 use Rattle.zone_spec.specs.Reading.{zone_reading}
 use Rattle.zone_spec.specs.Records.{Saved, is_of}
-use Rattle.session_spec.specs.Zones.{zone_bytes}
+use Rattle.machine_spec.specs.Zones.{zone_bytes}
 use Rattle.ring_laws.proofs.StoreBytes.{all-append}
 use Rattle.move_laws.specs.Listed.{AreNamed, LayoutsComeInOrder, LayoutsAreNamed, LayoutsKeepRecords}
 use Rattle.move_laws.proofs.Fits.{same_name}

@@ -12,14 +12,14 @@ use Rattle.zone_spec.specs.Parts.{AreBytes, Block}
 use Rattle.zone_spec.specs.PartReadings.{words_read}
 use Rattle.zone_spec.specs.Reading.{ZoneReading, zone_reading, reading_in, state_of, log_places, log_read, byte_read}
 use Rattle.zone_spec.specs.Records.{Saved, found_in, found}
-use Rattle.session_spec.specs.Zones.{zone_bytes}
-use Rattle.session_spec.specs.Boot.{booted}
-use Rattle.session_spec.specs.Erasures.{saved_logs}
+use Rattle.machine_spec.specs.Zones.{zone_bytes}
+use Rattle.machine_spec.specs.Boot.{booted}
+use Rattle.machine_spec.specs.Erasures.{saved_logs}
 use Rattle.ring_laws.proofs.BootLaw.{length-reading}
 use Rattle.ring_laws.proofs.PartsLaw.{slice_range-bytes}
 use Rattle.ring_laws.proofs.RingBytes.{length-log_places}
 use Rattle.ring_laws.proofs.States.{Says, state_says, reading_is}
-use Rattle.session_laws.proofs.Lists.{bytes-none}
+use Rattle.machine_laws.proofs.Lists.{bytes-none}
 use Rattle.move_laws.specs.Listed.{IsOfBytes, BootsHaveBytes, ImageLogsFit, MoveKeepsRecords}
 use Rattle.move_laws.proofs.Fits.{fitting_logs_fit}
 use Rattle.move_laws.proofs.Order.{move_lists_what_fits}

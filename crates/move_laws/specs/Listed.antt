@@ -9,10 +9,10 @@ use Rattle.zone_spec.specs.Records.{Saved, Listed, found, listed_of}
 use Rattle.zone_spec.specs.declared.params.Params.{Params}
 use Rattle.zone_spec.specs.Layout.{zones_of}
 use Rattle.zone_spec.specs.Layouts.{zone_place, IsLayout}
-use Rattle.session_spec.specs.States.{OffState}
-use Rattle.session_spec.specs.Boot.{booted}
-use Rattle.session_spec.specs.Erasures.{saved_logs}
-use Rattle.session_spec.specs.Moved.{fits, fitting, found_of, moved}
+use Rattle.machine_spec.specs.States.{OffState}
+use Rattle.machine_spec.specs.Boot.{booted}
+use Rattle.machine_spec.specs.Erasures.{saved_logs}
+use Rattle.machine_spec.specs.Moved.{fits, fitting, found_of, moved}
 use Rattle.move_laws.specs.Moves.{LogsFit}
 
 -- the logs that a move carries over list the records that fit, in their order, each with its name, content

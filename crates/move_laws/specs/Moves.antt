@@ -9,11 +9,11 @@ use Rattle.zone_spec.specs.Reading.{ZoneReading, zone_reading}
 use Rattle.zone_spec.specs.Records.{Saved}
 use Rattle.zone_spec.specs.Damage.{IsZoneWithinBounds}
 use Rattle.zone_spec.specs.Layouts.{IsLayout}
-use Rattle.session_spec.specs.States.{OffZone, OffState, Off, LiveZone}
-use Rattle.session_spec.specs.Boot.{booted_zone}
-use Rattle.session_spec.specs.Moved.{found_of, moved}
-use Rattle.session_spec.specs.Sound.{IsLiveZone, IsMemory, IsState}
-use Rattle.session_spec.specs.Headline.{EachOffZone}
+use Rattle.machine_spec.specs.States.{OffZone, OffState, Off, LiveZone}
+use Rattle.machine_spec.specs.Boot.{booted_zone}
+use Rattle.machine_spec.specs.Moved.{found_of, moved}
+use Rattle.machine_spec.specs.Sound.{IsLiveZone, IsMemory, IsState}
+use Rattle.machine_spec.specs.Headline.{EachOffZone}
 
 -- ---- a blank zone
 

@@ -1,8 +1,8 @@
 //! `oopsbox`: the image tool on a real file, standard input and standard output.
 #![tactic(auto)]
 
-use box_io::{FileStore, ReaderSource, WriterSink};
 use image_tool::run;
+use outside::{FileStore, ReaderSource, WriterSink};
 use std::alloc::{AllocError, Global};
 use std::env::Env;
 use std::process::ExitCode;

@@ -3,8 +3,8 @@ use Rattle.std.proofs.Common.{◌≡◌, ℕ, zero, suc, ◌+◌, ◌-◌, ◌�
 use Rattle.std.proofs.lemmas.List.{append-nil, length-replicate}
 use Rattle.zone_spec.specs.declared.Zone.{Zone}
 use Rattle.zone_spec.specs.Stores.{put}
-use Rattle.ram_region.proofs.Stores.{put-parts}
-use Rattle.session_spec.specs.Zones.{zone_bytes}
+use Rattle.prz_region.proofs.Stores.{put-parts}
+use Rattle.machine_spec.specs.Zones.{zone_bytes}
 
 filled : (n : ℕ) (bytes : List ℕ) → length bytes ≡ n → put (replicate n 0) 0 bytes ≡ bytes
 filled n bytes l =

@@ -1,6 +1,6 @@
 -- A run over the objects in memory is a run on the script and the image.
 use Rattle.std.proofs.Common.{◌≡◌, ℕ, ◌≤◌, List, [], Some, subst, arith}
-use Rattle.box_io.specs.Outside.{Rose}
+use Rattle.outside.specs.Outside.{Rose}
 use Rattle.grammar_spec.specs.Fields.{Text}
 use Rattle.tool_spec.specs.Answers.{Outside, outside}
 use Rattle.image_tool.specs.Runs.{Runs}

@@ -1,8 +1,8 @@
 -- What the calls on one block answer
 use Rattle.std.specs.Prelude.{◌≡◌, ℕ, ◌+◌, ◌/◌, ◌≤◌, ◌<◌, Bool, ◌&&◌, not, if◌then◌else◌, nat_le, List, length, slice_get, Option, Some, None}
-use Rattle.rs_errors.specs.declared.Fix.{Fix}
-use Rattle.rs_errors.specs.declared.Decoded.{Decoded}
-use Rattle.rs_errors.specs.declared.Decoded.TheVariants.{Clean, Fixed, Bad as BadWord}
+use Rattle.rs_decode.specs.declared.Fix.{Fix}
+use Rattle.rs_decode.specs.declared.Decoded.{Decoded}
+use Rattle.rs_decode.specs.declared.Decoded.TheVariants.{Clean, Fixed, Bad as BadWord}
 use Rattle.oopsbox_c.specs.declared.ends.End.{End}
 use Rattle.oopsbox_c.specs.declared.ends.End.TheVariants.{Done, Room, Argument, Bad}
 

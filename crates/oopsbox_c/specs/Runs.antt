@@ -1,6 +1,6 @@
 -- The whole tool on an image in memory
 use Rattle.std.specs.Prelude.{◌≡◌, ◌≢◌, ℕ, ◌≤◌, ◌<◌, ◌⊎◌, List, [], ◌++◌, length, take, drop, Some, IsUtf8}
-use Rattle.box_io.specs.Outside.{Rose}
+use Rattle.outside.specs.Outside.{Rose}
 use Rattle.grammar_spec.specs.Fields.{Text}
 use Rattle.grammar_spec.specs.Lines.{fields_of}
 use Rattle.tool_spec.specs.Answers.{outside}

@@ -6,7 +6,7 @@ use Rattle.zone_spec.specs.declared.params.LayoutFault.{LayoutFault}
 use Rattle.zone_spec.specs.Layout.{layout_of}
 use Rattle.zone_spec.specs.LayoutFaults.{fault_number as layout_number}
 use Rattle.zone_spec.specs.Reading.{ZoneReading, zone_reading}
-use Rattle.session_spec.specs.Zones.{zone_bytes}
+use Rattle.machine_spec.specs.Zones.{zone_bytes}
 use Rattle.grammar_spec.specs.Fields.{Text}
 use Rattle.grammar_spec.specs.Lines.{fields_of}
 use Rattle.grammar_spec.specs.Faults.{fault_number as word_number}

@@ -1,14 +1,14 @@
 // Parity and correction of one block. They take no memory.
 ghost use Rattle.std.specs.Prelude.{◌≡◌, ◌+◌, ◌/◌, ◌≤◌, ◌<◌, [], ◌++◌, length, take, unwrap_or, if◌then◌else◌};
 ghost use Rattle.code_spec.specs.Code.{nearest, parity_of};
-ghost use Rattle.rs_errors.specs.Decoding.{fixes_by};
+ghost use Rattle.rs_decode.specs.Decoding.{fixes_by};
 ghost use Rattle.oopsbox_c.specs.Codes.{is_block, has_answer, encode_end, decode_end, end_of, PlacesAre};
 ghost use Rattle.oopsbox_c.specs.Ends.{status_of};
 
 use crate::End;
 use arrayvec::ArrayVec;
+use rs_decode::{Decoded, Fix, decode};
 use rs_encode::bare_parity;
-use rs_errors::{Decoded, Fix, decode};
 
 // Whether so many data and parity bytes make a block.
 fn is_block(message: usize, parity: usize) -> bool

@@ -17,7 +17,7 @@ use crate::numbers::{call_in, call_number, leg_in, leg_number, phase_in, phase_n
 use crate::places::{ZonePlace, is_place, zone_in};
 use crate::stores::Stores;
 use crate::tables::{TableRow, is_lendable, lend};
-use block_ecc::words_of;
+use prz_ecc::words_of;
 use store_steps::{CallKind, Phase, Place, Steps, Store, Words};
 
 /// A call that was begun. The caller keeps it, and changes nothing in it.

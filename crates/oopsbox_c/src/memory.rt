@@ -1,9 +1,9 @@
 // A script, an image and a text in memory, for one run. Image and text grow as far as there is memory.
 ghost use Rattle.std.specs.Prelude.{◌≡◌, ◌+◌, ◌-◌, ◌<◌, ◌≤◌, min, [], ◌++◌, Some, length, take, drop, vec_len, vec_capacity};
-ghost use Rattle.box_io.specs.Bytes.{AreBytes, AreBytes-drop};
-ghost use Rattle.box_io.specs.Outside.{written};
+ghost use Rattle.outside.specs.Bytes.{AreBytes, AreBytes-drop};
+ghost use Rattle.outside.specs.Outside.{written};
 
-use box_io::{Bytes, Failed, Load, Sink, Source, Store};
+use outside::{Bytes, Failed, Load, Sink, Source, Store};
 use std::alloc::Global;
 
 /// The bytes of a script. It never fails.

@@ -7,8 +7,8 @@ ghost use Rattle.oopsbox_c.specs.Runs.{IsRun, given, HandsOut, RunEnds};
 use crate::End;
 use crate::memory::{Image, Script, Text};
 use crate::words::{WordsFault, fill, read_words_of};
-use box_io::Bytes;
 use image_tool::run;
+use outside::Bytes;
 use std::alloc::{AllocError, Global};
 
 /// How many bytes an image and a text have.

@@ -3,14 +3,14 @@ ghost use Rattle.std.specs.Prelude.{◌≡◌, ◌+◌, ◌≤◌, length, Match
 ghost use Rattle.zone_spec.specs.Zones.{IsValidZone};
 ghost use Rattle.zone_spec.specs.Reading.{zone_reading};
 ghost use Rattle.zone_params.specs.Laid.{params_of, zones_of};
-ghost use Rattle.session_spec.specs.Zones.{zone_bytes};
+ghost use Rattle.machine_spec.specs.Zones.{zone_bytes};
 ghost use Rattle.oopsbox_c.specs.Zones.{fault_word, PlacesOf, IsLaid, IsNoLayout, TellsLayout, TellsFault, LayoutEnds, TellsReading, ReadsZone, ZoneEnds};
 
 use crate::End;
 use crate::places::{LayoutAnswer, ZoneAnswer, ZonePlace, place_of, state_number};
 use crate::words::{WordsFault, fill, read_words_of};
-use old_log::{Reading, read_zone};
-use ram_region::Probe;
+use prz_read::{Reading, read_zone};
+use prz_region::Probe;
 use std::alloc::{AllocError, Global};
 use zone_params::types::Layout;
 use zone_params::{LayoutError, ParamFault, layout, read_words};

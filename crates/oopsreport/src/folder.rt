@@ -1,7 +1,7 @@
 // A folder of the system in which records are saved.
 ghost use Rattle.std.specs.Prelude.{None};
 
-use box_io::Failed;
+use outside::Failed;
 use report_tool::Folder;
 use std::alloc::Global;
 use std::fs::{File, OpenFile};

@@ -6,12 +6,12 @@ mod folder;
 mod layout;
 
 use anyhow::{Context, Result, anyhow};
-use box_io::{FileLoad, WriterSink};
 use clap::ArgMatches;
 use clap::error::ErrorKind;
 use command::command;
 use folder::Dir;
 use layout::{NoPlan, plan};
+use outside::{FileLoad, WriterSink};
 use report_tool::{Format, Plan, Stop, report, save};
 use std::alloc::{AllocError, Global};
 use std::io::IsTerminal;

@@ -6,8 +6,8 @@ use Rattle.zone_spec.specs.declared.Zone.{Zone}
 use Rattle.zone_spec.specs.declared.ZoneName.{ZoneName}
 use Rattle.zone_spec.specs.declared.Kind.TheVariants.{Dump as DumpKind}
 use Rattle.zone_spec.specs.Records.{is_of}
-use Rattle.session_spec.specs.Zones.{dump_zones}
-use Rattle.session_spec.specs.LiveCalls.{Ask, Dump}
+use Rattle.machine_spec.specs.Zones.{dump_zones}
+use Rattle.machine_spec.specs.LiveCalls.{Ask, Dump}
 use Rattle.tool_spec.specs.Generated.{draw, draw_each, joined, rings, append_to, dump_of, cut_in, drawn_append, drawn_dump, drawn_turn, drawn_cut}
 use Rattle.ram_generator.specs.Sessions.{IsForRing, IsCutOfRing}
 

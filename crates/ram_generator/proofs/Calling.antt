@@ -2,9 +2,9 @@
 use Rattle.std.proofs.Common.{◌≡◌, ℕ, ◌+◌, ◌≤◌, List, ◌∷◌, fold, map, arith}
 use Rattle.zone_spec.specs.declared.Zone.{Zone}
 use Rattle.zone_spec.specs.Layouts.{IsLayout}
-use Rattle.ram_core.specs.declared.ask.Ask.{Ask}
-use Rattle.ram_core.specs.Asks.{ask_seen}
-use Rattle.ram_core.specs.LiveSeen.{LiveSeen}
+use Rattle.ramoops.specs.declared.ask.Ask.{Ask}
+use Rattle.ramoops.specs.Asks.{ask_seen}
+use Rattle.ramoops.specs.LiveSeen.{LiveSeen}
 use Rattle.tool_spec.specs.Generated.{Generated, with_call}
 use Rattle.ram_generator.specs.declared.counts.Counts.{Counts}
 use Rattle.ram_generator.specs.Counting.{AreBelow, Grows}

@@ -9,14 +9,14 @@ use Rattle.zone_spec.specs.declared.ZoneName.{ZoneName}
 use Rattle.zone_spec.specs.Layouts.{zone_place}
 use Rattle.zone_spec.specs.Told.{Call}
 use Rattle.zone_spec.specs.Calls.{call_stores}
-use Rattle.session_spec.specs.States.{Flight, OffZone, LiveZone, LiveState, Session, Live}
-use Rattle.session_spec.specs.Stop.{stopped, zone_stopped}
-use Rattle.session_spec.specs.ZoneCalls.{begun, stepped}
-use Rattle.session_spec.specs.LiveZones.{Target, target, with_zone}
-use Rattle.session_spec.specs.LiveCalls.{Append, call_of}
-use Rattle.session_spec.specs.Operations.{Begin, Step}
-use Rattle.session_laws.proofs.Targets.{target-some}
-use Rattle.ram_core.specs.LiveSeen.{LiveSeen}
+use Rattle.machine_spec.specs.States.{Flight, OffZone, LiveZone, LiveState, Session, Live}
+use Rattle.machine_spec.specs.Stop.{stopped, zone_stopped}
+use Rattle.machine_spec.specs.ZoneCalls.{begun, stepped}
+use Rattle.machine_spec.specs.LiveZones.{Target, target, with_zone}
+use Rattle.machine_spec.specs.LiveCalls.{Append, call_of}
+use Rattle.machine_spec.specs.Operations.{Begin, Step}
+use Rattle.machine_laws.proofs.Targets.{target-some}
+use Rattle.ramoops.specs.LiveSeen.{LiveSeen}
 use Rattle.tool_spec.specs.Generated.{Generated, after, stores_of, stores_in, uncut, with_cut}
 use Rattle.ram_generator.specs.declared.counts.Counts.{Counts}
 use Rattle.ram_generator.specs.Counting.{calls_added}

@@ -4,9 +4,9 @@ use Rattle.std.proofs.lemmas.Bool.{lt-ltb, le-ltb}
 use Rattle.std.proofs.lemmas.List.{length-set}
 use Rattle.zone_params.proofs.LaidOut.{drop_next}
 use Rattle.zone_spec.specs.declared.Zone.{Zone}
-use Rattle.session_spec.specs.States.{OffState, Off}
-use Rattle.session_spec.specs.Off.{flipped}
-use Rattle.ram_core.specs.OffSeen.{OffSeen, StandsOff}
+use Rattle.machine_spec.specs.States.{OffState, Off}
+use Rattle.machine_spec.specs.Off.{flipped}
+use Rattle.ramoops.specs.OffSeen.{OffSeen, StandsOff}
 use Rattle.tool_spec.specs.Generated.{Generated, with_flip}
 use Rattle.ram_generator.specs.Damage.{IsFlipped, IsDamaged, flipped_to}
 

@@ -10,11 +10,11 @@ use Rattle.zone_spec.specs.declared.Kind.TheVariants.{Dump as DumpKind, Console,
 use Rattle.zone_spec.specs.declared.Refusal.TheVariants.{NoZone}
 use Rattle.zone_spec.specs.Records.{is_of}
 use Rattle.zone_spec.specs.Layouts.{is_zone, zone_place}
-use Rattle.session_spec.specs.States.{LiveZone, LiveState}
-use Rattle.session_spec.specs.ZoneCalls.{begun}
-use Rattle.session_spec.specs.LiveZones.{Target, target_of, target_at, target, ring_only, changed}
-use Rattle.session_spec.specs.LiveCalls.{Ask, Append, Erase, Dump, call_of, asked_name, asked_zone, is_barred, begin, begins}
-use Rattle.session_laws.proofs.Targets.{target-some}
+use Rattle.machine_spec.specs.States.{LiveZone, LiveState}
+use Rattle.machine_spec.specs.ZoneCalls.{begun}
+use Rattle.machine_spec.specs.LiveZones.{Target, target_of, target_at, target, ring_only, changed}
+use Rattle.machine_spec.specs.LiveCalls.{Ask, Append, Erase, Dump, call_of, asked_name, asked_zone, is_barred, begin, begins}
+use Rattle.machine_laws.proofs.Targets.{target-some}
 use Rattle.ram_generator.specs.Sessions.{IsForRing, AreIdle}
 
 pub idle_at : (zones : List LiveZone) (i : ℕ) (zone : LiveZone) → AreIdle zones → slice_get zones i ≡ Some zone

@@ -10,15 +10,15 @@ use Rattle.zone_spec.specs.declared.Refusal.TheVariants.{NoZone}
 use Rattle.zone_spec.specs.Layouts.{IsLayout, zone_place}
 use Rattle.zone_spec.specs.Told.{Call}
 use Rattle.zone_spec.specs.Calls.{call_stores}
-use Rattle.session_spec.specs.States.{Flight, LiveZone, LiveState, Live}
-use Rattle.session_spec.specs.ZoneCalls.{begun, stepped_by, stores_left, total_stores, finished}
-use Rattle.session_spec.specs.LiveZones.{Target, target, with_zone}
-use Rattle.session_spec.specs.LiveCalls.{Ask, call_of, asked_name, begin, make, step, finish_at, and_finish}
-use Rattle.session_spec.specs.Operations.{Operation, Begin, Make, Step}
-use Rattle.session_spec.specs.Sound.{IsState, IsAsk, IsOperation}
-use Rattle.session_laws.proofs.Targets.{target-some}
-use Rattle.session_laws.proofs.Operations.{operations_keep_states_sound}
-use Rattle.ram_core.specs.LiveSeen.{LiveSeen, StandsLive}
+use Rattle.machine_spec.specs.States.{Flight, LiveZone, LiveState, Live}
+use Rattle.machine_spec.specs.ZoneCalls.{begun, stepped_by, stores_left, total_stores, finished}
+use Rattle.machine_spec.specs.LiveZones.{Target, target, with_zone}
+use Rattle.machine_spec.specs.LiveCalls.{Ask, call_of, asked_name, begin, make, step, finish_at, and_finish}
+use Rattle.machine_spec.specs.Operations.{Operation, Begin, Make, Step}
+use Rattle.machine_spec.specs.Sound.{IsState, IsAsk, IsOperation}
+use Rattle.machine_laws.proofs.Targets.{target-some}
+use Rattle.machine_laws.proofs.Operations.{operations_keep_states_sound}
+use Rattle.ramoops.specs.LiveSeen.{LiveSeen, StandsLive}
 use Rattle.tool_spec.specs.Generated.{Generated, after, stores_of, stores_in, with_call}
 use Rattle.ram_generator.specs.declared.counts.Counts.{Counts}
 use Rattle.ram_generator.specs.Counting.{calls_added}

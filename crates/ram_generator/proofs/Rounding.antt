@@ -6,18 +6,18 @@ use Rattle.zone_spec.specs.declared.Zone.{Zone}
 use Rattle.zone_spec.specs.declared.ZoneName.{ZoneName}
 use Rattle.zone_spec.specs.Layouts.{IsLayout, zone_place}
 use Rattle.zone_spec.specs.Parts.{AreBytes}
-use Rattle.session_spec.specs.States.{OffState, Off, Live}
-use Rattle.session_spec.specs.Off.{fresh}
-use Rattle.session_spec.specs.Boot.{booted, booted_zone}
-use Rattle.session_spec.specs.Stop.{stopped}
-use Rattle.session_spec.specs.Report.{ZoneReport}
-use Rattle.session_spec.specs.Sound.{IsState}
-use Rattle.session_spec.specs.LiveCalls.{Ask}
-use Rattle.session_spec.specs.Operations.{Boot}
-use Rattle.session_laws.proofs.Operations.{fresh_is_sound, operations_keep_states_sound}
-use Rattle.ram_core.specs.LiveSeen.{LiveSeen}
-use Rattle.ram_core.specs.OffSeen.{OffSeen, StandsOff}
-use Rattle.ram_core.specs.Booted.{Booted}
+use Rattle.machine_spec.specs.States.{OffState, Off, Live}
+use Rattle.machine_spec.specs.Off.{fresh}
+use Rattle.machine_spec.specs.Boot.{booted, booted_zone}
+use Rattle.machine_spec.specs.Stop.{stopped}
+use Rattle.machine_spec.specs.Report.{ZoneReport}
+use Rattle.machine_spec.specs.Sound.{IsState}
+use Rattle.machine_spec.specs.LiveCalls.{Ask}
+use Rattle.machine_spec.specs.Operations.{Boot}
+use Rattle.machine_laws.proofs.Operations.{fresh_is_sound, operations_keep_states_sound}
+use Rattle.ramoops.specs.LiveSeen.{LiveSeen}
+use Rattle.ramoops.specs.OffSeen.{OffSeen, StandsOff}
+use Rattle.ramoops.specs.Booted.{Booted}
 use Rattle.tool_spec.specs.Generated.{Generated, CutAppend, draw_each, joined, rings, drawn_turn, drawn_cut, drawn_damage, with_call, with_cut, with_stop, with_flip, with_boot, is_told, is_other, zones_uncut, drawn_halt, drawn_boot, round, rounds}
 use Rattle.ram_generator.specs.declared.counts.Counts.{Counts}
 use Rattle.ram_generator.specs.Counting.{counted, flips_added, verdicts_added}

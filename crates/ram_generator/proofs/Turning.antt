@@ -3,12 +3,12 @@ use Rattle.std.proofs.Common.{◌≡◌, get_or, ℕ, zero, suc, ◌+◌, ◌-�
 use Rattle.std.proofs.lemmas.Bool.{lt-ltb, le-ltb}
 use Rattle.zone_spec.specs.declared.Zone.{Zone}
 use Rattle.zone_spec.specs.declared.ZoneName.{ZoneName}
-use Rattle.session_spec.specs.Zones.{dump_zones}
-use Rattle.session_spec.specs.LiveCalls.{Ask, Append, Dump}
+use Rattle.machine_spec.specs.Zones.{dump_zones}
+use Rattle.machine_spec.specs.LiveCalls.{Ask, Append, Dump}
 use Rattle.tool_spec.specs.Generated.{CutAppend, draw, draws, rings, cut_in, dump_of, drawn_append, drawn_dump, drawn_turn, drawn_cut, draw_each, joined}
 use Rattle.std.specs.List.{range_with_len}
-use Rattle.ram_core.specs.declared.ask.Ask.{Ask as RustAsk}
-use Rattle.ram_core.specs.Asks.{ask_seen}
+use Rattle.ramoops.specs.declared.ask.Ask.{Ask as RustAsk}
+use Rattle.ramoops.specs.Asks.{ask_seen}
 use Rattle.ram_generator.specs.Turns.{turn_of}
 use Rattle.ram_generator.proofs.Each.{IsJoined, joined_more, joined_all, range_next, range_end}
 

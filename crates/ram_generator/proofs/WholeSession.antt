@@ -3,12 +3,12 @@ use Rattle.std.proofs.Common.{◌≡◌, ℕ, List, replicate, refl, sym, ap, �
 use Rattle.std.specs.List.{range_with_len}
 use Rattle.zone_spec.specs.declared.Zone.{Zone}
 use Rattle.zone_spec.specs.Layouts.{IsLayout}
-use Rattle.session_spec.specs.States.{LiveState, Session, Live}
-use Rattle.session_spec.specs.Off.{fresh}
-use Rattle.session_spec.specs.Boot.{booted}
-use Rattle.session_spec.specs.Stop.{live_image, session_image}
-use Rattle.session_spec.specs.Report.{ZoneReport}
-use Rattle.ram_core.specs.LiveSeen.{LiveSeen, StandsLive}
+use Rattle.machine_spec.specs.States.{LiveState, Session, Live}
+use Rattle.machine_spec.specs.Off.{fresh}
+use Rattle.machine_spec.specs.Boot.{booted}
+use Rattle.machine_spec.specs.Stop.{live_image, session_image}
+use Rattle.machine_spec.specs.Report.{ZoneReport}
+use Rattle.ramoops.specs.LiveSeen.{LiveSeen, StandsLive}
 use Rattle.tool_spec.specs.Generated.{Generated, first_boot, rounds, generated, summary}
 use Rattle.ram_generator.specs.declared.counts.Counts.{Counts}
 use Rattle.ram_generator.specs.Counting.{none_counted, counted}

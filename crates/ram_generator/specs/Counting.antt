@@ -1,6 +1,6 @@
 -- What is counted beside a session
 use Rattle.std.specs.Prelude.{ℕ, ◌+◌, ◌*◌, ◌^◌, ◌≤◌, ◌++◌, codes, decimal}
-use Rattle.session_spec.specs.States.{Session}
+use Rattle.machine_spec.specs.States.{Session}
 use Rattle.grammar_spec.specs.Fields.{Text}
 use Rattle.tool_spec.specs.Texts.{newline}
 use Rattle.tool_spec.specs.Generated.{Generated}

@@ -4,8 +4,8 @@ use Rattle.zone_spec.specs.declared.Zone.{Zone}
 use Rattle.zone_spec.specs.Zones.{IsValidZone}
 use Rattle.zone_spec.specs.Parts.{Part, Block}
 use Rattle.zone_spec.specs.Reading.{blocks_below}
-use Rattle.session_spec.specs.States.{OffState, Off}
-use Rattle.ram_core.specs.OffSeen.{OffSeen, StandsOff}
+use Rattle.machine_spec.specs.States.{OffState, Off}
+use Rattle.ramoops.specs.OffSeen.{OffSeen, StandsOff}
 use Rattle.tool_spec.specs.Generated.{Generated, with_flip}
 
 -- a zone that a layout can have, within 32 bits

@@ -6,17 +6,17 @@ use Rattle.zone_spec.specs.declared.ZoneName.{ZoneName}
 use Rattle.zone_spec.specs.declared.Kind.TheVariants.{Dump as DumpKind}
 use Rattle.zone_spec.specs.Records.{is_of}
 use Rattle.zone_spec.specs.Layouts.{zone_place}
-use Rattle.session_spec.specs.States.{LiveZone, LiveState, OffState, Off, Live}
-use Rattle.session_spec.specs.LiveZones.{Target}
-use Rattle.session_spec.specs.LiveCalls.{Ask, Append, Erase, Dump}
-use Rattle.session_spec.specs.ZoneCalls.{stores_left}
-use Rattle.session_spec.specs.Operations.{Operation, Begin, Make}
-use Rattle.session_spec.specs.Boot.{booted}
-use Rattle.session_spec.specs.Stop.{stopped}
-use Rattle.session_spec.specs.Report.{ZoneReport, report}
-use Rattle.session_spec.specs.Sound.{IsState}
-use Rattle.ram_core.specs.LiveSeen.{LiveSeen, StandsLive}
-use Rattle.ram_core.specs.OffSeen.{OffSeen, StandsOff}
+use Rattle.machine_spec.specs.States.{LiveZone, LiveState, OffState, Off, Live}
+use Rattle.machine_spec.specs.LiveZones.{Target}
+use Rattle.machine_spec.specs.LiveCalls.{Ask, Append, Erase, Dump}
+use Rattle.machine_spec.specs.ZoneCalls.{stores_left}
+use Rattle.machine_spec.specs.Operations.{Operation, Begin, Make}
+use Rattle.machine_spec.specs.Boot.{booted}
+use Rattle.machine_spec.specs.Stop.{stopped}
+use Rattle.machine_spec.specs.Report.{ZoneReport, report}
+use Rattle.machine_spec.specs.Sound.{IsState}
+use Rattle.ramoops.specs.LiveSeen.{LiveSeen, StandsLive}
+use Rattle.ramoops.specs.OffSeen.{OffSeen, StandsOff}
 use Rattle.tool_spec.specs.Generated.{Generated, CutAppend, after, stores_of, uncut, zones_uncut}
 use Rattle.ram_generator.specs.declared.counts.Counts.{Counts}
 use Rattle.ram_generator.specs.declared.rounds.RoundPlan.{RoundPlan}

@@ -1,10 +1,10 @@
 -- Calls that were drawn, as the definitions have them
 use Rattle.std.specs.Prelude.{◌≡◌, ◌==◌, not, List, [], ◌∷◌, Option, Some, None}
 use Rattle.zone_spec.specs.declared.Zone.{Zone}
-use Rattle.session_spec.specs.Zones.{dump_zones}
-use Rattle.session_spec.specs.LiveCalls.{Ask as Asked}
-use Rattle.ram_core.specs.Asks.{ask_seen, CanBeAsked}
-use Rattle.ram_core.specs.declared.ask.Ask.{Ask}
+use Rattle.machine_spec.specs.Zones.{dump_zones}
+use Rattle.machine_spec.specs.LiveCalls.{Ask as Asked}
+use Rattle.ramoops.specs.Asks.{ask_seen, CanBeAsked}
+use Rattle.ramoops.specs.declared.ask.Ask.{Ask}
 use Rattle.tool_spec.specs.Generated.{CutAppend as CutDrawn, rings}
 use Rattle.ram_generator.specs.declared.turns.CutAppend.{CutAppend}
 use Rattle.ram_generator.specs.declared.turns.Targets.{Targets}

@@ -3,12 +3,12 @@ ghost use Rattle.std.specs.Prelude.{◌≡◌, ℕ, ◌≤◌, ◌^◌, if◌the
 ghost use Rattle.std.specs.List.{All, AllByRecursion};
 ghost use Rattle.zone_spec.specs.declared.Zone.{Zone};
 ghost use Rattle.zone_spec.specs.Layouts.{IsLayout};
-ghost use Rattle.session_spec.specs.States.{LiveState, Live as LiveOf};
-ghost use Rattle.session_spec.specs.LiveZones.{target};
-ghost use Rattle.session_spec.specs.Operations.{Step};
-ghost use Rattle.session_spec.specs.Sound.{IsState, IsAsk};
-ghost use Rattle.ram_core.specs.Asks.{ask_seen, CanBeAsked};
-ghost use Rattle.ram_core.specs.LiveSeen.{StandsLive};
+ghost use Rattle.machine_spec.specs.States.{LiveState, Live as LiveOf};
+ghost use Rattle.machine_spec.specs.LiveZones.{target};
+ghost use Rattle.machine_spec.specs.Operations.{Step};
+ghost use Rattle.machine_spec.specs.Sound.{IsState, IsAsk};
+ghost use Rattle.ramoops.specs.Asks.{ask_seen, CanBeAsked};
+ghost use Rattle.ramoops.specs.LiveSeen.{StandsLive};
 ghost use Rattle.tool_spec.specs.Generated.{Generated, with_call, with_cut};
 ghost use Rattle.ram_generator.specs.Turns.{cut_of};
 ghost use Rattle.ram_generator.specs.Counting.{AreBelow, Grows, calls_added};
@@ -17,8 +17,8 @@ ghost use Rattle.ram_generator.specs.Sessions.{IsBegun, IsLeft, RunsIdle, RunsCu
 
 use crate::CutAppend;
 use crate::counts::Counts;
-use ram_core::{Ask, Live};
 use ram_session::{begin, finish, step};
+use ramoops::{Ask, Live};
 use zone_spec::ZoneName;
 
 // Tells that the payload is of bytes.

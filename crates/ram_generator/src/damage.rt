@@ -4,13 +4,13 @@ ghost use Rattle.std.specs.List.{All};
 ghost use Rattle.zone_spec.specs.declared.Zone.{Zone as AZone};
 ghost use Rattle.zone_spec.specs.Zones.{IsValidZone};
 ghost use Rattle.zone_spec.specs.Parts.{Part, part_at, part_len};
-ghost use Rattle.session_spec.specs.States.{OffState, Off as OffOf};
-ghost use Rattle.ram_core.specs.OffSeen.{StandsOff};
+ghost use Rattle.machine_spec.specs.States.{OffState, Off as OffOf};
+ghost use Rattle.ramoops.specs.OffSeen.{StandsOff};
 ghost use Rattle.tool_spec.specs.Generated.{Generated, drawn_flips, drawn_damage, draw_each, joined};
 ghost use Rattle.ram_generator.specs.Damage.{blocks_of, IsWithin, IsFlipped, IsDamaged};
 
 use crate::Draws;
-use ram_core::Off;
+use ramoops::Off;
 use std::alloc::{AllocError, Global};
 use zone_spec::Zone;
 

@@ -2,7 +2,7 @@
 ghost use Rattle.std.specs.Prelude.{◌≡◌, ◌<◌, ◌+◌, ◌^◌, ◌++◌, IfOk, OnOk};
 ghost use Rattle.tool_spec.specs.Generated.{draw, draws, masked};
 
-use box_io::Bytes;
+use outside::Bytes;
 use std::alloc::{AllocError, Global};
 use std::marker::Model;
 

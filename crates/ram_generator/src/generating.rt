@@ -2,8 +2,8 @@
 ghost use Rattle.std.specs.Prelude.{◌≡◌, ◌++◌, List, length, replicate, decimal, IfOk, OnOk};
 ghost use Rattle.zone_spec.specs.declared.Zone.{Zone};
 ghost use Rattle.zone_spec.specs.Layout.{rounded};
-ghost use Rattle.session_spec.specs.States.{Session};
-ghost use Rattle.session_spec.specs.Stop.{session_image};
+ghost use Rattle.machine_spec.specs.States.{Session};
+ghost use Rattle.machine_spec.specs.Stop.{session_image};
 ghost use Rattle.zone_params.specs.Laid.{params_of, zones_of};
 ghost use Rattle.tool_spec.specs.Generated.{generated, summary as summary_of};
 ghost use Rattle.ram_generator.specs.Counting.{counted, counts_text};
@@ -11,9 +11,9 @@ ghost use Rattle.ram_generator.specs.Counting.{counted, counts_text};
 use crate::counts::Counts;
 use crate::rounds::{RoundPlan, boot_up, rounds};
 use crate::{Draws, Targets};
-use box_io::Bytes;
 use itoa::Buffer;
-use ram_core::Off;
+use outside::Bytes;
+use ramoops::Off;
 use std::alloc::{AllocError, Global};
 use zone_params::types::Layout;
 

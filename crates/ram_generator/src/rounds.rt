@@ -4,10 +4,10 @@ ghost use Rattle.std.specs.List.{All, range_with_len};
 ghost use Rattle.zone_spec.specs.declared.Zone.{Zone as AZone};
 ghost use Rattle.zone_spec.specs.Parts.{AreBytes};
 ghost use Rattle.zone_spec.specs.Layouts.{IsLayout, is_zone, zone_place};
-ghost use Rattle.session_spec.specs.States.{OffState};
-ghost use Rattle.session_spec.specs.Report.{ZoneReport as AReport};
-ghost use Rattle.ram_core.specs.OffSeen.{StandsOff};
-ghost use Rattle.ram_core.specs.Reports.{report_seen};
+ghost use Rattle.machine_spec.specs.States.{OffState};
+ghost use Rattle.machine_spec.specs.Report.{ZoneReport as AReport};
+ghost use Rattle.ramoops.specs.OffSeen.{StandsOff};
+ghost use Rattle.ramoops.specs.Reports.{report_seen};
 ghost use Rattle.tool_spec.specs.Generated.{Generated, is_told, is_other, zones_uncut};
 ghost use Rattle.tool_spec.specs.Generated.{drawn_halt, drawn_boot, round as round_of, rounds as rounds_of};
 ghost use Rattle.ram_generator.specs.Damage.{IsWithin};
@@ -17,7 +17,7 @@ ghost use Rattle.ram_generator.specs.Sessions.{without_ring, RunsIdle, IsHalted,
 use crate::calls::{make_calls, make_cut};
 use crate::counts::Counts;
 use crate::{Draws, Targets, draw_all, make_damage};
-use ram_core::{Live, Off, Report, Verdict, ZoneReport};
+use ramoops::{Live, Off, Report, Verdict, ZoneReport};
 use std::alloc::{AllocError, Global};
 use zone_spec::{Kind, Zone, ZoneName};
 

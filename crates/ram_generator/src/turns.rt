@@ -3,15 +3,15 @@ ghost use Rattle.std.specs.Prelude.{◌≡◌, ℕ, List, ◌<◌, ◌≤◌, �
 ghost use Rattle.std.specs.List.{All, range_with_len};
 ghost use Rattle.zone_spec.specs.Records.{is_of};
 ghost use Rattle.zone_spec.specs.declared.Kind.TheVariants.{Dump as DumpKind};
-ghost use Rattle.ram_core.specs.Asks.{ask_seen, CanBeAsked};
+ghost use Rattle.ramoops.specs.Asks.{ask_seen, CanBeAsked};
 ghost use Rattle.tool_spec.specs.Generated.{rings as rings_in, draw_each, joined, drawn_dump, drawn_turn, drawn_cut};
 ghost use Rattle.zone_params.specs.Laid.{zones_of};
 ghost use Rattle.ram_generator.specs.Damage.{IsWithin};
 ghost use Rattle.ram_generator.specs.Turns.{turn_of, TurnCanBeAsked, cut_of, AreTargets};
 
 use crate::Draws;
-use box_io::Bytes;
-use ram_core::Ask;
+use outside::Bytes;
+use ramoops::Ask;
 use std::alloc::{AllocError, Global};
 use zone_params::types::Layout;
 use zone_spec::{Kind, Time, Zone, ZoneName};

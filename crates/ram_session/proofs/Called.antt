@@ -20,9 +20,9 @@ use Rattle.zone_spec.specs.Notices.{content}
 use Rattle.zone_spec.specs.Reading.{ZoneReading}
 use Rattle.zone_spec.specs.Records.{Saved, Listed, is_of, found, logs_of, dump_of, dumps_of, plain, ftrace_of, listed_of, first_listed, record_of}
 use Rattle.zone_spec.specs.TimeLines.{read_line}
-use Rattle.old_log.specs.Saving.{SavedLogs, AreNumbered, saved}
-use Rattle.pstore_names.specs.Candidates.{IsCandidate}
-use Rattle.pstore_names.proofs.Given.{same-name, record-name}
+use Rattle.prz_read.specs.Saving.{SavedLogs, AreNumbered, saved}
+use Rattle.pstore_records.specs.Candidates.{IsCandidate}
+use Rattle.pstore_records.proofs.Given.{same-name, record-name}
 use Rattle.tool_spec.specs.Scripts.{named}
 use Rattle.ram_session.proofs.RecordLines.{itself, name_of}
 

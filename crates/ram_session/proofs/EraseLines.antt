@@ -9,12 +9,12 @@ use Rattle.zone_spec.specs.Reading.{ZoneReading}
 use Rattle.zone_spec.specs.Records.{Saved, Listed, record_of}
 use Rattle.zone_spec.specs.Notices.{is_in}
 use Rattle.zone_spec.specs.Listing.{is_listed}
-use Rattle.session_spec.specs.States.{LiveZone, LiveState, Off as OffOf, Live as LiveOf}
-use Rattle.session_spec.specs.LiveZones.{flies}
-use Rattle.session_spec.specs.Erasures.{saved_logs, erase_zone, erased}
-use Rattle.session_laws.proofs.Listed.{found_is_listed}
-use Rattle.old_log.specs.Saving.{SavedLogs, saved}
-use Rattle.ram_core.specs.LiveSeen.{LiveSeen, StandsLive}
+use Rattle.machine_spec.specs.States.{LiveZone, LiveState, Off as OffOf, Live as LiveOf}
+use Rattle.machine_spec.specs.LiveZones.{flies}
+use Rattle.machine_spec.specs.Erasures.{saved_logs, erase_zone, erased}
+use Rattle.machine_laws.proofs.Listed.{found_is_listed}
+use Rattle.prz_read.specs.Saving.{SavedLogs, saved}
+use Rattle.ramoops.specs.LiveSeen.{LiveSeen, StandsLive}
 use Rattle.grammar_spec.specs.declared.line.Line.TheVariants.{Erase}
 use Rattle.tool_spec.specs.Scripts.{store_line, named, erases_of}
 use Rattle.tool_spec.specs.declared.Cause.TheVariants.{IsOff, IsLive, NoZone, Busy, Idle, OutOfImage, NoRecord, NotHere, TooLong, NoSeat, Crowded, NoRing}

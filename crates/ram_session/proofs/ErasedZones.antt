@@ -13,15 +13,15 @@ use Rattle.zone_spec.specs.Told.{Erase as EraseCall}
 use Rattle.zone_spec.specs.Notices.{is_in}
 use Rattle.zone_spec.specs.Reading.{ZoneReading}
 use Rattle.zone_spec.specs.Records.{Saved}
-use Rattle.session_spec.specs.States.{LiveZone, LiveState, Live}
-use Rattle.session_spec.specs.Sound.{IsState}
-use Rattle.session_spec.specs.LiveZones.{Target, target, flies}
-use Rattle.session_spec.specs.ZoneCalls.{begun, finished}
-use Rattle.session_spec.specs.LiveCalls.{make, Erase as EraseAsk}
-use Rattle.session_spec.specs.Erasures.{erase_zone}
-use Rattle.session_spec.specs.Operations.{operated, left_by, Make}
-use Rattle.session_laws.proofs.Operations.{operations_keep_states_sound}
-use Rattle.ram_core.specs.LiveSeen.{LiveSeen, StandsLive}
+use Rattle.machine_spec.specs.States.{LiveZone, LiveState, Live}
+use Rattle.machine_spec.specs.Sound.{IsState}
+use Rattle.machine_spec.specs.LiveZones.{Target, target, flies}
+use Rattle.machine_spec.specs.ZoneCalls.{begun, finished}
+use Rattle.machine_spec.specs.LiveCalls.{make, Erase as EraseAsk}
+use Rattle.machine_spec.specs.Erasures.{erase_zone}
+use Rattle.machine_spec.specs.Operations.{operated, left_by, Make}
+use Rattle.machine_laws.proofs.Operations.{operations_keep_states_sound}
+use Rattle.ramoops.specs.LiveSeen.{LiveSeen, StandsLive}
 use Rattle.tool_laws.proofs.Steps.{erase_made}
 use Rattle.ram_session.specs.Answers.{Done, IsRefused}
 use Rattle.ram_session.specs.Erasing.{FliesAt, StandsAsState, ErasesAt, Erases}

@@ -1,11 +1,11 @@
 -- The image of a machine
 use Rattle.std.proofs.Common.{◌≡◌, ℕ, List, ◌∙◌}
 use Rattle.zone_spec.specs.declared.Zone.{Zone}
-use Rattle.session_spec.specs.States.{LiveState, Session, Off as OffOf, Live as LiveOf}
-use Rattle.session_spec.specs.Stop.{live_image as image_of, session_image}
-use Rattle.old_log.specs.Saving.{SavedLogs}
-use Rattle.ram_core.specs.OffSeen.{OffSeen}
-use Rattle.ram_core.specs.LiveSeen.{LiveSeen, StandsLive}
+use Rattle.machine_spec.specs.States.{LiveState, Session, Off as OffOf, Live as LiveOf}
+use Rattle.machine_spec.specs.Stop.{live_image as image_of, session_image}
+use Rattle.prz_read.specs.Saving.{SavedLogs}
+use Rattle.ramoops.specs.OffSeen.{OffSeen}
+use Rattle.ramoops.specs.LiveSeen.{LiveSeen, StandsLive}
 use Rattle.ram_session.specs.Sessions.{Stands}
 use Rattle.ram_session.specs.Machines.{store_of}
 use Rattle.ram_session.specs.declared.kernel.Kernel.{Kernel}

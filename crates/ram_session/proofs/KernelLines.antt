@@ -13,11 +13,11 @@ use Rattle.zone_spec.specs.declared.Kind.TheVariants.{Dump as DumpKind}
 use Rattle.zone_spec.specs.Layouts.{is_zone, zone_place}
 use Rattle.zone_spec.specs.Records.{is_of}
 use Rattle.zone_spec.specs.TimeLines.{line_text}
-use Rattle.session_spec.specs.States.{LiveZone, LiveState, Off as OffOf, Live as LiveOf}
-use Rattle.session_spec.specs.Sound.{IsTime}
-use Rattle.session_spec.specs.LiveZones.{Target, target_of, target_at, target}
-use Rattle.old_log.specs.Saving.{SavedLogs}
-use Rattle.ram_core.specs.LiveSeen.{LiveSeen}
+use Rattle.machine_spec.specs.States.{LiveZone, LiveState, Off as OffOf, Live as LiveOf}
+use Rattle.machine_spec.specs.Sound.{IsTime}
+use Rattle.machine_spec.specs.LiveZones.{Target, target_of, target_at, target}
+use Rattle.prz_read.specs.Saving.{SavedLogs}
+use Rattle.ramoops.specs.LiveSeen.{LiveSeen}
 use Rattle.kmsg_spec.specs.declared.Why.{Why}
 use Rattle.kmsg_spec.specs.Bodies.{last_lines, body}
 use Rattle.kmsg_dump.specs.Kept.{IsLine, Keeps}

@@ -6,13 +6,13 @@ use Rattle.zone_spec.specs.declared.Time.{Time}
 use Rattle.zone_spec.specs.declared.Refusal.{Refusal}
 use Rattle.zone_spec.specs.declared.Refusal.TheVariants.{Idle}
 use Rattle.zone_spec.specs.Reading.{ZoneReading}
-use Rattle.session_spec.specs.States.{LiveState, Off as OffOf, Live as LiveOf}
-use Rattle.session_spec.specs.LiveZones.{Target, target, changed}
-use Rattle.session_spec.specs.ZoneCalls.{finished}
-use Rattle.session_spec.specs.LiveCalls.{Ask, Append, Erase, Dump, asked_name, begin, make, step, finish, finish_at, and_finish, goes_on}
-use Rattle.session_spec.specs.Operations.{answered}
-use Rattle.old_log.specs.Saving.{SavedLogs}
-use Rattle.ram_core.specs.LiveSeen.{LiveSeen}
+use Rattle.machine_spec.specs.States.{LiveState, Off as OffOf, Live as LiveOf}
+use Rattle.machine_spec.specs.LiveZones.{Target, target, changed}
+use Rattle.machine_spec.specs.ZoneCalls.{finished}
+use Rattle.machine_spec.specs.LiveCalls.{Ask, Append, Erase, Dump, asked_name, begin, make, step, finish, finish_at, and_finish, goes_on}
+use Rattle.machine_spec.specs.Operations.{answered}
+use Rattle.prz_read.specs.Saving.{SavedLogs}
+use Rattle.ramoops.specs.LiveSeen.{LiveSeen}
 use Rattle.grammar_spec.specs.declared.line.Line.{Line}
 use Rattle.grammar_spec.specs.declared.line.Line.TheVariants.{Write, Dump as DumpLine, BeginWrite, BeginErase, BeginDump, Step, Finish}
 use Rattle.tool_spec.specs.Scripts.{store_line, done_or_refused, refusal_cause}

@@ -2,10 +2,10 @@
 use Rattle.std.proofs.Common.{◌≡◌, ◌≢◌, ℕ, List, [], refl, ap, ◌∙◌}
 use Rattle.zone_spec.specs.declared.Zone.{Zone}
 use Rattle.zone_spec.specs.declared.Time.{Time}
-use Rattle.session_spec.specs.States.{Session, Off as OffOf, Live as LiveOf}
-use Rattle.old_log.specs.Saving.{SavedLogs}
-use Rattle.ram_core.specs.OffSeen.{OffSeen}
-use Rattle.ram_core.specs.LiveSeen.{LiveSeen}
+use Rattle.machine_spec.specs.States.{Session, Off as OffOf, Live as LiveOf}
+use Rattle.prz_read.specs.Saving.{SavedLogs}
+use Rattle.ramoops.specs.OffSeen.{OffSeen}
+use Rattle.ramoops.specs.LiveSeen.{LiveSeen}
 use Rattle.grammar_spec.specs.declared.line.Line.{Line}
 use Rattle.grammar_spec.specs.declared.line.Line.TheVariants.{Blank, Write, Dump, BeginWrite, BeginErase, BeginDump, Step, Finish, Stop, Flip, Boot, BootPart, List as ListLine, Extract, Erase, KDump, CutAfter, KMsg, Crash, Reserve, StoreNext}
 use Rattle.tool_spec.specs.Scripts.{Kernel as KernelOf, new_kernel, beside, store_line, line_done}

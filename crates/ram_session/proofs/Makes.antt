@@ -5,14 +5,14 @@ use Rattle.zone_spec.specs.declared.ZoneName.{ZoneName}
 use Rattle.zone_spec.specs.declared.Refusal.{Refusal}
 use Rattle.zone_spec.specs.declared.Refusal.TheVariants.{Idle}
 use Rattle.zone_spec.specs.Layouts.{IsLayout}
-use Rattle.session_spec.specs.States.{Flight, LiveState, Live}
-use Rattle.session_spec.specs.Sound.{IsState, IsAsk}
-use Rattle.session_spec.specs.LiveZones.{Target, target, changed}
-use Rattle.session_spec.specs.ZoneCalls.{finished}
-use Rattle.session_spec.specs.LiveCalls.{Ask, asked_name, begin, make, finish, goes_on}
-use Rattle.session_spec.specs.Operations.{Begin, operated, left_by}
-use Rattle.session_laws.proofs.Operations.{operations_keep_states_sound}
-use Rattle.ram_core.specs.LiveSeen.{LiveSeen}
+use Rattle.machine_spec.specs.States.{Flight, LiveState, Live}
+use Rattle.machine_spec.specs.Sound.{IsState, IsAsk}
+use Rattle.machine_spec.specs.LiveZones.{Target, target, changed}
+use Rattle.machine_spec.specs.ZoneCalls.{finished}
+use Rattle.machine_spec.specs.LiveCalls.{Ask, asked_name, begin, make, finish, goes_on}
+use Rattle.machine_spec.specs.Operations.{Begin, operated, left_by}
+use Rattle.machine_laws.proofs.Operations.{operations_keep_states_sound}
+use Rattle.ramoops.specs.LiveSeen.{LiveSeen}
 use Rattle.tool_laws.proofs.Steps.{make_is_begin_and_steps}
 use Rattle.ram_session.specs.Answers.{Done, IsRefused, Begun, NotBegun}
 

@@ -5,10 +5,10 @@ use Rattle.std.proofs.lemmas.List.{length-map}
 use Rattle.zone_spec.specs.declared.Zone.{Zone}
 use Rattle.zone_spec.specs.Names.{name_text}
 use Rattle.zone_spec.specs.Records.{Saved, Listed, listed_of}
-use Rattle.session_spec.specs.Moved.{fits}
-use Rattle.pstore_names.specs.declared.moving.Move.{Move}
-use Rattle.pstore_names.specs.Counts.{corrected_in, bad_in}
-use Rattle.pstore_names.specs.Moves.{move_of}
+use Rattle.machine_spec.specs.Moved.{fits}
+use Rattle.pstore_records.specs.declared.moving.Move.{Move}
+use Rattle.pstore_records.specs.Counts.{corrected_in, bad_in}
+use Rattle.pstore_records.specs.Moves.{move_of}
 use Rattle.tool_spec.specs.Texts.{newline, move_line, move_text}
 use Rattle.ram_session.specs.Entries.{told_text}
 

@@ -2,9 +2,9 @@
 use Rattle.std.proofs.Common.{◌≡◌, ℕ, ◌<◌, ◌≤◌, true, false, nat_lt, List, [], length, Ok, Err, refl, arith}
 use Rattle.std.proofs.lemmas.Bool.Decides.{nat_tests}
 use Rattle.zone_spec.specs.declared.Zone.{Zone}
-use Rattle.session_spec.specs.States.{OffState, Off as OffOf, Live as LiveOf}
-use Rattle.session_spec.specs.Off.{flipped}
-use Rattle.ram_core.specs.OffSeen.{OffSeen, StandsOff}
+use Rattle.machine_spec.specs.States.{OffState, Off as OffOf, Live as LiveOf}
+use Rattle.machine_spec.specs.Off.{flipped}
+use Rattle.ramoops.specs.OffSeen.{OffSeen, StandsOff}
 use Rattle.grammar_spec.specs.declared.line.Line.TheVariants.{Flip}
 use Rattle.tool_spec.specs.Scripts.{store_line}
 use Rattle.tool_spec.specs.declared.Cause.TheVariants.{OutOfImage}

@@ -10,12 +10,12 @@ use Rattle.zone_spec.specs.declared.Name.TheVariants.{Dump, Console, Pmsg, Ftrac
 use Rattle.zone_spec.specs.Names.{name_text, is_name}
 use Rattle.zone_spec.specs.Notices.{content}
 use Rattle.zone_spec.specs.Records.{Saved, Listed, listed_of, first_listed, record_of}
-use Rattle.session_spec.specs.States.{LiveState, Off as OffOf, Live as LiveOf}
-use Rattle.session_spec.specs.Erasures.{saved_logs}
-use Rattle.old_log.specs.Saving.{SavedLogs, saved}
-use Rattle.ram_core.specs.LiveSeen.{LiveSeen}
+use Rattle.machine_spec.specs.States.{LiveState, Off as OffOf, Live as LiveOf}
+use Rattle.machine_spec.specs.Erasures.{saved_logs}
+use Rattle.prz_read.specs.Saving.{SavedLogs, saved}
+use Rattle.ramoops.specs.LiveSeen.{LiveSeen}
 use Rattle.grammar_spec.specs.declared.line.Line.TheVariants.{Extract}
-use Rattle.pstore_names.proofs.Given.{same-name}
+use Rattle.pstore_records.proofs.Given.{same-name}
 use Rattle.tool_spec.specs.Texts.{extract_text}
 use Rattle.tool_spec.specs.Scripts.{store_line, named, extracts_of}
 use Rattle.tool_spec.specs.declared.Cause.TheVariants.{NoRecord}

@@ -1,10 +1,10 @@
 -- A script's lines, done one by one by the machine
 use Rattle.std.proofs.Common.{◌≡◌, ℕ, ◌+◌, ◌<◌, ◌≤◌, List, length, get_or, Option, refl, sym, subst, arith}
 use Rattle.zone_spec.specs.declared.Zone.{Zone}
-use Rattle.session_spec.specs.States.{Session, Off as OffOf}
-use Rattle.session_spec.specs.Off.{fresh}
-use Rattle.session_spec.specs.Sound.{IsState}
-use Rattle.ram_core.specs.OffSeen.{OffSeen}
+use Rattle.machine_spec.specs.States.{Session, Off as OffOf}
+use Rattle.machine_spec.specs.Off.{fresh}
+use Rattle.machine_spec.specs.Sound.{IsState}
+use Rattle.ramoops.specs.OffSeen.{OffSeen}
 use Rattle.grammar_spec.specs.declared.line.Line.{Line}
 use Rattle.grammar_spec.specs.Printed.{AllHaveFields}
 use Rattle.tool_spec.specs.Scripts.{Kernel, new_kernel}

@@ -8,11 +8,11 @@ use Rattle.std.proofs.lemmas.List.Concat.{flat_map-append}
 use Rattle.std.proofs.lemmas.Option.{slice_get-map, slice_get_within}
 use Rattle.std.proofs.lemmas.Slice.Zip.{length-zip}
 use Rattle.zone_spec.specs.Records.{Saved}
-use Rattle.session_spec.specs.Report.{ZoneReport}
-use Rattle.old_log.proofs.Saves.{zip-at}
-use Rattle.pstore_names.proofs.Steps.{item-at}
-use Rattle.ram_core.specs.declared.report.ZoneReport.{ZoneReport as RustZoneReport}
-use Rattle.ram_core.specs.Reports.{report_seen}
+use Rattle.machine_spec.specs.Report.{ZoneReport}
+use Rattle.prz_read.proofs.Saves.{zip-at}
+use Rattle.pstore_records.proofs.Steps.{item-at}
+use Rattle.ramoops.specs.declared.report.ZoneReport.{ZoneReport as RustZoneReport}
+use Rattle.ramoops.specs.Reports.{report_seen}
 use Rattle.tool_spec.specs.Texts.{zone_lines, boot_text}
 
 abbrev pub sides : List Saved → List RustZoneReport → List (Saved × ZoneReport)

@@ -1,16 +1,16 @@
 -- Lines that boot, stop, list, or do nothing
 use Rattle.std.proofs.Common.{◌≡◌, ℕ, List, [], Ok, refl, ◌∙◌}
 use Rattle.zone_spec.specs.declared.Zone.{Zone}
-use Rattle.session_spec.specs.States.{OffState, LiveState, Session, Off as OffOf, Live as LiveOf}
-use Rattle.session_spec.specs.Boot.{booted}
-use Rattle.session_spec.specs.Stop.{stopped}
-use Rattle.session_spec.specs.Report.{ZoneReport, report}
-use Rattle.session_spec.specs.Erasures.{saved_logs}
-use Rattle.old_log.specs.Saving.{SavedLogs, saved}
-use Rattle.ram_core.specs.OffSeen.{OffSeen, StandsOff}
-use Rattle.ram_core.specs.LiveSeen.{LiveSeen, StandsLive}
-use Rattle.ram_core.specs.Booted.{Booted, BootedInPart}
-use Rattle.session_spec.specs.BootPart.{boot_parted, boot_made}
+use Rattle.machine_spec.specs.States.{OffState, LiveState, Session, Off as OffOf, Live as LiveOf}
+use Rattle.machine_spec.specs.Boot.{booted}
+use Rattle.machine_spec.specs.Stop.{stopped}
+use Rattle.machine_spec.specs.Report.{ZoneReport, report}
+use Rattle.machine_spec.specs.Erasures.{saved_logs}
+use Rattle.prz_read.specs.Saving.{SavedLogs, saved}
+use Rattle.ramoops.specs.OffSeen.{OffSeen, StandsOff}
+use Rattle.ramoops.specs.LiveSeen.{LiveSeen, StandsLive}
+use Rattle.ramoops.specs.Booted.{Booted, BootedInPart}
+use Rattle.machine_spec.specs.BootPart.{boot_parted, boot_made}
 use Rattle.grammar_spec.specs.declared.line.Line.TheVariants.{Blank, Boot, BootPart, Stop, List as ListLine}
 use Rattle.tool_spec.specs.Texts.{boot_text, part_text, listing}
 use Rattle.tool_spec.specs.Scripts.{store_line}

@@ -6,13 +6,13 @@ use Rattle.zone_spec.specs.declared.ZoneName.{ZoneName}
 use Rattle.zone_spec.specs.declared.Refusal.{Refusal}
 use Rattle.zone_spec.specs.declared.Refusal.TheVariants.{Idle, NoZone}
 use Rattle.zone_spec.specs.Layouts.{zone_place}
-use Rattle.session_spec.specs.States.{Flight, LiveState, Live}
-use Rattle.session_spec.specs.Sound.{IsState}
-use Rattle.session_spec.specs.LiveZones.{Target, target}
-use Rattle.session_spec.specs.LiveCalls.{step, finish}
-use Rattle.session_spec.specs.ZoneCalls.{stores_left}
-use Rattle.ram_core.specs.LiveSeen.{LiveSeen, StandsLive, Leaves}
-use Rattle.ram_core.proofs.Stepped.{step_nowhere}
+use Rattle.machine_spec.specs.States.{Flight, LiveState, Live}
+use Rattle.machine_spec.specs.Sound.{IsState}
+use Rattle.machine_spec.specs.LiveZones.{Target, target}
+use Rattle.machine_spec.specs.LiveCalls.{step, finish}
+use Rattle.machine_spec.specs.ZoneCalls.{stores_left}
+use Rattle.ramoops.specs.LiveSeen.{LiveSeen, StandsLive, Leaves}
+use Rattle.ramoops.proofs.Stepped.{step_nowhere}
 use Rattle.tool_laws.proofs.Steps.{steps_add_up, steps_end, no_steps_leave_state, finish_is_steps}
 use Rattle.ram_session.specs.Answers.{Done, IsRefused}
 

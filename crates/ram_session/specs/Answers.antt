@@ -3,11 +3,11 @@ use Rattle.std.specs.Prelude.{◌≡◌, ℕ, List, Result, Err}
 use Rattle.zone_spec.specs.declared.Zone.{Zone}
 use Rattle.zone_spec.specs.declared.Refusal.{Refusal}
 use Rattle.zone_spec.specs.Layouts.{IsLayout}
-use Rattle.session_spec.specs.States.{LiveState, Live}
-use Rattle.session_spec.specs.Sound.{IsState}
+use Rattle.machine_spec.specs.States.{LiveState, Live}
+use Rattle.machine_spec.specs.Sound.{IsState}
 use Rattle.zone_spec.specs.declared.ZoneName.{ZoneName}
-use Rattle.session_spec.specs.LiveCalls.{Ask, asked_name, begin}
-use Rattle.ram_core.specs.LiveSeen.{LiveSeen, StandsLive, Leaves}
+use Rattle.machine_spec.specs.LiveCalls.{Ask, asked_name, begin}
+use Rattle.ramoops.specs.LiveSeen.{LiveSeen, StandsLive, Leaves}
 
 -- an operation was done: the machine stands for the state that it leaves
 abbrev pub Done : LiveSeen → LiveSeen → (List Zone → LiveState → Result LiveState Refusal) → Type 0

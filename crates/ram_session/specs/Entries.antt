@@ -4,10 +4,10 @@ use Rattle.std.specs.Option.{option_map, IsSome}
 use Rattle.std.specs.Global.{Vec}
 use Rattle.zone_spec.specs.Names.{name_text}
 use Rattle.zone_spec.specs.Records.{Listed}
-use Rattle.pstore_names.specs.declared.records.ContentFault.{ContentFault}
-use Rattle.pstore_names.specs.declared.records.ContentFault.TheVariants.{NoRecord, Memory}
-use Rattle.pstore_names.specs.declared.table.Entry.{Entry}
-use Rattle.pstore_names.specs.declared.moving.Move.{Move}
+use Rattle.pstore_records.specs.declared.records.ContentFault.{ContentFault}
+use Rattle.pstore_records.specs.declared.records.ContentFault.TheVariants.{NoRecord, Memory}
+use Rattle.pstore_records.specs.declared.table.Entry.{Entry}
+use Rattle.pstore_records.specs.declared.moving.Move.{Move}
 use Rattle.tool_spec.specs.Texts.{newline, time_text}
 
 -- the line of a record

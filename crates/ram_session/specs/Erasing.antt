@@ -5,12 +5,12 @@ use Rattle.zone_spec.specs.declared.Name.{Name}
 use Rattle.zone_spec.specs.Layouts.{IsLayout}
 use Rattle.zone_spec.specs.Records.{Saved, Listed}
 use Rattle.zone_spec.specs.Notices.{is_in}
-use Rattle.session_spec.specs.States.{LiveZone, LiveState, Live}
-use Rattle.session_spec.specs.Sound.{IsState}
-use Rattle.session_spec.specs.LiveZones.{flies}
-use Rattle.session_spec.specs.Erasures.{saved_logs, erase_zone, erased}
-use Rattle.old_log.specs.Saving.{SavedLogs, saved}
-use Rattle.ram_core.specs.LiveSeen.{LiveSeen, StandsLive}
+use Rattle.machine_spec.specs.States.{LiveZone, LiveState, Live}
+use Rattle.machine_spec.specs.Sound.{IsState}
+use Rattle.machine_spec.specs.LiveZones.{flies}
+use Rattle.machine_spec.specs.Erasures.{saved_logs, erase_zone, erased}
+use Rattle.prz_read.specs.Saving.{SavedLogs, saved}
+use Rattle.ramoops.specs.LiveSeen.{LiveSeen, StandsLive}
 use Rattle.grammar_spec.specs.Fields.{Text}
 use Rattle.tool_spec.specs.Scripts.{named}
 use Rattle.tool_spec.specs.declared.Cause.TheVariants.{NoRecord, Busy}

@@ -2,8 +2,8 @@
 use Rattle.std.specs.Prelude.{◌≡◌, ℕ, List, Ok, Err}
 use Rattle.zone_spec.specs.declared.Zone.{Zone}
 use Rattle.zone_spec.specs.Layouts.{IsLayout}
-use Rattle.session_spec.specs.States.{Session}
-use Rattle.session_spec.specs.Sound.{IsState}
+use Rattle.machine_spec.specs.States.{Session}
+use Rattle.machine_spec.specs.Sound.{IsState}
 use Rattle.grammar_spec.specs.Fields.{Text}
 use Rattle.grammar_spec.specs.declared.line.Line.{Line}
 use Rattle.tool_spec.specs.Scripts.{Kernel as KernelOf, new_kernel, line_done}

@@ -1,13 +1,13 @@
 -- The lines of a script done in order, each text put as its line is done
 use Rattle.std.specs.Prelude.{◌≡◌, ℕ, List, length, Option, Result, Ok, Err}
 use Rattle.std.specs.Io.KnownBytes.{Appends}
-use Rattle.box_io.specs.Outside.{AppendsFront, Rose}
+use Rattle.outside.specs.Outside.{AppendsFront, Rose}
 use Rattle.zone_spec.specs.declared.Zone.{Zone}
 use Rattle.zone_spec.specs.Layouts.{IsLayout}
 use Rattle.zone_spec.specs.Parts.{AreBytes}
-use Rattle.session_spec.specs.States.{Session}
-use Rattle.session_spec.specs.Off.{fresh}
-use Rattle.ram_core.specs.OffSeen.{OffSeen, StandsOff}
+use Rattle.machine_spec.specs.States.{Session}
+use Rattle.machine_spec.specs.Off.{fresh}
+use Rattle.ramoops.specs.OffSeen.{OffSeen, StandsOff}
 use Rattle.grammar_spec.specs.Fields.{Text}
 use Rattle.grammar_spec.specs.declared.line.Line.{Line}
 use Rattle.tool_spec.specs.declared.Stop.{Stop}

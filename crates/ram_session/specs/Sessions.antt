@@ -2,13 +2,13 @@
 use Rattle.std.specs.Prelude.{◌≡◌, ⊤, ℕ, List, Ok, Err}
 use Rattle.zone_spec.specs.declared.Zone.{Zone}
 use Rattle.zone_spec.specs.Layouts.{IsLayout}
-use Rattle.session_spec.specs.States.{Session, Off as OffOf, Live as LiveOf}
-use Rattle.session_spec.specs.Sound.{IsState}
-use Rattle.session_spec.specs.Erasures.{saved_logs}
-use Rattle.old_log.specs.Saving.{saved}
-use Rattle.old_log.specs.Saving.{SavedLogs}
-use Rattle.ram_core.specs.OffSeen.{OffSeen, StandsOff}
-use Rattle.ram_core.specs.LiveSeen.{LiveSeen, StandsLive}
+use Rattle.machine_spec.specs.States.{Session, Off as OffOf, Live as LiveOf}
+use Rattle.machine_spec.specs.Sound.{IsState}
+use Rattle.machine_spec.specs.Erasures.{saved_logs}
+use Rattle.prz_read.specs.Saving.{saved}
+use Rattle.prz_read.specs.Saving.{SavedLogs}
+use Rattle.ramoops.specs.OffSeen.{OffSeen, StandsOff}
+use Rattle.ramoops.specs.LiveSeen.{LiveSeen, StandsLive}
 use Rattle.grammar_spec.specs.Fields.{Text}
 use Rattle.grammar_spec.specs.declared.line.Line.{Line}
 use Rattle.grammar_spec.specs.declared.line.Line.TheVariants.{Write, Dump, BeginWrite, BeginErase, BeginDump, Step, Finish, KMsg, Crash, Boot, BootPart, Stop, List as ListLine, Extract}

@@ -1,10 +1,10 @@
 // Calls in a live store, as a session's lines ask for them.
 ghost use Rattle.std.specs.Prelude.{◌≡◌, OnOk, OnErr, IfOk, IfErr};
-ghost use Rattle.session_spec.specs.LiveCalls.{make as makes, step as steps, finish as finishes};
-ghost use Rattle.ram_core.specs.Asks.{ask_seen, CanBeAsked};
+ghost use Rattle.machine_spec.specs.LiveCalls.{make as makes, step as steps, finish as finishes};
+ghost use Rattle.ramoops.specs.Asks.{ask_seen, CanBeAsked};
 ghost use Rattle.ram_session.specs.Answers.{Done, IsRefused, Begun, NotBegun};
 
-use ram_core::{Ask, Live, Refusal, Refused};
+use ramoops::{Ask, Live, Refusal, Refused};
 use zone_spec::ZoneName;
 
 /// Makes the next `count` stores of a zone's flight, or all that are left.

@@ -4,17 +4,17 @@ ghost use Rattle.std.specs.Option.{option_map};
 ghost use Rattle.zone_spec.specs.declared.Zone.{Zone};
 ghost use Rattle.zone_spec.specs.Layouts.{zone_place};
 ghost use Rattle.zone_spec.specs.Notices.{is_in as is_in_record};
-ghost use Rattle.session_spec.specs.States.{LiveState};
-ghost use Rattle.session_spec.specs.LiveZones.{flies};
-ghost use Rattle.ram_core.specs.LiveSeen.{StandsLive};
+ghost use Rattle.machine_spec.specs.States.{LiveState};
+ghost use Rattle.machine_spec.specs.LiveZones.{flies};
+ghost use Rattle.ramoops.specs.LiveSeen.{StandsLive};
 ghost use Rattle.ram_session.specs.Erasing.{FliesAt, ErasesAt, Erases, Forgets, ErasesNamed, EraseFails};
 
 use crate::calls;
 use crate::machine::LineError;
 use crate::record_lines::named;
-use old_log::Logs;
-use pstore_names::{Name, is_in};
-use ram_core::{Ask, Live};
+use prz_read::Logs;
+use pstore_records::{Name, is_in};
+use ramoops::{Ask, Live};
 use tool_spec::Cause;
 use zone_spec::ZoneName;
 

@@ -1,6 +1,6 @@
 // The lines of a script, whatever the machine's state.
 ghost use Rattle.std.specs.Prelude.{◌≡◌, ◌+◌, ◌<◌, ◌≤◌, ◌^◌, [], IfOk, MatchResult};
-ghost use Rattle.old_log.specs.Saving.{SavedLogs};
+ghost use Rattle.prz_read.specs.Saving.{SavedLogs};
 ghost use Rattle.grammar_spec.specs.Printed.{HasFields};
 ghost use Rattle.grammar_spec.specs.declared.line.Line.TheVariants.{Boot};
 ghost use Rattle.ram_session.specs.Sessions.{Live as LiveStore, LineDone, LineFails, IsCall, KeepsKernel};
@@ -10,9 +10,9 @@ ghost use Rattle.ram_session.specs.declared.machine.Machine.TheVariants.{Off as 
 use crate::erasing::erase;
 use crate::machine::{LineError, Machine};
 use crate::{Kernel, kernel_lines, live_lines, off_lines, record_lines, state_lines};
-use box_script::Line;
-use old_log::Logs;
-use ram_core::{Live, Off};
+use prz_read::Logs;
+use ramoops::{Live, Off};
+use script::Line;
 use std::alloc::Global;
 use tool_spec::Cause;
 

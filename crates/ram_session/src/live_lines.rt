@@ -1,15 +1,15 @@
 // Lines while the machine is live: calls.
 ghost use Rattle.std.specs.Prelude.{◌≡◌, [], MatchResult};
-ghost use Rattle.old_log.specs.Saving.{SavedLogs};
-ghost use Rattle.session_spec.specs.Sound.{IsTime};
+ghost use Rattle.prz_read.specs.Saving.{SavedLogs};
+ghost use Rattle.machine_spec.specs.Sound.{IsTime};
 ghost use Rattle.ram_session.specs.Sessions.{Live as LiveStore, LineDone, LineFails};
 ghost use Rattle.grammar_spec.specs.declared.line.Line.TheVariants.{Write, Dump, BeginWrite, BeginErase, BeginDump, Step, Finish};
 ghost use Rattle.tool_spec.specs.Scripts.{refusal_cause};
 
 use crate::calls;
 use crate::machine::LineError;
-use box_io::Bytes;
-use ram_core::{Ask, Live, Refusal};
+use outside::Bytes;
+use ramoops::{Ask, Live, Refusal};
 use tool_spec::Cause;
 use zone_spec::{Time, ZoneName};
 

@@ -1,15 +1,15 @@
 // A script's machine.
 ghost use Rattle.std.specs.Prelude.{◌≡◌, ℕ, List};
 ghost use Rattle.zone_spec.specs.declared.Zone.{Zone};
-ghost use Rattle.session_spec.specs.States.{Session};
-ghost use Rattle.session_spec.specs.Stop.{session_image};
+ghost use Rattle.machine_spec.specs.States.{Session};
+ghost use Rattle.machine_spec.specs.Stop.{session_image};
 ghost use Rattle.ram_session.specs.Sessions.{Stands};
 ghost use Rattle.ram_session.specs.Machines.{store_of};
 
 use crate::Kernel;
-use box_io::Bytes;
-use old_log::Logs;
-use ram_core::{Live, Off};
+use outside::Bytes;
+use prz_read::Logs;
+use ramoops::{Live, Off};
 use std::alloc::AllocError;
 use tool_spec::Cause;
 

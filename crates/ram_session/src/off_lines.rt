@@ -4,7 +4,7 @@ ghost use Rattle.ram_session.specs.Sessions.{Off as OffStore, LineDone, LineRefu
 ghost use Rattle.grammar_spec.specs.declared.line.Line.TheVariants.{Flip};
 ghost use Rattle.tool_spec.specs.declared.Cause.TheVariants.{OutOfImage};
 
-use ram_core::Off;
+use ramoops::Off;
 use tool_spec::Cause;
 
 /// A flip of a byte.

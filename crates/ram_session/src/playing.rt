@@ -7,9 +7,9 @@ ghost use Rattle.ram_session.specs.Playing.{Puts, LineStops, Plays};
 
 use crate::lines::do_line;
 use crate::machine::{LineError, Machine};
-use box_io::{Failed, Sink};
-use box_script::{Line, Lines};
-use ram_core::Off;
+use outside::{Failed, Sink};
+use ramoops::Off;
+use script::{Line, Lines};
 use std::alloc::Global;
 use tool_spec::Stop;
 

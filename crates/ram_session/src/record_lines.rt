@@ -2,20 +2,20 @@
 ghost use Rattle.std.specs.Prelude.{◌≡◌, MatchResult};
 ghost use Rattle.std.specs.Option.{option_map};
 ghost use Rattle.zone_spec.specs.Names.{IsNameOf};
-ghost use Rattle.pstore_names.specs.Candidates.{IsCandidate};
+ghost use Rattle.pstore_records.specs.Candidates.{IsCandidate};
 ghost use Rattle.zone_spec.specs.Records.{Listed};
-ghost use Rattle.old_log.specs.Saving.{saved};
+ghost use Rattle.prz_read.specs.Saving.{saved};
 ghost use Rattle.grammar_spec.specs.declared.line.Line.TheVariants.{Extract};
 ghost use Rattle.tool_spec.specs.Scripts.{named as record_named};
 ghost use Rattle.ram_session.specs.Records.{IsContent};
 ghost use Rattle.ram_session.specs.Sessions.{Live as LiveStore, LineDone, LineFails};
-ghost use Rattle.ram_core.specs.LiveSeen.{LiveSeen};
+ghost use Rattle.ramoops.specs.LiveSeen.{LiveSeen};
 
 use crate::machine::LineError;
 use crate::texts::extract_text;
-use box_io::Bytes;
-use old_log::Logs;
-use pstore_names::{ContentFault, Name, content, find, length};
+use outside::Bytes;
+use prz_read::Logs;
+use pstore_records::{ContentFault, Name, content, find, length};
 use std::alloc::Global;
 use std::str;
 use tool_spec::Cause;

@@ -2,12 +2,12 @@
 ghost use Rattle.std.specs.Prelude.{[], IfOk, MatchResult};
 ghost use Rattle.ram_session.specs.Sessions.{Off as OffStore, Live as LiveStore, LineDone, LineFails};
 ghost use Rattle.grammar_spec.specs.declared.line.Line.TheVariants.{Boot, BootPart, Stop, List as ListLine};
-ghost use Rattle.ram_core.specs.LiveSeen.{LiveSeen};
+ghost use Rattle.ramoops.specs.LiveSeen.{LiveSeen};
 
 use crate::machine::LineError;
 use crate::texts::{boot_text, listing, part_text};
-use old_log::Logs;
-use ram_core::{Live, Off};
+use prz_read::Logs;
+use ramoops::{Live, Off};
 use std::alloc::{AllocError, Global};
 
 /// A boot, with the text of what it reads.

@@ -9,8 +9,8 @@ use Rattle.circular_buffer.proofs.Places.{slice_get-append_left, slice_get-last}
 use Rattle.zone_spec.specs.declared.Zone.{Zone}
 use Rattle.zone_spec.specs.Reading.{zone_reading}
 use Rattle.zone_spec.specs.Layouts.{zones_end, IsLayout}
-use Rattle.old_log.specs.Saving.{SavedLogs, saved}
-use Rattle.ram_region.specs.CutRegion.{cut_at}
+use Rattle.prz_read.specs.Saving.{SavedLogs, saved}
+use Rattle.prz_region.specs.CutRegion.{cut_at}
 use Rattle.report_spec.specs.Parts.{part_states, zone_bytes}
 use Rattle.record_report.specs.declared.report.Readings.{Readings}
 use Rattle.record_report.specs.Reports.{SpansFit, Adds, ReadsTo, IsReport}

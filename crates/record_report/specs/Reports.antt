@@ -2,7 +2,7 @@
 use Rattle.std.specs.Prelude.{◌≡◌, ℕ, ◌<◌, List, [], ◌∷◌, ◌++◌, length, slice_get, Some}
 use Rattle.zone_spec.specs.declared.Zone.{Zone}
 use Rattle.zone_spec.specs.Reading.{zone_reading}
-use Rattle.old_log.specs.Saving.{SavedLogs, saved}
+use Rattle.prz_read.specs.Saving.{SavedLogs, saved}
 use Rattle.report_spec.specs.Parts.{PartStates, part_states, zone_bytes}
 use Rattle.report_spec.specs.Records.{records_held}
 use Rattle.report_spec.specs.Packed.{RecordShown, AreShown}

@@ -11,7 +11,7 @@ mod shown;
 pub use deaths::{Told, death_told};
 pub use laws::one_shown;
 pub use newest::{console, newest_dump};
-pub use old_log::ZoneParts;
+pub use prz_read::ZoneParts;
 pub use report::{Report, report_of, report_of_zones};
 pub use report_spec::{Packing, PartState, TextFault};
 pub use shown::RecordReport;

@@ -5,14 +5,14 @@ ghost use Rattle.zone_spec.specs.Zones.{IsValidZone};
 ghost use Rattle.zone_spec.specs.Layouts.{IsLayout};
 ghost use Rattle.zone_spec.specs.Layout.{rounded};
 ghost use Rattle.zone_params.specs.Laid.{params_of, zones_of};
-ghost use Rattle.old_log.specs.Saving.{AreNumbered};
+ghost use Rattle.prz_read.specs.Saving.{AreNumbered};
 ghost use Rattle.record_report.specs.Reports.{SpansFit, ReadsTo, IsReport};
 
 use crate::shown::{RecordReport, shown_records};
-use box_io::Bytes;
-use old_log::{Logs, ZoneParts, read_parts};
-use pstore_names::held_records;
-use ram_region::{Region, Span, Spans};
+use outside::Bytes;
+use prz_read::{Logs, ZoneParts, read_parts};
+use prz_region::{Region, Span, Spans};
+use pstore_records::held_records;
 use std::alloc::{AllocError, Global};
 use std::marker::Model;
 use zone_params::types::Layout;
@@ -27,7 +27,7 @@ pub struct Report {
 }
 
 impl Model for Report {
-    ghost use Rattle.old_log.specs.Saving.{AreNumbered};
+    ghost use Rattle.prz_read.specs.Saving.{AreNumbered};
     ghost use Rattle.record_report.specs.Reports.{ReportHeld};
 
     ghost Value = { ReportHeld };
@@ -66,7 +66,7 @@ pub struct Readings {
 }
 
 impl Readings {
-    ghost use Rattle.old_log.specs.Saving.{AreNumbered};
+    ghost use Rattle.prz_read.specs.Saving.{AreNumbered};
     ghost use Rattle.record_report.specs.Reports.{Adds};
 
     // Reads the next zone, whose bytes are the span's.

@@ -3,9 +3,9 @@ ghost use Rattle.std.specs.Prelude.{◌≡◌, IfOk};
 ghost use Rattle.report_spec.specs.declared.Packing.TheVariants.{Part};
 ghost use Rattle.report_spec.specs.Packed.{most_of, as_it_stands, inflated, IsUnpacked, IsShown, AreShown, readable};
 
-use box_io::Bytes;
 use inflate::{InflateError, Inflated, inflate};
-use pstore_names::HeldRecord;
+use outside::Bytes;
+use pstore_records::HeldRecord;
 use report_spec::{Packing, TextFault};
 use std::alloc::{AllocError, Global};
 use std::marker::Model;

@@ -10,8 +10,8 @@ use Rattle.zone_spec.specs.Records.{Saved}
 use Rattle.report_spec.specs.declared.PartState.{PartState}
 use Rattle.report_spec.specs.Parts.{PartStates}
 use Rattle.std.proofs.lemmas.Slice.Zip.{length-zip}
-use Rattle.old_log.specs.Saving.{SavedLogs}
-use Rattle.old_log.proofs.Saves.{zip-at}
+use Rattle.prz_read.specs.Saving.{SavedLogs}
+use Rattle.prz_read.proofs.Saves.{zip-at}
 use Rattle.report_html.specs.Pieces.{Part}
 use Rattle.report_html.proofs.Joined.{joined}
 use Rattle.report_html.specs.Pictures.{place_parts, read_words, runs, run_parts, unused_parts, zone_parts}

@@ -23,7 +23,7 @@ use Rattle.report_spec.specs.Deaths.{DeathTold, death_told}
 use Rattle.death_spec.specs.declared.Span.{Span}
 use Rattle.death_spec.specs.declared.Death.{Death}
 use Rattle.death_spec.specs.Lines.{part}
-use Rattle.ram_region.proofs.Chains.{AreBytes-take, AreBytes-drop}
+use Rattle.prz_region.proofs.Chains.{AreBytes-take, AreBytes-drop}
 use Rattle.record_report.specs.Reports.{ReportHeld}
 use Rattle.report_html.specs.Pieces.{Part, Words, Count, parts_text}
 use Rattle.report_html.specs.Pictures.{corrected_parts, blocks_parts, run_parts, runs, unused_parts, place_parts, read_words, zone_parts, legend_parts, picture_opening, picture}

@@ -11,7 +11,7 @@ ghost use Rattle.report_html.specs.Escaping.{HoldBytes, TellsBytes, IsWithoutMar
 use crate::died::add_died;
 use crate::picture::add_picture;
 use crate::pieces::{Piece, add, render};
-use box_io::Bytes;
+use outside::Bytes;
 use record_report::{Packing, RecordReport, Report};
 use std::alloc::{AllocError, Global};
 use zone_spec::{Name, Time, Zone};

@@ -7,7 +7,7 @@ ghost use Rattle.report_html.specs.Pieces.{parts};
 ghost use Rattle.report_html.specs.Pictures.{kind_words, zone_name, state_words, read_words, opening, closing, place_parts, part_words, range_parts, count_parts, corrected_parts, block_at, blocks_opening, blocks_parts, is_alike, runs, run_parts, unused_parts, zone_parts, end_of, picture_opening, legend_parts, picture};
 
 use crate::pieces::{Piece, add};
-use old_log::Reading;
+use prz_read::Reading;
 use record_report::{PartState, Report, ZoneParts};
 use std::alloc::AllocError;
 use zone_spec::{Kind, State, Zone};

@@ -23,8 +23,8 @@ use Rattle.zone_spec.specs.declared.params.Params.{Params}
 use Rattle.zone_spec.specs.Names.{name_text}
 use Rattle.zone_spec.specs.Reading.{ZoneReading}
 use Rattle.zone_spec.specs.Records.{Saved}
-use Rattle.old_log.specs.Saving.{saved}
-use Rattle.pstore_names.specs.Counts.{corrected_in, bad_in}
+use Rattle.prz_read.specs.Saving.{saved}
+use Rattle.pstore_records.specs.Counts.{corrected_in, bad_in}
 use Rattle.death_spec.specs.declared.Line.{Line}
 use Rattle.death_spec.specs.declared.Span.{Span}
 use Rattle.death_spec.specs.declared.Death.{Death}

@@ -9,7 +9,7 @@ use crate::records::utf8_front;
 use arrayvec::ArrayString;
 use death::{part, trace};
 use death_spec::{Death, Line, Span};
-use pstore_names::name_text;
+use pstore_records::name_text;
 use record_report::{RecordReport, Told, death_told};
 use serde_json::{Value, json};
 use std::alloc::{AllocError, Global};

@@ -1,5 +1,5 @@
 // Images of one compressed dump, for the tests of each crate.
-use box_io::Bytes;
+use outside::Bytes;
 use record_report::{Report, report_of};
 use std::alloc::Global;
 use std::test::Fail;

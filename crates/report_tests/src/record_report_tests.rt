@@ -1,7 +1,7 @@
 // Worked images: what their reports hold.
 use crate::packed_dumps::{DAMAGED, TEXT, WHOLE, report_on};
-use box_io::Bytes;
 use inflate_spec::Fault;
+use outside::Bytes;
 use record_report::*;
 use std::alloc::Global;
 use std::test::Fail;

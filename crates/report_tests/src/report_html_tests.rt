@@ -1,7 +1,7 @@
 // Pages and escaped bytes.
 use crate::packed_dumps::{DAMAGED, WHOLE, report_on, zones_of};
 use crate::worked_deaths::{self, CONSOLE, NAMED, NONE};
-use box_io::Bytes;
+use outside::Bytes;
 use record_report::report_of;
 use report_html::*;
 use std::test::Fail;

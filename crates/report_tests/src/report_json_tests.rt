@@ -1,7 +1,7 @@
 // Lines of worked images.
 use crate::packed_dumps::{DAMAGED, PARAMS, WHOLE, report_on, zones_of};
 use crate::worked_deaths::{self, CONSOLE, FATAL, NAMED, NONE, PANIC};
-use box_io::Bytes;
+use outside::Bytes;
 use record_report::report_of;
 use report_json::*;
 use std::alloc::Global;

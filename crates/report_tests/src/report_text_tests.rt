@@ -1,7 +1,7 @@
 // Texts of worked images, and dates in them.
 use crate::packed_dumps::{DAMAGED, WHOLE, image_of, zones_of};
 use crate::worked_deaths::{self, CONSOLE, NAMED, NONE, OOPS, PANIC};
-use box_io::Bytes;
+use outside::Bytes;
 use record_report::report_of;
 use report_text::text;
 use std::alloc::Global;

@@ -2,8 +2,8 @@
 ghost use Rattle.std.specs.Prelude.{None};
 
 use crate::packed_dumps::{DAMAGED, WHOLE, image_of};
-use box_io::{Bytes, Calls, Failed, MemSink, MemStore};
 use grammar_spec::ParamFault;
+use outside::{Bytes, Calls, Failed, MemSink, MemStore};
 use report_tool::*;
 use std::alloc::Global;
 use std::test::Fail;

@@ -1,5 +1,5 @@
 // Images of three dumps and a console, for the tests of why a machine died.
-use box_io::Bytes;
+use outside::Bytes;
 use record_report::{Report, report_of};
 use std::alloc::Global;
 use std::test::Fail;

@@ -6,7 +6,7 @@ use Rattle.jiff.specs.Words.{civil_nanos}
 use Rattle.zone_spec.specs.declared.Time.{Time}
 use Rattle.std.proofs.lemmas.List.{take_all}
 use Rattle.std.proofs.lemmas.Option.{slice_get_within}
-use Rattle.pstore_names.proofs.Steps.{item-at}
+use Rattle.pstore_records.proofs.Steps.{item-at}
 use Rattle.report_spec.specs.Packed.{RecordShown}
 use Rattle.report_text.specs.Pieces.{Part, Words}
 use Rattle.report_text.specs.Whole.{IsRecordTable}

@@ -1,6 +1,6 @@
 -- The whole text of a report
 use Rattle.std.specs.Prelude.{◌≡◌, ℕ, List, [], ◌∷◌, ◌++◌, length, flat_map, codes}
-use Rattle.old_log.specs.Saving.{SavedLogs, saved}
+use Rattle.prz_read.specs.Saving.{SavedLogs, saved}
 use Rattle.report_spec.specs.Packed.{RecordShown}
 use Rattle.report_spec.specs.Newest.{newest, console_of}
 use Rattle.report_spec.specs.Deaths.{death_told}

@@ -7,7 +7,7 @@ ghost use Rattle.report_text.specs.Whole.{tails};
 
 use crate::pieces::{Piece, add};
 use crate::visible::is_plain;
-use box_io::Bytes;
+use outside::Bytes;
 use record_report::{Packing, RecordReport, console, newest_dump};
 use std::alloc::AllocError;
 

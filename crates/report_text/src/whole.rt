@@ -10,7 +10,7 @@ use crate::lines::add_tails;
 use crate::pieces::{Piece, add, render};
 use crate::records::add_records;
 use crate::zones::add_zones;
-use box_io::Bytes;
+use outside::Bytes;
 use record_report::Report;
 use std::alloc::{AllocError, Global};
 use zone_spec::Zone;

@@ -6,7 +6,7 @@ ghost use Rattle.report_text.specs.Tables.{kind_words, state_words, read_words, 
 ghost use Rattle.report_text.specs.Whole.{zone_table};
 
 use crate::pieces::{Piece, add};
-use old_log::{Logs, Reading};
+use prz_read::{Logs, Reading};
 use std::alloc::AllocError;
 use zone_spec::{Kind, State, Zone};
 

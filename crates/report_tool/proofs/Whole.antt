@@ -6,9 +6,9 @@ use Rattle.zone_spec.specs.Layouts.{IsLayout}
 use Rattle.zone_spec.specs.Layout.{rounded}
 use Rattle.zone_params.proofs.WholeLayout.{whole_layout, layout_mem_small}
 use Rattle.kernel_layout.proofs.Laid.{answered, whole, few, numbered}
-use Rattle.old_log.specs.Saving.{AreNumbered}
-use Rattle.old_log.proofs.Saves.{layout-few}
-use Rattle.old_log.proofs.Numbered.{numbers-small}
+use Rattle.prz_read.specs.Saving.{AreNumbered}
+use Rattle.prz_read.proofs.Saves.{layout-few}
+use Rattle.prz_read.proofs.Numbered.{numbers-small}
 use Rattle.report_tool.specs.Layouts.{layout_by, memory_by}
 
 pub record IsWhole (zones : List Zone) (mem : ℕ) : Type 0 where

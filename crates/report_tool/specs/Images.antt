@@ -1,7 +1,7 @@
 -- One image, from its store to the sink
 use Rattle.std.specs.Prelude.{◌≡◌, ℕ, ◌≤◌, List, length, take, ⊤, Option, IfSome}
 use Rattle.std.specs.Io.KnownBytes.{Appends}
-use Rattle.box_io.specs.Outside.{Rose, AppendsFront}
+use Rattle.outside.specs.Outside.{Rose, AppendsFront}
 use Rattle.record_report.specs.Reports.{ReportHeld, IsReport}
 use Rattle.tool_spec.specs.declared.Stop.{Stop}
 use Rattle.tool_spec.specs.declared.Stop.TheVariants.{Memory, ImageFault, Short, SinkFault}

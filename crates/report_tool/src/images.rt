@@ -6,7 +6,7 @@ ghost use Rattle.report_tool.specs.Images.{IsRead, IsReported, IsNotReported};
 
 use crate::showing::{Format, shown};
 use crate::{Plan, Stop};
-use box_io::{Bytes, Failed, Load, Sink};
+use outside::{Bytes, Failed, Load, Sink};
 use record_report::{Report, report_of_zones};
 use std::alloc::Global;
 use tool_frame::load;

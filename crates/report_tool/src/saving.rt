@@ -1,12 +1,12 @@
 // The records of a report as files.
 ghost use Rattle.std.specs.Prelude.{◌≡◌, ℕ, [], ◌∷◌, List, Option, MatchResult, OnOk, OnErr};
-ghost use Rattle.box_io.specs.Outside.{HasCause};
+ghost use Rattle.outside.specs.Outside.{HasCause};
 ghost use Rattle.zone_spec.specs.Names.{name_text};
 ghost use Rattle.report_tool.specs.Saved.{Makes, MakesFirst, files_of};
 
 use arrayvec::ArrayString;
-use box_io::Failed;
-use pstore_names::name_text;
+use outside::Failed;
+use pstore_records::name_text;
 use record_report::{RecordReport, Report};
 
 /// A folder in which files are made.

@@ -6,12 +6,12 @@ ghost use Rattle.std.specs.Iterator.{YieldsFirst, item_count};
 ghost use Rattle.zone_spec.specs.Parts.{standing_words};
 ghost use Rattle.zone_spec.specs.Reading.{IsRing, log_places};
 
-use ram_region::Span;
+use prz_region::Span;
 use std::iter::FusedIterator;
 use std::marker::Model;
 use zone_spec::Words;
 
-/// What the words of a header say (`fs/pstore/ram_core.c`).
+/// What the words of a header say (`fs/pstore/ramoops.c`).
 pub trait RingWords {
     /// Words that are a ring of a capacity.
     ghost is_ring_of: { Self → ℕ → Type 0 };

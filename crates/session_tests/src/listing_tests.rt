@@ -1,6 +1,6 @@
 // Records of saved readings that are made here: their list, and their contents by name.
-use box_io::Bytes;
-use old_log::{Logs, Reading, State, Words};
+use outside::Bytes;
+use prz_read::{Logs, Reading, State, Words};
 use ram_session::{LineError, content_of, listing};
 use std::alloc::{AllocError, Global};
 use std::test::Fail;

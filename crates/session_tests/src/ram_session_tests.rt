@@ -2,11 +2,11 @@
 ghost use Rattle.std.specs.Prelude.{◌≡◌};
 
 use crate::stores::off;
-use box_io::{Bytes, Calls, MemSink};
-use box_script::parse;
-use old_log::Logs;
-use ram_core::{Ask, Live, Refusal};
+use outside::{Bytes, Calls, MemSink};
+use prz_read::Logs;
 use ram_session::{LineError, Machine, begin, content_of, finish, make, play, step};
+use ramoops::{Ask, Live, Refusal};
+use script::parse;
 use std::process::Abort;
 use std::test::Fail;
 use tool_spec::{Cause, Stop};

@@ -1,8 +1,8 @@
 // Layouts by their words, and a store of zeros.
 ghost use Rattle.std.specs.Prelude.{◌≡◌, length, IfOk};
 
-use box_io::Bytes;
-use ram_core::Off;
+use outside::Bytes;
+use ramoops::Off;
 use std::alloc::{AllocError, Global};
 use std::test::Fail;
 use zone_params::types::Layout;

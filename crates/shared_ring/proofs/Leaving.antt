@@ -15,7 +15,7 @@ use Rattle.shared_spec.specs.Calls.{SharedCall, is_open_call, if_open, open_call
 use Rattle.shared_spec.specs.Machine.{SharedZone, CanShare, opened, call_place, refusal, reserved, reserved_unless, next_stored, stepped_if, step_answer, open_calls}
 use Rattle.shared_spec.specs.Runs.{SharedOperation, Reserve, StoreNext, operated, shared_after}
 use Rattle.shared_spec.specs.Histories.{History, shared_zone, and_then}
-use Rattle.session_spec.specs.Zones.{zone_bytes}
+use Rattle.machine_spec.specs.Zones.{zone_bytes}
 use Rattle.shared_laws.specs.Seats.{after_step}
 use Rattle.shared_laws.proofs.Positions.{more_left, more_last, one_more as call_more, set_there, set_elsewhere}
 use Rattle.shared_laws.proofs.Counts.{open_call-some, open_call-is}

@@ -11,11 +11,11 @@ use Rattle.zone_spec.specs.declared.Zone.{Zone}
 use Rattle.zone_spec.specs.declared.ZoneName.{ZoneName}
 use Rattle.zone_spec.specs.Parts.{standing_words}
 use Rattle.zone_spec.specs.Layouts.{IsLayout, zones_end, zone_place}
-use Rattle.session_spec.specs.Zones.{zone_bytes}
+use Rattle.machine_spec.specs.Zones.{zone_bytes}
 use Rattle.shared_spec.specs.Machine.{CanShare, opened, open_calls_from}
 use Rattle.shared_spec.specs.Runs.{shared_after}
 use Rattle.shared_spec.specs.Histories.{History, CanOpen, image_left}
-use Rattle.ram_region.specs.CutRegion.{span, cut_at}
+use Rattle.prz_region.specs.CutRegion.{span, cut_at}
 use Rattle.shared_ring.specs.Seen.{SharedSeen, IsWhole, StandsFor, IsLeftBy}
 use Rattle.shared_ring.proofs.Regions.{joined}
 

@@ -3,7 +3,7 @@ use Rattle.std.proofs.Common.{◌≡◌, ℕ, zero, suc, ◌+◌, ◌<◌, List,
 use Rattle.std.specs.List.{concat}
 use Rattle.std.proofs.lemmas.List.{take-set, drop-set-lt, get_or-set_same}
 use Rattle.zone_spec.specs.Stores.{put}
-use Rattle.ram_region.specs.CutRegion.{CutRegion, span, with_span}
+use Rattle.prz_region.specs.CutRegion.{CutRegion, span, with_span}
 
 -- ---- one span stored into
 

@@ -10,8 +10,8 @@ use Rattle.zone_spec.specs.declared.Words.{Words}
 use Rattle.zone_spec.specs.Zones.{IsValidZone}
 use Rattle.zone_spec.specs.Parts.{standing_words}
 use Rattle.zone_spec.specs.Layouts.{IsLayout, is_zone, zone_place}
-use Rattle.session_spec.specs.Zones.{zone_bytes}
-use Rattle.session_laws.proofs.Lists.{zone_within}
+use Rattle.machine_spec.specs.Zones.{zone_bytes}
+use Rattle.machine_laws.proofs.Lists.{zone_within}
 use Rattle.shared_spec.specs.Machine.{CanShare}
 use Rattle.shared_spec.specs.Histories.{CanOpen}
 use Rattle.shared_ring.specs.Seats.{IsOpenRing}

@@ -8,7 +8,7 @@ use Rattle.zone_spec.specs.Parts.{standing_words}
 use Rattle.zone_spec.specs.Stores.{put}
 use Rattle.ring_laws.proofs.Images.{length-put}
 use Rattle.shared_laws.proofs.PlainZones.{put_start, put_size, byte_words}
-use Rattle.ram_region.specs.CutRegion.{span, with_span}
+use Rattle.prz_region.specs.CutRegion.{span, with_span}
 use Rattle.shared_ring.specs.declared.seats.Seat.{Seat}
 use Rattle.shared_ring.specs.Seats.{one_more}
 use Rattle.shared_ring.specs.Seen.{SharedSeen, bytes_of, words_of, IsWhole, seated, stepped, words_stored}

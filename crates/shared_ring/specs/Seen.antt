@@ -7,8 +7,8 @@ use Rattle.zone_spec.specs.declared.Zone.{Zone}
 use Rattle.zone_spec.specs.declared.Words.{Words}
 use Rattle.zone_spec.specs.Parts.{standing_words}
 use Rattle.zone_spec.specs.Stores.{put}
-use Rattle.session_spec.specs.Zones.{zone_bytes}
-use Rattle.ram_region.specs.CutRegion.{CutRegion, span, with_span}
+use Rattle.machine_spec.specs.Zones.{zone_bytes}
+use Rattle.prz_region.specs.CutRegion.{CutRegion, span, with_span}
 use Rattle.shared_spec.specs.declared.NoCall.{NoCall}
 use Rattle.shared_spec.specs.declared.Next.{Next}
 use Rattle.shared_spec.specs.declared.SharedRefusal.{SharedRefusal}

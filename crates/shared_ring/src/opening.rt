@@ -5,13 +5,13 @@ ghost use Rattle.std.proofs.Common.{w32};
 ghost use Rattle.zone_spec.specs.Layout.{rounded};
 ghost use Rattle.zone_spec.specs.Zones.{IsValidZone};
 ghost use Rattle.zone_spec.specs.Parts.{standing_words};
-ghost use Rattle.session_spec.specs.Zones.{zone_bytes};
+ghost use Rattle.machine_spec.specs.Zones.{zone_bytes};
 ghost use Rattle.shared_spec.specs.Machine.{CanShare};
 ghost use Rattle.zone_params.specs.Laid.{params_of, zones_of};
 ghost use Rattle.shared_spec.specs.Histories.{CanOpen};
 ghost use Rattle.shared_ring.specs.Seats.{IsOpenRing};
 
-use box_io::Bytes;
+use outside::Bytes;
 use zone_params::types::Layout;
 use zone_spec::{Words, Zone, ZoneName};
 

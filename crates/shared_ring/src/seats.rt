@@ -5,7 +5,7 @@ ghost use Rattle.shared_ring.specs.declared.seats.Seat.{Seat as ASeat};
 ghost use Rattle.shared_ring.specs.Seats.{is_of, shown_seat, IsSeat, AreSeats, held_since, seats_stepped, next_of};
 
 use arrayvec::ArrayVec;
-use box_io::Bytes;
+use outside::Bytes;
 use shared_spec::{Next, OpenCall};
 
 /// An open call: its ticket, the data place of its payload's first byte, how many bytes are stored, and the payload.

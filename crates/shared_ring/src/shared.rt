@@ -4,11 +4,11 @@ ghost use Rattle.std.specs.Int.{to_le_bytes};
 ghost use Rattle.std.proofs.Common.{w32};
 ghost use Rattle.zone_spec.specs.Layout.{rounded};
 ghost use Rattle.zone_spec.specs.Stores.{put};
-ghost use Rattle.ram_region.specs.CutRegion.{span, with_span};
+ghost use Rattle.prz_region.specs.CutRegion.{span, with_span};
 ghost use Rattle.zone_spec.specs.Parts.{standing_words};
 ghost use Rattle.zone_params.specs.Laid.{params_of, zones_of};
 ghost use Rattle.zone_spec.specs.Reading.{zone_reading};
-ghost use Rattle.session_spec.specs.Zones.{zone_bytes};
+ghost use Rattle.machine_spec.specs.Zones.{zone_bytes};
 ghost use Rattle.shared_spec.specs.Calls.{open_count, open_call};
 ghost use Rattle.shared_spec.specs.Machine.{refusal as refusal_of, step_answer, full_list, open_calls as open_calls_of};
 ghost use Rattle.shared_spec.specs.Runs.{Reserve, StoreNext};
@@ -19,8 +19,8 @@ ghost use Rattle.shared_ring.specs.Seen.{IsLeftBy, words_of, seated, stepped, Is
 
 use crate::seats::{Seat, count_stored, find, held, next_byte, show};
 use arrayvec::ArrayVec;
-use box_io::Bytes;
-use ram_region::{CountedSpans, Region};
+use outside::Bytes;
+use prz_region::{CountedSpans, Region};
 use ring_header::RingWords;
 use shared_spec::{Next, NoCall, OpenCall, SharedRefusal};
 use std::alloc::AllocError;

@@ -1,7 +1,7 @@
 -- Steps of a call, one by one, are what a line stores
 use Rattle.std.proofs.Common.{◌≡◌, ℕ, zero, suc, ◌+◌, ◌<◌, ◌≤◌, Bool, true, false, nat_lt, List, refl, sym, ap, ◌∙◌, subst, arith, add-one, Some, None, Option, Ok, Err, is_some}
 use Rattle.std.proofs.lemmas.Bool.{ltb-true, ltb-false}
-use Rattle.session_spec.specs.Zones.{zone_bytes}
+use Rattle.machine_spec.specs.Zones.{zone_bytes}
 use Rattle.shared_spec.specs.declared.NoCall.{NoCall}
 use Rattle.shared_spec.specs.declared.SharedRefusal.{SharedRefusal}
 use Rattle.shared_spec.specs.Calls.{SharedCall, open_call}

@@ -8,8 +8,8 @@ ghost use Rattle.shared_ring.specs.Seen.{IsLeftBy};
 ghost use Rattle.tool_spec.specs.SharedScripts.{reserves, stores, with_steps, shared_line};
 ghost use Rattle.shared_session.specs.Left.{IsLeft};
 
-use box_io::Bytes;
-use box_script::Line;
+use outside::Bytes;
+use script::Line;
 use shared_ring::{NoCall, Shared, SharedRefusal};
 use tool_spec::Cause;
 

@@ -6,7 +6,7 @@ ghost use Rattle.shared_ring.specs.Seen.{IsLeftBy};
 ghost use Rattle.shared_session.specs.Left.{just_opened, IsOpened, Plays};
 
 use crate::lines::do_line;
-use box_script::Lines;
+use script::Lines;
 use shared_ring::Shared;
 use tool_spec::Stop;
 

@@ -15,8 +15,8 @@ use Rattle.zone_spec.specs.Boot.{fix_stores, boot_fixes, boot_erasure, boot_stor
 use Rattle.zone_spec.specs.Pairs.{pairs_from}
 use Rattle.zone_spec.specs.Touched.{touched_by, runs_of}
 use Rattle.zone_spec.specs.Windows.{words_after, windows_from, window_at}
-use Rattle.session_spec.specs.BootPart.{zones_parted}
-use Rattle.session_spec.specs.Operations.{session_after, causes}
+use Rattle.machine_spec.specs.BootPart.{zones_parted}
+use Rattle.machine_spec.specs.Operations.{session_after, causes}
 use Rattle.spec_rows.specs.Shown.{answers}
 
 -- all but parity, and the search for a codeword

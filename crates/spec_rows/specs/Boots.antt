@@ -5,9 +5,9 @@ use Rattle.zone_spec.specs.declared.Verdict.TheVariants.{NothingTold, AsTold, Di
 use Rattle.zone_spec.specs.declared.CallKind.TheVariants.{Erase}
 use Rattle.zone_spec.specs.declared.HeaderSeen.TheVariants.{Pair}
 use Rattle.zone_spec.specs.Reading.{state_of}
-use Rattle.session_spec.specs.LiveCalls.{Append}
-use Rattle.session_spec.specs.States.{OffZone, Session, Off, Live}
-use Rattle.session_spec.specs.Operations.{Operation, Boot, BootPart, Make, Stop, Flip}
+use Rattle.machine_spec.specs.LiveCalls.{Append}
+use Rattle.machine_spec.specs.States.{OffZone, Session, Off, Live}
+use Rattle.machine_spec.specs.Operations.{Operation, Boot, BootPart, Make, Stop, Flip}
 use Rattle.spec_rows.specs.Zones.{console, pmsg, dump, plain_zone, lone_console, small_console, four_small_zones}
 use Rattle.spec_rows.specs.Scenes.{abc, signature, then_zeros}
 use Rattle.spec_rows.specs.Shown.{Boots, Stops, boot, and_cut, run, left}

@@ -6,7 +6,7 @@ use Rattle.zone_spec.specs.Damage.{IsWithinBounds}
 use Rattle.zone_spec.specs.Told.{Dump}
 use Rattle.zone_spec.specs.Pairs.{pair_of}
 use Rattle.zone_spec.specs.Windows.{Window, current_window}
-use Rattle.session_spec.specs.Stop.{cut_of}
+use Rattle.machine_spec.specs.Stop.{cut_of}
 use Rattle.spec_rows.specs.Zones.{dump, console_of_sixteen, small_zone}
 use Rattle.spec_rows.specs.Scenes.{abc, zone_booted, zone_written}
 use Rattle.spec_rows.specs.Damage.{flipped_from, nine_masks}

@@ -9,9 +9,9 @@ use Rattle.zone_spec.specs.Parts.{standing_words}
 use Rattle.zone_spec.specs.Reading.{log_places, byte_read}
 use Rattle.zone_spec.specs.Told.{Append as AppendOf, Erase as EraseOf, told_after}
 use Rattle.zone_spec.specs.Calls.{image_after}
-use Rattle.session_spec.specs.Stop.{session_image}
-use Rattle.session_spec.specs.LiveCalls.{Append, Erase}
-use Rattle.session_spec.specs.Operations.{Operation, Boot, Make, Begin, Step, Stop}
+use Rattle.machine_spec.specs.Stop.{session_image}
+use Rattle.machine_spec.specs.LiveCalls.{Append, Erase}
+use Rattle.machine_spec.specs.Operations.{Operation, Boot, Make, Begin, Step, Stop}
 use Rattle.spec_rows.specs.Zones.{console, plain_zone, lone_console, small_console, four_zones}
 use Rattle.spec_rows.specs.Scenes.{abc, def, signature}
 use Rattle.spec_rows.specs.Shown.{Boots, boot, and_cut, run, left, records, contents}

@@ -8,8 +8,8 @@ use Rattle.zone_spec.specs.declared.HeaderSeen.TheVariants.{Pair, Foreign}
 use Rattle.zone_spec.specs.Reading.{zone_reading}
 use Rattle.zone_spec.specs.Told.{Call, Append}
 use Rattle.zone_spec.specs.Calls.{image_after}
-use Rattle.session_spec.specs.States.{OffZone}
-use Rattle.session_spec.specs.Stop.{cut_of}
+use Rattle.machine_spec.specs.States.{OffZone}
+use Rattle.machine_spec.specs.Stop.{cut_of}
 use Rattle.spec_rows.specs.Zones.{console, console_of_two, console_of_sixteen}
 use Rattle.spec_rows.specs.Scenes.{abc, def, signature, zone_written}
 use Rattle.spec_rows.specs.Shown.{zone_shown, boot, and_cut}

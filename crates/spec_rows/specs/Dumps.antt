@@ -8,10 +8,10 @@ use Rattle.zone_spec.specs.declared.HeaderSeen.TheVariants.{Pair}
 use Rattle.zone_spec.specs.declared.Refusal.TheVariants.{Busy}
 use Rattle.zone_spec.specs.Told.{Dump as DumpOf, told_after}
 use Rattle.zone_spec.specs.TimeLines.{line_text}
-use Rattle.session_spec.specs.States.{Session, Off, Live}
-use Rattle.session_spec.specs.Stop.{session_image}
-use Rattle.session_spec.specs.LiveCalls.{Append, Dump, Erase}
-use Rattle.session_spec.specs.Operations.{Operation, Boot, Make, Begin, Step, Stop, EraseRecord, Refused, NoRecord}
+use Rattle.machine_spec.specs.States.{Session, Off, Live}
+use Rattle.machine_spec.specs.Stop.{session_image}
+use Rattle.machine_spec.specs.LiveCalls.{Append, Dump, Erase}
+use Rattle.machine_spec.specs.Operations.{Operation, Boot, Make, Begin, Step, Stop, EraseRecord, Refused, NoRecord}
 use Rattle.spec_rows.specs.Zones.{console, pmsg, dump, four_zones}
 use Rattle.spec_rows.specs.Scenes.{abc, signature}
 use Rattle.spec_rows.specs.Shown.{Boots, Answer, Refuses, boot, and_cut, run, left, records, contents}

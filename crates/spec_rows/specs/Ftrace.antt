@@ -5,8 +5,8 @@ use Rattle.zone_spec.specs.declared.State.TheVariants.{Unsigned, Empty, Found}
 use Rattle.zone_spec.specs.declared.Verdict.TheVariants.{NothingTold, AsTold}
 use Rattle.zone_spec.specs.Ftrace.{merged}
 use Rattle.zone_spec.specs.Told.{told_after, Append as AppendOf}
-use Rattle.session_spec.specs.LiveCalls.{Append}
-use Rattle.session_spec.specs.Operations.{Operation, Boot, Make, Stop}
+use Rattle.machine_spec.specs.LiveCalls.{Append}
+use Rattle.machine_spec.specs.Operations.{Operation, Boot, Make, Stop}
 use Rattle.zone_spec.specs.declared.Zone.{Zone}
 use Rattle.zone_spec.specs.declared.Kind.TheVariants.{Ftrace}
 use Rattle.zone_spec.specs.Reading.{ZoneReading}

@@ -3,8 +3,8 @@ use Rattle.std.specs.Prelude.{◌≡◌, ℕ, ◌+◌, false, List, [], ◌∷�
 use Rattle.std.specs.List.{range_with_len}
 use Rattle.zone_spec.specs.declared.Zone.{Zone}
 use Rattle.zone_spec.specs.declared.Name.TheVariants.{Dump as DumpName}
-use Rattle.session_spec.specs.LiveCalls.{Append, Erase, Dump}
-use Rattle.session_spec.specs.Operations.{Operation, Boot, BootPart, Make, Begin, Step, Finish, EraseRecord, Stop, Flip}
+use Rattle.machine_spec.specs.LiveCalls.{Append, Erase, Dump}
+use Rattle.machine_spec.specs.Operations.{Operation, Boot, BootPart, Make, Begin, Step, Finish, EraseRecord, Stop, Flip}
 use Rattle.spec_rows.specs.Zones.{console, dump, small_zone, small_console, four_small_zones}
 use Rattle.spec_rows.specs.Scenes.{abc, def}
 use Rattle.history_spec.specs.Written.{written_in}

@@ -12,9 +12,9 @@ use Rattle.zone_spec.specs.Stages.{stage_count}
 use Rattle.zone_spec.specs.Cut.{cut_stages, cut_pairs}
 use Rattle.zone_spec.specs.Stores.{after_stores}
 use Rattle.zone_spec.specs.Boot.{boot_fixes, boot_stores}
-use Rattle.session_spec.specs.BootPart.{zone_cut, boot_cut}
-use Rattle.session_spec.specs.LiveCalls.{Append}
-use Rattle.session_spec.specs.Operations.{Boot, Make, Stop}
+use Rattle.machine_spec.specs.BootPart.{zone_cut, boot_cut}
+use Rattle.machine_spec.specs.LiveCalls.{Append}
+use Rattle.machine_spec.specs.Operations.{Boot, Make, Stop}
 use Rattle.spec_rows.specs.Zones.{console, console_of_two, console_of_sixteen}
 use Rattle.spec_rows.specs.Scenes.{abc, signature, zone_booted, zone_written}
 use Rattle.spec_rows.specs.Shown.{Boots, zone_shown, boot, and_cut, run, left, contents}

@@ -5,14 +5,14 @@ use Rattle.zone_spec.specs.declared.Name.TheVariants.{Console as ConsoleName, Pm
 use Rattle.zone_spec.specs.declared.State.TheVariants.{Unsigned, Empty, Found}
 use Rattle.zone_spec.specs.declared.Verdict.TheVariants.{NothingTold, AsTold}
 use Rattle.zone_spec.specs.declared.Refusal.TheVariants.{NoZone, Busy, Idle, OutOfImage}
-use Rattle.session_spec.specs.Stop.{session_image}
-use Rattle.session_spec.specs.LiveCalls.{Append, Erase, Dump}
-use Rattle.session_spec.specs.Operations.{Operation, Boot, BootPart, Make, Begin, Step, Finish, Stop, Flip, EraseRecord, Refused, WrongState, NoRecord, causes}
+use Rattle.machine_spec.specs.Stop.{session_image}
+use Rattle.machine_spec.specs.LiveCalls.{Append, Erase, Dump}
+use Rattle.machine_spec.specs.Operations.{Operation, Boot, BootPart, Make, Begin, Step, Finish, Stop, Flip, EraseRecord, Refused, WrongState, NoRecord, causes}
 use Rattle.std.specs.Prelude.{Option, Some, None}
-use Rattle.session_spec.specs.States.{Off}
-use Rattle.session_spec.specs.Off.{fresh}
+use Rattle.machine_spec.specs.States.{Off}
+use Rattle.machine_spec.specs.Off.{fresh}
 use Rattle.zone_spec.specs.declared.Zone.{Zone}
-use Rattle.session_spec.specs.Operations.{Cause}
+use Rattle.machine_spec.specs.Operations.{Cause}
 use Rattle.spec_rows.specs.Zones.{console, pmsg, dump, ftrace, small_zone, lone_console, small_console, four_small_zones, each_kind}
 use Rattle.spec_rows.specs.Scenes.{abc, signature}
 use Rattle.spec_rows.specs.Shown.{Boots, boot, run, left, records}

@@ -12,13 +12,13 @@ use Rattle.zone_spec.specs.Cut.{CutReport}
 use Rattle.zone_spec.specs.Records.{listed_of}
 use Rattle.zone_spec.specs.Names.{name_text}
 use Rattle.zone_spec.specs.Notices.{content}
-use Rattle.session_spec.specs.Zones.{zone_bytes}
-use Rattle.session_spec.specs.States.{OffZone, OffState, Session, Off, Live}
-use Rattle.session_spec.specs.Off.{fresh}
-use Rattle.session_spec.specs.Erasures.{saved_logs}
-use Rattle.session_spec.specs.Report.{ZoneReport, zone_report}
-use Rattle.session_spec.specs.BootPart.{boot_made}
-use Rattle.session_spec.specs.Operations.{Operation, Boot, BootPart, Cause, operated, left_by, session_after}
+use Rattle.machine_spec.specs.Zones.{zone_bytes}
+use Rattle.machine_spec.specs.States.{OffZone, OffState, Session, Off, Live}
+use Rattle.machine_spec.specs.Off.{fresh}
+use Rattle.machine_spec.specs.Erasures.{saved_logs}
+use Rattle.machine_spec.specs.Report.{ZoneReport, zone_report}
+use Rattle.machine_spec.specs.BootPart.{boot_made}
+use Rattle.machine_spec.specs.Operations.{Operation, Boot, BootPart, Cause, operated, left_by, session_after}
 
 -- what a boot shows of a zone
 pub record Shown : Type 0 where

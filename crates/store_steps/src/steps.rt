@@ -16,7 +16,7 @@ use crate::counts::{
 use crate::place::{Leg, Phase, Place};
 use crate::store::{Given, Store};
 use arrayvec::ArrayVec;
-use block_ecc::{block_parity, header_parity, words_of};
+use prz_ecc::{block_parity, header_parity, words_of};
 use zone_spec::{CallKind, Pair, Words, Zone};
 
 /// A call on a zone with these words at its begin, and the number of stores that were handed out. It is numbers alone:

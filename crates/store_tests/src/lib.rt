@@ -2,12 +2,12 @@
 #![tactic(auto)]
 
 #[cfg(test)]
-mod box_salvage_tests;
-#[cfg(test)]
 mod kmsg_dump_tests;
 #[cfg(test)]
-mod pstore_names_tests;
+mod pstore_records_tests;
 #[cfg(test)]
-mod ram_core_tests;
+mod ramoops_tests;
+#[cfg(test)]
+mod salvage_tests;
 #[cfg(test)]
 mod shared_ring_tests;

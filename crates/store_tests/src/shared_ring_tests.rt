@@ -4,7 +4,7 @@ ghost use Rattle.std.specs.Prelude.{◌≡◌, length, IfOk};
 ghost use Rattle.zone_spec.specs.Layout.{rounded};
 ghost use Rattle.zone_params.specs.Laid.{params_of};
 
-use box_io::Bytes;
+use outside::Bytes;
 use shared_ring::{Next, OpenCall, Shared, SharedRefusal, can_open};
 use std::alloc::{AllocError, Global};
 use std::process::Abort;

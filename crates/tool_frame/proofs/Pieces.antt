@@ -6,8 +6,8 @@ use Rattle.std.proofs.lemmas.List.{take-replicate, replicate-append-replicate, l
 use Rattle.std.proofs.lemmas.Grind.{common_steps}
 use Rattle.std.proofs.lemmas.List.{drop-drop}
 use Rattle.std.proofs.Math.Seq.{take-add, take-append_seam, drop-append-add}
-use Rattle.box_io.specs.declared.outside.Failed.{Failed}
-use Rattle.box_io.specs.Outside.{next_count, Rose, Writes, WritesFront, written}
+use Rattle.outside.specs.declared.outside.Failed.{Failed}
+use Rattle.outside.specs.Outside.{next_count, Rose, Writes, WritesFront, written}
 
 -- bytes that were read up to a place, and a piece that was read into the places behind it
 pub read_into : (r : Result (Unit {0}) Failed) (holds : Option (List ℕ)) (at k n m : ℕ) (bytes into : List ℕ)

@@ -1,6 +1,6 @@
 -- The stops that each stage of a run has, and no others
 use Rattle.std.proofs.Common.{◌≡◌, ℕ, ◌<◌, List, length, Option, Result, Err, IfSome}
-use Rattle.box_io.specs.Outside.{Rose}
+use Rattle.outside.specs.Outside.{Rose}
 use Rattle.grammar_spec.specs.declared.line.Line.{Line}
 use Rattle.tool_spec.specs.Commands.{script_limit}
 use Rattle.tool_spec.specs.declared.Stop.{Stop}

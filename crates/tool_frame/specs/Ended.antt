@@ -1,7 +1,7 @@
 -- How the work of a run ends, before its last line
 use Rattle.std.specs.Prelude.{◌≡◌, ◌⊎◌, ⊤, ℕ, ◌≤◌, ◌<◌, List, [], length, Option, Result, Ok, Err, IsOk}
 use Rattle.std.specs.Io.KnownBytes.{Appends, IsAtEnd}
-use Rattle.box_io.specs.Outside.{Rose, AppendsFront}
+use Rattle.outside.specs.Outside.{Rose, AppendsFront}
 use Rattle.blk_spec.specs.declared.BlkLayout.{BlkLayout}
 use Rattle.grammar_spec.specs.Fields.{Text}
 use Rattle.grammar_spec.specs.Lines.{script_of}

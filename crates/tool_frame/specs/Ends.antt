@@ -1,7 +1,7 @@
 -- What the end of a run puts and answers
 use Rattle.std.specs.Prelude.{◌≡◌, ◌⊎◌, ℕ, ◌≤◌, List, Option, Ok, Err}
 use Rattle.std.specs.Io.KnownBytes.{Appends}
-use Rattle.box_io.specs.Outside.{Rose, AppendsFront}
+use Rattle.outside.specs.Outside.{Rose, AppendsFront}
 use Rattle.tool_spec.specs.Ends.{End, status_of, last_line}
 use Rattle.tool_spec.specs.declared.Stop.{Stop}
 use Rattle.tool_spec.specs.declared.Stop.TheVariants.{SinkFault}

@@ -1,9 +1,9 @@
 -- Doing the lines of a script
 use Rattle.std.specs.Prelude.{◌≡◌, ⊤, ℕ, List, length, take, Option, None, Ok, Err}
 use Rattle.std.specs.Io.KnownBytes.{Appends}
-use Rattle.box_io.specs.Outside.{Rose}
+use Rattle.outside.specs.Outside.{Rose}
 use Rattle.zone_spec.specs.declared.Zone.{Zone}
-use Rattle.session_spec.specs.States.{Session}
+use Rattle.machine_spec.specs.States.{Session}
 use Rattle.grammar_spec.specs.Fields.{Text}
 use Rattle.grammar_spec.specs.declared.line.Line.{Line}
 use Rattle.tool_spec.specs.Ends.{End}

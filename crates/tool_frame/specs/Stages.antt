@@ -1,6 +1,6 @@
 -- Why a stage of a run stops
 use Rattle.std.specs.Prelude.{◌≡◌, ◌≢◌, ℕ, ◌<◌, List, length, ⊤, Option, IfSome, Result, Ok, Err}
-use Rattle.box_io.specs.Outside.{Rose}
+use Rattle.outside.specs.Outside.{Rose}
 use Rattle.grammar_spec.specs.declared.line.Line.{Line}
 use Rattle.tool_spec.specs.Commands.{script_limit}
 use Rattle.tool_spec.specs.declared.Stop.{Stop}

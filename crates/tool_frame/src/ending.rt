@@ -6,8 +6,8 @@ ghost use Rattle.tool_frame.specs.Ends.{Finished};
 
 use crate::{Cause, Stop};
 use arrayvec::ArrayString;
-use box_io::{Failed, Sink};
 use itoa::Buffer;
+use outside::{Failed, Sink};
 use zone_params::{LayoutFault, ParamFault};
 
 fn push_number(text: &mut ArrayString<128>, n: u64)

@@ -1,15 +1,15 @@
 // The stages of a run that meet the outside.
 ghost use Rattle.std.specs.Prelude.{◌≡◌, replicate, ◌+◌, ◌-◌, ◌<◌, ◌≤◌, ◌^◌, length, take, vec_len, Ok, IfOk, IfErr, OnOk, OnErr, IfSome, MatchResult};
 ghost use Rattle.std.specs.Io.KnownBytes.{IsAtEnd};
-ghost use Rattle.box_io.specs.Outside.{Rose, HasCause, Writes, WritesFront};
+ghost use Rattle.outside.specs.Outside.{Rose, HasCause, Writes, WritesFront};
 ghost use Rattle.grammar_spec.specs.Lines.{script_of};
 ghost use Rattle.grammar_spec.specs.Printed.{AllHaveFields};
 ghost use Rattle.tool_spec.specs.Commands.{script_limit};
 ghost use Rattle.tool_frame.specs.Stages.{KeptUnless, ScriptStop, SizeStop, FrontStop, LoadStop, ParseStop};
 
 use crate::Stop;
-use box_io::{Failed, Load, Source, Store};
-use box_script::{Lines, ParseFault, parse};
+use outside::{Failed, Load, Source, Store};
+use script::{Lines, ParseFault, parse};
 use std::alloc::Global;
 
 const SCRIPT_LIMIT: usize = 4_194_304;

@@ -98,7 +98,7 @@ fn make(words: &[String]) -> Option<Asked<'_>>
         (λ a. with_number (texts words.now) ≡ Some (asked_seen a)) }
 {
     let (number, params) = split_name(words)?;
-    let number = box_script::number(number.as_bytes())?;
+    let number = script::number(number.as_bytes())?;
     Some(Asked {
         command: Command::OnRam(RamCommand::Make(number)),
         before: 3,
@@ -112,8 +112,8 @@ fn rescue(words: &[String]) -> Option<Asked<'_>>
 {
     let (at, words) = split_name(words)?;
     let (name, params) = split_name(words)?;
-    let at = box_script::number(at.as_bytes())?;
-    let name = box_script::zone(name.as_bytes())?;
+    let at = script::number(at.as_bytes())?;
+    let name = script::zone(name.as_bytes())?;
     Some(Asked {
         command: Command::OnRam(RamCommand::Rescue(at, name)),
         before: 4,

@@ -5,8 +5,8 @@ use Rattle.std.proofs.lemmas.List.{take_all, length-append, length-take}
 use Rattle.zone_spec.specs.declared.Zone.{Zone}
 use Rattle.zone_spec.specs.declared.Time.{Time}
 use Rattle.zone_spec.specs.TimeLines.{line_text}
-use Rattle.session_spec.specs.States.{LiveState}
-use Rattle.session_spec.specs.LiveZones.{Target}
+use Rattle.machine_spec.specs.States.{LiveState}
+use Rattle.machine_spec.specs.LiveZones.{Target}
 use Rattle.kmsg_spec.specs.declared.Why.{Why}
 use Rattle.kmsg_spec.specs.Bodies.{bytes_of, last_lines, heading, body}
 use Rattle.tool_spec.specs.Scripts.{Kernel, crash_body, dump_target, room_in, why_of, log_limit}

@@ -5,10 +5,10 @@ use Rattle.std.specs.Option.{option_map, option_map_or}
 use Rattle.zone_spec.specs.declared.Zone.{Zone}
 use Rattle.zone_spec.specs.Layouts.{IsLayout}
 use Rattle.zone_spec.specs.Records.{Listed}
-use Rattle.session_spec.specs.States.{Session, Off, Live}
-use Rattle.session_spec.specs.Erasures.{saved_logs}
-use Rattle.session_spec.specs.Operations.{Operation, operated, left_by, session_after, EraseRecord, Cause as SessionCause}
-use Rattle.session_spec.specs.Sound.{IsState}
+use Rattle.machine_spec.specs.States.{Session, Off, Live}
+use Rattle.machine_spec.specs.Erasures.{saved_logs}
+use Rattle.machine_spec.specs.Operations.{Operation, operated, left_by, session_after, EraseRecord, Cause as SessionCause}
+use Rattle.machine_spec.specs.Sound.{IsState}
 use Rattle.grammar_spec.specs.declared.line.Line.{Line}
 use Rattle.grammar_spec.specs.declared.line.Line.TheVariants.{Blank, Write, Dump, BeginWrite, BeginErase, BeginDump, Step, Finish, Stop, Flip, Boot, BootPart, List as ListLine, Extract, Erase, KDump, CutAfter, KMsg, Crash, Reserve, StoreNext}
 use Rattle.grammar_spec.specs.Printed.{AllHaveFields}

@@ -8,7 +8,7 @@ use Rattle.zone_spec.specs.declared.Zone.{Zone}
 use Rattle.zone_spec.specs.Parts.{standing_words}
 use Rattle.zone_spec.specs.Reading.{zone_reading, log_places}
 use Rattle.zone_spec.specs.Told.{last_items}
-use Rattle.session_spec.specs.Zones.{zone_bytes}
+use Rattle.machine_spec.specs.Zones.{zone_bytes}
 use Rattle.shared_spec.specs.declared.SharedRefusal.{SharedRefusal}
 use Rattle.shared_spec.specs.declared.SharedRefusal.TheVariants.{NoSeat as NoSeatThere, Crowded as CrowdedThere}
 use Rattle.shared_spec.specs.Calls.{SharedCall, open_count, open_call, all_bytes}

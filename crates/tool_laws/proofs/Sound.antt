@@ -10,11 +10,11 @@ use Rattle.zone_spec.specs.declared.Zone.{Zone}
 use Rattle.zone_spec.specs.Parts.{AreBytes}
 use Rattle.zone_spec.specs.Layouts.{IsLayout}
 use Rattle.zone_spec.specs.Records.{Listed}
-use Rattle.session_spec.specs.States.{LiveState, Session, Off, Live}
-use Rattle.session_spec.specs.Sound.{IsState, IsOperation, IsTime}
-use Rattle.session_spec.specs.Erasures.{saved_logs}
-use Rattle.session_spec.specs.Operations.{Operation, operated, left_by, EraseRecord, Cause as SessionCause}
-use Rattle.session_laws.proofs.Operations.{fresh_is_sound, operations_keep_states_sound}
+use Rattle.machine_spec.specs.States.{LiveState, Session, Off, Live}
+use Rattle.machine_spec.specs.Sound.{IsState, IsOperation, IsTime}
+use Rattle.machine_spec.specs.Erasures.{saved_logs}
+use Rattle.machine_spec.specs.Operations.{Operation, operated, left_by, EraseRecord, Cause as SessionCause}
+use Rattle.machine_laws.proofs.Operations.{fresh_is_sound, operations_keep_states_sound}
 use Rattle.grammar_spec.specs.declared.line.Line.{Line}
 use Rattle.grammar_spec.specs.declared.line.Line.TheVariants.{Blank, Write, Dump, BeginWrite, BeginErase, BeginDump, Step, Finish, Stop, Flip, Boot, BootPart, List as ListLine, Extract, Erase, KDump, CutAfter, KMsg, Crash, Reserve, StoreNext}
 use Rattle.grammar_spec.specs.Fields.{Text}

@@ -10,14 +10,14 @@ use Rattle.zone_spec.specs.declared.Refusal.TheVariants.{Idle, Busy}
 use Rattle.zone_spec.specs.Told.{told_after, Erase as EraseCall}
 use Rattle.zone_spec.specs.Calls.{call_stores, image_after}
 use Rattle.zone_spec.specs.Layouts.{zone_place}
-use Rattle.session_spec.specs.States.{Flight, LiveZone, LiveState, Live}
-use Rattle.session_spec.specs.Sound.{IsState, IsInFlight, Stands}
-use Rattle.session_laws.proofs.Targets.{target-some}
-use Rattle.session_spec.specs.ZoneCalls.{total_stores, begun, stepped, stepped_by, stores_left, finished}
-use Rattle.session_spec.specs.LiveZones.{Target, target, target_of, target_at, with_zone, changed, flies_dump}
+use Rattle.machine_spec.specs.States.{Flight, LiveZone, LiveState, Live}
+use Rattle.machine_spec.specs.Sound.{IsState, IsInFlight, Stands}
+use Rattle.machine_laws.proofs.Targets.{target-some}
+use Rattle.machine_spec.specs.ZoneCalls.{total_stores, begun, stepped, stepped_by, stores_left, finished}
+use Rattle.machine_spec.specs.LiveZones.{Target, target, target_of, target_at, with_zone, changed, flies_dump}
 use Rattle.zone_spec.specs.Told.{Call}
-use Rattle.session_spec.specs.Zones.{dump_zones}
-use Rattle.session_spec.specs.LiveCalls.{Ask, Erase as EraseAsk, call_of, asked_name, is_barred, asked_zone, begin, begins, make, step, finish, finish_at, goes_on}
+use Rattle.machine_spec.specs.Zones.{dump_zones}
+use Rattle.machine_spec.specs.LiveCalls.{Ask, Erase as EraseAsk, call_of, asked_name, is_barred, asked_zone, begin, begins, make, step, finish, finish_at, goes_on}
 
 nat_lt-true : {a b : ℕ} → a < b → nat_lt a b ≡ true
 nat_lt-true h = grind (arith, nat_tests)

@@ -5,12 +5,12 @@ use Rattle.zone_spec.specs.declared.Zone.{Zone}
 use Rattle.zone_spec.specs.Parts.{AreBytes}
 use Rattle.zone_spec.specs.Records.{Listed}
 use Rattle.zone_spec.specs.Layouts.{IsLayout}
-use Rattle.session_spec.specs.Zones.{zone_bytes}
-use Rattle.session_spec.specs.States.{OffZone, OffState, Session, Off, Live}
-use Rattle.session_spec.specs.Off.{fresh}
-use Rattle.session_spec.specs.Erasures.{saved_logs}
-use Rattle.session_spec.specs.LiveCalls.{Append as AppendAsk, Erase as EraseAsk, Dump as DumpAsk}
-use Rattle.session_spec.specs.Operations.{Operation, Begin as BeginCall, Make as MakeCall, Step as StepFlight, Finish as FinishFlight, Flip as FlipByte, Boot as BootStore, BootPart as BootInPart, EraseRecord, Stop as StopStore, session_after}
+use Rattle.machine_spec.specs.Zones.{zone_bytes}
+use Rattle.machine_spec.specs.States.{OffZone, OffState, Session, Off, Live}
+use Rattle.machine_spec.specs.Off.{fresh}
+use Rattle.machine_spec.specs.Erasures.{saved_logs}
+use Rattle.machine_spec.specs.LiveCalls.{Append as AppendAsk, Erase as EraseAsk, Dump as DumpAsk}
+use Rattle.machine_spec.specs.Operations.{Operation, Begin as BeginCall, Make as MakeCall, Step as StepFlight, Finish as FinishFlight, Flip as FlipByte, Boot as BootStore, BootPart as BootInPart, EraseRecord, Stop as StopStore, session_after}
 use Rattle.grammar_spec.specs.declared.line.Line.{Line}
 use Rattle.grammar_spec.specs.declared.line.Line.TheVariants.{Write, Dump, BeginWrite, BeginErase, BeginDump, Step, Finish, Stop, Flip, Boot, BootPart, Erase, Crash}
 use Rattle.grammar_spec.specs.Printed.{AllHaveFields}

@@ -3,10 +3,10 @@ use Rattle.std.specs.Prelude.{◌≡◌, ℕ, List, length, take}
 use Rattle.zone_spec.specs.declared.Zone.{Zone}
 use Rattle.zone_spec.specs.Parts.{AreBytes}
 use Rattle.zone_spec.specs.Layouts.{IsLayout}
-use Rattle.session_spec.specs.States.{OffState, Off}
-use Rattle.session_spec.specs.Sound.{IsState}
-use Rattle.session_spec.specs.Headline.{EachOffZone}
-use Rattle.session_laws.specs.Headline.{ReadsAndReports}
+use Rattle.machine_spec.specs.States.{OffState, Off}
+use Rattle.machine_spec.specs.Sound.{IsState}
+use Rattle.machine_spec.specs.Headline.{EachOffZone}
+use Rattle.machine_laws.specs.Headline.{ReadsAndReports}
 use Rattle.grammar_spec.specs.declared.line.Line.{Line}
 use Rattle.grammar_spec.specs.Printed.{AllHaveFields}
 use Rattle.tool_spec.specs.Scripts.{ran}

@@ -4,7 +4,7 @@ use Rattle.zone_spec.specs.declared.Zone.{Zone}
 use Rattle.zone_spec.specs.Parts.{standing_words}
 use Rattle.zone_spec.specs.Reading.{zone_reading, log_places}
 use Rattle.zone_spec.specs.Told.{last_items}
-use Rattle.session_spec.specs.Zones.{zone_bytes}
+use Rattle.machine_spec.specs.Zones.{zone_bytes}
 use Rattle.shared_spec.specs.Calls.{open_count}
 use Rattle.shared_spec.specs.Machine.{SharedZone, CanShare}
 use Rattle.shared_spec.specs.Histories.{shared_zone, image_left}

@@ -3,11 +3,11 @@ use Rattle.std.specs.Prelude.{◌≡◌, ℕ, ◌+◌, List, None, Some, Ok, Err
 use Rattle.zone_spec.specs.declared.Zone.{Zone}
 use Rattle.zone_spec.specs.declared.ZoneName.{ZoneName}
 use Rattle.zone_spec.specs.declared.Refusal.{Refusal}
-use Rattle.session_spec.specs.States.{Flight, LiveState, Live}
-use Rattle.session_spec.specs.Sound.{IsState}
-use Rattle.session_spec.specs.ZoneCalls.{stores_left}
-use Rattle.session_spec.specs.LiveZones.{Target, target}
-use Rattle.session_spec.specs.LiveCalls.{Ask, asked_name, begin, make, step, finish}
+use Rattle.machine_spec.specs.States.{Flight, LiveState, Live}
+use Rattle.machine_spec.specs.Sound.{IsState}
+use Rattle.machine_spec.specs.ZoneCalls.{stores_left}
+use Rattle.machine_spec.specs.LiveZones.{Target, target}
+use Rattle.machine_spec.specs.LiveCalls.{Ask, asked_name, begin, make, step, finish}
 
 -- some steps and then one more are so many and one
 abbrev pub StepsAddUp : Type 0

@@ -14,12 +14,12 @@ use Rattle.salvage_spec.specs.Rings.{rings, read_at}
 use Rattle.blk_spec.specs.declared.BlkParams.{BlkParams}
 use Rattle.blk_spec.specs.declared.BlkLayout.{BlkLayout}
 use Rattle.blk_spec.specs.Layout.{layout_of as blk_layout_of}
-use Rattle.session_spec.specs.States.{LiveState}
-use Rattle.session_spec.specs.Off.{fresh}
-use Rattle.session_spec.specs.Boot.{booted}
-use Rattle.session_spec.specs.Stop.{stopped, session_image}
-use Rattle.session_spec.specs.Erasures.{saved_logs, erased}
-use Rattle.session_spec.specs.Moved.{fitting, moved}
+use Rattle.machine_spec.specs.States.{LiveState}
+use Rattle.machine_spec.specs.Off.{fresh}
+use Rattle.machine_spec.specs.Boot.{booted}
+use Rattle.machine_spec.specs.Stop.{stopped, session_image}
+use Rattle.machine_spec.specs.Erasures.{saved_logs, erased}
+use Rattle.machine_spec.specs.Moved.{fitting, moved}
 use Rattle.grammar_spec.specs.declared.faults.ParamFault.{ParamFault}
 use Rattle.grammar_spec.specs.Words.{ok_unless}
 use Rattle.grammar_spec.specs.ZoneWords.{first_fault, params_of}

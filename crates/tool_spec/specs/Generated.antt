@@ -10,13 +10,13 @@ use Rattle.zone_spec.specs.Parts.{Part, Header, Block, part_at, part_len}
 use Rattle.zone_spec.specs.Reading.{blocks_below}
 use Rattle.zone_spec.specs.Records.{is_of}
 use Rattle.zone_spec.specs.Calls.{call_stores}
-use Rattle.session_spec.specs.Zones.{dump_zones}
-use Rattle.session_spec.specs.States.{OffZone, OffState, Session, Off, Live}
-use Rattle.session_spec.specs.LiveZones.{Target, target}
-use Rattle.session_spec.specs.LiveCalls.{Ask, Append, Dump, call_of, asked_name}
-use Rattle.session_spec.specs.Off.{fresh}
-use Rattle.session_spec.specs.Report.{ZoneReport, report}
-use Rattle.session_spec.specs.Operations.{Operation, Make, Begin, Step, Stop, Flip, Boot, operated, left_by}
+use Rattle.machine_spec.specs.Zones.{dump_zones}
+use Rattle.machine_spec.specs.States.{OffZone, OffState, Session, Off, Live}
+use Rattle.machine_spec.specs.LiveZones.{Target, target}
+use Rattle.machine_spec.specs.LiveCalls.{Ask, Append, Dump, call_of, asked_name}
+use Rattle.machine_spec.specs.Off.{fresh}
+use Rattle.machine_spec.specs.Report.{ZoneReport, report}
+use Rattle.machine_spec.specs.Operations.{Operation, Make, Begin, Step, Stop, Flip, Boot, operated, left_by}
 use Rattle.grammar_spec.specs.Fields.{Text}
 use Rattle.tool_spec.specs.Texts.{newline}
 

@@ -1,8 +1,8 @@
 -- What a script's boots read of what was told
 use Rattle.std.specs.Prelude.{◌≡◌, ℕ, List, take}
 use Rattle.zone_spec.specs.declared.Zone.{Zone}
-use Rattle.session_spec.specs.States.{OffState, Off}
-use Rattle.session_spec.specs.Headline.{EachOffZone, ReadsLastWritten}
+use Rattle.machine_spec.specs.States.{OffState, Off}
+use Rattle.machine_spec.specs.Headline.{EachOffZone, ReadsLastWritten}
 use Rattle.grammar_spec.specs.declared.line.Line.{Line}
 use Rattle.tool_spec.specs.Scripts.{ran}
 

@@ -8,15 +8,15 @@ use Rattle.zone_spec.specs.declared.Refusal.TheVariants.{NoZone as NoZoneThere, 
 use Rattle.zone_spec.specs.TimeLines.{line_text}
 use Rattle.zone_spec.specs.Names.{name_text}
 use Rattle.zone_spec.specs.Records.{Saved, Listed, listed_of, first_listed}
-use Rattle.session_spec.specs.States.{LiveState, Session, Off, Live}
-use Rattle.session_spec.specs.Off.{fresh}
-use Rattle.session_spec.specs.Boot.{booted}
-use Rattle.session_spec.specs.BootPart.{boot_made}
-use Rattle.session_spec.specs.Report.{report}
-use Rattle.session_spec.specs.Erasures.{saved_logs}
-use Rattle.session_spec.specs.LiveZones.{Target, target}
-use Rattle.session_spec.specs.LiveCalls.{Append as AppendAsk, Erase as EraseAsk, Dump as DumpAsk}
-use Rattle.session_spec.specs.Operations.{Operation, operated, Begin as BeginCall, Make as MakeCall, Step as StepFlight, Finish as FinishFlight, Flip as FlipByte, Boot as BootStore, BootPart as BootInPart, EraseRecord, Stop as StopStore, Cause as SessionCause, WrongState, NoRecord as NoSuchRecord, Refused as RefusedThere}
+use Rattle.machine_spec.specs.States.{LiveState, Session, Off, Live}
+use Rattle.machine_spec.specs.Off.{fresh}
+use Rattle.machine_spec.specs.Boot.{booted}
+use Rattle.machine_spec.specs.BootPart.{boot_made}
+use Rattle.machine_spec.specs.Report.{report}
+use Rattle.machine_spec.specs.Erasures.{saved_logs}
+use Rattle.machine_spec.specs.LiveZones.{Target, target}
+use Rattle.machine_spec.specs.LiveCalls.{Append as AppendAsk, Erase as EraseAsk, Dump as DumpAsk}
+use Rattle.machine_spec.specs.Operations.{Operation, operated, Begin as BeginCall, Make as MakeCall, Step as StepFlight, Finish as FinishFlight, Flip as FlipByte, Boot as BootStore, BootPart as BootInPart, EraseRecord, Stop as StopStore, Cause as SessionCause, WrongState, NoRecord as NoSuchRecord, Refused as RefusedThere}
 use Rattle.kmsg_spec.specs.Bodies.{body, last_lines}
 use Rattle.kmsg_spec.specs.declared.Why.{Why}
 use Rattle.kmsg_spec.specs.declared.Why.TheVariants.{Panic, Oops, Emergency, Shutdown}

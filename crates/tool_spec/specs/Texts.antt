@@ -23,8 +23,8 @@ use Rattle.zone_spec.specs.Records.{Saved, Listed, listed_of, found}
 use Rattle.zone_spec.specs.Notices.{is_in, content}
 use Rattle.zone_spec.specs.Cut.{CutReport}
 use Rattle.salvage_spec.specs.declared.FoundRing.{FoundRing}
-use Rattle.session_spec.specs.Report.{ZoneReport}
-use Rattle.session_spec.specs.Moved.{fits}
+use Rattle.machine_spec.specs.Report.{ZoneReport}
+use Rattle.machine_spec.specs.Moved.{fits}
 use Rattle.grammar_spec.specs.Fields.{Text}
 use Rattle.grammar_spec.specs.Printed.{zone_text}
 

@@ -1,7 +1,7 @@
 // Whole runs over the objects in memory: what is put, what is stored and what is answered.
 
-use box_io::{Bytes, Calls, MemSink, MemSource, MemStore};
 use image_tool::run;
+use outside::{Bytes, Calls, MemSink, MemSource, MemStore};
 use std::alloc::{AllocError, Global};
 use std::process::Abort;
 use std::test::Fail;

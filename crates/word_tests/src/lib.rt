@@ -2,14 +2,14 @@
 #![tactic(auto)]
 
 #[cfg(test)]
-mod box_io_tests;
-#[cfg(test)]
-mod box_script_tests;
-#[cfg(test)]
 mod kernel_layout_tests;
+#[cfg(test)]
+mod outside_tests;
 #[cfg(test)]
 mod param_words_tests;
 #[cfg(test)]
 mod report_words_tests;
+#[cfg(test)]
+mod script_tests;
 #[cfg(test)]
 mod zone_params_tests;

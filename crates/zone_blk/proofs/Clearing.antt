@@ -1,6 +1,6 @@
 -- A store keeps its room, whatever is written; and the writes of a loading
 use Rattle.std.proofs.Common.{◌≡◌, ℕ, ◌==◌, Bool, true, false, if◌then◌else◌, List, [], ◌∷◌, ◌++◌, length, Option, Some, None, Result, Ok, Err, refl, sym, ap, ◌∙◌, arith, subst, inl, inr}
-use Rattle.box_io.specs.declared.outside.Failed.{Failed}
+use Rattle.outside.specs.declared.outside.Failed.{Failed}
 use Rattle.blk_spec.specs.declared.BlkCut.{BlkCut}
 use Rattle.blk_spec.specs.declared.BlkCut.TheVariants.{Uncut}
 use Rattle.blk_spec.specs.Writes.{Write, store_after, bytes_in, first_bytes, reaching, asks_of}

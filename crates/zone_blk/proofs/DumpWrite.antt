@@ -9,7 +9,7 @@ use Rattle.blk_spec.specs.Dumps.{dump_header, body_kept, dump_writes, dump_piece
 use Rattle.blk_spec.specs.declared.BlkCut.{BlkCut}
 use Rattle.blk_spec.specs.Writes.{Write, after_writes, store_after, bytes_in, first_bytes, through, spent, in_pieces}
 use Rattle.blk_spec.specs.Answers.{HasRoom, Device}
-use Rattle.box_io.specs.declared.outside.Failed.{Failed}
+use Rattle.outside.specs.declared.outside.Failed.{Failed}
 use Rattle.zone_blk.specs.Outcomes.{Ends, EndsAs}
 use Rattle.blk_laws.proofs.Pieces.{dump-pieces}
 

@@ -2,8 +2,8 @@
 use Rattle.std.proofs.Common.{◌≡◌, ℕ, ◌+◌, ◌-◌, ◌<◌, ◌≤◌, ◌==◌, min, Bool, true, false, if◌then◌else◌, replicate, List, [], ◌∷◌, ◌++◌, length, take, Option, Some, None, MatchResult, Result, Ok, Err, refl, sym, ap, ◌∙◌, arith, append_assoc, length-take, ◌⊎◌, inl, inr, subst}
 use Rattle.std.proofs.lemmas.List.{take-take, append-nil, length-replicate}
 use Rattle.std.proofs.lemmas.Bool.{eqb-true}
-use Rattle.box_io.specs.declared.outside.Failed.{Failed}
-use Rattle.box_io.specs.Outside.{next_count, Writes, WritesFront}
+use Rattle.outside.specs.declared.outside.Failed.{Failed}
+use Rattle.outside.specs.Outside.{next_count, Writes, WritesFront}
 use Rattle.blk_spec.specs.declared.BlkCut.{BlkCut}
 use Rattle.blk_spec.specs.declared.BlkCut.TheVariants.{Uncut, After, Dropped}
 use Rattle.blk_spec.specs.Writes.{Write, after_writes, store_after, bytes_in, first_bytes, through, spent, asks_of, in_pieces}

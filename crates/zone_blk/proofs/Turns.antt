@@ -9,7 +9,7 @@ use Rattle.blk_spec.specs.Layout.{capacity}
 use Rattle.blk_spec.specs.Writes.{Write}
 use Rattle.blk_spec.specs.Rings.{header_write, run_writes, first_run, first_words, run_words, is_short, last_words, kept_writes, append_writes, words_after}
 use Rattle.blk_spec.specs.Answers.{Device, Makes, FailsWithin}
-use Rattle.box_io.specs.declared.outside.Failed.{Failed}
+use Rattle.outside.specs.declared.outside.Failed.{Failed}
 use Rattle.zone_blk.specs.declared.appending.Turn.{Turn}
 use Rattle.zone_spec.specs.Told.{last_items}
 use Rattle.zone_blk.proofs.Sequences.{makes-no-write, then-makes, then-fails, fails-before, makes-same, fails-same}

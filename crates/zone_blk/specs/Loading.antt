@@ -1,6 +1,6 @@
 -- How a reading of the store ends, and where its dumps lie
 use Rattle.std.specs.Prelude.{◌≡◌, ℕ, ◌<◌, Result, Ok, Err}
-use Rattle.box_io.specs.Outside.{Rose}
+use Rattle.outside.specs.Outside.{Rose}
 use Rattle.blk_spec.specs.declared.BlkFault.{BlkFault}
 use Rattle.blk_spec.specs.declared.BlkFault.TheVariants.{StoreFault, Memory}
 use Rattle.blk_spec.specs.declared.BlkLayout.{BlkLayout}

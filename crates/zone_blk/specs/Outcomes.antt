@@ -1,6 +1,6 @@
 -- How a function that writes to the store ends
 use Rattle.std.specs.Prelude.{ℕ, List, [], ◌∷◌, Result, Ok, Err}
-use Rattle.box_io.specs.declared.outside.Failed.{Failed}
+use Rattle.outside.specs.declared.outside.Failed.{Failed}
 use Rattle.blk_spec.specs.declared.BlkCut.{BlkCut}
 use Rattle.blk_spec.specs.Writes.{Write}
 use Rattle.blk_spec.specs.Answers.{Device, Makes, FailsWithin}

@@ -1,6 +1,6 @@
 // The writes of an append to a ring.
 ghost use Rattle.std.specs.Prelude.{◌≡◌, ◌+◌, ◌-◌, ◌<◌, ◌≤◌, [], ◌∷◌, length, nat_lt, if◌then◌else◌, IfOk};
-ghost use Rattle.box_io.specs.Outside.{HasCause};
+ghost use Rattle.outside.specs.Outside.{HasCause};
 ghost use Rattle.blk_spec.specs.Layout.{capacity};
 ghost use Rattle.blk_spec.specs.Answers.{HasRoom, device};
 ghost use Rattle.blk_spec.specs.Rings.{header_write, run_writes, first_run, first_words, run_words, is_short, last_words, kept_writes, append_writes, words_after};
@@ -9,7 +9,7 @@ ghost use Rattle.zone_blk.specs.Fits.{IsZone, IsWithin};
 
 use crate::writing::{write_header, write_run};
 use blk_spec::{BlkCut, BlkWords, BlkZone};
-use box_io::{Failed, Store};
+use outside::{Failed, Store};
 
 /// How an append goes round a ring: how many bytes its first run has, the words after that run and after the second
 /// one, whether a further header is written, and the ring's words in the end.

@@ -2,7 +2,7 @@
 ghost use Rattle.std.specs.Prelude.{◌≡◌, ℕ, ◌+◌, ◌-◌, ◌^◌, ◌<◌, ◌≤◌, bytes_eq, length, IfOk, IfSome, Err, Some, None, is_some, IsTrue};
 ghost use Rattle.std.specs.List.{find};
 ghost use Rattle.std.specs.Option.{option_map};
-ghost use Rattle.box_io.specs.Outside.{HasCause, Rose};
+ghost use Rattle.outside.specs.Outside.{HasCause, Rose};
 ghost use Rattle.blk_spec.specs.Layout.{IsLayout};
 ghost use Rattle.blk_spec.specs.Answers.{HasRoom, device, Answers, Loads, KeptUnlessFault};
 ghost use Rattle.blk_spec.specs.States.{append_refusal, append_of, appended, dump_refusal, dump_of, dump_pieces_of, dumped, erase_refusal, erase_of, erased, cut_after as cut_state, names_of, content_of, time_of, is_listed, zone_of, loaded, load_writes, clearing};
@@ -28,7 +28,7 @@ use crate::reading::{Dump, greatest_counter, read_dumps, read_ring};
 use crate::writing::write_header;
 use crate::zones::{dump_zone, ring_zone};
 use blk_spec::{BlkCut, BlkFault, BlkLayout, BlkName, BlkRing, BlkTime, BlkWords, BlkZone, Reason};
-use box_io::{Bytes, Failed, Load, Store};
+use outside::{Bytes, Failed, Load, Store};
 use std::alloc::{AllocError, Global};
 use std::marker::Model;
 

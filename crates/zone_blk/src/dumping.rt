@@ -2,7 +2,7 @@
 ghost use Rattle.std.specs.Prelude.{◌≡◌, ◌+◌, ◌-◌, ◌<◌, ◌≤◌, ◌++◌, ◌∷◌, replicate, if◌then◌else◌};
 ghost use Rattle.std.specs.Int.{to_le_bytes};
 ghost use Rattle.std.proofs.Common.{w32, w64};
-ghost use Rattle.box_io.specs.Outside.{HasCause};
+ghost use Rattle.outside.specs.Outside.{HasCause};
 ghost use Rattle.blk_spec.specs.Answers.{HasRoom, device};
 ghost use Rattle.blk_spec.specs.Reasons.{reason_number};
 ghost use Rattle.blk_spec.specs.Dumps.{dump_header, dump_writes, dump_pieces};
@@ -12,7 +12,7 @@ ghost use Rattle.zone_blk.specs.Fits.{IsZone};
 use crate::writing::{header, write_zone};
 use arrayvec::ArrayVec;
 use blk_spec::{BlkCut, BlkTime, BlkWords, BlkZone, Reason};
-use box_io::{Failed, Store};
+use outside::{Failed, Store};
 
 const MAGIC: u32 = 0x4dfc3ae5;
 

@@ -10,8 +10,8 @@ ghost use Rattle.zone_blk.specs.Decimals.{IsDecimal, IsNumbered, IsDumpOf};
 
 use crate::reading::Dump;
 use blk_spec::{BlkName, BlkTime};
-use box_io::Bytes;
 use itoa::Buffer;
+use outside::Bytes;
 use std::alloc::{AllocError, Global};
 use std::marker::Model;
 use std::str;

@@ -11,7 +11,7 @@ ghost use Rattle.zone_blk.specs.Loading.{ReadEnds, IsIn};
 
 use crate::zones::dump_zone;
 use blk_spec::{BlkFault, BlkLayout, BlkTime, BlkZone};
-use box_io::{Bytes, Failed, Load};
+use outside::{Bytes, Failed, Load};
 use std::alloc::{AllocError, Global};
 use std::marker::Model;
 use zone_spec::Words;

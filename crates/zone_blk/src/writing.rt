@@ -1,6 +1,6 @@
 // Writes to the store, as far as a cut lets them through.
 ghost use Rattle.std.specs.Prelude.{◌≡◌, ◌+◌, ◌-◌, ◌<◌, ◌≤◌, [], ◌∷◌, length, MatchResult};
-ghost use Rattle.box_io.specs.Outside.{HasCause};
+ghost use Rattle.outside.specs.Outside.{HasCause};
 ghost use Rattle.blk_spec.specs.Writes.{through, spent, in_pieces};
 ghost use Rattle.blk_spec.specs.Answers.{HasRoom, device};
 ghost use Rattle.blk_spec.specs.Rings.{header_bytes, header_write, run_writes};
@@ -10,7 +10,7 @@ ghost use Rattle.zone_blk.specs.Fits.{IsZone};
 
 use arrayvec::ArrayVec;
 use blk_spec::{BlkCut, BlkWords, BlkZone};
-use box_io::{Failed, Store};
+use outside::{Failed, Store};
 
 // How many zeros are written at once.
 const PIECE: usize = 65_536;

@@ -12,7 +12,7 @@ use crate::deciding::{Erasure, block_count, erasure_of};
 use crate::handing::BootStore;
 use crate::summaries::state_of;
 use arrayvec::ArrayVec;
-use block_ecc::{Fix, header_parity, read_block, read_header};
+use prz_ecc::{Fix, header_parity, read_block, read_header};
 use zone_spec::{Words, Zone};
 
 /// Where a boot is: it corrects the header, and the blocks that hold the log; then it may store the signature, the

@@ -7,7 +7,7 @@ ghost use Rattle.zone_boot.specs.Reads.{bytes_at};
 
 use crate::summaries::state_of;
 use arrayvec::ArrayVec;
-use block_ecc::{Fix, read_block, read_header};
+use prz_ecc::{Fix, read_block, read_header};
 use zone_spec::{State, Words, Zone};
 
 /// Copies the bytes that the data reads from `place` on to `out`, from `at` on: to the end of the block, and at most

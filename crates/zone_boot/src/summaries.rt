@@ -4,12 +4,12 @@ ghost use Rattle.zone_spec.specs.Zones.{IsValidZone};
 ghost use Rattle.zone_spec.specs.Parts.{Block};
 ghost use Rattle.zone_spec.specs.PartReadings.{PartReading, part_reading};
 ghost use Rattle.zone_spec.specs.Reading.{zone_reading, state_of as state_for, blocks_below};
-ghost use Rattle.block_ecc.specs.Outcomes.{CountsAre};
+ghost use Rattle.prz_ecc.specs.Outcomes.{CountsAre};
 ghost use Rattle.rs_encode.specs.Lanes.{IsLent};
 ghost use Rattle.zone_boot.specs.Summaries.{summary_of};
 
 use arrayvec::ArrayVec;
-use block_ecc::{Decoded, Fix, read_block, read_header};
+use prz_ecc::{Decoded, Fix, read_block, read_header};
 use zone_spec::{State, Words, Zone};
 
 /// What a boot reads of a zone, but for the log: its state, the words of its header, how many bytes its log has, and

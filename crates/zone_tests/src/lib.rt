@@ -2,20 +2,20 @@
 #![tactic(auto)]
 
 #[cfg(test)]
-mod block_ecc_tests;
-#[cfg(test)]
 mod dump_records_tests;
 #[cfg(test)]
 mod ftrace_zone_tests;
 #[cfg(test)]
-mod old_log_tests;
+mod prz_ecc_tests;
 #[cfg(test)]
-mod ram_region_tests;
+mod prz_read_tests;
+#[cfg(test)]
+mod prz_region_tests;
+#[cfg(test)]
+mod prz_write_tests;
 #[cfg(test)]
 mod ring_header_tests;
 #[cfg(test)]
 mod store_steps_tests;
 #[cfg(test)]
 mod zone_boot_tests;
-#[cfg(test)]
-mod zone_flight_tests;

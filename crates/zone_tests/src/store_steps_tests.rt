@@ -6,7 +6,7 @@ ghost use Rattle.store_steps.specs.Flying.{flying};
 ghost use Rattle.store_steps.specs.Machine.{IsKept};
 ghost use Rattle.rs_encode.specs.Lanes.{IsLent};
 
-use block_ecc::Coder;
+use prz_ecc::Coder;
 use std::process::Abort;
 use store_steps::{CallKind, Given, Leg, Phase, Place, Steps, Store, Zone};
 use zone_spec::{Kind, ZoneName};

@@ -1,13 +1,13 @@
-// Zones read in place, and a boot's stores made one by one, against the readings and the stores of `old_log`.
+// Zones read in place, and a boot's stores made one by one, against the readings and the stores of `prz_read`.
 ghost use Rattle.zone_spec.specs.Zones.{IsValidZone};
 ghost use Rattle.rs_encode.specs.Lanes.{IsLent};
 
-use crate::old_log_tests::{
+use crate::prz_read_tests::{
     NO_RINGS, abc, console, four, image, put, read, ring, settled, two_cpus,
 };
-use block_ecc::Coder;
-use old_log::Reading;
-use ram_region::Spans;
+use prz_ecc::Coder;
+use prz_read::Reading;
+use prz_region::Spans;
 use std::process::Abort;
 use std::test::Fail;
 use zone_boot::{Boot, BootStore, Given, copy_log, read_summary};

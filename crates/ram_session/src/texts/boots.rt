@@ -3,12 +3,12 @@ ghost use Rattle.std.specs.Prelude.{◌≡◌, ◌<◌, ◌++◌, length, map, f
 ghost use Rattle.std.specs.Option.{option_map};
 ghost use Rattle.zone_spec.specs.Records.{Saved};
 ghost use Rattle.grammar_spec.specs.Printed.{zone_text};
-ghost use Rattle.old_log.specs.Saving.{saved};
-ghost use Rattle.ram_core.specs.Reports.{cut_seen, report_seen};
+ghost use Rattle.prz_read.specs.Saving.{saved};
+ghost use Rattle.ramoops.specs.Reports.{cut_seen, report_seen};
 ghost use Rattle.tool_spec.specs.Texts.{newline, state_text, verdict_text, boot_line, call_text, seen_text, run_text, runs_text, cut_line, cut_text, zone_lines, boot_text, part_text};
 
-use old_log::{Logs, Reading, State};
-use ram_core::{CallKind, Cut, HeaderSeen, Report, Verdict, ZoneReport};
+use prz_read::{Logs, Reading, State};
+use ramoops::{CallKind, Cut, HeaderSeen, Report, Verdict, ZoneReport};
 use std::alloc::{AllocError, Global};
 use text_pieces::{push_number, push_zone};
 use zone_spec::ZoneName;

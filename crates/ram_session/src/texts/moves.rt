@@ -1,13 +1,13 @@
 // What a move tells of each record.
 ghost use Rattle.std.specs.Prelude.{◌≡◌, ◌++◌, if◌then◌else◌, codes, flat_map, IfOk, OnOk};
 ghost use Rattle.zone_params.specs.Laid.{zones_of};
-ghost use Rattle.old_log.specs.Saving.{saved};
+ghost use Rattle.prz_read.specs.Saving.{saved};
 ghost use Rattle.tool_spec.specs.Texts.{move_text};
 ghost use Rattle.ram_session.specs.Entries.{told_text};
 
 use super::records::push_named;
-use old_log::Logs;
-use pstore_names::{Move, moves};
+use prz_read::Logs;
+use pstore_records::{Move, moves};
 use std::alloc::{AllocError, Global};
 use text_pieces::push_number;
 use zone_params::types::Layout;

@@ -3,13 +3,13 @@ ghost use Rattle.std.specs.Prelude.{◌≡◌, ◌++◌, codes, decimal, ◌+◌
 ghost use Rattle.zone_spec.specs.Names.{name_text as name_text_of};
 ghost use Rattle.zone_spec.specs.TimeLines.{six_digits};
 ghost use Rattle.zone_spec.specs.Records.{record_of};
-ghost use Rattle.old_log.specs.Saving.{saved};
+ghost use Rattle.prz_read.specs.Saving.{saved};
 ghost use Rattle.tool_spec.specs.Texts.{time_text, listing, extract_text};
 ghost use Rattle.ram_session.specs.Entries.{entry_text, IsText};
 
 use arrayvec::ArrayString;
-use old_log::Logs;
-use pstore_names::{ContentFault, Entry, Name, Time, content, listed, name_text};
+use prz_read::Logs;
+use pstore_records::{ContentFault, Entry, Name, Time, content, listed, name_text};
 use std::alloc::{AllocError, Global};
 use text_pieces::{extracted, push_number, push_padded, push_record, push_seconds};
 

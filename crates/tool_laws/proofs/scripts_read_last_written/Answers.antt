@@ -1,4 +1,4 @@
-use Rattle.session_laws.proofs.LastWritten.{state_reads, sound_state_reads_last_written}
+use Rattle.machine_laws.proofs.LastWritten.{state_reads, sound_state_reads_last_written}
 use Rattle.tool_laws.proofs.Sound.{states_sound}
 use Rattle.tool_laws.proofs.scripts_read_last_written.Goals as goal
 

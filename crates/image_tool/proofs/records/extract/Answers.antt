@@ -1,5 +1,5 @@
 use Rattle.std.proofs.Common.{refl, subst, List, ℕ, Err}
-use Rattle.old_log.specs.Saving.{saved}
+use Rattle.prz_read.specs.Saving.{saved}
 use Rattle.ram_session.specs.Records.{IsContent}
 use Rattle.tool_spec.specs.Commands.{ExtractRecord}
 use Rattle.image_tool.specs.Plans.{plan_for}

@@ -2,7 +2,7 @@
 use Rattle.std.proofs.Common.{ap, ◌∙◌, List, ℕ}
 use Rattle.zone_params.specs.Laid.{zones_of}
 use Rattle.salvage_spec.specs.Rings.{rings}
-use Rattle.box_salvage.specs.Scans.{Scanned}
+use Rattle.salvage.specs.Scans.{Scanned}
 use Rattle.image_tool.proofs.salvaging.read_dump.Goals as goal
 
 pub returns-in-Ok-new-clause-read : goal.returns-in-Ok-new-clause-read

@@ -1,7 +1,7 @@
 -- The reading of a ring, put or refused
 use Rattle.std.proofs.Common.{refl, subst, Err}
 use Rattle.std.specs.Io.KnownBytes.{Appends}
-use Rattle.box_io.specs.Outside.{AppendsFront}
+use Rattle.outside.specs.Outside.{AppendsFront}
 use Rattle.zone_spec.specs.Reading.{ZoneReading}
 use Rattle.tool_spec.specs.Commands.{ReadRing}
 use Rattle.image_tool.specs.Plans.{plan_for}

@@ -1,8 +1,8 @@
 use Rattle.std.proofs.Common.{refl}
 use Rattle.zone_spec.specs.Layout.{rounded}
 use Rattle.zone_params.specs.Laid.{params_of, zones_of}
-use Rattle.session_spec.specs.Off.{fresh}
-use Rattle.session_spec.specs.Boot.{booted}
+use Rattle.machine_spec.specs.Off.{fresh}
+use Rattle.machine_spec.specs.Boot.{booted}
 use Rattle.image_tool.proofs.Shareable.{is_booted, is_booted_size}
 use Rattle.image_tool.proofs.sharing.booted_image.Goals as goal
 

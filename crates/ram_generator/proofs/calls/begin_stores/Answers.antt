@@ -1,4 +1,4 @@
-use Rattle.ram_core.specs.Asks.{ask_seen}
+use Rattle.ramoops.specs.Asks.{ask_seen}
 use Rattle.ram_generator.proofs.Making.{begun_call, unbegun_call}
 use Rattle.ram_generator.proofs.calls.begin_stores.Goals as goal
 

@@ -1,4 +1,4 @@
-use Rattle.ram_core.specs.Asks.{ask_seen}
+use Rattle.ramoops.specs.Asks.{ask_seen}
 use Rattle.ram_generator.proofs.Making.{call_counted}
 use Rattle.ram_generator.proofs.calls.make_call.Goals as goal
 

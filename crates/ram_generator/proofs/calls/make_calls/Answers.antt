@@ -1,8 +1,8 @@
 use Rattle.std.proofs.Common.{◌≡◌, ◌-◌, ◌≤◌, suc, List, ◌∷◌, length, map, arith}
 use Rattle.std.specs.List.{All, AllByRecursion}
 use Rattle.std_alloc.specs.Vec.Iter.{into_iter_items}
-use Rattle.ram_core.specs.declared.ask.Ask.{Ask}
-use Rattle.ram_core.specs.Asks.{ask_seen, CanBeAsked}
+use Rattle.ramoops.specs.declared.ask.Ask.{Ask}
+use Rattle.ramoops.specs.Asks.{ask_seen, CanBeAsked}
 use Rattle.ram_generator.specs.Counting.{Grows}
 use Rattle.ram_generator.specs.Sessions.{IsForRing}
 use Rattle.ram_generator.proofs.Calling.{makes_more, grown_both}

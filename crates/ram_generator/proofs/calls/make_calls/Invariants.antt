@@ -1,7 +1,7 @@
 use Rattle.std.proofs.Common.{◌≤◌, ◌-◌, length, map}
 use Rattle.std.specs.List.{All, AllByRecursion}
 use Rattle.std_alloc.specs.Vec.Iter.{into_iter_items}
-use Rattle.ram_core.specs.Asks.{ask_seen, CanBeAsked}
+use Rattle.ramoops.specs.Asks.{ask_seen, CanBeAsked}
 use Rattle.ram_generator.specs.Counting.{Grows}
 use Rattle.ram_generator.specs.Sessions.{IsForRing}
 use Rattle.ram_generator.proofs.Calling.{Makes}

@@ -1,4 +1,4 @@
-use Rattle.ram_core.specs.Asks.{ask_seen}
+use Rattle.ramoops.specs.Asks.{ask_seen}
 use Rattle.ram_session.proofs.Makes.{make_done, make_idle}
 use Rattle.ram_generator.proofs.Making.{made_call, refused_call}
 use Rattle.ram_generator.proofs.calls.make_stores.Goals as goal

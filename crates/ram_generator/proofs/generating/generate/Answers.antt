@@ -3,8 +3,8 @@ use Rattle.std.proofs.lemmas.List.{length-replicate}
 use Rattle.zone_spec.specs.declared.Zone.{Zone}
 use Rattle.zone_spec.specs.Layout.{rounded}
 use Rattle.zone_spec.specs.Layouts.{IsLayout}
-use Rattle.session_spec.specs.Off.{fresh}
-use Rattle.ram_core.specs.OffSeen.{StandsOff}
+use Rattle.machine_spec.specs.Off.{fresh}
+use Rattle.ramoops.specs.OffSeen.{StandsOff}
 use Rattle.zone_params.specs.Laid.{params_of, zones_of}
 use Rattle.tool_spec.specs.Generated.{generated}
 use Rattle.ram_generator.specs.Sessions.{RunsIdle}

@@ -1,5 +1,5 @@
 use Rattle.std.proofs.Common.{map}
-use Rattle.ram_core.specs.Reports.{report_seen}
+use Rattle.ramoops.specs.Reports.{report_seen}
 use Rattle.ram_generator.proofs.Rounding.{is_up}
 use Rattle.ram_generator.proofs.rounds.boot_up.Goals as goal
 

@@ -1,5 +1,5 @@
 use Rattle.std.proofs.Common.{refl, sym, ◌∙◌}
-use Rattle.old_log.specs.Saving.{saved}
+use Rattle.prz_read.specs.Saving.{saved}
 use Rattle.ram_session.proofs.RecordLines.{given_content, given_none}
 use Rattle.ram_session.proofs.record_lines.content_of.Goals as goal
 

@@ -1,5 +1,5 @@
 use Rattle.std.proofs.Common.{sym, ◌∙◌}
-use Rattle.old_log.specs.Saving.{saved}
+use Rattle.prz_read.specs.Saving.{saved}
 use Rattle.ram_session.proofs.RecordLines.{extract_done, extract_refused, given_none, none_is}
 use Rattle.ram_session.proofs.record_lines.extract.Goals as goal
 

@@ -1,6 +1,6 @@
 -- A text names a listed record where it is a name's text and a record of that name has a length
 use Rattle.std.proofs.Common.{◌∙◌}
-use Rattle.old_log.specs.Saving.{saved}
+use Rattle.prz_read.specs.Saving.{saved}
 use Rattle.ram_session.proofs.Called.{all-small, nothing-named, not-listed, is-listed}
 use Rattle.ram_session.proofs.record_lines.named.Goals as goal
 

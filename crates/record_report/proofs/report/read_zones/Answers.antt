@@ -1,6 +1,6 @@
 -- Each zone is read from its own span
 use Rattle.std.proofs.Common.{◌≡◌, ℕ, get_or, length, ap, subst, refl, arith}
-use Rattle.ram_region.proofs.Cutting.{no_zone}
+use Rattle.prz_region.proofs.Cutting.{no_zone}
 use Rattle.record_report.specs.Reports.{ReadsTo}
 use Rattle.record_report.proofs.Zones.{span_at, reads-next}
 use Rattle.record_report.proofs.report.read_zones.Goals as goal

@@ -2,9 +2,9 @@
 use Rattle.std.proofs.Common.{◌≡◌, sym, ap, subst, length, arith}
 use Rattle.zone_params.specs.Laid.{zones_of}
 use Rattle.zone_spec.specs.Layouts.{IsLayout}
-use Rattle.old_log.specs.Saving.{AreNumbered}
-use Rattle.old_log.proofs.Saves.{layout-few}
-use Rattle.old_log.proofs.Numbered.{numbers-small}
+use Rattle.prz_read.specs.Saving.{AreNumbered}
+use Rattle.prz_read.proofs.Saves.{layout-few}
+use Rattle.prz_read.proofs.Numbered.{numbers-small}
 use Rattle.record_report.proofs.report.report_of.Goals as goal
 
 pub report_of_zones-requires-clause-whole : goal.report_of_zones-requires-clause-whole

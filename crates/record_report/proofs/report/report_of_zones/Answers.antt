@@ -1,6 +1,6 @@
 -- The spans of the image are its zones' bytes
 use Rattle.std.proofs.Common.{List, length, sym, ap, subst, ◌∙◌, refl}
-use Rattle.ram_region.specs.CutRegion.{CutRegion, cut_at}
+use Rattle.prz_region.specs.CutRegion.{CutRegion, cut_at}
 use Rattle.report_spec.specs.Records.{RecordHeld}
 use Rattle.report_spec.specs.Packed.{AreShown}
 use Rattle.record_report.specs.Reports.{SpansFit}

@@ -1,7 +1,7 @@
 use Rattle.std.proofs.Common.{◌++◌, ◌∙◌, List, ℕ, ap, sym, arith}
 use Rattle.std.specs.Prelude.{flat_map}
 use Rattle.std.proofs.lemmas.List.Concat.{flat_map-append}
-use Rattle.pstore_names.proofs.Steps.{collected-all}
+use Rattle.pstore_records.proofs.Steps.{collected-all}
 use Rattle.report_spec.specs.Escaped.{escaped_byte}
 use Rattle.report_html.proofs.Texts.{escaped-is}
 use Rattle.report_html.proofs.escaping.push_each.Goals as goal

@@ -9,8 +9,8 @@ use Rattle.zone_spec.specs.declared.Zone.{Zone}
 use Rattle.zone_spec.specs.Reading.{ZoneReading}
 use Rattle.zone_spec.specs.Records.{Saved}
 use Rattle.report_spec.specs.Parts.{PartStates}
-use Rattle.old_log.specs.Saving.{SavedLogs, saved}
-use Rattle.pstore_names.proofs.Steps.{collected-more, collected-all}
+use Rattle.prz_read.specs.Saving.{SavedLogs, saved}
+use Rattle.pstore_records.proofs.Steps.{collected-more, collected-all}
 use Rattle.report_html.specs.Pieces.{parts}
 use Rattle.report_html.specs.Pictures.{zone_parts}
 use Rattle.report_html.proofs.Drawn.{no_zone, read-at, drawn, all-count}

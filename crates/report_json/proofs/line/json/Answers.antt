@@ -3,7 +3,7 @@ use Rattle.std.proofs.Common.{◌≡◌, ◌∙◌, List, length, subst, ap, map
 use Rattle.serde_json.specs.Data.{Data, array}
 use Rattle.serde_json.specs.View.{view, items_of}
 use Rattle.serde_json.specs.Written.{IsInOrder}
-use Rattle.old_log.specs.Saving.{SavedLogs, saved}
+use Rattle.prz_read.specs.Saving.{SavedLogs, saved}
 use Rattle.report_spec.specs.Parts.{PartStates}
 use Rattle.report_spec.specs.Packed.{RecordShown}
 use Rattle.report_spec.specs.Deaths.{death_told}

@@ -1,6 +1,6 @@
 -- The content is text, or in base64
 use Rattle.std.proofs.Common.{◌≡◌, ◌∙◌, ap}
-use Rattle.old_log.specs.Saving.{saved}
+use Rattle.prz_read.specs.Saving.{saved}
 use Rattle.serde_json.specs.Data.{string}
 use Rattle.serde_json.specs.View.{view}
 use Rattle.report_spec.specs.Packed.{RecordShown}

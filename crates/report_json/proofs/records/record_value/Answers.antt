@@ -1,6 +1,6 @@
 -- A record is shown by its packing
 use Rattle.std.proofs.Common.{◌≡◌, ◌⊎◌, ◌∙◌, ℕ, ap, sym, inl, inr}
-use Rattle.old_log.specs.Saving.{saved}
+use Rattle.prz_read.specs.Saving.{saved}
 use Rattle.report_spec.specs.declared.Packing.TheVariants.{Plain, Whole}
 use Rattle.report_spec.specs.Packed.{RecordShown}
 use Rattle.report_json.specs.Schema.{part_data_of}

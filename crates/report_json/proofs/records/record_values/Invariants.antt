@@ -1,6 +1,6 @@
 use Rattle.std.proofs.Common.{◌≡◌, map, take}
 use Rattle.serde_json.specs.View.{view}
-use Rattle.old_log.specs.Saving.{saved}
+use Rattle.prz_read.specs.Saving.{saved}
 use Rattle.report_json.specs.Schema.{record_data}
 use Rattle.report_json.proofs.records.record_values.Given as goal
 

@@ -4,12 +4,12 @@ use Rattle.std.specs.Prelude.{flat_map, slice_get}
 use Rattle.std.specs.Option.{option_copied, option_map}
 use Rattle.std.proofs.lemmas.List.Concat.{flat_map-append}
 use Rattle.std.proofs.lemmas.Option.{slice_get-get_or}
-use Rattle.ram_region.proofs.Cutting.{no_zone}
+use Rattle.prz_region.proofs.Cutting.{no_zone}
 use Rattle.zone_spec.specs.declared.Zone.{Zone}
 use Rattle.zone_spec.specs.Records.{Saved}
-use Rattle.old_log.specs.Saving.{saved}
-use Rattle.old_log.proofs.Saves.{zip-at}
-use Rattle.pstore_names.proofs.Steps.{collected-more}
+use Rattle.prz_read.specs.Saving.{saved}
+use Rattle.prz_read.proofs.Saves.{zip-at}
+use Rattle.pstore_records.proofs.Steps.{collected-more}
 use Rattle.report_text.specs.Pieces.{parts}
 use Rattle.report_text.specs.Tables.{zone_row}
 use Rattle.report_text.proofs.Rows.{row-of}

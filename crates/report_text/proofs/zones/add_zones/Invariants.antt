@@ -1,7 +1,7 @@
 -- The rows of the zones so far
 use Rattle.std.proofs.Common.{◌≡◌, ◌++◌, take}
 use Rattle.std.specs.Prelude.{flat_map}
-use Rattle.old_log.specs.Saving.{saved}
+use Rattle.prz_read.specs.Saving.{saved}
 use Rattle.report_text.specs.Pieces.{parts}
 use Rattle.report_text.specs.Tables.{zone_row}
 use Rattle.report_text.proofs.zones.add_zones.Given as goal

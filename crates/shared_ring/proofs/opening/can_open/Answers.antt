@@ -5,7 +5,7 @@ use Rattle.zone_spec.specs.declared.Zone.{Zone}
 use Rattle.zone_spec.specs.Layouts.{zone_place}
 use Rattle.zone_spec.specs.Layout.{rounded}
 use Rattle.zone_params.specs.Laid.{params_of, zones_of}
-use Rattle.session_spec.specs.Zones.{zone_bytes}
+use Rattle.machine_spec.specs.Zones.{zone_bytes}
 use Rattle.shared_spec.specs.Machine.{CanShare}
 use Rattle.shared_ring.proofs.Shareable.{lies_in, opens, shares_opened, zone_got}
 use Rattle.shared_ring.proofs.opening.can_open.Goals as goal

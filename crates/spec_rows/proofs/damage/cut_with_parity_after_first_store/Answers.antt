@@ -4,7 +4,7 @@ use Rattle.zone_spec.specs.Reading.{ZoneReading, zone_reading}
 use Rattle.zone_spec.specs.Verdicts.{verdict_of}
 use Rattle.zone_spec.specs.Told.{Append}
 use Rattle.zone_spec.specs.Calls.{image_after}
-use Rattle.session_spec.specs.Report.{report_cut}
+use Rattle.machine_spec.specs.Report.{report_cut}
 use Rattle.spec_rows.specs.Zones.{console, console_of_sixteen}
 use Rattle.spec_rows.specs.Scenes.{abc, def}
 use Rattle.spec_rows.specs.Damage.{cut_zone}

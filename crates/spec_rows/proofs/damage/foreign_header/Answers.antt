@@ -3,7 +3,7 @@ use Rattle.std.proofs.Common.{refl, ap, ◌∙◌}
 use Rattle.zone_spec.specs.Reading.{ZoneReading, zone_reading}
 use Rattle.zone_spec.specs.Verdicts.{verdict_of}
 use Rattle.zone_spec.specs.Told.{Append}
-use Rattle.session_spec.specs.Report.{report_cut}
+use Rattle.machine_spec.specs.Report.{report_cut}
 use Rattle.spec_rows.specs.Zones.{console, console_of_two}
 use Rattle.spec_rows.specs.Damage.{cut_zone, full_ring}
 use Rattle.spec_rows.specs.Shown.{Shown, shown_by}

@@ -3,7 +3,7 @@ use Rattle.zone_spec.specs.Parts.{Header, part_word}
 use Rattle.zone_spec.specs.Stores.{Store, after_stores}
 use Rattle.zone_spec.specs.Stages.{stage_count}
 use Rattle.zone_spec.specs.Cut.{Cut, ByBoot, cut_stages, cut_pairs}
-use Rattle.session_spec.specs.BootPart.{boot_cut}
+use Rattle.machine_spec.specs.BootPart.{boot_cut}
 use Rattle.spec_rows.specs.Zones.{console_of_two}
 use Rattle.spec_rows.specs.Damage.{foreign_header}
 use Rattle.spec_rows.proofs.Computing.{computing}

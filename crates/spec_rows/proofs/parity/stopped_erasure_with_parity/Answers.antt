@@ -6,8 +6,8 @@ use Rattle.zone_spec.specs.Stores.{Store, after_stores}
 use Rattle.zone_spec.specs.Boot.{boot_stores}
 use Rattle.zone_spec.specs.Cut.{Cut, ByBoot}
 use Rattle.zone_spec.specs.Verdicts.{verdict_of}
-use Rattle.session_spec.specs.Report.{report_cut}
-use Rattle.session_spec.specs.BootPart.{boot_cut}
+use Rattle.machine_spec.specs.Report.{report_cut}
+use Rattle.machine_spec.specs.BootPart.{boot_cut}
 use Rattle.std.proofs.Common.{◌-◌, length}
 use Rattle.spec_rows.specs.Zones.{console, console_of_sixteen}
 use Rattle.spec_rows.specs.Scenes.{abc}

@@ -1,5 +1,5 @@
 use Rattle.std.proofs.Common.{◌≡◌, ◌⊎◌, ◌≤◌, ◌-◌, length, take}
-use Rattle.box_io.specs.Outside.{Rose, Writes}
+use Rattle.outside.specs.Outside.{Rose, Writes}
 use Rattle.tool_frame.proofs.stages.save.Given as goal
 
 abbrev pub invariant-pieces : goal.invariant-pieces

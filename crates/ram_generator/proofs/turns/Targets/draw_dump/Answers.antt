@@ -1,5 +1,5 @@
 use Rattle.std.proofs.Common.{ℕ, List, ap, sym}
-use Rattle.session_spec.specs.LiveCalls.{Ask}
+use Rattle.machine_spec.specs.LiveCalls.{Ask}
 use Rattle.ram_generator.proofs.Turning.{dump_there, dump_nowhere, dump_number}
 use Rattle.ram_generator.proofs.turns.Targets.draw_dump.Goals as goal
 

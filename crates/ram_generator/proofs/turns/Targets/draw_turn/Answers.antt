@@ -1,7 +1,7 @@
 use Rattle.std.proofs.Common.{ℕ, List, length, slice_get, ap, sym, ◌∙◌, rules, arith}
 use Rattle.zone_spec.specs.declared.Zone.{Zone}
 use Rattle.zone_spec.specs.declared.ZoneName.{ZoneName}
-use Rattle.session_spec.specs.LiveCalls.{Ask}
+use Rattle.machine_spec.specs.LiveCalls.{Ask}
 use Rattle.ram_generator.specs.Turns.{AreTargets}
 use Rattle.ram_generator.proofs.Turning.{found_at, turn_append, turn_dump}
 use Rattle.ram_generator.proofs.turns.Targets.draw_turn.Goals as goal

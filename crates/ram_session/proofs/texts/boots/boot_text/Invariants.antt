@@ -1,5 +1,5 @@
 use Rattle.std.proofs.Common.{◌≡◌, take}
-use Rattle.old_log.specs.Saving.{saved}
+use Rattle.prz_read.specs.Saving.{saved}
 use Rattle.ram_session.proofs.Sides.{sides, lines_of}
 use Rattle.ram_session.proofs.texts.boots.boot_text.Given as goal
 

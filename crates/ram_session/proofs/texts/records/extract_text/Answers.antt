@@ -1,7 +1,7 @@
 -- The text of a record is its name, its length and its content
 use Rattle.std.proofs.Common.{◌≡◌}
 use Rattle.zone_spec.specs.Names.{name_text}
-use Rattle.old_log.specs.Saving.{saved}
+use Rattle.prz_read.specs.Saving.{saved}
 use Rattle.ram_session.proofs.Listings.{extract-is}
 use Rattle.ram_session.proofs.texts.records.extract_text.Goals as goal
 

@@ -1,7 +1,7 @@
 use Rattle.std.proofs.Common.{◌++◌, ap, ◌∙◌}
 use Rattle.std.specs.List.{concat}
 use Rattle.zone_spec.specs.Reading.{zone_reading}
-use Rattle.session_spec.specs.Zones.{zone_bytes}
+use Rattle.machine_spec.specs.Zones.{zone_bytes}
 use Rattle.shared_ring.specs.Seen.{SharedSeen}
 use Rattle.shared_ring.proofs.Opened.{closed}
 use Rattle.shared_laws.proofs.Closing.{zone_left, log_left}

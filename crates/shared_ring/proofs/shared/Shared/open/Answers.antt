@@ -4,7 +4,7 @@ use Rattle.zone_spec.specs.declared.Zone.{Zone}
 use Rattle.zone_spec.specs.Layouts.{IsLayout}
 use Rattle.zone_spec.specs.Layout.{rounded}
 use Rattle.zone_params.specs.Laid.{params_of, zones_of}
-use Rattle.ram_region.specs.CutRegion.{CutRegion, CountedRegion, cut_at}
+use Rattle.prz_region.specs.CutRegion.{CutRegion, CountedRegion, cut_at}
 use Rattle.shared_ring.specs.declared.seats.Seat.{Seat}
 use Rattle.shared_ring.specs.Seen.{SharedSeen, IsWhole, IsLeftBy}
 use Rattle.shared_ring.proofs.Opened.{opened_whole, opened_left, zone_there, zone_read}

@@ -1,6 +1,6 @@
 use Rattle.std.proofs.Common.{◌≡◌, length, arith, ap, ◌∙◌, Some}
 use Rattle.zone_spec.specs.declared.Words.{Words}
-use Rattle.session_spec.specs.Zones.{zone_bytes}
+use Rattle.machine_spec.specs.Zones.{zone_bytes}
 use Rattle.shared_spec.specs.declared.SharedRefusal.TheVariants.{Crowded}
 use Rattle.shared_ring.specs.Seats.{held_since}
 use Rattle.shared_ring.specs.Seen.{SharedSeen, words_of}

@@ -2,7 +2,7 @@ use Rattle.std.proofs.Common.{◌≡◌, ℕ, ◌+◌, ◌%◌, min, List, [], �
 use Rattle.std.specs.Int.{to_le_bytes}
 use Rattle.zone_spec.specs.declared.Words.{Words}
 use Rattle.zone_spec.specs.Stores.{put}
-use Rattle.ram_region.specs.CutRegion.{CountedRegion, with_span, stored}
+use Rattle.prz_region.specs.CutRegion.{CountedRegion, with_span, stored}
 use Rattle.shared_ring.specs.declared.seats.Seat.{Seat}
 use Rattle.shared_ring.specs.Seen.{SharedSeen, bytes_of, words_of, IsWhole, seated}
 use Rattle.shared_ring.proofs.Wholes.{seated_whole}

@@ -1,6 +1,6 @@
 use Rattle.std.proofs.Common.{◌≡◌, ℕ, ◌+◌, ◌%◌, List, length, set, arith, sym, ap, ap₂, ◌∙◌, subst, Some}
 use Rattle.std.specs.Prelude.{slice_get, slice_index}
-use Rattle.ram_region.specs.CutRegion.{CountedRegion, with_span, stored}
+use Rattle.prz_region.specs.CutRegion.{CountedRegion, with_span, stored}
 use Rattle.shared_ring.specs.declared.seats.Seat.{Seat}
 use Rattle.shared_ring.specs.Seats.{seats_stepped}
 use Rattle.shared_ring.specs.Seen.{SharedSeen, IsWhole, bytes_of, stepped}

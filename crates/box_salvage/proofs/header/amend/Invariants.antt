@@ -1,5 +1,0 @@
-use Rattle.box_salvage.proofs.Amends.{Amending}
-use Rattle.box_salvage.proofs.header.amend.Given as goal
-
-abbrev pub invariant-loop-i : goal.invariant-loop-i
-invariant-loop-i l = Amending l.fn.expected l.fn.bytes l.bytes l.i l.count

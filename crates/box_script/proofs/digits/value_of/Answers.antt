@@ -1,6 +1,0 @@
-use Rattle.std.proofs.Common.{sym}
-use Rattle.box_script.proofs.HexDigits.{value_is}
-use Rattle.box_script.proofs.digits.value_of.Goals as goal
-
-pub returns : goal.returns
-returns c = sym (value_is c.args.digit c.ranges.digit.fits)

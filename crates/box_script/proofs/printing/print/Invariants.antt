@@ -1,6 +1,0 @@
-use Rattle.std.proofs.Common.{◌≡◌, take}
-use Rattle.grammar_spec.specs.Printed.{script_text}
-use Rattle.box_script.proofs.printing.print.Given as goal
-
-abbrev pub invariant-loop-line : goal.invariant-loop-line
-invariant-loop-line l = l.out.items ≡ script_text (take l.line-index l.line-items)

@@ -1,9 +1,0 @@
-use Rattle.std.proofs.Common.{length}
-use Rattle.box_script.proofs.Loop.{IsReadSoFar}
-use Rattle.box_script.proofs.reading.parse.Given as goal
-
-abbrev pub invariant-loop-text : goal.invariant-loop-text
-invariant-loop-text l = IsReadSoFar l.script l.lines.items l.rest
-
-abbrev pub decreases-loop-text : goal.decreases-loop-text
-decreases-loop-text l = length l.rest

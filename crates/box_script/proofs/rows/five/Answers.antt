@@ -1,5 +1,0 @@
-use Rattle.box_script.proofs.Counts.{five_of_four}
-use Rattle.box_script.proofs.rows.five.Goals as goal
-
-pub returns : goal.returns
-returns c = five_of_four _ _ _ _ _ _ _ c.in_ok-a.ensures.parts c.in_ok-b.ensures

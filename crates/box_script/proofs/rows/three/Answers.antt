@@ -1,5 +1,0 @@
-use Rattle.box_script.proofs.Counts.{three_of_two}
-use Rattle.box_script.proofs.rows.three.Goals as goal
-
-pub returns : goal.returns
-returns c = three_of_two _ _ _ _ _ c.in_ok-a.ensures.parts c.in_ok-b.ensures

@@ -1,0 +1,5 @@
+use Rattle.machine_laws.proofs.Sessions.{appends_tell_last_bytes as law}
+use Rattle.machine_laws.proofs.appends_tell_last_bytes.Goals as goal
+
+pub returns : goal.returns
+returns c = law

@@ -1,0 +1,5 @@
+use Rattle.machine_laws.proofs.Boots.{cut_zones_read as law}
+use Rattle.machine_laws.proofs.cut_zones_read.Goals as goal
+
+pub returns : goal.returns
+returns c = law

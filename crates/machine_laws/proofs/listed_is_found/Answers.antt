@@ -1,0 +1,5 @@
+use Rattle.machine_laws.proofs.Listed.{listed_is_found as law}
+use Rattle.machine_laws.proofs.listed_is_found.Goals as goal
+
+pub returns : goal.returns
+returns c = law

@@ -1,0 +1,5 @@
+use Rattle.machine_laws.proofs.Logs.{log_bytes_come as law}
+use Rattle.machine_laws.proofs.log_bytes_come.Goals as goal
+
+pub returns : goal.returns
+returns c = law

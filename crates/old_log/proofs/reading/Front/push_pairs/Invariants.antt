@@ -1,8 +1,0 @@
-use Rattle.std.proofs.Common.{◌≡◌, ◌*◌}
-use Rattle.old_log.specs.Fronts.{ReadsTo}
-use Rattle.old_log.proofs.reading.Front.push_pairs.Given as goal
-
--- the pairs so far, and the same wish
-abbrev pub invariant-loop-pair : goal.invariant-loop-pair
-invariant-loop-pair l =
-    ReadsTo l.zone l.span l.size (2 * l.pair) l.self × (l.self.states.are_wanted ≡ l.initial.self.states.are_wanted)

@@ -1,0 +1,14 @@
+use Rattle.std.proofs.Common.{◌≡◌, ◌+◌, drop, length}
+use Rattle.zone_spec.specs.Stores.{put}
+use Rattle.prz_region.specs.Chain.{piece_bytes, SamePlace}
+use Rattle.prz_region.proofs.pieces.Piece.store_bytes.Given as goal
+
+abbrev pub invariant-loop-byte : goal.invariant-loop-byte
+invariant-loop-byte l = record {
+  at : l.place ≡ l.fn.at + l.byte-index;
+  bytes : put (piece_bytes l.self) l.place (drop l.byte-index l.bytes)
+      ≡ put (piece_bytes l.fn.self) l.fn.at l.bytes;
+  long : length (piece_bytes l.self) ≡ length (piece_bytes l.fn.self);
+  same : SamePlace l.fn.self l.self;
+  count : l.stores.count ≡ l.fn.stores.count + l.byte-index;
+}

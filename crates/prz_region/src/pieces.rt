@@ -1,0 +1,61 @@
+// The pieces of a block. All that is stored into one goes through `store_array`, which counts it.
+ghost use Rattle.std.specs.Prelude.{◌≡◌, ◌+◌, ◌≤◌, length};
+ghost use Rattle.core.specs.Mem.Slots.{IsFull};
+ghost use Rattle.zone_spec.specs.Parts.{AreBytes};
+ghost use Rattle.zone_spec.specs.Stores.{put};
+ghost use Rattle.prz_region.specs.Row.{IsRow};
+
+use crate::block::{Stores, store_array};
+use core::slots::Slots;
+
+/// A part of a block: where it begins, and its places, which it owns. Each store into it is counted.
+#[repr(C)]
+pub struct Piece {
+    base: *mut u8,
+    slots: Slots<u8>,
+    ghost row: { IsRow base slots },
+}
+
+impl Piece {
+    ghost use Rattle.prz_region.specs.Chain.{piece_bytes, SamePlace};
+
+    pub(crate) fn over(base: *mut u8, slots: Slots<u8>) -> Piece
+        requires { IsRow base slots }
+        ensures { result.slots ≡ slots }
+    {
+        Piece { base, slots }
+    }
+
+    pub(crate) fn into_slots(self) -> Slots<u8>
+        ensures { (result ≡ self.slots) × IsFull result }
+    {
+        let Piece { base: _, slots } = self;
+        slots
+    }
+
+    /// Stores bytes from `at` on, in one store.
+    pub(crate) fn store<const N: usize>(&mut self, at: u32, bytes: [u8; N], stores: &mut Stores)
+        requires place { at + N ≤ length (piece_bytes self.old) }
+        requires bytes { AreBytes bytes }
+        ensures bytes { piece_bytes self.new ≡ put (piece_bytes self.old) at bytes.entry }
+        ensures place { SamePlace self.old self.new }
+        ensures count { stores.new.count ≡ stores.old.count + 1 }
+    {
+        store_array(&mut self.slots, self.base, at as usize, bytes, stores);
+    }
+
+    /// Stores bytes from `at` on, rising, in a store for each.
+    pub(crate) fn store_bytes(&mut self, at: u32, bytes: &[u8], stores: &mut Stores)
+        requires { at + length bytes.now ≤ length (piece_bytes self.old) }
+        ensures bytes { piece_bytes self.new ≡ put (piece_bytes self.old) at bytes.now }
+        ensures place { SamePlace self.old self.new }
+        ensures count { stores.new.count ≡ stores.old.count + length bytes.now }
+    {
+        let mut place = at;
+        for byte in bytes {
+            let byte = *byte;
+            self.store(place, [byte], stores);
+            place += 1;
+        }
+    }
+}

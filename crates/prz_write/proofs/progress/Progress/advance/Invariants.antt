@@ -1,0 +1,23 @@
+use Rattle.std.proofs.Common.{◌≡◌, ℕ, ◌+◌, ◌<◌, List, length}
+use Rattle.prz_region.specs.CutRegion.{span, with_span}
+use Rattle.rs_encode.specs.Lanes.{IsLent}
+use Rattle.store_steps.specs.Flying.{IsSameCall}
+use Rattle.store_steps.specs.Machine.{StandsFor}
+use Rattle.prz_write.specs.Seen.{seen, IsHeld}
+use Rattle.prz_write.proofs.progress.Progress.advance.Given as goal
+
+abbrev pub invariant-stores : goal.invariant-stores
+invariant-stores l = record {
+  held : IsHeld l.self;
+  table : IsLent l.self.steps.zone.parity l.table;
+  same : IsSameCall (seen l.initial.self) (seen l.self);
+  made : l.self.steps.made + l.left ≡ l.initial.self.steps.made + l.count;
+  stands : (before : List ℕ) → StandsFor (seen l.initial.self) (span l.initial.spans l.i) before
+      → StandsFor (seen l.self) (span l.spans l.i) before;
+  others : l.spans ≡ with_span l.initial.spans l.i (span l.spans l.i);
+  has : l.i < length l.spans.spans;
+  len : length (span l.spans l.i) ≡ length (span l.initial.spans l.i);
+}
+
+abbrev pub decreases-stores : goal.decreases-stores
+decreases-stores l = l.left

@@ -1,8 +1,0 @@
-use Rattle.std.proofs.Common.{◌≡◌, true, take}
-use Rattle.zone_params.specs.Laid.{zones_of}
-use Rattle.session_spec.specs.Moved.{fits}
-use Rattle.old_log.specs.Saving.{saved}
-use Rattle.pstore_names.proofs.fitting.fits.Given as goal
-
-abbrev pub invariant-loop-i : goal.invariant-loop-i
-invariant-loop-i l = fits (zones_of l.layout) (take l.i (saved l.logs)) l.name ≡ true

@@ -1,6 +1,0 @@
-use Rattle.pstore_names.proofs.Forgetting.{ForgetsTo}
-use Rattle.zone_params.specs.Laid.{zones_of}
-use Rattle.pstore_names.proofs.fitting.forget_unfit.Given as goal
-
-abbrev pub invariant-loop-i : goal.invariant-loop-i
-invariant-loop-i l = ForgetsTo (zones_of l.layout) l.initial.logs l.logs l.i

@@ -1,9 +1,0 @@
-use Rattle.std.proofs.Common.{◌≡◌, ◌++◌, take}
-use Rattle.old_log.specs.Saving.{saved}
-use Rattle.zone_params.specs.Laid.{zones_of}
-use Rattle.pstore_names.proofs.Moved.{dump_moves}
-use Rattle.pstore_names.proofs.moving.add_dumps.Given as goal
-
-abbrev pub invariant-loop-i : goal.invariant-loop-i
-invariant-loop-i l = l.moves.items ≡ l.initial.moves.items ++ dump_moves (zones_of l.layout) (saved l.logs)
-    (take l.i (saved l.logs))

@@ -1,7 +1,0 @@
-use Rattle.std.proofs.Common.{◌≡◌, [], take}
-use Rattle.old_log.specs.Saving.{saved}
-use Rattle.pstore_names.proofs.Named.{dumps_named}
-use Rattle.pstore_names.proofs.records.dump.Given as goal
-
-abbrev pub invariant-loop-i : goal.invariant-loop-i
-invariant-loop-i l = dumps_named l.index l.packed (take l.i (saved l.logs)) ≡ []

@@ -1,7 +1,0 @@
-use Rattle.std.proofs.Common.{◌≡◌, ◌++◌, take}
-use Rattle.old_log.specs.Saving.{saved}
-use Rattle.pstore_names.proofs.Tabled.{dump_entries}
-use Rattle.pstore_names.proofs.table.add_dumps.Given as goal
-
-abbrev pub invariant-loop-i : goal.invariant-loop-i
-invariant-loop-i l = l.entries.items ≡ l.initial.entries.items ++ dump_entries (saved l.logs) (take l.i (saved l.logs))

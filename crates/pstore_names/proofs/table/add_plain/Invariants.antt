@@ -1,8 +1,0 @@
-use Rattle.std.proofs.Common.{◌≡◌, ◌++◌, take}
-use Rattle.old_log.specs.Saving.{saved}
-use Rattle.pstore_names.proofs.Tabled.{plain_entries}
-use Rattle.pstore_names.proofs.table.add_plain.Given as goal
-
-abbrev pub invariant-loop-i : goal.invariant-loop-i
-invariant-loop-i l = l.entries.items ≡ l.initial.entries.items ++ plain_entries (saved l.logs) l.kind l.name
-    (take l.i (saved l.logs))

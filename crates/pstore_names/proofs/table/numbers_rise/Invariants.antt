@@ -1,8 +1,0 @@
-use Rattle.std.proofs.Common.{◌≡◌, drop}
-use Rattle.old_log.specs.Saving.{saved}
-use Rattle.pstore_names.specs.Tables.{numbers_rise}
-use Rattle.pstore_names.proofs.table.numbers_rise.Given as goal
-
--- the numbers rise where those of the zones that are left do
-abbrev pub invariant-loop-i : goal.invariant-loop-i
-invariant-loop-i l = numbers_rise 0 (saved l.logs) ≡ numbers_rise l.least (drop l.i (saved l.logs))

@@ -1,7 +1,0 @@
-use Rattle.std.proofs.Common.{◌≡◌, [], take}
-use Rattle.zone_spec.specs.Records.{logs_of}
-use Rattle.old_log.specs.Saving.{saved}
-use Rattle.pstore_names.proofs.zones.first_log.Given as goal
-
-abbrev pub invariant-loop-i : goal.invariant-loop-i
-invariant-loop-i l = logs_of l.kind (take l.i (saved l.logs)) ≡ []

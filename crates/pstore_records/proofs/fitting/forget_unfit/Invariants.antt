@@ -1,0 +1,6 @@
+use Rattle.pstore_records.proofs.Forgetting.{ForgetsTo}
+use Rattle.zone_params.specs.Laid.{zones_of}
+use Rattle.pstore_records.proofs.fitting.forget_unfit.Given as goal
+
+abbrev pub invariant-loop-i : goal.invariant-loop-i
+invariant-loop-i l = ForgetsTo (zones_of l.layout) l.initial.logs l.logs l.i

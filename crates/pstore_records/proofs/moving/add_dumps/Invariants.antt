@@ -1,0 +1,9 @@
+use Rattle.std.proofs.Common.{◌≡◌, ◌++◌, take}
+use Rattle.prz_read.specs.Saving.{saved}
+use Rattle.zone_params.specs.Laid.{zones_of}
+use Rattle.pstore_records.proofs.Moved.{dump_moves}
+use Rattle.pstore_records.proofs.moving.add_dumps.Given as goal
+
+abbrev pub invariant-loop-i : goal.invariant-loop-i
+invariant-loop-i l = l.moves.items ≡ l.initial.moves.items ++ dump_moves (zones_of l.layout) (saved l.logs)
+    (take l.i (saved l.logs))

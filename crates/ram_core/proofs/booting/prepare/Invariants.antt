@@ -1,9 +1,0 @@
-use Rattle.std.proofs.Common.{length}
-use Rattle.zone_params.specs.Laid.{zones_of}
-use Rattle.ram_core.specs.OffSeen.{known_all}
-use Rattle.ram_core.specs.Booting.{PreparesTo}
-use Rattle.ram_core.proofs.booting.prepare.Given as goal
-
-abbrev pub invariant-loop-i : goal.invariant-loop-i
-invariant-loop-i l = PreparesTo (zones_of l.layout) l.spans.spans
-    (known_all (length (zones_of l.layout)) l.known) l.i l.prepared

@@ -1,6 +1,0 @@
-use Rattle.zone_params.specs.Laid.{zones_of}
-use Rattle.ram_core.proofs.Preparing.{LogsTo}
-use Rattle.ram_core.proofs.booting.read_logs.Given as goal
-
-abbrev pub invariant-loop-i : goal.invariant-loop-i
-invariant-loop-i l = LogsTo (zones_of l.layout) l.spans.spans l.i l.logs

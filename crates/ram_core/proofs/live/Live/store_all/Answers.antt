@@ -1,7 +1,0 @@
-use Rattle.ram_core.proofs.Finishing.{finishes}
-use Rattle.ram_core.proofs.live.Live.store_all.Goals as goal
-
-pub returns-clause-stored : goal.returns-clause-stored
-returns-clause-stored c = finishes c.args.self.now c.store.new.self c.args.i c.left_at-left.result
-    c.left_at-left.ensures
-    c.store.ensures.stored

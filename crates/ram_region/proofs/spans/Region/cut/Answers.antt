@@ -1,4 +1,0 @@
-use Rattle.ram_region.proofs.spans.Region.cut.Goals as goal
-
-pub cut_zones-requires-clause-side_by_side : goal.cut_zones-requires-clause-side_by_side
-cut_zones-requires-clause-side_by_side c = λ i z e. (c.zones.ensures.laid_out.valid i z e).1

@@ -1,0 +1,84 @@
+-- All stores of a flight made in the machine, and a call begun and finished
+use Rattle.std.proofs.Common.{◌≡◌, ℕ, ◌<◌, Bool, true, false, cond, List, length, slice_get, get_or, sym, ap, ◌∙◌, subst, Option, Some, None, Ok, Err}
+use Rattle.zone_spec.specs.declared.Zone.{Zone}
+use Rattle.zone_spec.specs.declared.Kind.TheVariants.{Dump as DumpKind}
+use Rattle.zone_spec.specs.declared.Refusal.{Refusal}
+use Rattle.zone_spec.specs.Records.{is_of}
+use Rattle.zone_spec.specs.Layouts.{zone_place}
+use Rattle.machine_spec.specs.States.{LiveZone, LiveState}
+use Rattle.machine_spec.specs.ZoneCalls.{stepped, finished, stores_left}
+use Rattle.machine_spec.specs.LiveZones.{Target, target_at, with_zone}
+use Rattle.machine_spec.specs.LiveCalls.{Ask, Append, Erase, Dump, asked_name, begin, make, and_finish, finish_at}
+use Rattle.ramoops.specs.declared.zones.HeldZone.{HeldZone}
+use Rattle.ramoops.specs.LiveSeen.{LiveSeen, StandsLive, Leaves, ChangesZone, StoresNext, IsLeftAt}
+use Rattle.ramoops.specs.Places.{unless_dump, ring_at, place_asked}
+use Rattle.ramoops.specs.Storing.{stores_left_of}
+use Rattle.ramoops.proofs.Begun.{here, target_is}
+use Rattle.ramoops.proofs.Running.{own, over}
+use Rattle.ramoops.proofs.Stepped.{left_here}
+
+-- what is left of the flight at a place, by what is read of the machine's fields
+pub is_left : (v x : LiveSeen) (i : ℕ) (below : i < length x.layout) (h : HeldZone) (n : ℕ) → v ≡ x
+    → h ≡ get_or v.zones i h → n ≡ stores_left_of h.flight → IsLeftAt i x n
+is_left v x i below h n e eh en layout mem s z live stands ez el =
+    let o = own layout mem x s stands in
+    let at = here x.layout x.mem x s o i below in
+    let same_z : at.zone ≡ z = (let k : Some at.zone ≡ Some z = sym at.of_layout
+    ∙ ap (λ (l : List Zone). slice_get l i) stands.same_layout ∙ ez in cc) in
+    let same_l : at.live ≡ live = (let k : Some at.live ≡ Some live = sym at.of_state ∙ el in cc) in
+    ap (λ (y : Zone). stores_left live.flight y) (sym same_z)
+    ∙ ap (λ (l : LiveZone). stores_left l.flight at.zone) (sym same_l)
+    ∙ left_here v x i below h e eh s o ∙ sym en
+
+-- so many stores finish it
+pub finishes : (v w : LiveSeen) (i n : ℕ) → IsLeftAt i v n → StoresNext n i v w
+    → ChangesZone (λ z live. finished z live) i v w
+finishes v w i n left next layout mem s z live stands ez el =
+    subst (λ (k : ℕ). StandsLive layout mem w (with_zone layout s i live (stepped z k live)))
+    (sym (left layout mem s z live stands ez el)) (next layout mem s z live stands ez el)
+
+-- the zone that is asked for is at the call's place
+ring_some : (layout : List Zone) (o : Option ℕ) (i : ℕ) → ring_at layout o ≡ Some i → o ≡ Some i
+ring_some layout None i e = absurd (cc)
+ring_some layout (Some j) i e = at (slice_get layout j) e
+  where
+    at : (z : Option Zone) → unless_dump j z ≡ Some i → Some j ≡ Some i
+    at None k = absurd (cc)
+    at (Some z) k = by (is_of DumpKind z.name.kind) k
+      where
+        by : (t : Bool) → cond t None (Some j) ≡ Some i → Some j ≡ Some i
+        by true m = absurd (cc)
+        by false m = m
+
+place_of_name : (layout : List Zone) (cursor i : ℕ) (s : LiveState) (ask : Ask) → s.cursor ≡ cursor
+    → place_asked layout cursor ask ≡ Some i → zone_place layout (asked_name s ask) ≡ Some i
+place_of_name layout cursor i s (Append zone payload) at e = ring_some layout (zone_place layout zone) i e
+place_of_name layout cursor i s (Erase zone) at e = e
+place_of_name layout cursor i s (Dump time packed body) at e =
+    ap (λ (n : ℕ). zone_place layout (record { kind = DumpKind; index = n })) at ∙ e
+
+-- a call that was begun in its zone, and whose stores were all made there, is made
+pub make_leaves : (v u w : LiveSeen) (i : ℕ) (ask : Ask) → place_asked v.layout v.cursor ask ≡ Some i
+    → i < length v.layout → ((layout : List Zone) (mem : ℕ) (s : LiveState) → StandsLive layout mem v s
+    → Leaves layout mem (begin layout s ask) u) → ChangesZone (λ z live. finished z live) i u w
+    → (layout : List Zone) (mem : ℕ) (s : LiveState) → StandsLive layout mem v s
+    → Leaves layout mem (make layout s ask) w
+make_leaves v u w i ask place below begun ends layout mem s stands =
+    over layout mem v s (λ l m. Leaves l m (make l s ask) w) stands
+    (let o = own layout mem v s stands in
+    let b = begun v.layout v.mem s o in
+    let at = here v.layout v.mem u b.next b.stands i below in
+    let there : target_at v.layout b.next (zone_place v.layout (asked_name s ask))
+    ≡ Some (record { place = i; zone = at.zone; live = at.live }) =
+    ap (target_at v.layout b.next) (place_of_name v.layout v.cursor i s ask o.cursor place)
+    ∙ target_is v.layout v.mem u b.next b.stands i at.zone at.live at.of_layout at.of_state in
+    record {
+      next = with_zone v.layout b.next i at.live (finished at.zone at.live);
+      done = ap (and_finish v.layout (asked_name s ask)) b.done
+          ∙ ap (λ (t : Option Target). Ok (finish_at v.layout b.next t)) there;
+      stands = ends v.layout v.mem b.next at.zone at.live b.stands at.of_layout at.of_state;
+    })
+
+pub make_refused : (layout : List Zone) (s : LiveState) (ask : Ask) (why : Refusal) → begin layout s ask ≡ Err why
+    → make layout s ask ≡ Err why
+make_refused layout s ask why e = ap (and_finish layout (asked_name s ask)) e

@@ -1,0 +1,81 @@
+-- The stores of a boot, zone by zone
+use Rattle.std.proofs.Common.{◌≡◌, ◌≢◌, ℕ, zero, suc, ◌+◌, ◌<◌, ◌≤◌, List, [], ◌∷◌, length, take, slice_get, get_or, set, refl, sym, ap, ◌∙◌, subst, arith, inl, inr, Option, Some, length-set}
+use Rattle.std.specs.Prelude.{zip}
+use Rattle.std.specs.Option.{option_map}
+use Rattle.std.proofs.lemmas.Bool.{cases_lt}
+use Rattle.std.proofs.lemmas.List.{take_all, get_or-set_same}
+use Rattle.std.proofs.lemmas.Option.{slice_get-get_or, slice_get_within}
+use Rattle.zone_spec.specs.declared.Zone.{Zone}
+use Rattle.zone_spec.specs.Reading.{ZoneReading, zone_reading}
+use Rattle.zone_spec.specs.Stores.{after_stores}
+use Rattle.zone_spec.specs.Boot.{boot_stores}
+use Rattle.prz_region.specs.CutRegion.{CutRegion, span, with_span}
+use Rattle.ramoops.specs.Booting.{SpansFit, SettlesTo}
+use Rattle.prz_region.proofs.Cutting.{no_zone}
+
+-- the zone at a place of a loop over the saved readings
+pub zone_is : (zs layout : List Zone) (i end readings : ℕ) → zs ≡ layout → i < end → end ≡ readings
+    → readings ≡ length layout → slice_get layout i ≡ Some (get_or zs i no_zone)
+zone_is zs layout i end readings e below a b = ap (λ (l : List Zone). slice_get l i) (sym e)
+    ∙ slice_get-get_or zs i no_zone (let n = ap length e in omega (arith, n, below, a, b))
+
+-- the second of the pair at a place
+pub second_at : {X Y : Type 0} (xs : List X) (ys : List Y) (i : ℕ) (y : Y) → i < length xs → slice_get ys i ≡ Some y
+    → option_map (λ (p : X × Y). p.1) (slice_get (zip xs ys) i) ≡ Some y
+second_at [] ys i y below e = absurd (omega (arith, below))
+second_at (x ∷ xs) [] i y below e = let n : ◌≡◌ {A = ℕ} 0 1 = cc in absurd (omega (arith, n))
+second_at (x ∷ xs) (w ∷ ws) zero y below e = e
+second_at (x ∷ xs) (w ∷ ws) (suc i) y below e = second_at xs ws i y (omega (arith, below)) e
+
+pub span-set : (c : CutRegion) (i : ℕ) (bytes : List ℕ) → i < length c.spans → span (with_span c i bytes) i ≡ bytes
+span-set c i bytes below = get_or-set_same c.spans i bytes [] below
+
+pub span-other : (c : CutRegion) (i j : ℕ) (bytes : List ℕ) → j ≢ i → span (with_span c i bytes) j ≡ span c j
+span-other c i j bytes other = by c.spans i j other
+  where
+    by : (xs : List (List ℕ)) (i j : ℕ) → j ≢ i → get_or (set xs i bytes) j [] ≡ get_or xs j []
+    by [] i j other = refl
+    by (x ∷ xs) zero zero other = absurd (other refl)
+    by (x ∷ xs) zero (suc j) other = refl
+    by (x ∷ xs) (suc i) zero other = refl
+    by (x ∷ xs) (suc i) (suc j) other = by xs i j (λ e. other (ap suc e))
+
+-- one zone more
+pub settles_next : (layout : List Zone) (old mid new : CutRegion) (n limit : ℕ) (z : Zone)
+    → SettlesTo layout old mid n → length old.spans ≡ length layout → slice_get layout n ≡ Some z
+    → length (boot_stores z (span mid n)) ≤ limit → new ≡ with_span mid n
+    (after_stores (span mid n) (take limit (boot_stores z (span mid n)))) → SettlesTo layout old new (n + 1)
+settles_next layout old mid new n limit z to len ez most e = record {
+  count = ap (λ (c : CutRegion). length c.spans) e ∙ length-set mid.spans n _ ∙ to.count;
+  rest = ap (λ (c : CutRegion). c.rest) e ∙ to.rest;
+  made = λ i y below ey. elim (cases_lt i n) [
+    | inl l ↦ ap (λ (c : CutRegion). span c i) e ∙ span-other mid n i _ (λ k. omega (arith, l, k)) ∙ to.made i y l ey
+    | inr g ↦ (let at : i ≡ n = omega (arith, below, g) in
+        let same : z ≡ y = (let s : Some z ≡ Some y = sym ez ∙ ap (slice_get layout) (sym at) ∙ ey in cc) in
+        ap (λ (k : ℕ). span new k) at ∙ ap (λ (c : CutRegion). span c n) e
+        ∙ span-set mid n _ (let a = slice_get_within layout n z ez in let b = to.count in omega (arith, a, b, len))
+        ∙ ap (after_stores (span mid n)) (take_all limit (boot_stores z (span mid n)) most)
+        ∙ ap (λ (b : List ℕ). after_stores b (boot_stores z b)) (to.others n (omega arith))
+        ∙ ap (λ (x : Zone). after_stores (span old n) (boot_stores x (span old n))) same
+        ∙ ap (λ (k : ℕ). after_stores (span old k) (boot_stores y (span old k))) (sym at))
+  ];
+  others = λ i above. ap (λ (c : CutRegion). span c i) e ∙ span-other mid n i _ (λ k. omega (arith, above, k))
+      ∙ to.others i (omega (arith, above));
+}
+
+-- what a store of the next zone needs
+pub record Next (z : Zone) (bytes : List ℕ) (readings : List (Option ZoneReading)) (n : ℕ) : Type 0 where
+  pub size : length bytes ≡ z.size
+  pub reading : slice_get readings n ≡ Some (Some (zone_reading z bytes))
+
+pub next_zone : (layout : List Zone) (old now : CutRegion) (readings : List (Option ZoneReading)) (n : ℕ) (z : Zone)
+    → SpansFit layout old.spans
+    → ((i : ℕ) (y : Zone) (bytes : List ℕ) → slice_get layout i ≡ Some y → slice_get old.spans i ≡ Some bytes
+    → slice_get readings i ≡ Some (Some (zone_reading y bytes)))
+    → span now n ≡ span old n → slice_get layout n ≡ Some z → Next z (span now n) readings n
+next_zone layout old now readings n z fit logs same ez =
+    let gb : slice_get old.spans n ≡ Some (span old n) =
+    slice_get-get_or old.spans n [] (let a = slice_get_within layout n z ez in let b = fit.count in
+    omega (arith, a, b)) in
+    subst (λ (b : List ℕ). Next z b readings n) (sym same)
+    (record { size = fit.sizes n z (span old n) ez gb; reading = logs n z (span old n) ez gb })

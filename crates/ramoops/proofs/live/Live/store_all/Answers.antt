@@ -1,0 +1,7 @@
+use Rattle.ramoops.proofs.Finishing.{finishes}
+use Rattle.ramoops.proofs.live.Live.store_all.Goals as goal
+
+pub returns-clause-stored : goal.returns-clause-stored
+returns-clause-stored c = finishes c.args.self.now c.store.new.self c.args.i c.left_at-left.result
+    c.left_at-left.ensures
+    c.store.ensures.stored

@@ -1,0 +1,15 @@
+use Rattle.std.proofs.Common.{ℕ, ◌+◌, get_or, ap, ◌∙◌}
+use Rattle.code_spec.specs.Field.{gf_add, gf_mul, gf_pow}
+use Rattle.code_laws.proofs.Ring.{mul_comm, add_no_multiple}
+use Rattle.rs_decode.proofs.add_shifted.Goals as goal
+
+pub returns-then-factor-eq0 : goal.returns-then-factor-eq0
+returns-then-factor-eq0 c = λ k l.
+    add_no_multiple (get_or c.args.word.now k 0) c.args.factor (get_or c.args.other.now (k + c.args.shift) 0)
+    c.if-factor-eq0.true
+
+pub returns : goal.returns
+returns c = λ k l.
+    let b : ℕ = get_or c.args.other.now (k + c.args.shift) 0 in
+    c.add_shifted_multiple.ensures k l ∙ ap (gf_add (get_or c.args.word.now k 0))
+    (mul_comm b (gf_pow 2 c.log.result) ∙ ap (λ (x : ℕ). gf_mul x b) c.log.ensures.value)

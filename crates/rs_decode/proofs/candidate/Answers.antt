@@ -1,0 +1,88 @@
+use Rattle.std.proofs.Common.{◌≡◌, ℕ, ◌≤◌, ◌+◌, ◌-◌, List, length, take, arith, sym, ap, ◌∙◌, subst₂, refl, length-take}
+use Rattle.code_spec.specs.Field.{gf_mul}
+use Rattle.code_laws.proofs.Ring.{zero_mul}
+use Rattle.code_laws.specs.Polynomials.{poly}
+use Rattle.rs_decode.specs.Fixes.{AreFixes}
+use Rattle.rs_decode.specs.Places.{roots_of}
+use Rattle.rs_decode.proofs.Fixes.{found_of, found_count, found_fixes, own_roots_below, are_fixes-length, are_fixes-inside, same_inverse}
+use Rattle.rs_decode.proofs.candidate.Goals as goal
+
+no_constant : (k a c : ℕ) → k ≡ a → k ≡ 0 → gf_mul a c ≡ 1 → ⊥
+no_constant k a c e z h = let f : gf_mul a c ≡ 0 = ap (λ (x : ℕ). gf_mul x c) (sym e ∙ z) ∙ zero_mul c in
+    omega (arith, h, f)
+
+-- the powers, of the list in the row
+own : (u v ps : List ℕ) (n : ℕ) → u ≡ v → ps ≡ take (length u - 1) (roots_of u n)
+    → ps ≡ take (length v - 1) (roots_of v n)
+own u v ps n e h = h ∙ ap (λ (w : List ℕ). take (length w - 1) (roots_of w n)) e
+
+pub returns-then-constant-eq0-clause-found : goal.returns-then-constant-eq0-clause-found
+returns-then-constant-eq0-clause-found c = λ D g.
+    let v : List ℕ = c.solve-solution.result.locator.items in
+    let f = found_of c.args.t c.args.places c.args.syndromes.now v c.solve-solution.result.evaluator.items D
+    c.requires.places
+    c.requires.len c.solve-solution.ensures g in
+    absurd (no_constant c.last-constant.result (poly v 0) f.0
+    (c.last-constant.ensures ∙ ap (λ (u : List ℕ). poly u 0) c.as_slice.ensures.value) c.if-constant-eq0.true f.2)
+
+pub returns-then-len-clause-found : goal.returns-then-len-clause-found
+returns-then-len-clause-found c = λ D g.
+    let v : List ℕ = c.solve-solution.result.locator.items in
+    let f = found_of c.args.t c.args.places c.args.syndromes.now v c.solve-solution.result.evaluator.items D
+    c.requires.places
+    c.requires.len c.solve-solution.ensures g in
+    let n : length c.own_roots.new.powers.items + 1 ≡ length v =
+    found_count c.args.places f.0 v c.solve-solution.result.evaluator.items D c.own_roots.new.powers.items (sym g.len)
+    f.1
+    (own c.as_slice-2.result.now v c.own_roots.new.powers.items c.args.places c.as_slice-2.ensures.value
+    c.own_roots.ensures) in
+    absurd (omega (arith, c.if-len.true, c.len.ensures.value, c.len-2.ensures.value))
+
+pub fill-requires-clause-inside : goal.fill-requires-clause-inside
+fill-requires-clause-inside c =
+    own_roots_below c.as_slice-2.result.now (length c.as_slice-2.result.now - 1) c.args.places c.as_slice-4.result.now
+    (c.as_slice-4.ensures.value ∙ c.own_roots.ensures)
+
+pub returns-clause-few : goal.returns-clause-few
+returns-clause-few c =
+    let e = are_fixes-length c.args.places c.inv.result c.as_slice-3.result.now c.as_slice-4.result.now
+    c.as_slice-4.result.now c.fill.new.fixes.items c.fill.ensures in
+    let l : length c.own_roots.new.powers.items ≤ length c.as_slice-2.result.now - 1 =
+    omega (
+      arith,
+      ap length c.own_roots.ensures,
+      length-take (length c.as_slice-2.result.now - 1)
+          (roots_of c.as_slice-2.result.now c.args.places),
+    ) in
+    omega (
+      arith,
+      e,
+      ap length c.as_slice-4.ensures.value,
+      l,
+      ap length c.as_slice-2.ensures.value,
+      c.solve-solution.ensures.degree,
+      c.solve-solution.ensures.stop.within,
+    )
+
+pub returns-clause-inside : goal.returns-clause-inside
+returns-clause-inside c = are_fixes-inside c.args.places c.inv.result c.as_slice-3.result.now c.as_slice-4.result.now
+    c.as_slice-4.result.now c.fill.new.fixes.items c.fill.ensures
+
+pub returns-clause-found : goal.returns-clause-found
+returns-clause-found c = λ D g.
+    let v : List ℕ = c.solve-solution.result.locator.items in
+    let r : List ℕ = c.solve-solution.result.evaluator.items in
+    let f = found_of c.args.t c.args.places c.args.syndromes.now v r D c.requires.places c.requires.len
+    c.solve-solution.ensures g in
+    let s : c.inv.result ≡ f.0 = same_inverse c.last-constant.result c.inv.result f.0 c.inv.type_inv f.1.c_byte
+    c.inv.ensures
+    (ap (λ (x : ℕ). gf_mul x f.0) (c.last-constant.ensures ∙ ap (λ (u : List ℕ). poly u 0) c.as_slice.ensures.value)
+    ∙ f.2) in
+    let are : AreFixes c.args.places f.0 r c.as_slice-4.result.now c.as_slice-4.result.now c.fill.new.fixes.items =
+    subst₂ (λ (x : ℕ) (u : List ℕ). AreFixes c.args.places x u c.as_slice-4.result.now c.as_slice-4.result.now
+    c.fill.new.fixes.items) s c.as_slice-3.ensures.value c.fill.ensures in (
+      refl,
+      found_fixes c.args.places f.0 v r D c.as_slice-4.result.now c.fill.new.fixes.items (sym g.len) f.1
+          (own c.as_slice-2.result.now v c.as_slice-4.result.now c.args.places c.as_slice-2.ensures.value
+          (c.as_slice-4.ensures.value ∙ c.own_roots.ensures)) are,
+    )

@@ -1,0 +1,10 @@
+use Rattle.std.proofs.Common.{◌+◌, ◌-◌}
+use Rattle.code_laws.specs.Polynomials.{poly}
+use Rattle.rs_decode.specs.Euclid.{IsRows}
+use Rattle.rs_decode.proofs.euclid.Given as goal
+
+abbrev pub invariant-loop-b : goal.invariant-loop-b
+invariant-loop-b l = IsRows l.t (poly l.fn.rest_b) l.factor_b l.factor_a l.rest_b l.rest_a l.a l.b
+
+abbrev pub decreases-loop-b : goal.decreases-loop-b
+decreases-loop-b l = l.t + 16 - l.b

@@ -1,0 +1,5 @@
+use Rattle.rs_decode.proofs.Fixes.{poly-last}
+use Rattle.rs_decode.proofs.last.Goals as goal
+
+pub returns : goal.returns
+returns c = poly-last c.args.word.now c.requires

@@ -1,0 +1,5 @@
+use Rattle.rs_decode.specs.Euclid.{LeadingZeros}
+use Rattle.rs_decode.proofs.leading.Given as goal
+
+abbrev pub invariant-loop-i : goal.invariant-loop-i
+invariant-loop-i l = LeadingZeros l.i l.word

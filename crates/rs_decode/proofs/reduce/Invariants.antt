@@ -1,0 +1,12 @@
+use Rattle.std.proofs.Common.{◌+◌, ◌-◌, length}
+use Rattle.code_laws.specs.Polynomials.{poly}
+use Rattle.rs_decode.specs.Euclid.{IsStep, LeadingZeros}
+use Rattle.rs_decode.proofs.reduce.Given as goal
+
+abbrev pub invariant-loop-k : goal.invariant-loop-k
+invariant-loop-k l = record {
+  step : IsStep (poly l.fn.old_rest) (poly l.fn.old_factor) (poly l.new_rest) (poly l.new_factor)
+      (poly l.old_rest) (poly l.old_factor);
+  zeros : LeadingZeros l.k l.old_rest;
+  room : LeadingZeros (length l.new_factor + 14 - l.to) l.old_factor;
+}

@@ -1,0 +1,70 @@
+-- The words of the decoder's own functions: fixes, damage and words within a distance
+use Rattle.std.specs.Prelude.{ℕ, ◌≡◌, ◌+◌, ◌-◌, ◌<◌, ◌≤◌, ◌==◌, if◌then◌else◌, List, [], ◌∷◌, length, slice_index, slice_set}
+use Rattle.code_spec.specs.Field.{gf_add, gf_mul, gf_pow}
+use Rattle.code_spec.specs.Code.{value_of, distance}
+pub use Rattle.code_laws.proofs.Symbols.{Symbols}
+use Rattle.code_laws.proofs.Symbols.{HasRoots}
+use Rattle.code_laws.proofs.Words.{word_sum}
+use Rattle.rs_decode.specs.Places.{gap_ratio}
+use Rattle.rs_decode.specs.declared.Fix.{Fix}
+
+abbrev pub Below255 : List ℕ → Type 0
+Below255 [] = Unit {0}
+Below255 (i ∷ js) = (i < 255) × Below255 js
+
+-- the mask times the product of the gaps is the scaled value of the evaluator
+pub record IsFix (n c : ℕ) (r all : List ℕ) (p : ℕ) (f : Fix) : Type 0 where
+  pub place : f.place + p + 1 ≡ n
+  pub mask_byte : f.mask < 256
+  pub mask : gf_mul f.mask (gap_ratio all p) ≡ gf_mul c (value_of r (gf_pow 2 (255 - p)))
+
+abbrev pub AreFixes : ℕ → ℕ → List ℕ → List ℕ → List ℕ → List Fix → Type 0
+AreFixes n c r all [] [] = Unit {0}
+AreFixes n c r all (p ∷ ps) (f ∷ fs) = IsFix n c r all p f × AreFixes n c r all ps fs
+AreFixes n c r all ps fs = Unit {0} → ⊥
+
+abbrev pub AllInside : ℕ → List Fix → Type 0
+AllInside n [] = Unit {0}
+AllInside n (f ∷ fs) = (f.place < n) × (f.mask < 256) × AllInside n fs
+
+-- the places of a word of n symbols that are not zero, with their symbols; the list is its last part
+abbrev pub fixes_from : ℕ → List ℕ → List Fix
+fixes_from n [] = []
+fixes_from n (c ∷ d) = if c == 0 then fixes_from n d else record { place = n - 1 - length d; mask = c } ∷ fixes_from n d
+
+-- how many symbols are not zero
+abbrev pub weight : List ℕ → ℕ
+weight [] = 0
+weight (c ∷ d) = (if c == 0 then 0 else 1) + weight d
+
+abbrev pub PowersBelow : ℕ → List ℕ → Type 0
+PowersBelow n [] = Unit {0}
+PowersBelow n (i ∷ js) = (i < n) × PowersBelow n js
+
+-- the values of D are the syndromes, and at most t of its symbols are not zero
+pub record IsDamage (t n : ℕ) (syndromes D : List ℕ) : Type 0 where
+  pub len : length D ≡ n
+  pub symbols : Symbols D
+  pub few : weight D ≤ t
+  pub values : (k : ℕ) → k < t + t → slice_index syndromes k ≡ value_of D (gf_pow 2 k)
+
+-- a word with the fixes added
+abbrev pub applied : List Fix → List ℕ → List ℕ
+applied [] w = w
+applied (f ∷ fs) w = applied fs (slice_set w f.place (gf_add (slice_index w f.place) f.mask))
+
+-- what the fixes of a word of n symbols add to its value at x
+abbrev pub fix_sum : ℕ → List Fix → ℕ → ℕ
+fix_sum n [] x = 0
+fix_sum n (f ∷ fs) x = gf_add (gf_mul f.mask (gf_pow x (n - 1 - f.place))) (fix_sum n fs x)
+
+-- a codeword that differs from w in at most t places
+pub record IsWithin (t r : ℕ) (w c : List ℕ) : Type 0 where
+  pub len : length w ≡ length c
+  pub symbols : Symbols c
+  pub codeword : HasRoots r c
+  pub near : distance w c ≤ t
+
+-- the differing places with their masks
+abbrev pub fixes_between : List ℕ → List ℕ → List Fix
+fixes_between w c = fixes_from (length w) (word_sum w c)

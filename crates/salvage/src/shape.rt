@@ -1,0 +1,137 @@
+// The shapes that a layout's zones have, and the ring of a shape at a place.
+ghost use Rattle.std.specs.Prelude.{◌≡◌, ◌+◌, ◌*◌, ◌≤◌, ◌<◌, ◌++◌, length, IfOk, OnOk};
+ghost use Rattle.zone_spec.specs.Zones.{IsValidZone};
+ghost use Rattle.zone_spec.specs.Parts.{Header, part_parity_at};
+ghost use Rattle.salvage_spec.specs.Rings.{is_alike, ring_at, ring_in, shapes as shapes_of_zones};
+ghost use Rattle.salvage.specs.Shapes.{AllValid, coder_for, has_shape, with_shape};
+
+use crate::header::{known_bytes, ring_by, ring_with};
+use rs_encode::Parity;
+use salvage_spec::FoundRing;
+use std::alloc::{AllocError, Global};
+use std::marker::Model;
+use zone_spec::Zone;
+
+/// A shape, by its first zone. It holds the bytes of a ring's header that are known, and the encoder of the zone's
+/// parity, some 4 KiB, none without parity.
+#[derive(Drop)]
+pub struct Shape {
+    zone: Zone,
+    known: [Option<u8>; 12],
+    coder: Option<Parity>,
+}
+
+impl Model for Shape {
+    ghost use Rattle.zone_spec.specs.declared.Zone.{Zone};
+    ghost use Rattle.salvage.specs.Shapes.{IsShape};
+
+    ghost Value = { Zone };
+
+    ghost view = { λ s. s.zone };
+
+    ghost invariant = { λ s. IsShape s.zone s.known s.coder };
+}
+
+fn coder_of(zone: &Zone) -> Option<Parity>
+    requires { IsValidZone zone.now }
+    ensures { result ≡ coder_for zone.now }
+{
+    if zone.parity == 0 {
+        None
+    } else {
+        Some(Parity::new(zone.parity as usize))
+    }
+}
+
+/// Where the parity of a zone's header begins.
+fn header_parity(zone: &Zone) -> u32
+    requires { IsValidZone zone.now }
+    ensures at { result ≡ part_parity_at zone.now Header }
+    ensures within { result + zone.now.parity ≤ zone.now.size }
+    ensures header { 12 ≤ zone.now.size }
+{
+    12 + zone.cap + zone.blocks * zone.parity
+}
+
+impl Shape {
+    pub fn new(zone: &Zone) -> Shape
+        requires { IsValidZone zone.now }
+        ensures { result ≡ zone.now }
+    {
+        Shape {
+            zone: *zone,
+            known: known_bytes(zone),
+            coder: coder_of(zone),
+        }
+    }
+
+    fn is_alike(&self, zone: &Zone) -> bool
+        ensures { result ≡ is_alike self.now zone.now }
+    {
+        let own = &self.zone;
+        own.size == zone.size
+            && own.cap == zone.cap
+            && own.blocks == zone.blocks
+            && own.parity == zone.parity
+            && own.block == zone.block
+            && own.sig == zone.sig
+    }
+
+    /// The ring at `at` by its header's bytes and their parity, where it is one of this shape.
+    fn ring_in(&self, at: u32, header: &[u8], parity: &[u8]) -> Option<FoundRing>
+        requires len { length header.now ≡ 12 }
+        requires parity { length parity.now ≡ self.now.parity }
+        ensures { result ≡ ring_in self.now at (header.now ++ parity.now) }
+    {
+        match &self.coder {
+            Some(coder) => ring_by(coder, &self.zone, &self.known, at, header, parity),
+            None => ring_with(&self.zone, at, header, 0),
+        }
+    }
+
+    /// The ring of this shape at `at`, where one is there.
+    pub fn ring_at(&self, dump: &[u8], at: u32) -> Option<FoundRing>
+        ensures { result ≡ ring_at dump.now at self.now }
+    {
+        let zone = &self.zone;
+        let from = at as usize;
+        if from + zone.size as usize > dump.len() {
+            return None;
+        }
+        let parity_at = from + header_parity(zone) as usize;
+        let header = &dump[from..from + 12];
+        let parity = &dump[parity_at..parity_at + zone.parity as usize];
+        self.ring_in(at, header, parity)
+    }
+}
+
+/// Whether a zone has one of the shapes.
+fn has_shape(shapes: &[Shape], zone: &Zone) -> bool
+    ensures { result ≡ has_shape shapes.now zone.now }
+{
+    shapes.iter().any(|shape| shape.is_alike(zone))
+}
+
+/// Adds the zone's shape, where it is not there.
+fn add_shape(shapes: &mut Vec<Shape>, zone: &Zone) -> Result<(), AllocError>
+    requires { IsValidZone zone.now }
+    ensures { OnOk result (shapes.new.items ≡ with_shape shapes.old.items zone.now) }
+{
+    if has_shape(shapes, zone) {
+        return Ok(());
+    }
+    shapes.push(Shape::new(zone))?;
+    Ok(())
+}
+
+/// The shapes of the zones, each by its first zone.
+pub fn shapes_of(alloc: Global, zones: &[Zone]) -> Result<Vec<Shape>, AllocError>
+    requires { AllValid zones.now }
+    ensures { IfOk result (λ shapes. shapes.items ≡ shapes_of_zones zones.now) }
+{
+    let mut shapes = Vec::new(alloc);
+    for zone in zones {
+        add_shape(&mut shapes, zone)?;
+    }
+    Ok(shapes)
+}

@@ -1,0 +1,5 @@
+use Rattle.script.proofs.Round.{printed_read}
+use Rattle.script.proofs.printing.printed_is_read.Goals as goal
+
+pub returns : goal.returns
+returns c = printed_read

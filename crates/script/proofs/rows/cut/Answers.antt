@@ -1,0 +1,12 @@
+use Rattle.script.proofs.Cuts.{cut_at, cut_nowhere}
+use Rattle.script.proofs.rows.cut.Goals as goal
+
+pub returns-in_err-at-clause-none : goal.returns-in_err-at-clause-none
+returns-in_err-at-clause-none c =
+    rw c.from_residual.ensures (cut_nowhere c.args.mark c.args.text.now c.in_err-at.ensures)
+
+pub returns-clause-parts : goal.returns-clause-parts
+returns-clause-parts c =
+    let first = c.in_ok-at.ensures in
+    rw (c.split_at.ensures.front, c.split_at-2.ensures.back)
+    (cut_at c.args.mark c.args.text.now c.in_ok-at.at first.0 first.1)

@@ -1,0 +1,5 @@
+use Rattle.script.proofs.Counts.{five_of_four}
+use Rattle.script.proofs.rows.five.Goals as goal
+
+pub returns : goal.returns
+returns c = five_of_four _ _ _ _ _ _ _ c.in_ok-a.ensures.parts c.in_ok-b.ensures

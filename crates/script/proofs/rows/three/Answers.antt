@@ -1,0 +1,5 @@
+use Rattle.script.proofs.Counts.{three_of_two}
+use Rattle.script.proofs.rows.three.Goals as goal
+
+pub returns : goal.returns
+returns c = three_of_two _ _ _ _ _ c.in_ok-a.ensures.parts c.in_ok-b.ensures

@@ -1,5 +1,0 @@
-use Rattle.session_laws.proofs.CutBoot.{cut_boot_makes_stores as law}
-use Rattle.session_laws.proofs.cut_boot_makes_stores.Goals as goal
-
-pub returns : goal.returns
-returns c = law

@@ -1,5 +1,0 @@
-use Rattle.session_laws.proofs.CutBoot.{cut_boot_reads as law}
-use Rattle.session_laws.proofs.cut_boot_reads.Goals as goal
-
-pub returns : goal.returns
-returns c = law

@@ -1,5 +1,0 @@
-use Rattle.session_laws.proofs.Boots.{cut_zones_read as law}
-use Rattle.session_laws.proofs.cut_zones_read.Goals as goal
-
-pub returns : goal.returns
-returns c = law

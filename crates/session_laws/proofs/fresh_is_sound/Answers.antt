@@ -1,5 +1,0 @@
-use Rattle.session_laws.proofs.Operations.{fresh_is_sound as law}
-use Rattle.session_laws.proofs.fresh_is_sound.Goals as goal
-
-pub returns : goal.returns
-returns c = law

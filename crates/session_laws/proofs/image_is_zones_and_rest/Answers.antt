@@ -1,5 +1,0 @@
-use Rattle.session_laws.proofs.Sessions.{image_is_zones_and_rest as law}
-use Rattle.session_laws.proofs.image_is_zones_and_rest.Goals as goal
-
-pub returns : goal.returns
-returns c = law

@@ -1,5 +1,0 @@
-use Rattle.session_laws.proofs.Listed.{listed_is_found as law}
-use Rattle.session_laws.proofs.listed_is_found.Goals as goal
-
-pub returns : goal.returns
-returns c = law

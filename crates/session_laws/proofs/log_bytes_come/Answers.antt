@@ -1,5 +1,0 @@
-use Rattle.session_laws.proofs.Logs.{log_bytes_come as law}
-use Rattle.session_laws.proofs.log_bytes_come.Goals as goal
-
-pub returns : goal.returns
-returns c = law

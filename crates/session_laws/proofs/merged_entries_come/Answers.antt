@@ -1,5 +1,0 @@
-use Rattle.session_laws.proofs.Merged.{merged_entries_come as law}
-use Rattle.session_laws.proofs.merged_entries_come.Goals as goal
-
-pub returns : goal.returns
-returns c = law

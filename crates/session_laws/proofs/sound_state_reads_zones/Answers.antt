@@ -1,5 +1,0 @@
-use Rattle.session_laws.proofs.ZoneReads.{sound_state_reads_zones as law}
-use Rattle.session_laws.proofs.sound_state_reads_zones.Goals as goal
-
-pub returns : goal.returns
-returns c = law

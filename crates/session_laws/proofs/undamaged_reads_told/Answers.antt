@@ -1,5 +1,0 @@
-use Rattle.session_laws.proofs.Sessions.{undamaged_reads_told as law}
-use Rattle.session_laws.proofs.undamaged_reads_told.Goals as goal
-
-pub returns : goal.returns
-returns c = law

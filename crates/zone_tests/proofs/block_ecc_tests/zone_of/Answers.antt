@@ -1,6 +1,0 @@
-use Rattle.std.proofs.Common.{arith}
-use Rattle.std.proofs.lemmas.Option.{slice_get-get_or}
-use Rattle.zone_tests.proofs.block_ecc_tests.zone_of.Goals as goal
-
-pub returns-in-len1-up : goal.returns-in-len1-up
-returns-in-len1-up c = (c.zones.ensures.laid_out.valid 0 _ (slice_get-get_or c.zones.result.now 0 _ (omega arith))).0

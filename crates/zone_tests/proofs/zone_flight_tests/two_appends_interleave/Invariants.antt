@@ -1,5 +1,0 @@
-use Rattle.std.proofs.Common.{◌≡◌}
-use Rattle.zone_tests.proofs.zone_flight_tests.two_appends_interleave.Given as goal
-
-abbrev pub invariant-loop-i : goal.invariant-loop-i
-invariant-loop-i g l = (l.console.zone.size ≡ 4096) × (l.pmsg.zone.size ≡ 4096)

@@ -1,0 +1,125 @@
+ghost use Rattle.std.specs.Prelude.{◌≡◌, length};
+ghost use Rattle.prz_region.specs.CutRegion.{span};
+
+use outside::Bytes;
+use prz_region::{Probe, Region, Spans};
+use std::test::Fail;
+use zone_params::{Params, layout};
+use zone_spec::{Kind, Zone, ZoneName};
+
+fn zone(index: u32, at: u32, size: u32) -> Zone
+    ensures at { result.at ≡ at }
+    ensures size { result.size ≡ size }
+{
+    Zone {
+        name: ZoneName {
+            kind: Kind::Dump,
+            index,
+        },
+        at,
+        size,
+        cap: 0,
+        blocks: 0,
+        parity: 0,
+        sig: 0,
+        block: 128,
+    }
+}
+
+// Three dump zones of 596 bytes, a console zone of 256 bytes, and 4 bytes of rest.
+fn params() -> Params {
+    Params {
+        mem: 2048,
+        dump: 512,
+        console: 256,
+        ftrace: 0,
+        pmsg: 0,
+        ecc: 0,
+        cpus: 1,
+        ftrace_sig: 0,
+        block: 128,
+        ecc_dump: 0,
+        ecc_console: 0,
+        ecc_ftrace: 0,
+        ecc_pmsg: 0,
+    }
+}
+
+#[test]
+fn cuts_stores_and_joins(rt: HostRuntime) -> Result<(), Fail> {
+    let layout = match layout(rt.alloc(), &params()) {
+        Ok(layout) => layout,
+        Err(_) => panic!(rt; "no layout"),
+    };
+    let mem = layout.mem() as usize;
+    let bytes = Bytes::from_vec(Vec::from_elem(rt.alloc(), 7u8, mem)?);
+    match Region::from_bytes(bytes).cut(&layout) {
+        Ok(mut spans) => {
+            assert_eq!(rt; spans.all().len(), 4);
+            assert_eq!(rt; spans.all()[0].len(), 596);
+            assert_eq!(rt; spans.all()[1].len(), 596);
+            assert_eq!(rt; spans.all()[2].len(), 596);
+            assert_eq!(rt; spans.all()[3].len(), 256);
+            store_in_all(&mut spans);
+            assert_eq!(rt; spans.all()[1].load(0), 2);
+            assert_eq!(rt; spans.all()[3].word(0), 0x1234_5678);
+            assert!(rt; spans.all()[3].bytes()[..5] == [0x78, 0x56, 0x34, 0x12, 7]);
+            let joined = spans.join().into_bytes();
+            let mut wanted = [7; 2048];
+            wanted[595] = 1;
+            wanted[596] = 2;
+            wanted[1787] = 3;
+            wanted[1788] = 0x78;
+            wanted[1789] = 0x56;
+            wanted[1790] = 0x34;
+            wanted[1791] = 0x12;
+            assert!(rt; joined.as_slice() == wanted.as_slice());
+        }
+        Err((region, _refused)) => {
+            let back = region.into_bytes();
+            assert!(rt; back.as_slice() == [7; 2048].as_slice());
+            println!(rt; "cut refused")?;
+        }
+    }
+    Ok(())
+}
+
+#[tactic(auto, using(prz_region::proofs::Cuts::stores))]
+fn store_in_all(spans: &mut Spans)
+    requires spans { length spans.old.spans ≡ 4 }
+    requires first { length (span spans.old 0) ≡ 596 }
+    requires second { length (span spans.old 1) ≡ 596 }
+    requires third { length (span spans.old 2) ≡ 596 }
+    requires fourth { length (span spans.old 3) ≡ 256 }
+    ensures spans { length spans.new.spans ≡ 4 }
+    ensures second { length (span spans.new 1) ≡ 596 }
+    ensures fourth { length (span spans.new 3) ≡ 256 }
+{
+    spans.store(0, 595, 1);
+    spans.store(1, 0, 2);
+    spans.store(2, 595, 3);
+    spans.store_word(3, 0, 0x1234_5678);
+}
+
+#[test]
+fn cuts_an_empty_region(rt: HostRuntime) -> Result<(), Fail> {
+    match Region::from_bytes(Bytes::empty(rt.alloc())).cut_zones(&[zone(0, 0, 0)]) {
+        Ok(spans) => {
+            assert!(rt; spans.all()[0].bytes().is_empty());
+            assert!(rt; spans.join().into_bytes().as_slice().is_empty());
+        }
+        Err((region, _refused)) => assert!(rt; region.into_bytes().as_slice().is_empty()),
+    }
+    Ok(())
+}
+
+#[test]
+fn fills_a_probe(rt: HostRuntime) -> Result<(), Fail> {
+    let mut probe = Probe::new(rt.alloc(), 8)?;
+    probe.fill(2, b"abc");
+    assert!(rt; probe.span().bytes() == [0, 0, 97, 98, 99, 0, 0, 0].as_slice());
+    assert_eq!(rt; probe.span().word(1), 0x6362_6100);
+    let empty = Probe::new(rt.alloc(), 0)?;
+    assert!(rt; empty.span().bytes().is_empty());
+    Ok(())
+}
