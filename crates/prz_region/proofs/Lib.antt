@@ -5,3 +5,4 @@ pub mod Chains
 pub mod Cutting
 pub mod Cuts
 pub mod Stores
+pub mod Headers

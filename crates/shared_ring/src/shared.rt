@@ -20,8 +20,7 @@ ghost use Rattle.shared_ring.specs.Seen.{IsLeftBy, words_of, seated, stepped, Is
 use crate::seats::{Seat, count_stored, find, held, next_byte, show};
 use arrayvec::ArrayVec;
 use outside::Bytes;
-use prz_region::{CountedSpans, Region};
-use ring_header::RingWords;
+use prz_region::{CountedSpans, Region, RingWords};
 use shared_spec::{Next, NoCall, OpenCall, SharedRefusal};
 use std::alloc::AllocError;
 use std::marker::Model;

@@ -14,7 +14,6 @@ mod prz_region_tests;
 #[cfg(test)]
 mod prz_write_tests;
 #[cfg(test)]
-mod ring_header_tests;
 #[cfg(test)]
 mod store_steps_tests;
 #[cfg(test)]

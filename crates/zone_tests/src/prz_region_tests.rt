@@ -2,10 +2,10 @@ ghost use Rattle.std.specs.Prelude.{◌≡◌, length};
 ghost use Rattle.prz_region.specs.CutRegion.{span};
 
 use outside::Bytes;
-use prz_region::{Probe, Region, Spans};
+use prz_region::{Probe, Region, RingWords, Spans};
 use std::test::Fail;
 use zone_params::{Params, layout};
-use zone_spec::{Kind, Zone, ZoneName};
+use zone_spec::{Kind, Words, Zone, ZoneName};
 
 fn zone(index: u32, at: u32, size: u32) -> Zone
     ensures at { result.at ≡ at }
@@ -121,5 +121,27 @@ fn fills_a_probe(rt: HostRuntime) -> Result<(), Fail> {
     assert_eq!(rt; probe.span().word(1), 0x6362_6100);
     let empty = Probe::new(rt.alloc(), 0)?;
     assert!(rt; empty.span().bytes().is_empty());
+    Ok(())
+}
+
+#[test]
+fn log_places_wrap(rt: HostRuntime) -> Result<(), Fail> {
+    let rows: [(u32, u32, &[u32]); 5] = [
+        (0, 0, &[]),
+        (0, 3, &[0, 1, 2]),
+        (3, 3, &[0, 1, 2]),
+        (2, 5, &[2, 3, 4, 0, 1]),
+        (5, 5, &[0, 1, 2, 3, 4]),
+    ];
+    for (start, size, places) in rows {
+        let words = Words {
+            sig: 0,
+            start,
+            size,
+        };
+        assert!(rt; words.is_ring(5));
+        let log: Vec<u32> = words.places(5).collect(rt.alloc())?;
+        assert!(rt; log.as_slice() == places);
+    }
     Ok(())
 }

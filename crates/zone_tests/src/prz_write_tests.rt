@@ -4,9 +4,8 @@ ghost use Rattle.prz_region.specs.CutRegion.{span};
 
 use arrayvec::ArrayString;
 use outside::Bytes;
-use prz_region::{Region, Spans};
+use prz_region::{Region, RingWords, Spans};
 use prz_write::{Call, CallKind, Flight, Line36, Step};
-use ring_header::RingWords;
 use std::process::Abort;
 use zone_params::layout;
 use zone_spec::{Kind, Params, Words, Zone, ZoneName};

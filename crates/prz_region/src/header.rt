@@ -1,12 +1,10 @@
-//! The words of a zone's header as they stand, and the places of a ring's log in their order.
-#![tactic(auto)]
-
+// The words of a zone's header as they stand, and the places of a ring's log in their order.
 ghost use Rattle.std.specs.Prelude.{◌≡◌, ◌≤◌, ◌↔◌, ℕ, length, IsTrue};
 ghost use Rattle.std.specs.Iterator.{YieldsFirst, item_count};
 ghost use Rattle.zone_spec.specs.Parts.{standing_words};
 ghost use Rattle.zone_spec.specs.Reading.{IsRing, log_places};
 
-use prz_region::Span;
+use crate::spans::Span;
 use std::iter::FusedIterator;
 use std::marker::Model;
 use zone_spec::Words;
