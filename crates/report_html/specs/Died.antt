@@ -3,7 +3,7 @@ use Rattle.std.specs.Prelude.{ℕ, Bool, false, ◌||◌, if◌then◌else◌, L
 use Rattle.death_spec.specs.declared.Span.{Span}
 use Rattle.death_spec.specs.declared.Death.{Death}
 use Rattle.death_spec.specs.Lines.{part}
-use Rattle.report_spec.specs.Packed.{RecordShown, readable}
+use Rattle.report_spec.specs.Packed.{readable}
 use Rattle.report_spec.specs.Deaths.{DeathTold}
 use Rattle.report_html.specs.Pieces.{Part, Words, Bytes}
 use Rattle.report_html.specs.Names.{name_parts, time_parts}

@@ -1,7 +1,7 @@
 // The line of a report.
 ghost use Rattle.std.specs.Prelude.{◌≡◌, length, string_bytes, IfOk};
 ghost use Rattle.serde_json.specs.View.{view};
-ghost use Rattle.report_json.specs.Schema.{line_with, death_data, IsLine};
+ghost use Rattle.report_json.specs.Schema.{line_with, IsLine};
 
 use crate::deaths::death_value;
 use crate::records::record_values;

@@ -1,6 +1,6 @@
 // Which record tells why a machine died, and by which line.
 use crate::worked_deaths::{CONSOLE, OOPS, PANIC, report_on};
-use record_report::death_told;
+use record_report::{RecordReport, death_told};
 use std::alloc::Global;
 use std::process::Abort;
 use std::test::Fail;
@@ -22,10 +22,11 @@ fn assert_told(
 ) -> Result<(), Fail> {
     let report = report_on(alloc, logs)?;
     let told = death_told(report.records()).ok_or("no record tells")?;
+    let teller: &RecordReport = told.teller;
     let telling = told.death.telling;
-    assert_eq!(rt; told.teller.name, name);
+    assert_eq!(rt; teller.name, name);
     assert_eq!(rt;
-        told.teller.readable().get(telling.text..telling.end),
+        teller.readable().get(telling.text..telling.end),
         Some(line)
     );
     Ok(())

@@ -130,6 +130,17 @@ last lines of the newest dump
     Ok(())
 }
 
+// The text of a report on these logs.
+fn shown_deaths(alloc: Global, logs: [&[u8]; 4]) -> Result<Bytes, Fail> {
+    let zones = worked_deaths::zones_of(alloc)?;
+    let image = Bytes::from_vec(worked_deaths::image_of(alloc, logs)?);
+    if image.len() != zones.mem() as usize {
+        return Err(Fail::from("the image has another size"));
+    }
+    let report = report_of(alloc, &zones, image)?;
+    Ok(text(alloc, b"a", zones.zones(), &report)?)
+}
+
 #[test]
 fn why_it_died(rt: HostRuntime) -> Result<(), Fail> {
     for (logs, died) in [
@@ -151,12 +162,7 @@ fn why_it_died(rt: HostRuntime) -> Result<(), Fail> {
 ",
         ),
     ] {
-        let zones = worked_deaths::zones_of(rt.alloc())?;
-        let report = worked_deaths::report_on(rt.alloc(), logs)?;
-        if report.logs().len() as usize != zones.zones().len() {
-            return Err(Fail::from("the report has other zones"));
-        }
-        let text = text(rt.alloc(), b"a", zones.zones(), &report)?;
+        let text = shown_deaths(rt.alloc(), logs)?;
         let wanted = format!(in rt.alloc(); "{died}\nzone ")?;
         assert!(rt;
             str::from_utf8(text.as_slice())?.contains(wanted.as_str()),

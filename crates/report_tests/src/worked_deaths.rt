@@ -59,8 +59,8 @@ pub fn zones_of(alloc: Global) -> Result<Layout, Fail> {
     Ok(layout(alloc, &PARAMS)?)
 }
 
-// The report of zones with these logs.
-pub fn report_on(alloc: Global, logs: [&[u8]; 4]) -> Result<Report, Fail> {
+/// The image of zones with these logs.
+pub fn image_of(alloc: Global, logs: [&[u8]; 4]) -> Result<Vec<u8>, Fail> {
     let mut bytes = Vec::new(alloc);
     let mut end = 0usize;
     for log in logs {
@@ -72,8 +72,12 @@ pub fn report_on(alloc: Global, logs: [&[u8]; 4]) -> Result<Report, Fail> {
         end = end.saturating_add(1024);
         bytes.resize(end, 0)?;
     }
+    Ok(bytes)
+}
+
+pub fn report_on(alloc: Global, logs: [&[u8]; 4]) -> Result<Report, Fail> {
     let zones = zones_of(alloc)?;
-    let image = Bytes::from_vec(bytes);
+    let image = Bytes::from_vec(image_of(alloc, logs)?);
     if image.len() != zones.mem() as usize {
         return Err(Fail::from("the image has another size"));
     }

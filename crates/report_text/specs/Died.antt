@@ -4,7 +4,7 @@ use Rattle.zone_spec.specs.declared.Time.{Time}
 use Rattle.death_spec.specs.declared.Span.{Span}
 use Rattle.death_spec.specs.declared.Death.{Death}
 use Rattle.death_spec.specs.Lines.{part}
-use Rattle.report_spec.specs.Packed.{RecordShown, readable}
+use Rattle.report_spec.specs.Packed.{readable}
 use Rattle.report_spec.specs.Deaths.{DeathTold}
 use Rattle.report_text.specs.Pieces.{Part, Words, Bytes}
 use Rattle.report_text.specs.Tables.{IsTime, name_parts}
