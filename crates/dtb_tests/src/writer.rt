@@ -1,6 +1,10 @@
 // Writes a tree token by token.
 use std::alloc::{AllocError, Global};
 
+fn count(bytes: &[u8]) -> u32 {
+    u32::try_from(bytes.len()).unwrap_or(u32::MAX)
+}
+
 #[derive(Drop)]
 pub struct Writer {
     structure: Vec<u8>,
@@ -38,8 +42,8 @@ impl Writer {
 
     pub fn prop(&mut self, name: &[u8], value: &[u8]) -> Result<(), AllocError> {
         self.cell(3)?;
-        self.cell(value.len() as u32)?;
-        let place = self.strings.len() as u32;
+        self.cell(count(value))?;
+        let place = count(&self.strings);
         self.cell(place)?;
         self.strings.extend_from_slice(name)?;
         self.strings.push(0)?;
@@ -52,8 +56,8 @@ impl Writer {
 
     // The whole tree: header, no memory reservation, structure block, strings.
     pub fn tree(&self, alloc: Global) -> Result<Vec<u8>, AllocError> {
-        let structure = self.structure.len() as u32;
-        let strings = self.strings.len() as u32;
+        let structure = count(&self.structure);
+        let strings = count(&self.strings);
         let place = structure.wrapping_add(56);
         let total = place.wrapping_add(strings);
         let mut tree = Vec::new(alloc);
