@@ -58,7 +58,8 @@ told_more structure strings all left line lines nodes new node e h g told = reco
   same = told.same ∙ ap (λ xs. after_these (map shown nodes) (nodes_in structure strings (items_of xs))) e
       ∙ ap (after_these (map shown nodes)) (nodes_more structure strings line.items (items_of lines) (shown node) h)
       ∙ after_one (map shown nodes) (shown node) (nodes_in structure strings (items_of lines))
-      ∙ ap (λ xs. after_these xs (nodes_in structure strings (items_of lines))) (sym (ap (map shown) g ∙ map-append shown nodes (node ∷ [])));
+      ∙ ap (λ xs. after_these xs (nodes_in structure strings (items_of lines)))
+      (sym (ap (map shown) g ∙ map-append shown nodes (node ∷ [])));
 }
 
 pub told_fault : (structure strings : List ℕ) (all left : List (Vec ℕ)) (line : Vec ℕ) (lines : List (Vec ℕ))

@@ -22,7 +22,8 @@ sought_start structure strings key from = record { fuel = length structure + 1; 
 -- what one token more says, if it is not after the end
 read_one : (structure strings key : List ℕ) (from at fuel : ℕ) (t : Token × ℕ) → at < length structure
     → length structure < at + fuel → token_at structure strings at ≡ Ok t
-    → (n : ℕ) × (fuel ≡ suc n) × (properties_from structure strings fuel at ≡ with_token t.0 (properties_from structure strings n t.1))
+    → (n : ℕ) × (fuel ≡ suc n) ×
+    (properties_from structure strings fuel at ≡ with_token t.0 (properties_from structure strings n t.1))
 unfolding properties_from
 read_one structure strings key from at zero t h enough e = absurd (omega arith)
 read_one structure strings key from at (suc n) t h enough e = (n, refl, rw e refl)

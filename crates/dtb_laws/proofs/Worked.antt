@@ -9,7 +9,8 @@ use Rattle.dtb_spec.specs.Ramoops.{lists_ramoops, region_of, numbers_of, nodes_i
 use Rattle.dtb_laws.specs.Rows.{small_tree, sized_tree, SmallRow, CutRow, TokenRow, FirstCellRow, OldBoardRow, LargeRow, ShortRow, StatusRow}
 
 pub small_row : SmallRow
-unfolding cell text_len header_of token_at property_at walk name_at properties_from value_of lists_ramoops region_of numbers_of nodes_in nodes_between small_tree
+unfolding cell text_len header_of token_at property_at walk name_at properties_from value_of lists_ramoops region_of
+    numbers_of nodes_in nodes_between small_tree
 small_row = refl
 
 pub cut_row : CutRow
@@ -17,25 +18,31 @@ unfolding cell header_of small_tree
 cut_row = refl
 
 pub token_row : TokenRow
-unfolding cell text_len header_of token_at property_at walk name_at properties_from value_of lists_ramoops region_of numbers_of nodes_in nodes_between small_tree
+unfolding cell text_len header_of token_at property_at walk name_at properties_from value_of lists_ramoops region_of
+    numbers_of nodes_in nodes_between small_tree
 token_row = refl
 
 pub first_cell_row : FirstCellRow
-unfolding cell text_len header_of token_at property_at walk name_at properties_from value_of lists_ramoops region_of numbers_of nodes_in nodes_between sized_tree
+unfolding cell text_len header_of token_at property_at walk name_at properties_from value_of lists_ramoops region_of
+    numbers_of nodes_in nodes_between sized_tree
 first_cell_row = refl
 
 pub old_board_row : OldBoardRow
-unfolding cell text_len header_of token_at property_at walk name_at properties_from value_of lists_ramoops region_of numbers_of nodes_in nodes_between sized_tree
+unfolding cell text_len header_of token_at property_at walk name_at properties_from value_of lists_ramoops region_of
+    numbers_of nodes_in nodes_between sized_tree
 old_board_row = refl
 
 pub large_row : LargeRow
-unfolding cell text_len header_of token_at property_at walk name_at properties_from value_of lists_ramoops region_of numbers_of nodes_in nodes_between sized_tree
+unfolding cell text_len header_of token_at property_at walk name_at properties_from value_of lists_ramoops region_of
+    numbers_of nodes_in nodes_between sized_tree
 large_row = refl
 
 pub short_row : ShortRow
-unfolding cell text_len header_of token_at property_at walk name_at properties_from value_of lists_ramoops region_of numbers_of nodes_in nodes_between sized_tree
+unfolding cell text_len header_of token_at property_at walk name_at properties_from value_of lists_ramoops region_of
+    numbers_of nodes_in nodes_between sized_tree
 short_row = refl
 
 pub status_row : StatusRow
-unfolding cell text_len header_of token_at property_at walk name_at properties_from value_of lists_ramoops region_of numbers_of nodes_in nodes_between sized_tree
+unfolding cell text_len header_of token_at property_at walk name_at properties_from value_of lists_ramoops region_of
+    numbers_of nodes_in nodes_between sized_tree
 status_row = refl
