@@ -15,7 +15,7 @@ pub fn enough_properties()
     ensures { EnoughProperties }
 {}
 
-/// A line of nodes ends with its own node, and a node stands within 63 others at most.
+/// A line of nodes has one node at least, and 64 at most.
 pub fn are_lines_of_nodes()
     ensures { AreLinesOfNodes }
 {}
