@@ -1,5 +1,5 @@
 //! The header and the blocks of a zone with their parity: how each reads, and the parity of what stands
-//! (`fs/pstore/ramoops.c`, `persistent_ram_decode_rs8` and `persistent_ram_encode_rs8`).
+//! (`fs/pstore/ram_core.c`, `persistent_ram_decode_rs8` and `persistent_ram_encode_rs8`).
 #![tactic(auto)]
 
 ghost use Rattle.std.specs.Prelude.{◌≡◌, ◌+◌, ◌*◌, ◌-◌, ◌<◌, ◌≤◌, ◌↔◌, ℕ, ◌++◌, length, take, min, slice_range, unwrap_or, IsTrue};

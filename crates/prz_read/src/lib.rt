@@ -1,4 +1,4 @@
-//! What a boot reads of a zone, what it stores there, and the readings that it saves (`fs/pstore/ramoops.c`,
+//! What a boot reads of a zone, what it stores there, and the readings that it saves (`fs/pstore/ram_core.c`,
 //! `persistent_ram_post_init` and `persistent_ram_save_old`).
 #![tactic(auto)]
 

@@ -9,7 +9,7 @@ use std::iter::FusedIterator;
 use std::marker::Model;
 use zone_spec::Words;
 
-/// What the words of a header say (`fs/pstore/ramoops.c`).
+/// What the words of a header say (`fs/pstore/ram_core.c`).
 pub trait RingWords {
     /// Words that are a ring of a capacity.
     ghost is_ring_of: { Self → ℕ → Type 0 };

@@ -109,7 +109,7 @@ pub fn write_counted(counts: Counts, out: &mut ArrayString<86>)
     }
 }
 
-/// Writes what follows the content of a record, in at most 86 bytes (`fs/pstore/ramoops.c`,
+/// Writes what follows the content of a record, in at most 86 bytes (`fs/pstore/ram_core.c`,
 /// `persistent_ram_ecc_string`): nothing where none of its zones has parity.
 pub fn write_notice(logs: &Logs, name: Name, out: &mut ArrayString<86>)
     ensures { out.new.bytes ≡ notice (saved logs.now) name }

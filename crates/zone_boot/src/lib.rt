@@ -1,4 +1,4 @@
-//! A zone read in place, and a boot's stores in it handed out as data (`fs/pstore/ramoops.c`,
+//! A zone read in place, and a boot's stores in it handed out as data (`fs/pstore/ram_core.c`,
 //! `persistent_ram_post_init` and `persistent_ram_save_old`). The zone's bytes are lent for reading, and no memory is
 //! taken.
 #![tactic(auto)]

@@ -1,4 +1,4 @@
--- What a boot stores in a zone, and whether it keeps it (fs/pstore/ramoops.c, persistent_ram_post_init;
+-- What a boot stores in a zone, and whether it keeps it (fs/pstore/ram_core.c, persistent_ram_post_init;
 -- fs/pstore/ram.c)
 use Rattle.std.specs.Prelude.{ℕ, ◌+◌, Bool, true, false, not, ◌&&◌, ◌||◌, if◌then◌else◌, ◌==◌, List, [], ◌∷◌, ◌++◌, flat_map}
 use Rattle.zone_spec.specs.declared.Zone.{Zone}

@@ -1,4 +1,4 @@
--- Calls as stores, in the order of fs/pstore/ramoops.c (persistent_ram_write, persistent_ram_zap; a
+-- Calls as stores, in the order of fs/pstore/ram_core.c (persistent_ram_write, persistent_ram_zap; a
 -- dump as ramoops_pstore_write)
 use Rattle.std.specs.Prelude.{◌≡◌, ℕ, ◌+◌, ◌-◌, ◌%◌, ◌<◌, min, if◌then◌else◌, ◌==◌, List, [], ◌∷◌, ◌++◌, length, take, drop, map, flat_map}
 use Rattle.zone_spec.specs.declared.Zone.{Zone}

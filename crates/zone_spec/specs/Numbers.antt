@@ -1,4 +1,4 @@
--- The numbers of a zone's format (fs/pstore/ramoops.c, struct persistent_ram_buffer)
+-- The numbers of a zone's format (fs/pstore/ram_core.c, struct persistent_ram_buffer)
 use Rattle.std.specs.Prelude.{ℕ, ◌^◌}
 
 -- how many bytes the header has

@@ -1,4 +1,4 @@
--- How a part reads (fs/pstore/ramoops.c, persistent_ram_decode_rs8); a project's own is that no more
+-- How a part reads (fs/pstore/ram_core.c, persistent_ram_decode_rs8); a project's own is that no more
 -- than half the parity is corrected
 use Rattle.std.specs.Prelude.{ℕ, List, length, take, Option, Some, None}
 use Rattle.zone_spec.specs.declared.Zone.{Zone}

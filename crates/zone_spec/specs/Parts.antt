@@ -1,4 +1,4 @@
--- The parts of a zone's image: which bytes and which parity make a word (fs/pstore/ramoops.c,
+-- The parts of a zone's image: which bytes and which parity make a word (fs/pstore/ram_core.c,
 -- persistent_ram_init_ecc)
 use Rattle.std.specs.Prelude.{◌≡◌, ℕ, ◌+◌, ◌-◌, ◌*◌, ◌<◌, min, List, ◌++◌, length, slice_index, slice_range}
 use Rattle.std.specs.Int.{from_le_bytes}

@@ -4,7 +4,7 @@ use Rattle.zone_spec.specs.declared.Zone.{Zone}
 use Rattle.zone_spec.specs.Numbers.{header_len, most_memory}
 
 -- the parity blocks of a zone of this size with r parity bytes and blocks of k bytes
--- (fs/pstore/ramoops.c, persistent_ram_init_ecc)
+-- (fs/pstore/ram_core.c, persistent_ram_init_ecc)
 abbrev pub blocks_in : ℕ → ℕ → ℕ → ℕ
 blocks_in size r k = (((size - header_len) - r) + (k + r) - 1) / (k + r)
 

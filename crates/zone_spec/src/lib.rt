@@ -22,7 +22,7 @@ pub struct ZoneName {
     pub index: u32,
 }
 
-/// Where a zone lies in the image, and how it is divided (`fs/pstore/ramoops.c`, `persistent_ram_zone`).
+/// Where a zone lies in the image, and how it is divided (`fs/pstore/ram_core.c`, `persistent_ram_zone`).
 ///
 /// All lengths are in bytes: `at` is the zone's place in the image, `size` its length, `cap` that of its data,
 /// `block` the data of one parity block, `parity` the parity bytes of each part. `blocks` is the number of parity
