@@ -96,15 +96,16 @@ struct oopsbox_zone_answer {
  * proof says what a call does.
  */
 
-/* Parameters of a layout. Sizes are bytes, before any rounding; the words of oopsbox_layout have the same names and
-   tell what is assumed where one is absent. Here nothing is assumed: set each. 104 bytes. */
+/* Parameters of a layout, in bytes. Nothing is assumed: set each. The words of oopsbox_layout are the module's, and
+   read in two ways of their own: the word ecc=1 is 16 parity bytes, and mem_size is rounded down to a power of two.
+   104 bytes. */
 struct oopsbox_params {
-	uint64_t mem;         /* the image; 1 to 16777216 */
+	uint64_t mem;         /* the image, taken as it is; 1 to 16777216 */
 	uint64_t dump;        /* a dump zone (record_size); 0 for none */
 	uint64_t console;     /* the console zone; 0 for none */
 	uint64_t ftrace;      /* all ftrace zones together; 0 for none */
 	uint64_t pmsg;        /* the pmsg zone; 0 for none */
-	uint64_t ecc;         /* 0 no parity, 1 16 parity bytes, 2 to 127 so many */
+	uint64_t ecc;         /* parity bytes of a block and of a header; 0 for none, at most 127 */
 	uint64_t cpus;        /* the number of ftrace zones; 1 to 64 */
 	uint64_t block;       /* the data bytes of a parity block; 32, 64 or 128 */
 	uint64_t ecc_dump;    /* as ecc, for the zones of each kind; these four count, and ecc is only tested */
@@ -117,8 +118,8 @@ struct oopsbox_params {
 
 /*
  * The zone of this kind (OOPSBOX_DUMP .. OOPSBOX_PMSG) and this number among the zones of its kind, from 0, in the
- * layout of *params. Sizes are rounded down as a kernel rounds them. oopsbox_layout tells the same zones of the same
- * parameters as words.
+ * layout of *params. The sizes of zones are rounded down as a kernel rounds them. oopsbox_layout tells the same zones of
+ * the same parameters as words.
  *
  * OOPSBOX_DONE: *place and *answer were written; the answer's word and fault are 0.
  * OOPSBOX_FAULT: there is no layout; *answer tells the fault's number, its zones, word and mem are 0. *place is as it

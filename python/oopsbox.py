@@ -243,6 +243,7 @@ _KEYS = {"mem_size": ("mem", 0), "record_size": ("dump", 4096), "console_size": 
 _FTRACE = 2
 _WORD, _PAYLOAD = 0, 2
 _ROWS = 256
+_MOST_MEMORY = 1 << 24
 
 
 def _numbers(values):
@@ -253,6 +254,12 @@ def _numbers(values):
     for key, (field, absent) in _KEYS.items():
         absent = values.get("ecc", 0) if absent is None else absent
         setattr(params, field, values.get(key, absent))
+    # as the words are read: ecc=1 is 16 parity bytes, and mem_size is rounded down to a power of two
+    for field in ("ecc", "ecc_dump", "ecc_console", "ecc_ftrace", "ecc_pmsg"):
+        if getattr(params, field) == 1:
+            setattr(params, field, 16)
+    if 0 < params.mem <= _MOST_MEMORY:
+        params.mem = 1 << (params.mem.bit_length() - 1)
     return params
 
 

@@ -16,7 +16,7 @@
 
 /* One console zone, with 16 bytes of parity for each 128 bytes of the log. */
 static const struct oopsbox_params params = {
-	.mem = 65536, .console = 65536, .ecc = 1, .ecc_console = 1, .cpus = 1, .block = 128};
+	.mem = 65536, .console = 65536, .ecc = 16, .ecc_console = 16, .cpus = 1, .block = 128};
 
 struct ring {
 	struct oopsbox_zone_place place;

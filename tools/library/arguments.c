@@ -125,7 +125,7 @@ enum { SIZE = 4096 };
 static struct zone zone;
 static uint8_t stand[SIZE];
 
-static const struct oopsbox_params numbers = {.mem = 16384, .console = SIZE, .pmsg = SIZE, .ecc = 1, .ecc_console = 16,
+static const struct oopsbox_params numbers = {.mem = 16384, .console = SIZE, .pmsg = SIZE, .ecc = 16, .ecc_console = 16,
 	.cpus = 1, .block = 128};
 
 /* Whether all bytes of an object are 7. */

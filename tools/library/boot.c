@@ -70,7 +70,7 @@ __attribute__((force_align_arg_pointer)) void _start(void)
 	long failed = oopsbox_rs_encode(data, 1, parity, 2) != OOPSBOX_DONE || parity[0] != 3 || parity[1] != 2;
 	data[0] = 0;
 	failed |= oopsbox_rs_decode(data, 1, parity, 2, places, 1, &corrected) != OOPSBOX_DONE || data[0] != 1;
-	failed |= write_and_read(OOPSBOX_CONSOLE, 1) || write_and_read(OOPSBOX_DUMP, 0);
+	failed |= write_and_read(OOPSBOX_CONSOLE, 16) || write_and_read(OOPSBOX_DUMP, 0);
 	__asm__ volatile("syscall" : : "a"(60), "D"(failed));
 	__builtin_unreachable();
 }

@@ -16,7 +16,7 @@ static const struct {
 	{"mem_size=65536 record_size=8192 console_size=16384 ftrace_size=4096 pmsg_size=8192",
 	 {MEM, 8192, 16384, 4096, 8192, 0, 1, 128, 0, 0, 0, 0, 0, 0}},
 	{"mem_size=65536 record_size=8192 console_size=16384 ftrace_size=8192 pmsg_size=8192 ecc=1 cpus=2 "
-	 "ftrace_sig=393664", {MEM, 8192, 16384, 8192, 8192, 1, 2, 128, 1, 1, 1, 1, 393664, 0}},
+	 "ftrace_sig=393664", {MEM, 8192, 16384, 8192, 8192, 16, 2, 128, 16, 16, 16, 16, 393664, 0}},
 	{"mem_size=65536 record_size=4096 console_size=8192 ftrace_size=0 pmsg_size=4096 ecc=7",
 	 {MEM, 4096, 8192, 0, 4096, 7, 1, 128, 7, 7, 7, 7, 0, 0}},
 	{"mem_size=65536 record_size=16384 console_size=16384 ftrace_size=12288 pmsg_size=4096 ecc=100 cpus=3",

@@ -1,8 +1,11 @@
 -- Parameters as words `key=value` (fs/pstore/ram.c, module_param)
-use Rattle.std.specs.Prelude.{ℕ, List, [], ◌∷◌, codes, unwrap_or, Option, Result}
+use Rattle.std.specs.Prelude.{ℕ, ◌==◌, if◌then◌else◌, nat_lt, List, [], ◌∷◌, codes, unwrap_or, Option, Result}
+use Rattle.std.specs.Option.{option_map}
 use Rattle.std.specs.declared.string.String.{String}
 use Rattle.std.specs.declared.alloc.Global.{Global}
 use Rattle.zone_spec.specs.declared.params.Params.{Params}
+use Rattle.zone_spec.specs.Numbers.{most_memory}
+use Rattle.zone_spec.specs.Layout.{rounded}
 use Rattle.grammar_spec.specs.declared.faults.ParamFault.{ParamFault}
 use Rattle.grammar_spec.specs.Words.{KeyTable, ok_unless, texts, first_fault as first_fault_by, given as given_by}
 
@@ -24,26 +27,65 @@ first_fault earlier words = first_fault_by keys earlier words
 abbrev pub given : List (List ℕ) → List ℕ → Option ℕ
 given words key = given_by keys words key
 
--- the parameters, each its default where no word gives it; that of a kind's ecc is the value of `ecc`
-abbrev pub params_of : List (List ℕ) → Params
-params_of words =
-    let ecc = unwrap_or (given words (codes "ecc")) 0 in
+-- the parity bytes that an `ecc` asks for: 1 is 16 (fs/pstore/ram.c, ramoops_register_dummy)
+abbrev pub parity_of : ℕ → ℕ
+parity_of ecc = if ecc == 1 then 16 else ecc
+
+-- the bytes of memory that a `mem_size` asks for: rounded down to a power of two. What is above the most memory stays,
+-- and has no layout
+abbrev pub memory_of : ℕ → ℕ
+memory_of size = if nat_lt most_memory size then size else rounded size
+
+-- what the module takes where no word is given
+abbrev pub defaults : Params
+defaults = record {
+  mem = 0;
+  dump = 4096;
+  console = 4096;
+  ftrace = 4096;
+  pmsg = 4096;
+  ecc = 0;
+  cpus = 1;
+  ftrace_sig = 0;
+  block = 128;
+  ecc_dump = 0;
+  ecc_console = 0;
+  ecc_ftrace = 0;
+  ecc_pmsg = 0;
+}
+
+-- the bytes of parity that the words give a key
+abbrev pub parity_given : List (List ℕ) → List ℕ → Option ℕ
+parity_given words key = option_map parity_of (given words key)
+
+-- the parameters, the memory by this reading of `mem_size`; what no word gives is as in `absent`. A kind without an ecc
+-- of its own has that of the word `ecc`
+abbrev pub params_by : (ℕ → ℕ) → Params → List (List ℕ) → Params
+params_by memory absent words =
+    let ecc = parity_given words (codes "ecc") in
     record {
-      mem = unwrap_or (given words (codes "mem_size")) 0;
-      dump = unwrap_or (given words (codes "record_size")) 4096;
-      console = unwrap_or (given words (codes "console_size")) 4096;
-      ftrace = unwrap_or (given words (codes "ftrace_size")) 4096;
-      pmsg = unwrap_or (given words (codes "pmsg_size")) 4096;
-      ecc = ecc;
-      cpus = unwrap_or (given words (codes "cpus")) 1;
-      ftrace_sig = unwrap_or (given words (codes "ftrace_sig")) 0;
-      block = unwrap_or (given words (codes "block_size")) 128;
-      ecc_dump = unwrap_or (given words (codes "ecc_dump")) ecc;
-      ecc_console = unwrap_or (given words (codes "ecc_console")) ecc;
-      ecc_ftrace = unwrap_or (given words (codes "ecc_ftrace")) ecc;
-      ecc_pmsg = unwrap_or (given words (codes "ecc_pmsg")) ecc;
+      mem = unwrap_or (option_map memory (given words (codes "mem_size"))) absent.mem;
+      dump = unwrap_or (given words (codes "record_size")) absent.dump;
+      console = unwrap_or (given words (codes "console_size")) absent.console;
+      ftrace = unwrap_or (given words (codes "ftrace_size")) absent.ftrace;
+      pmsg = unwrap_or (given words (codes "pmsg_size")) absent.pmsg;
+      ecc = unwrap_or ecc absent.ecc;
+      cpus = unwrap_or (given words (codes "cpus")) absent.cpus;
+      ftrace_sig = unwrap_or (given words (codes "ftrace_sig")) absent.ftrace_sig;
+      block = unwrap_or (given words (codes "block_size")) absent.block;
+      ecc_dump = unwrap_or (parity_given words (codes "ecc_dump")) (unwrap_or ecc absent.ecc_dump);
+      ecc_console = unwrap_or (parity_given words (codes "ecc_console")) (unwrap_or ecc absent.ecc_console);
+      ecc_ftrace = unwrap_or (parity_given words (codes "ecc_ftrace")) (unwrap_or ecc absent.ecc_ftrace);
+      ecc_pmsg = unwrap_or (parity_given words (codes "ecc_pmsg")) (unwrap_or ecc absent.ecc_pmsg);
     }
 
 -- the parameters of these words, or the first fault
+abbrev pub read_by : (ℕ → ℕ) → Params → List (String Global) → Result Params ParamFault
+read_by memory absent words = ok_unless (first_fault [] (texts words)) (params_by memory absent (texts words))
+
+-- as the project reads the module's words, and as the kernel does
 abbrev pub read_of : List (String Global) → Result Params ParamFault
-read_of words = ok_unless (first_fault [] (texts words)) (params_of (texts words))
+read_of words = read_by memory_of defaults words
+
+abbrev pub read_as_given : List (String Global) → Result Params ParamFault
+read_as_given words = read_by (λ size. size) defaults words

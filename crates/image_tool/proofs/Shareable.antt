@@ -11,7 +11,7 @@ use Rattle.zone_spec.specs.declared.Words.{Words}
 use Rattle.zone_spec.specs.declared.params.Params.{Params}
 use Rattle.zone_spec.specs.declared.params.Row.{Row}
 use Rattle.ramoops.proofs.Lists.{get-of-map}
-use Rattle.zone_spec.specs.Layout.{rounded, even, dump_memory, dump_count, rows, zone_at, zones_from, layout_of, parity_bytes, ecc_of}
+use Rattle.zone_spec.specs.Layout.{rounded, even, dump_memory, dump_count, rows, zone_at, zones_from, layout_of, ecc_of}
 use Rattle.zone_spec.specs.Layouts.{IsLayout, is_zone, zone_place}
 use Rattle.zone_spec.specs.Parts.{AreBytes, standing_words}
 use Rattle.zone_spec.specs.Ring.{IsRingForm, IsOpen, IsOpenUnlessDump}
@@ -49,7 +49,7 @@ or_parts false b e = (refl, e)
 
 -- each zone has the parity of its kind
 abbrev HasParity : Params → Zone → Type 0
-HasParity p z = z.parity ≡ parity_bytes (ecc_of p z.name.kind)
+HasParity p z = z.parity ≡ ecc_of p z.name.kind
 
 both : (p : Params) (xs ys : List Zone) → AllByRecursion (HasParity p) xs → AllByRecursion (HasParity p) ys
     → AllByRecursion (HasParity p) (xs ++ ys)
@@ -142,8 +142,7 @@ module _ (p : Params) (zones : List Zone) (laid : layout_of p ≡ Ok zones) (pla
           named = named;
           there = g.1;
           kind = kind;
-          parity = parity_at p zones place z parities g.1 ∙ ap (λ k. parity_bytes (ecc_of p k)) kind
-              ∙ ap parity_bytes none;
+          parity = parity_at p zones place z parities g.1 ∙ ap (ecc_of p) kind ∙ none;
         },
       )
 
@@ -213,8 +212,8 @@ module _ (p : Params) (zones : List Zone) (mem : ℕ) (image : List ℕ) (laid :
   stopped-state : IsState zones mem (OffOf (stopped zones live))
   stopped-state = operations_keep_states_sound zones mem (LiveOf live) StopStore lies state tt
 
-  pub is_booted : (last : List ℕ) → last ≡ (stopped zones live).image → mem ≡ rounded p.mem
-      → (length last ≡ rounded p.mem) × CanOpen zones shared_name last
+  pub is_booted : (last : List ℕ) → last ≡ (stopped zones live).image → mem ≡ p.mem
+      → (length last ≡ p.mem) × CanOpen zones shared_name last
   is_booted last is same = (
     ap length is ∙ stopped-state.image.0 ∙ same,
     subst (CanOpen zones shared_name) (sym is) can_open,
@@ -223,7 +222,7 @@ module _ (p : Params) (zones : List Zone) (mem : ℕ) (image : List ℕ) (laid :
 -- the image keeps its size
 pub is_booted_size : (p : Params) (zones : List Zone) (mem : ℕ) (image : List ℕ) → IsLayout zones mem
     → length image ≡ mem → AreBytes image → (last : List ℕ) → last ≡ (stopped zones (after_boot zones image)).image
-    → mem ≡ rounded p.mem → length last ≡ rounded p.mem
+    → mem ≡ p.mem → length last ≡ p.mem
 is_booted_size p zones mem image lies size bytes last is same =
     let state : IsState zones mem (OffOf (stopped zones (after_boot zones image))) =
     operations_keep_states_sound zones mem (LiveOf (after_boot zones image)) StopStore lies

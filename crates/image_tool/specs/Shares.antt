@@ -3,7 +3,7 @@ use Rattle.std.specs.Prelude.{◌≡◌, ⊤, false, ℕ, length, List, [], ◌�
 use Rattle.std.specs.Global.{Vec}
 use Rattle.zone_spec.specs.declared.params.Params.{Params}
 use Rattle.zone_spec.specs.declared.Zone.{Zone}
-use Rattle.zone_spec.specs.Layout.{rounded}
+
 use Rattle.machine_spec.specs.Stop.{stopped}
 use Rattle.shared_spec.specs.Histories.{CanOpen}
 use Rattle.tool_spec.specs.SharedScripts.{shared_name, lacks_plain_ftrace}
@@ -21,5 +21,5 @@ SharesLines w (Err other) = ⊥
 -- the image of a session `boot`, `stop`, in which ftrace-0 can be shared if it has no parity
 pub record IsBooted (p : Params) (zones : List Zone) (image bytes : List ℕ) : Type 0 where
   pub is : bytes ≡ (stopped zones (after_boot zones image)).image
-  pub size : length bytes ≡ rounded p.mem
+  pub size : length bytes ≡ p.mem
   pub can : lacks_plain_ftrace p ≡ false → CanOpen zones shared_name bytes

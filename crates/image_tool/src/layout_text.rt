@@ -1,7 +1,6 @@
 // The text of a layout.
 ghost use Rattle.std.specs.Prelude.{◌≡◌, ◌++◌, ◌==◌, ◌&&◌, codes, decimal, OnOk, IfOk, length};
 ghost use Rattle.tool_spec.specs.Texts.{newline, is_uniform, layout_line, layout_text, own_parity};
-ghost use Rattle.zone_spec.specs.Layout.{rounded, parity_bytes};
 ghost use Rattle.zone_params.specs.Laid.{params_of, zones_of};
 
 use std::alloc::{AllocError, Global};
@@ -47,7 +46,7 @@ fn is_uniform(layout: &Layout) -> bool
 // The first line.
 fn push_head(text: &mut Vec<u8>, layout: &Layout) -> Result<(), AllocError>
     ensures { OnOk result (text.new.items ≡ text.old.items ++ codes "mem " ++ decimal
-        (rounded (params_of layout.now).mem) ++ codes " parity " ++ decimal (parity_bytes (params_of layout.now).ecc)
+        (params_of layout.now).mem ++ codes " parity " ++ decimal (params_of layout.now).ecc
         ++ codes " zones " ++ decimal (length (zones_of layout.now)) ++ newline) }
 {
     push_number(text, "mem ", u64::from(layout.mem()))?;

@@ -1,6 +1,6 @@
 // The move of an image to other parameters.
 ghost use Rattle.std.specs.Prelude.{◌≡◌, ◌≤◌, ℕ, List, Option, IfOk};
-ghost use Rattle.zone_spec.specs.Layout.{rounded};
+
 ghost use Rattle.zone_params.specs.Laid.{params_of, zones_of};
 ghost use Rattle.machine_spec.specs.Moved.{fitting, moved as moved_state};
 ghost use Rattle.prz_read.specs.Saving.{saved};
@@ -24,7 +24,7 @@ use zone_params::types::Layout;
 
 // The image of this layout with the logs of the records that fit.
 fn moved(alloc: Global, layout: Layout, mut logs: Logs) -> Result<Off, AllocError>
-    ensures { IfOk result (λ off. off.image ≡ (moved_state (zones_of layout) (rounded (params_of layout).mem)
+    ensures { IfOk result (λ off. off.image ≡ (moved_state (zones_of layout) (params_of layout).mem
         (fitting (zones_of layout) (saved logs))).image) }
 {
     forget_unfit(alloc, &mut logs, &layout)?;

@@ -1,6 +1,6 @@
 // The records of an image: all of them listed, and one extracted or erased.
 ghost use Rattle.std.specs.Prelude.{◌≡◌, ◌≤◌, ℕ, List, Option, IfOk, IfErr};
-ghost use Rattle.zone_spec.specs.Layout.{rounded};
+
 ghost use Rattle.zone_params.specs.Laid.{params_of, zones_of};
 ghost use Rattle.tool_spec.specs.Commands.{ListRecords, ExtractRecord, EraseRecord};
 ghost use Rattle.tool_spec.specs.Answers.{outside};
@@ -33,9 +33,9 @@ fn stop_of(e: LineError) -> Stop
 
 /// Reads an image, and gives the logs that a boot of it would save.
 pub fn read_logs<M: Load>(alloc: Global, layout: Layout, image: &mut M) -> Result<Logs, Stop>
-    ensures read { IfOk result (λ logs. SavedFrom (zones_of layout) (rounded (params_of layout).mem)
+    ensures read { IfOk result (λ logs. SavedFrom (zones_of layout) (params_of layout).mem
         (M.holds image.old) logs) }
-    ensures stopped { IfErr result (λ s. LoadStop s (rounded (params_of layout).mem) (M.holds image.old)
+    ensures stopped { IfErr result (λ s. LoadStop s (params_of layout).mem (M.holds image.old)
         (M.faults image.old) (M.faults image.new)) }
     ensures same { M.holds image.new ≡ M.holds image.old }
     ensures unwritten { M.writes image.new ≡ M.writes image.old }

@@ -1,6 +1,6 @@
 // A script on a shared zone.
 ghost use Rattle.std.specs.Prelude.{◌≡◌, ◌<◌, ◌^◌, vec_len, length, Ok, IfOk};
-ghost use Rattle.zone_spec.specs.Layout.{rounded};
+
 ghost use Rattle.zone_params.specs.Laid.{params_of, zones_of};
 ghost use Rattle.grammar_spec.specs.Printed.{AllHaveFields};
 ghost use Rattle.tool_spec.specs.Commands.{RunShared, OfRam, wanted_shared_lines};
@@ -27,7 +27,7 @@ const FTRACE: ZoneName = ZoneName {
 
 // The image after a boot and a stop.
 fn booted_image(alloc: Global, layout: Layout, image: Vec<u8>) -> Result<Bytes, AllocError>
-    requires { vec_len image ≡ rounded (params_of layout).mem }
+    requires { vec_len image ≡ (params_of layout).mem }
     ensures { IfOk result (IsBooted (params_of layout) (zones_of layout) image.items) }
 {
     let off = fresh_store(alloc, layout, image)?;
@@ -45,7 +45,7 @@ fn share(
     image: Vec<u8>,
     lines: Lines,
 ) -> Result<(Vec<u8>, Bytes), Stop>
-    requires size { vec_len image ≡ rounded (params_of booted).mem }
+    requires size { vec_len image ≡ (params_of booted).mem }
     requires plain { CanShareIn booted layout }
     requires fields { AllHaveFields lines }
     requires few { length lines < 2 ^ 32 }

@@ -1,6 +1,6 @@
 // The store of an image.
 ghost use Rattle.std.specs.Prelude.{◌≡◌, ◌≤◌, vec_len, IfOk, IfErr};
-ghost use Rattle.zone_spec.specs.Layout.{rounded};
+
 ghost use Rattle.zone_params.specs.Laid.{params_of, zones_of};
 ghost use Rattle.ram_session.specs.Playing.{StandsFresh};
 ghost use Rattle.tool_frame.specs.Stages.{KeptUnless, LoadStop};
@@ -16,8 +16,8 @@ use zone_params::types::Layout;
 /// The store of an image of which nothing is known.
 #[tactic(auto, using(crate::proofs::Alike::dumps_alike))]
 pub fn fresh_store(alloc: Global, layout: Layout, image: Vec<u8>) -> Result<Off, AllocError>
-    requires { vec_len image ≡ rounded (params_of layout).mem }
-    ensures { IfOk result (λ off. StandsFresh (zones_of layout) (rounded (params_of layout).mem) image.items off) }
+    requires { vec_len image ≡ (params_of layout).mem }
+    ensures { IfOk result (λ off. StandsFresh (zones_of layout) (params_of layout).mem image.items off) }
 {
     let _zones = layout.zones();
     let image = Bytes::from_vec(image);
@@ -31,9 +31,9 @@ pub fn boot_store<M: Load>(
     layout: Layout,
     image: &mut M,
 ) -> Result<(Live, Logs), Stop>
-    ensures booted { IfOk result (λ r. BootedFrom (zones_of layout) (rounded (params_of layout).mem)
+    ensures booted { IfOk result (λ r. BootedFrom (zones_of layout) (params_of layout).mem
         (M.holds image.old) r.0 r.1) }
-    ensures stopped { IfErr result (λ s. LoadStop s (rounded (params_of layout).mem) (M.holds image.old)
+    ensures stopped { IfErr result (λ s. LoadStop s (params_of layout).mem (M.holds image.old)
         (M.faults image.old) (M.faults image.new)) }
     ensures same { M.holds image.new ≡ M.holds image.old }
     ensures unwritten { M.writes image.new ≡ M.writes image.old }

@@ -7,7 +7,7 @@ use Rattle.zone_spec.specs.declared.Kind.TheVariants.{Dump, Console, Ftrace, Pms
 use Rattle.zone_spec.specs.declared.State.{State}
 use Rattle.zone_spec.specs.declared.State.TheVariants.{Unsigned, Empty, Invalid, Found}
 use Rattle.zone_spec.specs.declared.params.Params.{Params}
-use Rattle.zone_spec.specs.Layout.{rounded}
+
 use Rattle.zone_spec.specs.Reading.{ZoneReading}
 use Rattle.zone_spec.specs.Zones.{IsValidZone}
 use Rattle.oopsbox_c.specs.declared.places.ZonePlace.{ZonePlace}
@@ -71,7 +71,7 @@ pub record IsPlace (p : ZonePlace) : Type 0 where
 
 -- a layout as it is told
 abbrev pub layout_answer : Params → List Zone → LayoutAnswer
-layout_answer params zones = record { zones = length zones; word = 0; mem = rounded params.mem; fault = 0 }
+layout_answer params zones = record { zones = length zones; word = 0; mem = params.mem; fault = 0 }
 
 -- a fault by its number and its word
 abbrev pub fault_answer : ℕ → ℕ → LayoutAnswer

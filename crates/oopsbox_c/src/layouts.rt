@@ -8,7 +8,7 @@ use crate::places::{LayoutAnswer, ZonePlace, kind_in, place_of};
 use zone_params::{Found, find};
 use zone_spec::{Params, ZoneName};
 
-/// The parameters of a layout, as those of [`Params`]. `unused` is not read.
+/// The parameters of a layout, in bytes, as those of [`Params`]. `unused` is not read.
 #[repr(C)]
 #[derive(Clone, Copy, Debug, Default, PartialEq, Eq)]
 pub struct LayoutParams {

@@ -60,7 +60,7 @@ fn a_zone_is_found(rt: HostRuntime) -> Result<(), Fail> {
     assert!(rt; oopsbox_zone_at(&params(0), 1, 0, &mut place, &mut answer) == 0);
     assert!(rt; (place.kind, place.index, place.size, place.cap) == (1, 0, 4096, 4084));
     assert!(rt; (answer.zones, answer.word, answer.mem, answer.fault) == (1, 0, 4096, 0));
-    assert!(rt; console(1).parity == 16);
+    assert!(rt; console(16).parity == 16);
     let was = place;
     assert!(rt; oopsbox_zone_at(&params(0), 1, 1, &mut place, &mut answer) == 13);
     assert!(rt; oopsbox_zone_at(&params(0), 4, 0, &mut place, &mut answer) == 13);
@@ -124,7 +124,7 @@ fn an_append_is_handed_out_in_parts(rt: HostRuntime) -> Result<(), Fail> {
 // `abc` in a zone with 16 parity bytes, whose header says it: the parity bytes are those of `oopsbox_rs_encode`.
 #[test]
 fn parities_are_one_answer(rt: HostRuntime) -> Result<(), Fail> {
-    let place = console(1);
+    let place = console(16);
     let mut image = [0; 4096];
     let mut flight = Flight::default();
     let mut stores = no_stores();
@@ -228,7 +228,7 @@ fn make(stores: &Stores, image: &mut [u8]) {
 
 #[test]
 fn a_zone_is_booted(rt: HostRuntime) -> Result<(), Fail> {
-    let place = console(1);
+    let place = console(16);
     let mut image = [0; 4096];
     let mut boot = ZoneBoot::default();
     let mut stores = no_stores();
@@ -252,7 +252,7 @@ fn a_zone_is_booted(rt: HostRuntime) -> Result<(), Fail> {
 fn a_zone_is_read_by_a_table(rt: HostRuntime) -> Result<(), Fail> {
     let place = ZonePlace {
         parity: 16,
-        ..console(1)
+        ..console(16)
     };
     let mut table = [TableRow::default(); 256];
     let mut answer = ZoneAnswer::default();

@@ -132,7 +132,7 @@ impl Model for CountedSpans {
 impl Region {
     ghost use Rattle.zone_params.specs.Laid.{params_of, zones_of};
     ghost use Rattle.zone_spec.specs.Layouts.{zones_end};
-    ghost use Rattle.zone_spec.specs.Layout.{rounded};
+
     ghost use Rattle.prz_region.specs.CutRegion.{cut_at};
     ghost use Rattle.prz_region.specs.Chain.{AreSideBySide};
 
@@ -153,7 +153,7 @@ impl Region {
     /// Cuts the region, which has the layout's `mem` bytes, into a span for each zone. On a refusal the unchanged
     /// region comes back. The list of spans is the only memory taken.
     pub fn cut(self, layout: &Layout) -> Result<Spans, (Region, AllocError)>
-        requires { length self ≡ rounded (params_of layout.now).mem }
+        requires { length self ≡ (params_of layout.now).mem }
         ensures { MatchResult result (λ s. s ≡ cut_at (zones_of layout.now) self) (λ e. e.0 ≡ self) }
     {
         self.cut_zones(layout.zones())

@@ -1,7 +1,7 @@
 // The whole session of a number.
 ghost use Rattle.std.specs.Prelude.{◌≡◌, ◌++◌, List, length, replicate, decimal, IfOk, OnOk};
 ghost use Rattle.zone_spec.specs.declared.Zone.{Zone};
-ghost use Rattle.zone_spec.specs.Layout.{rounded};
+
 ghost use Rattle.machine_spec.specs.States.{Session};
 ghost use Rattle.machine_spec.specs.Stop.{session_image};
 ghost use Rattle.zone_params.specs.Laid.{params_of, zones_of};
@@ -62,9 +62,9 @@ fn summary(alloc: Global, n: u32, zones: usize, counts: &Counts) -> Result<Vec<u
 /// The session of n: the image that it leaves, and its summary.
 pub fn generate(alloc: Global, layout: Layout, n: u32) -> Result<(Bytes, Vec<u8>), AllocError>
     ensures image { IfOk result (λ r. r.0 ≡ session_image
-        (generated (zones_of layout) (rounded (params_of layout).mem) n).session) }
+        (generated (zones_of layout) (params_of layout).mem n).session) }
     ensures summary { IfOk result (λ r. r.1.items ≡ summary_of n (zones_of layout)
-        (generated (zones_of layout) (rounded (params_of layout).mem) n)) }
+        (generated (zones_of layout) (params_of layout).mem n)) }
 {
     Targets::check(&layout);
     let plan = RoundPlan::new(alloc, layout.zones())?;

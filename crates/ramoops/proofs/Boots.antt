@@ -37,7 +37,7 @@ use Rattle.ramoops.specs.OffSeen.{OffSeen, shown_cut, known_all, StandsForKnown,
 use Rattle.ramoops.specs.LiveSeen.{LiveSeen, StandsForZone, StandsLive}
 use Rattle.ramoops.specs.Running.{IsHeld, IsRunning}
 use Rattle.ramoops.specs.Reports.{report_seen, report_cut, report_zone}
-use Rattle.zone_spec.specs.Layout.{rounded}
+
 use Rattle.zone_params.specs.Laid.{params_of, zones_of}
 use Rattle.ramoops.specs.declared.off.OpenOff.{OpenOff}
 use Rattle.ramoops.specs.declared.booting.Prepared.{Prepared}
@@ -214,7 +214,7 @@ module _ (v : OffSeen) (o : OpenOff) (is : IsOpen v o) where
   L = zones_of o.layout
 
   abbrev M : ℕ
-  M = rounded (params_of o.layout).mem
+  M = (params_of o.layout).mem
 
   abbrev K : List KnownZone
   K = known_all (length L) o.zones.items

@@ -9,7 +9,7 @@ use Rattle.zone_spec.specs.Boot.{boot_stores, told_by_boot}
 use Rattle.prz_read.specs.Saving.{SavedLogs}
 use Rattle.prz_region.specs.CutRegion.{CutRegion, span, cut_at}
 use Rattle.zone_spec.specs.Parts.{AreBytes}
-use Rattle.zone_spec.specs.Layout.{rounded}
+
 use Rattle.zone_spec.specs.Layouts.{IsLayout}
 use Rattle.zone_params.specs.Laid.{params_of, zones_of}
 use Rattle.ramoops.specs.OffSeen.{OffSeen, known_all}
@@ -86,13 +86,13 @@ Settles layout old new = SettlesTo layout old new (length layout)
 pub record IsOpen (v : OffSeen) (o : OpenOff) : Type 0 where
   pub seen : v ≡ record {
     layout = zones_of o.layout;
-    mem = rounded (params_of o.layout).mem;
+    mem = (params_of o.layout).mem;
     image = v.image;
     zones = known_all (length (zones_of o.layout)) o.zones.items;
   }
   pub spans : o.spans ≡ cut_at (zones_of o.layout) v.image
-  pub lies : IsLayout (zones_of o.layout) (rounded (params_of o.layout).mem)
-  pub size : length v.image ≡ rounded (params_of o.layout).mem
+  pub lies : IsLayout (zones_of o.layout) (params_of o.layout).mem
+  pub size : length v.image ≡ (params_of o.layout).mem
   pub bytes : AreBytes v.image
   pub known : length o.zones.items ≤ length (zones_of o.layout)
   pub resting : IsResting v
@@ -101,7 +101,7 @@ pub record IsOpen (v : OffSeen) (o : OpenOff) : Type 0 where
 abbrev pub seen_off : OpenOff → OffSeen
 seen_off o = record {
   layout = zones_of o.layout;
-  mem = rounded (params_of o.layout).mem;
+  mem = (params_of o.layout).mem;
   image = concat o.spans.spans ++ o.spans.rest;
   zones = known_all (length (zones_of o.layout)) o.zones.items;
 }
@@ -110,7 +110,7 @@ seen_off o = record {
 abbrev pub seen_booted : OpenOff → List HeldZone → LiveSeen
 seen_booted o held = record {
   layout = zones_of o.layout;
-  mem = rounded (params_of o.layout).mem;
+  mem = (params_of o.layout).mem;
   spans = o.spans;
   zones = held;
   cursor = 0;

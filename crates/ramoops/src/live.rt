@@ -51,7 +51,7 @@ pub struct Live {
 }
 
 impl Model for Live {
-    ghost use Rattle.zone_spec.specs.Layout.{rounded};
+
     ghost use Rattle.zone_params.specs.Laid.{params_of, zones_of};
     ghost use Rattle.ramoops.specs.LiveSeen.{LiveSeen};
 
@@ -65,7 +65,7 @@ impl Model for Live {
 
     ghost view = { λ l. record {
       layout = zones_of l.layout;
-      mem = rounded (params_of l.layout).mem;
+      mem = (params_of l.layout).mem;
       spans = l.spans;
       zones = l.zones.items;
       cursor = cursor_at l.cursor;
@@ -73,7 +73,7 @@ impl Model for Live {
 
     ghost invariant = { λ l. IsRunning (record {
       layout = zones_of l.layout;
-      mem = rounded (params_of l.layout).mem;
+      mem = (params_of l.layout).mem;
       spans = l.spans;
       zones = l.zones.items;
       cursor = cursor_at l.cursor;

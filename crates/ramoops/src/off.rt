@@ -52,16 +52,16 @@ impl Model for Off {
 
     ghost view = { λ o. record {
       layout = zones_of o.layout;
-      mem = rounded (params_of o.layout).mem;
+      mem = (params_of o.layout).mem;
       image = o.image;
       zones = known_all (length (zones_of o.layout)) o.zones.items;
     } };
 
-    ghost invariant = { λ o. (length o.image ≡ rounded (params_of o.layout).mem)
+    ghost invariant = { λ o. (length o.image ≡ (params_of o.layout).mem)
         × (length o.zones.items ≤ length (zones_of o.layout))
         × IsResting (record {
           layout = zones_of o.layout;
-          mem = rounded (params_of o.layout).mem;
+          mem = (params_of o.layout).mem;
           image = o.image;
           zones = known_all (length (zones_of o.layout)) o.zones.items;
         }) };
@@ -79,7 +79,7 @@ pub struct OpenOff {
 impl OpenOff {
     // The image whole again.
     fn close(self) -> Off
-        requires size { length (concat self.spans.spans ++ self.spans.rest) ≡ rounded (params_of self.layout).mem }
+        requires size { length (concat self.spans.spans ++ self.spans.rest) ≡ (params_of self.layout).mem }
         requires known { length self.zones.items ≤ length (zones_of self.layout) }
         requires resting { IsResting (seen_off self) }
         ensures { result ≡ seen_off self }
@@ -175,8 +175,8 @@ fn emptied(mut known: Vec<KnownZone>) -> Vec<KnownZone>
 impl Off {
     /// An image of the layout's `mem` bytes, of which nothing is known. Takes no memory.
     pub fn fresh(alloc: Global, layout: Layout, image: Bytes) -> Result<Off, AllocError>
-        requires { length image ≡ rounded (params_of layout).mem }
-        ensures stands { IfOk result (λ off. StandsOff (zones_of layout) (rounded (params_of layout).mem) off
+        requires { length image ≡ (params_of layout).mem }
+        ensures stands { IfOk result (λ off. StandsOff (zones_of layout) (params_of layout).mem off
             (fresh_state (zones_of layout) image)) }
         ensures made { IsOk result }
     {

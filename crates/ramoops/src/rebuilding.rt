@@ -1,6 +1,6 @@
 // A blank store that is told the logs of another.
 ghost use Rattle.std.specs.Prelude.{◌≡◌, ◌<◌, length, map, option_to_list, replicate, slice_get, Some, None, IfOk, OnOk};
-ghost use Rattle.zone_spec.specs.Layout.{rounded};
+
 ghost use Rattle.zone_spec.specs.Records.{Saved, found};
 ghost use Rattle.zone_spec.specs.Reading.{ZoneReading};
 ghost use Rattle.std.specs.Option.{option_copied};
@@ -131,10 +131,10 @@ impl Off {
     /// zone of the log that was found of the zone of its name, and a stop. A log whose name the layout has not is left
     /// away, and of one with more bytes than its zone takes the last stay.
     pub fn rebuilt(alloc: Global, layout: Layout, logs: &Logs) -> Result<Off, AllocError>
-        ensures stands { IfOk result (λ off. StandsOff (zones_of layout) (rounded (params_of layout).mem) off
-            (moved (zones_of layout) (rounded (params_of layout).mem) (saved logs.now))) }
+        ensures stands { IfOk result (λ off. StandsOff (zones_of layout) (params_of layout).mem off
+            (moved (zones_of layout) (params_of layout).mem (saved logs.now))) }
         ensures reads { IfOk result (λ _. LogsFit (zones_of layout) (saved logs.now)
-            → ReadsAsTold (zones_of layout) (rounded (params_of layout).mem) (saved logs.now)) }
+            → ReadsAsTold (zones_of layout) (params_of layout).mem (saved logs.now)) }
     {
         let _zones = layout.zones();
         moved_image_is_sound();

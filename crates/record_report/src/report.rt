@@ -3,7 +3,7 @@ ghost use Rattle.std.specs.Prelude.{◌≡◌, ◌<◌, ◌^◌, ℕ, Some, leng
 ghost use Rattle.zone_spec.specs.declared.Zone.{Zone as ZoneValue};
 ghost use Rattle.zone_spec.specs.Zones.{IsValidZone};
 ghost use Rattle.zone_spec.specs.Layouts.{IsLayout};
-ghost use Rattle.zone_spec.specs.Layout.{rounded};
+
 ghost use Rattle.zone_params.specs.Laid.{params_of, zones_of};
 ghost use Rattle.prz_read.specs.Saving.{AreNumbered};
 ghost use Rattle.record_report.specs.Reports.{SpansFit, ReadsTo, IsReport};
@@ -124,7 +124,7 @@ pub fn report_of_zones(alloc: Global, zones: &[Zone], image: Bytes) -> Result<Re
 
 /// The report of an image by its layout.
 pub fn report_of(alloc: Global, layout: &Layout, image: Bytes) -> Result<Report, AllocError>
-    requires { length image ≡ rounded (params_of layout.now).mem }
+    requires { length image ≡ (params_of layout.now).mem }
     ensures { IfOk result (IsReport (zones_of layout.now) image) }
 {
     let _mem = layout.mem();

@@ -4,5 +4,4 @@ pub mod Packed
 pub mod Newest
 pub mod Deaths
 pub mod Escaped
-pub mod AsGiven
 pub mod Visible

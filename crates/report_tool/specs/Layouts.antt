@@ -1,15 +1,11 @@
--- The layout of parameters with the memory size as given or rounded
-use Rattle.std.specs.Prelude.{ℕ, Bool, true, false, List, Result}
-use Rattle.zone_spec.specs.declared.Zone.{Zone}
+-- Words read with the memory size as given or rounded
+use Rattle.std.specs.Prelude.{Bool, true, false, List, Result}
+use Rattle.std.specs.declared.string.String.{String}
+use Rattle.std.specs.declared.alloc.Global.{Global}
 use Rattle.zone_spec.specs.declared.params.Params.{Params}
-use Rattle.zone_spec.specs.declared.params.LayoutFault.{LayoutFault}
-use Rattle.zone_spec.specs.Layout.{layout_of, rounded}
-use Rattle.report_spec.specs.AsGiven.{layout_as_given}
+use Rattle.grammar_spec.specs.declared.faults.ParamFault.{ParamFault}
+use Rattle.grammar_spec.specs.ZoneWords.{read_of, read_as_given}
 
-abbrev pub layout_by : Bool → Params → Result (List Zone) LayoutFault
-layout_by true p = layout_as_given p
-layout_by false p = layout_of p
-
-abbrev pub memory_by : Bool → Params → ℕ
-memory_by true p = p.mem
-memory_by false p = rounded p.mem
+abbrev pub read_by : Bool → List (String Global) → Result Params ParamFault
+read_by true words = read_as_given words
+read_by false words = read_of words

@@ -5,37 +5,36 @@ use Rattle.std.specs.declared.alloc.Global.{Global}
 use Rattle.std.specs.Result.{IsOk}
 use Rattle.zone_spec.specs.declared.params.Params.{Params}
 use Rattle.zone_spec.specs.declared.params.LayoutFault.{LayoutFault}
-use Rattle.grammar_spec.specs.ZoneWords.{read_of}
-use Rattle.report_tool.specs.Layouts.{layout_by, memory_by}
+use Rattle.zone_spec.specs.Layout.{layout_of}
+use Rattle.report_tool.specs.Layouts.{read_by}
 use Rattle.report_tool.specs.declared.plan.Plan.{Plan}
 use Rattle.report_tool.specs.declared.plan.PlanFault.{PlanFault}
 use Rattle.report_tool.specs.declared.plan.PlanFault.TheVariants.{Memory, Word, Layout}
 
 -- a plan of these parameters
-pub record IsLaid (is_as_given : Bool) (p : Params) (plan : Plan) : Type 0 where
+pub record IsLaid (p : Params) (plan : Plan) : Type 0 where
   pub params_same : plan.params ≡ p
-  pub way_same : plan.is_as_given ≡ is_as_given
-  pub mem_is : plan.mem ≡ memory_by is_as_given p
-  pub zones_are : layout_by is_as_given p ≡ Ok plan.zones.items
+  pub mem_is : plan.mem ≡ p.mem
+  pub zones_are : layout_of p ≡ Ok plan.zones.items
 
 -- a plan of these words
 pub record IsPlan (words : List (String Global)) (is_as_given : Bool) (plan : Plan) : Type 0 where
-  pub read : read_of words ≡ Ok plan.params
-  pub laid : IsLaid is_as_given plan.params plan
+  pub read : read_by is_as_given words ≡ Ok plan.params
+  pub laid : IsLaid plan.params plan
 
 -- the words read as parameters whose layout has this fault, or has none
 pub record HasLayoutFault (words : List (String Global)) (is_as_given : Bool) (fault : LayoutFault) : Type 0 where
   pub params : Params
-  pub read : read_of words ≡ Ok params
-  pub faulty : layout_by is_as_given params ≡ Err fault
+  pub read : read_by is_as_given words ≡ Ok params
+  pub faulty : layout_of params ≡ Err fault
 
 pub record HasLayout (words : List (String Global)) (is_as_given : Bool) : Type 0 where
   pub params : Params
-  pub read : read_of words ≡ Ok params
-  pub faultless : IsOk (layout_by is_as_given params)
+  pub read : read_by is_as_given words ≡ Ok params
+  pub faultless : IsOk (layout_of params)
 
 -- why there is no plan: memory is wanted only where the words have a layout
 abbrev pub IsPlanFault : List (String Global) → Bool → PlanFault → Type 0
 IsPlanFault words is_as_given Memory = HasLayout words is_as_given
-IsPlanFault words is_as_given (Word fault) = read_of words ≡ Err fault
+IsPlanFault words is_as_given (Word fault) = read_by is_as_given words ≡ Err fault
 IsPlanFault words is_as_given (Layout fault) = HasLayoutFault words is_as_given fault

@@ -1,12 +1,12 @@
 // How images are read.
-ghost use Rattle.std.specs.Prelude.{◌≡◌, ◌<◌, ◌^◌, true, false, Ok, MatchResult};
+ghost use Rattle.std.specs.Prelude.{◌≡◌, ◌<◌, ◌^◌, Ok, MatchResult};
+ghost use Rattle.zone_spec.specs.Layout.{layout_of};
 ghost use Rattle.zone_params.specs.Layouts.{IsCause};
-ghost use Rattle.report_tool.specs.Layouts.{layout_by, memory_by};
+ghost use Rattle.report_tool.specs.Layouts.{read_by};
 
 use grammar_spec::ParamFault;
-use kernel_layout::layout_as_given;
 use std::alloc::{AllocError, Global};
-use zone_params::{LayoutError, layout, read_words};
+use zone_params::{DEFAULTS, LayoutError, layout, read_words, read_words_over};
 use zone_spec::{LayoutFault, Params, Zone};
 
 /// Why there is no plan.
@@ -23,40 +23,36 @@ pub enum PlanFault {
 #[derive(Drop)]
 pub struct Plan {
     pub(crate) params: Params,
-    pub(crate) is_as_given: bool,
     pub(crate) mem: u32,
     pub(crate) zones: Vec<Zone>,
-    ghost laid: { layout_by is_as_given params ≡ Ok zones.items },
-    ghost sized: { mem ≡ memory_by is_as_given params },
+    ghost laid: { layout_of params ≡ Ok zones.items },
+    ghost sized: { mem ≡ params.mem },
     ghost tagged: { params.ftrace_sig < 2 ^ 32 },
+}
+
+// The parameters of the words.
+fn read(words: &[String], is_as_given: bool) -> Result<Params, ParamFault>
+    ensures { result ≡ read_by is_as_given words.now }
+{
+    if is_as_given {
+        read_words_over(words, &DEFAULTS)
+    } else {
+        read_words(words)
+    }
 }
 
 impl Plan {
     ghost use Rattle.report_tool.specs.Plans.{IsLaid, IsPlan, IsPlanFault};
 
-    // The plan of a layout that takes the memory size as it is given.
-    fn as_given(alloc: Global, params: Params) -> Result<Plan, LayoutError>
-        ensures { MatchResult result (IsLaid true params) (IsCause (layout_by true params)) }
-    {
-        let zones = layout_as_given(alloc, &params)?;
-        Ok(Plan {
-            params,
-            is_as_given: true,
-            mem: params.mem as u32,
-            zones,
-        })
-    }
-
-    // The plan of a layout that rounds the memory size.
-    fn rounded(alloc: Global, params: Params) -> Result<Plan, LayoutError>
-        ensures { MatchResult result (IsLaid false params) (IsCause (layout_by false params)) }
+    // The plan of these parameters.
+    fn of_params(alloc: Global, params: Params) -> Result<Plan, LayoutError>
+        ensures { MatchResult result (IsLaid params) (IsCause (layout_of params)) }
     {
         let layout = layout(alloc, &params)?;
         let mem = layout.mem();
         match Vec::from_slice(alloc, layout.zones()) {
             Ok(zones) => Ok(Plan {
                 params,
-                is_as_given: false,
                 mem,
                 zones,
             }),
@@ -69,16 +65,11 @@ impl Plan {
     pub fn new(alloc: Global, words: &[String], is_as_given: bool) -> Result<Plan, PlanFault>
         ensures { MatchResult result (IsPlan words.now is_as_given) (IsPlanFault words.now is_as_given) }
     {
-        let params = match read_words(words) {
+        let params = match read(words, is_as_given) {
             Ok(params) => params,
             Err(fault) => return Err(PlanFault::Word(fault)),
         };
-        let plan = if is_as_given {
-            Plan::as_given(alloc, params)
-        } else {
-            Plan::rounded(alloc, params)
-        };
-        match plan {
+        match Plan::of_params(alloc, params) {
             Ok(plan) => Ok(plan),
             Err(LayoutError::Fault(fault)) => Err(PlanFault::Layout(fault)),
             Err(LayoutError::Memory) => Err(PlanFault::Memory),

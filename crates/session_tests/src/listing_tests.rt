@@ -145,7 +145,7 @@ const CONSOLES: &[(u64, Seen<'static>, &str, &[u8])] = &[
     (0, ABC, "records 1\nconsole-ramoops-0 3\n", b"abc"),
     (0, CUT, "records 1\nconsole-ramoops-0 6\n", b"\0\0\0abc"),
     (
-        1,
+        16,
         CORRECTED,
         "records 1\nconsole-ramoops-0 51\n",
         b"abc\nECC: 1 Corrected bytes, 0 unrecoverable blocks\n",

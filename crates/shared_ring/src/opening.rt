@@ -2,7 +2,7 @@
 ghost use Rattle.std.specs.Prelude.{◌≡◌, ◌+◌, ◌≤◌, ◌↔◌, length, IsTrue};
 ghost use Rattle.std.specs.Int.{from_le_bytes};
 ghost use Rattle.std.proofs.Common.{w32};
-ghost use Rattle.zone_spec.specs.Layout.{rounded};
+
 ghost use Rattle.zone_spec.specs.Zones.{IsValidZone};
 ghost use Rattle.zone_spec.specs.Parts.{standing_words};
 ghost use Rattle.machine_spec.specs.Zones.{zone_bytes};
@@ -60,7 +60,7 @@ fn can_share(image: &[u8], zone: &Zone) -> bool
 
 /// Tells whether the zone of this name can be opened as it stands in the image.
 pub fn can_open(image: &Bytes, layout: &Layout, name: ZoneName) -> bool
-    requires { length image.now ≡ rounded (params_of layout.now).mem }
+    requires { length image.now ≡ (params_of layout.now).mem }
     ensures { IsTrue result ↔ CanOpen (zones_of layout.now) name image.now }
 {
     match layout.find(name) {

@@ -2,7 +2,7 @@
 ghost use Rattle.std.specs.Prelude.{◌≡◌, ◌<◌, ◌≤◌, ◌+◌, ◌^◌, ◌++◌, [], length, slice_get, IfOk, IfErr, MatchResult, OnOk, OnErr, IfNone, is_some, Some, None};
 ghost use Rattle.std.specs.Int.{to_le_bytes};
 ghost use Rattle.std.proofs.Common.{w32};
-ghost use Rattle.zone_spec.specs.Layout.{rounded};
+
 ghost use Rattle.zone_spec.specs.Stores.{put};
 ghost use Rattle.prz_region.specs.CutRegion.{span, with_span};
 ghost use Rattle.zone_spec.specs.Parts.{standing_words};
@@ -71,7 +71,7 @@ impl Shared {
     /// Opens the zone of this name. It has no parity, and its words are a ring with its signature, with start below the
     /// capacity, and start equal to size until the ring is full. On a refusal the unchanged image comes back.
     pub fn open(image: Bytes, layout: Layout, zone: ZoneName) -> Result<Shared, (Bytes, AllocError)>
-        requires mem { length image ≡ rounded (params_of layout).mem }
+        requires mem { length image ≡ (params_of layout).mem }
         requires zone { CanOpen (zones_of layout) zone image }
         ensures ok { (can : CanOpen (zones_of layout) zone image) → IfOk result
             (IsLeftBy (record { image = image; zone = can.zone; operations = [] })) }

@@ -26,9 +26,9 @@ default = record {
   ecc_pmsg = 0;
 }
 
--- one value of ecc for every kind
-abbrev pub with_ecc : ℕ → Params → Params
-with_ecc ecc p = record p { ecc = ecc; ecc_dump = ecc; ecc_console = ecc; ecc_ftrace = ecc; ecc_pmsg = ecc }
+-- so many parity bytes for every kind
+abbrev pub with_parity : ℕ → Params → Params
+with_parity r p = record p { ecc = r; ecc_dump = r; ecc_console = r; ecc_ftrace = r; ecc_pmsg = r }
 
 -- a zone with the plain signature
 abbrev pub zone : ZoneName → ℕ → ℕ → ℕ → ℕ → ℕ → ℕ → Zone
@@ -54,23 +54,23 @@ four = record default { mem = 16384; ftrace = 0 }
 abbrev pub LayoutsOfTheRows : Type 0
 LayoutsOfTheRows =
     (layout_of lone ≡ Ok lone_console)
-    × (layout_of (with_ecc 2 lone) ≡ Ok (console_of_two ∷ []))
+    × (layout_of (with_parity 2 lone) ≡ Ok (console_of_two ∷ []))
     × (layout_of four ≡ Ok four_zones)
     × (layout_of (record default { mem = 4096; dump = 0; console = 0; pmsg = 0; cpus = 2 }) ≡ Ok two_processors)
 
 abbrev pub LayoutWithParity : Type 0
 LayoutWithParity =
-    layout_of (with_ecc 1 four)
+    layout_of (with_parity 16 four)
     ≡ Ok (
     zone (dump 0) 0 4096 3604 29 16 128
     ∷ zone (dump 1) 4096 4096 3604 29 16 128
     ∷ zone console 8192 4096 3604 29 16 128
     ∷ zone pmsg 12288 4096 3604 29 16 128 ∷ [])
 
--- 253 dump zones, and one of each other kind; other sizes of memory are rounded down to it
+-- 253 dump zones, and one of each other kind
 abbrev pub LayoutOfMebibyte : Type 0
 LayoutOfMebibyte =
-    (layout_of (with_ecc 1 (record default { mem = 0x100000 }))
+    (layout_of (with_parity 16 (record default { mem = 0x100000 }))
     ≡ Ok (map (λ i. zone (dump i) (4096 * i) 4096 3604 29 16 128) (range_with_len 0 253)
     ++ zone console 1036288 4096 3604 29 16 128
     ∷ zone (ftrace 0) 1040384 4096 3604 29 16 128
@@ -84,18 +84,27 @@ LayoutOfOddSizes =
     ∷ zone (dump 1) 596 596 584 5 0 128
     ∷ zone (dump 2) 1192 596 584 5 0 128
     ∷ zone console 1788 256 244 2 0 128 ∷ []))
-    × (layout_of (with_ecc 1 (record default { mem = 2048; dump = 0; console = 2048; ftrace = 0; pmsg = 0 }))
+    × (layout_of (with_parity 16 (record default { mem = 2048; dump = 0; console = 2048; ftrace = 0; pmsg = 0 }))
     ≡ Ok (zone console 0 2048 1780 15 16 128 ∷ []))
 
--- sizes are rounded down to powers of two, the memory too
+-- sizes are rounded down to powers of two, and the memory is taken as it is: the dump zones share what is left of it
 abbrev pub LayoutRoundsSizes : Type 0
 LayoutRoundsSizes =
-    (layout_of (record four { mem = 32767; dump = 8191; console = 4097; pmsg = 5000 }) ≡ Ok four_zones)
+    (layout_of (record four { dump = 8191; console = 4097; pmsg = 5000 }) ≡ Ok four_zones)
     × (layout_of (record lone { mem = 8191 }) ≡ Ok lone_console)
+    × (layout_of (record default { mem = 0x180000; dump = 0x20000 })
+    ≡ Ok (map (λ i. zone (dump i) (141870 * i) 141870 141858 1109 0 128) (range_with_len 0 11)
+    ++ zone console 1560570 4096 4084 32 0 128
+    ∷ zone (ftrace 0) 1564666 4096 4084 32 0 128
+    ∷ zone pmsg 1568762 4096 4084 32 0 128 ∷ []))
+
+-- parity is in bytes: one byte is one byte
+abbrev pub LayoutWithOneByte : Type 0
+LayoutWithOneByte = layout_of (with_parity 1 lone) ≡ Ok (zone console 0 4096 4051 32 1 128 ∷ [])
 
 abbrev pub LayoutOfSmallBlocks : Type 0
 LayoutOfSmallBlocks =
-    layout_of (record (with_ecc 1 four) { block = 32; ecc_dump = 0 })
+    layout_of (record (with_parity 16 four) { block = 32; ecc_dump = 0 })
     ≡ Ok (
     zone (dump 0) 0 4096 4084 128 0 32
     ∷ zone (dump 1) 4096 4096 4084 128 0 32
@@ -111,7 +120,7 @@ LayoutWithTag =
 abbrev pub WorkedFaults : Type 0
 WorkedFaults =
     (layout_of (record default { mem = 16777217 }) ≡ Err TooLarge)
-    × (layout_of (with_ecc 127 (record default { mem = 256; dump = 0; console = 256; ftrace = 0; pmsg = 0 }))
+    × (layout_of (with_parity 127 (record default { mem = 256; dump = 0; console = 256; ftrace = 0; pmsg = 0 }))
     ≡ Err EccInvalid)
     × (layout_of (record four { block = 100 }) ≡ Err BlockBad)
 
@@ -121,20 +130,20 @@ abbrev pub FaultsInOrder : Type 0
 FaultsInOrder =
     (layout_of (record default { dump = 0; console = 0; ftrace = 0; pmsg = 0 }) ≡ Err NoMemory)
     × (layout_of (record default { mem = 16777217; dump = 0; console = 0; ftrace = 0; pmsg = 0 }) ≡ Err NoZone)
-    × (layout_of (with_ecc 128 (record default { mem = 16777217 })) ≡ Err TooLarge)
-    × (layout_of (record (with_ecc 128 four) { block = 100 }) ≡ Err EccTooLarge)
+    × (layout_of (with_parity 128 (record default { mem = 16777217 })) ≡ Err TooLarge)
+    × (layout_of (record (with_parity 128 four) { block = 100 }) ≡ Err EccTooLarge)
     × (layout_of (record four { block = 100; cpus = 0 }) ≡ Err BlockBad)
     × (layout_of (record four { cpus = 65; mem = 4096 }) ≡ Err CpusBad)
     × (layout_of (record default { mem = 4096; dump = 0; console = 4096; ftrace = 128; pmsg = 0 }) ≡ Err NoRoom)
-    × (layout_of (with_ecc 127 (record default { mem = 256; dump = 0; console = 128; ftrace = 0; pmsg = 0 }))
+    × (layout_of (with_parity 127 (record default { mem = 256; dump = 0; console = 128; ftrace = 0; pmsg = 0 }))
     ≡ Err ZoneTooSmall)
 
--- the memory is too large as it is given, also where it would be rounded; the parity of a kind that has
--- no zone counts; dumps need room for one
+-- the parity of a kind that has no zone counts; dumps need room for one, in the memory as it is
 abbrev pub FaultsDecided : Type 0
 FaultsDecided =
-    (layout_of (record default { mem = 16777216 + 1; console = 0 }) ≡ Err TooLarge)
-    × (layout_of (record lone { ecc_ftrace = 128 }) ≡ Err EccTooLarge)
+    (layout_of (record lone { ecc_ftrace = 128 }) ≡ Err EccTooLarge)
+    × (layout_of (record default { mem = 0x180000; dump = 0x200000 }) ≡ Err NoRoom)
+    × (layout_of (record default { mem = 12289; dump = 0x20000 }) ≡ Err NoRoom)
     × (layout_of (record default { mem = 16384; dump = 8192; console = 4096; ftrace = 4096; pmsg = 4096 }) ≡ Err NoRoom)
     × (layout_of (record default { mem = 16384; dump = 8192; console = 8192; ftrace = 4096; pmsg = 4096 })
     ≡ Ok (zone console 0 8192 8180 64 0 128 ∷ zone (ftrace 0) 8192 4096 4084 32 0 128

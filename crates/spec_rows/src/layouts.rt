@@ -1,6 +1,6 @@
 //! Layouts of parameters.
 
-ghost use Rattle.spec_rows.specs.Layouts.{LayoutsOfTheRows, LayoutWithParity, LayoutOfMebibyte, LayoutOfOddSizes, LayoutRoundsSizes, LayoutOfSmallBlocks, LayoutWithTag, WorkedFaults, FaultsInOrder, FaultsDecided};
+ghost use Rattle.spec_rows.specs.Layouts.{LayoutsOfTheRows, LayoutWithParity, LayoutOfMebibyte, LayoutOfOddSizes, LayoutRoundsSizes, LayoutWithOneByte, LayoutOfSmallBlocks, LayoutWithTag, WorkedFaults, FaultsInOrder, FaultsDecided};
 
 /// The layouts that the other rows begin with.
 pub fn layouts_of_the_rows()
@@ -25,6 +25,11 @@ pub fn layout_of_odd_sizes()
 /// Sizes that are no powers of two.
 pub fn layout_rounds_sizes()
     ensures { LayoutRoundsSizes }
+{}
+
+/// One parity byte.
+pub fn layout_with_one_byte()
+    ensures { LayoutWithOneByte }
 {}
 
 /// Blocks of 32 bytes, and dump zones without parity.

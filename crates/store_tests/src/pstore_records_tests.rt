@@ -268,7 +268,7 @@ fn a_notice_follows_where_there_is_parity(rt: HostRuntime) -> Result<(), Fail> {
     let alloc = rt.alloc();
     for (corrected, bad, text) in NOTICES.iter().copied() {
         let console = zone_of(State::Found, b"abc", corrected, bad);
-        let logs = saved(alloc, &dumps(1), [empty(), empty(), console, empty()])?;
+        let logs = saved(alloc, &dumps(16), [empty(), empty(), console, empty()])?;
         assert!(rt; shows(alloc, &logs, Name::Console, text));
     }
     Ok(())
@@ -290,7 +290,7 @@ fn a_notice_counts_the_zones_that_were_found(rt: HostRuntime) -> Result<(), Fail
         ),
     ];
     for (second, text) in rows {
-        let logs = saved(alloc, &rings(1), [console, first, second, empty()])?;
+        let logs = saved(alloc, &rings(16), [console, first, second, empty()])?;
         assert!(rt; shows(alloc, &logs, Name::Ftrace, text));
     }
     Ok(())
@@ -302,7 +302,7 @@ fn a_kind_without_parity_has_no_notice(rt: HostRuntime) -> Result<(), Fail> {
     let p = Params {
         block: 32,
         ecc_dump: 0,
-        ..dumps(1)
+        ..dumps(16)
     };
     let zones = [found(b"====5.000000-D\nx"), empty(), found(b"abc"), empty()];
     let logs = saved(alloc, &p, zones)?;
@@ -406,7 +406,7 @@ fn other_texts_are_no_names(rt: HostRuntime) -> Result<(), Fail> {
 fn a_table_has_each_zone_of_a_record(rt: HostRuntime) -> Result<(), Fail> {
     let alloc = rt.alloc();
     let kept = found(b"====1700000001.000000-D\ntwo");
-    let logs = saved(alloc, &dumps(1), [empty(), kept, found(b"abc"), empty()])?;
+    let logs = saved(alloc, &dumps(16), [empty(), kept, found(b"abc"), empty()])?;
     let table = listed(alloc, &logs)?;
     let at = Time {
         secs: 1_700_000_001,

@@ -315,7 +315,7 @@ const CUT_APPENDS: &[(
         b"\0\0\0abc",
     ),
     (
-        Zones::Four(1),
+        Zones::Four(16),
         2,
         1,
         None,
@@ -323,7 +323,7 @@ const CUT_APPENDS: &[(
         b"abc",
     ),
     (
-        Zones::Four(1),
+        Zones::Four(16),
         2,
         21,
         None,
@@ -510,7 +510,7 @@ fn interleaved_appends_stop_after_each_store(rt: HostRuntime) -> Result<(), Fail
 #[test]
 fn damage_within_half_the_parity_reads_as_told(rt: HostRuntime) -> Result<(), Fail> {
     for (at, masks) in [(8204, [1; 8]), (8192, [255; 8])] {
-        let mut live = live(&rt, &four(1));
+        let mut live = live(&rt, &four(16));
         let _made = write(&rt, &mut live, CONSOLE, b"abc");
         let mut off = live.stop();
         flip_all(&rt, &mut off, at, &masks);
@@ -523,7 +523,7 @@ fn damage_within_half_the_parity_reads_as_told(rt: HostRuntime) -> Result<(), Fa
 
 #[test]
 fn damage_beyond_it_is_told(rt: HostRuntime) -> Result<(), Fail> {
-    let mut live = live(&rt, &four(1));
+    let mut live = live(&rt, &four(16));
     let _zone = live.begin(append_of(&rt, CONSOLE, 0x61, 200));
     let _made = finish(&mut live, CONSOLE);
     let mut off = live.stop();
@@ -804,7 +804,7 @@ fn a_boot_of_two_processors_stops_after_each_store(rt: HostRuntime) -> Result<()
 
 // A live store of four zones with a record in each, the third cut.
 fn recorded(rt: &(impl Abort + AllocGlobal)) -> Live {
-    let mut live = live(rt, &four(1));
+    let mut live = live(rt, &four(16));
     for zone in [dump_zone(0), dump_zone(1)] {
         assert!(rt; begin_dump(rt, &mut live, 5, 6, b"x") == zone);
         assert!(rt; finish(&mut live, zone) > 16);
@@ -866,7 +866,7 @@ fn a_refused_stopped_boot_leaves_all(rt: HostRuntime) -> Result<(), Fail> {
 // The same for the first boot of a store, which is made without memory.
 #[test]
 fn a_refused_first_boot_can_be_asked_for_again(rt: HostRuntime) -> Result<(), Fail> {
-    let off = zeros(&rt, &four(1));
+    let off = zeros(&rt, &four(16));
     let (_, logs, report) = match off.boot() {
         Ok(booted) => booted,
         Err((off, _refused)) => {

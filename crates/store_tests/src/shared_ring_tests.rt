@@ -1,7 +1,7 @@
 // What no clause says: that the calls find memory, worked cases, and three calls in four orders, stopped after every
 // step.
 ghost use Rattle.std.specs.Prelude.{◌≡◌, length, IfOk};
-ghost use Rattle.zone_spec.specs.Layout.{rounded};
+
 ghost use Rattle.zone_params.specs.Laid.{params_of};
 
 use outside::Bytes;
@@ -47,7 +47,7 @@ fn zeros(alloc: Global, count: u32) -> Result<Bytes, AllocError>
 
 // The image of an ftrace zone whose words are a start, which is also its size.
 fn image(alloc: Global, layout: &Layout, start: u8) -> Result<Bytes, AllocError>
-    ensures { IfOk result (λ bytes. length bytes ≡ rounded (params_of layout.now).mem) }
+    ensures { IfOk result (λ bytes. length bytes ≡ (params_of layout.now).mem) }
 {
     let mut image = zeros(alloc, layout.mem())?;
     if image.len() < 12 {

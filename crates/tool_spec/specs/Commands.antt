@@ -4,7 +4,7 @@ use Rattle.zone_spec.specs.declared.Zone.{Zone}
 use Rattle.zone_spec.specs.declared.ZoneName.{ZoneName}
 use Rattle.zone_spec.specs.declared.params.Params.{Params}
 use Rattle.zone_spec.specs.declared.params.LayoutFault.{LayoutFault}
-use Rattle.zone_spec.specs.Layout.{rounded, layout_of}
+use Rattle.zone_spec.specs.Layout.{layout_of}
 use Rattle.zone_spec.specs.Records.{Saved, Listed}
 use Rattle.zone_spec.specs.Notices.{content}
 use Rattle.zone_spec.specs.Reading.{ZoneReading}
@@ -209,10 +209,10 @@ plan_of words = planned (asked words)
 
 -- the bytes of the image
 abbrev pub mem_of : RamPlan → ℕ
-mem_of plan = rounded plan.params.mem
+mem_of plan = plan.params.mem
 
 abbrev pub laid_mem : Laid → ℕ
-laid_mem laid = rounded laid.params.mem
+laid_mem laid = laid.params.mem
 
 -- ---- what a command wants
 
@@ -329,9 +329,9 @@ wanted_of params layout image script (ExtractRecord name) =
 wanted_of params layout image script (EraseRecord name) =
     let live = after_boot layout image in wanted_erase layout live (named (saved_logs layout live) name)
 wanted_of params layout image script ShowLayout = shows (layout_text params layout ∷ [])
-wanted_of params layout image script BlankImage = leaves (replicate (rounded params.mem) 0)
+wanted_of params layout image script BlankImage = leaves (replicate params.mem 0)
 wanted_of params layout image script RunShared = wanted_shared layout image script
-wanted_of params layout image script (MakeImage n) = wanted_make n layout (generated layout (rounded params.mem) n)
+wanted_of params layout image script (MakeImage n) = wanted_make n layout (generated layout params.mem n)
 wanted_of params layout dump script FindRings = shows (rings_text (rings dump layout) ∷ [])
 wanted_of params layout dump script (ReadRing at name) = wanted_ring (read_at dump layout at name)
 

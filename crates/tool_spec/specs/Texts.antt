@@ -15,7 +15,7 @@ use Rattle.zone_spec.specs.declared.Verdict.TheVariants.{NothingTold, AsTold, Di
 use Rattle.zone_spec.specs.declared.Time.{Time}
 use Rattle.zone_spec.specs.declared.params.Params.{Params}
 use Rattle.zone_spec.specs.declared.Name.{Name}
-use Rattle.zone_spec.specs.Layout.{rounded, parity_bytes, ecc_of}
+use Rattle.zone_spec.specs.Layout.{ecc_of}
 use Rattle.zone_spec.specs.Reading.{ZoneReading}
 use Rattle.zone_spec.specs.TimeLines.{six_digits}
 use Rattle.zone_spec.specs.Names.{name_text}
@@ -36,7 +36,7 @@ newline = 10 ∷ []
 -- blocks have 128 bytes, and each kind has the parity that `ecc` asks for
 abbrev pub is_uniform : Params → Bool
 is_uniform p =
-    (p.block == 128) && list_all (λ kind. parity_bytes (ecc_of p kind) == parity_bytes p.ecc)
+    (p.block == 128) && list_all (λ kind. ecc_of p kind == p.ecc)
     (Dump ∷ Console ∷ Ftrace ∷ Pmsg ∷ [])
 
 -- ` parity R block K`, where parameters are not uniform
@@ -53,7 +53,7 @@ layout_line uniform z =
 -- `mem M parity R zones Z`, and a line for each zone
 abbrev pub layout_text : Params → List Zone → Text
 layout_text p zones =
-    codes "mem " ++ decimal (rounded p.mem) ++ codes " parity " ++ decimal (parity_bytes p.ecc)
+    codes "mem " ++ decimal p.mem ++ codes " parity " ++ decimal p.ecc
     ++ codes " zones " ++ decimal (length zones) ++ newline ++ flat_map (λ z. layout_line (is_uniform p) z) zones
 
 -- ---- a boot

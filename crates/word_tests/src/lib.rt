@@ -2,8 +2,6 @@
 #![tactic(auto)]
 
 #[cfg(test)]
-mod kernel_layout_tests;
-#[cfg(test)]
 mod outside_tests;
 #[cfg(test)]
 mod param_words_tests;

@@ -1,4 +1,5 @@
 use std::alloc::{AllocError, Global};
+use std::test::Fail;
 use zone_params::*;
 
 fn words_of(alloc: Global, line: &str) -> Result<Vec<String>, AllocError> {
@@ -143,6 +144,37 @@ fn ftrace_zones_have_the_tag(rt: HostRuntime) {
     assert!(rt; shape(&l, Kind::Ftrace, 1) == Some((2048, 2048, 2036, 16)));
     assert!(rt; l.zones().get(1).map(|z| z.sig) == Some(0x43474245));
     assert!(rt; l.parity_of(Kind::Ftrace) == 0);
+}
+
+// `mem_size` is rounded down, unless it is taken as given: the kernel makes 11 dump zones of 141870 bytes of one and a
+// half mebibytes.
+#[test]
+fn memory_is_rounded_or_as_given(rt: HostRuntime) -> Result<(), Fail> {
+    let words = words_of(rt.alloc(), "mem_size=0x180000 record_size=0x20000")?;
+    let rounded = read_words(&words).map_err(|_| "no parameters")?;
+    assert!(rt; rounded.mem == 0x100000);
+    let given = read_words_over(&words, &DEFAULTS).map_err(|_| "no parameters")?;
+    assert!(rt; given.mem == 0x180000);
+    let l = layout(rt.alloc(), &given)?;
+    assert!(rt; (l.mem(), l.zones().len()) == (0x180000, 14));
+    for i in 0..11u32 {
+        let at = 141870u32.wrapping_mul(i);
+        assert!(rt; shape(&l, Kind::Dump, i).map(|s| (s.0, s.1)) == Some((at, 141870)));
+    }
+    assert!(rt; shape(&l, Kind::Console, 0).map(|s| (s.0, s.1)) == Some((1560570, 4096)));
+    Ok(())
+}
+
+// `ecc=1` is 16 parity bytes, and so is a kind's own 1.
+#[test]
+fn one_is_sixteen(rt: HostRuntime) -> Result<(), Fail> {
+    let words = words_of(rt.alloc(), "ecc=1 ecc_dump=2 ecc_pmsg=1")?;
+    let p = read_words(&words).map_err(|_| "no parameters")?;
+    assert!(rt; (p.ecc, p.ecc_dump, p.ecc_console, p.ecc_ftrace, p.ecc_pmsg) == (16, 2, 16, 16, 16));
+    let words = words_of(rt.alloc(), "ecc=2 ecc_dump=1")?;
+    let p = read_words(&words).map_err(|_| "no parameters")?;
+    assert!(rt; (p.ecc, p.ecc_dump, p.ecc_pmsg) == (2, 16, 2));
+    Ok(())
 }
 
 const FAULTS: &[(&str, u32)] = &[

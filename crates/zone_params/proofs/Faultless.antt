@@ -11,7 +11,7 @@ use Rattle.zone_spec.specs.declared.Zone.{Zone}
 use Rattle.zone_spec.specs.declared.params.Params.{Params}
 use Rattle.zone_spec.specs.declared.params.Row.{Row}
 use Rattle.zone_spec.specs.declared.params.LayoutFault.{LayoutFault}
-use Rattle.zone_spec.specs.Layout.{rounded, even, dump_memory, dump_count, one_row, rows, parity_bytes, ecc_of, zone_at, zones_from, parameter_faults, first_fault}
+use Rattle.zone_spec.specs.Layout.{rounded, even, dump_memory, dump_count, one_row, rows, ecc_of, zone_at, zones_from, parameter_faults, first_fault}
 use Rattle.zone_params.specs.Rows.{taken, all_taken}
 use Rattle.zone_params.proofs.Rounding.{rounded_le}
 
@@ -43,7 +43,7 @@ pub record IsFaultless (p : Params) : Type 0 where
   pub block : (p.block ≡ 32) ⊎ (p.block ≡ 64) ⊎ (p.block ≡ 128)
   pub cpus_least : 0 < p.cpus
   pub cpus_most : p.cpus ≤ 64
-  pub room : rounded p.console + rounded p.ftrace + rounded p.pmsg ≤ rounded p.mem
+  pub room : rounded p.console + rounded p.ftrace + rounded p.pmsg ≤ p.mem
 
 block_cases : (k : ℕ) → not (list_any (λ b. k == b) (32 ∷ 64 ∷ 128 ∷ [])) ≡ false → (k ≡ 32) ⊎ (k ≡ 64) ⊎ (k ≡ 128)
 block_cases k h = by (k == 32) (k == 64) (k == 128) refl refl refl h
@@ -61,7 +61,7 @@ faultless p h =
     let eccs = none_pass (nat_lt 127) (p.ecc ∷ p.ecc_dump ∷ p.ecc_console ∷ p.ecc_ftrace ∷ p.ecc_pmsg ∷ [])
     each.1.1.1.0 in
     let cpus = or_clear (p.cpus == 0) (nat_lt 64 p.cpus) each.1.1.1.1.1.0 in
-    let room = or_clear (nat_lt (rounded p.mem) (rounded p.console + rounded p.ftrace + rounded p.pmsg))
+    let room = or_clear (nat_lt p.mem (rounded p.console + rounded p.ftrace + rounded p.pmsg))
     (nat_lt 0 (dump_memory p) && nat_lt (dump_memory p) (rounded p.dump)) each.1.1.1.1.1.1.0 in
     record {
       memory = ltb-false _ _ each.1.1.0;
@@ -76,18 +76,11 @@ faultless p h =
       room = ltb-false _ _ room.0;
     }
 
-pub parity_at_most : (ecc : ℕ) → ecc ≤ 127 → parity_bytes ecc ≤ 127
-parity_at_most ecc h = either_way (ecc == 1)
-  where
-    either_way : (b : Bool) → (if b then 16 else ecc) ≤ 127
-    either_way true = omega arith
-    either_way false = h
-
-pub parity_within : (p : Params) (kind : Kind) → IsFaultless p → parity_bytes (ecc_of p kind) ≤ 127
-parity_within p Dump f = parity_at_most p.ecc_dump f.ecc_dump
-parity_within p Console f = parity_at_most p.ecc_console f.ecc_console
-parity_within p Ftrace f = parity_at_most p.ecc_ftrace f.ecc_ftrace
-parity_within p Pmsg f = parity_at_most p.ecc_pmsg f.ecc_pmsg
+pub parity_within : (p : Params) (kind : Kind) → IsFaultless p → ecc_of p kind ≤ 127
+parity_within p Dump f = f.ecc_dump
+parity_within p Console f = f.ecc_console
+parity_within p Ftrace f = f.ecc_ftrace
+parity_within p Pmsg f = f.ecc_pmsg
 
 pub block_positive : (p : Params) → IsFaultless p → 0 < p.block
 block_positive p f = elim f.block [ inl h ↦ omega arith | inr t ↦ elim t [ inl h ↦ omega arith | inr h ↦ omega arith ] ]
@@ -159,30 +152,30 @@ AreWithin most rows = AllByRecursion (λ row. Within row most) rows
 wider : (row : Row) (m n : ℕ) → m ≤ n → Within row m → Within row n
 wider row m n h w = record { all = omega (arith, w.all); each = omega (arith, w.each); count = omega (arith, w.count) }
 
-pub rows_within : (p : Params) → IsFaultless p → AreWithin (rounded p.mem) (rows p)
+pub rows_within : (p : Params) → IsFaultless p → AreWithin p.mem (rows p)
 rows_within p f =
     let room = f.room in (
-      wider _ (dump_memory p) (rounded p.mem) (omega arith) (dump_within p),
+      wider _ (dump_memory p) p.mem (omega arith) (dump_within p),
       (
-        wider _ (rounded p.console) (rounded p.mem) (omega arith) (one_within Console (rounded p.console)),
+        wider _ (rounded p.console) p.mem (omega arith) (one_within Console (rounded p.console)),
         (
-          wider _ (rounded p.ftrace) (rounded p.mem) (omega arith) (ftrace_within p f.cpus_most),
-          (wider _ (rounded p.pmsg) (rounded p.mem) (omega arith) (one_within Pmsg (rounded p.pmsg)), tt),
+          wider _ (rounded p.ftrace) p.mem (omega arith) (ftrace_within p f.cpus_most),
+          (wider _ (rounded p.pmsg) p.mem (omega arith) (one_within Pmsg (rounded p.pmsg)), tt),
         ),
       ),
     )
 
-pub rows_total : (p : Params) → IsFaultless p → all_taken (rows p) ≤ rounded p.mem
+pub rows_total : (p : Params) → IsFaultless p → all_taken (rows p) ≤ p.mem
 rows_total p f = totals (dump_within p).all (one_within Console (rounded p.console)).all
     (ftrace_within p f.cpus_most).all (one_within Pmsg (rounded p.pmsg)).all f.room
   where
     totals : {a b c d : ℕ} → a ≤ dump_memory p → b ≤ rounded p.console → c ≤ rounded p.ftrace → d ≤ rounded p.pmsg
-        → rounded p.console + rounded p.ftrace + rounded p.pmsg ≤ rounded p.mem
-        → a + (b + (c + (d + 0))) ≤ rounded p.mem
+        → rounded p.console + rounded p.ftrace + rounded p.pmsg ≤ p.mem
+        → a + (b + (c + (d + 0))) ≤ p.mem
     totals u v w x room = omega arith
 
-pub mem_small : (p : Params) → IsFaultless p → rounded p.mem ≤ 2 ^ 24
-mem_small p f = omega (arith, rounded_le p.mem, f.memory)
+pub mem_small : (p : Params) → IsFaultless p → p.mem ≤ 2 ^ 24
+mem_small p f = f.memory
 
 -- ---- tests over the zones
 

@@ -16,9 +16,9 @@ use Rattle.zone_spec.specs.declared.params.Row.{Row}
 use Rattle.zone_spec.specs.declared.params.LayoutFault.{LayoutFault}
 use Rattle.zone_spec.specs.Zones.{IsValidZone}
 use Rattle.zone_spec.specs.Layouts.{zones_end, IsLayout}
-use Rattle.zone_spec.specs.Layout.{rounded, rows, zone_at, zones_from, parameter_faults, zone_faults, first_fault, ok_unless, layout_of, parity_bytes, ecc_of, tag_of}
+use Rattle.zone_spec.specs.Layout.{rows, zone_at, zones_from, parameter_faults, zone_faults, first_fault, ok_unless, layout_of, ecc_of, tag_of}
 use Rattle.zone_params.specs.Rows.{taken, all_taken}
-use Rattle.zone_params.proofs.Faultless.{IsFaultless, faultless, rows_total, mem_small, rows_within, parity_at_most, parity_within, block_at_most, each_clear, or_clear, small_rows, any_in_rows}
+use Rattle.zone_params.proofs.Faultless.{IsFaultless, faultless, rows_total, mem_small, rows_within, parity_within, block_at_most, each_clear, or_clear, small_rows, any_in_rows}
 use Rattle.zone_params.proofs.LaidOut.{by_faults, of_row}
 
 -- what an answer of zones says of the faults
@@ -39,14 +39,14 @@ no_fault p zones h =
     zones (zones_from p 0 (rows p)) (sym (by_faults p) ∙ h) in
     record { of_parameters = parts.0; of_zones = parts.1; same = parts.2 }
 
-pub layout_mem_small : (p : Params) (zones : List Zone) → layout_of p ≡ Ok zones → rounded p.mem ≤ 2 ^ 24
+pub layout_mem_small : (p : Params) (zones : List Zone) → layout_of p ≡ Ok zones → p.mem ≤ 2 ^ 24
 layout_mem_small p zones h = mem_small p (faultless p (no_fault p zones h).of_parameters)
 
-pub layout_parity_small : (p : Params) (zones : List Zone) → layout_of p ≡ Ok zones → parity_bytes p.ecc ≤ 127
-layout_parity_small p zones h = parity_at_most p.ecc (faultless p (no_fault p zones h).of_parameters).ecc
+pub layout_parity_small : (p : Params) (zones : List Zone) → layout_of p ≡ Ok zones → p.ecc ≤ 127
+layout_parity_small p zones h = (faultless p (no_fault p zones h).of_parameters).ecc
 
 pub layout_kind_small : (p : Params) (zones : List Zone) (kind : Kind) → layout_of p ≡ Ok zones
-    → parity_bytes (ecc_of p kind) ≤ 127
+    → ecc_of p kind ≤ 127
 layout_kind_small p zones kind h = parity_within p kind (faultless p (no_fault p zones h).of_parameters)
 
 pub layout_block_small : (p : Params) (zones : List Zone) → layout_of p ≡ Ok zones → p.block ≤ 128
@@ -221,7 +221,7 @@ rows_end_at p at (row ∷ rows) =
 
 -- the zones of a layout are valid, follow one another from 0 on, and end within the memory
 pub whole_layout : (p : Params) (zones : List Zone) → p.ftrace_sig < 2 ^ 32 → layout_of p ≡ Ok zones
-    → IsLayout zones (rounded p.mem)
+    → IsLayout zones p.mem
 whole_layout p zones tag h =
     let n = no_fault p zones h in
     let f = faultless p n.of_parameters in

@@ -4,7 +4,7 @@ use Rattle.zone_spec.specs.declared.Zone.{Zone}
 use Rattle.zone_spec.specs.declared.ZoneName.{ZoneName}
 use Rattle.zone_spec.specs.declared.params.Params.{Params}
 use Rattle.zone_spec.specs.declared.params.Row.{Row}
-use Rattle.zone_spec.specs.Layout.{layout_of, rounded, rows as rows_of, zones_from}
+use Rattle.zone_spec.specs.Layout.{layout_of, rows as rows_of, zones_from}
 use Rattle.zone_spec.specs.Layouts.{is_zone}
 use Rattle.zone_params.specs.declared.finding.Found.{Found}
 
@@ -18,7 +18,7 @@ pub record IsFound (p : Params) (name : ZoneName) (found : Found) : Type 0 where
   pub laid : layout_of p ≡ Ok all
   pub zone : found.zone ≡ zone_named all name
   pub zones : found.zones ≡ length all
-  pub mem : found.mem ≡ rounded p.mem
+  pub mem : found.mem ≡ p.mem
 
 -- there is a layout, of these rows
 pub record HasRows (p : Params) (rows : List Row) : Type 0 where

@@ -4,7 +4,7 @@ use Rattle.zone_spec.specs.declared.Zone.{Zone}
 use Rattle.zone_spec.specs.declared.params.Params.{Params}
 use Rattle.zone_spec.specs.declared.params.LayoutFault.{LayoutFault}
 use Rattle.zone_spec.specs.Layouts.{IsLayout}
-use Rattle.zone_spec.specs.Layout.{layout_of, rounded}
+use Rattle.zone_spec.specs.Layout.{layout_of}
 use Rattle.zone_params.specs.declared.faults.LayoutError.{LayoutError}
 use Rattle.zone_params.specs.declared.faults.LayoutError.TheVariants.{Fault, Memory}
 
@@ -15,4 +15,4 @@ IsCause laid Memory = IsOk laid
 
 abbrev pub LayoutsAreWhole : Type 0
 LayoutsAreWhole = (p : Params) (zones : List Zone) → p.ftrace_sig < 2 ^ 32 → layout_of p ≡ Ok zones
-    → IsLayout zones (rounded p.mem)
+    → IsLayout zones p.mem

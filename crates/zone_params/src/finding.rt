@@ -65,6 +65,6 @@ pub fn find(p: &Params, name: ZoneName) -> Result<Found, LayoutFault>
     Ok(Found {
         zone: find_in(p, &rows, name),
         zones: count_in(&rows),
-        mem: rows::rounded(p.mem) as u32,
+        mem: p.mem as u32,
     })
 }

@@ -43,8 +43,8 @@ pub fn list_zones(alloc: Global, p: &Params, rows: &[Row]) -> Result<Vec<Zone>, 
 }
 
 /// The layout of the parameters (`fs/pstore/ram.c`, `ramoops_probe` and `ramoops_init_przs`), or their first fault.
-/// Sizes are rounded down to powers of two, and the sizes of dump and ftrace zones down to even. That `mem` is rounded
-/// too is the project's own choice.
+/// The sizes of zones are rounded down to powers of two, and those of dump and ftrace zones then to even; `mem` is taken
+/// as it is.
 pub fn layout(alloc: Global, p: &Params) -> Result<Layout, LayoutError>
     ensures { MatchResult result (λ l. (params_of l ≡ p.now) × (layout_of p.now ≡ Ok (zones_of l)))
         (IsCause (layout_of p.now)) }

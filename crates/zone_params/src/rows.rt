@@ -1,7 +1,7 @@
 // The zones of each kind, and what is wrong with them.
 ghost use Rattle.std.specs.Prelude.{◌≡◌, ℕ, ◌≤◌, ◌<◌, ◌^◌, ◌==◌, ◌&&◌, ◌+◌, ◌*◌, ◌||◌, [], ◌∷◌, nat_lt, sum_by, None};
 ghost use Rattle.std.specs.List.{All, list_any, list_all};
-ghost use Rattle.zone_spec.specs.Layout.{rounded as rounded_of, parity_bytes, ecc_of, rows as rows_of, zone_at as zone_of, parameter_faults, first_fault, zone_faults, zones_from, dump_memory, tag_of};
+ghost use Rattle.zone_spec.specs.Layout.{rounded as rounded_of, ecc_of, rows as rows_of, zone_at as zone_of, parameter_faults, first_fault, zone_faults, zones_from, dump_memory, tag_of};
 ghost use Rattle.zone_spec.specs.Layouts.{zone_place};
 ghost use Rattle.zone_spec.specs.Records.{is_of};
 ghost use Rattle.zone_spec.specs.Zones.{blocks_in as blocks_of};
@@ -26,7 +26,8 @@ pub fn rounded(size: u64) -> u64
     if size == 0 { 0 } else { 1 << size.ilog2() }
 }
 
-fn ecc(p: &Params, kind: Kind) -> u64
+/// The parity bytes of a kind.
+pub fn parity(p: &Params, kind: Kind) -> u64
     ensures { result ≡ ecc_of p.now kind }
 {
     match kind {
@@ -35,19 +36,6 @@ fn ecc(p: &Params, kind: Kind) -> u64
         Kind::Ftrace => p.ecc_ftrace,
         Kind::Pmsg => p.ecc_pmsg,
     }
-}
-
-/// The parity bytes that an ecc value asks for.
-pub fn parity_bytes(ecc: u64) -> u64
-    ensures { result ≡ parity_bytes ecc }
-{
-    if ecc == 1 { 16 } else { ecc }
-}
-
-pub fn parity(p: &Params, kind: Kind) -> u64
-    ensures { result ≡ parity_bytes (ecc_of p.now kind) }
-{
-    parity_bytes(ecc(p, kind))
 }
 
 /// The first fault that holds.
@@ -89,19 +77,19 @@ pub fn is_block(size: u64) -> bool
 }
 
 fn lacks_room(p: &Params) -> bool
-    ensures { result ≡ (nat_lt (rounded_of p.now.mem) (rounded_of p.now.console + rounded_of p.now.ftrace
+    ensures { result ≡ (nat_lt p.now.mem (rounded_of p.now.console + rounded_of p.now.ftrace
         + rounded_of p.now.pmsg)
         || (nat_lt 0 (dump_memory p.now) && nat_lt (dump_memory p.now) (rounded_of p.now.dump))) }
 {
-    let mem = rounded(p.mem);
     let console = rounded(p.console);
     let ftrace = rounded(p.ftrace);
     let pmsg = rounded(p.pmsg);
-    let dumps = mem
+    let dumps = p
+        .mem
         .saturating_sub(console)
         .saturating_sub(ftrace)
         .saturating_sub(pmsg);
-    u128::from(console) + u128::from(ftrace) + u128::from(pmsg) > u128::from(mem)
+    u128::from(console) + u128::from(ftrace) + u128::from(pmsg) > u128::from(p.mem)
         || (dumps > 0 && dumps < rounded(p.dump))
 }
 
@@ -129,7 +117,7 @@ pub fn rows(p: &Params) -> [Row; 4]
     let ftrace = rounded(p.ftrace);
     let pmsg = rounded(p.pmsg);
     let record = rounded(p.dump);
-    let memory = rounded(p.mem) - console - ftrace - pmsg;
+    let memory = p.mem - console - ftrace - pmsg;
     let dumps = if record == 0 { 0 } else { memory / record };
     let dump = if dumps == 0 { 0 } else { memory / dumps };
     [

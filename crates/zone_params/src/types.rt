@@ -1,7 +1,7 @@
 //! The layout of a store's zones.
 ghost use Rattle.std.specs.Prelude.{◌≡◌, ◌^◌, ◌<◌, Ok};
 ghost use Rattle.zone_spec.specs.Layouts.{zone_place, IsLayout};
-ghost use Rattle.zone_spec.specs.Layout.{layout_of, rounded as rounded_of, parity_bytes, ecc_of};
+ghost use Rattle.zone_spec.specs.Layout.{layout_of, ecc_of};
 
 use crate::rows;
 use zone_spec::{Kind, Params, Zone, ZoneName};
@@ -28,21 +28,21 @@ impl Layout {
 
     /// The bytes of the image.
     pub fn mem(&self) -> u32
-        ensures { result ≡ rounded_of (params_of self.now).mem }
+        ensures { result ≡ (params_of self.now).mem }
     {
-        rows::rounded(self.params.mem) as u32
+        self.params.mem as u32
     }
 
-    /// The parity bytes of the parameter `ecc`, also where no kind has them.
+    /// The parity bytes that kinds without a value of their own have, also where there is no such kind.
     pub fn parity(&self) -> u32
-        ensures { result ≡ parity_bytes (params_of self.now).ecc }
+        ensures { result ≡ (params_of self.now).ecc }
     {
-        rows::parity_bytes(self.params.ecc) as u32
+        self.params.ecc as u32
     }
 
     /// The parity bytes of each part of a zone of this kind, also where there is no such zone.
     pub fn parity_of(&self, kind: Kind) -> u32
-        ensures { result ≡ parity_bytes (ecc_of (params_of self.now) kind) }
+        ensures { result ≡ ecc_of (params_of self.now) kind }
     {
         rows::parity(&self.params, kind) as u32
     }
@@ -57,7 +57,7 @@ impl Layout {
     /// The zones, in the order in which they lie.
     pub fn zones(&self) -> &[Zone]
         ensures value { result.now ≡ zones_of self.now }
-        ensures laid_out { IsLayout result.now (rounded_of (params_of self.now).mem) }
+        ensures laid_out { IsLayout result.now (params_of self.now).mem }
         ensures names { NamesDiffer result.now }
     {
         &self.zones

@@ -25,7 +25,7 @@ even n = 2 * (n / 2)
 
 -- the memory that the other zones leave to the dump zones
 abbrev pub dump_memory : Params → ℕ
-dump_memory p = rounded p.mem - rounded p.console - rounded p.ftrace - rounded p.pmsg
+dump_memory p = p.mem - rounded p.console - rounded p.ftrace - rounded p.pmsg
 
 abbrev pub dump_count : Params → ℕ
 dump_count p = if rounded p.dump == 0 then 0 else dump_memory p / rounded p.dump
@@ -46,10 +46,7 @@ rows p =
     }
     ∷ one_row Pmsg (rounded p.pmsg) ∷ []
 
--- the parity bytes that an ecc value asks for
-abbrev pub parity_bytes : ℕ → ℕ
-parity_bytes ecc = if ecc == 1 then 16 else ecc
-
+-- the parity bytes of a kind
 abbrev pub ecc_of : Params → Kind → ℕ
 ecc_of p Dump = p.ecc_dump
 ecc_of p Console = p.ecc_console
@@ -63,7 +60,7 @@ tag_of p other = 0
 -- a zone of this size from this place on, with the parity of its kind
 abbrev pub zone_at : Params → Kind → ℕ → ℕ → ℕ → Zone
 zone_at p kind size index at =
-    let r = parity_bytes (ecc_of p kind) in
+    let r = ecc_of p kind in
     let blocks = blocks_in size r p.block in
     record {
       name = record { kind = kind; index = index };
@@ -96,7 +93,7 @@ parameter_faults p =
     ∷ (list_any (nat_lt 127) (p.ecc ∷ p.ecc_dump ∷ p.ecc_console ∷ p.ecc_ftrace ∷ p.ecc_pmsg ∷ []), EccTooLarge)
     ∷ (not (list_any (λ k. p.block == k) (32 ∷ 64 ∷ 128 ∷ [])), BlockBad)
     ∷ ((p.cpus == 0) || nat_lt 64 p.cpus, CpusBad)
-    ∷ (nat_lt (rounded p.mem) others || (nat_lt 0 (dump_memory p) && nat_lt (dump_memory p) (rounded p.dump)), NoRoom)
+    ∷ (nat_lt p.mem others || (nat_lt 0 (dump_memory p) && nat_lt (dump_memory p) (rounded p.dump)), NoRoom)
     ∷ []
 
 -- and those of the zones, which are told behind them

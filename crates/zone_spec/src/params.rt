@@ -5,12 +5,12 @@ ghost use Rattle.zone_spec.specs.LayoutFaults.{fault_number};
 use crate::Kind;
 use thiserror::Error;
 
-/// The parameters of a layout as they are given (`Documentation/admin-guide/ramoops.rst`), before any rounding.
+/// The parameters of a layout (`fs/pstore/ram.c`, `struct ramoops_platform_data`), all sizes in bytes.
 ///
-/// Sizes are in bytes: `mem` is the image's, `dump` the wanted one of a dump zone, `console`, `ftrace` and `pmsg` those
-/// of the other zones, `ftrace` for all ftrace zones together. `ecc` and the four values of a kind are 0 for no
-/// parity, 1 for 16 parity bytes, else the number of parity bytes. `cpus` is the number of ftrace zones,
-/// `ftrace_sig` their tag, and `block` the data bytes of one parity block.
+/// `mem` is the image's size, `dump` the wanted one of a dump zone, `console`, `ftrace` and `pmsg` those of the other
+/// zones, `ftrace` for all ftrace zones together; zones are rounded down to powers of two, `mem` is not. The four
+/// values of a kind are its parity bytes, and `ecc` those of a kind without a value of its own. `cpus` is the number
+/// of ftrace zones, `ftrace_sig` their tag, and `block` the data bytes of one parity block.
 #[derive(Clone, Copy, Debug, PartialEq, Eq)]
 pub struct Params {
     pub mem: u64,

@@ -352,7 +352,7 @@ fn damage_within_half_the_parity_is_corrected(rt: HostRuntime) -> Result<(), Fai
         let mut image = abc(alloc)?;
         put(image.as_mut_slice(), at, bytes.as_slice());
         put(image.as_mut_slice(), 3616, &[par]);
-        let reading = reading_of(alloc, &four(1), 2, image.as_slice())?;
+        let reading = reading_of(alloc, &four(16), 2, image.as_slice())?;
         assert!(rt;
             is_reading(
                 &reading,
@@ -377,7 +377,7 @@ fn nine_flips_in_a_block_are_not_corrected(rt: HostRuntime) -> Result<(), Fail> 
     let damaged = [0x60, 0x9e, 0x6a, 0x30, 0x57, 0x8e, 0xcc, 0xa9, 0x79];
     put(image.as_mut_slice(), 12, damaged.as_slice());
     put(log.as_mut_slice(), 0, damaged.as_slice());
-    let reading = reading_of(alloc, &four(1), 2, image.as_slice())?;
+    let reading = reading_of(alloc, &four(16), 2, image.as_slice())?;
     assert!(rt; is_reading(&reading, State::Found, (200, 200), (0, 1), log.as_slice()));
     Ok(())
 }
@@ -392,7 +392,7 @@ fn parts_as_they_read(rt: HostRuntime) -> Result<(), Fail> {
     put(bytes.as_mut_slice(), 3632, PARITY_OF_72.as_slice());
     put(bytes.as_mut_slice(), 4080, PARITY_OF_200.as_slice());
     put(bytes.as_mut_slice(), 12, &[0x60]);
-    let (layout, spans) = image(alloc, &four(1), 2, bytes.as_slice())?;
+    let (layout, spans) = image(alloc, &four(16), 2, bytes.as_slice())?;
     let (reading, parts) = read_with_parts(alloc, &layout, &spans, 2)?;
     assert!(rt; is_reading(&reading, State::Found, (200, 200), (1, 0), log.as_slice()));
     assert_eq!(rt; parts.header, PartState::Read(0));
@@ -586,13 +586,13 @@ fn boots_with_parity_are_cut(rt: HostRuntime) -> Result<(), Fail> {
     let erased = erasure(alloc, true)?;
     assert!(rt; erased.len() == 18);
     let sound = abc(alloc)?;
-    assert!(rt; boots_with(alloc, &four(1), 2, sound.as_slice(), 0, erased.as_slice())?);
+    assert!(rt; boots_with(alloc, &four(16), 2, sound.as_slice(), 0, erased.as_slice())?);
     let mut cut = abc(alloc)?;
     put(cut.as_mut_slice(), 8, &[6]);
     let mut stores = Vec::new(alloc);
     stores.push(byte(8, 3))?;
     stores.extend_from_slice(erased.as_slice())?;
-    assert!(rt; boots_with(alloc, &four(1), 2, cut.as_slice(), 1, stores.as_slice())?);
+    assert!(rt; boots_with(alloc, &four(16), 2, cut.as_slice(), 1, stores.as_slice())?);
     Ok(())
 }
 
@@ -607,14 +607,14 @@ fn eight_flips_are_stored_and_parity_is_not(rt: HostRuntime) -> Result<(), Fail>
         stores.push(byte(12_usize.wrapping_add(k), *b))?;
     }
     stores.extend_from_slice(erasure(alloc, true)?.as_slice())?;
-    assert!(rt; boots_with(alloc, &four(1), 2, flipped.as_slice(), 7, stores.as_slice())?);
+    assert!(rt; boots_with(alloc, &four(16), 2, flipped.as_slice(), 7, stores.as_slice())?);
     Ok(())
 }
 
 #[test]
 fn readings_are_saved(rt: HostRuntime) -> Result<(), Fail> {
     let alloc = rt.alloc();
-    let (layout, spans) = zeros(alloc, &four(1))?;
+    let (layout, spans) = zeros(alloc, &four(16))?;
     let mut logs = Logs::new(alloc, &layout)?;
     assert!(rt; logs.len() == 0);
     if layout.zones().len() == 4 {

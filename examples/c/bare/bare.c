@@ -8,8 +8,8 @@
 enum { REGION = 0x8000000, SERIAL = 0x3f8, KEYBOARD = 0x64 };
 
 /* mem_size=32768 record_size=4096 console_size=8192 ftrace_size=0 pmsg_size=4096 ecc=1 */
-static const struct oopsbox_params params = {.mem = 32768, .dump = 4096, .console = 8192, .pmsg = 4096, .ecc = 1,
-	.cpus = 1, .block = 128, .ecc_dump = 1, .ecc_console = 1, .ecc_ftrace = 1, .ecc_pmsg = 1};
+static const struct oopsbox_params params = {.mem = 32768, .dump = 4096, .console = 8192, .pmsg = 4096, .ecc = 16,
+	.cpus = 1, .block = 128, .ecc_dump = 16, .ecc_console = 16, .ecc_ftrace = 16, .ecc_pmsg = 16};
 static struct oopsbox_zone_place place;
 static uint8_t *zone;
 

@@ -1,6 +1,6 @@
 -- How each stage of a script on an image ends it
 use Rattle.std.proofs.Common.{refl, ◌∙◌, arith, Err}
-use Rattle.zone_spec.specs.Layout.{rounded}
+
 use Rattle.zone_params.specs.Laid.{params_of, zones_of}
 use Rattle.tool_spec.specs.Commands.{RunScript}
 use Rattle.tool_frame.specs.Words.{plan_for}
@@ -32,7 +32,7 @@ returns-in-Err-play-clause-work g c = record {
 
 pub returns-in-Ok-save-clause-work : goal.returns-in-Ok-save-clause-work
 returns-in-Ok-save-clause-work g c =
-    let played = c.in-Ok-play.ensures.played (zones_of c.args.layout) (rounded (params_of c.args.layout).mem)
+    let played = c.in-Ok-play.ensures.played (zones_of c.args.layout) (params_of c.args.layout).mem
     c.in-Ok.bytes.items c.in-Ok-fresh_store.ensures in
     record {
       later = record { source = omega arith; store = omega arith; sink = omega arith };
@@ -50,13 +50,13 @@ returns-in-Ok-save-clause-work g c =
           (read_whole _ _ c.in-Ok-read_script.text c.in-Ok-read_script.ensures.ok c.in-Ok-read_script.ensures.end)
           c.in-Ok-lines.lines (rw c.deref.ensures.value at c.in-Ok-lines.ensures.read)
           c.into_image.result played.session played.played
-          (c.into_image.ensures (zones_of c.args.layout) (rounded (params_of c.args.layout).mem)
+          (c.into_image.ensures (zones_of c.args.layout) (params_of c.args.layout).mem
           played.session played.stands) (rw (c.as_slice-2.ensures, c.in-Ok.ensures.same) at c.in-Ok-save.ensures.bytes);
     }
 
 pub returns-clause-work : goal.returns-clause-work
 returns-clause-work g c =
-    let played = c.in-Ok-play.ensures.played (zones_of c.args.layout) (rounded (params_of c.args.layout).mem)
+    let played = c.in-Ok-play.ensures.played (zones_of c.args.layout) (params_of c.args.layout).mem
     c.in-Ok.bytes.items c.in-Ok-fresh_store.ensures in
     record {
       later = record { source = omega arith; store = omega arith; sink = omega arith };
@@ -74,7 +74,7 @@ returns-clause-work g c =
           (read_whole _ _ c.in-Ok-read_script.text c.in-Ok-read_script.ensures.ok c.in-Ok-read_script.ensures.end)
           c.in-Ok-lines.lines (rw c.deref.ensures.value at c.in-Ok-lines.ensures.read)
           c.into_image.result played.session played.played
-          (c.into_image.ensures (zones_of c.args.layout) (rounded (params_of c.args.layout).mem)
+          (c.into_image.ensures (zones_of c.args.layout) (params_of c.args.layout).mem
           played.session played.stands)
           (rw (c.as_slice-2.ensures, c.in-Ok.ensures.same) at c.in-Err-save.ensures.bytes);
     }
@@ -165,6 +165,6 @@ returns-in-Err-play-clause-put g c = lines_put c.in-Err-play.stop _ _ _ _ _ _ _
 
 pub returns-clause-put : goal.returns-clause-put
 returns-clause-put g c =
-    let played = c.in-Ok-play.ensures.played (zones_of c.args.layout) (rounded (params_of c.args.layout).mem)
+    let played = c.in-Ok-play.ensures.played (zones_of c.args.layout) (params_of c.args.layout).mem
     c.in-Ok.bytes.items c.in-Ok-fresh_store.ensures in
     text_put _ _ _ played.played.texts

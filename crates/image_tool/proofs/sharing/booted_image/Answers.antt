@@ -1,5 +1,5 @@
 use Rattle.std.proofs.Common.{refl}
-use Rattle.zone_spec.specs.Layout.{rounded}
+
 use Rattle.zone_params.specs.Laid.{params_of, zones_of}
 use Rattle.machine_spec.specs.Off.{fresh}
 use Rattle.machine_spec.specs.Boot.{booted}
@@ -9,7 +9,7 @@ use Rattle.image_tool.proofs.sharing.booted_image.Goals as goal
 pub returns-in-Ok : goal.returns-in-Ok
 returns-in-Ok c =
     let layout = zones_of c.args.layout in
-    let mem = rounded (params_of c.args.layout).mem in
+    let mem = (params_of c.args.layout).mem in
     let f = c.in_ok-off.ensures in
     let b = c.in-Ok.ensures.booted layout mem (fresh layout c.args.image.items) f.stands in
     let is = c.into_image.ensures layout mem (booted layout (fresh layout c.args.image.items)) b.live in

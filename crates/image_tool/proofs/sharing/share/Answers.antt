@@ -1,6 +1,6 @@
 -- The lines on the zone that was opened
 use Rattle.std.proofs.Common.{ap, sym, subst, ◌∙◌}
-use Rattle.zone_spec.specs.Layout.{rounded}
+
 use Rattle.zone_spec.specs.declared.params.Params.{Params}
 use Rattle.zone_params.specs.Laid.{zones_of}
 use Rattle.shared_session.specs.Left.{Plays}
@@ -8,7 +8,7 @@ use Rattle.image_tool.proofs.Shareable.{share_done, share_stopped, opens_in, zon
 use Rattle.image_tool.proofs.sharing.share.Goals as goal
 
 pub open-requires-clause-mem : goal.open-requires-clause-mem
-open-requires-clause-mem c = c.in-Ok.ensures.size ∙ ap (λ (p : Params). rounded p.mem) (sym c.requires.plain.params)
+open-requires-clause-mem c = c.in-Ok.ensures.size ∙ ap (λ (p : Params). p.mem) (sym c.requires.plain.params)
 
 pub open-requires-clause-zone : goal.open-requires-clause-zone
 open-requires-clause-zone c = opens_in _ _ _ c.requires.plain.zones (c.in-Ok.ensures.can c.requires.plain.plain)

@@ -1,7 +1,7 @@
 use Rattle.std.proofs.Common.{◌≡◌, ℕ, List, length, replicate, sym, ap, ◌∙◌, subst}
 use Rattle.std.proofs.lemmas.List.{length-replicate}
 use Rattle.zone_spec.specs.declared.Zone.{Zone}
-use Rattle.zone_spec.specs.Layout.{rounded}
+
 use Rattle.zone_spec.specs.Layouts.{IsLayout}
 use Rattle.machine_spec.specs.Off.{fresh}
 use Rattle.ramoops.specs.OffSeen.{StandsOff}
@@ -16,7 +16,7 @@ abbrev zones : goal.After-drop-plan-3 → List Zone
 zones c = zones_of c.args.layout
 
 abbrev mem : goal.After-drop-plan-3 → ℕ
-mem c = rounded (params_of c.args.layout).mem
+mem c = (params_of c.args.layout).mem
 
 lies : (c : goal.After-drop-plan-3) → IsLayout (zones c) (mem c)
 lies c = rw c.zones.ensures.value at c.zones.ensures.laid_out

@@ -3,7 +3,7 @@ use Rattle.std.specs.Prelude.{slice_get, IsTrue, ◌↔◌}
 use Rattle.zone_spec.specs.declared.Kind.TheVariants.{Dump}
 use Rattle.zone_spec.specs.declared.Zone.{Zone}
 use Rattle.zone_spec.specs.Layouts.{zone_place}
-use Rattle.zone_spec.specs.Layout.{rounded}
+
 use Rattle.zone_params.specs.Laid.{params_of, zones_of}
 use Rattle.machine_spec.specs.Zones.{zone_bytes}
 use Rattle.shared_spec.specs.Machine.{CanShare}
@@ -28,7 +28,7 @@ can_share-requires-clause-valid c =
     let zones : List Zone = c.zones.result.now in
     let place : Some c.in-Some.place ≡ zone_place zones c.args.name = sym c.in-Some.is ∙ c.find.ensures
     ∙ ap (λ (zs : List Zone). zone_place zs c.args.name) (sym c.zones.ensures.value) in
-    (lies_in zones (rounded (params_of c.args.layout.now).mem) c.in-Some.place (get_or zones c.in-Some.place blank)
+    (lies_in zones (params_of c.args.layout.now).mem c.in-Some.place (get_or zones c.in-Some.place blank)
     c.zones.ensures.laid_out (zone_got zones c.args.name c.in-Some.place blank place)).0
 
 pub can_share-requires-clause-within : goal.can_share-requires-clause-within
@@ -38,7 +38,7 @@ can_share-requires-clause-within c =
     ∙ ap (λ (zs : List Zone). zone_place zs c.args.name) (sym c.zones.ensures.value) in
     let z : Zone = get_or zones c.in-Some.place blank in
     subst (λ n. z.at + z.size ≤ n) (sym (ap length c.as_slice.ensures ∙ c.requires))
-    (lies_in zones (rounded (params_of c.args.layout.now).mem) c.in-Some.place z
+    (lies_in zones (params_of c.args.layout.now).mem c.in-Some.place z
     c.zones.ensures.laid_out (zone_got zones c.args.name c.in-Some.place blank place)).1
 
 pub returns-in-Some : goal.returns-in-Some

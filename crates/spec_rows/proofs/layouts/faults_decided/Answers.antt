@@ -4,4 +4,4 @@ use Rattle.spec_rows.proofs.layouts.faults_decided.Goals as goal
 
 pub returns : goal.returns
 unfolding computing_all
-returns c = (refl, refl, refl, refl, refl, refl)
+returns c = (refl, refl, refl, refl, refl, refl, refl)

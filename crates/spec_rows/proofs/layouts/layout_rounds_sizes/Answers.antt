@@ -4,4 +4,4 @@ use Rattle.spec_rows.proofs.layouts.layout_rounds_sizes.Goals as goal
 
 pub returns : goal.returns
 unfolding computing_all
-returns c = (refl, refl)
+returns c = (refl, refl, refl)

@@ -1,5 +1,5 @@
 -- The rows are those of a layout
-use Rattle.std.proofs.Common.{◌^◌, ◌<◌, ◌∙◌, List, sym, subst, arith}
+use Rattle.std.proofs.Common.{◌^◌, ◌<◌, ◌∙◌, List, refl, sym, subst, arith}
 use Rattle.std.specs.List.{sum_by}
 use Rattle.zone_spec.specs.declared.params.Row.{Row}
 use Rattle.zone_spec.specs.Layout.{zones_from}
@@ -27,7 +27,6 @@ count_in-requires c = subst (λ (rows : List Row). sum_by (λ (row : Row). row.c
 pub overflow_cast-result : goal.overflow_cast-result
 overflow_cast-result c = omega (
   arith,
-  c.rounded.ensures,
   layout_mem_small c.args.p.now (zones_from c.args.p.now 0 c.in-Ok.rows) c.in-Ok.ensures.laid,
 )
 
@@ -38,5 +37,5 @@ returns c = record {
   zone = c.find_in.ensures;
   zones = c.count_in.ensures
       ∙ sym (length_zones c.args.p.now 0 c.in-Ok.rows ∙ count_sum c.in-Ok.rows);
-  mem = c.rounded.ensures;
+  mem = refl;
 }

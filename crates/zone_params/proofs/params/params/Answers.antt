@@ -1,4 +1,4 @@
 use Rattle.zone_params.proofs.params.params.Goals as goal
 
 pub returns : goal.returns
-returns c = cc
+returns c memory h = cc

@@ -1,6 +1,6 @@
 use Rattle.std.proofs.Common.{List, length, map, sym, ap, ◌∙◌, subst}
 use Rattle.zone_params.specs.Laid.{params_of, zones_of}
-use Rattle.zone_spec.specs.Layout.{rounded}
+
 use Rattle.prz_read.specs.Saving.{saved}
 use Rattle.ramoops.specs.declared.report.ZoneReport.{ZoneReport}
 use Rattle.ramoops.specs.Reports.{report_seen}
@@ -46,7 +46,7 @@ returns-in-Ok-clause-booted c layout mem s stands =
     (subst (λ (rs : List ZoneReport). Booted layout mem s
     (record {
       layout = zones_of c.prepare.new.self.layout;
-      mem = rounded (params_of c.prepare.new.self.layout).mem;
+      mem = (params_of c.prepare.new.self.layout).mem;
       spans = c.settle_all.new.spans;
       zones = c.in-Ok.prepared.held.items;
       cursor = 0;

@@ -1,7 +1,7 @@
 use Rattle.std.proofs.Common.{ℕ, List, length, sym, ap, ◌∙◌, subst, arith}
 use Rattle.std.specs.Prelude.{slice_index, slice_set, bit_xor}
 use Rattle.std.proofs.lemmas.List.{length-set}
-use Rattle.zone_spec.specs.Layout.{rounded}
+
 use Rattle.zone_params.specs.Laid.{params_of, zones_of}
 use Rattle.ramoops.specs.OffSeen.{OffSeen, known_all, StandsOff}
 use Rattle.ramoops.proofs.Resting.{flipped_stands, flipped_rests}
@@ -15,7 +15,7 @@ invariant_of-self c =
       c.self.invariant.1,
       flipped_rests (record {
         layout = zones_of c.self.inside.layout;
-        mem = rounded (params_of c.self.inside.layout).mem;
+        mem = (params_of c.self.inside.layout).mem;
         image = c.self.inside.image;
         zones = known_all (length (zones_of c.self.inside.layout)) c.self.inside.zones.items;
       }) c.args.at c.args.mask c.set.new.self (omega (arith, c.ranges.mask.fits)) is c.self.invariant.2,
@@ -25,7 +25,7 @@ pub returns-clause-flipped : goal.returns-clause-flipped
 returns-clause-flipped c layout mem s stands =
     flipped_stands layout mem (record {
       layout = zones_of c.self.inside.layout;
-      mem = rounded (params_of c.self.inside.layout).mem;
+      mem = (params_of c.self.inside.layout).mem;
       image = c.self.inside.image;
       zones = known_all (length (zones_of c.self.inside.layout)) c.self.inside.zones.items;
     }) s c.args.at c.args.mask c.set.new.self

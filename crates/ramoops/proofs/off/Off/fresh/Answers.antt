@@ -1,6 +1,6 @@
 use Rattle.std.proofs.Common.{ℕ, List, ap, length, subst, arith}
 use Rattle.zone_spec.specs.declared.Zone.{Zone}
-use Rattle.zone_spec.specs.Layout.{rounded}
+
 use Rattle.zone_spec.specs.Layouts.{IsLayout}
 use Rattle.zone_params.specs.Laid.{params_of, zones_of}
 use Rattle.ramoops.specs.declared.known.KnownZone.{KnownZone}
@@ -15,10 +15,10 @@ invariant_of-result c =
     let none = ap (length {A = KnownZone}) c.new.ensures.items in (
       c.requires,
       omega (arith, none),
-      fresh_rests (zones_of c.args.layout) (rounded (params_of c.args.layout).mem) c.args.image
+      fresh_rests (zones_of c.args.layout) (params_of c.args.layout).mem c.args.image
           (known_all count c.new.result.items) (all_len count c.new.result.items (omega (arith, none)))
           (none_listed count c.new.result.items c.new.ensures.items)
-          (subst (λ (l : List Zone). IsLayout l (rounded (params_of c.args.layout).mem)) c.zones-zones.ensures.value
+          (subst (λ (l : List Zone). IsLayout l (params_of c.args.layout).mem) c.zones-zones.ensures.value
           c.zones-zones.ensures.laid_out) c.requires c.len-len.ensures.bytes,
     )
 
@@ -26,6 +26,6 @@ pub returns-clause-stands : goal.returns-clause-stands
 returns-clause-stands c =
     let count : ℕ = length (zones_of c.args.layout) in
     let none = ap (length {A = KnownZone}) c.new.ensures.items in
-    fresh_stands (zones_of c.args.layout) (rounded (params_of c.args.layout).mem) c.args.image
+    fresh_stands (zones_of c.args.layout) (params_of c.args.layout).mem c.args.image
     (known_all count c.new.result.items) (all_len count c.new.result.items (omega (arith, none)))
     (none_listed count c.new.result.items c.new.ensures.items)

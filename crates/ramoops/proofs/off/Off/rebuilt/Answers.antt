@@ -1,7 +1,7 @@
 -- A blank store after a boot, the appends and a stop is the moved state, and the laws of the move speak of it
 use Rattle.std.proofs.Common.{◌≡◌, ℕ, List, replicate, ap, ◌∙◌, subst}
 use Rattle.zone_spec.specs.declared.Zone.{Zone}
-use Rattle.zone_spec.specs.Layout.{rounded}
+
 use Rattle.zone_spec.specs.Layouts.{IsLayout}
 use Rattle.zone_spec.specs.Records.{Saved}
 use Rattle.zone_params.specs.Laid.{params_of, zones_of}
@@ -15,7 +15,7 @@ use Rattle.ramoops.proofs.off.Off.rebuilt.Goals as goal
 pub returns-clause-stands : goal.returns-clause-stands
 returns-clause-stands c =
     let layout : List Zone = zones_of c.args.layout in
-    let mem : ℕ = rounded (params_of c.args.layout).mem in
+    let mem : ℕ = (params_of c.args.layout).mem in
     let image : c.in_ok-image.image ≡ replicate mem 0 =
     c.in_ok-image.ensures ∙ ap (λ (n : ℕ). replicate n 0) c.mem.ensures in
     let off : StandsOff layout mem c.in_ok-off.off (fresh layout (replicate mem 0)) =
@@ -28,7 +28,7 @@ returns-clause-stands c =
 pub returns-clause-reads : goal.returns-clause-reads
 returns-clause-reads c fit =
     let layout : List Zone = zones_of c.args.layout in
-    let mem : ℕ = rounded (params_of c.args.layout).mem in
+    let mem : ℕ = (params_of c.args.layout).mem in
     let zones : List Saved = saved c.args.logs.now in
     let lies : IsLayout layout mem =
     subst (λ (l : List Zone). IsLayout l mem) c.zones-zones.ensures.value c.zones-zones.ensures.laid_out in

@@ -2,7 +2,7 @@ use Rattle.std.proofs.Common.{◌≡◌, ℕ, List, [], get_or, sym, ap, ap₂, 
 use Rattle.std.specs.Prelude.{slice_get}
 use Rattle.zone_spec.specs.declared.Zone.{Zone}
 use Rattle.zone_spec.specs.Layouts.{IsLayout}
-use Rattle.zone_spec.specs.Layout.{rounded}
+
 use Rattle.zone_params.specs.Laid.{params_of, zones_of}
 use Rattle.prz_region.specs.CutRegion.{CutRegion, CountedRegion, cut_at}
 use Rattle.shared_ring.specs.declared.seats.Seat.{Seat}
@@ -54,8 +54,8 @@ invariant_of-result c =
     let zones : List Zone = zones_of c.args.layout in
     let there : slice_get zones c.in-Some.place ≡ Some c.requires.zone.zone =
     zone_there zones c.args.zone c.args.image c.requires.zone c.in-Some.place (sym c.in-Some.is ∙ c.find.ensures) in
-    let lies : IsLayout zones (rounded (params_of c.args.layout).mem) =
-    subst (λ (zs : List Zone). IsLayout zs (rounded (params_of c.args.layout).mem)) c.zones.ensures.value
+    let lies : IsLayout zones (params_of c.args.layout).mem =
+    subst (λ (zs : List Zone). IsLayout zs (params_of c.args.layout).mem) c.zones.ensures.value
     c.zones.ensures.laid_out in
     let some : Unit {0} = tt in (
       c.in-Ok.ensures.capacity,
@@ -64,7 +64,7 @@ invariant_of-result c =
           c.from_bytes.result there (c.counted.ensures ∙ c.in-Ok-cut.ensures {u = some})
           (c.from_bytes.ensures ∙ c.from_vec-image.ensures ∙ c.into_vec-bytes.ensures)
           c.in-Ok.ensures.items c.zones.result.now c.zones.ensures.value)
-          (opened_whole zones (rounded (params_of c.args.layout).mem) c.args.image lies c.in-Some.place
+          (opened_whole zones (params_of c.args.layout).mem c.args.image lies c.in-Some.place
           c.requires.zone.zone there c.requires.zone.can c.counted.result.stores),
     )
 
@@ -73,8 +73,8 @@ returns-in-Ok-cut-clause-ok c = λ can.
     let zones : List Zone = zones_of c.args.layout in
     let there : slice_get zones c.in-Some.place ≡ Some can.zone =
     zone_there zones c.args.zone c.args.image can c.in-Some.place (sym c.in-Some.is ∙ c.find.ensures) in
-    let lies : IsLayout zones (rounded (params_of c.args.layout).mem) =
-    subst (λ (zs : List Zone). IsLayout zs (rounded (params_of c.args.layout).mem)) c.zones.ensures.value
+    let lies : IsLayout zones (params_of c.args.layout).mem =
+    subst (λ (zs : List Zone). IsLayout zs (params_of c.args.layout).mem) c.zones.ensures.value
     c.zones.ensures.laid_out in
     let some : Unit {0} = tt in
     subst (λ (v : SharedSeen). IsLeftBy (record { image = c.args.image; zone = can.zone; operations = [] }) v)
@@ -82,4 +82,4 @@ returns-in-Ok-cut-clause-ok c = λ can.
     c.from_bytes.result there (c.counted.ensures ∙ c.in-Ok-cut.ensures {u = some})
     (c.from_bytes.ensures ∙ c.from_vec-image.ensures ∙ c.into_vec-bytes.ensures)
     c.in-Ok.ensures.items c.zones.result.now c.zones.ensures.value)
-    (opened_left zones (rounded (params_of c.args.layout).mem) c.args.image lies c.in-Some.place can.zone there can.can c.counted.result.stores)
+    (opened_left zones (params_of c.args.layout).mem c.args.image lies c.in-Some.place can.zone there can.can c.counted.result.stores)

@@ -5,6 +5,5 @@ use Rattle.zone_params.proofs.types.Layout.mem.Goals as goal
 pub overflow_cast-result : goal.overflow_cast-result
 overflow_cast-result c = omega (
   arith,
-  c.rounded.ensures,
   layout_mem_small c.args.self.now.params c.args.self.now.zones.items c.args.self.now.laid,
 )
