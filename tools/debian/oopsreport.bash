@@ -9,13 +9,13 @@ _oopsreport()
             mapfile -t COMPREPLY < <(compgen -W "$keys" -- "$word")
             compopt -o nospace ;;
         --format) mapfile -t COMPREPLY < <(compgen -W "text json html" -- "$word") ;;
-        --cmdline | --kernel) COMPREPLY=() ;;
+        --cmdline | --kernel | --node) COMPREPLY=() ;;
         --save)
             mapfile -t COMPREPLY < <(compgen -d -- "$word")
             compopt -o filenames ;;
         *)
             if [[ $word == -* ]]; then
-                mapfile -t COMPREPLY < <(compgen -W "--param --cmdline --cmdline-file --kernel --mem-as-given --format
+                mapfile -t COMPREPLY < <(compgen -W "--param --cmdline --cmdline-file --kernel --dtb --node --mem-as-given --format
                     --save --help --version" -- "$word")
             else
                 mapfile -t COMPREPLY < <(compgen -f -- "$word")

@@ -24,6 +24,16 @@ fn with_layout<'a>(alloc: Global, command: Command<'a>) -> Result<Command<'a>, A
         .long("kernel")
         .value_name("X.Y.Z")
         .help("The version of the kernel that wrote the ftrace zones");
+    let tree = Arg::new(alloc, "dtb")
+        .long("dtb")
+        .value_name("FILE")
+        .conflicts_with("mem-as-given")?
+        .help("A board's flattened device tree, such as /sys/firmware/fdt, with a ramoops node");
+    let node = Arg::new(alloc, "node")
+        .long("node")
+        .value_name("PATH")
+        .requires_arg("dtb")?
+        .help("The node of the device tree, where it has several");
     let as_given = Arg::new(alloc, "mem-as-given")
         .long("mem-as-given")
         .action(ArgAction::SetTrue)
@@ -33,6 +43,8 @@ fn with_layout<'a>(alloc: Global, command: Command<'a>) -> Result<Command<'a>, A
         .arg(cmdline)?
         .arg(file)?
         .arg(kernel)?
+        .arg(tree)?
+        .arg(node)?
         .arg(as_given)
 }
 

@@ -1,8 +1,9 @@
 // The plan that the words of the command line ask for.
 use anyhow::anyhow;
 use clap::ArgMatches;
+use dtb::{Fault, ramoops_nodes};
 use grammar_spec::ParamFault;
-use report_tool::{Plan, PlanFault};
+use report_tool::{Plan, PlanFault, TreeFault};
 use report_words::{LineFault, add_layout_words, add_tag, ftrace_tag};
 use std::alloc::{AllocError, Global};
 use std::fs;
@@ -35,10 +36,10 @@ fn add_line(alloc: Global, words: &mut Vec<String>, line: &[u8]) -> Result<(), N
     }
 }
 
-// The command line that a file holds.
-fn read_line<R: Runtime>(rt: &R, path: &str) -> Result<Vec<u8, R::A>, NoPlan> {
+// What a file holds.
+fn read_file<R: Runtime>(rt: &R, path: &str) -> Result<Vec<u8, R::A>, NoPlan> {
     match fs::read(rt, path) {
-        Ok(line) => Ok(line),
+        Ok(bytes) => Ok(bytes),
         Err(e) if e.kind() == ErrorKind::OutOfMemory => Err(NoPlan::Memory),
         Err(e) => Err(NoPlan::Words(anyhow!("{path}: {e}"))),
     }
@@ -55,7 +56,7 @@ fn add_cmdline<R: Runtime>(
         add_line(alloc, words, text.as_bytes())?;
     }
     if let Some(path) = matches.get_str("cmdline-file") {
-        let line = read_line(rt, path)?;
+        let line = read_file(rt, path)?;
         add_line(alloc, words, &line)?;
     }
     Ok(())
@@ -96,11 +97,90 @@ fn told(words: &[String], fault: ParamFault) -> anyhow::Error {
     }
 }
 
+// What is wrong with a device tree.
+fn told_tree(fault: Fault) -> &'static str {
+    match fault {
+        Fault::NoMagic => "it is no flattened device tree",
+        Fault::Version => "its version is not 17, nor one that reads as 17",
+        Fault::Outside => "a block lies outside it",
+        Fault::EndMissing => "its structure breaks off",
+        Fault::UnknownToken => "its structure has an unknown token",
+        Fault::Unended => "a name has no end",
+        Fault::PropertyOutside => "a property stands outside a node, or behind a child",
+        Fault::EndOutside => "a node ends that did not begin",
+        Fault::TooDeep => "its nodes are more than 64 deep",
+        Fault::Roots => "it has no root, or two",
+        Fault::TooShort => "a number of a ramoops node has fewer than four bytes",
+        Fault::TooLarge => "a number of a ramoops node is above 2147483647",
+        Fault::Reg => "a ramoops node has no address and size that can be read",
+    }
+}
+
+// The paths of the ramoops nodes, each after a space.
+fn paths(alloc: Global, tree: &[u8]) -> Result<String, AllocError> {
+    let mut text = String::new(alloc);
+    if let Ok(nodes) = ramoops_nodes(alloc, tree) {
+        for node in &nodes {
+            text.push_str(" ")?;
+            text.push_str(&String::from_utf8_lossy(alloc, &node.path)?)?;
+        }
+    }
+    Ok(text)
+}
+
+// Why a device tree gives no plan.
+fn no_plan(
+    alloc: Global,
+    path: &str,
+    tree: &[u8],
+    words: &[String],
+    fault: TreeFault,
+) -> Result<NoPlan, AllocError> {
+    Ok(NoPlan::Words(match fault {
+        TreeFault::Memory => return Ok(NoPlan::Memory),
+        TreeFault::Tree(fault) => anyhow!("{path}: {}", told_tree(fault)),
+        TreeFault::NoNode => {
+            let paths = paths(alloc, tree)?;
+            match paths.is_empty() {
+                true => anyhow!("{path}: no ramoops node is in it"),
+                false => anyhow!("{path}: no such ramoops node; there are:{paths}"),
+            }
+        }
+        TreeFault::Several => {
+            let paths = paths(alloc, tree)?;
+            anyhow!("{path}: several ramoops nodes, choose one by --node:{paths}")
+        }
+        TreeFault::Word(fault) => told(words, fault),
+        TreeFault::NoCpus => anyhow!(
+            "{path}: the node has an ftrace zone for each processor; say how many by --param cpus=N"
+        ),
+        TreeFault::Layout(fault) => anyhow!("{path}: layout fault {}: {fault}", fault.number()),
+    }))
+}
+
+// The plan of the device tree in a file.
+fn tree_plan<R: Runtime>(
+    rt: &R,
+    alloc: Global,
+    path: &str,
+    node: Option<&str>,
+    words: &[String],
+) -> Result<Plan, NoPlan> {
+    let tree = read_file(rt, path)?;
+    match Plan::of_tree(alloc, &tree, node, words) {
+        Ok(plan) => Ok(plan),
+        Err(fault) => Err(no_plan(alloc, path, &tree, words, fault)?),
+    }
+}
+
 /// The plan by which the images are read.
 pub fn plan<R: Runtime>(rt: &R, alloc: Global, matches: &ArgMatches<'_>) -> Result<Plan, NoPlan> {
     let mut words = Vec::new(alloc);
     add_cmdline(rt, alloc, &mut words, matches)?;
     add_params(alloc, &mut words, matches)?;
+    if let Some(path) = matches.get_str("dtb") {
+        return tree_plan(rt, alloc, path, matches.get_str("node"), &words);
+    }
     Plan::new(alloc, &words, matches.get_flag("mem-as-given")).map_err(|fault| match fault {
         PlanFault::Memory => NoPlan::Memory,
         PlanFault::Word(fault) => NoPlan::Words(told(&words, fault)),

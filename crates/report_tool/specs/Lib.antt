@@ -1,5 +1,6 @@
 pub mod Layouts
 pub mod Plans
+pub mod Trees
 pub mod Shown
 pub mod Images
 pub mod Saved

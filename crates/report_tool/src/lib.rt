@@ -8,9 +8,11 @@ mod images;
 mod plan;
 mod saving;
 mod showing;
+mod tree;
 
 pub use images::report;
 pub use plan::{Plan, PlanFault};
 pub use saving::{Folder, save};
 pub use showing::Format;
+pub use tree::TreeFault;
 pub use tool_frame::Stop;

@@ -45,7 +45,7 @@ impl Plan {
     ghost use Rattle.report_tool.specs.Plans.{IsLaid, IsPlan, IsPlanFault};
 
     // The plan of these parameters.
-    fn of_params(alloc: Global, params: Params) -> Result<Plan, LayoutError>
+    pub(crate) fn of_params(alloc: Global, params: Params) -> Result<Plan, LayoutError>
         ensures { MatchResult result (IsLaid params) (IsCause (layout_of params)) }
     {
         let layout = layout(alloc, &params)?;

@@ -1,5 +1,5 @@
 // Parameters read from words.
-ghost use Rattle.std.specs.Prelude.{◌≡◌, ℕ, codes, unwrap_or};
+ghost use Rattle.std.specs.Prelude.{◌≡◌, ℕ, codes, is_some, unwrap_or};
 ghost use Rattle.std.specs.Option.{option_map};
 ghost use Rattle.grammar_spec.specs.Words.{texts};
 ghost use Rattle.grammar_spec.specs.ZoneWords.{given, parity_of, parity_given, memory_of, params_by, read_by, read_of};
@@ -139,4 +139,11 @@ pub fn read_words_over(words: &[String], absent: &Params) -> Result<Params, Para
         Some(fault) => Err(fault),
         None => Ok(params(words, number(words, "mem_size", absent.mem), absent)),
     }
+}
+
+/// Whether the words give this key, with a number.
+pub fn is_given(words: &[String], key: &str) -> bool
+    ensures { result ≡ is_some (given (texts words.now) key.now) }
+{
+    KEYS.given(words, key).is_some()
 }

@@ -1,0 +1,119 @@
+// The plan that a board's device tree gives.
+ghost use Rattle.std.specs.Prelude.{◌≡◌, map, Ok, MatchResult};
+ghost use Rattle.std.specs.Option.{option_copied};
+ghost use Rattle.dtb_spec.specs.Ramoops.{nodes_of};
+ghost use Rattle.dtb.specs.Told.{shown};
+ghost use Rattle.report_tool.specs.Trees.{numbers_meant, params_said, wants_cpus, params_over, params_in, IsTreePlan, IsTreeFault};
+
+use crate::Plan;
+use dtb::{DtbError, Fault, Node, Numbers, ramoops_nodes};
+use grammar_spec::ParamFault;
+use std::alloc::Global;
+use zone_params::{LayoutError, is_given, read_words_over};
+use zone_spec::{LayoutFault, Params};
+
+/// Why a device tree gives no plan.
+#[derive(Clone, Copy, Debug, PartialEq, Eq)]
+pub enum TreeFault {
+    Memory,
+    /// The tree, or a ramoops node of it, is broken.
+    Tree(Fault),
+    /// There is no ramoops node, or none at the path that is asked for.
+    NoNode,
+    /// There are several, and no path is asked for.
+    Several,
+    /// The first faulty word, counted from 0.
+    Word(ParamFault),
+    /// The node has an ftrace zone for each processor, and no word `cpus` gives their number.
+    NoCpus,
+    /// The parameters have no layout.
+    Layout(LayoutFault),
+}
+
+// The numbers of the node of this path, or of the only one.
+fn meant(nodes: &[Node], path: Option<&str>) -> Result<Numbers, TreeFault>
+    ensures { result ≡ numbers_meant (option_copied path) (map shown nodes.now) }
+{
+    match path {
+        Some(path) => match nodes.iter().find(|node| node.path == path.as_bytes()) {
+            Some(node) => Ok(node.numbers),
+            None => Err(TreeFault::NoNode),
+        },
+        None => match nodes {
+            [] => Err(TreeFault::NoNode),
+            [node] => Ok(node.numbers),
+            _ => Err(TreeFault::Several),
+        },
+    }
+}
+
+// What a node says.
+fn params_said(n: &Numbers) -> Params
+    ensures { result ≡ params_said n.now }
+{
+    let ecc = u64::from(n.ecc_size);
+    Params {
+        mem: n.size,
+        dump: u64::from(n.record_size),
+        console: u64::from(n.console_size),
+        ftrace: u64::from(n.ftrace_size),
+        pmsg: u64::from(n.pmsg_size),
+        ecc,
+        cpus: 1,
+        ftrace_sig: 0,
+        block: 128,
+        ecc_dump: ecc,
+        ecc_console: ecc,
+        ecc_ftrace: ecc,
+        ecc_pmsg: ecc,
+    }
+}
+
+// Whether there is an ftrace zone for each processor (`RAMOOPS_FLAG_FTRACE_PER_CPU`).
+fn wants_cpus(n: &Numbers) -> bool
+    ensures { result ≡ wants_cpus n.now }
+{
+    n.flags % 2 == 1 && n.ftrace_size > 0
+}
+
+// The parameters of a node and of words, which count more.
+fn params_over(words: &[String], n: &Numbers) -> Result<Params, TreeFault>
+    ensures { result ≡ params_over words.now (Ok n.now) }
+{
+    match read_words_over(words, &params_said(n)) {
+        Ok(_) if wants_cpus(n) && !is_given(words, "cpus") => Err(TreeFault::NoCpus),
+        Ok(params) => Ok(params),
+        Err(fault) => Err(TreeFault::Word(fault)),
+    }
+}
+
+// The parameters of a tree, the path of its node and words.
+fn params_in(alloc: Global, tree: &[u8], path: Option<&str>, words: &[String]) -> Result<Params, TreeFault>
+    ensures { MatchResult result (λ p. params_in (option_copied path) words.now (nodes_of tree.now) ≡ Ok p)
+        (IsTreeFault tree.now (option_copied path) words.now) }
+{
+    let nodes = match ramoops_nodes(alloc, tree) {
+        Ok(nodes) => nodes,
+        Err(DtbError::Memory) => return Err(TreeFault::Memory),
+        Err(DtbError::Broken(fault)) => return Err(TreeFault::Tree(fault)),
+    };
+    let numbers = meant(&nodes, path)?;
+    params_over(words, &numbers)
+}
+
+impl Plan {
+    /// The plan of a board's flattened device tree (`fs/pstore/ram.c`, `ramoops_parse_dt`): of its only ramoops node,
+    /// or of the node of this path, as `/reserved-memory/ramoops@8f000000`. Words (`key=value`) count more than the
+    /// node; what neither gives, the number of processors and the tag of ftrace zones, is 1 and 0.
+    pub fn of_tree(alloc: Global, tree: &[u8], path: Option<&str>, words: &[String]) -> Result<Plan, TreeFault>
+        ensures { MatchResult result (IsTreePlan tree.now (option_copied path) words.now)
+            (IsTreeFault tree.now (option_copied path) words.now) }
+    {
+        let params = params_in(alloc, tree, path, words)?;
+        match Plan::of_params(alloc, params) {
+            Ok(plan) => Ok(plan),
+            Err(LayoutError::Fault(fault)) => Err(TreeFault::Layout(fault)),
+            Err(LayoutError::Memory) => Err(TreeFault::Memory),
+        }
+    }
+}
