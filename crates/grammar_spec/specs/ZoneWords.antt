@@ -84,6 +84,9 @@ abbrev pub read_by : (ℕ → ℕ) → Params → List (String Global) → Resul
 read_by memory absent words = ok_unless (first_fault [] (texts words)) (params_by memory absent (texts words))
 
 -- as the project reads the module's words, and as the kernel does
+abbrev pub params_of : List (List ℕ) → Params
+params_of words = params_by memory_of defaults words
+
 abbrev pub read_of : List (String Global) → Result Params ParamFault
 read_of words = read_by memory_of defaults words
 

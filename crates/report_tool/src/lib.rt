@@ -14,5 +14,5 @@ pub use images::report;
 pub use plan::{Plan, PlanFault};
 pub use saving::{Folder, save};
 pub use showing::Format;
-pub use tree::TreeFault;
 pub use tool_frame::Stop;
+pub use tree::TreeFault;

@@ -51,11 +51,7 @@ impl Plan {
         let layout = layout(alloc, &params)?;
         let mem = layout.mem();
         match Vec::from_slice(alloc, layout.zones()) {
-            Ok(zones) => Ok(Plan {
-                params,
-                mem,
-                zones,
-            }),
+            Ok(zones) => Ok(Plan { params, mem, zones }),
             Err(AllocError) => Err(LayoutError::Memory),
         }
     }

@@ -1,9 +1,12 @@
 // The plan that a board's device tree gives.
-ghost use Rattle.std.specs.Prelude.{◌≡◌, map, Ok, MatchResult};
+ghost use Rattle.std.specs.Prelude.{◌≡◌, ◌&&◌, codes, find, is_none, map, Ok, MatchResult};
+ghost use Rattle.std.specs.Str.{bytes_eq};
 ghost use Rattle.std.specs.Option.{option_copied};
+ghost use Rattle.grammar_spec.specs.Words.{texts};
+ghost use Rattle.grammar_spec.specs.ZoneWords.{given};
 ghost use Rattle.dtb_spec.specs.Ramoops.{nodes_of};
 ghost use Rattle.dtb.specs.Told.{shown};
-ghost use Rattle.report_tool.specs.Trees.{numbers_meant, params_said, wants_cpus, params_over, params_in, IsTreePlan, IsTreeFault};
+ghost use Rattle.report_tool.specs.Trees.{numbers_found, only_numbers, numbers_meant, params_said, wants_cpus, params_over, params_in, IsTreePlan, IsTreeFault};
 
 use crate::Plan;
 use dtb::{DtbError, Fault, Node, Numbers, ramoops_nodes};
@@ -30,20 +33,36 @@ pub enum TreeFault {
     Layout(LayoutFault),
 }
 
-// The numbers of the node of this path, or of the only one.
+// The numbers of the node of this path.
+fn numbers_at(nodes: &[Node], path: &str) -> Result<Numbers, TreeFault>
+    ensures { result ≡ numbers_found (find (λ node. bytes_eq node.path path.now) (map shown nodes.now)) }
+{
+    for node in nodes {
+        if node.path.as_slice() == path.as_bytes() {
+            return Ok(node.numbers);
+        }
+    }
+    Err(TreeFault::NoNode)
+}
+
+// The numbers of the only node.
+fn only_numbers(nodes: &[Node]) -> Result<Numbers, TreeFault>
+    ensures { result ≡ only_numbers (map shown nodes.now) }
+{
+    match nodes {
+        [] => Err(TreeFault::NoNode),
+        [node] => Ok(node.numbers),
+        _ => Err(TreeFault::Several),
+    }
+}
+
+// The numbers of the node that is meant.
 fn meant(nodes: &[Node], path: Option<&str>) -> Result<Numbers, TreeFault>
-    ensures { result ≡ numbers_meant (option_copied path) (map shown nodes.now) }
+    ensures { result ≡ numbers_meant (option_copied path.entry) (map shown nodes.now) }
 {
     match path {
-        Some(path) => match nodes.iter().find(|node| node.path == path.as_bytes()) {
-            Some(node) => Ok(node.numbers),
-            None => Err(TreeFault::NoNode),
-        },
-        None => match nodes {
-            [] => Err(TreeFault::NoNode),
-            [node] => Ok(node.numbers),
-            _ => Err(TreeFault::Several),
-        },
+        Some(path) => numbers_at(nodes, path),
+        None => only_numbers(nodes),
     }
 }
 
@@ -76,21 +95,36 @@ fn wants_cpus(n: &Numbers) -> bool
     n.flags % 2 == 1 && n.ftrace_size > 0
 }
 
+// Whether the number of processors is wanted and not given.
+fn lacks_cpus(words: &[String], n: &Numbers) -> bool
+    ensures { result ≡ (wants_cpus n.now && is_none (given (texts words.now) (codes "cpus"))) }
+{
+    wants_cpus(n) && !is_given(words, "cpus")
+}
+
 // The parameters of a node and of words, which count more.
 fn params_over(words: &[String], n: &Numbers) -> Result<Params, TreeFault>
     ensures { result ≡ params_over words.now (Ok n.now) }
 {
-    match read_words_over(words, &params_said(n)) {
-        Ok(_) if wants_cpus(n) && !is_given(words, "cpus") => Err(TreeFault::NoCpus),
-        Ok(params) => Ok(params),
-        Err(fault) => Err(TreeFault::Word(fault)),
+    let params = match read_words_over(words, &params_said(n)) {
+        Ok(params) => params,
+        Err(fault) => return Err(TreeFault::Word(fault)),
+    };
+    if lacks_cpus(words, n) {
+        return Err(TreeFault::NoCpus);
     }
+    Ok(params)
 }
 
 // The parameters of a tree, the path of its node and words.
-fn params_in(alloc: Global, tree: &[u8], path: Option<&str>, words: &[String]) -> Result<Params, TreeFault>
-    ensures { MatchResult result (λ p. params_in (option_copied path) words.now (nodes_of tree.now) ≡ Ok p)
-        (IsTreeFault tree.now (option_copied path) words.now) }
+fn params_in(
+    alloc: Global,
+    tree: &[u8],
+    path: Option<&str>,
+    words: &[String],
+) -> Result<Params, TreeFault>
+    ensures { MatchResult result (λ p. params_in (option_copied path.entry) words.now (nodes_of tree.now) ≡ Ok p)
+        (IsTreeFault tree.now (option_copied path.entry) words.now) }
 {
     let nodes = match ramoops_nodes(alloc, tree) {
         Ok(nodes) => nodes,
@@ -105,9 +139,14 @@ impl Plan {
     /// The plan of a board's flattened device tree (`fs/pstore/ram.c`, `ramoops_parse_dt`): of its only ramoops node,
     /// or of the node of this path, as `/reserved-memory/ramoops@8f000000`. Words (`key=value`) count more than the
     /// node; what neither gives, the number of processors and the tag of ftrace zones, is 1 and 0.
-    pub fn of_tree(alloc: Global, tree: &[u8], path: Option<&str>, words: &[String]) -> Result<Plan, TreeFault>
-        ensures { MatchResult result (IsTreePlan tree.now (option_copied path) words.now)
-            (IsTreeFault tree.now (option_copied path) words.now) }
+    pub fn of_tree(
+        alloc: Global,
+        tree: &[u8],
+        path: Option<&str>,
+        words: &[String],
+    ) -> Result<Plan, TreeFault>
+        ensures { MatchResult result (IsTreePlan tree.now (option_copied path.entry) words.now)
+            (IsTreeFault tree.now (option_copied path.entry) words.now) }
     {
         let params = params_in(alloc, tree, path, words)?;
         match Plan::of_params(alloc, params) {
