@@ -1,0 +1,12 @@
+pub mod Ranges
+pub mod Headers
+pub mod Sums
+pub mod Keys
+pub mod LaidOut
+pub mod Bounds
+pub mod Refused
+pub mod Inside
+pub mod Ahead
+pub mod Tags
+pub mod Members
+pub mod Answered

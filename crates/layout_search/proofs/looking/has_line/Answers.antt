@@ -1,0 +1,27 @@
+use Rattle.std.proofs.Common.{◌≡◌, ◌+◌, ◌∙◌, ap, length, arith, map}
+use Rattle.std.specs.Prelude.{ℕ, List, Option, slice_index, min, is_some}
+use Rattle.std.specs.List.{range_with_len}
+use Rattle.std.proofs.lemmas.List.FromFn.{map-range_with_len_more}
+use Rattle.zone_spec.specs.TimeLines.{read_line, has_line}
+use Rattle.layout_spec.specs.Marks.{log_place, log_front}
+use Rattle.layout_search.proofs.looking.has_line.Goals as goal
+
+pub loop-i-preserved : goal.loop-i-preserved
+loop-i-preserved c =
+    let f : ℕ → ℕ = λ i. slice_index c.args.image.now (c.args.zone.now.at + 12 + log_place c.args.words.now i) in
+    record {
+      bytes =
+          let next = map-range_with_len_more f 0 c.loop-i.i c.loop-i.i (omega arith) in
+          let byte : c.log_byte.result ≡ f c.loop-i.i = c.log_byte.ensures in
+          let old : c.loop-i.front.items ≡ map f (range_with_len 0 c.loop-i.i) = c.loop-i.invariant.bytes in cc;
+      len = omega (arith, c.push.ensures.len, c.loop-i.invariant.len);
+    }
+
+pub returns : goal.returns
+unfolding log_front
+returns c =
+    let last : c.loop-i.i ≡ min 40 c.args.words.now.size = omega arith in
+    c.is_some.ensures ∙ ap is_some c.read_line.ensures
+    ∙ ap has_line (c.as_slice.ensures.value ∙ c.loop-i.invariant.bytes
+        ∙ ap (λ n. map (λ i. slice_index c.args.image.now (c.args.zone.now.at + 12 + log_place c.args.words.now i))
+        (range_with_len 0 n)) last)

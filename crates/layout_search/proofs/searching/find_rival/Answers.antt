@@ -1,0 +1,6 @@
+use Rattle.std.proofs.Common.{◌≡◌, ◌≢◌, Some}
+use Rattle.layout_search.proofs.searching.find_rival.Goals as goal
+
+pub returns-clause-settled : goal.returns-clause-settled
+returns-clause-settled c = λ work d family differs few.
+    (c.in_ok-sweep.ensures.settled d).settled work family few (λ e. differs cc)

@@ -1,0 +1,27 @@
+use Rattle.std.proofs.Common.{◌≡◌, ◌<◌, ℕ, Option, sym, subst, arith}
+use Rattle.std.specs.Prelude.{nat_lt}
+use Rattle.std.proofs.lemmas.Bool.{ltb-true}
+use Rattle.layout_spec.specs.declared.Candidate.{Candidate}
+use Rattle.layout_spec.specs.Taken.{is_taken}
+use Rattle.layout_search.specs.Answers.{IsAnswer}
+use Rattle.layout_search.specs.declared.searching.Found.{Found}
+use Rattle.layout_search.proofs.Answered.{wholly}
+use Rattle.layout_search.proofs.searching.search.Goals as goal
+
+pub returns : goal.returns
+returns c =
+    let others = c.in_ok-others.others in
+    let whole = nat_lt 0 others.work in
+    let work : 0 < c.find_first.new.state.work = omega arith in
+    let kept = rw c.in-Some.is at c.in_ok-find_first.ensures.sound in
+    let first = rw c.in-Some.is at (c.in_ok-find_first.ensures.first work) in
+    subst (λ (f : Found). IsAnswer c.args.known.now c.args.image.now f) (sym c.answer-2.ensures)
+    (subst (λ (r : Option Candidate). IsAnswer c.args.known.now c.args.image.now (record {
+      candidate = c.in-Some.best.candidate;
+      tally = c.in-Some.best.tally;
+      taken = is_taken c.in-Some.best.tally;
+      rival = r;
+      whole = whole;
+    })) (sym c.candidate_of-rival.ensures)
+    (wholly c.args.known.now c.args.image.now c.in-Some.best others.best whole kept first c.in_ok-others.ensures.sound
+    (λ e. c.in_ok-others.ensures.settled (ltb-true 0 others.work e))))

@@ -1,0 +1,76 @@
+use Rattle.std.proofs.Common.{◌≡◌, ◌+◌, [], ◌∷◌, ap, refl, arith}
+use Rattle.layout_spec.specs.Marks.{marks}
+use Rattle.layout_search.specs.Seen.{far_in, marked_in, row_end}
+use Rattle.layout_search.proofs.Bounds.{faults_by_rows, far_two, marked_two, far_four, marked_four, few_two, few_four}
+use Rattle.layout_search.proofs.seeing.may_fit.Goals as goal
+
+pub returns-then-marks-limit : goal.returns-then-marks-limit
+returns-then-marks-limit c = λ h p. omega (
+  arith,
+  c.requires.marks,
+  faults_by_rows c.args.image.now p (c.args.dumps ∷ c.args.console ∷ c.args.ftrace ∷ c.args.pmsg ∷ []),
+  few_four c.args.image.now c.args.dumps c.args.console c.args.ftrace c.args.pmsg,
+)
+
+pub returns-in_default : goal.returns-in_default
+returns-in_default c = λ h p. omega (
+  arith,
+  c.requires.marks,
+  faults_by_rows c.args.image.now p (c.args.dumps ∷ c.args.console ∷ c.args.ftrace ∷ c.args.pmsg ∷ []),
+  c.in_default.ensures,
+  far_four c.args.image.now c.args.dumps c.args.console c.args.ftrace c.args.pmsg (row_end c.args.dumps 0) (row_end c.args.console (row_end c.args.dumps 0)) (row_end c.args.ftrace (row_end c.args.console (row_end c.args.dumps 0))) refl refl refl,
+  marked_four c.args.image.now c.args.dumps c.args.console c.args.ftrace c.args.pmsg (row_end c.args.dumps 0) (row_end c.args.console (row_end c.args.dumps 0)) (row_end c.args.ftrace (row_end c.args.console (row_end c.args.dumps 0))) refl refl refl,
+)
+
+pub returns-in_default-see : goal.returns-in_default-see
+returns-in_default-see c = λ h p. omega (
+  arith,
+  c.requires.marks,
+  faults_by_rows c.args.image.now p (c.args.dumps ∷ c.args.console ∷ c.args.ftrace ∷ c.args.pmsg ∷ []),
+  c.in-Some.ensures.far,
+  c.in_default-see.ensures,
+  far_four c.args.image.now c.args.dumps c.args.console c.args.ftrace c.args.pmsg c.end_of-second.result (row_end c.args.console c.end_of-second.result) (row_end c.args.ftrace (row_end c.args.console c.end_of-second.result)) c.end_of-second.ensures.value refl refl,
+  marked_four c.args.image.now c.args.dumps c.args.console c.args.ftrace c.args.pmsg c.end_of-second.result (row_end c.args.console c.end_of-second.result) (row_end c.args.ftrace (row_end c.args.console c.end_of-second.result)) c.end_of-second.ensures.value refl refl,
+)
+
+pub returns-in_default-see-2 : goal.returns-in_default-see-2
+returns-in_default-see-2 c = λ h p. omega (
+  arith,
+  c.requires.marks,
+  faults_by_rows c.args.image.now p (c.args.dumps ∷ c.args.console ∷ c.args.ftrace ∷ c.args.pmsg ∷ []),
+  c.in-Some.ensures.far,
+  c.in-Some-see.ensures.far,
+  c.in_default-see-2.ensures,
+  far_four c.args.image.now c.args.dumps c.args.console c.args.ftrace c.args.pmsg c.end_of-second.result c.end_of-third.result (row_end c.args.ftrace c.end_of-third.result) c.end_of-second.ensures.value c.end_of-third.ensures.value refl,
+  marked_four c.args.image.now c.args.dumps c.args.console c.args.ftrace c.args.pmsg c.end_of-second.result c.end_of-third.result (row_end c.args.ftrace c.end_of-third.result) c.end_of-second.ensures.value c.end_of-third.ensures.value refl,
+)
+
+pub returns-in_default-see-3 : goal.returns-in_default-see-3
+returns-in_default-see-3 c = λ h p. omega (
+  arith,
+  c.requires.marks,
+  faults_by_rows c.args.image.now p (c.args.dumps ∷ c.args.console ∷ c.args.ftrace ∷ c.args.pmsg ∷ []),
+  c.in-Some.ensures.far,
+  c.in-Some-see.ensures.far,
+  c.in-Some-see-2.ensures.far,
+  c.in_default-see-3.ensures,
+  far_four c.args.image.now c.args.dumps c.args.console c.args.ftrace c.args.pmsg c.end_of-second.result c.end_of-third.result c.end_of.result c.end_of-second.ensures.value c.end_of-third.ensures.value c.end_of.ensures.value,
+  marked_four c.args.image.now c.args.dumps c.args.console c.args.ftrace c.args.pmsg c.end_of-second.result c.end_of-third.result c.end_of.result c.end_of-second.ensures.value c.end_of-third.ensures.value c.end_of.ensures.value,
+)
+
+pub returns-then-marks-four : goal.returns-then-marks-four
+returns-then-marks-four c = λ h p. omega (
+  arith,
+  c.requires.marks,
+  faults_by_rows c.args.image.now p (c.args.dumps ∷ c.args.console ∷ c.args.ftrace ∷ c.args.pmsg ∷ []),
+  c.in-Some.ensures.far,
+  c.in-Some.ensures.marked,
+  c.in-Some-see.ensures.far,
+  c.in-Some-see.ensures.marked,
+  c.in-Some-see-2.ensures.far,
+  c.in-Some-see-2.ensures.marked,
+  c.in-Some-see-3.ensures.far,
+  c.in-Some-see-3.ensures.marked,
+  far_four c.args.image.now c.args.dumps c.args.console c.args.ftrace c.args.pmsg c.end_of-second.result c.end_of-third.result c.end_of.result c.end_of-second.ensures.value c.end_of-third.ensures.value c.end_of.ensures.value,
+  marked_four c.args.image.now c.args.dumps c.args.console c.args.ftrace c.args.pmsg c.end_of-second.result c.end_of-third.result c.end_of.result c.end_of-second.ensures.value c.end_of-third.ensures.value c.end_of.ensures.value,
+)

@@ -1,0 +1,30 @@
+use Rattle.std.proofs.Common.{◌≡◌, ◌∙◌, ◌<◌, true, get_or, below_more, subst, arith}
+use Rattle.std.specs.Prelude.{length}
+use Rattle.layout_spec.specs.Family.{is_one_of}
+use Rattle.layout_search.proofs.Members.{member_at}
+use Rattle.layout_search.proofs.Ahead.{mem_next, mems_done, dumps_later, advances_trans}
+use Rattle.layout_search.specs.Tried.{DumpsSettled}
+use Rattle.layout_search.proofs.sweeping.try_mems.Goals as goal
+
+pub try_dumps-requires-clause-so_far : goal.try_dumps-requires-clause-so_far
+try_dumps-requires-clause-so_far c =
+    let n = get_or c.as_slice-list.result.now c.loop-k.k 0 in
+    mem_next c.args.known.now (length c.args.image.now) c.args.c.now n (subst (λ xs. is_one_of n xs ≡ true)
+    (c.as_slice-list.ensures.value ∙ c.requires.lists.mems_are)
+    (member_at c.as_slice-list.result.now c.loop-k.k c.loop-k-test.true))
+
+pub returns-clause-settled : goal.returns-clause-settled
+returns-clause-settled c = mems_done c.args.known.now c.args.image.now c.args.aim.now c.args.c.now c.loop-k.state
+    c.as_slice-list.result.now (c.as_slice-list.ensures.value ∙ c.requires.lists.mems_are)
+    (λ j lt. c.loop-k.invariant.settled j (omega arith))
+
+pub loop-k-preserved : goal.loop-k-preserved
+loop-k-preserved c =
+    let adv = advances_trans c.spend.ensures.advances c.in_ok-try_dumps.ensures.advances in record {
+      advances = advances_trans c.loop-k.invariant.advances adv;
+      settled = below_more
+          (λ j. DumpsSettled c.args.known.now c.args.image.now c.args.aim.now
+          (record c.args.c.now { mem = get_or c.as_slice-list.result.now j 0 }) c.try_dumps.new.state) c.loop-k.k
+          (λ j lt. dumps_later adv (c.loop-k.invariant.settled j lt)) c.in_ok-try_dumps.ensures.settled;
+      sound = c.in_ok-try_dumps.ensures.sound;
+    }

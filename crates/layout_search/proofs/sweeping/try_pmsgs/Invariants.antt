@@ -1,0 +1,11 @@
+use Rattle.std.proofs.Common.{◌<◌, ℕ, get_or}
+use Rattle.layout_search.specs.Tried.{IsSound, Advances, CpusSettled}
+use Rattle.layout_search.proofs.sweeping.try_pmsgs.Given as goal
+
+-- the candidates so far are settled
+abbrev pub invariant-loop-k : goal.invariant-loop-k
+invariant-loop-k l = record {
+  advances : Advances l.initial.state l.state;
+  settled : (j : ℕ) → j < l.k → CpusSettled l.known l.image l.aim (record l.c { pmsg = get_or l.list j 0 }) l.state;
+  sound : IsSound l.known l.image l.aim.besides l.state.best;
+}

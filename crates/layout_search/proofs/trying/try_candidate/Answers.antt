@@ -1,0 +1,14 @@
+use Rattle.std.proofs.Common.{◌≡◌}
+use Rattle.layout_search.proofs.Ahead.{no_layout}
+use Rattle.layout_search.proofs.trying.try_candidate.Goals as goal
+
+pub returns-in_default-clause-settled : goal.returns-in_default-clause-settled
+returns-in_default-clause-settled c = λ known.
+    no_layout known c.args.image.now c.args.aim.now c.args.c.now c.args.state.now
+    (rw c.in_default.is at c.in_ok-zones.ensures)
+
+pub returns-clause-sound : goal.returns-clause-sound
+returns-clause-sound c = λ known family sound.
+    let laid = rw c.in-Some.is at c.in_ok-zones.ensures in
+    c.judge-best.ensures.sound known c.args.aim.now.besides (family laid.has)
+    (c.is_left_out.ensures.no c.if-is_left_out.false) sound

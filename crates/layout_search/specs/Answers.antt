@@ -1,0 +1,30 @@
+-- What a search answers
+use Rattle.std.specs.Prelude.{◌≡◌, ◌≢◌, ◌≤◌, ℕ, true, false, List, Option, None, Some, MatchOption}
+use Rattle.layout_spec.specs.declared.Candidate.{Candidate}
+use Rattle.layout_spec.specs.declared.Known.{Known}
+use Rattle.layout_spec.specs.Family.{is_of_family}
+use Rattle.layout_spec.specs.Laid.{zones_of}
+use Rattle.layout_spec.specs.Order.{faults, tally_of, key, is_before}
+use Rattle.layout_spec.specs.Taken.{is_taken}
+use Rattle.layout_search.specs.declared.searching.Found.{Found}
+
+-- another layout of the family has as few faults, and none of the others with as few is before it
+pub record IsNext (known : Known) (image : List ℕ) (c other : Candidate) : Type 0 where
+  pub of_family : is_of_family known image other ≡ true
+  pub differs : c ≢ other
+  pub next : (d : Candidate) → is_of_family known image d ≡ true → c ≢ d
+      → faults image (zones_of d) ≤ faults image (zones_of c) → is_before (key image d) (key image other) ≡ false
+
+-- no other layout of the family has as few faults
+abbrev pub IsAlone : Known → List ℕ → Candidate → Type 0
+IsAlone known image c =
+    (d : Candidate) → is_of_family known image d ≡ true → c ≢ d
+    → faults image (zones_of d) ≤ faults image (zones_of c) → ⊥
+
+pub record IsAnswer (known : Known) (image : List ℕ) (f : Found) : Type 0 where
+  pub of_family : is_of_family known image f.candidate ≡ true
+  pub tally_is : f.tally ≡ tally_of image f.candidate
+  pub taken_is : f.taken ≡ is_taken (tally_of image f.candidate)
+  pub first : f.whole ≡ true → (d : Candidate) → is_of_family known image d ≡ true
+      → is_before (key image d) (key image f.candidate) ≡ false
+  pub next : f.whole ≡ true → MatchOption f.rival (IsAlone known image f.candidate) (IsNext known image f.candidate)

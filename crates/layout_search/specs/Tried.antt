@@ -1,0 +1,82 @@
+-- How far a search has come
+use Rattle.std.specs.Prelude.{◌≡◌, ◌≢◌, ℕ, ◌^◌, ◌<◌, ◌≤◌, Bool, true, false, List, length, Option, None, Some}
+use Rattle.layout_spec.specs.declared.Candidate.{Candidate}
+use Rattle.layout_spec.specs.declared.Known.{Known}
+use Rattle.layout_spec.specs.Laid.{zones_of}
+use Rattle.layout_spec.specs.Marks.{marks}
+use Rattle.layout_spec.specs.Family.{is_of_family, is_one_of, tags_for, known_or, parities, cpus_for, sizes, memories}
+use Rattle.layout_spec.specs.Order.{faults, tally_of, key, is_before}
+use Rattle.layout_search.specs.declared.progress.Best.{Best}
+use Rattle.layout_search.specs.declared.progress.Progress.{Progress}
+use Rattle.layout_search.specs.declared.progress.Aim.{Aim}
+
+-- an aim for this image
+pub record IsAim (image : List ℕ) (aim : Aim) : Type 0 where
+  pub marks_are : aim.marks ≡ marks image
+  pub few : aim.marks < 2 ^ 63
+  pub limit : aim.limit < 2 ^ 62
+
+-- whether a key is before that of the best so far; before none is each
+abbrev pub is_ahead : List ℕ → Option Best → Bool
+is_ahead k None = true
+is_ahead k (Some b) = is_before k b.key
+
+-- the best so far is of the family, with its key, and not the one that is left out
+pub record IsKept (known : Known) (image : List ℕ) (besides : Option Candidate) (b : Best) : Type 0 where
+  pub of_family : is_of_family known image b.candidate ≡ true
+  pub tally_is : b.tally ≡ tally_of image b.candidate
+  pub key_is : b.key ≡ key image b.candidate
+  pub other : besides ≢ Some b.candidate
+
+abbrev pub IsSound : Known → List ℕ → Option Candidate → Option Best → Type 0
+IsSound known image besides None = Unit {0}
+IsSound known image besides (Some b) = IsKept known image besides b
+
+-- nothing is lost: what was not ahead is not ahead, and no work comes back
+pub record Advances (old new : Progress) : Type 0 where
+  pub best : (k : List ℕ) → is_ahead k old.best ≡ false → is_ahead k new.best ≡ false
+  pub work : new.work ≤ old.work
+
+-- unless the search has given up, the candidate is not ahead of the best, if it is looked for
+pub record IsSettled (known : Known) (image : List ℕ) (aim : Aim) (c : Candidate) (s : Progress) : Type 0 where
+  pub settled : 0 < s.work → is_of_family known image c ≡ true → faults image (zones_of c) ≤ aim.limit
+      → aim.besides ≢ Some c → is_ahead (key image c) s.best ≡ false
+
+-- so are the candidates with each tag, parity and number of processors of the family
+pub record TagsSettled (known : Known) (image : List ℕ) (aim : Aim) (c : Candidate) (s : Progress) : Type 0 where
+  pub all : (t : ℕ) → is_one_of t (tags_for known image c) ≡ true
+      → IsSettled known image aim (record c { tag = t }) s
+
+pub record ParitiesSettled (known : Known) (image : List ℕ) (aim : Aim) (c : Candidate) (s : Progress) : Type 0 where
+  pub all : (r : ℕ) → is_one_of r (known_or known.parity parities) ≡ true
+      → TagsSettled known image aim (record c { parity = r }) s
+
+pub record CpusSettled (known : Known) (image : List ℕ) (aim : Aim) (c : Candidate) (s : Progress) : Type 0 where
+  pub all : (n : ℕ) → is_one_of n (cpus_for known c.ftrace) ≡ true
+      → ParitiesSettled known image aim (record c { cpus = n }) s
+
+-- and those with each size and memory
+pub record PmsgsSettled (known : Known) (image : List ℕ) (aim : Aim) (c : Candidate) (s : Progress) : Type 0 where
+  pub all : (n : ℕ) → is_one_of n (known_or known.pmsg (sizes (length image))) ≡ true
+      → CpusSettled known image aim (record c { pmsg = n }) s
+
+pub record FtracesSettled (known : Known) (image : List ℕ) (aim : Aim) (c : Candidate) (s : Progress) : Type 0 where
+  pub all : (n : ℕ) → is_one_of n (known_or known.ftrace (sizes (length image))) ≡ true
+      → PmsgsSettled known image aim (record c { ftrace = n }) s
+
+pub record ConsolesSettled (known : Known) (image : List ℕ) (aim : Aim) (c : Candidate) (s : Progress) : Type 0 where
+  pub all : (n : ℕ) → is_one_of n (known_or known.console (sizes (length image))) ≡ true
+      → FtracesSettled known image aim (record c { console = n }) s
+
+pub record DumpsSettled (known : Known) (image : List ℕ) (aim : Aim) (c : Candidate) (s : Progress) : Type 0 where
+  pub all : (n : ℕ) → is_one_of n (known_or known.dump (sizes (length image))) ≡ true
+      → ConsolesSettled known image aim (record c { dump = n }) s
+
+pub record MemsSettled (known : Known) (image : List ℕ) (aim : Aim) (c : Candidate) (s : Progress) : Type 0 where
+  pub all : (n : ℕ) → is_one_of n (known_or known.mem (memories (length image))) ≡ true
+      → DumpsSettled known image aim (record c { mem = n }) s
+
+-- the best has at most so many faults
+abbrev pub HasFew : ℕ → Option Best → Type 0
+HasFew limit None = ⊥
+HasFew limit (Some b) = b.tally.faults ≤ limit

@@ -1,0 +1,41 @@
+// A candidate's zones.
+ghost use Rattle.std.specs.Prelude.{◌≡◌, IfOk, MatchOption, false};
+ghost use Rattle.layout_spec.specs.Laid.{params_of, has_layout};
+ghost use Rattle.layout_search.specs.Laid.{IsLaid};
+
+use kernel_layout::layout_as_given;
+use layout_spec::Candidate;
+use std::alloc::{AllocError, Global};
+use zone_params::LayoutError;
+use zone_spec::{Params, Zone};
+
+fn params(c: &Candidate) -> Params
+    ensures { result ≡ params_of c.now }
+{
+    Params {
+        mem: c.mem,
+        dump: c.dump,
+        console: c.console,
+        ftrace: c.ftrace,
+        pmsg: c.pmsg,
+        ecc: c.parity,
+        cpus: c.cpus,
+        ftrace_sig: c.tag,
+        block: 128,
+        ecc_dump: c.parity,
+        ecc_console: c.parity,
+        ecc_ftrace: c.parity,
+        ecc_pmsg: c.parity,
+    }
+}
+
+/// The candidate's zones, or `None` if it has no layout.
+pub fn zones_of(alloc: Global, c: &Candidate) -> Result<Option<Vec<Zone>>, AllocError>
+    ensures { IfOk result (λ found. MatchOption found (has_layout c.now ≡ false) (λ zones. IsLaid c.now zones.items)) }
+{
+    match layout_as_given(alloc, &params(c)) {
+        Ok(zones) => Ok(Some(zones)),
+        Err(LayoutError::Fault(_)) => Ok(None),
+        Err(LayoutError::Memory) => Err(AllocError),
+    }
+}

@@ -1,0 +1,20 @@
+//! The layout of a region, found from its bytes alone.
+#![tactic(auto)]
+
+mod counting;
+mod laying;
+mod lists;
+mod looking;
+mod marks;
+mod order;
+mod progress;
+mod rows;
+mod searching;
+mod seeing;
+mod sweeping;
+mod tagging;
+mod trying;
+mod walking;
+
+pub use layout_spec::{Candidate, Known, Tally};
+pub use searching::{Found, search};

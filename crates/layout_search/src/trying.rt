@@ -1,0 +1,119 @@
+// One candidate tried.
+ghost use Rattle.std.specs.Prelude.{◌≡◌, ◌≢◌, ◌≤◌, ℕ, List, true, false, length, Option, Some, OnOk};
+ghost use Rattle.layout_spec.specs.declared.Known.{Known as KnownValue};
+ghost use Rattle.layout_spec.specs.declared.Candidate.{Candidate as CandidateValue};
+ghost use Rattle.layout_spec.specs.Laid.{zones_of as zones_as_laid, has_layout};
+ghost use Rattle.layout_spec.specs.Order.{faults, key as key_of};
+ghost use Rattle.layout_spec.specs.Family.{is_of_family};
+ghost use Rattle.layout_search.specs.Laid.{IsLaid};
+ghost use Rattle.layout_search.specs.Tried.{IsAim, IsKept, IsSound, Advances, IsSettled, is_ahead as is_ahead_of};
+
+use crate::counting::count_zones;
+use crate::laying::zones_of;
+use crate::order::{is_before, key, tally};
+use crate::progress::{Aim, Best, Progress};
+use layout_spec::Candidate;
+use std::alloc::{AllocError, Global};
+use zone_spec::Zone;
+
+fn is_ahead(key: &[u64; 18], best: &Option<Best>) -> bool
+    ensures { result ≡ is_ahead_of key.now best.now }
+{
+    match best {
+        Some(best) => is_before(key, &best.key),
+        None => true,
+    }
+}
+
+/// The better of the best so far and this one.
+fn better(this: Best, best: Option<Best>) -> Option<Best>
+    ensures kept { (k : List ℕ) → is_ahead_of k best ≡ false → is_ahead_of k result ≡ false }
+    ensures this { is_ahead_of this.key result ≡ false }
+    ensures sound { (known : KnownValue) (image : List ℕ) (besides : Option CandidateValue)
+        → IsKept known image besides this → IsSound known image besides best → IsSound known image besides result }
+{
+    if is_ahead(&this.key, &best) {
+        Some(this)
+    } else {
+        best
+    }
+}
+
+/// The better of the best so far and a candidate with these zones, if that has few enough faults.
+fn judge(
+    image: &[u8],
+    aim: &Aim,
+    c: &Candidate,
+    zones: &[Zone],
+    best: Option<Best>,
+) -> Option<Best>
+    requires laid { IsLaid c.now zones.now }
+    requires aim { IsAim image.now aim.now }
+    requires within { c.now.mem ≤ length image.now }
+    ensures kept { (k : List ℕ) → is_ahead_of k best ≡ false → is_ahead_of k result ≡ false }
+    ensures settled { faults image.now (zones_as_laid c.now) ≤ aim.now.limit
+        → is_ahead_of (key_of image.now c.now) result ≡ false }
+    ensures sound { (known : KnownValue) (besides : Option CandidateValue)
+        → is_of_family known image.now c.now ≡ true → besides ≢ Some c.now
+        → IsSound known image.now besides best → IsSound known image.now besides result }
+{
+    let fewest = aim.marks.saturating_sub(zones.len() as u64);
+    if fewest > aim.limit {
+        return best;
+    }
+    let Some(counts) = count_zones(image, zones, aim.limit - fewest) else {
+        return best;
+    };
+    let tally = tally(image, aim.marks, c, zones, &counts);
+    let this = Best {
+        candidate: *c,
+        tally,
+        key: key(&tally, c),
+    };
+    better(this, best)
+}
+
+fn is_left_out(besides: &Option<Candidate>, c: &Candidate) -> bool
+    ensures yes { result ≡ true → besides.now ≡ Some c.now }
+    ensures no { result ≡ false → besides.now ≢ Some c.now }
+{
+    match besides {
+        Some(besides) => besides == c,
+        None => false,
+    }
+}
+
+// What a candidate's zones cost: with parity each header may have to be decoded.
+fn price(c: &Candidate, zones: usize) -> u64 {
+    let each = if c.parity == 0 { 8 } else { 256 };
+    (zones as u64).saturating_mul(each)
+}
+
+/// Tries one candidate.
+pub fn try_candidate(
+    alloc: Global,
+    image: &[u8],
+    aim: &Aim,
+    c: &Candidate,
+    state: &mut Progress,
+) -> Result<(), AllocError>
+    requires aim { IsAim image.now aim.now }
+    requires within { c.now.mem ≤ length image.now }
+    ensures advances { OnOk result (Advances state.old state.new) }
+    ensures settled { OnOk result ((known : KnownValue) → IsSettled known image.now aim.now c.now state.new) }
+    ensures sound { OnOk result ((known : KnownValue)
+        → (has_layout c.now ≡ true → is_of_family known image.now c.now ≡ true)
+        → IsSound known image.now aim.now.besides state.old.best
+        → IsSound known image.now aim.now.besides state.new.best) }
+{
+    if is_left_out(&aim.besides, c) {
+        return Ok(());
+    }
+    let Some(zones) = zones_of(alloc, c)? else {
+        return Ok(());
+    };
+    let best = judge(image, aim, c, &zones, state.best);
+    let work = state.work.saturating_sub(price(c, zones.len()));
+    *state = Progress { best, work };
+    Ok(())
+}

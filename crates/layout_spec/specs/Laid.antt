@@ -1,0 +1,38 @@
+-- The zones of a candidate: the layout of its parameters with the memory size as given
+use Rattle.std.specs.Prelude.{ℕ, Bool, List, is_ok}
+use Rattle.zone_spec.specs.declared.Zone.{Zone}
+use Rattle.zone_spec.specs.declared.params.Params.{Params}
+use Rattle.zone_spec.specs.declared.params.Row.{Row}
+use Rattle.report_spec.specs.AsGiven.{layout_as_given, zones_as_given, rows_as_given, dump_memory_as_given}
+use Rattle.layout_spec.specs.declared.Candidate.{Candidate}
+
+-- its parameters: one parity for all kinds, and blocks of 128 bytes
+abbrev pub params_of : Candidate → Params
+params_of c = record {
+  mem = c.mem;
+  dump = c.dump;
+  console = c.console;
+  ftrace = c.ftrace;
+  pmsg = c.pmsg;
+  ecc = c.parity;
+  cpus = c.cpus;
+  ftrace_sig = c.tag;
+  block = 128;
+  ecc_dump = c.parity;
+  ecc_console = c.parity;
+  ecc_ftrace = c.parity;
+  ecc_pmsg = c.parity;
+}
+
+abbrev pub rows_of : Candidate → List Row
+rows_of c = rows_as_given (params_of c)
+
+abbrev pub zones_of : Candidate → List Zone
+zones_of c = zones_as_given (params_of c)
+
+abbrev pub has_layout : Candidate → Bool
+has_layout c = is_ok (layout_as_given (params_of c))
+
+-- the memory that the other zones leave to the dump zones
+abbrev pub memory_for_dumps : Candidate → ℕ
+memory_for_dumps c = dump_memory_as_given (params_of c)
