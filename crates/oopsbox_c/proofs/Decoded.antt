@@ -5,7 +5,7 @@ use Rattle.std.proofs.lemmas.Bool.{leb-true, le-leb}
 use Rattle.code_spec.specs.Code.{distance, nearest, nearest_if, is_near, is_codeword}
 use Rattle.code_laws.proofs.Nearest.{the_word-passes}
 use Rattle.rs_decode.specs.Decoding.{decoded_by, decoded_at, differences, fixes_by}
-use Rattle.rs_decode.proofs.Applied.{distance_self}
+use Rattle.code_laws.proofs.Nearest.{distance_self}
 use Rattle.oopsbox_c.specs.Codes.{is_block, has_answer, decode_end, end_of, near_end}
 use Rattle.oopsbox_c.specs.declared.ends.End.TheVariants.{Done}
 

@@ -5,7 +5,7 @@ use Rattle.std.proofs.lemmas.List.{take-take}
 use Rattle.std.proofs.Math.Nat.{mul-le-mul_left}
 use Rattle.std.proofs.lemmas.Grind.{div_ceil_times}
 use Rattle.code_spec.specs.Code.{IsCodeword, nearest, nearest_if}
-use Rattle.rs_decode.proofs.Applied.{distance_self}
+use Rattle.code_laws.proofs.Nearest.{distance_self}
 use Rattle.zone_spec.specs.declared.Zone.{Zone}
 use Rattle.zone_spec.specs.Zones.{IsValidZone}
 use Rattle.zone_spec.specs.Parts.{AreBytes, Part, Block, part_bytes, part_word}

@@ -3,10 +3,14 @@ use Rattle.code_spec.specs.Field.{gf_pow}
 use Rattle.code_laws.proofs.Symbols.{HasRoots, Symbols}
 use Rattle.code_spec.specs.Code.{value_of}
 use Rattle.code_laws.proofs.Words.{word_sum}
-use Rattle.rs_decode.specs.Fixes.{IsDamage, IsWithin, applied, fixes_between, fixes_from}
+use Rattle.decoder_laws.specs.Damage.{IsDamage, IsWithin}
+use Rattle.rs_decode.specs.Fixes.{applied, fixes_between, fixes_from}
 use Rattle.rs_decode.specs.declared.Fix.{Fix}
-use Rattle.rs_decode.proofs.Applied.{damage_of, none_at_zero, applied_near, values_cut, symbols_of, symbols-append, apply_fixes_between, positive}
-use Rattle.rs_decode.proofs.Decoding.{true_false, nearest_of_within, within_none}
+use Rattle.decoder_laws.proofs.Damage.{damage_of, none_at_zero, values_cut, positive}
+use Rattle.rs_decode.proofs.Applied.{applied_near, symbols_of, apply_fixes_between}
+use Rattle.code_laws.proofs.Steps.{symbols-append}
+use Rattle.decoder_laws.proofs.Nearest.{nearest_of_within}
+use Rattle.rs_decode.proofs.Decoding.{true_false, within_none}
 use Rattle.rs_decode.proofs.corrected.Goals as goal
 
 -- a near codeword is damage that the candidate answers

@@ -1,6 +1,7 @@
 use Rattle.std.proofs.Common.{◌∙◌, arith}
 use Rattle.rs_decode.proofs.Applied.{symbols_of}
-use Rattle.rs_decode.proofs.Decoding.{true_false, no_excess, codeword_excess, excess_value}
+use Rattle.decoder_laws.proofs.Nearest.{no_excess, codeword_excess, excess_value}
+use Rattle.rs_decode.proofs.Decoding.{true_false}
 use Rattle.rs_decode.proofs.has_excess.Goals as goal
 
 pub returns-then-all_zero-clause-clean : goal.returns-then-all_zero-clause-clean

@@ -1,0 +1,5 @@
+pub mod Elements
+pub mod Ranges
+pub mod Slices
+pub mod Gets
+pub mod RoundingUp
