@@ -1,9 +1,10 @@
 -- What a zone reads whose erasure by a boot was cut
-use Rattle.std.proofs.Common.{◌≡◌, ◌≢◌, ℕ, zero, suc, ◌-◌, ◌*◌, ◌/◌, ◌%◌, ◌<◌, ◌≤◌, Bool, true, false, cond, ◌&&◌, ◌==◌, List, [], ◌∷◌, ◌++◌, length, take, map, flat_map, get_or, refl, sym, ap, ap₂, ◌∙◌, subst, arith, Option, Some, None, w32, append-nil, true≢false, eqb-true}
+use Rattle.std.proofs.Common.{◌≡◌, ◌≢◌, ℕ, zero, suc, ◌-◌, ◌*◌, ◌/◌, ◌%◌, ◌<◌, ◌≤◌, Bool, true, false, cond, ◌&&◌, ◌==◌, List, [], ◌∷◌, ◌++◌, length, take, map, flat_map, get_or, refl, sym, ap, ap₂, ◌∙◌, subst, arith, Option, Some, None, w32, append-nil, eqb-true}
 use Rattle.std.specs.Prelude.{Contains}
 use Rattle.std.specs.Int.{to_le_bytes}
 use Rattle.std.specs.List.{AllByRecursion, range_with_len, position}
 use Rattle.std.proofs.lemmas.List.Quantifiers.{position-Some}
+use Rattle.std.proofs.lemmas.Bool.{and_parts}
 use Rattle.zone_spec.specs.declared.Zone.{Zone}
 use Rattle.zone_spec.specs.declared.Words.{Words}
 use Rattle.zone_spec.specs.declared.Pair.{Pair}
@@ -37,10 +38,6 @@ use Rattle.damage_laws.proofs.Untouched.{LeavesBlock, stages_leave, prefix_leave
 use Rattle.damage_laws.proofs.Touched.{parity_length}
 use Rattle.damage_laws.proofs.CutHeader.{IsSmall, IsUnsigning, IsHeader, take-right, words_track, pairs_have, sig_kept, sig_put, is_header, header_reads}
 
-and-both : (a b : Bool) → (a && b) ≡ true → (a ≡ true) × (b ≡ true)
-and-both true b e = (refl, e)
-and-both false b e = absurd (true≢false (sym e))
-
 -- the words that a seen pair says
 seen_pair : (z : Zone) (v : Words) (ps : List Pair) (j : ℕ) (d : Pair) → header_seen z v ps ≡ SeenPair j
     → (v.sig ≡ z.sig) × (v.start ≡ (get_or ps j d).start) × (v.size ≡ (get_or ps j d).size)
@@ -55,7 +52,7 @@ seen_pair z v ps j d e = by (v.sig == z.sig) refl e
     at (Some i) f e =
         let same : i ≡ j = cc in
         let r = position-Some test ps i d f in
-        let t = and-both (v.start == (get_or ps i d).start) (v.size == (get_or ps i d).size) r.1 in
+        let t = and_parts (v.start == (get_or ps i d).start) (v.size == (get_or ps i d).size) r.1 in
         subst (λ n. (v.start ≡ (get_or ps n d).start) × (v.size ≡ (get_or ps n d).size)) same
         (eqb-true v.start (get_or ps i d).start t.0, eqb-true v.size (get_or ps i d).size t.1)
 

@@ -7,6 +7,7 @@ use Rattle.std.proofs.lemmas.Bool.{cases_lt}
 use Rattle.std.proofs.lemmas.Bool.Decides.{nat_tests}
 use Rattle.std.proofs.lemmas.List.Sums.{sum_by-append}
 use Rattle.std.specs.List.{AllByRecursion}
+use Rattle.list_laws.proofs.Elements.{AllByRecursion-append}
 use Rattle.zone_spec.specs.declared.Zone.{Zone}
 use Rattle.zone_spec.specs.declared.Words.{Words}
 use Rattle.zone_spec.specs.declared.Pair.{Pair}
@@ -32,9 +33,9 @@ use Rattle.code_laws.proofs.Laws.{parity_made}
 use Rattle.ring_laws.proofs.Images.{put-below, put-above, put-inside, after_stores-append, length-after_stores}
 use Rattle.ring_laws.proofs.AppendLaw.{word_of-stored, word_of-same}
 use Rattle.ring_laws.proofs.PartsLaw.{nearest-codeword, slice_range-bytes}
-use Rattle.ring_laws.proofs.PartWords.{part_word-IsWord, bytes-append, bytes-all, reading_near, reading_none}
+use Rattle.ring_laws.proofs.PartWords.{part_word-IsWord, bytes-all, reading_near, reading_none}
 use Rattle.ring_laws.proofs.EveryParity.{word-bytes}
-use Rattle.ring_laws.proofs.StoreBytes.{all-append, all-map, call_image}
+use Rattle.ring_laws.proofs.StoreBytes.{all-map, call_image}
 use Rattle.ring_laws.proofs.Fixes.{IsMended, toward_mended, word_left}
 use Rattle.ring_laws.proofs.HeaderWords.{words_eq, header_length, header_words, words_taken, standing_same}
 use Rattle.damage_laws.proofs.Within.{near_is}
@@ -264,10 +265,10 @@ module _ (z : Zone) (valid : IsValidZone z) where
       let starts : List Stage = StartWord ((s + length q) % z.cap) ∷ [] in
       let sizes : List Stage = cond (n == z.cap) [] (SizeWord (min z.cap (n + length q)) ∷ []) in
       let room : 0 < z.cap = omega (arith, valid.room) in
-      all-append IsCallStage (sizes ++ starts ++ first ++ second) (ParityOf Header ∷ [])
-      (all-append IsCallStage (sizes ++ starts ++ first) second
-      (all-append IsCallStage (sizes ++ starts) first
-      (all-append IsCallStage sizes starts (size-small (n == z.cap)) (
+      AllByRecursion-append IsCallStage (sizes ++ starts ++ first ++ second) (ParityOf Header ∷ [])
+      (AllByRecursion-append IsCallStage (sizes ++ starts ++ first) second
+      (AllByRecursion-append IsCallStage (sizes ++ starts) first
+      (AllByRecursion-append IsCallStage sizes starts (size-small (n == z.cap)) (
         (
           (let m : (s + length q) % z.cap < z.cap = mod-lt (s + length q) room in
               omega (arith, valid.cap, valid.at_most)),
@@ -302,7 +303,7 @@ module _ (z : Zone) (valid : IsValidZone z) where
 flat-small : (parts : List (List Stage)) → AllByRecursion (λ gs. AllByRecursion IsCallStage gs) parts
     → AllByRecursion IsCallStage (flat_map (λ part. part) parts)
 flat-small [] h = tt
-flat-small (p ∷ ps) h = all-append IsCallStage p (flat_map (λ part. part) ps) h.0 (flat-small ps h.1)
+flat-small (p ∷ ps) h = AllByRecursion-append IsCallStage p (flat_map (λ part. part) ps) h.0 (flat-small ps h.1)
 
 pub each-small : (parts : List (List Stage)) → AllByRecursion (λ gs. AllByRecursion IsCallStage gs) parts
     → AllByRecursion (λ gs. AllByRecursion IsSmall gs) parts
@@ -340,15 +341,15 @@ header_codeword-says r w a b c =
     let a4 : List ℕ = to_le_bytes w32 w.sig in
     let b4 : List ℕ = to_le_bytes w32 w.start in
     let c4 : List ℕ = to_le_bytes w32 w.size in
-    let all : AllByRecursion (λ b. b < 256) bytes = bytes-append (a4 ++ b4) c4
-    (bytes-append a4 b4 (bytes-all a4 (word-bytes w.sig)) (bytes-all b4 (word-bytes w.start)))
+    let all : AllByRecursion (λ b. b < 256) bytes = AllByRecursion-append (λ b. b < 256) (a4 ++ b4) c4
+    (AllByRecursion-append (λ b. b < 256) a4 b4 (bytes-all a4 (word-bytes w.sig)) (bytes-all b4 (word-bytes w.start)))
     (bytes-all c4 (word-bytes w.size)) in
     let made : IsWord r (parity_of r bytes) × IsCodeword r (bytes ++ parity_of r bytes) =
     parity_made r bytes (refl, all) in
     record {
       word = (
         length-append bytes (parity_of r bytes) ∙ omega (arith, made.0.0),
-        bytes-append bytes (parity_of r bytes) all made.0.1,
+        AllByRecursion-append (λ b. b < 256) bytes (parity_of r bytes) all made.0.1,
       );
       codeword = made.1;
       words = words_eq (words_in (header_codeword r w)) w (from_le_bytes-to_le_bytes_4 w.sig a)

@@ -3,3 +3,4 @@ pub mod Ranges
 pub mod Slices
 pub mod Gets
 pub mod RoundingUp
+pub mod Tests

@@ -95,13 +95,9 @@ each-zip-map layout xs P Q f step each = (
 pub each-map : {Y : Type 0} (layout : List Zone) (Q : Zone → Y → Type 0) (f : Zone → Y)
     → ((i : ℕ) (z : Zone) → slice_get layout i ≡ Some z → Q z (f z)) → EachZone layout (map f layout) Q
 each-map layout Q f step = (
-  length-all f layout,
+  length-map layout f,
   λ i z y hz hy. subst (Q z) (get-map f layout i z y hz hy) (step i z hz),
 )
-  where
-    length-all : {A B : Type 0} (g : A → B) (xs : List A) → length (map g xs) ≡ length xs
-    length-all g [] = refl
-    length-all g (x ∷ xs) = ap suc (length-all g xs)
 
 -- no pair of a test that holds for none
 pub none_any : {X Y : Type 0} (p : X × Y → Bool) (xs : List X) (ys : List Y) (i : ℕ) (x : X) (y : Y)

@@ -3,6 +3,7 @@ use Rattle.std.proofs.Common.{◌≡◌, ℕ, zero, suc, ◌+◌, ◌<◌, List,
 use Rattle.std.specs.Int.{to_le_bytes}
 use Rattle.std.specs.List.{AllByRecursion}
 use Rattle.std.proofs.lemmas.List.{append-nil}
+use Rattle.list_laws.proofs.Elements.{AllByRecursion-append}
 use Rattle.code_spec.specs.Code.{parity_of}
 use Rattle.code_laws.proofs.Laws.{parity_made}
 use Rattle.zone_spec.specs.declared.Zone.{Zone}
@@ -17,7 +18,6 @@ use Rattle.zone_spec.specs.Boot.{fix_stores, part_fixes, boot_fixes, blocks_read
 use Rattle.ring_laws.proofs.PartsLaw.{slice_range-bytes}
 use Rattle.ring_laws.proofs.PartWords.{bytes-all, bytes-each}
 use Rattle.ring_laws.proofs.BootLaw.{length-reading}
-use Rattle.ring_laws.proofs.StoreBytes.{all-append}
 use Rattle.prz_read.proofs.Storing.{byte-length}
 
 -- ---- stores of bytes leave bytes
@@ -55,7 +55,8 @@ unfolding fix_stores
 fix-bytes p [] ys h = tt
 fix-bytes p (x ∷ xs) [] h = tt
 fix-bytes p (x ∷ xs) (y ∷ ys) h =
-    all-append HasBytes (if x == y then [] else record { place = p; bytes = y ∷ [] } ∷ []) (fix_stores (p + 1) xs ys)
+    AllByRecursion-append HasBytes (if x == y then [] else record { place = p; bytes = y ∷ [] } ∷ [])
+    (fix_stores (p + 1) xs ys)
     (one (x == y)) (fix-bytes (p + 1) xs ys (λ i. h (suc i)))
   where
     one : (t : Bool) → AllByRecursion HasBytes (if t then [] else record { place = p; bytes = y ∷ [] } ∷ [])
@@ -65,13 +66,14 @@ fix-bytes p (x ∷ xs) (y ∷ ys) h =
 blocks-bytes : (z : Zone) (x : List ℕ) (ks : List ℕ) → AreBytes x
     → AllByRecursion HasBytes (flat_map (λ (k : ℕ). part_fixes z x (Block k)) ks)
 blocks-bytes z x [] h = tt
-blocks-bytes z x (k ∷ ks) h = all-append HasBytes (part_fixes z x (Block k))
+blocks-bytes z x (k ∷ ks) h = AllByRecursion-append HasBytes (part_fixes z x (Block k))
     (flat_map (λ (k : ℕ). part_fixes z x (Block k)) ks) (fix-bytes _ _ _ (length-reading z x (Block k) h).1)
     (blocks-bytes z x ks h)
 
 pub fixes-bytes : (z : Zone) (x : List ℕ) → AreBytes x → AllByRecursion HasBytes (boot_fixes z x)
 unfolding boot_fixes
-fixes-bytes z x h = all-append HasBytes (part_fixes z x Header) _ (fix-bytes _ _ _ (length-reading z x Header h).1)
+fixes-bytes z x h = AllByRecursion-append HasBytes (part_fixes z x Header) _
+    (fix-bytes _ _ _ (length-reading z x Header h).1)
     (blocks-bytes z x (blocks_read z (zone_reading z x) (zone_reading z x).state) h)
 
 -- ---- the signature
@@ -99,8 +101,9 @@ abbrev pub word_stores : Zone → State → List ℕ → List Store
 word_stores z s x = stores_in_turn z (signing z s) x ++ word_store 4 0 ++ word_store 8 0
 
 pub words-bytes : (z : Zone) (s : State) (x : List ℕ) → AllByRecursion HasBytes (word_stores z s x)
-words-bytes z s x = all-append HasBytes (stores_in_turn z (signing z s) x ++ word_store 4 0) (word_store 8 0)
-    (all-append HasBytes (stores_in_turn z (signing z s) x) (word_store 4 0) (signing-bytes z x s) (word-bytes 0, tt))
+words-bytes z s x = AllByRecursion-append HasBytes (stores_in_turn z (signing z s) x ++ word_store 4 0) (word_store 8 0)
+    (AllByRecursion-append HasBytes (stores_in_turn z (signing z s) x) (word_store 4 0) (signing-bytes z x s)
+    (word-bytes 0, tt))
     (word-bytes 0, tt)
 
 -- ---- the header's parity

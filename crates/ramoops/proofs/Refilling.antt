@@ -1,6 +1,7 @@
 -- A log appended in a zone that is told nothing yet
 use Rattle.std.proofs.Common.{◌≡◌, ℕ, zero, suc, ◌+◌, ◌%◌, ◌<◌, ◌≤◌, Bool, true, false, cond, not, ◌&&◌, ◌==◌, is_some, List, [], ◌∷◌, length, slice_get, get_or, set, refl, sym, ap, ap₂, ◌∙◌, subst, arith, Option, Some, None, true≢false, eqb-true}
 use Rattle.std.proofs.lemmas.Option.{slice_get-get_or, slice_get_read, slice_get_within}
+use Rattle.std.proofs.Math.Bool.{and-false}
 use Rattle.circular_buffer.specs.Buffer.{Buffer}
 use Rattle.zone_spec.specs.declared.Zone.{Zone}
 use Rattle.zone_spec.specs.Zones.{IsValidZone}
@@ -266,11 +267,7 @@ log_added u v w i log says begins ends layout mem s z live stands ez el =
 
 none_turns : (o : Option Flight) → (flies_dump o && not (is_some o)) ≡ false
 none_turns None = refl
-none_turns (Some f) = by (flies_dump (Some f))
-  where
-    by : (b : Bool) → (b && false) ≡ false
-    by true = refl
-    by false = refl
+none_turns (Some f) = and-false (flies_dump (Some f))
 
 pub log_left : (u : LiveSeen) (i : ℕ) (log : List ℕ) → SaysBlank i u false
     → ChangesZone (λ z live. with_log z live log) i u u
