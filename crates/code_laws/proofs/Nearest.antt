@@ -49,6 +49,7 @@ module _ (test : List ℕ → Bool) where
   Among-words (suc n) (b ∷ bs) h = Among-bytes b 256 0 bs (words_of n) (omega arith) (omega (arith, h.1.0))
       (Among-words n bs (omega (arith, h.0), h.1.1))
 
+  -- all words of n bytes are such
   Words-map : (b n : ℕ) (xs : List (List ℕ)) → b < 256 → AllByRecursion (IsWord n) xs
       → AllByRecursion (IsWord (suc n)) (map (λ x. b ∷ x) xs)
   Words-map b n [] l h = tt

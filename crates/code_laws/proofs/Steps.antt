@@ -1,7 +1,6 @@
 -- one step of the generator, and one of the division by it
 use Rattle.std.proofs.Common.{◌≡◌, ℕ, zero, suc, ◌+◌, ◌<◌, ◌≤◌, List, ◌++◌, ◌∷◌, [], length, get_or, refl, sym, ap, ap₂, ◌∙◌, arith, length-append, ◌⊎◌, inl, inr, add-one, zero-add, Bool, true, false, cond, eqb}
-use Rattle.std.proofs.lemmas.Bool.Decides.{Decides-eqb}
-use Rattle.std.proofs.lemmas.Bool.{cases_lt}
+use Rattle.std.proofs.lemmas.Bool.{cases_lt, eq-eqb}
 use Rattle.code_laws.proofs.Words.{law_of_distance}
 use Rattle.std.proofs.lemmas.List.{get_or_append_left, append_cancel_left}
 use Rattle.code_spec.specs.Field.{gf_add, gf_mul, gf_pow}
@@ -107,11 +106,8 @@ zeros_codeword r o h = record { at = λ i l. zeros_value o (gf_pow 2 i) h }
 distance_joined : (m p q : List ℕ) → distance (m ++ p) (m ++ q) ≡ distance p q
 unfolding distance
 distance_joined [] p q = refl
-distance_joined (c ∷ m) p q = ap (λ (b : Bool). cond b 0 1 + distance (m ++ p) (m ++ q)) (same c)
+distance_joined (c ∷ m) p q = ap (λ (b : Bool). cond b 0 1 + distance (m ++ p) (m ++ q)) (eq-eqb c c refl)
     ∙ zero-add (distance (m ++ p) (m ++ q)) ∙ distance_joined m p q
-  where
-    same : (c : ℕ) → eqb c c ≡ true
-    same c = (Decides-eqb c c).1 refl
 
 distance_le : (p q : List ℕ) → distance p q ≤ length p
 unfolding distance

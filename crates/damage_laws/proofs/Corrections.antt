@@ -3,7 +3,7 @@ use Rattle.std.proofs.Common.{◌≡◌, ◌≢◌, ℕ, zero, suc, ◌+◌, ◌
 use Rattle.std.specs.Prelude.{sum_by}
 use Rattle.std.proofs.lemmas.Bool.{cases_lt, cases_eq}
 use Rattle.std.proofs.lemmas.Bool.Decides.{nat_tests}
-use Rattle.std.proofs.lemmas.List.{get_or_past}
+use Rattle.std.proofs.lemmas.List.{get_or_past, take-append-le}
 use Rattle.std.proofs.lemmas.List.Sums.{sum_by-cons}
 use Rattle.std.specs.List.{AllByRecursion, range_with_len}
 use Rattle.list_laws.proofs.Elements.{AllByRecursion-append}
@@ -27,7 +27,6 @@ use Rattle.ring_laws.proofs.PartWords.{part_word-IsWord, length-part_bytes, leng
 use Rattle.ring_laws.proofs.States.{reading_is, reading_state, reading_words, state_in_reading, words_in_reading, below_count, count_below}
 use Rattle.ring_laws.proofs.Fixes.{Fixes, IsFix, IsMended, fix_stores-all, one_part, below_parity, word_left, word_right, length-bytes_most, put_one, part_byte}
 use Rattle.ring_laws.proofs.BootLaw.{IsRead, fixed_mended, fixed_image, length-word}
-use Rattle.damage_laws.proofs.CutHeader.{take-left}
 
 -- ---- a list of stores at rising places, each changing its byte
 
@@ -444,7 +443,7 @@ unfolding boot_stores
 corrections_keep_reading z now k valid im h =
     let rest : List Store = stores_in_turn z (boot_erasure z now) (after_stores now (boot_fixes z now)) in
     let y : List ℕ = after_stores now (take k (boot_fixes z now)) in
-    let is : after_boot_stores z now k ≡ y = ap (after_stores now) (take-left k (boot_fixes z now) rest h) in
+    let is : after_boot_stores z now k ≡ y = ap (after_stores now) (take-append-le k (boot_fixes z now) rest h) in
     let words : words_read z y ≡ words_read z now = ap words_in (fixed_mended z valid now im k Header).reading in
     let r : ZoneReading = zone_reading z now in
     let reads : zone_reading z y ≡ reading_in z y r.words r.state =

@@ -7,7 +7,8 @@ use Rattle.std.proofs.lemmas.Bool.{cases_lt}
 use Rattle.std.proofs.lemmas.Bool.Decides.{nat_tests}
 use Rattle.std.proofs.lemmas.List.Sums.{sum_by-append}
 use Rattle.std.specs.List.{AllByRecursion}
-use Rattle.list_laws.proofs.Elements.{AllByRecursion-append}
+use Rattle.std.proofs.lemmas.List.{take-append-le}
+use Rattle.list_laws.proofs.Elements.{AllByRecursion-append, take-append_past}
 use Rattle.zone_spec.specs.declared.Zone.{Zone}
 use Rattle.zone_spec.specs.declared.Words.{Words}
 use Rattle.zone_spec.specs.declared.Pair.{Pair}
@@ -84,18 +85,6 @@ behind-all place bs x h =
 behind_parity : (z : Zone) (part : Part) → 12 ≤ part_parity_at z part
 behind_parity z Header = omega arith
 behind_parity z (Block b) = omega arith
-
-pub take-left : {X : Type 0} (k : ℕ) (xs ys : List X) → k ≤ length xs → take k (xs ++ ys) ≡ take k xs
-take-left zero xs ys h = refl
-take-left (suc k) [] ys h = absurd (omega arith)
-take-left (suc k) (x ∷ xs) ys h = ap (λ zs. x ∷ zs) (take-left k xs ys (omega arith))
-
-pub take-right : {X : Type 0} (k : ℕ) (xs ys : List X) → length xs ≤ k
-    → take k (xs ++ ys) ≡ xs ++ take (k - length xs) ys
-take-right k [] ys h = (let e : k ≡ k - 0 = omega arith in ap (λ n. take n ys) e)
-take-right zero (x ∷ xs) ys h = absurd (omega arith)
-take-right (suc k) (x ∷ xs) ys h = ap (λ zs. x ∷ zs) (take-right k xs ys (omega arith)
-    ∙ ap (λ n. xs ++ take n ys) (omega arith))
 
 module _ (z : Zone) where
   pub sig_put : (x : List ℕ) (n : ℕ) → 12 ≤ length x → n < 2 ^ 32
@@ -189,7 +178,7 @@ module _ (z : Zone) where
           [],
           g ∷ gs,
           refl,
-          ap (λ ts. standing_words (after_stores x ts)) (take-left k ss rest (omega arith))
+          ap (λ ts. standing_words (after_stores x ts)) (take-append-le k ss rest (omega arith))
               ∙ stage_part g x k l,
         )
         | inr m ↦
@@ -197,7 +186,7 @@ module _ (z : Zone) where
               g ∷ t.0,
               t.1,
               ap (λ us. g ∷ us) t.2,
-              ap (λ us. standing_words (after_stores x us)) (take-right k ss rest m)
+              ap (λ us. standing_words (after_stores x us)) (take-append_past k ss rest m)
                   ∙ ap standing_words (after_stores-append x ss (take (k - length ss) rest))
                   ∙ t.3 ∙ ap (λ w. words_after w t.0) (stage_words g x h small.0)
                   ∙ words_after-cons (standing_words x) g t.0,

@@ -3,7 +3,7 @@ use Rattle.std.proofs.Common.{◌≡◌, ℕ, zero, suc, ◌+◌, ◌-◌, ◌*�
 use Rattle.std.proofs.lemmas.Bool.Decides.{nat_tests}
 use Rattle.std.proofs.lemmas.List.{length-map}
 use Rattle.std.specs.List.{range_with_len}
-use Rattle.list_laws.proofs.Elements.{bytes_eq_self}
+use Rattle.std.proofs.lemmas.Slice.Eq.{bytes_eq-Decides}
 use Rattle.list_laws.proofs.Gets.{slice_get-map_some}
 use Rattle.zone_spec.specs.declared.Zone.{Zone}
 use Rattle.zone_spec.specs.declared.Words.{Words}
@@ -194,4 +194,4 @@ idle_zone_reads_told z stop now told valid hs hn ring head =
     }
   where
     verdict_same : (told log : List ℕ) → log ≡ told → verdict_of (Some told) log ≡ AsTold
-    verdict_same told log e = rw e (rw (bytes_eq_self told) refl)
+    verdict_same told log e = rw e (rw ((bytes_eq-Decides told told).1 refl) refl)

@@ -1,8 +1,6 @@
 -- Fronts of lists, runs of one element, and what holds of all elements. For proofs on bytes of zones, blocks and words.
-use Rattle.std.proofs.Common.{◌≡◌, ℕ, zero, suc, ◌-◌, ◌<◌, Bool, true, ◌||◌, List, [], ◌∷◌, ◌++◌, length, get_or, take, replicate, refl, sym, ap, ap₂, ◌∙◌, arith, take_all}
-use Rattle.std.proofs.lemmas.Bool.{eq-eqb}
+use Rattle.std.proofs.Common.{◌≡◌, ℕ, zero, suc, ◌-◌, ◌<◌, Bool, ◌||◌, List, [], ◌∷◌, ◌++◌, length, get_or, take, replicate, refl, sym, ap, ap₂, ◌∙◌, arith, take_all, ◌≤◌}
 use Rattle.std.specs.List.{AllByRecursion, list_any}
-use Rattle.std.specs.Str.{bytes_eq}
 
 pub take-append : {A : Type 0} (n : ℕ) (xs ys : List A) → take n (xs ++ ys) ≡ take n xs ++ take (n - length xs) ys
 take-append n [] ys = ap (λ (m : ℕ). take m ys) (let e : n ≡ n - 0 = omega arith in e)
@@ -10,6 +8,11 @@ take-append n [] ys = ap (λ (m : ℕ). take m ys) (let e : n ≡ n - 0 = omega 
 take-append zero (x ∷ xs) ys = ap (λ (m : ℕ). take m ys) (let e : 0 ≡ 0 - suc (length xs) = omega arith in e)
 take-append (suc n) (x ∷ xs) ys = ap (λ l. x ∷ l) (take-append n xs ys)
     ∙ ap (λ (m : ℕ). x ∷ (take n xs ++ take m ys)) (let e : n - length xs ≡ suc n - suc (length xs) = omega arith in e)
+
+-- a front that has the whole first list
+pub take-append_past : {A : Type 0} (n : ℕ) (xs ys : List A) → length xs ≤ n
+    → take n (xs ++ ys) ≡ xs ++ take (n - length xs) ys
+take-append_past n xs ys h = take-append n xs ys ∙ ap (λ l. l ++ take (n - length xs) ys) (take_all n xs h)
 
 -- a run of the default reads as the default everywhere
 pub get_or-replicate_default : {A : Type 0} (m n : ℕ) (d : A) → get_or (replicate m d) n d ≡ d
@@ -36,7 +39,3 @@ AllByRecursion_from_places P (x ∷ xs) h = (h 0, AllByRecursion_from_places P x
 pub list_any_same : {A : Type 0} (p q : A → Bool) (xs : List A) → ((x : A) → p x ≡ q x) → list_any p xs ≡ list_any q xs
 list_any_same p q [] same = refl
 list_any_same p q (x ∷ xs) same = ap₂ (λ (a b : Bool). a || b) (same x) (list_any_same p q xs same)
-
-pub bytes_eq_self : (xs : List ℕ) → bytes_eq xs xs ≡ true
-bytes_eq_self [] = refl
-bytes_eq_self (x ∷ xs) = rw (eq-eqb x x refl) (bytes_eq_self xs)

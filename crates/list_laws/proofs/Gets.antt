@@ -2,6 +2,7 @@
 -- go over zones and what belongs to each.
 use Rattle.std.proofs.Common.{◌≡◌, ℕ, zero, suc, ◌<◌, List, [], ◌∷◌, length, map, slice_get, refl, ap, arith, Some, None}
 use Rattle.std.specs.List.{zip}
+use Rattle.std.specs.Option.{option_map}
 
 pub slice_get_there : {X : Type 0} (xs : List X) (i : ℕ) → i < length xs → (x : X) × (slice_get xs i ≡ Some x)
 slice_get_there [] i h = absurd (omega arith)
@@ -30,3 +31,10 @@ slice_get-zip_some (u ∷ us) [] i x y e h = let n : None ≡ Some y = h in cc
 slice_get-zip_some (u ∷ us) (v ∷ vs) zero x y e h =
     let a : u ≡ x = cc in let b : v ≡ y = cc in rw (a, b) refl
 slice_get-zip_some (u ∷ us) (v ∷ vs) (suc i) x y e h = slice_get-zip_some us vs i x y e h
+
+pub slice_get-zip_second : {X Y : Type 0} (xs : List X) (ys : List Y) (i : ℕ) (y : Y) → i < length xs
+    → slice_get ys i ≡ Some y → option_map (λ (p : X × Y). p.1) (slice_get (zip xs ys) i) ≡ Some y
+slice_get-zip_second [] ys i y l h = absurd (omega arith)
+slice_get-zip_second (x ∷ xs) [] i y l h = cc
+slice_get-zip_second (x ∷ xs) (w ∷ ws) zero y l h = h
+slice_get-zip_second (x ∷ xs) (w ∷ ws) (suc i) y l h = slice_get-zip_second xs ws i y (omega arith) h

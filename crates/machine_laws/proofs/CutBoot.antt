@@ -3,7 +3,7 @@ use Rattle.std.proofs.Common.{◌≡◌, ℕ, zero, suc, ◌+◌, ◌-◌, ◌<�
 use Rattle.std.specs.List.{AllByRecursion}
 use Rattle.std.proofs.lemmas.Bool.{cases_lt, or_left}
 use Rattle.std.proofs.lemmas.List.Sums.{sum_by-cons}
-use Rattle.std.proofs.lemmas.List.{length-map}
+use Rattle.std.proofs.lemmas.List.{length-map, take-map, take-append-le}
 use Rattle.zone_spec.specs.declared.Zone.{Zone}
 use Rattle.zone_spec.specs.declared.State.{State}
 use Rattle.zone_spec.specs.declared.State.TheVariants.{Unsigned, Empty, Invalid, Found}
@@ -26,7 +26,7 @@ use Rattle.ring_laws.proofs.HeaderWords.{header_length}
 use Rattle.damage_laws.proofs.Touched.{parity_length}
 use Rattle.ring_laws.proofs.PartWords.{part_word-IsWord, length-part_word}
 use Rattle.damage_laws.proofs.Within.{near_is}
-use Rattle.damage_laws.proofs.CutHeader.{header_toward, take-left}
+use Rattle.damage_laws.proofs.CutHeader.{header_toward}
 use Rattle.machine_laws.proofs.Lists.{parted-at}
 use Rattle.ring_laws.specs.Laws.{ReadsTold}
 use Rattle.ring_laws.proofs.Laws.{finished_zone_reads_told}
@@ -43,16 +43,6 @@ use Rattle.std.proofs.Math.Nat.{min-eq_left, min-eq_right, min-le_right}
 use Rattle.list_laws.proofs.Slices.{length-slice_range, get_or-slice_range}
 use Rattle.list_laws.proofs.Elements.{AllByRecursion-append, take-append}
 use Rattle.machine_spec.specs.BootPart.{boot_cut, moved, image_boot_stores, boot_count, left_at, boot_parted, zone_parted, zone_finished, zone_cut}
-
-take-none : {X : Type 0} (k : ℕ) (xs : List X) → xs ≡ [] → take k xs ≡ []
-take-none zero xs e = refl
-take-none (suc k) [] e = refl
-take-none (suc k) (x ∷ xs) e = cc
-
-take-map : {X Y : Type 0} (f : X → Y) (k : ℕ) (xs : List X) → take k (map f xs) ≡ map f (take k xs)
-take-map f zero xs = refl
-take-map f (suc k) [] = refl
-take-map f (suc k) (x ∷ xs) = ap (λ ys. f x ∷ ys) (take-map f k xs)
 
 -- ---- stores inside and outside a zone
 InZone : ℕ → Store → Type 0
@@ -346,7 +336,7 @@ left_or_stopped z old now later all n valid hs hn is whole =
     by false e false f =
         let most : n ≤ length (boot_fixes z now) = ltb-false (length (boot_fixes z now)) n f in
         let at : later ≡ after_stores now (take n (boot_fixes z now)) =
-        is ∙ ap (after_stores now) (take-left n (boot_fixes z now) rest most) in
+        is ∙ ap (after_stores now) (take-append-le n (boot_fixes z now) rest most) in
         inl (
           refl,
           (λ part own h. subst (λ y. IsWithinBounds z old.stop y part) (sym at)

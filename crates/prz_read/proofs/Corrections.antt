@@ -3,9 +3,9 @@ use Rattle.std.proofs.Common.{◌≡◌, ℕ, ◌+◌, ◌-◌, ◌*◌, ◌<◌
 use Rattle.std.specs.Int.{to_le_bytes}
 use Rattle.std.specs.List.{range_with_len}
 use Rattle.std.proofs.lemmas.Nat.{le_bytes_4}
-use Rattle.std.proofs.lemmas.List.{append-nil}
+use Rattle.std.proofs.lemmas.List.{append-nil, drop-drop}
 use Rattle.std.proofs.lemmas.Grind.{flat_map-append}
-use Rattle.list_laws.proofs.Slices.{drop-add, append-slice_range_thirds}
+use Rattle.list_laws.proofs.Slices.{append-slice_range_thirds}
 use Rattle.zone_spec.specs.declared.Zone.{Zone}
 use Rattle.zone_spec.specs.declared.Words.{Words}
 use Rattle.zone_spec.specs.declared.State.{State}
@@ -27,8 +27,8 @@ pub slice-same : (x y : List ℕ) (n a b : ℕ) → drop n x ≡ drop n y → n 
 slice-same x y n a b e le =
     let split : a ≡ n + (a - n) = omega arith in
     let same : drop a x ≡ drop a y =
-    ap (λ (m : ℕ). drop m x) split ∙ drop-add n (a - n) x ∙ ap (λ (l : List ℕ). drop (a - n) l) e
-    ∙ sym (drop-add n (a - n) y) ∙ ap (λ (m : ℕ). drop m y) (sym split) in
+    ap (λ (m : ℕ). drop m x) split ∙ sym (drop-drop (a - n) n x) ∙ ap (λ (l : List ℕ). drop (a - n) l) e
+    ∙ drop-drop (a - n) n y ∙ ap (λ (m : ℕ). drop m y) (sym split) in
     ap (λ (l : List ℕ). take (b - a) l) same
 
 -- ---- one block

@@ -2,9 +2,10 @@
 use Rattle.std.proofs.Common.{◌≡◌, ℕ, zero, suc, ◌+◌, ◌-◌, ◌*◌, ◌/◌, ◌%◌, ◌<◌, ◌≤◌, min, List, [], ◌++◌, length, take, drop, slice_range, flat_map, refl, sym, ap, ap₂, ◌∙◌, subst, arith, length-take, length-drop, length-append, take-append-drop, take_all, append_assoc}
 use Rattle.std.specs.List.{range_with_len}
 use Rattle.std.proofs.Math.Seq.{take-add, take-append_seam, drop-append_seam}
-use Rattle.std.proofs.lemmas.List.{append-nil}
+use Rattle.std.proofs.lemmas.List.{append-nil, drop-drop}
 use Rattle.std.proofs.lemmas.Grind.{div_ceil_times}
-use Rattle.list_laws.proofs.Slices.{length-slice_range, drop-add}
+use Rattle.std.proofs.Math.Nat.{min-le_right}
+use Rattle.list_laws.proofs.Slices.{length-slice_range}
 use Rattle.list_laws.proofs.RoundingUp.{div_ceil_is}
 use Rattle.zone_spec.specs.declared.Zone.{Zone}
 use Rattle.zone_spec.specs.declared.Words.{Words}
@@ -34,7 +35,7 @@ slice-split x a n m =
     ap (λ (k : ℕ). take k (drop a x)) (let e : a + (n + m) - a ≡ n + m = omega arith in e) ∙ take-add n m (drop a x)
     ∙ ap₂ (λ (k l : ℕ). take k (drop a x) ++ take l (drop n (drop a x)))
     (let e : n ≡ a + n - a = omega arith in e) (let e : m ≡ a + n + m - (a + n) = omega arith in e)
-    ∙ ap (λ (l : List ℕ). take (a + n - a) (drop a x) ++ take (a + n + m - (a + n)) l) (sym (drop-add a n x))
+    ∙ ap (λ (l : List ℕ). take (a + n - a) (drop a x) ++ take (a + n + m - (a + n)) l) (drop-drop n a x)
 
 pub fix-split : (x : List ℕ) (p : ℕ) (xs ys : List ℕ) → p + length xs ≤ length x
     → fix_stores p (slice_range x p (p + length xs)) xs
@@ -240,15 +241,12 @@ module _ {i : ℕ} {t t1 t2 t3 : Tally} {c c1 c2 c3 : CutRegion} where
       at2 l) in
       makes-same (ap₂ (λ (u v : List ℕ). data_fixes (span c i) ((u ++ v) ++ tail)) ef eb) all
 
-least : (m n : ℕ) → min m n ≤ n
-least m n = omega arith
-
 -- the bytes of the blocks that a boot reads lie in the data
 pub data-room : (z : Zone) (x : List ℕ) (n : ℕ) (tail : List ℕ)
     → bytes_read z x n ++ tail ≡ bytes_read z x (read_end z n) → n + length tail ≤ z.cap
 unfolding read_end
 data-room z x n tail e =
-    let le : read_end z n ≤ z.cap = least _ z.cap in
+    let le : read_end z n ≤ z.cap = min-le_right _ z.cap in
     let la = length-append (bytes_read z x n) tail in
     let na = bytes_read-length z x n in
     let ne = bytes_read-length z x (read_end z n) in

@@ -2,6 +2,7 @@
 use Rattle.std.proofs.Common.{◌≡◌, ℕ, zero, suc, ◌+◌, ◌%◌, ◌<◌, ◌≤◌, Bool, true, false, cond, not, ◌&&◌, ◌==◌, is_some, List, [], ◌∷◌, length, slice_get, get_or, set, refl, sym, ap, ap₂, ◌∙◌, subst, arith, Option, Some, None, true≢false, eqb-true}
 use Rattle.std.proofs.lemmas.Option.{slice_get-get_or, slice_get_read, slice_get_within}
 use Rattle.std.proofs.Math.Bool.{and-false}
+use Rattle.std.proofs.lemmas.List.{nil_from_length}
 use Rattle.circular_buffer.specs.Buffer.{Buffer}
 use Rattle.zone_spec.specs.declared.Zone.{Zone}
 use Rattle.zone_spec.specs.Zones.{IsValidZone}
@@ -169,10 +170,6 @@ log_started v x i log call zs d all bytes h g e running fit below blank ezs eall
 
 -- ---- whether a zone is blank
 
-length_none : (xs : List ℕ) → length xs ≡ 0 → xs ≡ []
-length_none [] e = refl
-length_none (x ∷ xs) e = absurd (omega (arith, e))
-
 none_flies : (o : Option Flying) → is_some o ≡ false → o ≡ None
 none_flies None e = refl
 none_flies (Some f) e = absurd (true≢false e)
@@ -201,7 +198,7 @@ says_blank v x i h says below e running eh is = record {
     both true eb t = absurd (true≢false (sym (rw eb at t)))
     both false eb t = (
       none_flies h.flight eb,
-      length_none h.told.items (let r : (length h.told.items == 0) ≡ true = rw eb at t in eqb-true _ _ r),
+      nil_from_length h.told.items (let r : (length h.told.items == 0) ≡ true = rw eb at t in eqb-true _ _ r),
     )
 
 -- ---- the whole append

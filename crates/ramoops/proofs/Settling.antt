@@ -1,7 +1,5 @@
 -- The stores of a boot, zone by zone
 use Rattle.std.proofs.Common.{◌≡◌, ◌≢◌, ℕ, zero, suc, ◌+◌, ◌<◌, ◌≤◌, List, [], ◌∷◌, length, take, slice_get, get_or, set, refl, sym, ap, ◌∙◌, subst, arith, inl, inr, Option, Some, length-set}
-use Rattle.std.specs.Prelude.{zip}
-use Rattle.std.specs.Option.{option_map}
 use Rattle.std.proofs.lemmas.Bool.{cases_lt}
 use Rattle.std.proofs.lemmas.List.{take_all, get_or-set_same}
 use Rattle.std.proofs.lemmas.Option.{slice_get-get_or, slice_get_within}
@@ -18,14 +16,6 @@ pub zone_is : (zs layout : List Zone) (i end readings : ℕ) → zs ≡ layout �
     → readings ≡ length layout → slice_get layout i ≡ Some (get_or zs i no_zone)
 zone_is zs layout i end readings e below a b = ap (λ (l : List Zone). slice_get l i) (sym e)
     ∙ slice_get-get_or zs i no_zone (let n = ap length e in omega (arith, n, below, a, b))
-
--- the second of the pair at a place
-pub second_at : {X Y : Type 0} (xs : List X) (ys : List Y) (i : ℕ) (y : Y) → i < length xs → slice_get ys i ≡ Some y
-    → option_map (λ (p : X × Y). p.1) (slice_get (zip xs ys) i) ≡ Some y
-second_at [] ys i y below e = absurd (omega (arith, below))
-second_at (x ∷ xs) [] i y below e = let n : ◌≡◌ {A = ℕ} 0 1 = cc in absurd (omega (arith, n))
-second_at (x ∷ xs) (w ∷ ws) zero y below e = e
-second_at (x ∷ xs) (w ∷ ws) (suc i) y below e = second_at xs ws i y (omega (arith, below)) e
 
 pub span-set : (c : CutRegion) (i : ℕ) (bytes : List ℕ) → i < length c.spans → span (with_span c i bytes) i ≡ bytes
 span-set c i bytes below = get_or-set_same c.spans i bytes [] below

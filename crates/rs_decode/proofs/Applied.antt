@@ -2,7 +2,7 @@
 -- to the other. For `corrected`, `apply` and the sums that tell whether a word is mended.
 use Rattle.std.proofs.lemmas.Bool.{cases_eq}
 use Rattle.std.proofs.Common.{◌≡◌, ◌≢◌, ℕ, zero, suc, ◌+◌, ◌-◌, ◌≤◌, ◌<◌, eqb, Bool, true, false, cond, refl, sym, ap, ap₂, ◌∙◌, arith, List, [], ◌∷◌, ◌++◌, length, get_or, take, set, ◌⊎◌, inl, inr, append_assoc, length-append, length-set, take_at, zero-add}
-use Rattle.std.proofs.lemmas.List.{set_at, get_or_at, set-append_left, set-append_right, set_past}
+use Rattle.std.proofs.lemmas.List.{set_at, get_or_at, set-append_left, set-append_right, set_past, get_or_append_left}
 use Rattle.code_spec.specs.Field.{gf_add, gf_mul, gf_pow}
 use Rattle.code_laws.proofs.Ring.{ring, add_assoc, add_cancel, add_below, equal_from_add, add_zero}
 use Rattle.code_spec.specs.Code.{value_of, distance}
@@ -166,11 +166,6 @@ applied_near t r n w fs b a l h = record {
   near = omega (arith, applied-near w fs);
 }
 
-get_or-left : (m p : List ℕ) (i : ℕ) → i < length m → get_or (m ++ p) i 0 ≡ get_or m i 0
-get_or-left [] p i l = absurd (omega arith)
-get_or-left (c ∷ m) p zero l = refl
-get_or-left (c ∷ m) p (suc i) l = get_or-left m p i (omega arith)
-
 -- the fixes of a word make those of its front
 pub take-applied : (n : ℕ) (fs : List Fix) (m p : List ℕ) → length m ≡ n → take n (applied fs (m ++ p)) ≡ applied fs m
 take-applied n [] m p e = take_at m p n e
@@ -186,7 +181,8 @@ take-applied n (f ∷ fs) m p e = go (cases_lt f.place (length m)) (λ m' p' e'.
         → ((m' p' : List ℕ) → length m' ≡ n → take n (applied fs (m' ++ p')) ≡ applied fs m')
         → take n (applied fs (set (m ++ p) f.place v)) ≡ applied fs (set m f.place u)
     go (inl l) ih =
-        ap (λ (x : ℕ). take n (applied fs (set (m ++ p) f.place (gf_add x f.mask)))) (get_or-left m p f.place l)
+        ap (λ (x : ℕ). take n (applied fs (set (m ++ p) f.place (gf_add x f.mask))))
+        (get_or_append_left m p 0 f.place l)
         ∙ ap (λ (w : List ℕ). take n (applied fs w)) (set-append_left m p f.place u l)
         ∙ ih (set m f.place u) p (length-set m f.place u ∙ e)
     go (inr l) ih =

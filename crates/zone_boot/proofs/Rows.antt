@@ -1,11 +1,10 @@
 -- Numbers in a row, rounding up, and pieces of lists
-use Rattle.std.proofs.Common.{◌≡◌, ℕ, zero, suc, ◌+◌, ◌-◌, ◌≤◌, min, List, [], ◌∷◌, ◌++◌, length, take, drop, refl, sym, ap, ap₂, ◌∙◌, arith, length-take, length-append, append_assoc}
+use Rattle.std.proofs.Common.{◌≡◌, ℕ, zero, suc, ◌+◌, ◌-◌, ◌≤◌, min, List, [], ◌∷◌, ◌++◌, length, take, drop, sym, ap, ap₂, ◌∙◌, arith, length-take, length-append, append_assoc}
 use borrow.Rule.Slice.PartMut.{put_mid}
 use Rattle.std.specs.List.{range_with_len}
 use Rattle.std.proofs.Math.Seq.{drop-nil}
-use Rattle.std.proofs.lemmas.List.{take_all, take-append-drop, append-nil, drop_all}
+use Rattle.std.proofs.lemmas.List.{take_all, take-append-drop, append-nil, drop_all, drop-drop}
 use Rattle.list_laws.proofs.Elements.{take-append}
-use Rattle.list_laws.proofs.Slices.{drop-add}
 
 -- ---- numbers in a row
 
@@ -17,10 +16,6 @@ range-drop (suc k) a zero = drop-nil (suc k)
 range-drop (suc k) a (suc n) =
     range-drop k (a + 1) n ∙ ap₂ (λ (b m : ℕ). range_with_len b m) (let e : a + 1 + k ≡ a + suc k = omega arith in e)
     (let e : n - k ≡ suc n - suc k = omega arith in e)
-
-pub range-length : (a n : ℕ) → length (range_with_len a n) ≡ n
-range-length a zero = refl
-range-length a (suc n) = ap suc (range-length (a + 1) n)
 
 pub range-take : (k a n : ℕ) → take k (range_with_len a n) ≡ range_with_len a (min k n)
 range-take zero a n = ap (λ (m : ℕ). range_with_len a m) (let e : 0 ≡ min 0 n = omega arith in e)
@@ -45,7 +40,7 @@ module _ {A : Type 0} where
 pub put-is : (a n : ℕ) (xs ys : List ℕ) → put_mid a (a + n - a) xs ys ≡ take a xs ++ ys ++ drop (a + n) xs
 put-is a n xs ys =
     ap (λ (k : ℕ). take a xs ++ (ys ++ drop k (drop a xs))) (let e : a + n - a ≡ n = omega arith in e)
-    ∙ ap (λ (l : List ℕ). take a xs ++ (ys ++ l)) (sym (drop-add a n xs)) ∙ sym (append_assoc (take a xs) ys _)
+    ∙ ap (λ (l : List ℕ). take a xs ++ (ys ++ l)) (drop-drop n a xs) ∙ sym (append_assoc (take a xs) ys _)
 
 pub put-none : (a : ℕ) (xs ys : List ℕ) → ys ≡ [] → xs ≡ take a xs ++ ys ++ drop (a + 0) xs
 put-none a xs ys e =
@@ -68,7 +63,7 @@ put-then a n m p q xs xs1 ys zs ep eq room long e =
     ap (λ (u : List ℕ). drop (a + n + m) u) e ∙ drop-append (a + n + m) front (drop (a + n) xs)
     ∙ ap₂ (λ (u v : List ℕ). u ++ v) (drop_all (a + n + m) front (omega (arith, l)))
     (ap (λ (k : ℕ). drop k (drop (a + n) xs)) (let z : a + n + m - length front ≡ m = omega (arith, l) in z))
-    ∙ sym (drop-add (a + n) m xs)
+    ∙ drop-drop m (a + n) xs
     ∙ ap (λ (k : ℕ). drop k xs) (let z : a + n + m ≡ a + (n + m) = omega arith in z) in
     ap₂ (λ (k l : ℕ). take k xs1 ++ zs ++ drop l xs1) ep eq
     ∙ ap₂ (λ (u v : List ℕ). u ++ zs ++ v) one two
