@@ -13,10 +13,11 @@ use Rattle.code_laws.proofs.Symbols.{Symbols}
 use Rattle.decoder_laws.proofs.Polynomials.{value_of-reciprocal}
 use Rattle.code_laws.proofs.Words.{spots_of, not_among_spots, spots_of-are}
 use Rattle.decoder_laws.proofs.Locators.{locator_at, locator_at-below, locator_at_some, horner-locator}
-use Rattle.decoder_laws.proofs.Powers.{add_some, inverse_power, value_below, power_some}
+use Rattle.decoder_laws.proofs.Powers.{add_some, value_below, power_some}
 use Rattle.decoder_laws.specs.Chien.{at_power, powers_of, roots_of, PowersBelow}
 use Rattle.decoder_laws.specs.Forney.{Below255}
 use Rattle.std.proofs.lemmas.Bool.{cases_lt, ne_eqb, eq-eqb, cond-true, cond-false}
+use Rattle.code_laws.proofs.Powers.{pow_inverse}
 use Rattle.decoder_laws.specs.Damage.{IsFound}
 
 pub spots_of-nil : spots_of [] ≡ []
@@ -139,7 +140,7 @@ locator_there : (D v r : List ℕ) (c j : ℕ) → IsFound D v r c → j < lengt
     ≡ locator_at (gf_pow 2 j) (spots_of D)
 locator_there D v r c j h l =
     ap (gf_mul c) (value_of-reciprocal (gf_pow 2 j) (gf_pow 2 (255 - j)) (pow_below 2 j) (pow_below 2 (255 - j))
-    (inverse_power j (omega (arith, h.len))) v h.v_bytes (length (spots_of D)) (omega (arith, h.degree)))
+    (pow_inverse j (omega (arith, h.len))) v h.v_bytes (length (spots_of D)) (omega (arith, h.degree)))
     ∙ sym (horner-scale (gf_pow 2 j) c (length (spots_of D)) (poly v))
     ∙ ap (λ (p : ℕ → ℕ). horner (gf_pow 2 j) p (length (spots_of D))) (sym h.locator_is)
     ∙ horner-locator (gf_pow 2 j) (spots_of D)

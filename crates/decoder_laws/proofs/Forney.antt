@@ -14,10 +14,11 @@ use Rattle.decoder_laws.proofs.Polynomials.{value_of-reciprocal}
 use Rattle.code_laws.proofs.Words.{spots_of, not_among_spots}
 use Rattle.decoder_laws.proofs.KeyEquation.{evaluator-below}
 use Rattle.decoder_laws.proofs.Locators.{locator_at, horner-locator, horner-evaluator_cons}
-use Rattle.decoder_laws.proofs.Powers.{add_some, inverse_power, power_some, cancel_equal}
+use Rattle.decoder_laws.proofs.Powers.{add_some, power_some, cancel_equal}
 use Rattle.decoder_laws.specs.Chien.{at_power, powers_of}
 use Rattle.decoder_laws.specs.Forney.{gap_ratio, Below255}
 use Rattle.std.proofs.lemmas.Bool.{cases_lt, cases_eq, ne_eqb, eq-eqb, cond-true, cond-false}
+use Rattle.code_laws.proofs.Powers.{pow_inverse}
 use Rattle.decoder_laws.proofs.Chien.{spots_skip, spots_keep, at_here, at_below, locator_at_place, powers_skip, powers_keep}
 use Rattle.decoder_laws.specs.Damage.{IsFound}
 
@@ -166,7 +167,7 @@ gap_ratio-derivative (c ∷ d) j bj b = go (cases_eq c 0) (cases_eq (length d) j
         (pow_suc X (others_count (powers_of d) j))
         ∙ alg spot.X (gf_pow 2 (255 - j)) (gap_ratio (powers_of d) j) X (gf_pow X (others_count (powers_of d) j))
         ∙ ap₂ gf_mul (ap₂ gf_add (one_mul X (pow_below 2 j))
-        (ap (gf_mul spot.X) (inverse_power j (omega arith)) ∙ mul_one spot.X (pow_below 2 (length d)))) ih
+        (ap (gf_mul spot.X) (pow_inverse j (omega arith)) ∙ mul_one spot.X (pow_below 2 (length d)))) ih
         ∙ sym (ap (derivative_at X) (spots_keep c d nc) ∙ derivative_at_other X spot (spots_of d)
         (λ e. add_some (length d) j (omega arith) bj n (ap (λ (x : ℕ). gf_add (gf_pow 2 (length d)) x) e
         ∙ add_self (gf_pow 2 (length d)))))
@@ -228,7 +229,7 @@ found_mask D v r c j h l n b =
     ∙ sym (horner-evaluator_place D j k l h.len h.symbols n (sym (others_count_place D j l n)))
     ∙ ap (λ (p : ℕ → ℕ). horner X p k) h.evaluator_is ∙ horner-scale X c k (poly r)
     ∙ ap (gf_mul c) (sym (value_of-reciprocal X y (pow_below 2 j) (pow_below 2 (255 - j))
-    (inverse_power j (omega (arith, h.len))) r h.r_bytes k (omega (arith, h.r_low, others_count_place D j l n))))
+    (pow_inverse j (omega (arith, h.len))) r h.r_bytes k (omega (arith, h.r_low, others_count_place D j l n))))
     ∙ alg' c (value_of r y) P)
   where
     X : ℕ
@@ -263,7 +264,7 @@ pub gap_some : (i j : ℕ) → i < 255 → j < 255 → i ≢ j
     → gf_add 1 (gf_mul (gf_pow 2 i) (gf_pow 2 (255 - j))) ≢ 0
 gap_some i j bi bj n e =
     add_some i j bi bj n
-    (ap₂ gf_add (sym (ap (gf_mul (gf_pow 2 i)) (inverse_power j (omega arith))
+    (ap₂ gf_add (sym (ap (gf_mul (gf_pow 2 i)) (pow_inverse j (omega arith))
     ∙ mul_one (gf_pow 2 i) (pow_below 2 i))) (sym (mul_one (gf_pow 2 j) (pow_below 2 j)))
     ∙ sym (alg (gf_pow 2 j) (gf_pow 2 (255 - j)) (gf_pow 2 i)) ∙ ap (gf_mul (gf_pow 2 j)) e ∙ mul_zero (gf_pow 2 j))
   where

@@ -79,6 +79,11 @@ no_excess m p n bm h z = record {
       ∙ (zeros_codeword (length p) n z).at i l;
 }
 
+pub symbols_at : (w : List ℕ) (k : ℕ) → Symbols w → get_or w k 0 < 256
+symbols_at [] k h = omega arith
+symbols_at (c ∷ w) zero h = h.0
+symbols_at (c ∷ w) (suc k) h = symbols_at w k h.1
+
 -- a codeword: no excess
 pub codeword_excess : (m p n : List ℕ) → length m + length p ≤ 255 → Symbols m → Symbols p
     → IsAdded 1 n (parity_of (length p) m) p → HasRoots (length p) (m ++ p) → (k : ℕ) → k < length n → get_or n k 0 ≡ 0
@@ -86,9 +91,4 @@ codeword_excess m p n l bm bp h c k lk =
     let e : parity_of (length p) m ≡ p = (parity_law (length p) m p l (word_of m bm)).1
     (word_of p bp, codeword_of (length p) (m ++ p) c) in
     h.at k lk ∙ ap (λ (u : List ℕ). gf_add (get_or u k 0) (gf_mul 1 (get_or p k 0))) e
-    ∙ ap (gf_add (get_or p k 0)) (one_mul (get_or p k 0) (byte p k bp)) ∙ add_self (get_or p k 0)
-  where
-    byte : (w : List ℕ) (k : ℕ) → Symbols w → get_or w k 0 < 256
-    byte [] k h = omega arith
-    byte (c ∷ w) zero h = h.0
-    byte (c ∷ w) (suc k) h = byte w k h.1
+    ∙ ap (gf_add (get_or p k 0)) (one_mul (get_or p k 0) (symbols_at p k bp)) ∙ add_self (get_or p k 0)

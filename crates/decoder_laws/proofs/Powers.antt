@@ -1,6 +1,6 @@
 -- Powers of 2 differ, have inverses and are not zero, and factors cancel. For Chien's search, Forney's formula, and
 -- the sums of logarithms in rs_decode.
-use Rattle.std.proofs.Common.{◌≡◌, ◌≢◌, ℕ, zero, suc, ◌+◌, ◌-◌, ◌≤◌, ◌<◌, sym, ap, ◌∙◌, arith, List, [], ◌∷◌, length, ◌⊎◌, inl, inr}
+use Rattle.std.proofs.Common.{◌≡◌, ◌≢◌, ℕ, zero, suc, ◌+◌, ◌≤◌, ◌<◌, sym, ap, ◌∙◌, arith, List, [], ◌∷◌, length, ◌⊎◌, inl, inr}
 use Rattle.code_spec.specs.Field.{gf_add, gf_mul, gf_pow}
 use Rattle.code_laws.proofs.Ring.{mul_comm, mul_one, mul_below, add_below, mul_cancel_zero, pow_suc, pow_zero, pow_below, ring, add_self, mul_add, one_mul, equal_from_add, pow_add, pow_distinct, pow_255, mul_assoc}
 use Rattle.code_spec.specs.Code.{value_of}
@@ -16,9 +16,6 @@ add_some i j bi bj n e = go (cases_lt i j) (equal_from_add (gf_pow 2 i) (gf_pow 
     go : (i < j) ⊎ (j ≤ i) → gf_pow 2 i ≢ gf_pow 2 j
     go (inl l) e = pow_distinct i j l bj e
     go (inr l) e = pow_distinct j i (omega arith) bi (sym e)
-
-pub inverse_power : (j : ℕ) → j ≤ 255 → gf_mul (gf_pow 2 j) (gf_pow 2 (255 - j)) ≡ 1
-inverse_power j l = sym (pow_add 2 j (255 - j)) ∙ ap (gf_pow 2) (omega arith) ∙ pow_255
 
 pub power_some : (j k : ℕ) → gf_pow (gf_pow 2 j) k ≢ 0
 power_some j k = pow_some (gf_pow 2 j) k (pow_below 2 j) (pow_some 2 j (omega arith) (λ e. absurd (omega arith)))

@@ -1,8 +1,9 @@
 -- The stores of a boot's erasure
-use Rattle.std.proofs.Common.{◌≡◌, ℕ, zero, suc, ◌+◌, ◌<◌, List, [], ◌∷◌, ◌++◌, length, set, flat_map, refl, sym, ap, ap₂, ◌∙◌, arith, length-append, w32, if◌then◌else◌, ◌==◌, Bool, true, false}
+use Rattle.std.proofs.Common.{◌≡◌, ℕ, zero, suc, ◌+◌, List, [], ◌∷◌, ◌++◌, length, set, flat_map, refl, sym, ap, ap₂, ◌∙◌, arith, length-append, w32, if◌then◌else◌, ◌==◌, Bool, true, false}
 use Rattle.std.specs.Int.{to_le_bytes}
 use Rattle.std.specs.List.{AllByRecursion}
 use Rattle.std.proofs.lemmas.List.{append-nil}
+use Rattle.ring_laws.proofs.StoreCounts.{length-byte_stores}
 use Rattle.list_laws.proofs.Elements.{AllByRecursion-append}
 use Rattle.code_spec.specs.Code.{parity_of}
 use Rattle.code_laws.proofs.Laws.{parity_made}
@@ -15,22 +16,13 @@ use Rattle.zone_spec.specs.Stages.{stage_stores, stores_in_turn}
 use Rattle.zone_spec.specs.Calls.{erase_stages}
 use Rattle.zone_spec.specs.Reading.{ZoneReading, zone_reading}
 use Rattle.zone_spec.specs.Boot.{fix_stores, part_fixes, boot_fixes, blocks_read, boot_erasure, boot_stores, signing, keeps}
-use Rattle.ring_laws.proofs.PartsLaw.{slice_range-bytes}
+use Rattle.ring_laws.proofs.PartsLaw.{slice_range-bytes, set-bytes}
 use Rattle.ring_laws.proofs.PartWords.{bytes-all, bytes-each}
 use Rattle.ring_laws.proofs.BootLaw.{length-reading}
-use Rattle.prz_read.proofs.Storing.{byte-length}
 
 -- ---- stores of bytes leave bytes
 abbrev pub HasBytes : Store → Type 0
 HasBytes s = AreBytes s.bytes
-
-set-bytes : (x : List ℕ) (at b : ℕ) → AreBytes x → b < 256 → AreBytes (set x at b)
-set-bytes [] zero b h k i = h i
-set-bytes [] (suc at) b h k i = h i
-set-bytes (x ∷ xs) zero b h k zero = k
-set-bytes (x ∷ xs) zero b h k (suc i) = h (suc i)
-set-bytes (x ∷ xs) (suc at) b h k zero = h 0
-set-bytes (x ∷ xs) (suc at) b h k (suc i) = set-bytes xs at b (λ j. h (suc j)) k i
 
 put-bytes : (x : List ℕ) (at : ℕ) (bs : List ℕ) → AreBytes x → AreBytes bs → AreBytes (put x at bs)
 unfolding put
@@ -117,7 +109,8 @@ parity-long z x h = (parity_made z.parity (part_bytes z x Header)
 
 pub parity-length : (z : Zone) (x y : List ℕ) → AreBytes x → AreBytes y
     → length (parity_stores z x) ≡ length (parity_stores z y)
-parity-length z x y h k = byte-length _ _ ∙ parity-long z x h ∙ sym (parity-long z y k) ∙ sym (byte-length _ _)
+parity-length z x y h k = length-byte_stores _ _ ∙ parity-long z x h ∙ sym (parity-long z y k)
+    ∙ sym (length-byte_stores _ _)
 
 -- the words, and then the parity of the header that they leave
 pub erasure-is : (z : Zone) (s : State) (x : List ℕ) → word_stores z s x ++ parity_stores z

@@ -4,26 +4,17 @@ use Rattle.std.specs.List.{AllByRecursion}
 use Rattle.std.proofs.lemmas.Bool.{cases_lt}
 use Rattle.std.proofs.lemmas.List.{get_or_default, set-get_or, drop-set-lt, take-append-le, take_all, take_more}
 use Rattle.std.proofs.lemmas.Bool.Decides.{nat_tests}
+use Rattle.ring_laws.proofs.Images.{after_stores-append, length-after_stores}
 use Rattle.list_laws.proofs.Elements.{AllByRecursion-append, take-append}
 use Rattle.zone_spec.specs.Stores.{Store, put, after_stores, byte_stores}
 use Rattle.zone_spec.specs.Boot.{fix_stores}
 use Rattle.prz_region.specs.CutRegion.{CutRegion, span, with_span}
-use Rattle.prz_region.proofs.Cuts.{with_span-again, span-with_span, spans-length, put-length}
+use Rattle.prz_region.proofs.Cuts.{with_span-again, span-with_span, spans-length}
 use Rattle.prz_read.specs.declared.settling.Tally.{Tally}
 use Rattle.ring_laws.proofs.StoreBytes.{all-take}
 use Rattle.prz_read.specs.Making.{Makes}
 
 -- ---- stores in a row
-pub after_stores-append : (x : List ℕ) (ss ts : List Store)
-    → after_stores x (ss ++ ts) ≡ after_stores (after_stores x ss) ts
-unfolding after_stores
-after_stores-append x [] ts = refl
-after_stores-append x (s ∷ ss) ts = after_stores-append (put x s.place s.bytes) ss ts
-
-pub after_stores-length : (x : List ℕ) (ss : List Store) → length (after_stores x ss) ≡ length x
-unfolding after_stores
-after_stores-length x [] = refl
-after_stores-length x (s ∷ ss) = after_stores-length (put x s.place s.bytes) ss ∙ put-length x s.place s.bytes
 
 -- ---- stores up to a limit
 module _ (i : ℕ) (t : Tally) (c : CutRegion) where
@@ -46,7 +37,7 @@ module _ {i : ℕ} {t t' : Tally} {c c' : CutRegion} {ss : List Store} where
   makes-span m lt = ap (λ (d : CutRegion). span d i) m.spans ∙ span-with_span c i _ lt
 
   pub makes-length : Makes ss i t c t' c' → i < length c.spans → length (span c' i) ≡ length (span c i)
-  makes-length m lt = ap length (makes-span m lt) ∙ after_stores-length (span c i) _
+  makes-length m lt = ap length (makes-span m lt) ∙ length-after_stores (span c i) _
 
 module _ {i : ℕ} {t t' t'' : Tally} {c c' c'' : CutRegion} {ss ts : List Store} where
   pub makes-append : i < length c.spans → Makes ss i t c t' c' → Makes ts i t' c' t'' c''
@@ -145,11 +136,6 @@ byte-next p xs j b h e =
 pub byte-none : (p : ℕ) (xs : List ℕ) → [] ≡ byte_stores p (take 0 xs)
 unfolding byte_stores
 byte-none p xs = refl
-
-pub byte-length : (p : ℕ) (xs : List ℕ) → length (byte_stores p xs) ≡ length xs
-unfolding byte_stores
-byte-length p [] = refl
-byte-length p (x ∷ xs) = ap (λ (n : ℕ). suc n) (byte-length (p + 1) xs)
 
 -- ---- corrections
 pub fix-append : (p : ℕ) (xs us ys vs : List ℕ) → length xs ≡ length ys

@@ -2,13 +2,13 @@
 use Rattle.std.proofs.Common.{◌≡◌, ◌≢◌, ℕ, zero, suc, ◌+◌, ◌<◌, Bool, true, false, cond, ◌&&◌, ◌==◌, List, [], ◌∷◌, ◌++◌, length, map, take, slice_get, get_or, set, refl, sym, ap, ap₂, ◌∙◌, subst, arith, Option, Some, None, append-nil, true≢false, eqb-true, not, is_some, ◌%◌}
 use Rattle.std.specs.Prelude.{fold, zip}
 use Rattle.std.proofs.lemmas.List.{take_more}
-use Rattle.std.proofs.lemmas.List.Quantifiers.{position-Some}
 use Rattle.std.proofs.lemmas.Option.{slice_get-get_or}
 use Rattle.std.proofs.lemmas.Bool.{and_parts}
 use Rattle.std.proofs.Math.Bool.{and-false}
 use Rattle.circular_buffer.proofs.Places.{slice_get-some}
 use Rattle.machine_spec.specs.Zones.{dump_zones}
 use Rattle.std.proofs.lemmas.List.Concat.{flat_map-append}
+use Rattle.move_laws.proofs.Places.{name_at}
 use Rattle.list_laws.proofs.Gets.{slice_get-zip_parts, slice_get-map_some}
 use Rattle.zone_spec.specs.declared.Zone.{Zone}
 use Rattle.zone_spec.specs.declared.ZoneName.{ZoneName}
@@ -162,14 +162,6 @@ log_turns z live log = by (is_blank live) refl
         → (flies_dump live.flight && not (is_some (with_log z live log).flight)) ≡ false
     by true e = idle_turns live.flight (with_log z live log).flight (length live.told) e
     by false e = rw e (none_turns live.flight)
-
-name_at : (layout : List Zone) (name : ZoneName) (i : ℕ) (z : Zone) → zone_place layout name ≡ Some i
-    → slice_get layout i ≡ Some z → is_zone name z ≡ true
-name_at layout name i z place ez =
-    let p = position-Some (is_zone name) layout i z place in
-    let at : get_or layout i z ≡ z = (let g : Some (get_or layout i z) ≡ Some z =
-    sym (slice_get-get_or layout i z p.0) ∙ ez in cc) in
-    ap (is_zone name) (sym at) ∙ p.1
 
 one_log : (rs : List ZoneReading) (log : List ℕ) → log ∷ [] ≡ map (λ (r : ZoneReading). r.log) rs
     → (r : ZoneReading) × (rs ≡ r ∷ []) × (r.log ≡ log)

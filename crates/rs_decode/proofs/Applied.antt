@@ -12,17 +12,9 @@ use Rattle.rs_decode.specs.Fixes.{AllInside, fixes_from, applied, fixes_between,
 use Rattle.decoder_laws.specs.Damage.{weight, IsWithin}
 use Rattle.rs_decode.specs.declared.Fix.{Fix}
 use Rattle.std.proofs.lemmas.Bool.{cond-true, cond-false, eq-eqb, ne_eqb, cases_lt}
+use Rattle.decoder_laws.proofs.Nearest.{symbols_at}
 use Rattle.decoder_laws.proofs.Damage.{weight_is}
 use Rattle.code_laws.proofs.Nearest.{distance_self}
-
-pub symbols_of : (w : List ℕ) → ((k : ℕ) → get_or w k 0 < 256) → Symbols w
-symbols_of [] h = tt
-symbols_of (c ∷ w) h = (h 0, symbols_of w (λ k. h (suc k)))
-
-pub symbols_at : (w : List ℕ) (k : ℕ) → Symbols w → get_or w k 0 < 256
-symbols_at [] k h = omega arith
-symbols_at (c ∷ w) zero h = h.0
-symbols_at (c ∷ w) (suc k) h = symbols_at w k h.1
 
 symbols-set : (w : List ℕ) (i x : ℕ) → Symbols w → x < 256 → Symbols (set w i x)
 symbols-set [] i x h b = tt

@@ -10,7 +10,7 @@ use Rattle.zone_spec.specs.declared.Words.{Words}
 use Rattle.zone_spec.specs.Zones.{IsValidZone}
 use Rattle.zone_spec.specs.Parts.{words_in}
 use Rattle.code_spec.specs.Code.{IsWord, nearest, nearest_if, is_near, is_codeword, distance}
-use Rattle.code_laws.proofs.Nearest.{the_word-passes}
+use Rattle.code_laws.proofs.Nearest.{the_word-passes, distance_zero, distance_self}
 use Rattle.code_laws.proofs.Parity.{codeword_of}
 use Rattle.code_laws.proofs.Steps.{zeros_codeword}
 use Rattle.rs_decode.specs.Decoding.{decoded_by, decoded_at, within}
@@ -18,7 +18,7 @@ use Rattle.rs_decode.specs.declared.Decoded.TheVariants.{Clean, Fixed, Bad}
 use Rattle.salvage_spec.specs.Rings.{ring_in}
 use Rattle.salvage_spec.specs.declared.FoundRing.{FoundRing}
 use Rattle.salvage_laws.specs.Known.{known, amended, amends, put_in}
-use Rattle.salvage_laws.proofs.Amended.{distance_self, length-put_in, same_at_zero}
+use Rattle.salvage_laws.proofs.Amended.{length-put_in}
 use Rattle.salvage.specs.Headers.{ring_if, ring_near}
 use Rattle.salvage.proofs.Rings.{many, near_is, one_near}
 
@@ -118,7 +118,7 @@ exact r w = by (is_codeword r w) refl
         → (if leb (distance w c) 0 then Some c else None) ≡ None
     other c f n (inl h) =
         let p = the_word-passes (is_near r w) (length w) c n in
-        let same : w ≡ c = same_at_zero w c (sym p.1.0) h.1 in
+        let same : w ≡ c = distance_zero w c (sym p.1.0) h.1 in
         let code : is_codeword r c ≡ true = (and_parts (is_codeword r c) (leb (distance w c) (r / 2)) p.0).0 in
         let bad : true ≡ false = sym code ∙ (ap (is_codeword r) (sym same) ∙ f) in cc
     other c f n (inr h) = ap (λ (b : Bool). if b then Some c else None) h.0

@@ -6,13 +6,13 @@ use Rattle.zone_spec.specs.declared.Words.{Words}
 use Rattle.zone_spec.specs.Zones.{IsValidZone}
 use Rattle.zone_spec.specs.Parts.{words_in}
 use Rattle.code_spec.specs.Code.{IsWord, IsCodeword, IsNear, nearest, distance, parity_of}
-use Rattle.code_laws.proofs.Nearest.{nearest-IsNear}
+use Rattle.code_laws.proofs.Nearest.{nearest-IsNear, distance_zero, distance_self}
 use Rattle.code_laws.proofs.Laws.{nearest_law, parity_law}
 use Rattle.salvage_spec.specs.Rings.{IsRingOf, IsRingBy, is_ring_of, found_by, ring_in, ring_of}
 use Rattle.salvage_spec.specs.declared.FoundRing.{FoundRing}
 use Rattle.salvage_laws.specs.Known.{known, amended, amends, IsRingByKnown}
 use Rattle.salvage_laws.specs.Laws.{RingByKnown, CorrectedByKnown, ManyAmends, AllAmends, IsRingAsAmended, RingInIs}
-use Rattle.salvage_laws.proofs.Amended.{distance-put_in, word-put_in, same_at_zero, distance_self}
+use Rattle.salvage_laws.proofs.Amended.{distance-put_in, word-put_in}
 use Rattle.salvage_laws.proofs.Bytes.{has_known, are_known}
 
 -- a codeword near a word of so many bytes, within half the parity
@@ -106,7 +106,7 @@ to_amended z word c v w all is =
     let aw = amended_word z word w in
     let near = near_of z.parity (12 + z.parity) word c w is.nearest in
     record {
-      same = sym (same_at_zero (amended z word) c (aw.0 ∙ sym near.0.0) (omega (arith, close, all)));
+      same = sym (distance_zero (amended z word) c (aw.0 ∙ sym near.0.0) (omega (arith, close, all)));
       parity = parity_to z.parity c (fits z v) near.0 near.1;
       words = is.words;
     }
