@@ -1,5 +1,5 @@
--- Powers of 2 differ, have inverses and are not zero, and factors cancel. For Chien's search, Forney's formula, and
--- the sums of logarithms in rs_decode.
+-- Powers of 2 differ and are not zero, factors cancel, inverses are unique, and powers wrap at 255. For Chien's search,
+-- Forney's formula, and the sums of logarithms in rs_decode.
 use Rattle.std.proofs.Common.{◌≡◌, ◌≢◌, ℕ, zero, suc, ◌+◌, ◌≤◌, ◌<◌, sym, ap, ◌∙◌, arith, List, [], ◌∷◌, length, ◌⊎◌, inl, inr}
 use Rattle.code_spec.specs.Field.{gf_add, gf_mul, gf_pow}
 use Rattle.code_laws.proofs.Ring.{mul_comm, mul_one, mul_below, add_below, mul_cancel_zero, pow_suc, pow_zero, pow_below, ring, add_self, mul_add, one_mul, equal_from_add, pow_add, pow_distinct, pow_255, mul_assoc}
