@@ -11,7 +11,7 @@ use Rattle.blk_laws.specs.Sessions.{none_dropped}
 use Rattle.blk_laws.proofs.Zones.{after-none}
 use Rattle.blk_laws.proofs.Apart.{length-after, within-first}
 
-first-all : (n : ℕ) (ws : List Write) → bytes_in ws ≤ n → first_bytes n ws ≡ ws
+pub first-all : (n : ℕ) (ws : List Write) → bytes_in ws ≤ n → first_bytes n ws ≡ ws
 unfolding first_bytes bytes_in
 first-all n [] h = refl
 first-all n (w ∷ ws) h =

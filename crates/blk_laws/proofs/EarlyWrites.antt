@@ -1,5 +1,6 @@
 -- A fault within the first write of an append is early
-use Rattle.std.proofs.Common.{◌≡◌, ℕ, ◌-◌, ◌<◌, ◌≤◌, ◌==◌, min, Bool, true, false, if◌then◌else◌, List, [], ◌∷◌, ◌++◌, length, Some, sym, ap, ◌∙◌, arith, length-take}
+use Rattle.std.proofs.Common.{◌≡◌, ℕ, ◌-◌, ◌<◌, ◌≤◌, ◌==◌, min, Bool, true, false, if◌then◌else◌, List, [], ◌∷◌, ◌++◌, length, sym, ap, ◌∙◌, arith, length-take}
+use Rattle.std.proofs.lemmas.Option.{same_Some}
 use Rattle.zone_spec.specs.Told.{last_items}
 use Rattle.blk_spec.specs.declared.BlkRing.{BlkRing}
 use Rattle.blk_spec.specs.declared.BlkZone.{BlkZone}
@@ -14,7 +15,7 @@ use Rattle.blk_spec.specs.Session.{call_after}
 use Rattle.blk_laws.specs.Sessions.{IsEarly}
 use Rattle.blk_laws.specs.Ends.{holding, FirstWriteFaultsAreHarmless}
 use Rattle.blk_laws.proofs.CutSessions.{append-failed}
-use Rattle.blk_laws.proofs.Ends.{some-same, kept-through}
+use Rattle.blk_laws.proofs.Ends.{kept-through}
 use Rattle.blk_laws.proofs.Faults.{through-most}
 
 first-length : List Write → ℕ
@@ -72,7 +73,7 @@ first-write-faults b new ring payload before now old last is ends fault first op
     fault-early b new ring payload before now old last fault first open-ring in
     let ws : List Write = append_of b ring payload in
     let store : now ≡ after_writes (first_bytes fault.kept ws) before =
-    some-same _ _ (sym ends ∙ fault.store ∙ ap (store_after (first_bytes fault.kept ws)) is) in
+    same_Some _ _ (sym ends ∙ fault.store ∙ ap (store_after (first_bytes fault.kept ws)) is) in
     let kept : through b.cut fault.kept ≡ fault.kept = kept-through b.cut fault.kept fault.tried fault.most in
     let cut : new ≡ record b { cut = spent fault.tried b.cut } =
     state ∙ ap (λ (c : BlkCut). record b { cut = c }) fault.cut in (

@@ -1,5 +1,6 @@
 -- What the calls answer and leave is what calls of a session leave
 use Rattle.std.proofs.Common.{◌≡◌, ℕ, ◌≤◌, Bool, true, false, if◌then◌else◌, List, Option, Some, None, IfSome, Result, Ok, Err, refl, sym, ap, ◌∙◌, arith, ◌⊎◌, inl, inr}
+use Rattle.std.proofs.lemmas.Option.{same_Some}
 use Rattle.blk_spec.specs.declared.BlkLayout.{BlkLayout}
 use Rattle.blk_spec.specs.declared.BlkCut.{BlkCut}
 use Rattle.blk_spec.specs.declared.BlkCut.TheVariants.{Uncut, After, Dropped}
@@ -11,9 +12,6 @@ use Rattle.blk_spec.specs.States.{BlkState, append_refusal, append_of, appended,
 use Rattle.blk_spec.specs.Session.{Operation, Load, Append, Dump, Erase, NoRecord, cause_for, cause_loaded, cause_of, called, done_loaded, session_after, Done, Fails, NoMemory, failed_call, failed_in, call_after}
 use Rattle.blk_laws.specs.Ends.{Leaves, holding, held_after, AnswersAreCalls}
 use Rattle.blk_laws.proofs.Zones.{after-none}
-
-pub some-same : {X : Type 0} (x y : X) → Some x ≡ Some y → x ≡ y
-some-same x y e = cc
 
 -- what is kept had come through
 pub kept-through : (c : BlkCut) (kept tried : ℕ) → kept ≤ through c tried → through c kept ≡ kept
@@ -34,7 +32,7 @@ module _ (b new : BlkState) (operation : Operation) (refusal : Option BlkFault)
     (first : old.holds ≡ Some before) (ends : last.holds ≡ Some now)
     (is : IsCallOf b operation refusal ws next) where
   told : (vs : List Write) → last.holds ≡ store_after vs old.holds → now ≡ after_writes vs before
-  told vs e = some-same _ _ (sym ends ∙ e ∙ ap (store_after vs) first)
+  told vs e = same_Some _ _ (sym ends ∙ e ∙ ap (store_after vs) first)
 
   done-leaves : Answers (Ok tt) refusal ws pieces next b new old last
       → Leaves {T = Unit} (Ok tt) b.layout (holding before b) operation (holding now new)
@@ -68,7 +66,7 @@ module _ (b new : BlkState) (operation : Operation) (refusal : Option BlkFault)
       }
 
   same-session : new ≡ b → last ≡ old → holding before b ≡ holding now new
-  same-session state store = sym (ap (λ (xs : List ℕ). holding xs new) (some-same _ _
+  same-session state store = sym (ap (λ (xs : List ℕ). holding xs new) (same_Some _ _
       (sym ends ∙ ap (λ (d : Device). d.holds) store ∙ first))
       ∙ ap (λ (x : BlkState). holding before x) state)
 
@@ -103,12 +101,12 @@ unfolding call_after session_after cause_of
 load-leaves (Ok b) l None before now old last first ends same h = record {
   outcome = Done;
   answered = (refl, refl);
-  is = cc (rw first at h.1, some-same _ _ (sym ends ∙ h.2 ∙ ap (store_after (load_writes l)) first));
+  is = cc (rw first at h.1, same_Some _ _ (sym ends ∙ h.2 ∙ ap (store_after (load_writes l)) first));
 }
 load-leaves (Ok b) l (Some c) before now old last first ends same h = record {
   outcome = Done;
   answered = (refl, refl);
-  is = rw same (cc (rw first at h.1, some-same _ _ (sym ends ∙ h.2 ∙ ap (store_after (load_writes l)) first)));
+  is = rw same (cc (rw first at h.1, same_Some _ _ (sym ends ∙ h.2 ∙ ap (store_after (load_writes l)) first)));
 }
 load-leaves (Err StoreFault) l held before now old last first ends same h = record {
   outcome = Fails (kept h) 0;
@@ -122,8 +120,8 @@ load-leaves (Err StoreFault) l held before now old last first ends same h = reco
 
     store : (h : IsUnwritten old last ⊎ FailsWithin (load_writes l) (load_writes l) Uncut Uncut old last)
         → now ≡ after_writes (first_bytes (kept h) (load_writes l)) before
-    store (inl quiet) = some-same _ _ (sym ends ∙ quiet.0 ∙ first) ∙ sym (after-none (load_writes l) before)
-    store (inr f) = some-same _ _ (sym ends ∙ f.store ∙ ap (store_after (first_bytes f.kept (load_writes l))) first)
+    store (inl quiet) = same_Some _ _ (sym ends ∙ quiet.0 ∙ first) ∙ sym (after-none (load_writes l) before)
+    store (inr f) = same_Some _ _ (sym ends ∙ f.store ∙ ap (store_after (first_bytes f.kept (load_writes l))) first)
 
     none : (held : Option BlkState) → cause_of held Load ≡ None
     none None = refl
@@ -137,7 +135,7 @@ load-leaves (Err StoreFault) l held before now old last first ends same h = reco
 load-leaves (Err Memory) l held before now old last first ends same h = record {
   outcome = NoMemory;
   answered = refl;
-  is = ap (λ (xs : List ℕ). record { store = xs; blk = held }) (sym (some-same _ _ (sym ends ∙ h.0 ∙ first)));
+  is = ap (λ (xs : List ℕ). record { store = xs; blk = held }) (sym (same_Some _ _ (sym ends ∙ h.0 ∙ first)));
 }
 load-leaves (Err NoZoneFault) l held before now old last first ends same h = absurd h
 load-leaves (Err NoRecordFault) l held before now old last first ends same h = absurd h

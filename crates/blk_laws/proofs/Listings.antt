@@ -1,11 +1,12 @@
 -- Listed records and the zones of a layout
-use Rattle.std.proofs.Common.{◌≡◌, ℕ, zero, suc, ◌+◌, ◌*◌, ◌%◌, ◌<◌, ◌≤◌, ◌==◌, inl, inr, Bool, true, false, not, ◌&&◌, ◌||◌, if◌then◌else◌, bit_xor, List, [], ◌∷◌, ◌++◌, length, map, filter, flat_map, option_to_list, Option, Some, None, is_some, refl, sym, ap, ◌∙◌, arith, length-take, drop}
+use Rattle.std.proofs.Common.{◌≡◌, ℕ, zero, suc, ◌+◌, ◌*◌, ◌%◌, ◌<◌, ◌≤◌, ◌==◌, inl, inr, Bool, true, false, not, ◌&&◌, if◌then◌else◌, bit_xor, List, [], ◌∷◌, ◌++◌, length, map, filter, flat_map, option_to_list, Option, Some, None, is_some, refl, sym, ap, ◌∙◌, arith, length-take, drop, ◌||◌}
 use Rattle.std.specs.List.{list_any, range_with_len}
 use Rattle.std.proofs.lemmas.Bool.{and_parts, eqb-true, cases_lt}
 use Rattle.std.proofs.lemmas.Bool.Decides.{nat_tests}
 use Rattle.std.proofs.lemmas.List.{nil_from_length}
 use Rattle.std.proofs.lemmas.List.Folds.{list_any-append}
 use Rattle.std.proofs.Math.Nat.{mod-eq_of_lt, mul-le-mul_right, add-mul}
+use Rattle.std.proofs.Math.Bool.{or-false}
 use Rattle.blk_spec.specs.declared.BlkLayout.{BlkLayout}
 use Rattle.blk_spec.specs.declared.BlkRing.{BlkRing}
 use Rattle.blk_spec.specs.declared.BlkRing.TheVariants.{Console as ConsoleRing, Pmsg as PmsgRing}
@@ -88,10 +89,6 @@ no-ring l ring store h =
 unfoldable pub AllBelow : ℕ → List BlkDump → Type 0
 AllBelow n [] = Unit
 AllBelow n (d ∷ dumps) = (d.index < n) × AllBelow n dumps
-
-pub or-false : (b : Bool) → (b || false) ≡ b
-or-false true = refl
-or-false false = refl
 
 pub no-dump-named : (name : BlkName) (dumps : List BlkDump) → ((d : BlkDump) → is_name name (dump_name d) ≡ false)
     → list_any (is_name name) (map dump_name dumps) ≡ false

@@ -3,9 +3,8 @@ use Rattle.std.proofs.Common.{◌≡◌, ℕ, zero, suc, ◌+◌, ◌-◌, ◌*�
 use Rattle.std.proofs.Math.Nat.{div-eq-sub-div, div-eq_of_lt, mod-eq_of_lt, add-mod_left}
 use Rattle.std.proofs.lemmas.Nat.{div-add-mod'}
 use Rattle.std.proofs.lemmas.Bool.{cases_lt, eqb-true}
-use Rattle.std.proofs.lemmas.Grind.{common_steps}
-use Rattle.std.proofs.lemmas.List.{places, same_lists, take_all, take-append-le, append-nil, drop-drop, take_at, drop_at, replicate-append-replicate}
-use Rattle.blk_spec.specs.declared.BlkZone.{BlkZone}
+use Rattle.std.proofs.lemmas.List.{take_all, take-append-le, append-nil, drop-drop, take_at, drop_at, replicate-append-replicate}
+use Rattle.list_laws.proofs.Elements.{take-append_past}
 use Rattle.blk_spec.specs.Reasons.{reason_number}
 use Rattle.blk_spec.specs.Writes.{Write, after_write, after_writes, first_bytes, bytes_in, in_pieces}
 use Rattle.blk_spec.specs.Rings.{header_bytes}
@@ -17,10 +16,6 @@ abbrev once : ℕ → List ℕ → List Write
 once at bytes = record { at = at; bytes = bytes } ∷ []
 
 -- bytes and the bytes right behind them, written one behind the other and at once
-take-both : (k : ℕ) (a b : List ℕ) → length a ≤ k → take k (a ++ b) ≡ a ++ take (k - length a) b
-take-both k a b h = same_lists (take k (a ++ b)) (a ++ take (k - length a) b) (grind (arith, common_steps))
-    (λ i d l. grind (arith, places))
-
 joined : (k at : ℕ) (a b : List ℕ) (store : List ℕ) → at ≤ length store
     → after_writes (first_bytes k (once at a ++ once (at + length a) b)) store
     ≡ after_writes (first_bytes k (once at (a ++ b))) store
@@ -36,7 +31,7 @@ joined k at a b store h = elim (cases_lt k (length a)) [
       ap (λ (bs : List ℕ). after_write (after_write store (record { at = at; bytes = bs }))
       (record { at = at + length a; bytes = take (k - length a) b })) (take_all k a more)
       ∙ two (take (k - length a) b)
-      ∙ ap (λ (bs : List ℕ). after_write store (record { at = at; bytes = bs })) (sym (take-both k a b more))
+      ∙ ap (λ (bs : List ℕ). after_write store (record { at = at; bytes = bs })) (sym (take-append_past k a b more))
 ]
   where
     two : (c : List ℕ) → after_write (after_write store (record { at = at; bytes = a }))

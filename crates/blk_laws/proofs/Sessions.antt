@@ -1,8 +1,8 @@
 -- What the rings of a session stand for
-use Rattle.std.proofs.Common.{◌≡◌, ℕ, ◌+◌, ◌-◌, ◌<◌, ◌≤◌, ◌==◌, inl, inr, Bool, true, false, if◌then◌else◌, List, [], ◌∷◌, ◌++◌, length, drop, Option, Some, None, IfSome, refl, sym, ap, ap₂, ◌∙◌, arith, subst, zero, suc, mod-lt, length-append, length-drop}
+use Rattle.std.proofs.Common.{◌≡◌, ℕ, ◌+◌, ◌-◌, ◌<◌, ◌≤◌, ◌==◌, inl, inr, Bool, true, false, if◌then◌else◌, List, [], ◌∷◌, ◌++◌, length, drop, Option, Some, None, IfSome, refl, sym, ap, ap₂, ◌∙◌, arith, subst, mod-lt, length-append, length-drop}
 use Rattle.std.proofs.lemmas.Bool.{cases_lt, eqb-true, and_parts}
 use Rattle.std.proofs.lemmas.Bool.Decides.{nat_tests}
-use Rattle.std.proofs.lemmas.List.{drop-drop}
+use Rattle.std.proofs.lemmas.List.{drop-drop, drop-append-le}
 use Rattle.zone_spec.specs.Told.{last_items}
 use Rattle.ring_laws.proofs.RingLaw.{last_items-short}
 use Rattle.blk_spec.specs.declared.BlkLayout.{BlkLayout}
@@ -40,16 +40,11 @@ pub record Keeps (z : BlkZone) (ring : RingState) (store told : List ℕ) : Type
   pub standing : 0 < z.size → StandsFor z ring.words store (last_items (capacity z) told)
   pub absent : z.size ≡ 0 → (told ≡ []) × (ring.saved ≡ None)
 
-drop-before : (d : ℕ) (xs ys : List ℕ) → d ≤ length xs → drop d (xs ++ ys) ≡ drop d xs ++ ys
-drop-before zero xs ys h = refl
-drop-before (suc d) [] ys h = absurd (omega arith)
-drop-before (suc d) (x ∷ xs) ys h = drop-before d xs ys (omega arith)
-
 last-append : (cap : ℕ) (xs ys : List ℕ) → last_items cap (last_items cap xs ++ ys) ≡ last_items cap (xs ++ ys)
 last-append cap xs ys = elim (cases_lt cap (length xs)) [
   | inl a ↦
       (let d : ℕ = length xs - cap in
-      let front : drop d xs ++ ys ≡ drop d (xs ++ ys) = sym (drop-before d xs ys (omega arith)) in
+      let front : drop d xs ++ ys ≡ drop d (xs ++ ys) = sym (drop-append-le d xs ys (omega arith)) in
       let n : length (drop d xs ++ ys) - cap ≡ length ys =
       omega (arith, length-append (drop d xs) ys, length-drop d xs) in
       let m : length (xs ++ ys) - cap ≡ d + length ys = omega (arith, length-append xs ys) in

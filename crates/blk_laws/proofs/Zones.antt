@@ -4,6 +4,7 @@ use Rattle.std.proofs.lemmas.List.{places, same_lists, take-take, take-append-le
 use Rattle.std.proofs.lemmas.Nat.{from_le_bytes-to_le_bytes_4}
 use Rattle.std.specs.Int.{from_le_bytes}
 use Rattle.std.proofs.Common.{w32}
+use Rattle.list_laws.proofs.Slices.{slice_range-take}
 use Rattle.zone_spec.specs.declared.Words.{Words}
 use Rattle.blk_spec.specs.declared.BlkZone.{BlkZone}
 use Rattle.blk_spec.specs.declared.BlkWords.{BlkWords}
@@ -78,16 +79,11 @@ pub header-stays : (bytes more : List ℕ) (off : ℕ) → off ≤ length bytes 
 header-stays bytes more off h k =
     let word : (a : ℕ) → a + 4 ≤ 12 → slice_range (after_write bytes (record { at = off; bytes = more })) a (a + 4)
     ≡ slice_range bytes a (a + 4) =
-    λ a le. sym (slice-front (after_write bytes (record { at = off; bytes = more })) a le)
+    λ a le. sym (slice_range-take 12 a (a + 4) (after_write bytes (record { at = off; bytes = more })) (omega arith) le)
     ∙ ap (λ (xs : List ℕ). slice_range xs a (a + 4)) (before-write bytes more off 12 h k)
-    ∙ slice-front bytes a le in
+    ∙ slice_range-take 12 a (a + 4) bytes (omega arith) le in
     same-words _ _ _ _ _ _ (ap (from_le_bytes w32) (word 0 (omega arith)))
     (ap (from_le_bytes w32) (word 8 (omega arith))) (ap (from_le_bytes w32) (word 4 (omega arith)))
-  where
-    slice-front : (xs : List ℕ) (a : ℕ) → a + 4 ≤ 12 → slice_range (take 12 xs) a (a + 4) ≡ slice_range xs a (a + 4)
-    slice-front xs a le =
-        ap (λ (n : ℕ). take (a + 4 - a) (drop a (take n xs))) (let whole : 12 ≡ a + (12 - a) = omega arith in whole)
-        ∙ ap (take (a + 4 - a)) (drop-take a (12 - a) xs) ∙ take-take (a + 4 - a) (12 - a) (drop a xs) (omega arith)
 
 pub data-stays : (bytes more : List ℕ) (place n : ℕ) → 12 + place ≤ length bytes → n ≤ place
     → take n (drop 12 (after_write bytes (record { at = 12 + place; bytes = more }))) ≡ take n (drop 12 bytes)

@@ -1,6 +1,7 @@
 -- The law of distance, what nearest is, and what parity is
 use Rattle.std.proofs.Common.{◌≡◌, ℕ, ◌+◌, ◌/◌, ◌<◌, ◌≤◌, List, ◌++◌, length, sym, ◌∙◌, subst, arith, ◌⊎◌, inl, inr, Some, IsTrue}
 use Rattle.std.specs.Prelude.{◌↔◌}
+use Rattle.std.proofs.lemmas.Bool.{cases_lt}
 use Rattle.code_spec.specs.Code.{is_codeword, IsCodeword, IsWord, distance, nearest, parity_of, the_word}
 use Rattle.code_laws.specs.Statements.{LawOfDistance, NearestIs, ParityIs, ProductByShifts}
 use Rattle.code_laws.proofs.Legible.{agree}
@@ -49,14 +50,11 @@ parity_law r m p l word =
     )
 
 pub law_is : LawOfDistance
-law_is r n c d l hc hd kc kd other = go (either (distance c d) r)
+law_is r n c d l hc hd kc kd other = go (cases_lt r (distance c d))
   where
-    either : (k r : ℕ) → (k ≤ r) ⊎ (r < k)
-    either k r = grind arith
-
-    go : (distance c d ≤ r) ⊎ (r < distance c d) → r + 1 ≤ distance c d
-    go (inl h) = absurd (other (apart r n c d l hc hd kc kd h))
-    go (inr h) = omega arith
+    go : (r < distance c d) ⊎ (distance c d ≤ r) → r + 1 ≤ distance c d
+    go (inl h) = omega arith
+    go (inr h) = absurd (other (apart r n c d l hc hd kc kd h))
 
 pub nearest_is : NearestIs
 nearest_is r w c l word = nearest_law r w c l word

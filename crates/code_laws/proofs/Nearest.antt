@@ -1,7 +1,9 @@
 -- The word that passes a test, and the nearest codeword
-use Rattle.std.proofs.Common.{◌≡◌, ℕ, zero, suc, ◌+◌, ◌/◌, ◌<◌, ◌≤◌, Bool, true, false, cond, ◌&&◌, nat_le, ◌==◌, if◌then◌else◌, ◌⊎◌, List, [], ◌∷◌, ◌++◌, length, map, flat_map, find, refl, sym, ap, ◌∙◌, subst, arith, inl, inr, Option, Some, IsTrue, leb-true, le-leb, eq-or-lt_of_le, eq-eqb}
+use Rattle.std.proofs.Common.{◌≡◌, ℕ, zero, suc, ◌+◌, ◌/◌, ◌<◌, ◌≤◌, Bool, true, false, cond, ◌&&◌, nat_le, ◌==◌, if◌then◌else◌, ◌⊎◌, List, [], ◌∷◌, ◌++◌, length, map, flat_map, find, refl, sym, ap, ◌∙◌, subst, arith, inl, inr, Option, Some, IsTrue, leb-true, le-leb, eq-or-lt_of_le, eq-eqb, ap₂}
 use Rattle.std.specs.List.{range_with_len, AllByRecursion}
 use Rattle.std.proofs.lemmas.Bool.Decides.{nat_tests}
+use Rattle.std.proofs.lemmas.Bool.{and_parts, cases_eq, ne_eqb}
+use Rattle.list_laws.proofs.Elements.{AllByRecursion-append}
 pub use Rattle.code_spec.specs.Code.{IsNear}
 use Rattle.code_spec.specs.Code.{IsWord, words_of, the_word, is_codeword, is_near, nearest, nearest_if, distance}
 
@@ -48,11 +50,6 @@ module _ (test : List ℕ → Bool) where
       (Among-words n bs (omega (arith, h.0), h.1.1))
 
   -- all words of n bytes are such
-  Words-front : (P : List ℕ → Type 0) (xs ys : List (List ℕ)) → AllByRecursion P xs → AllByRecursion P ys
-      → AllByRecursion P (xs ++ ys)
-  Words-front P [] ys h k = k
-  Words-front P (x ∷ xs) ys h k = (h.0, Words-front P xs ys h.1 k)
-
   Words-map : (b n : ℕ) (xs : List (List ℕ)) → b < 256 → AllByRecursion (IsWord n) xs
       → AllByRecursion (IsWord (suc n)) (map (λ x. b ∷ x) xs)
   Words-map b n [] l h = tt
@@ -61,7 +58,7 @@ module _ (test : List ℕ → Bool) where
   Words-bytes : (k a n : ℕ) (xs : List (List ℕ)) → a + k ≤ 256 → AllByRecursion (IsWord n) xs
       → AllByRecursion (IsWord (suc n)) (flat_map (λ c. map (λ x. c ∷ x) xs) (range_with_len a k))
   Words-bytes zero a n xs l h = tt
-  Words-bytes (suc k) a n xs l h = Words-front (IsWord (suc n)) (map (λ x. a ∷ x) xs) _
+  Words-bytes (suc k) a n xs l h = AllByRecursion-append (IsWord (suc n)) (map (λ x. a ∷ x) xs) _
       (Words-map a n xs (omega arith) h) (Words-bytes k (a + 1) n xs (omega arith) h)
 
   Words-all : (n : ℕ) → AllByRecursion (IsWord n) (words_of n)
@@ -105,14 +102,21 @@ module _ (test : List ℕ → Bool) where
 
 -- ---- the nearest codeword
 
-distance_self : (w : List ℕ) → distance w w ≡ 0
+pub distance_self : (w : List ℕ) → distance w w ≡ 0
 unfolding distance
 distance_self [] = refl
 distance_self (x ∷ xs) = rw (eq-eqb x x refl) (omega (arith, distance_self xs))
 
-and-split : (a b : Bool) → IsTrue (a && b) → IsTrue a × IsTrue b
-and-split true b h = (refl, h)
-and-split false b h = cc
+pub distance_zero : (u w : List ℕ) → length u ≡ length w → distance u w ≤ 0 → u ≡ w
+unfolding distance
+distance_zero [] [] e d = refl
+distance_zero [] (b ∷ w) e d = absurd (omega arith)
+distance_zero (a ∷ u) [] e d = absurd (omega arith)
+distance_zero (a ∷ u) (b ∷ w) e d = go (cases_eq a b) (λ d'. distance_zero u w (omega arith) d')
+  where
+    go : (a ≡ b) ⊎ (a ≡ b → ⊥) → (distance u w ≤ 0 → u ≡ w) → (a ∷ u) ≡ (b ∷ w)
+    go (inl s) ih = ap₂ ◌∷◌ s (ih (omega arith))
+    go (inr n) ih = absurd (omega (arith, ap {B = ℕ} (λ (t : Bool). cond t 0 1) (ne_eqb a b n)))
 
 -- what nearest gives is near
 pub nearest-IsNear : (r : ℕ) (w c : List ℕ) → IsWord (length w) w → nearest r w ≡ Some c → IsNear r w c
@@ -129,7 +133,7 @@ nearest-IsNear r w c h e = by (is_codeword r w) refl e
         let p : IsTrue (is_codeword r c && nat_le (distance w c) (r / 2)) × IsWord (length w) c =
         the_word-passes (is_near r w) (length w) c e in
         let q : IsTrue (is_codeword r c) × IsTrue (nat_le (distance w c) (r / 2)) =
-        and-split (is_codeword r c) (nat_le (distance w c) (r / 2)) p.0 in
+        and_parts (is_codeword r c) (nat_le (distance w c) (r / 2)) p.0 in
         record { codeword = q.0; within = leb-true (distance w c) (r / 2) q.1; word = p.1 }
 
 -- where some codeword is near, nearest gives one

@@ -1,6 +1,7 @@
 -- a generator of each degree, and parity of each message
-use Rattle.std.proofs.Common.{◌≡◌, ℕ, zero, suc, ◌+◌, ◌<◌, ◌≤◌, inl, inr, List, [], ◌∷◌, ◌++◌, length, drop, get_or, refl, sym, ap, ap₂, ◌∙◌, subst, arith, append-nil, append_assoc, true, IsTrue, eq-eqb, eqb-true, eq-or-lt_of_le, Bool, false, ◌==◌, ◌&&◌}
+use Rattle.std.proofs.Common.{◌≡◌, ℕ, zero, suc, ◌+◌, ◌<◌, ◌≤◌, inl, inr, List, [], ◌∷◌, ◌++◌, length, drop, get_or, refl, sym, ap, ap₂, ◌∙◌, subst, arith, append-nil, append_assoc, IsTrue, eq-eqb, eqb-true, eq-or-lt_of_le, ◌==◌}
 use Rattle.std.specs.List.{AllByRecursion}
+use Rattle.std.proofs.lemmas.Bool.{and_parts}
 use Rattle.code_spec.specs.Field.{gf_add, gf_mul, gf_pow}
 use Rattle.code_spec.specs.Code.{value_of, is_codeword, IsCodeword, IsWord}
 use Rattle.code_laws.proofs.Ring.{ring, zero_add, one_mul, mul_below, add_below, pow_suc, pow_zero, pow_below}
@@ -191,16 +192,12 @@ pub bytes_of : (w : List ℕ) → Symbols w → AllByRecursion (λ b. b < 256) w
 bytes_of [] h = tt
 bytes_of (c ∷ w) h = (h.0, bytes_of w h.1)
 
-both : (a b : Bool) → IsTrue (a && b) → IsTrue a × IsTrue b
-both true b h = (refl, h)
-both false b h = cc
-
 roots_at : (r : ℕ) (w : List ℕ) → IsCodeword r w → (i : ℕ) → i < r → value_of w (gf_pow 2 i) ≡ 0
 unfolding is_codeword
 roots_at zero w h i l = absurd (omega arith)
 roots_at (suc r) w h i l =
     let b : IsTrue (value_of w (gf_pow 2 r) == 0) × IsTrue (is_codeword r w) =
-    both (value_of w (gf_pow 2 r) == 0) (is_codeword r w) h in
+    and_parts (value_of w (gf_pow 2 r) == 0) (is_codeword r w) h in
     elim (eq-or-lt_of_le (let k : i ≤ r = omega arith in k)) [
       | inl e ↦ ap (λ (j : ℕ). value_of w (gf_pow 2 j)) e ∙ eqb-true (value_of w (gf_pow 2 r)) 0 b.0
       | inr k ↦ roots_at r w b.1 i k

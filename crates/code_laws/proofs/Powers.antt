@@ -1,7 +1,8 @@
 -- Powers of 2 in the field: 2 has order 255, and each byte but 0 has an inverse
 use Rattle.std.proofs.Common.{◌≡◌, ◌≢◌, ℕ, zero, suc, ◌+◌, ◌-◌, ◌*◌, ◌/◌, ◌%◌, ◌^◌, ◌<◌, ◌≤◌, refl, sym, ap, ◌∙◌, subst, arith, inl, inr, Bool, true, false, ◌&&◌, not, eqb, ltb, suc-add, zero-add, pow-suc, div-lt_iff_lt-mul, mod-lt, mul_comm, zero-mul, one-mul}
-use Rattle.std.proofs.lemmas.Bool.Decides.{Decides-eqb, Decides-ltb, Decides-and}
+use Rattle.std.proofs.lemmas.Bool.Decides.{Decides-eqb, Decides-ltb}
 use Rattle.std.proofs.lemmas.Nat.{xor_lt, pow_pos, shr_split}
+use Rattle.std.proofs.lemmas.Bool.{and_parts}
 use Rattle.code_spec.specs.Field.{gf_mul, gf_pow}
 use Rattle.code_laws.proofs.Xor.{IsAdditive, additive_zero, top_bit, below_two}
 use Rattle.code_laws.proofs.Field.{mul_comm as gf_comm, mul_assoc as gf_assoc, mul_one, additive_l, additive_r, mul_low_l, mul_low_r, below, checked}
@@ -66,9 +67,6 @@ pub pow_double : (k x : ℕ) → gf_mul (gf_pow 2 k) (gf_mul 2 x) ≡ gf_mul (gf
 pow_double k x = sym (gf_assoc (gf_pow 2 k) 2 x)
     ∙ ap (λ (y : ℕ). gf_mul y x) (gf_comm (gf_pow 2 k) 2 ∙ sym (pow_suc 2 k))
 
-pub both : (p q : Bool) → (p && q) ≡ true → (p ≡ true) × (q ≡ true)
-both p q e = (Decides-and p q ((λ h. h), (λ h. h)) ((λ h. h), (λ h. h))).0 e
-
 not_true : (b : Bool) → not b ≡ true → b ≡ true → ⊥
 not_true true e h = cc
 not_true false e h = cc
@@ -82,10 +80,10 @@ none_at : (n x k : ℕ) → x < 256 → none_is_one n x ≡ true → k < n → g
 unfolding none_is_one
 none_at zero x k b e l h = absurd (omega arith)
 none_at (suc n) x zero b e l h =
-    not_true (eqb x 1) (both (not (eqb x 1)) (none_is_one n (gf_mul 2 x)) e).0
+    not_true (eqb x 1) (and_parts (not (eqb x 1)) (none_is_one n (gf_mul 2 x)) e).0
     ((Decides-eqb x 1).1 (sym (one_mul x b) ∙ ap (λ (y : ℕ). gf_mul y x) (sym (pow_zero 2)) ∙ h))
 none_at (suc n) x (suc k) b e l h =
-    none_at n (gf_mul 2 x) k (mul_below 2 x) (both (not (eqb x 1)) (none_is_one n (gf_mul 2 x)) e).1 (omega arith)
+    none_at n (gf_mul 2 x) k (mul_below 2 x) (and_parts (not (eqb x 1)) (none_is_one n (gf_mul 2 x)) e).1 (omega arith)
     (pow_double k x ∙ h)
 
 none_test : none_is_one 254 2 ≡ true

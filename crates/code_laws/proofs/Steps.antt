@@ -1,6 +1,6 @@
 -- one step of the generator, and one of the division by it
 use Rattle.std.proofs.Common.{◌≡◌, ℕ, zero, suc, ◌+◌, ◌<◌, ◌≤◌, List, ◌++◌, ◌∷◌, [], length, get_or, refl, sym, ap, ap₂, ◌∙◌, arith, length-append, ◌⊎◌, inl, inr, add-one, zero-add, Bool, true, false, cond, eqb}
-use Rattle.std.proofs.lemmas.Bool.Decides.{Decides-eqb}
+use Rattle.std.proofs.lemmas.Bool.{cases_lt, eq-eqb}
 use Rattle.code_laws.proofs.Words.{law_of_distance}
 use Rattle.std.proofs.lemmas.List.{get_or_append_left, append_cancel_left}
 use Rattle.code_spec.specs.Field.{gf_add, gf_mul, gf_pow}
@@ -38,11 +38,8 @@ pub roots_step : (g m n : List ℕ) (a j : ℕ) → a ≡ gf_pow 2 j → m ≡ g
     → ((i : ℕ) → i < j → value_of g (gf_pow 2 i) ≡ 0)
     → (i : ℕ) → i < j + 1 → value_of n (gf_pow 2 i) ≡ 0
 roots_step g m n a j ea em ln front rest roots i h =
-    root_value g m n a (gf_pow 2 i) (pow_below 2 i) em ln front rest ∙ go (cases i j)
+    root_value g m n a (gf_pow 2 i) (pow_below 2 i) em ln front rest ∙ go (cases_lt i j)
   where
-    cases : (i j : ℕ) → (i < j) ⊎ (j ≤ i)
-    cases i j = grind arith
-
     go : (i < j) ⊎ (j ≤ i) → gf_mul (gf_add (gf_pow 2 i) a) (value_of g (gf_pow 2 i)) ≡ 0
     go (inl l) = ap (gf_mul (gf_add (gf_pow 2 i) a)) (roots i l) ∙ mul_zero (gf_add (gf_pow 2 i) a)
     go (inr l) = let e : i ≡ j = omega arith in ap (λ (y : ℕ). gf_mul y (value_of g (gf_pow 2 i)))
@@ -109,11 +106,8 @@ zeros_codeword r o h = record { at = λ i l. zeros_value o (gf_pow 2 i) h }
 distance_joined : (m p q : List ℕ) → distance (m ++ p) (m ++ q) ≡ distance p q
 unfolding distance
 distance_joined [] p q = refl
-distance_joined (c ∷ m) p q = ap (λ (b : Bool). cond b 0 1 + distance (m ++ p) (m ++ q)) (same c)
+distance_joined (c ∷ m) p q = ap (λ (b : Bool). cond b 0 1 + distance (m ++ p) (m ++ q)) (eq-eqb c c refl)
     ∙ zero-add (distance (m ++ p) (m ++ q)) ∙ distance_joined m p q
-  where
-    same : (c : ℕ) → eqb c c ≡ true
-    same c = (Decides-eqb c c).1 refl
 
 distance_le : (p q : List ℕ) → distance p q ≤ length p
 unfolding distance
@@ -126,7 +120,7 @@ distance_le (a ∷ p) (b ∷ q) = go (eqb a b) (distance_le p q)
     go true h = omega arith
     go false h = omega arith
 
-symbols-append : (u w : List ℕ) → Symbols u → Symbols w → Symbols (u ++ w)
+pub symbols-append : (u w : List ℕ) → Symbols u → Symbols w → Symbols (u ++ w)
 symbols-append [] w h k = k
 symbols-append (c ∷ u) w h k = (h.0, symbols-append u w h.1 k)
 

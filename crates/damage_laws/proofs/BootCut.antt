@@ -1,9 +1,11 @@
 -- What a zone reads whose erasure by a boot was cut
-use Rattle.std.proofs.Common.{◌≡◌, ◌≢◌, ℕ, zero, suc, ◌-◌, ◌*◌, ◌/◌, ◌%◌, ◌<◌, ◌≤◌, Bool, true, false, cond, ◌&&◌, ◌==◌, List, [], ◌∷◌, ◌++◌, length, take, map, flat_map, get_or, refl, sym, ap, ap₂, ◌∙◌, subst, arith, Option, Some, None, w32, append-nil, true≢false, eqb-true}
+use Rattle.std.proofs.Common.{◌≡◌, ◌≢◌, ℕ, zero, suc, ◌-◌, ◌*◌, ◌/◌, ◌%◌, ◌<◌, ◌≤◌, Bool, true, false, cond, ◌&&◌, ◌==◌, List, [], ◌∷◌, ◌++◌, length, take, map, flat_map, get_or, refl, sym, ap, ap₂, ◌∙◌, subst, arith, Option, Some, None, w32, append-nil, eqb-true}
 use Rattle.std.specs.Prelude.{Contains}
 use Rattle.std.specs.Int.{to_le_bytes}
 use Rattle.std.specs.List.{AllByRecursion, range_with_len, position}
 use Rattle.std.proofs.lemmas.List.Quantifiers.{position-Some}
+use Rattle.std.proofs.lemmas.Bool.{and_parts}
+use Rattle.list_laws.proofs.Elements.{take-append_past}
 use Rattle.zone_spec.specs.declared.Zone.{Zone}
 use Rattle.zone_spec.specs.declared.Words.{Words}
 use Rattle.zone_spec.specs.declared.Pair.{Pair}
@@ -35,11 +37,7 @@ use Rattle.damage_laws.proofs.Within.{part_reads, same_word, log_by}
 use Rattle.damage_laws.proofs.Erasures.{erases as erasure_is, corrected_words, erasure_words, erasure_parts}
 use Rattle.damage_laws.proofs.Untouched.{LeavesBlock, stages_leave, prefix_leaves}
 use Rattle.damage_laws.proofs.Touched.{parity_length}
-use Rattle.damage_laws.proofs.CutHeader.{IsSmall, IsUnsigning, IsHeader, take-right, words_track, pairs_have, sig_kept, sig_put, is_header, header_reads}
-
-and-both : (a b : Bool) → (a && b) ≡ true → (a ≡ true) × (b ≡ true)
-and-both true b e = (refl, e)
-and-both false b e = absurd (true≢false (sym e))
+use Rattle.damage_laws.proofs.CutHeader.{IsSmall, IsUnsigning, IsHeader, words_track, pairs_have, sig_kept, sig_put, is_header, header_reads}
 
 -- the words that a seen pair says
 seen_pair : (z : Zone) (v : Words) (ps : List Pair) (j : ℕ) (d : Pair) → header_seen z v ps ≡ SeenPair j
@@ -55,7 +53,7 @@ seen_pair z v ps j d e = by (v.sig == z.sig) refl e
     at (Some i) f e =
         let same : i ≡ j = cc in
         let r = position-Some test ps i d f in
-        let t = and-both (v.start == (get_or ps i d).start) (v.size == (get_or ps i d).size) r.1 in
+        let t = and_parts (v.start == (get_or ps i d).start) (v.size == (get_or ps i d).size) r.1 in
         subst (λ n. (v.start ≡ (get_or ps n d).start) × (v.size ≡ (get_or ps n d).size)) same
         (eqb-true v.start (get_or ps i d).start t.0, eqb-true v.size (get_or ps i d).size t.1)
 
@@ -111,7 +109,7 @@ module _ (z : Zone) (valid : IsValidZone z) (now : List ℕ) (im : IsImage z now
   stop_is : after_boot_stores z now k ≡ after_stores x (take made (stores_in_turn z (boot_erasure z now) x))
   unfolding boot_stores
   stop_is =
-      ap (after_stores now) (take-right k (boot_fixes z now) (stores_in_turn z (boot_erasure z now) x)
+      ap (after_stores now) (take-append_past k (boot_fixes z now) (stores_in_turn z (boot_erasure z now) x)
       (omega (arith, after)))
       ∙ after_stores-append now (boot_fixes z now) (take made (stores_in_turn z (boot_erasure z now) x))
 

@@ -3,9 +3,10 @@ use Rattle.std.proofs.Common.{◌≡◌, ◌≢◌, ℕ, zero, suc, ◌+◌, ◌
 use Rattle.std.specs.Prelude.{sum_by}
 use Rattle.std.proofs.lemmas.Bool.{cases_lt, cases_eq}
 use Rattle.std.proofs.lemmas.Bool.Decides.{nat_tests}
-use Rattle.std.proofs.lemmas.List.{get_or_past}
+use Rattle.std.proofs.lemmas.List.{get_or_past, take-append-le}
 use Rattle.std.proofs.lemmas.List.Sums.{sum_by-cons}
 use Rattle.std.specs.List.{AllByRecursion, range_with_len}
+use Rattle.list_laws.proofs.Elements.{AllByRecursion-append}
 use Rattle.zone_spec.specs.declared.Zone.{Zone}
 use Rattle.zone_spec.specs.declared.Words.{Words}
 use Rattle.zone_spec.specs.declared.State.{State}
@@ -23,11 +24,9 @@ use Rattle.code_laws.proofs.Nearest.{nearest-IsNear}
 use Rattle.ring_laws.proofs.Images.{after_stores-append}
 use Rattle.ring_laws.proofs.PartsLaw.{block_some, SamePart, SamePart-places}
 use Rattle.ring_laws.proofs.PartWords.{part_word-IsWord, length-part_bytes, length-part_word, reading_near, reading_none}
-use Rattle.ring_laws.proofs.StoreBytes.{all-append}
 use Rattle.ring_laws.proofs.States.{reading_is, reading_state, reading_words, state_in_reading, words_in_reading, below_count, count_below}
 use Rattle.ring_laws.proofs.Fixes.{Fixes, IsFix, IsMended, fix_stores-all, one_part, below_parity, word_left, word_right, length-bytes_most, put_one, part_byte}
 use Rattle.ring_laws.proofs.BootLaw.{IsRead, fixed_mended, fixed_image, length-word}
-use Rattle.damage_laws.proofs.CutHeader.{take-left}
 
 -- ---- a list of stores at rising places, each changing its byte
 
@@ -238,7 +237,7 @@ module _ (z : Zone) (valid : IsValidZone z) (now : List ℕ) (im : IsImage z now
   own_blocks : (n a : ℕ) → ((b : ℕ) → a ≤ b → b < a + n → Own (Block b))
       → AllByRecursion (Fixes z now Own) (flat_map (λ b. part_fixes z now (Block b)) (range_with_len a n))
   own_blocks zero a h = tt
-  own_blocks (suc n) a h = all-append (Fixes z now Own) (part_fixes z now (Block a)) _
+  own_blocks (suc n) a h = AllByRecursion-append (Fixes z now Own) (part_fixes z now (Block a)) _
       (own_fixes (Block a) (h a (omega arith) (omega arith)))
       (own_blocks n (a + 1) (λ b k l. h b (omega arith) (omega arith)))
 
@@ -252,7 +251,8 @@ module _ (z : Zone) (valid : IsValidZone z) (now : List ℕ) (im : IsImage z now
 
   own_all : AllByRecursion (Fixes z now Own) fixes
   unfolding boot_fixes
-  own_all = all-append (Fixes z now Own) (part_fixes z now Header) _ (own_fixes Header tt) (own_read reading.state refl)
+  own_all = AllByRecursion-append (Fixes z now Own) (part_fixes z now Header) _ (own_fixes Header tt)
+      (own_read reading.state refl)
 
   part_rises : (part : Part) → Rising now (part_at z part) (part_at z part + length (part_bytes z now part))
       (part_fixes z now part)
@@ -443,7 +443,7 @@ unfolding boot_stores
 corrections_keep_reading z now k valid im h =
     let rest : List Store = stores_in_turn z (boot_erasure z now) (after_stores now (boot_fixes z now)) in
     let y : List ℕ = after_stores now (take k (boot_fixes z now)) in
-    let is : after_boot_stores z now k ≡ y = ap (after_stores now) (take-left k (boot_fixes z now) rest h) in
+    let is : after_boot_stores z now k ≡ y = ap (after_stores now) (take-append-le k (boot_fixes z now) rest h) in
     let words : words_read z y ≡ words_read z now = ap words_in (fixed_mended z valid now im k Header).reading in
     let r : ZoneReading = zone_reading z now in
     let reads : zone_reading z y ≡ reading_in z y r.words r.state =

@@ -7,6 +7,8 @@ use Rattle.std.proofs.lemmas.Bool.{cases_lt}
 use Rattle.std.proofs.lemmas.Bool.Decides.{nat_tests}
 use Rattle.std.proofs.lemmas.List.Sums.{sum_by-append}
 use Rattle.std.specs.List.{AllByRecursion}
+use Rattle.std.proofs.lemmas.List.{take-append-le}
+use Rattle.list_laws.proofs.Elements.{AllByRecursion-append, take-append_past}
 use Rattle.zone_spec.specs.declared.Zone.{Zone}
 use Rattle.zone_spec.specs.declared.Words.{Words}
 use Rattle.zone_spec.specs.declared.Pair.{Pair}
@@ -32,9 +34,9 @@ use Rattle.code_laws.proofs.Laws.{parity_made}
 use Rattle.ring_laws.proofs.Images.{put-below, put-above, put-inside, after_stores-append, length-after_stores}
 use Rattle.ring_laws.proofs.AppendLaw.{word_of-stored, word_of-same}
 use Rattle.ring_laws.proofs.PartsLaw.{nearest-codeword, slice_range-bytes}
-use Rattle.ring_laws.proofs.PartWords.{part_word-IsWord, bytes-append, bytes-all, reading_near, reading_none}
+use Rattle.ring_laws.proofs.PartWords.{part_word-IsWord, bytes-all, reading_near, reading_none}
 use Rattle.ring_laws.proofs.EveryParity.{word-bytes}
-use Rattle.ring_laws.proofs.StoreBytes.{all-append, all-map, call_image}
+use Rattle.ring_laws.proofs.StoreBytes.{all-map, call_image}
 use Rattle.ring_laws.proofs.Fixes.{IsMended, toward_mended, word_left}
 use Rattle.ring_laws.proofs.HeaderWords.{words_eq, header_length, header_words, words_taken, standing_same}
 use Rattle.damage_laws.proofs.Within.{near_is}
@@ -83,18 +85,6 @@ behind-all place bs x h =
 behind_parity : (z : Zone) (part : Part) → 12 ≤ part_parity_at z part
 behind_parity z Header = omega arith
 behind_parity z (Block b) = omega arith
-
-pub take-left : {X : Type 0} (k : ℕ) (xs ys : List X) → k ≤ length xs → take k (xs ++ ys) ≡ take k xs
-take-left zero xs ys h = refl
-take-left (suc k) [] ys h = absurd (omega arith)
-take-left (suc k) (x ∷ xs) ys h = ap (λ zs. x ∷ zs) (take-left k xs ys (omega arith))
-
-pub take-right : {X : Type 0} (k : ℕ) (xs ys : List X) → length xs ≤ k
-    → take k (xs ++ ys) ≡ xs ++ take (k - length xs) ys
-take-right k [] ys h = (let e : k ≡ k - 0 = omega arith in ap (λ n. take n ys) e)
-take-right zero (x ∷ xs) ys h = absurd (omega arith)
-take-right (suc k) (x ∷ xs) ys h = ap (λ zs. x ∷ zs) (take-right k xs ys (omega arith)
-    ∙ ap (λ n. xs ++ take n ys) (omega arith))
 
 module _ (z : Zone) where
   pub sig_put : (x : List ℕ) (n : ℕ) → 12 ≤ length x → n < 2 ^ 32
@@ -188,7 +178,7 @@ module _ (z : Zone) where
           [],
           g ∷ gs,
           refl,
-          ap (λ ts. standing_words (after_stores x ts)) (take-left k ss rest (omega arith))
+          ap (λ ts. standing_words (after_stores x ts)) (take-append-le k ss rest (omega arith))
               ∙ stage_part g x k l,
         )
         | inr m ↦
@@ -196,7 +186,7 @@ module _ (z : Zone) where
               g ∷ t.0,
               t.1,
               ap (λ us. g ∷ us) t.2,
-              ap (λ us. standing_words (after_stores x us)) (take-right k ss rest m)
+              ap (λ us. standing_words (after_stores x us)) (take-append_past k ss rest m)
                   ∙ ap standing_words (after_stores-append x ss (take (k - length ss) rest))
                   ∙ t.3 ∙ ap (λ w. words_after w t.0) (stage_words g x h small.0)
                   ∙ words_after-cons (standing_words x) g t.0,
@@ -264,10 +254,10 @@ module _ (z : Zone) (valid : IsValidZone z) where
       let starts : List Stage = StartWord ((s + length q) % z.cap) ∷ [] in
       let sizes : List Stage = cond (n == z.cap) [] (SizeWord (min z.cap (n + length q)) ∷ []) in
       let room : 0 < z.cap = omega (arith, valid.room) in
-      all-append IsCallStage (sizes ++ starts ++ first ++ second) (ParityOf Header ∷ [])
-      (all-append IsCallStage (sizes ++ starts ++ first) second
-      (all-append IsCallStage (sizes ++ starts) first
-      (all-append IsCallStage sizes starts (size-small (n == z.cap)) (
+      AllByRecursion-append IsCallStage (sizes ++ starts ++ first ++ second) (ParityOf Header ∷ [])
+      (AllByRecursion-append IsCallStage (sizes ++ starts ++ first) second
+      (AllByRecursion-append IsCallStage (sizes ++ starts) first
+      (AllByRecursion-append IsCallStage sizes starts (size-small (n == z.cap)) (
         (
           (let m : (s + length q) % z.cap < z.cap = mod-lt (s + length q) room in
               omega (arith, valid.cap, valid.at_most)),
@@ -302,7 +292,7 @@ module _ (z : Zone) (valid : IsValidZone z) where
 flat-small : (parts : List (List Stage)) → AllByRecursion (λ gs. AllByRecursion IsCallStage gs) parts
     → AllByRecursion IsCallStage (flat_map (λ part. part) parts)
 flat-small [] h = tt
-flat-small (p ∷ ps) h = all-append IsCallStage p (flat_map (λ part. part) ps) h.0 (flat-small ps h.1)
+flat-small (p ∷ ps) h = AllByRecursion-append IsCallStage p (flat_map (λ part. part) ps) h.0 (flat-small ps h.1)
 
 pub each-small : (parts : List (List Stage)) → AllByRecursion (λ gs. AllByRecursion IsCallStage gs) parts
     → AllByRecursion (λ gs. AllByRecursion IsSmall gs) parts
@@ -340,15 +330,15 @@ header_codeword-says r w a b c =
     let a4 : List ℕ = to_le_bytes w32 w.sig in
     let b4 : List ℕ = to_le_bytes w32 w.start in
     let c4 : List ℕ = to_le_bytes w32 w.size in
-    let all : AllByRecursion (λ b. b < 256) bytes = bytes-append (a4 ++ b4) c4
-    (bytes-append a4 b4 (bytes-all a4 (word-bytes w.sig)) (bytes-all b4 (word-bytes w.start)))
+    let all : AllByRecursion (λ b. b < 256) bytes = AllByRecursion-append (λ b. b < 256) (a4 ++ b4) c4
+    (AllByRecursion-append (λ b. b < 256) a4 b4 (bytes-all a4 (word-bytes w.sig)) (bytes-all b4 (word-bytes w.start)))
     (bytes-all c4 (word-bytes w.size)) in
     let made : IsWord r (parity_of r bytes) × IsCodeword r (bytes ++ parity_of r bytes) =
     parity_made r bytes (refl, all) in
     record {
       word = (
         length-append bytes (parity_of r bytes) ∙ omega (arith, made.0.0),
-        bytes-append bytes (parity_of r bytes) all made.0.1,
+        AllByRecursion-append (λ b. b < 256) bytes (parity_of r bytes) all made.0.1,
       );
       codeword = made.1;
       words = words_eq (words_in (header_codeword r w)) w (from_le_bytes-to_le_bytes_4 w.sig a)

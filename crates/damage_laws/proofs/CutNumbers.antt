@@ -1,7 +1,7 @@
 -- The numbers that a boot reports of a cut
-use Rattle.std.proofs.Common.{◌≡◌, ◌≢◌, ℕ, zero, suc, ◌+◌, ◌<◌, ◌≤◌, ◌⊎◌, Bool, true, false, cond, ◌||◌, ◌==◌, List, [], ◌∷◌, ◌++◌, length, filter, flat_map, get_or, refl, sym, ap, ◌∙◌, subst, arith, inl, inr, length-append, append-nil, true≢false, eq-eqb, eqb-true}
+use Rattle.std.proofs.Common.{◌≡◌, ◌≢◌, ℕ, zero, suc, ◌+◌, ◌<◌, ◌≤◌, ◌⊎◌, Bool, true, false, cond, ◌==◌, List, [], ◌∷◌, ◌++◌, length, filter, flat_map, get_or, refl, sym, ap, ◌∙◌, subst, arith, inl, inr, length-append, append-nil, true≢false, eq-eqb, eqb-true}
 use Rattle.std.specs.Prelude.{Contains, sum_by}
-use Rattle.std.proofs.lemmas.Bool.{cases_eq}
+use Rattle.std.proofs.lemmas.Bool.{cases_eq, or_right}
 use Rattle.std.proofs.lemmas.Bool.Decides.{nat_tests}
 use Rattle.std.specs.List.{AllByRecursion, range_with_len, list_any}
 use Rattle.zone_spec.specs.declared.Zone.{Zone}
@@ -99,12 +99,8 @@ unfolding Among runs_of Covers
 cover_runs [] b h = absurd h
 cover_runs (c ∷ bs) b h = elim (before_covers c (runs_of bs) b (runs_ordered bs) h) [
   | inl e ↦ rw (eq-eqb c b (sym e)) refl
-  | inr k ↦ orr (c == b) (list_any (λ c. c == b) bs) (cover_runs bs b k)
+  | inr k ↦ or_right (c == b) (list_any (λ c. c == b) bs) (cover_runs bs b k)
 ]
-  where
-    orr : (s t : Bool) → t ≡ true → (s || t) ≡ true
-    orr true t e = refl
-    orr false t e = e
 
 covers_in : (rs : List (ℕ × ℕ)) (b : ℕ) → Covers rs b → (lo hi : ℕ) × Contains rs (lo, hi) × (lo ≤ b) × (b ≤ hi)
 unfolding Covers

@@ -1,12 +1,13 @@
 -- Where a call was cut: old ring places in untouched blocks read as told, and the log has no other places in
 -- untouched blocks
-use Rattle.std.proofs.Common.{◌≡◌, ℕ, zero, suc, ◌+◌, ◌-◌, ◌*◌, ◌/◌, ◌%◌, ◌<◌, ◌≤◌, ◌⊎◌, min, Bool, true, false, cond, ◌&&◌, ◌||◌, ◌==◌, List, [], ◌∷◌, ◌++◌, length, take, drop, map, get_or, slice_get, refl, sym, ap, ap₂, ◌∙◌, subst, arith, inl, inr, Option, Some, None, length-take, length-drop, append-nil, true≢false, eqb-true}
+use Rattle.std.proofs.Common.{◌≡◌, ℕ, zero, suc, ◌+◌, ◌-◌, ◌*◌, ◌/◌, ◌%◌, ◌<◌, ◌≤◌, ◌⊎◌, min, Bool, true, false, cond, ◌==◌, List, [], ◌∷◌, ◌++◌, length, take, drop, map, get_or, slice_get, refl, sym, ap, ap₂, ◌∙◌, subst, arith, inl, inr, Some, length-take, length-drop, append-nil, true≢false, eqb-true}
 use Rattle.std.specs.Prelude.{Contains}
 use Rattle.std.proofs.Math.Nat.{mod-eq_of_lt}
-use Rattle.std.proofs.lemmas.Bool.{cases_lt}
+use Rattle.std.proofs.lemmas.Bool.{cases_lt, or_left, or_right}
 use Rattle.std.proofs.lemmas.List.Elements.{Contains-append_cases, Contains-append_left, Contains-append_right}
 use Rattle.std.proofs.lemmas.List.FromFn.{get_or-range_with_len, length-range_with_len}
 use Rattle.std.specs.List.{AllByRecursion, range_with_len}
+use Rattle.list_laws.proofs.Gets.{slice_get-map_some}
 use Rattle.zone_spec.specs.declared.Zone.{Zone}
 use Rattle.zone_spec.specs.declared.Words.{Words}
 use Rattle.zone_spec.specs.declared.Pair.{Pair}
@@ -30,7 +31,7 @@ use Rattle.ring_laws.proofs.RingLaw.{open_after}
 use Rattle.ring_laws.proofs.EveryParity.{block_has}
 use Rattle.ring_laws.proofs.ReadingLaw.{part_reading-stands}
 use Rattle.ring_laws.proofs.HeaderWords.{header_words}
-use Rattle.damage_laws.proofs.Within.{part_reads, byte_read-stop, get-mapped, place_below}
+use Rattle.damage_laws.proofs.Within.{part_reads, byte_read-stop, place_below}
 use Rattle.damage_laws.proofs.Untouched.{LeavesBlock, untouched_same}
 use Rattle.damage_laws.proofs.Touched.{parity_length, touches, touches-append, call-leaves, run_hits}
 
@@ -55,7 +56,7 @@ old_places z stop now told f valid hs flies hn i place at untouched within =
     let stands : ReadsAsStands z stop (Block b) = ReadsAsStands-same same (flies.ring.blocks b (omega arith)) in
     let reads : (part_reading z now (Block b)).bytes ≡ part_bytes z f.image (Block b) =
     part_reads z stop now (Block b) valid hs hn within ∙ part_reading-stands z stop (Block b) stands ∙ same.bytes in
-    ap (λ xs. slice_get xs i) (sym flies.ring.bytes) ∙ get-mapped (λ p. get_or f.image (12 + p) 0)
+    ap (λ xs. slice_get xs i) (sym flies.ring.bytes) ∙ slice_get-map_some (λ p. get_or f.image (12 + p) 0)
     (log_places w.start w.size) i place old
     ∙ ap Some (sym (byte_read-stop z f.image now place (block_some z valid) (omega (arith, flies.ring.ring.1)) reads))
 
@@ -149,19 +150,11 @@ append_pairs P z s n c cs fits one two three =
 
 -- ---- places that a pair of the call gives
 
-or-left : (s t : Bool) → s ≡ true → (s || t) ≡ true
-or-left true t e = refl
-or-left false t e = absurd (true≢false (sym e))
-
-or-right : (s t : Bool) → t ≡ true → (s || t) ≡ true
-or-right true t e = refl
-or-right false t e = e
-
 touches-left : (z : Zone) (gs hs : List Stage) (b : ℕ) → touches z gs b ≡ true → touches z (gs ++ hs) b ≡ true
-touches-left z gs hs b e = touches-append z gs hs b ∙ or-left (touches z gs b) (touches z hs b) e
+touches-left z gs hs b e = touches-append z gs hs b ∙ or_left (touches z gs b) (touches z hs b) e
 
 touches-right : (z : Zone) (gs hs : List Stage) (b : ℕ) → touches z hs b ≡ true → touches z (gs ++ hs) b ≡ true
-touches-right z gs hs b e = touches-append z gs hs b ∙ or-right (touches z gs b) (touches z hs b) e
+touches-right z gs hs b e = touches-append z gs hs b ∙ or_right (touches z gs b) (touches z hs b) e
 
 module _ (z : Zone) (valid : IsValidZone z) where
   append_hits : (s n c : ℕ) (cs : List ℕ) (p : ℕ) → s ≤ p → p < s + length (c ∷ cs) → p < z.cap

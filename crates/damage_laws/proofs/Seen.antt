@@ -1,7 +1,7 @@
 -- The pair that is seen is the first pair that the words are
 use Rattle.std.proofs.Common.{◌≡◌, ◌≢◌, ℕ, nat_lt, ◌<◌, ◌≤◌, Bool, true, false, ◌&&◌, ◌==◌, List, length, get_or, slice_get, refl, sym, ap, ap₂, ◌∙◌, subst, arith, inl, inr, Option, Some, None, true≢false, eq-eqb, eqb-true}
 use Rattle.std.specs.List.{position, position_or_len}
-use Rattle.std.proofs.lemmas.Bool.{cases_lt}
+use Rattle.std.proofs.lemmas.Bool.{cases_lt, and_parts}
 use Rattle.std.proofs.lemmas.Bool.Decides.{eqb_tells, nat_tests}
 use Rattle.std.proofs.lemmas.List.Quantifiers.{position-Some}
 use Rattle.std.proofs.lemmas.List.Sums.{fails_before_first}
@@ -19,13 +19,9 @@ module _ (z : Zone) (w : Words) (pairs : List Pair) where
 
   passes : (p : Pair) → test p ≡ true → p ≡ pair_of w
   passes p e =
-      let t = both (w.start == p.start) (w.size == p.size) e in
+      let t = and_parts (w.start == p.start) (w.size == p.size) e in
       ap₂ (λ x y. record { start = x; size = y }) (sym (eqb-true w.start p.start t.0))
       (sym (eqb-true w.size p.size t.1))
-    where
-      both : (a b : Bool) → (a && b) ≡ true → (a ≡ true) × (b ≡ true)
-      both true b h = (refl, h)
-      both false b h = absurd (true≢false (sym h))
 
   own : test (pair_of w) ≡ true
   own = ap₂ (λ a b. a && b) (eq-eqb w.start w.start refl) (eq-eqb w.size w.size refl)

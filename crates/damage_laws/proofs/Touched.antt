@@ -1,9 +1,10 @@
 -- The blocks that a call touches, and the stages that leave the others
-use Rattle.std.proofs.Common.{◌≡◌, ℕ, zero, suc, ◌+◌, ◌-◌, ◌*◌, ◌/◌, ◌%◌, ◌<◌, ◌≤◌, min, Bool, true, false, cond, ◌||◌, ◌==◌, List, [], ◌∷◌, ◌++◌, length, take, drop, map, refl, sym, ap, ◌∙◌, arith, inl, inr, Option, Some, None, length-take, length-drop, append-nil, append_assoc, true≢false, eq-eqb, unwrap_or, mul_comm}
-use Rattle.std.proofs.lemmas.Bool.{cases_lt, cases_eq}
+use Rattle.std.proofs.Common.{◌≡◌, ℕ, zero, suc, ◌+◌, ◌-◌, ◌*◌, ◌/◌, ◌%◌, ◌<◌, ◌≤◌, min, Bool, true, false, cond, ◌==◌, List, [], ◌∷◌, ◌++◌, length, take, drop, map, refl, sym, ap, ◌∙◌, arith, inl, inr, Option, Some, None, length-take, length-drop, append-nil, append_assoc, true≢false, eq-eqb, unwrap_or, mul_comm, ◌||◌}
+use Rattle.std.proofs.lemmas.Bool.{cases_lt, cases_eq, or_parts}
 use Rattle.std.proofs.lemmas.Bool.Decides.{nat_tests}
 use Rattle.std.proofs.lemmas.List.Folds.{list_any-append}
 use Rattle.std.specs.List.{AllByRecursion, range_with_len, list_any}
+use Rattle.list_laws.proofs.Elements.{AllByRecursion-append}
 use Rattle.zone_spec.specs.declared.Zone.{Zone}
 use Rattle.zone_spec.specs.Zones.{IsValidZone}
 use Rattle.code_spec.specs.Code.{is_codeword, parity_of, the_word}
@@ -15,7 +16,6 @@ use Rattle.zone_spec.specs.Touched.{touched_by}
 use Rattle.code_laws.proofs.Nearest.{the_word-passes}
 use Rattle.ring_laws.proofs.PartsLaw.{block_some}
 use Rattle.ring_laws.proofs.RunLaw.{met_low, met_high, met_order, unmet_high, cap_within}
-use Rattle.ring_laws.proofs.StoreBytes.{all-append}
 use Rattle.damage_laws.proofs.Untouched.{LeavesBlock, HasParityLength}
 
 pub parity_length : (r : ℕ) → HasParityLength r
@@ -42,10 +42,6 @@ range_any (suc n) a b e = elim (cases_eq a b) [
   | inr ne ↦ (let f : (a == b) ≡ false = grind (arith, nat_tests) in
       let r = range_any n (a + 1) b (rw f at e) in (omega (arith, r.0), omega (arith, r.1)))
 ]
-
-or-false : (s t : Bool) → (s || t) ≡ false → (s ≡ false) × (t ≡ false)
-or-false true t e = absurd (true≢false e)
-or-false false t e = (refl, e)
 
 -- ---- what stages touch
 abbrev pub touches : Zone → List Stage → ℕ → Bool
@@ -107,8 +103,8 @@ module _ (z : Zone) (valid : IsValidZone z) where
 
   pub leaves-append : (gs hs : List Stage) → Leaves gs → Leaves hs → Leaves (gs ++ hs)
   leaves-append gs hs h k = record {
-    each = λ b l e. (let o = or-false (touches z gs b) (touches z hs b) (sym (touches-append z gs hs b) ∙ e) in
-        all-append (LeavesBlock z b) gs hs (h.each b l o.0) (k.each b l o.1));
+    each = λ b l e. (let o = or_parts (touches z gs b) (touches z hs b) (sym (touches-append z gs hs b) ∙ e) in
+        AllByRecursion-append (LeavesBlock z b) gs hs (h.each b l o.0) (k.each b l o.1));
     within = λ b e. by b (touches z gs b) refl (sym (touches-append z gs hs b) ∙ e);
   }
     where
@@ -120,7 +116,7 @@ module _ (z : Zone) (valid : IsValidZone z) where
       → AllByRecursion (LeavesBlock z b) (map (λ k. ParityOf (Block k)) (range_with_len a n))
   parities-leave b zero a e = tt
   parities-leave b (suc n) a e =
-      let o = or-false (a == b) (list_any (λ c. c == b) (range_with_len (a + 1) n)) e in
+      let o = or_parts (a == b) (list_any (λ c. c == b) (range_with_len (a + 1) n)) e in
       ((λ s. true≢false (sym (eq-eqb a b s) ∙ o.0)), parities-leave b n (a + 1) o.1)
 
   pub run-leaves : (place : ℕ) (bs : List ℕ) → place + length bs ≤ z.cap → Leaves (run_stages z place bs)

@@ -1,9 +1,10 @@
 -- A part within bounds reads as at its stop, and an idle zone what it was told: at every parity
-use Rattle.std.proofs.Common.{◌≡◌, ℕ, zero, suc, ◌+◌, ◌-◌, ◌*◌, ◌/◌, ◌%◌, ◌<◌, ◌≤◌, ◌==◌, if◌then◌else◌, true, false, List, [], ◌∷◌, ◌++◌, length, map, take, get_or, slice_get, refl, sym, ap, ap₂, ◌∙◌, subst, arith, inl, inr, ◌⊎◌, Option, Some, None, eq-eqb}
-use Rattle.std.specs.Prelude.{bytes_eq}
+use Rattle.std.proofs.Common.{◌≡◌, ℕ, zero, suc, ◌+◌, ◌-◌, ◌*◌, ◌/◌, ◌%◌, ◌<◌, ◌≤◌, ◌==◌, if◌then◌else◌, false, List, [], ◌∷◌, ◌++◌, length, map, take, get_or, slice_get, refl, sym, ap, ap₂, ◌∙◌, subst, arith, inl, inr, ◌⊎◌, Option, Some, None}
 use Rattle.std.proofs.lemmas.Bool.Decides.{nat_tests}
 use Rattle.std.proofs.lemmas.List.{length-map}
 use Rattle.std.specs.List.{range_with_len}
+use Rattle.std.proofs.lemmas.Slice.Eq.{bytes_eq-Decides}
+use Rattle.list_laws.proofs.Gets.{slice_get-map_some}
 use Rattle.zone_spec.specs.declared.Zone.{Zone}
 use Rattle.zone_spec.specs.declared.Words.{Words}
 use Rattle.zone_spec.specs.declared.State.{State}
@@ -73,12 +74,6 @@ pub part_reads_as_at_stop : PartReadsAsAtStop
 part_reads_as_at_stop z stop now part valid hs hn own within = part_reads z stop now part valid hs hn within
 
 -- ---- an idle zone
-
-pub get-mapped : {X Y : Type 0} (f : X → Y) (xs : List X) (i : ℕ) (x : X) → slice_get xs i ≡ Some x
-    → slice_get (map f xs) i ≡ Some (f x)
-get-mapped f [] i x e = let b : Some x ≡ None = sym e in cc
-get-mapped f (w ∷ ws) zero x e = let a : w ≡ x = cc in ap (λ y. Some (f y)) a
-get-mapped f (w ∷ ws) (suc i) x e = get-mapped f ws i x e
 
 get-range : (n a i p : ℕ) → slice_get (range_with_len a n) i ≡ Some p → (a ≤ p) × (p < a + n)
 get-range zero a i p e = let b : Some p ≡ None = sym e in cc
@@ -164,10 +159,6 @@ place_reads z stop now told place valid hs hn ring below within =
     (part_reads z stop now (Block (place / z.block)) valid hs hn within
     ∙ part_reading-stands z stop (Block (place / z.block)) (ring.blocks (place / z.block) (omega arith)))
 
-bytes_eq-self : (xs : List ℕ) → bytes_eq xs xs ≡ true
-bytes_eq-self [] = refl
-bytes_eq-self (x ∷ xs) = rw (eq-eqb x x refl) (bytes_eq-self xs)
-
 pub idle_log : (z : Zone) (stop now told : List ℕ) → IsValidZone z → IsImage z stop → IsImage z now
     → IsRingForm z stop told → IsWithinBounds z stop now Header
     → BlocksWithinBounds z stop now (length told) → (zone_reading z now).log ≡ told
@@ -191,16 +182,16 @@ idle_zone_reads_told z stop now told valid hs hn ring head =
       places = λ i place e within.
           let at : slice_get (log_places w.start w.size) i ≡ Some place =
           subst (λ v. slice_get (log_places v.start v.size) i ≡ Some place) facts.words e in
-          ap (λ xs. slice_get xs i) facts.log ∙ get-mapped (λ place. byte_read z now place)
+          ap (λ xs. slice_get xs i) facts.log ∙ slice_get-map_some (λ place. byte_read z now place)
           (log_places w.start w.size) i place at
           ∙ ap Some (place_reads z stop now told place valid hs hn ring
           (place_below w.start w.size i place ring.ring.0 at) within)
           ∙ sym (ap (λ xs. slice_get xs i) (sym ring.bytes)
-          ∙ get-mapped (λ place. get_or stop (12 + place) 0) (log_places w.start w.size) i place at);
+          ∙ slice_get-map_some (λ place. get_or stop (12 + place) 0) (log_places w.start w.size) i place at);
       whole = λ blocks. verdict_same told (zone_reading z now).log
           (idle_log z stop now told valid hs hn ring head blocks);
       state = facts.state;
     }
   where
     verdict_same : (told log : List ℕ) → log ≡ told → verdict_of (Some told) log ≡ AsTold
-    verdict_same told log e = rw e (rw (bytes_eq-self told) refl)
+    verdict_same told log e = rw e (rw ((bytes_eq-Decides told told).1 refl) refl)

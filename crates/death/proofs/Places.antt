@@ -1,21 +1,16 @@
 -- The first place of a word, one byte after the other
-use Rattle.std.proofs.Common.{◌≡◌, ℕ, ◌+◌, ◌≤◌, ◌<◌, true, false, cond, List, ◌∷◌, length, drop, get_or, sym, ap, ◌∙◌, add-one}
-use Rattle.std.proofs.lemmas.List.{drop_all}
-use Rattle.std.proofs.Math.Seq.{drop-cons}
+use Rattle.std.proofs.Common.{◌≡◌, ℕ, ◌+◌, ◌≤◌, ◌<◌, true, false, cond, List, length, drop, sym, ap, ◌∙◌}
+use Rattle.std.proofs.lemmas.List.{drop_all, drop_more}
 use Rattle.death_spec.specs.declared.Mark.{Mark}
 use Rattle.death_spec.specs.Marks.{begins, place_of}
-
-pub after_byte : (text : List ℕ) (at : ℕ) → at < length text → drop at text ≡ get_or text at 0 ∷ drop (at + 1) text
-after_byte text at inside =
-    drop-cons text at 0 inside ∙ ap (λ k. get_or text at 0 ∷ drop k text) (sym (add-one at))
 
 -- at a byte: here, or one more than behind it
 step : (mark : Mark) (text : List ℕ) (at : ℕ) → at < length text
     → place_of mark (drop at text) ≡ cond (begins mark (drop at text)) 0 (1 + place_of mark (drop (at + 1) text))
 unfolding place_of
 step mark text at inside =
-    ap (place_of mark) (after_byte text at inside)
-    ∙ ap (λ rest. cond (begins mark rest) 0 (1 + place_of mark (drop (at + 1) text))) (sym (after_byte text at inside))
+    ap (place_of mark) (drop_more text at 0 inside)
+    ∙ ap (λ rest. cond (begins mark rest) 0 (1 + place_of mark (drop (at + 1) text))) (sym (drop_more text at 0 inside))
 
 pub here : (mark : Mark) (text : List ℕ) (at : ℕ) → at < length text → begins mark (drop at text) ≡ true
     → place_of mark (drop at text) ≡ 0

@@ -1,9 +1,11 @@
 -- The tables hold the powers of 2 and the logarithms, and lead every product with 0 to 0
 use Rattle.std.proofs.Common.{◌≡◌, ◌≢◌, ℕ, zero, suc, ◌+◌, ◌≤◌, ◌<◌, refl, sym, ap, ◌∙◌, arith, Bool, true, ◌&&◌, eqb, ltb, List, [], ◌∷◌, length, get_or, take, drop, replicate, get_or-take, get_or-drop, zero-add}
 use Rattle.std.proofs.lemmas.Bool.Decides.{Decides-eqb, Decides-ltb}
+use Rattle.std.proofs.lemmas.Bool.{and_parts}
+use Rattle.list_laws.proofs.Elements.{get_or-replicate_default}
 use Rattle.code_spec.specs.Field.{gf_mul, gf_pow}
 use Rattle.code_laws.proofs.Ring.{zero_mul, one_mul, mul_one, mul_below, pow_below, pow_zero, pow_add}
-use Rattle.code_laws.proofs.Powers.{pow_double, both}
+use Rattle.code_laws.proofs.Powers.{pow_double}
 use Rattle.gf256.specs.declared.TheConstants.{POWERS, LOGARITHMS}
 
 -- a list holds x, 2 x, 4 x and so on
@@ -16,10 +18,10 @@ holds_at : (x : ℕ) (cs : List ℕ) → x < 256 → holds_powers x cs ≡ true 
 unfolding holds_powers
 holds_at x [] b e i l = absurd (omega arith)
 holds_at x (c ∷ cs) b e zero l =
-    (Decides-eqb c x).0 (both (eqb c x) (holds_powers (gf_mul 2 x) cs) e).0 ∙ sym (one_mul x b)
+    (Decides-eqb c x).0 (and_parts (eqb c x) (holds_powers (gf_mul 2 x) cs) e).0 ∙ sym (one_mul x b)
     ∙ ap (λ (y : ℕ). gf_mul y x) (sym (pow_zero 2))
 holds_at x (c ∷ cs) b e (suc i) l =
-    holds_at (gf_mul 2 x) cs (mul_below 2 x) (both (eqb c x) (holds_powers (gf_mul 2 x) cs) e).1 i (omega arith)
+    holds_at (gf_mul 2 x) cs (mul_below 2 x) (and_parts (eqb c x) (holds_powers (gf_mul 2 x) cs) e).1 i (omega arith)
     ∙ pow_double i x
 
 powers_test : holds_powers 1 (take 510 POWERS) ≡ true
@@ -38,14 +40,10 @@ power_is i l =
 zeros_behind : drop 510 POWERS ≡ replicate 256 0
 zeros_behind = refl
 
--- zeros, and past their end the default
-pub zeros : (m n : ℕ) → get_or (replicate {A = ℕ} m 0) n 0 ≡ 0
-zeros zero n = refl
-zeros (suc m) zero = refl
-zeros (suc m) (suc n) = zeros m n
-
 zero_is : (n : ℕ) → get_or POWERS (510 + n) 0 ≡ 0
-zero_is n = sym (get_or-drop 510 POWERS n 0) ∙ ap (λ (w : List ℕ). get_or w n 0) zeros_behind ∙ zeros 256 n
+zero_is n =
+    sym (get_or-drop 510 POWERS n 0) ∙ ap (λ (w : List ℕ). get_or w n 0) zeros_behind
+    ∙ get_or-replicate_default 256 n 0
 
 -- entry by entry, the logarithm of a is below 255, and 2 to it is a
 logs_hold : ℕ → List ℕ → Bool
@@ -57,11 +55,11 @@ logs_at : (a : ℕ) (cs : List ℕ) → logs_hold a cs ≡ true → (i : ℕ) �
 unfolding logs_hold
 logs_at a [] e i l = absurd (omega arith)
 logs_at a (c ∷ cs) e zero l =
-    let h = both (ltb c 255 && eqb (get_or POWERS c 0) a) (logs_hold (suc a) cs) e in
-    let h' = both (ltb c 255) (eqb (get_or POWERS c 0) a) h.0 in
+    let h = and_parts (ltb c 255 && eqb (get_or POWERS c 0) a) (logs_hold (suc a) cs) e in
+    let h' = and_parts (ltb c 255) (eqb (get_or POWERS c 0) a) h.0 in
     ((Decides-ltb c 255).0 h'.0, (Decides-eqb (get_or POWERS c 0) a).0 h'.1 ∙ sym (zero-add a))
 logs_at a (c ∷ cs) e (suc i) l =
-    let h = both (ltb c 255 && eqb (get_or POWERS c 0) a) (logs_hold (suc a) cs) e in
+    let h = and_parts (ltb c 255 && eqb (get_or POWERS c 0) a) (logs_hold (suc a) cs) e in
     let r = logs_at (suc a) cs h.1 i (omega arith) in
     (r.0, r.1 ∙ omega arith)
 

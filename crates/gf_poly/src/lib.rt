@@ -5,8 +5,6 @@
 ghost use Rattle.std.specs.Prelude.{◌≡◌, ◌≢◌, ◌+◌, ◌≤◌, ◌<◌, ℕ, ◌++◌, [], length, slice_index};
 ghost use Rattle.code_spec.specs.Field.{gf_add, gf_mul, gf_pow};
 ghost use Rattle.code_spec.specs.Code.{value_of};
-ghost use Rattle.code_laws.specs.Polynomials.{poly};
-ghost use Rattle.code_laws.specs.Series.{times, plus, scale};
 
 pub mod laws;
 

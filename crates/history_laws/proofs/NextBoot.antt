@@ -5,16 +5,16 @@ use Rattle.std.specs.Option.{option_map}
 use Rattle.std.specs.List.{AllByRecursion}
 use Rattle.std.proofs.lemmas.Bool.Decides.{nat_tests}
 use Rattle.std.proofs.lemmas.Option.{slice_get-map, slice_get_within, slice_get-get_or}
+use Rattle.list_laws.proofs.Elements.{AllByRecursion-append}
 use Rattle.zone_spec.specs.declared.Zone.{Zone}
 use Rattle.zone_spec.specs.declared.Refusal.TheVariants.{OutOfImage}
 use Rattle.zone_spec.specs.Reading.{zone_reading}
 use Rattle.zone_spec.specs.Boot.{boot_fixes}
 use Rattle.zone_spec.specs.Told.{last_items}
-use Rattle.zone_spec.specs.Layouts.{IsLayout}
 use Rattle.machine_spec.specs.Zones.{zone_bytes}
 use Rattle.machine_spec.specs.States.{OffZone, OffState, LiveState, Session, Off, Live}
 use Rattle.machine_spec.specs.Off.{fresh, flipped}
-use Rattle.machine_spec.specs.Stop.{cut_of, zone_stopped, stopped}
+use Rattle.machine_spec.specs.Stop.{zone_stopped, stopped}
 use Rattle.machine_spec.specs.Boot.{booted}
 use Rattle.machine_spec.specs.BootPart.{boot_count, is_finished, left_at, zone_finished, zone_cut, zone_parted, boot_parted}
 use Rattle.machine_spec.specs.Operations.{Operation, Flip, Boot, BootPart, Begin, Make, Step, Finish, EraseRecord, Stop, Refused, operated, left_by, session_after}
@@ -23,7 +23,6 @@ use Rattle.machine_laws.proofs.Lists.{length-parted}
 use Rattle.machine_laws.proofs.OffStates.{stopped-state}
 use Rattle.machine_laws.proofs.CutBoot.{new_zone}
 use Rattle.machine_laws.proofs.Operations.{states_are_sound}
-use Rattle.history_spec.specs.Written.{written_in}
 use Rattle.history_laws.specs.Laws.{TellsWritten, LeavesZone, AllLeaveZone, NextBootReadsWritten}
 use Rattle.history_laws.proofs.Told.{told_is_written, state_reads_written}
 
@@ -33,11 +32,6 @@ get-zip f [] ys i x y e h = let b : Some x ≡ None = sym e in absurd (cc)
 get-zip f (u ∷ us) [] i x y e h = let b : Some y ≡ None = sym h in absurd (cc)
 get-zip f (u ∷ us) (v ∷ vs) zero x y e h = let a : u ≡ x = cc in let b : v ≡ y = cc in rw (a, b) refl
 get-zip f (u ∷ us) (v ∷ vs) (suc i) x y e h = get-zip f us vs i x y e h
-
-all-join : (P : Operation → Type 0) (xs ys : List Operation) → AllByRecursion P xs → AllByRecursion P ys
-    → AllByRecursion P (xs ++ ys)
-all-join P [] ys h k = k
-all-join P (x ∷ xs) ys h k = (h.0, all-join P xs ys h.1 k)
 
 pub after_append : (layout : List Zone) (s : Session) (xs ys : List Operation)
     → session_after layout s (xs ++ ys) ≡ session_after layout (session_after layout s xs) ys
@@ -80,7 +74,8 @@ parted_stays : (z : Zone) (now : List ℕ) (all : Bool) (n : ℕ) (zone : OffZon
 parted_stays z now all n zone unfinished few =
     by (is_finished z now all n) (nat_lt (length (boot_fixes z now)) n) unfinished (grind (arith, nat_tests, few))
   where
-    by : (a b : Bool) → a ≡ false → b ≡ false → cond a (zone_finished z now) (cond b (zone_cut z now n zone) zone) ≡ zone
+    by : (a b : Bool) → a ≡ false → b ≡ false
+        → cond a (zone_finished z now) (cond b (zone_cut z now n zone) zone) ≡ zone
     by true b e f = absurd (true≢false e)
     by false true e f = absurd (true≢false f)
     by false false e f = refl
@@ -145,7 +140,7 @@ reached_on layout mem session next more r fit e = record {
   operations = r.operations ++ more;
   size = r.size;
   bytes = r.bytes;
-  fit = all-join IsOperation r.operations more r.fit fit;
+  fit = AllByRecursion-append IsOperation r.operations more r.fit fit;
   state = after_append layout (Off (fresh layout r.image)) r.operations more
       ∙ ap (λ (s : Session). session_after layout s more) r.state ∙ e;
 }
@@ -157,7 +152,8 @@ next_boot_reads_written layout mem live next damaged between i z zone bytes lies
     (tt, leaves_fit layout i z (Off (stopped layout live)) between all) f) in
     let stops : IsState layout mem (Off (stopped layout live)) = stopped-state layout mem lies live
     (states_are_sound layout mem (Live live) lies r) in
-    let tells : Some zone.told ≡ Some (last_items z.cap bytes) = told_is_written layout mem (Live live) i z lies r hz zone
+    let tells : Some zone.told ≡ Some (last_items z.cap bytes) = told_is_written layout mem
+    (Live live) i z lies r hz zone
     hv ∙ ap (option_map (last_items z.cap)) w in
     let held : slice_get damaged.zones i ≡ Some (zone_stopped (z, zone)) =
     zone_stays layout i z (zone_stopped (z, zone)) (stopped layout live) damaged between stops.zones.0 hz

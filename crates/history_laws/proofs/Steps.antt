@@ -1,6 +1,7 @@
 -- Each operation of a live state leaves a zone told the last bytes written to it
-use Rattle.std.proofs.Common.{◌≡◌, ◌≢◌, ℕ, ◌≤◌, Bool, true, false, cond, ◌&&◌, ◌||◌, ◌==◌, is_some, List, [], ◌∷◌, length, slice_get, set, refl, sym, ap, ◌∙◌, subst, zero, suc, inl, inr, Option, Some, None, Result, Ok, Err, eqb-true, eq-eqb}
+use Rattle.std.proofs.Common.{◌≡◌, ℕ, ◌≤◌, Bool, true, false, cond, ◌&&◌, ◌||◌, ◌==◌, is_some, List, [], ◌∷◌, length, slice_get, set, refl, sym, ap, ◌∙◌, subst, zero, suc, inl, inr, Option, Some, None, Result, Ok, Err, eq-eqb}
 use Rattle.std.specs.Option.{option_map, option_map_or, option_and_then}
+use Rattle.std.proofs.lemmas.Bool.{ne_eqb}
 use Rattle.zone_spec.specs.declared.Zone.{Zone}
 use Rattle.zone_spec.specs.declared.Name.{Name}
 use Rattle.zone_spec.specs.declared.Refusal.{Refusal}
@@ -162,17 +163,10 @@ module _ (layout : List Zone) (mem : ℕ) (lies : IsLayout layout mem) (i : ℕ)
         | inr s ↦ elim (get-set live.zones t.place i (begun t.zone (call_of ask) t.live) u s.1) [
           | inl r ↦ absurd (s.0 r.0)
           | inr r ↦
-              (let other : (t.place == i) ≡ false = differs t.place i (λ e. s.0 (sym e)) in
+              (let other : (t.place == i) ≡ false = ne_eqb t.place i (λ e. s.0 (sym e)) in
               rw other (h u r.1))
         ]
       ]
-    where
-      differs : (a b : ℕ) → a ≢ b → (a == b) ≡ false
-      differs a b ne = by (a == b) refl
-        where
-          by : (c : Bool) → (a == b) ≡ c → c ≡ false
-          by true e = absurd (ne (eqb-true a b e))
-          by false e = refl
 
   pub make_tells : (live next : LiveState) (ask : Ask) → make layout live ask ≡ Ok next
       → IsState layout mem (Live next) → TellsWritten i z w (Live live)

@@ -1,7 +1,8 @@
 -- Exact verdicts and reports, and what cut zones of a sound state read
-use Rattle.std.proofs.Common.{Option, ◌≡◌, ◌≢◌, ℕ, suc, ◌+◌, ◌-◌, Bool, true, false, cond, ◌&&◌, List, [], ◌∷◌, length, take, slice_get, refl, sym, ap, ap₂, ◌∙◌, subst, arith, Some, None, eqb-true, eq-eqb}
+use Rattle.std.proofs.Common.{Option, ◌≡◌, ◌≢◌, ℕ, suc, ◌+◌, ◌-◌, Bool, true, false, cond, List, [], ◌∷◌, length, take, slice_get, refl, sym, ap, ap₂, ◌∙◌, subst, arith, Some, None, eqb-true, eq-eqb}
 use Rattle.std.specs.Prelude.{nat_eq, bytes_eq}
 use Rattle.std.specs.List.{common_prefix_len}
+use Rattle.std.proofs.lemmas.Slice.Eq.{bytes_eq-Decides}
 use Rattle.zone_spec.specs.declared.Zone.{Zone}
 use Rattle.zone_spec.specs.declared.Verdict.TheVariants.{NothingTold, AsTold, Differs}
 use Rattle.zone_spec.specs.Zones.{IsValidZone}
@@ -29,21 +30,6 @@ use Rattle.machine_laws.proofs.OffStates.{off_bytes}
 use Rattle.machine_laws.proofs.Sessions.{flight_call}
 
 -- ---- verdicts
-
-equal_lists : (xs ys : List ℕ) → bytes_eq xs ys ≡ true → xs ≡ ys
-equal_lists [] [] e = refl
-equal_lists [] (y ∷ ys) e = let n : ◌≡◌ {A = ℕ} 0 1 = cc in absurd (omega (arith, n))
-equal_lists (x ∷ xs) [] e = let n : ◌≡◌ {A = ℕ} 0 1 = cc in absurd (omega (arith, n))
-equal_lists (x ∷ xs) (y ∷ ys) e = let b = both (nat_eq x y) (bytes_eq xs ys) e in
-    ap₂ (λ v vs. v ∷ vs) (eqb-true x y b.0) (equal_lists xs ys b.1)
-  where
-    both : (a c : Bool) → (a && c) ≡ true → (a ≡ true) × (c ≡ true)
-    both true c h = (refl, h)
-    both false c h = let n : ◌≡◌ {A = ℕ} 0 1 = cc in absurd (omega (arith, n))
-
-same_list : (xs : List ℕ) → bytes_eq xs xs ≡ true
-same_list [] = refl
-same_list (x ∷ xs) = rw (eq-eqb x x refl) (same_list xs)
 
 same_front : (xs ys : List ℕ) → take (common_prefix_len nat_eq xs ys) xs ≡ take (common_prefix_len nat_eq xs ys) ys
 same_front [] [] = refl
@@ -91,7 +77,7 @@ verdict_is_exact (Some told) log = by (bytes_eq log told) refl
   where
     by : (b : Bool) → bytes_eq log told ≡ b → IsExactVerdict (Some told) log (verdict_of (Some told) log)
     by true e =
-        let same : log ≡ told = equal_lists log told e in
+        let same : log ≡ told = (bytes_eq-Decides log told).0 e in
         let is : verdict_of (Some told) log ≡ AsTold = (rw e refl) in
         record {
           nothing_told = (
@@ -115,7 +101,8 @@ verdict_is_exact (Some told) log = by (bytes_eq log told) refl
             (λ h. (let n : Differs (length told) (length log) (common_prefix_len nat_eq told log) ≡ AsTold = sym is
                 ∙ h in let f : ◌≡◌ {A = ℕ} 0 1 = cc in absurd (omega (arith, f)))),
             (λ h. (let s : told ≡ log = cc in let n : false ≡ true = sym e
-                ∙ (subst (λ v. bytes_eq log v ≡ true) (sym s) (same_list log)) in let f : ◌≡◌ {A = ℕ} 0 1 = cc in
+                ∙ (subst (λ v. bytes_eq log v ≡ true) (sym s)
+                ((bytes_eq-Decides log log).1 refl)) in let f : ◌≡◌ {A = ℕ} 0 1 = cc in
                 absurd (omega (arith, f)))),
           );
           differs = λ list h ne. (
@@ -137,7 +124,7 @@ verdict_differs told log ne = by (bytes_eq log told) refl
     by : (b : Bool) → bytes_eq log told ≡ b
         → cond b AsTold (Differs (length told) (length log) (common_prefix_len nat_eq told log))
         ≡ Differs (length told) (length log) (common_prefix_len nat_eq told log)
-    by true e = absurd (ne (sym (equal_lists log told e)))
+    by true e = absurd (ne (sym ((bytes_eq-Decides log told).0 e)))
     by false e = refl
 
 -- ---- reports, and cut zones

@@ -1,8 +1,9 @@
 -- A boot that is cut leaves what is held of a zone, or its end becomes the zone's stop
-use Rattle.std.proofs.Common.{◌≡◌, ℕ, zero, suc, ◌+◌, ◌-◌, ◌<◌, ◌≤◌, ◌⊎◌, Bool, true, false, cond, ◌&&◌, ◌||◌, nat_lt, nat_le, List, [], ◌∷◌, ◌++◌, length, take, map, slice_get, get_or, refl, sym, ap, ap₂, ◌∙◌, subst, arith, inl, inr, Option, Some, None, length-append, ext_get_or, take_all, append-nil, min, leb-true, ltb-false, true≢false, get_or-drop, length-drop, drop, le-leb}
+use Rattle.std.proofs.Common.{◌≡◌, ℕ, zero, suc, ◌+◌, ◌-◌, ◌<◌, ◌≤◌, ◌⊎◌, Bool, true, false, cond, ◌&&◌, nat_lt, nat_le, List, [], ◌∷◌, ◌++◌, length, take, map, slice_get, get_or, refl, sym, ap, ap₂, ◌∙◌, subst, arith, inl, inr, Option, Some, None, length-append, ext_get_or, take_all, append-nil, min, leb-true, ltb-false, true≢false, get_or-drop, length-drop, drop, le-leb, ◌||◌}
 use Rattle.std.specs.List.{AllByRecursion}
-use Rattle.std.proofs.lemmas.Bool.{cases_lt}
+use Rattle.std.proofs.lemmas.Bool.{cases_lt, or_left}
 use Rattle.std.proofs.lemmas.List.Sums.{sum_by-cons}
+use Rattle.std.proofs.lemmas.List.{length-map, take-map, take-append-le}
 use Rattle.zone_spec.specs.declared.Zone.{Zone}
 use Rattle.zone_spec.specs.declared.State.{State}
 use Rattle.zone_spec.specs.declared.State.TheVariants.{Unsigned, Empty, Invalid, Found}
@@ -18,14 +19,14 @@ use Rattle.zone_spec.specs.Damage.{IsWithinBounds, IsNotDamagedFurther}
 use Rattle.code_laws.proofs.Nearest.{nearest-IsNear}
 use Rattle.ring_laws.proofs.Images.{length-put, put-below, put-above, put-inside, length-after_stores, after_stores-append}
 use Rattle.ring_laws.proofs.PartsLaw.{part_fits}
-use Rattle.ring_laws.proofs.StoreBytes.{all-append, all-take}
-use Rattle.ring_laws.proofs.Fixes.{Fixes, IsMended, slice_byte, slice_length, some_fixed, fixed_toward}
+use Rattle.ring_laws.proofs.StoreBytes.{all-take}
+use Rattle.ring_laws.proofs.Fixes.{Fixes, IsMended, some_fixed, fixed_toward}
 use Rattle.ring_laws.proofs.BootLaw.{boot_fixes-all, fixed_mended}
 use Rattle.ring_laws.proofs.HeaderWords.{header_length}
 use Rattle.damage_laws.proofs.Touched.{parity_length}
 use Rattle.ring_laws.proofs.PartWords.{part_word-IsWord, length-part_word}
 use Rattle.damage_laws.proofs.Within.{near_is}
-use Rattle.damage_laws.proofs.CutHeader.{header_toward, take-left}
+use Rattle.damage_laws.proofs.CutHeader.{header_toward}
 use Rattle.machine_laws.proofs.Lists.{parted-at}
 use Rattle.ring_laws.specs.Laws.{ReadsTold}
 use Rattle.ring_laws.proofs.Laws.{finished_zone_reads_told}
@@ -39,27 +40,9 @@ use Rattle.zone_spec.specs.Layouts.{zones_end}
 use Rattle.machine_spec.specs.Zones.{zone_bytes}
 use Rattle.damage_laws.specs.CutErasures.{ReadsAlike, after_boot_stores}
 use Rattle.std.proofs.Math.Nat.{min-eq_left, min-eq_right, min-le_right}
+use Rattle.list_laws.proofs.Slices.{length-slice_range, get_or-slice_range}
+use Rattle.list_laws.proofs.Elements.{AllByRecursion-append, take-append}
 use Rattle.machine_spec.specs.BootPart.{boot_cut, moved, image_boot_stores, boot_count, left_at, boot_parted, zone_parted, zone_finished, zone_cut}
-
-take-none : {X : Type 0} (k : ℕ) (xs : List X) → xs ≡ [] → take k xs ≡ []
-take-none zero xs e = refl
-take-none (suc k) [] e = refl
-take-none (suc k) (x ∷ xs) e = cc
-
-take-both : {X : Type 0} (k : ℕ) (xs ys : List X) → take k (xs ++ ys) ≡ take k xs ++ take (k - length xs) ys
-take-both k [] ys = (let e : k ≡ k - 0 = omega arith in ap (λ n. take n ys) e)
-    ∙ ap (λ zs. zs ++ take (k - 0) ys) (sym (take-none k [] refl))
-take-both zero (x ∷ xs) ys = (let e : 0 - length (x ∷ xs) ≡ 0 = omega arith in ap (λ n. take n ys) (sym e))
-take-both (suc k) (x ∷ xs) ys = ap (λ zs. x ∷ zs) (take-both k xs ys ∙ ap (λ n. take k xs ++ take n ys) (omega arith))
-
-take-map : {X Y : Type 0} (f : X → Y) (k : ℕ) (xs : List X) → take k (map f xs) ≡ map f (take k xs)
-take-map f zero xs = refl
-take-map f (suc k) [] = refl
-take-map f (suc k) (x ∷ xs) = ap (λ ys. f x ∷ ys) (take-map f k xs)
-
-length-maps : {X Y : Type 0} (f : X → Y) (xs : List X) → length (map f xs) ≡ length xs
-length-maps f [] = refl
-length-maps f (x ∷ xs) = ap suc (length-maps f xs)
 
 -- ---- stores inside and outside a zone
 InZone : ℕ → Store → Type 0
@@ -69,10 +52,10 @@ Outside : Zone → Store → Type 0
 Outside z s = (s.place + length s.bytes ≤ z.at) ⊎ (z.at + z.size ≤ s.place)
 
 zone_byte : (z : Zone) (x : List ℕ) (i : ℕ) → i < z.size → get_or (zone_bytes z x) i 0 ≡ get_or x (z.at + i) 0
-zone_byte z x i h = slice_byte x z.at (z.at + z.size) i (omega arith)
+zone_byte z x i h = get_or-slice_range x z.at (z.at + z.size) i (omega arith)
 
 zone_length : (z : Zone) (x : List ℕ) → z.at + z.size ≤ length x → length (zone_bytes z x) ≡ z.size
-zone_length z x h = slice_length x z.at z.size h
+zone_length z x h = length-slice_range x z.at z.size h
 
 put_outside : (z : Zone) (x : List ℕ) (s : Store) → z.at + z.size ≤ length x → Outside z s
     → zone_bytes z (put x s.place s.bytes) ≡ zone_bytes z x
@@ -152,7 +135,8 @@ behind_outside : (z : Zone) (image : List ℕ) (zs : List Zone) (base : ℕ) →
 behind_outside z image [] base h loc ins = tt
 behind_outside z image (y ∷ ys) base h loc ins =
     let at : y.at ≡ base + zones_end [] = loc 0 y refl in
-    all-append (Outside z) (map (λ s. moved y.at s) (boot_stores y (zone_bytes y image))) (image_boot_stores ys image)
+    AllByRecursion-append (Outside z) (map (λ s. moved y.at s) (boot_stores y (zone_bytes y image)))
+    (image_boot_stores ys image)
     (moved_outside z y (boot_stores y (zone_bytes y image)) (ins 0 y refl) (inr (omega (arith, at))))
     (behind_outside z image ys (base + y.size) (omega arith) (located_tail y ys base loc) (λ i v e. ins (suc i) v e))
 
@@ -172,7 +156,7 @@ zone_after image (y ∷ ys) base k x zero z e loc ins fits =
     let at : z.at ≡ base + zones_end [] = subst (λ (v : Zone). v.at ≡ base + zones_end []) s (loc 0 y refl) in
     let size : y.size ≡ z.size = ap (λ (v : Zone). v.size) s in
     let k_is : k ≡ k - 0 = omega arith in
-    ap (λ ss. zone_bytes z (after_stores x ss)) (take-both k a c)
+    ap (λ ss. zone_bytes z (after_stores x ss)) (take-append k a c)
     ∙ ap (zone_bytes z) (after_stores-append x (take k a) (take (k - length a) c))
     ∙ after_outside z (take (k - length a) c) (after_stores x (take k a))
     (omega (arith, length-after_stores x (take k a)))
@@ -192,7 +176,7 @@ zone_after image (y ∷ ys) base k x (suc i) z e loc ins fits =
     (all-take (Outside z) k a (moved_outside z y own (ins 0 y refl) (inl (omega (arith, at, far))))) in
     let less : (k - length a) - boot_count (take i ys) image ≡ k - boot_count (y ∷ take i ys) image =
     omega (arith, length-append a (image_boot_stores (take i ys) image)) in
-    ap (λ ss. zone_bytes z (after_stores x ss)) (take-both k a c)
+    ap (λ ss. zone_bytes z (after_stores x ss)) (take-append k a c)
     ∙ ap (zone_bytes z) (after_stores-append x (take k a) (take (k - length a) c))
     ∙ zone_after image ys (base + y.size) (k - length a) x1 i z e (located_tail y ys base loc)
     (λ j v f. ins (suc j) v f) (omega (arith, length-after_stores x (take k a)))
@@ -230,7 +214,7 @@ module _ (z : Zone) (valid : IsValidZone z) where
       → AllByRecursion (InZone z.size) (stores_in_turn z gs x)
   unfolding stores_in_turn
   turn_in [] x h = tt
-  turn_in (g ∷ gs) x h = all-append (InZone z.size) (stage_stores z g x) _ (stage_in g x h.0)
+  turn_in (g ∷ gs) x h = AllByRecursion-append (InZone z.size) (stage_stores z g x) _ (stage_in g x h.0)
       (turn_in gs (after_stores x (stage_stores z g x)) h.1)
 
   erasure_in : (b : Bool) (s : State) → AllByRecursion IsErasure (cond b [] (signing z s ++ erase_stages))
@@ -253,7 +237,8 @@ module _ (z : Zone) (valid : IsValidZone z) where
   stores_in : (now : List ℕ) → IsImage z now → AllByRecursion (InZone z.size) (boot_stores z now)
   unfolding boot_stores boot_erasure
   stores_in now im =
-      all-append (InZone z.size) (boot_fixes z now) _ (fixes_in now (boot_fixes z now) (boot_fixes-all z valid now im))
+      AllByRecursion-append (InZone z.size) (boot_fixes z now) _
+      (fixes_in now (boot_fixes z now) (boot_fixes-all z valid now im))
       (turn_in (boot_erasure z now) (after_stores now (boot_fixes z now))
       (erasure_in (keeps z (zone_reading z now)) (zone_reading z now).state))
 
@@ -302,7 +287,7 @@ count_within image (y ∷ ys) zero z e =
       arith,
       length-append (map (λ s. moved y.at s) (boot_stores y (zone_bytes y image)))
           (image_boot_stores ys image),
-      length-maps (λ s. moved y.at s) (boot_stores y (zone_bytes y image)),
+      length-map (boot_stores y (zone_bytes y image)) (λ s. moved y.at s),
       ap (λ (v : Zone). length (boot_stores v (zone_bytes v image))) s,
     )
 count_within image (y ∷ ys) (suc i) z e =
@@ -351,7 +336,7 @@ left_or_stopped z old now later all n valid hs hn is whole =
     by false e false f =
         let most : n ≤ length (boot_fixes z now) = ltb-false (length (boot_fixes z now)) n f in
         let at : later ≡ after_stores now (take n (boot_fixes z now)) =
-        is ∙ ap (after_stores now) (take-left n (boot_fixes z now) rest most) in
+        is ∙ ap (after_stores now) (take-append-le n (boot_fixes z now) rest most) in
         inl (
           refl,
           (λ part own h. subst (λ y. IsWithinBounds z old.stop y part) (sym at)
@@ -392,7 +377,8 @@ stores_below image (y ∷ ys) base loc ins =
     let at : y.at ≡ base + zones_end [] = loc 0 y refl in
     let total : (base + y.size) + zones_end ys ≡ base + zones_end (y ∷ ys) =
     omega (arith, sum_by-cons (λ (v : Zone). v.size) y ys) in
-    all-append (Below (base + zones_end (y ∷ ys))) (map (λ s. moved y.at s) (boot_stores y (zone_bytes y image)))
+    AllByRecursion-append (Below (base + zones_end (y ∷ ys)))
+    (map (λ s. moved y.at s) (boot_stores y (zone_bytes y image)))
     (image_boot_stores ys image)
     (moved_below y (base + zones_end (y ∷ ys)) (boot_stores y (zone_bytes y image)) (omega (arith, at, total))
     (ins 0 y refl))
@@ -468,15 +454,11 @@ done_is : (z : Zone) (now : List ℕ) (all : Bool) (n : ℕ) (old : OffZone)
     → (all ≡ true) ⊎ ((0 < n) × (length (boot_stores z now) ≤ n)) → zone_parted z now all n old ≡ zone_finished z now
 done_is z now all n old h = ap (λ b. cond b (zone_finished z now)
     (cond (nat_lt (length (boot_fixes z now)) n) (zone_cut z now n old) old)) (elim h [
-      | inl e ↦ left all (nat_lt 0 n && nat_le (length (boot_stores z now)) n) e
+      | inl e ↦ or_left all (nat_lt 0 n && nat_le (length (boot_stores z now)) n) e
       | inr p ↦ right all (nat_lt 0 n) (nat_le (length (boot_stores z now)) n) (grind (arith, nat_tests, p.0))
           (grind (arith, nat_tests, p.1))
     ])
   where
-    left : (a b : Bool) → a ≡ true → (a || b) ≡ true
-    left true b e = refl
-    left false b e = absurd (true≢false (sym e))
-
     right : (a b c : Bool) → b ≡ true → c ≡ true → (a || (b && c)) ≡ true
     right true b c e f = refl
     right false true c e f = f

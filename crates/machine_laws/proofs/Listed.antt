@@ -1,9 +1,10 @@
 -- A record is listed just where one is found by its name
-use Rattle.std.proofs.Common.{◌≡◌, ◌==◌, Bool, true, false, cond, not, ◌&&◌, ◌||◌, ℕ, List, [], ◌∷◌, ◌++◌, map, filter, flat_map, refl, sym, ap, ap₂, ◌∙◌, Option, Some, None, is_some}
+use Rattle.std.proofs.Common.{◌≡◌, ◌==◌, Bool, true, false, cond, not, ◌&&◌, ℕ, List, [], ◌∷◌, ◌++◌, map, filter, flat_map, refl, sym, ap, ap₂, ◌∙◌, Option, Some, None, is_some, ◌||◌}
 use Rattle.std.specs.List.{list_any}
 use Rattle.std.specs.Option.{option_map_or}
 use Rattle.std.proofs.lemmas.List.Folds.{list_any-append}
-use Rattle.zone_spec.specs.declared.Zone.{Zone}
+use Rattle.std.proofs.Math.Bool.{or-false, and-false}
+use Rattle.list_laws.proofs.Elements.{list_any_same}
 use Rattle.zone_spec.specs.declared.Kind.{Kind}
 use Rattle.zone_spec.specs.declared.Kind.TheVariants.{Dump as DumpKind, Console, Ftrace, Pmsg}
 use Rattle.zone_spec.specs.declared.Name.{Name}
@@ -28,10 +29,6 @@ any_first p (r ∷ rs) = by (p r) (any_first p rs)
     by true e = refl
     by false e = e
 
-any_same : {X : Type 0} (p q : X → Bool) (xs : List X) → ((x : X) → p x ≡ q x) → list_any p xs ≡ list_any q xs
-any_same p q [] same = refl
-any_same p q (x ∷ xs) same = ap₂ (λ (a b : Bool). a || b) (same x) (any_same p q xs same)
-
 any_flat : {X Y : Type 0} (p : Y → Bool) (f : X → List Y) (xs : List X)
     → list_any p (flat_map f xs) ≡ list_any (λ (x : X). list_any p (f x)) xs
 any_flat p f [] = refl
@@ -48,7 +45,8 @@ any_none [] = refl
 any_none (x ∷ xs) = any_none xs
 
 -- a test of all items goes before the list
-any_and : {X : Type 0} (a : Bool) (p : X → Bool) (xs : List X) → list_any (λ (x : X). a && p x) xs ≡ (a && list_any p xs)
+any_and : {X : Type 0} (a : Bool) (p : X → Bool) (xs : List X)
+    → list_any (λ (x : X). a && p x) xs ≡ (a && list_any p xs)
 any_and true p xs = refl
 any_and false p xs = any_none xs
 
@@ -65,7 +63,7 @@ plain_any name own logs = any_map (has name) (λ log. record { name = own; conte
 other_plain : (name own : Name) (logs : List (List ℕ)) → is_name own name ≡ false
     → list_any (has name) (plain own logs) ≡ false
 other_plain name own logs e = plain_any name own logs
-    ∙ any_same (λ (log : List ℕ). is_name own name) (λ (log : List ℕ). false) logs (λ log. e) ∙ any_none logs
+    ∙ list_any_same (λ (log : List ℕ). is_name own name) (λ (log : List ℕ). false) logs (λ log. e) ∙ any_none logs
 
 ftrace_any : (name : Name) (logs : List (List ℕ)) → list_any (has name) (ftrace_of logs)
     ≡ list_any (λ (log : List ℕ). is_name FtraceName name) logs
@@ -79,14 +77,16 @@ ftrace_any name (log ∷ logs) = more (is_name FtraceName name) logs
 other_ftrace : (name : Name) (logs : List (List ℕ)) → is_name FtraceName name ≡ false
     → list_any (has name) (ftrace_of logs) ≡ false
 other_ftrace name logs e = ftrace_any name logs
-    ∙ any_same (λ (log : List ℕ). is_name FtraceName name) (λ (log : List ℕ). false) logs (λ log. e) ∙ any_none logs
+    ∙ list_any_same (λ (log : List ℕ). is_name FtraceName name) (λ (log : List ℕ). false) logs (λ log. e)
+    ∙ any_none logs
 
 -- the logs of a kind, by the zones
 logs_any : (kind : Kind) (zones : List Saved) → list_any (λ (log : List ℕ). true) (logs_of kind zones)
-    ≡ list_any (λ (zone : Saved). is_of kind zone.0.name.kind && list_any (λ (r : ZoneReading). true) (found zone.1)) zones
+    ≡ list_any (λ (zone : Saved). is_of kind zone.0.name.kind && list_any (λ (r : ZoneReading). true)
+    (found zone.1)) zones
 logs_any kind zones =
     any_flat (λ (log : List ℕ). true) logs zones
-    ∙ any_same (λ (zone : Saved). list_any (λ (log : List ℕ). true) (logs zone))
+    ∙ list_any_same (λ (zone : Saved). list_any (λ (log : List ℕ). true) (logs zone))
     (λ (zone : Saved). is_of kind zone.0.name.kind && list_any (λ (r : ZoneReading). true) (found zone.1)) zones each
   where
     logs : Saved → List (List ℕ)
@@ -96,7 +96,8 @@ logs_any kind zones =
         ≡ (is_of kind zone.0.name.kind && list_any (λ (r : ZoneReading). true) (found zone.1))
     each zone = by (is_of kind zone.0.name.kind)
       where
-        by : (b : Bool) → list_any (λ (log : List ℕ). true) (cond b (map (λ (r : ZoneReading). r.log) (found zone.1)) [])
+        by : (b : Bool) → list_any (λ (log : List ℕ). true)
+            (cond b (map (λ (r : ZoneReading). r.log) (found zone.1)) [])
             ≡ (b && list_any (λ (r : ZoneReading). true) (found zone.1))
         by true = any_map (λ (log : List ℕ). true) (λ (r : ZoneReading). r.log) (found zone.1)
         by false = refl
@@ -112,11 +113,7 @@ dump_any : (name : Name) (index : ℕ) (log : List ℕ) (o : Option TimeLine) (b
     → ((line : TimeLine) → o ≡ Some line → is_name (DumpName index line.packed) name ≡ b) → (o ≡ None → b ≡ false)
     → list_any (has name) (dump_of index log o) ≡ b
 dump_any name index log None b some none = sym (none refl)
-dump_any name index log (Some line) b some none = ap (λ (a : Bool). a || false) (some line refl) ∙ or_none b
-  where
-    or_none : (b : Bool) → (b || false) ≡ b
-    or_none true = refl
-    or_none false = refl
+dump_any name index log (Some line) b some none = ap (λ (a : Bool). a || false) (some line refl) ∙ or-false b
 
 -- one dump zone's, by its number and its log
 entry_any : (index i : ℕ) (packed : Bool) (r : ZoneReading)
@@ -124,25 +121,17 @@ entry_any : (index i : ℕ) (packed : Bool) (r : ZoneReading)
     ≡ ((index == i) && makes_record (DumpName i packed) r)
 entry_any index i packed r = by (read_line r.log)
   where
-    none : (a : Bool) → (a && false) ≡ false
-    none true = refl
-    none false = refl
-
     by : (o : Option TimeLine) → list_any (has (DumpName i packed)) (dump_of index r.log o)
         ≡ ((index == i)
         && option_map_or (λ (line : TimeLine). cond line.packed packed (not packed)) o false)
-    by None = sym (none (index == i))
-    by (Some line) = or_none ((index == i) && cond line.packed packed (not packed))
-      where
-        or_none : (b : Bool) → (b || false) ≡ b
-        or_none true = refl
-        or_none false = refl
+    by None = sym (and-false (index == i))
+    by (Some line) = or-false ((index == i) && cond line.packed packed (not packed))
 
 dumps_any : (i : ℕ) (packed : Bool) (zones : List Saved) → list_any (has (DumpName i packed)) (dumps_of zones)
     ≡ is_listed zones (DumpName i packed)
 dumps_any i packed zones =
     any_flat (has (DumpName i packed)) entries zones
-    ∙ any_same (λ (zone : Saved). list_any (has (DumpName i packed)) (entries zone))
+    ∙ list_any_same (λ (zone : Saved). list_any (has (DumpName i packed)) (entries zone))
     (λ (zone : Saved). is_in (DumpName i packed) zone.0 && list_any (makes_record (DumpName i packed)) (found zone.1))
     zones each
   where
@@ -157,8 +146,10 @@ dumps_any i packed zones =
             (flat_map (λ (r : ZoneReading). dump_of index r.log (read_line r.log)) (found zone.1)) [])
             ≡ ((b && (index == i)) && list_any (makes_record (DumpName i packed)) (found zone.1))
         by true =
-            any_flat (has (DumpName i packed)) (λ (r : ZoneReading). dump_of index r.log (read_line r.log)) (found zone.1)
-            ∙ any_same (λ (r : ZoneReading). list_any (has (DumpName i packed)) (dump_of index r.log (read_line r.log)))
+            any_flat (has (DumpName i packed)) (λ (r : ZoneReading). dump_of index r.log (read_line r.log))
+            (found zone.1)
+            ∙ list_any_same (λ (r : ZoneReading). list_any (has (DumpName i packed))
+            (dump_of index r.log (read_line r.log)))
             (λ (r : ZoneReading). (index == i) && makes_record (DumpName i packed) r) (found zone.1)
             (entry_any index i packed)
             ∙ any_and (index == i) (makes_record (DumpName i packed)) (found zone.1)
@@ -170,7 +161,7 @@ other_dumps : (name : Name) (zones : List Saved)
     → list_any (has name) (dumps_of zones) ≡ false
 other_dumps name zones other =
     any_flat (has name) entries zones
-    ∙ any_same (λ (zone : Saved). list_any (has name) (entries zone)) (λ (zone : Saved). false) zones each
+    ∙ list_any_same (λ (zone : Saved). list_any (has name) (entries zone)) (λ (zone : Saved). false) zones each
     ∙ any_none zones
   where
     each : (zone : Saved) → list_any (has name) (entries zone) ≡ false
@@ -185,7 +176,8 @@ other_dumps name zones other =
             ≡ false
         by true =
             any_flat (has name) (λ (r : ZoneReading). dump_of zone.0.name.index r.log (read_line r.log)) (found zone.1)
-            ∙ any_same (λ (r : ZoneReading). list_any (has name) (dump_of zone.0.name.index r.log (read_line r.log)))
+            ∙ list_any_same (λ (r : ZoneReading). list_any (has name)
+            (dump_of zone.0.name.index r.log (read_line r.log)))
             (λ (r : ZoneReading). false) (found zone.1) one
             ∙ any_none (found zone.1)
         by false = refl
@@ -212,13 +204,10 @@ or_nones : (b : Bool) → (((b || false) || false) || false) ≡ b
 or_nones true = refl
 or_nones false = refl
 
-or_none : (b : Bool) → (b || false) ≡ b
-or_none true = refl
-or_none false = refl
-
 any_listed : (zones : List Saved) (name : Name) → list_any (has name) (listed_of zones) ≡ is_listed zones name
 any_listed zones (DumpName i packed) =
-    parts_any (DumpName i packed) zones (is_listed zones (DumpName i packed)) false false false (dumps_any i packed zones)
+    parts_any (DumpName i packed) zones (is_listed zones (DumpName i packed)) false false false
+    (dumps_any i packed zones)
     (other_plain (DumpName i packed) ConsoleName (logs_of Console zones) refl)
     (other_plain (DumpName i packed) PmsgName (logs_of Pmsg zones) refl)
     (other_ftrace (DumpName i packed) (logs_of Ftrace zones) refl)
@@ -229,14 +218,14 @@ any_listed zones ConsoleName =
     (plain_any ConsoleName ConsoleName (logs_of Console zones) ∙ logs_any Console zones)
     (other_plain ConsoleName PmsgName (logs_of Pmsg zones) refl)
     (other_ftrace ConsoleName (logs_of Ftrace zones) refl)
-    ∙ or_none (is_listed zones ConsoleName || false) ∙ or_none (is_listed zones ConsoleName)
+    ∙ or-false (is_listed zones ConsoleName || false) ∙ or-false (is_listed zones ConsoleName)
 any_listed zones PmsgName =
     parts_any PmsgName zones false false (is_listed zones PmsgName) false
     (other_dumps PmsgName zones (λ index packed. refl))
     (other_plain PmsgName ConsoleName (logs_of Console zones) refl)
     (plain_any PmsgName PmsgName (logs_of Pmsg zones) ∙ logs_any Pmsg zones)
     (other_ftrace PmsgName (logs_of Ftrace zones) refl)
-    ∙ or_none (is_listed zones PmsgName)
+    ∙ or-false (is_listed zones PmsgName)
 any_listed zones FtraceName =
     parts_any FtraceName zones false false false (is_listed zones FtraceName)
     (other_dumps FtraceName zones (λ index packed. refl))

@@ -1,8 +1,8 @@
 -- Lists beside the layout
-use Rattle.std.proofs.Common.{◌≡◌, ◌≢◌, ℕ, zero, suc, ◌+◌, ◌-◌, ◌<◌, ◌≤◌, Bool, true, false, ◌||◌, List, [], ◌∷◌, ◌++◌, length, take, map, flat_map, slice_get, set, get_or, refl, sym, ap, ◌∙◌, subst, arith, inl, inr, ◌⊎◌, Some, None, length-append, true≢false}
+use Rattle.std.proofs.Common.{◌≡◌, ◌≢◌, ℕ, zero, suc, ◌+◌, ◌-◌, ◌<◌, ◌≤◌, Bool, false, List, [], ◌∷◌, ◌++◌, length, take, map, flat_map, slice_get, set, get_or, refl, sym, ap, ◌∙◌, subst, arith, inl, inr, ◌⊎◌, Some, None, length-append}
 use Rattle.std.specs.Prelude.{zip}
 use Rattle.std.specs.List.{list_any}
-use Rattle.std.proofs.lemmas.Bool.{cases_lt}
+use Rattle.std.proofs.lemmas.Bool.{cases_lt, or_parts}
 use Rattle.std.proofs.lemmas.List.{get_or_append_left, get_or-append_right, length-map}
 use Rattle.std.proofs.lemmas.List.Sums.{sum_by-cons}
 use Rattle.zone_spec.specs.declared.Zone.{Zone}
@@ -95,13 +95,9 @@ each-zip-map layout xs P Q f step each = (
 pub each-map : {Y : Type 0} (layout : List Zone) (Q : Zone → Y → Type 0) (f : Zone → Y)
     → ((i : ℕ) (z : Zone) → slice_get layout i ≡ Some z → Q z (f z)) → EachZone layout (map f layout) Q
 each-map layout Q f step = (
-  length-all f layout,
+  length-map layout f,
   λ i z y hz hy. subst (Q z) (get-map f layout i z y hz hy) (step i z hz),
 )
-  where
-    length-all : {A B : Type 0} (g : A → B) (xs : List A) → length (map g xs) ≡ length xs
-    length-all g [] = refl
-    length-all g (x ∷ xs) = ap suc (length-all g xs)
 
 -- no pair of a test that holds for none
 pub none_any : {X Y : Type 0} (p : X × Y → Bool) (xs : List X) (ys : List Y) (i : ℕ) (x : X) (y : Y)
@@ -110,16 +106,9 @@ none_any p [] ys i x y n e h = let b : Some x ≡ None = sym e in cc
 none_any p (u ∷ us) [] i x y n e h = let b : Some y ≡ None = sym h in cc
 none_any p (u ∷ us) (v ∷ vs) zero x y n e h =
     let a : u ≡ x = cc in let b : v ≡ y = cc in ap (λ t. p (t, y)) (sym a) ∙ ap (λ t. p (u, t)) (sym b)
-    ∙ first (p (u, v)) (list_any p (zip us vs)) n
-  where
-    first : (s t : Bool) → (s || t) ≡ false → s ≡ false
-    first true t e = absurd (true≢false e)
-    first false t e = refl
-none_any p (u ∷ us) (v ∷ vs) (suc i) x y n e h = none_any p us vs i x y (rest (p (u, v)) (list_any p (zip us vs)) n) e h
-  where
-    rest : (s t : Bool) → (s || t) ≡ false → t ≡ false
-    rest true t e = absurd (true≢false e)
-    rest false t e = e
+    ∙ (or_parts (p (u, v)) (list_any p (zip us vs)) n).0
+none_any p (u ∷ us) (v ∷ vs) (suc i) x y n e h = none_any p us vs i x y
+    (or_parts (p (u, v)) (list_any p (zip us vs)) n).1 e h
 
 pub get-below : {X : Type 0} (xs : List X) (i : ℕ) (y : X) → slice_get xs i ≡ Some y → i < length xs
 get-below [] i y e = let n : ◌≡◌ {A = ℕ} 0 1 = cc in absurd (omega (arith, n))

@@ -3,6 +3,8 @@ use Rattle.std.proofs.Common.{◌≡◌, ℕ, ◌+◌, ◌*◌, ◌/◌, ◌%◌
 use Rattle.std.specs.Prelude.{Contains, MatchOption}
 use Rattle.std.proofs.lemmas.Bool.{cases_lt}
 use Rattle.std.proofs.lemmas.Bool.Decides.{nat_tests}
+use Rattle.list_laws.proofs.Gets.{slice_get-map_some}
+use Rattle.list_laws.proofs.Slices.{length-slice_range}
 use Rattle.zone_spec.specs.declared.Zone.{Zone}
 use Rattle.zone_spec.specs.declared.Words.{Words}
 use Rattle.zone_spec.specs.declared.Kind.{Kind}
@@ -20,15 +22,15 @@ use Rattle.machine_laws.specs.Logs.{LogBytesCome, UnsignedAddsNothing, NotFoundA
 use Rattle.ring_laws.proofs.PartsLaw.{block_some}
 use Rattle.ring_laws.proofs.PartWords.{reading_near, reading_none}
 use Rattle.ring_laws.proofs.States.{Says, state_says, reading_is, reading_state, count_below}
-use Rattle.ring_laws.proofs.Fixes.{part_byte, slice_length}
-use Rattle.damage_laws.proofs.Within.{get-mapped, place_below}
+use Rattle.ring_laws.proofs.Fixes.{part_byte}
+use Rattle.damage_laws.proofs.Within.{place_below}
 use Rattle.damage_laws.proofs.CutPlaces.{range_in}
 
 block_length : (z : Zone) (now : List ℕ) (b : ℕ) → IsValidZone z → length now ≡ z.size
     → length (part_bytes z now (Block b)) ≡ part_len z (Block b) ⊎ (z.cap ≤ z.block * b)
 unfolding part_bytes
 block_length z now b valid len = elim (cases_lt (z.block * b) z.cap) [
-  | inl l ↦ inl (slice_length now (12 + z.block * b) (part_len z (Block b)) (omega (arith, valid.cap)))
+  | inl l ↦ inl (length-slice_range now (12 + z.block * b) (part_len z (Block b)) (omega (arith, valid.cap)))
   | inr g ↦ inr g
 ]
 
@@ -50,7 +52,7 @@ log_bytes_come z now valid len i place found_state at = by (nearest z.parity (pa
 
     log : slice_get (zone_reading z now).log i ≡ Some (byte_read z now place)
     log = ap (λ (r : ZoneReading). slice_get r.log i) (reading_is z now ∙ ap (reading_in z now w) state)
-        ∙ get-mapped (λ place. byte_read z now place) (log_places w.start w.size) i place at
+        ∙ slice_get-map_some (λ place. byte_read z now place) (log_places w.start w.size) i place at
 
     below : place < w.size
     below = place_below w.start w.size i place says.2 at

@@ -1,6 +1,7 @@
 -- A state off is sound after a boot that was cut
-use Rattle.std.proofs.Common.{ltb-true, lt-ltb, leb-false, ◌≡◌, ℕ, suc, ◌<◌, Bool, true, false, cond, ◌&&◌, ◌||◌, nat_lt, nat_le, List, [], ◌∷◌, length, take, map, slice_get, refl, sym, ap, ◌∙◌, subst, arith, Some, None, true≢false}
+use Rattle.std.proofs.Common.{ltb-true, lt-ltb, leb-false, ◌≡◌, ℕ, suc, ◌<◌, Bool, true, false, cond, ◌&&◌, nat_lt, nat_le, List, [], ◌∷◌, length, take, map, slice_get, refl, sym, ap, ◌∙◌, subst, arith, Some, None, true≢false, ◌||◌}
 use Rattle.std.specs.List.{AllByRecursion}
+use Rattle.list_laws.proofs.Elements.{AllByRecursion-append}
 use Rattle.zone_spec.specs.declared.Zone.{Zone}
 use Rattle.zone_spec.specs.Zones.{IsValidZone}
 use Rattle.zone_spec.specs.Parts.{IsImage}
@@ -8,7 +9,7 @@ use Rattle.zone_spec.specs.Ring.{IsRingForm}
 use Rattle.zone_spec.specs.Boot.{boot_stores, boot_fixes, told_by_boot}
 use Rattle.zone_spec.specs.Cut.{Cut, ByCall, ByBoot}
 use Rattle.ring_laws.proofs.Images.{length-after_stores}
-use Rattle.ring_laws.proofs.StoreBytes.{IsStore, all-append, all-take, after-bytes}
+use Rattle.ring_laws.proofs.StoreBytes.{IsStore, all-take, after-bytes}
 use Rattle.ring_laws.proofs.BootRing.{boot_keeps, boot_image, boot_image_all, boot_stores-all}
 use Rattle.zone_spec.specs.Stores.{Store, after_stores}
 use Rattle.zone_spec.specs.Layouts.{IsLayout}
@@ -28,7 +29,7 @@ module _ (layout : List Zone) (mem : ℕ) (lies : IsLayout layout mem) where
       → AllByRecursion IsStore (boot_stores z (zone_bytes z image)))
       → AllByRecursion IsStore (image_boot_stores zs image)
   image_stores-all image [] h = tt
-  image_stores-all image (z ∷ zs) h = all-append IsStore
+  image_stores-all image (z ∷ zs) h = AllByRecursion-append IsStore
       (map (λ s. moved z.at s) (boot_stores z (zone_bytes z image))) _ (moved-all z.at _ (h 0 z refl))
       (image_stores-all image zs (λ i y e. h (suc i) y e))
 

@@ -1,7 +1,7 @@
 -- Appends, undamaged zones and flips
-use Rattle.std.proofs.Common.{slice_get, take, drop, ap₂, suc, ◌-◌, length-set, get_or-set_same, get_or-set_other, get_or, append-nil, append_assoc, bit_xor, flat_map, ◌≡◌, ℕ, zero, ◌+◌, ◌≤◌, List, [], ◌∷◌, ◌++◌, length, refl, sym, ap, ◌∙◌, length-append, length-drop, subst, subst₂, arith, inl, inr, Some}
+use Rattle.std.proofs.Common.{slice_get, take, drop, ap₂, suc, ◌-◌, length-set, get_or-set_same, get_or-set_other, get_or, append-nil, append_assoc, bit_xor, flat_map, ◌≡◌, ℕ, ◌+◌, List, [], ◌∷◌, ◌++◌, length, refl, sym, ap, ◌∙◌, length-append, length-drop, subst, subst₂, arith, inl, inr, Some}
 use Rattle.std.proofs.lemmas.List.Sums.{sum_by-cons}
-use Rattle.std.proofs.lemmas.List.{take-append-drop, drop-drop}
+use Rattle.std.proofs.lemmas.List.{take-append-drop, drop-drop, drop-append-le}
 use Rattle.zone_spec.specs.Layouts.{zones_end}
 use Rattle.machine_spec.specs.States.{Flight, OffZone}
 use Rattle.machine_spec.specs.Zones.{zone_bytes}
@@ -25,16 +25,11 @@ use Rattle.machine_laws.proofs.OffStates.{off_bytes}
 
 -- ---- appends
 
-drop_front : (d : ℕ) (xs ys : List ℕ) → d ≤ length xs → drop d (xs ++ ys) ≡ drop d xs ++ ys
-drop_front zero xs ys h = refl
-drop_front (suc d) [] ys h = absurd (omega arith)
-drop_front (suc d) (x ∷ xs) ys h = drop_front d xs ys (omega arith)
-
 front_last : (cap : ℕ) (xs ys : List ℕ) → last_items cap (last_items cap xs ++ ys) ≡ last_items cap (xs ++ ys)
 front_last cap xs ys = elim (cases_lt cap (length xs)) [
   | inl a ↦
       (let d : ℕ = length xs - cap in
-      let f : drop d xs ++ ys ≡ drop d (xs ++ ys) = sym (drop_front d xs ys (omega arith)) in
+      let f : drop d xs ++ ys ≡ drop d (xs ++ ys) = sym (drop-append-le d xs ys (omega arith)) in
       let n : length (drop d xs ++ ys) - cap ≡ length ys =
       omega (arith, length-append (drop d xs) ys, length-drop d xs) in
       let m : length (xs ++ ys) - cap ≡ d + length ys = omega (arith, length-append xs ys) in

@@ -1,9 +1,9 @@
 -- The header and the blocks of a log are codewords after a boot of zeros and one append
-use Rattle.std.proofs.Common.{◌≡◌, ℕ, zero, suc, ◌+◌, ◌-◌, ◌*◌, ◌/◌, ◌<◌, ◌≤◌, ◌==◌, Bool, false, cond, min, ◌%◌, List, [], ◌∷◌, ◌++◌, length, map, take, drop, slice_range, refl, sym, ap, ap₂, ◌∙◌, subst, arith, inl, inr, IsTrue, length-take, length-drop, take_all, append-nil, get_or-take, get_or-drop, mul_comm}
+use Rattle.std.proofs.Common.{◌≡◌, ℕ, zero, suc, ◌+◌, ◌-◌, ◌*◌, ◌/◌, ◌<◌, ◌≤◌, ◌==◌, Bool, false, cond, min, ◌%◌, List, [], ◌∷◌, ◌++◌, length, map, take, drop, slice_range, refl, sym, ap, ap₂, ◌∙◌, subst, arith, inl, inr, IsTrue, take_all, append-nil, mul_comm}
 use Rattle.std.specs.List.{AllByRecursion, range_with_len}
 use Rattle.std.proofs.lemmas.Bool.{cases_eq}
 use Rattle.std.proofs.lemmas.Bool.Decides.{nat_tests}
-use Rattle.std.proofs.lemmas.List.{same_lists, get_or_default, drop_all}
+use Rattle.std.proofs.lemmas.List.{drop_all}
 use Rattle.zone_spec.specs.declared.Zone.{Zone}
 use Rattle.zone_spec.specs.Zones.{IsValidZone}
 use Rattle.code_spec.specs.Code.{is_codeword, parity_of}
@@ -12,9 +12,9 @@ use Rattle.zone_spec.specs.Stores.{put}
 use Rattle.zone_spec.specs.Stages.{Stage, StartWord, SizeWord, Run, ParityOf, stage_stores}
 use Rattle.zone_spec.specs.Calls.{append_stages, run_stages, call_stages, call_stores, image_after}
 use Rattle.zone_spec.specs.Told.{Append}
-use Rattle.ring_laws.proofs.Images.{length-put, put-below, put-inside, after_stores-byte_stores}
+use Rattle.ring_laws.proofs.Images.{length-put, put-below, after_stores-byte_stores}
 use Rattle.ring_laws.proofs.AppendLaw.{stage_image, all_stages, all_stages-append, length-all_stages}
-use Rattle.ring_laws.proofs.PartsLaw.{block_some, HasPart, part_number, part_parity_at-number, part_end, part_fits, part_short, slice_range-same, slice_range-bytes, SamePart, LeavesParts, parities_leave, parity-other, parity-bytes}
+use Rattle.ring_laws.proofs.PartsLaw.{block_some, HasPart, part_number, part_parity_at-number, part_end, part_fits, part_short, slice_range-same, slice_range-bytes, SamePart, LeavesParts, parities_leave, parity-other, parity-bytes, slice_range-put}
 use Rattle.ring_laws.proofs.PartWords.{has_parity}
 use Rattle.ring_laws.proofs.RunLaw.{cap_within, met_low, met_high, met_order, unmet_high}
 use Rattle.ring_laws.proofs.EveryParity.{block_has}
@@ -32,22 +32,6 @@ pub record HasCodes (z : Zone) (image : List ℕ) (n : ℕ) : Type 0 where
 
 same_clean : {z : Zone} {x y : List ℕ} {p : Part} → SamePart z x y p → IsClean z y p → IsClean z x p
 same_clean {z} s h = subst (λ w. IsTrue (is_codeword z.parity w)) (sym s.word) h
-
--- what was put reads back
-slice_put : (x bs : List ℕ) (at n : ℕ) → length bs ≡ n → at + n ≤ length x
-    → slice_range (put x at bs) at (at + n) ≡ bs
-slice_put x bs at n l h =
-    same_lists _ _ (omega (
-      arith,
-      length-take ((at + n) - at) (drop at (put x at bs)),
-      length-drop at (put x at bs),
-      length-put x at bs,
-    ))
-    (λ k d m.
-    let k_low : k < n = omega (arith, length-take ((at + n) - at) (drop at (put x at bs))) in
-    get_or-take ((at + n) - at) (drop at (put x at bs)) k d (omega arith) ∙ get_or-drop at (put x at bs) k d
-    ∙ get_or_default (put x at bs) (at + k) d 0 (omega (arith, length-put x at bs))
-    ∙ put-inside x at k bs (omega arith) (omega arith) ∙ get_or_default bs k 0 d (omega arith))
 
 module _ (z : Zone) (valid : IsValidZone z) where
   -- a word whose parity was just stored is a codeword
@@ -67,7 +51,7 @@ module _ (z : Zone) (valid : IsValidZone z) where
       [ inl a ↦ omega arith | inr e ↦ absurd (omega arith) ])) in
       let back : slice_range (put x (part_parity_at z p) par) (part_parity_at z p) (part_parity_at z p + z.parity)
       ≡ par =
-      slice_put x par (part_parity_at z p) z.parity made.0 (omega (arith, part_fits z p valid has)) in
+      slice_range-put x par (part_parity_at z p) z.parity made.0 (omega (arith, part_fits z p valid has)) in
       let word : part_word z (put x (part_parity_at z p) par) p ≡ msg ++ par = ap₂ (λ u v. u ++ v) same back in
       subst (λ w. IsTrue (is_codeword z.parity w)) (sym word) made.2
 

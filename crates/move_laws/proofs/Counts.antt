@@ -1,25 +1,19 @@
 -- A zone whose header and log are codewords reads with nothing corrected and nothing bad
-use Rattle.std.proofs.Common.{◌≡◌, ℕ, zero, suc, ◌+◌, ◌-◌, ◌/◌, ◌<◌, ◌≤◌, Bool, cond, List, [], ◌∷◌, refl, sym, ap, ◌∙◌, subst, arith, eq-eqb}
+use Rattle.std.proofs.Common.{◌≡◌, ℕ, zero, suc, ◌+◌, ◌-◌, ◌/◌, ◌<◌, ◌≤◌, List, refl, sym, ap, ◌∙◌, subst, arith}
 use Rattle.std.specs.Prelude.{sum_by}
 use Rattle.std.specs.List.{range_with_len}
 use Rattle.std.proofs.lemmas.List.Sums.{sum_by-cons}
+use Rattle.code_laws.proofs.Nearest.{distance_self}
 use Rattle.zone_spec.specs.declared.Zone.{Zone}
 use Rattle.zone_spec.specs.declared.State.{State}
 use Rattle.zone_spec.specs.declared.State.TheVariants.{Unsigned, Empty, Invalid, Found}
 use Rattle.zone_spec.specs.Zones.{IsValidZone}
-use Rattle.code_spec.specs.Code.{distance}
 use Rattle.zone_spec.specs.Parts.{Part, Header, Block, part_bytes, part_word}
 use Rattle.zone_spec.specs.PartReadings.{reading_by, part_reading, words_read}
 use Rattle.zone_spec.specs.Reading.{ZoneReading, zone_reading, reading_in, state_of}
 use Rattle.ring_laws.proofs.PartsLaw.{block_some, nearest-codeword}
 use Rattle.ring_laws.proofs.States.{below_count, reading_is}
 use Rattle.move_laws.proofs.Codes.{IsClean, HasCodes}
-
-distance_same : (xs : List ℕ) → distance xs xs ≡ 0
-unfolding distance
-distance_same [] = refl
-distance_same (x ∷ xs) = ap (λ (b : Bool). cond b 0 1 + distance xs xs) (eq-eqb x x refl)
-    ∙ (let e : 0 + distance xs xs ≡ distance xs xs = omega arith in e) ∙ distance_same xs
 
 -- a clean part
 part_clean : (z : Zone) (image : List ℕ) (p : Part) → IsClean z image p
@@ -28,7 +22,7 @@ unfolding part_reading
 part_clean z image p clean =
     let near = nearest-codeword z.parity (part_word z image p) clean in (
       ap (λ o. (reading_by (part_bytes z image p) (part_word z image p) o).corrected) near
-          ∙ distance_same (part_word z image p),
+          ∙ distance_self (part_word z image p),
       ap (λ o. (reading_by (part_bytes z image p) (part_word z image p) o).bad) near,
     )
 

@@ -1,8 +1,10 @@
 -- A zone that is told nothing yet, and is told the logs that were found of it
-use Rattle.std.proofs.Common.{◌≡◌, ℕ, ◌+◌, ◌-◌, ◌%◌, ◌<◌, ◌≤◌, ◌==◌, min, Bool, true, false, cond, not, ◌&&◌, is_some, nat_lt, List, [], ◌∷◌, ◌++◌, length, map, take, drop, refl, sym, ap, ◌∙◌, subst, arith, Some, None, true≢false}
+use Rattle.std.proofs.Common.{◌≡◌, ℕ, ◌+◌, ◌-◌, ◌%◌, ◌<◌, ◌≤◌, ◌==◌, min, Bool, true, false, cond, not, ◌&&◌, is_some, nat_lt, List, [], ◌∷◌, ◌++◌, length, map, take, drop, refl, sym, ap, ◌∙◌, subst, arith, Some, None}
 use Rattle.std.specs.Prelude.{fold, find, unwrap_or}
 use Rattle.std.specs.List.{AllByRecursion}
 use Rattle.std.proofs.lemmas.Bool.Decides.{nat_tests}
+use Rattle.std.proofs.lemmas.Bool.{cond-false}
+use Rattle.list_laws.proofs.Tests.{eqb_zero_from_lt}
 use Rattle.zone_spec.specs.declared.Zone.{Zone}
 use Rattle.zone_spec.specs.Zones.{IsValidZone}
 use Rattle.zone_spec.specs.Parts.{AreBytes, Header, standing_words}
@@ -31,13 +33,6 @@ pub record IsTold (z : Zone) (zone : LiveZone) (told : List ℕ) : Type 0 where
 
 -- ---- tests
 
-positive : (n : ℕ) → 0 < n → (n == 0) ≡ false
-positive n h = grind (arith, nat_tests)
-
-cond_false : {X : Type 0} (b : Bool) (x y : X) → b ≡ false → cond b x y ≡ y
-cond_false true x y e = absurd (true≢false e)
-cond_false false x y e = refl
-
 -- ---- an append has stores
 
 turn_some : (z : Zone) (image : List ℕ) (t : Bool) (n m : ℕ) (gs hs ks : List Stage)
@@ -52,7 +47,8 @@ unfolding call_stores
 some_stores z image b bs e =
     let w : Words = standing_words image in
     let q : List ℕ = b ∷ bs in
-    positive _ (subst (λ xs. 0 < length (stores_in_turn z (append_stages z w.start w.size xs ++ []) image)) (sym e)
+    eqb_zero_from_lt _ (subst (λ xs. 0 < length (stores_in_turn z (append_stages z w.start w.size xs ++ []) image))
+    (sym e)
     (turn_some z image (w.size == z.cap) (min z.cap (w.size + length q)) ((w.start + length q) % z.cap)
     (run_stages z w.start (take (z.cap - w.start) q)) (run_stages z 0 (drop (z.cap - w.start) q))
     (ParityOf Header ∷ [])))
@@ -90,7 +86,7 @@ module _ (z : Zone) (valid : IsValidZone z) where
       }
   ended zone log =
       let n : ℕ = length (call_stores z (Append log) zone.image) in
-      cond_false (nat_lt (0 + (n - 0)) n) _ _ (grind (arith, nat_tests))
+      cond-false (nat_lt (0 + (n - 0)) n) _ _ (grind (arith, nat_tests))
 
   stays_idle : (zone : LiveZone) → zone.flight ≡ None → finished z zone ≡ zone
   stays_idle zone e = ap (λ o. stepped_by o z (stores_left o z) zone) e
@@ -119,7 +115,7 @@ module _ (z : Zone) (valid : IsValidZone z) where
       omega (arith, size, below)) in
       let go : begun z (Append log) zone ≡ record zone {
         flight = Some (record { image = zone.image; call = Append log; made = 0 });
-      } = cond_false (length (call_stores z (Append log) zone.image) == 0) _ _
+      } = cond-false (length (call_stores z (Append log) zone.image) == 0) _ _
       (some_stores z zone.image b bs (last_items-short z.cap log fits)) in
       let new : finished z (begun z (Append log) zone) ≡ record {
         image = image_after z (Append log) zone.image (length (call_stores z (Append log) zone.image));
@@ -144,7 +140,7 @@ module _ (z : Zone) (valid : IsValidZone z) where
     where
       by : (t : Bool) → (not t && (length (b ∷ bs) == 0)) ≡ false
       by true = refl
-      by false = positive (length (b ∷ bs)) (omega arith)
+      by false = eqb_zero_from_lt (length (b ∷ bs)) (omega arith)
 
   all_stay : (zone : LiveZone) (b : ℕ) (bs : List ℕ) (rs : List ZoneReading) → zone.told ≡ b ∷ bs
       → fold (λ v (r : ZoneReading). with_log z v r.log) zone rs ≡ zone
@@ -164,7 +160,7 @@ module _ (z : Zone) (valid : IsValidZone z) where
   first_some : (r : ZoneReading) (rs : List ZoneReading) (b : ℕ) (bs : List ℕ) → r.log ≡ b ∷ bs
       → first_log (r ∷ rs) ≡ r.log
   first_some r rs b bs e =
-      let n : (length (b ∷ bs) == 0) ≡ false = positive (length (b ∷ bs)) (omega arith) in rw (e, n) refl
+      let n : (length (b ∷ bs) == 0) ≡ false = eqb_zero_from_lt (length (b ∷ bs)) (omega arith) in rw (e, n) refl
 
   pub filled : (rs : List ZoneReading) (zone : LiveZone) → AllByRecursion (IsLogFor z) rs → IsTold z zone []
       → IsTold z (fold (λ v (r : ZoneReading). with_log z v r.log) zone rs) (first_log rs)

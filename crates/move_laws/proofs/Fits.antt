@@ -3,6 +3,8 @@ use Rattle.std.proofs.Common.{◌≡◌, ℕ, zero, suc, ◌≤◌, ◌==◌, Bo
 use Rattle.std.specs.Prelude.{filter}
 use Rattle.std.specs.List.{AllByRecursion, list_all}
 use Rattle.std.specs.Option.{option_and_then, option_map}
+use Rattle.std.proofs.lemmas.Bool.{and_parts}
+use Rattle.list_laws.proofs.Elements.{AllByRecursion-append}
 use Rattle.zone_spec.specs.declared.Zone.{Zone}
 use Rattle.zone_spec.specs.declared.ZoneName.{ZoneName}
 use Rattle.zone_spec.specs.declared.Kind.{Kind}
@@ -18,21 +20,16 @@ use Rattle.zone_spec.specs.Records.{Saved, is_of, found_in, found}
 use Rattle.zone_spec.specs.Notices.{is_in}
 use Rattle.zone_spec.specs.Layouts.{is_zone}
 use Rattle.machine_spec.specs.Moved.{zone_named, has_room, takes, record_name, is_fit, kept_if, found_of}
-use Rattle.ring_laws.proofs.StoreBytes.{all-append}
 use Rattle.move_laws.specs.Moves.{IsLogFor}
 use Rattle.move_laws.specs.Listed.{AreNamed, IsOfBytes, FittingLogsFit}
 
 -- ---- tests
 
-both : (a b : Bool) → (a && b) ≡ true → (a ≡ true) × (b ≡ true)
-both true b e = (refl, e)
-both false b e = absurd (true≢false (sym e))
-
 all_at : {X : Type 0} (p : X → Bool) (xs : List X) (i : ℕ) (x : X) → list_all p xs ≡ true → slice_get xs i ≡ Some x
     → p x ≡ true
 all_at p [] i x e h = let n : None ≡ Some x = h in cc
-all_at p (y ∷ ys) zero x e h = let s : y ≡ x = cc in ap p (sym s) ∙ (both (p y) (list_all p ys) e).0
-all_at p (y ∷ ys) (suc i) x e h = all_at p ys i x (both (p y) (list_all p ys) e).1 h
+all_at p (y ∷ ys) zero x e h = let s : y ≡ x = cc in ap p (sym s) ∙ (and_parts (p y) (list_all p ys) e).0
+all_at p (y ∷ ys) (suc i) x e h = all_at p ys i x (and_parts (p y) (list_all p ys) e).1 h
 
 -- what passes a test is among those that do
 filter_at : {X : Type 0} (p q : X → Bool) (xs : List X) (i : ℕ) (x : X) → list_all p (filter q xs) ≡ true
@@ -43,11 +40,11 @@ filter_at p q (y ∷ ys) zero x e h k =
     let t : q y ≡ true = ap q s ∙ k in
     let f : list_all p (y ∷ filter q ys) ≡ true =
     ap (λ b. list_all p (cond b (y ∷ filter q ys) (filter q ys))) (sym t) ∙ e in
-    ap p (sym s) ∙ (both (p y) (list_all p (filter q ys)) f).0
+    ap p (sym s) ∙ (and_parts (p y) (list_all p (filter q ys)) f).0
 filter_at p q (y ∷ ys) (suc i) x e h k = filter_at p q ys i x (by (q y) e) h k
   where
     by : (b : Bool) → list_all p (cond b (y ∷ filter q ys) (filter q ys)) ≡ true → list_all p (filter q ys) ≡ true
-    by true f = (both (p y) (list_all p (filter q ys)) f).1
+    by true f = (and_parts (p y) (list_all p (filter q ys)) f).1
     by false f = f
 
 same_kind : (a b : Kind) → is_of a b ≡ true → a ≡ b
@@ -71,7 +68,7 @@ same_kind Pmsg Ftrace e = absurd (true≢false (sym e))
 -- a zone that has a name is named so
 pub same_name : (name : ZoneName) (z : Zone) → is_zone name z ≡ true → name ≡ z.name
 same_name name z e =
-    let h = both (is_of name.kind z.name.kind) (z.name.index == name.index) e in
+    let h = and_parts (is_of name.kind z.name.kind) (z.name.index == name.index) e in
     ap₂ (λ k i. record { kind = k; index = i }) (same_kind name.kind z.name.kind h.0)
     (sym (eqb-true z.name.index name.index h.1))
 
@@ -109,7 +106,7 @@ module _ (layout : List Zone) (all : List Saved) where
       let room : (has_room (length r.log) (zone_named layout zone.name) && true) ≡ true =
       ap (λ t. list_all (λ (r : ZoneReading). has_room (length r.log) (zone_named layout zone.name)) (found_in r t))
       (sym s) ∙ taken in
-      (both (has_room (length r.log) (zone_named layout zone.name)) true room).0
+      (and_parts (has_room (length r.log) (zone_named layout zone.name)) true room).0
 
 module _ (layout : List Zone) (all : List Saved) (named : AreNamed layout) (i : ℕ) (z : Zone)
     (hz : slice_get layout i ≡ Some z) where
@@ -150,7 +147,7 @@ module _ (layout : List Zone) (all : List Saved) (named : AreNamed layout) (i : 
       → AllByRecursion (IsLogFor z)
       (found_of (map (λ (zone : Saved). (zone.0, kept_if layout all zone.0.name zone.1)) zs) z)
   all_fit [] h = tt
-  all_fit (s ∷ zs) h = all-append (IsLogFor z) _ _ (h 0 s refl) (all_fit zs (λ j t e. h (suc j) t e))
+  all_fit (s ∷ zs) h = AllByRecursion-append (IsLogFor z) _ _ (h 0 s refl) (all_fit zs (λ j t e. h (suc j) t e))
 
 pub fitting_logs_fit : FittingLogsFit
 fitting_logs_fit layout zones named bytes i z hz =

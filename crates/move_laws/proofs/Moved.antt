@@ -4,6 +4,7 @@ use Rattle.std.specs.Prelude.{fold}
 use Rattle.std.proofs.lemmas.List.{drop-drop, length-replicate}
 use Rattle.std.proofs.lemmas.List.Sums.{sum_by-cons}
 use Rattle.std.specs.Option.{option_map}
+use Rattle.std.proofs.Math.Seq.{drop-append_seam}
 use Rattle.zone_spec.specs.declared.Zone.{Zone}
 use Rattle.zone_spec.specs.declared.Words.{Words}
 use Rattle.zone_spec.specs.Zones.{IsValidZone}
@@ -37,10 +38,6 @@ use Rattle.move_laws.proofs.Counts.{counts_none}
 
 -- ---- the zones' bytes end to end
 
-drop_whole : (xs ys : List ℕ) → drop (length xs) (xs ++ ys) ≡ ys
-drop_whole [] ys = refl
-drop_whole (x ∷ xs) ys = drop_whole xs ys
-
 -- the i-th zone's bytes are where those of the zones before it end
 images_at : (zs : List Zone) (vs : List LiveZone) (rest : List ℕ) (i : ℕ) (z : Zone) (v : LiveZone)
     → EachZone zs vs (λ z v. IsImage z v.image) → slice_get zs i ≡ Some z → slice_get vs i ≡ Some v
@@ -63,7 +60,7 @@ images_at (y ∷ ys) (w ∷ ws) rest (suc i) z v each hz hv =
     ≡ drop (zones_end (take i ys)) tail =
     ap₂ drop n (append_assoc w.image (flat_map (λ (u : LiveZone). u.image) ws) rest)
     ∙ sym (drop-drop (zones_end (take i ys)) (length w.image) (w.image ++ tail))
-    ∙ ap (drop (zones_end (take i ys))) (drop_whole w.image tail) in
+    ∙ ap (drop (zones_end (take i ys))) (drop-append_seam w.image tail) in
     ap (take z.size) d
     ∙ images_at ys ws rest i z v (omega (arith, each.0), λ j x u hx hu. each.1 (suc j) x u hx hu) hz hv
 

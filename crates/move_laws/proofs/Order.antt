@@ -1,8 +1,9 @@
 -- A boot of a moved image lists the records of the logs that were told
-use Rattle.std.proofs.Common.{◌≡◌, ℕ, zero, suc, ◌<◌, ◌==◌, Bool, true, false, cond, not, List, [], ◌∷◌, ◌++◌, length, map, slice_get, refl, sym, ap, ap₂, ◌∙◌, arith, Some}
+use Rattle.std.proofs.Common.{◌≡◌, ℕ, suc, ◌==◌, Bool, true, false, cond, not, List, [], ◌∷◌, ◌++◌, length, map, slice_get, refl, sym, ap, ap₂, ◌∙◌, arith, Some}
 use Rattle.std.specs.Prelude.{find, flat_map, unwrap_or, zip}
-use Rattle.std.proofs.lemmas.Bool.Decides.{nat_tests}
 use Rattle.std.proofs.lemmas.List.Concat.{flat_map-append}
+use Rattle.list_laws.proofs.Tests.{eqb_zero_from_lt}
+use Rattle.list_laws.proofs.Gets.{slice_get_there}
 use Rattle.zone_spec.specs.declared.Zone.{Zone}
 use Rattle.zone_spec.specs.declared.ZoneName.{ZoneName}
 use Rattle.zone_spec.specs.declared.Kind.{Kind}
@@ -85,11 +86,6 @@ listed_is zones =
 
 -- ---- zone by zone
 
-get_there : {X : Type 0} (xs : List X) (i : ℕ) → i < length xs → (x : X) × (slice_get xs i ≡ Some x)
-get_there [] i h = absurd (omega arith)
-get_there (x ∷ xs) zero h = (x, refl)
-get_there (x ∷ xs) (suc i) h = get_there xs i (omega arith)
-
 each_same : {X : Type 0} (f g : Zone → List X) (zs : List Zone)
     → ((i : ℕ) (z : Zone) → slice_get zs i ≡ Some z → f z ≡ g z) → flat_map f zs ≡ flat_map g zs
 each_same f g [] h = refl
@@ -109,18 +105,15 @@ one_first : (r : ZoneReading) (b : Bool) → (length r.log == 0) ≡ b → b ≡
 one_first r true e h = let n : ◌≡◌ {A = ℕ} 0 1 = cc in absurd (omega (arith, n))
 one_first r false e h = rw e refl
 
-some_bytes : (n : ℕ) → 0 < n → (n == 0) ≡ false
-some_bytes n h = grind (arith, nat_tests)
-
 -- what a zone with one log reads is that log
 one_log : (name : ZoneName) (rs : List ZoneReading) (read : ZoneReading) → IsOneLog rs
     → read.log ≡ first_of rs → read.state ≡ cond (length (first_of rs) == 0) Empty Found
     → map (named name) (found_in read read.state) ≡ map (named name) rs
 one_log name [] read one log state = ap (λ s. map (named name) (found_in read s)) state
 one_log name (r ∷ []) read one log state =
-    let first : first_of (r ∷ []) ≡ r.log = one_first r _ refl (some_bytes (length r.log) one) in
+    let first : first_of (r ∷ []) ≡ r.log = one_first r _ refl (eqb_zero_from_lt (length r.log) one) in
     let there : read.state ≡ Found = state ∙ ap (λ (xs : List ℕ). cond (length xs == 0) Empty Found) first
-    ∙ ap (λ b. cond b Empty Found) (some_bytes (length r.log) one) in
+    ∙ ap (λ b. cond b Empty Found) (eqb_zero_from_lt (length r.log) one) in
     ap (λ s. map (named name) (found_in read s)) there ∙ ap (λ (xs : List ℕ). (name, xs) ∷ []) (log ∙ first)
 one_log name (r ∷ s ∷ rs) read one log state = absurd one
 
@@ -133,7 +126,7 @@ moved_image_lists layout mem zones lies fit takes =
     saved_named read layout
     ∙ each_same (λ z. map (named z.name) (found_in (read z) (read z).state))
     (λ z. map (named z.name) (found_of zones z)) layout (λ i z e.
-    let there = get_there off.zones i (omega (arith, get-below layout i z e, reads.0)) in
+    let there = slice_get_there off.zones i (omega (arith, get-below layout i z e, reads.0)) in
     let is : ReadsLog zones z (zone_bytes z off.image) = reads.1 i z there.0 e there.1 in
     one_log z.name (found_of zones z) (read z) (takes.one i z e) is.log is.state)
     ∙ takes.order in

@@ -193,7 +193,7 @@ from_map f [] k y e = let n : None ≡ Some y = e in cc
 from_map f (x ∷ xs) zero y e = (x, refl, (let s : f x ≡ y = cc in s))
 from_map f (x ∷ xs) (suc k) y e = from_map f xs k y e
 
-name_at : (layout : List Zone) (name : ZoneName) (i : ℕ) (z : Zone) → zone_place layout name ≡ Some i
+pub name_at : (layout : List Zone) (name : ZoneName) (i : ℕ) (z : Zone) → zone_place layout name ≡ Some i
     → slice_get layout i ≡ Some z → is_zone name z ≡ true
 name_at layout name i z place ez =
     let p = position-Some (is_zone name) layout i z place in

@@ -1,10 +1,10 @@
 -- The zones of parameters come by kind and number, so in one order under all parameters
 use Rattle.std.proofs.Common.{◌≡◌, ℕ, zero, suc, ◌+◌, ◌*◌, ◌<◌, ◌≤◌, ◌⊎◌, Bool, true, false, cond, not, ◌&&◌, nat_lt, List, [], ◌∷◌, ◌++◌, length, map, slice_get, get_or, refl, sym, ap, ap₂, ◌∙◌, subst, arith, inl, inr, Some, None, eq-eqb}
 use Rattle.std.specs.List.{AllByRecursion, range_with_len, position_or_len}
-use Rattle.std.proofs.lemmas.Bool.{cases_lt, cases_eq}
-use Rattle.std.proofs.lemmas.Bool.Decides.{nat_tests}
+use Rattle.std.proofs.lemmas.Bool.{cases_lt, cases_eq, lt-ltb}
 use Rattle.std.proofs.lemmas.List.Quantifiers.{position-Some}
 use Rattle.std.proofs.lemmas.Option.{slice_get-get_or}
+use Rattle.list_laws.proofs.Elements.{AllByRecursion-append}
 use Rattle.zone_spec.specs.declared.Zone.{Zone}
 use Rattle.zone_spec.specs.declared.ZoneName.{ZoneName}
 use Rattle.zone_spec.specs.declared.Kind.{Kind}
@@ -16,13 +16,9 @@ use Rattle.zone_spec.specs.Layouts.{is_zone, zone_place}
 use Rattle.zone_spec.specs.Reading.{zone_reading}
 use Rattle.zone_spec.specs.Records.{Saved, is_of}
 use Rattle.machine_spec.specs.Zones.{zone_bytes}
-use Rattle.ring_laws.proofs.StoreBytes.{all-append}
 use Rattle.move_laws.specs.Listed.{AreNamed, LayoutsComeInOrder, LayoutsAreNamed, LayoutsKeepRecords}
 use Rattle.move_laws.proofs.Fits.{same_name}
 use Rattle.move_laws.proofs.Saved.{zip_at, move_keeps_records}
-
-lt-tests : (a b : ℕ) → a < b → nat_lt a b ≡ true
-lt-tests a b h = grind (arith, nat_tests)
 
 abbrev rank : Kind → ℕ
 rank Dump = 0
@@ -64,7 +60,7 @@ rising_join : (xs ys : List Zone) → Rising xs → Rising ys
     → AllByRecursion (λ (x : Zone). AllByRecursion (λ (y : Zone). Before x.name y.name) ys) xs → Rising (xs ++ ys)
 rising_join [] ys h k b = k
 rising_join (x ∷ xs) ys h k b =
-    (all-append (λ (y : Zone). Before x.name y.name) xs ys h.0 b.0, rising_join xs ys h.1 k b.1)
+    (AllByRecursion-append (λ (y : Zone). Before x.name y.name) xs ys h.0 b.0, rising_join xs ys h.1 k b.1)
 
 rising_get : (zs : List Zone) (i j : ℕ) (y z : Zone) → Rising zs → i < j → slice_get zs i ≡ Some y
     → slice_get zs j ≡ Some z → Before y.name z.name
@@ -99,7 +95,7 @@ module _ (p : Params) where
   unfolding zones_from
   all_from r [] at h = tt
   all_from r (row ∷ rs) at h =
-      all-append (λ (z : Zone). r < rank z.name.kind)
+      AllByRecursion-append (λ (z : Zone). r < rank z.name.kind)
       (map (λ i. zone_at p row.kind row.size i (at + i * row.size)) (range_with_len 0 row.count))
       (zones_from p (at + row.count * row.size) rs)
       (all_row (λ (z : Zone). r < rank z.name.kind) row.kind row.size at row.count 0 (λ i l. h.0))
@@ -189,7 +185,7 @@ place_some : (zs : List Zone) (i : ℕ) (z : Zone) → slice_get zs i ≡ Some z
     → zone_place zs z.name ≡ Some (position_or_len (is_zone z.name) zs)
 place_some zs i z e =
     let l : position_or_len (is_zone z.name) zs < length zs = below_place (is_zone z.name) zs i z e (own_name z) in
-    let t : nat_lt (position_or_len (is_zone z.name) zs) (length zs) ≡ true = lt-tests _ _ l in
+    let t : nat_lt (position_or_len (is_zone z.name) zs) (length zs) ≡ true = lt-ltb _ _ l in
     ap (λ b. cond b (Some (position_or_len (is_zone z.name) zs)) None) t
 
 not_self : (a b : ZoneName) → a ≡ b → Before a b → ⊥

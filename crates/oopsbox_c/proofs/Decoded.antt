@@ -1,11 +1,9 @@
 -- What the answer of a decoding tells of the nearest codeword, and how many fixes there are at most.
-use Rattle.std.proofs.Common.{◌≡◌, ℕ, zero, suc, ◌/◌, ◌≤◌, ◌&&◌, Bool, true, false, refl, arith, List, [], ◌∷◌, length, Option, Some, None, eqb}
-use Rattle.std.proofs.Math.Dec.{leb}
-use Rattle.std.proofs.lemmas.Bool.{leb-true, le-leb}
-use Rattle.code_spec.specs.Code.{distance, nearest, nearest_if, is_near, is_codeword}
-use Rattle.code_laws.proofs.Nearest.{the_word-passes}
+use Rattle.std.proofs.Common.{◌≡◌, ℕ, zero, suc, ◌/◌, ◌≤◌, Bool, true, false, refl, arith, List, [], ◌∷◌, length, Option, Some, None, eqb}
+use Rattle.std.proofs.lemmas.Bool.{le-leb}
+use Rattle.decoder_laws.proofs.Nearest.{nearest-close}
+use Rattle.code_spec.specs.Code.{distance, nearest}
 use Rattle.rs_decode.specs.Decoding.{decoded_by, decoded_at, differences, fixes_by}
-use Rattle.rs_decode.proofs.Applied.{distance_self}
 use Rattle.oopsbox_c.specs.Codes.{is_block, has_answer, decode_end, end_of, near_end}
 use Rattle.oopsbox_c.specs.declared.ends.End.TheVariants.{Done}
 
@@ -26,19 +24,6 @@ answered m p s near b l = rw (b, le-leb (p / 2) s l) refl
 
 pub has : (m p s : ℕ) → is_block m p ≡ true → p / 2 ≤ s → has_answer m p s ≡ true
 has m p s b l = rw (b, le-leb (p / 2) s l) refl
-
-nearest-close : (r : ℕ) (w c : List ℕ) → nearest r w ≡ Some c → distance w c ≤ r / 2
-unfolding nearest is_near
-nearest-close r w c e = by (is_codeword r w) e
-  where
-    both : (a b : Bool) → a && b ≡ true → b ≡ true
-    both true b h = h
-    both false b h = cc
-
-    by : (b : Bool) → nearest_if b r w ≡ Some c → distance w c ≤ r / 2
-    by true e = let s : w ≡ c = cc in rw (← s) (omega (arith, distance_self w))
-    by false e = leb-true (distance w c) (r / 2) (both (is_codeword r c) (leb (distance w c) (r / 2))
-        (the_word-passes (is_near r w) (length w) c e).0)
 
 count_is : (i : ℕ) (w c : List ℕ) → length (differences i w c) ≤ distance w c
 unfolding distance

@@ -1,23 +1,23 @@
 -- An answer grows by the stores that come next
-use Rattle.std.proofs.Common.{◌≡◌, ℕ, ◌+◌, ◌<◌, ◌≤◌, List, [], ◌∷◌, ◌++◌, length, take, drop, set, refl, sym, ap, ap₂, ◌∙◌, subst, arith, length-append, append-nil, inl, inr}
+use Rattle.std.proofs.Common.{◌≡◌, ℕ, ◌+◌, ◌<◌, List, [], ◌∷◌, ◌++◌, length, take, drop, set, refl, sym, ap, ap₂, ◌∙◌, subst, arith, length-append, append-nil, inl, inr}
 use Rattle.std.specs.List.{flat_map, AllByRecursion}
 use Rattle.std.proofs.lemmas.List.{drop-drop, take_more_set}
 use Rattle.std.proofs.lemmas.Grind.{flat_map-append}
 use Rattle.std.proofs.Math.Seq.{take-add}
+use Rattle.list_laws.proofs.Elements.{AllByRecursion-append}
 use Rattle.zone_spec.specs.declared.Zone.{Zone}
 use Rattle.zone_spec.specs.Told.{Call}
 use Rattle.zone_spec.specs.Parts.{AreBytes}
 use Rattle.zone_spec.specs.Stores.{Store, after_stores}
 use Rattle.zone_spec.specs.Calls.{call_stores}
 use Rattle.ring_laws.proofs.Images.{after_stores-append}
-use Rattle.ring_laws.proofs.StoreBytes.{all-append}
 use Rattle.store_steps.specs.declared.steps.Steps.{Steps}
 use Rattle.store_steps.specs.Calls.{call_of}
 use Rattle.store_steps.specs.Flying.{Flying, flying, IsSameCall}
 use Rattle.store_steps.specs.Phases.{IsFinished}
 use Rattle.store_steps.specs.Machine.{IsKept, StandsFor}
 use Rattle.store_steps.specs.Counts.{total_of}
-use Rattle.oopsbox_c.specs.Stores.{row_stores, stores_in, IsRowInside, AreInside}
+use Rattle.oopsbox_c.specs.Stores.{row_stores, stores_in, AreInside}
 use Rattle.oopsbox_c.specs.Gathered.{IsGathered}
 use Rattle.oopsbox_c.specs.declared.stores.StoreRow.{StoreRow}
 use Rattle.oopsbox_c.specs.declared.stores.Stores.{Stores}
@@ -39,7 +39,7 @@ pub all_more : (P : StoreRow → Type 0) (rows : List StoreRow) (i n : ℕ) (row
 all_more P rows i n row e within h k =
     subst (λ m. AllByRecursion P (take m (set rows i row))) (sym e)
     (subst (AllByRecursion P) (sym (take_more_set rows i row within))
-    (all-append P (take i rows) (row ∷ []) h (k, tt)))
+    (AllByRecursion-append P (take i rows) (row ∷ []) h (k, tt)))
 
 -- ---- the next stores behind those that were taken
 

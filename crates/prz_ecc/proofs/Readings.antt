@@ -1,7 +1,8 @@
 -- A part's reading, by what the decoder answers of its word
-use Rattle.std.proofs.Common.{◌≡◌, ℕ, zero, suc, ◌+◌, ◌-◌, ◌≤◌, List, [], ◌∷◌, ◌++◌, length, take, drop, refl, sym, ap, subst, ◌∙◌, arith, Option, Some, None, unwrap_or, length-drop, length-take, Bool, true, eqb, IsTrue}
+use Rattle.std.proofs.Common.{◌≡◌, ℕ, zero, suc, ◌+◌, ◌-◌, ◌≤◌, List, [], ◌++◌, length, take, drop, refl, sym, ap, subst, ◌∙◌, arith, Option, Some, None, unwrap_or, length-drop, length-take, Bool, true, eqb, IsTrue}
 use Rattle.std.proofs.lemmas.Bool.{eqb-true}
 use Rattle.std.specs.Prelude.{slice_range}
+use Rattle.std.proofs.Math.Seq.{take-append_seam}
 use Rattle.code_spec.specs.Code.{IsCodeword, nearest, is_codeword, distance, parity_of, the_word, words_of}
 use Rattle.zone_spec.specs.declared.Zone.{Zone}
 use Rattle.zone_spec.specs.Parts.{Part, part_at, part_len, part_parity_at, part_bytes, part_word}
@@ -28,15 +29,10 @@ codeword-none r w e = ap (λ (k : ℕ). is_codeword k w) e
 pub none_is : (xs : List ℕ) (e : Bool) → e ≡ eqb (length xs) 0 → e ≡ true → length xs ≡ 0
 none_is xs e h t = eqb-true (length xs) 0 (sym h ∙ t)
 
--- the front of two lists
-take-front : (xs ys : List ℕ) → take (length xs) (xs ++ ys) ≡ xs
-take-front [] ys = refl
-take-front (x ∷ xs) ys = ap (λ (l : List ℕ). x ∷ l) (take-front xs ys)
-
 pub data-none : (r : ℕ) (xs par : List ℕ) → r ≡ 0 → xs
     ≡ take (length xs) (unwrap_or (nearest r (xs ++ par)) (xs ++ par))
 data-none r xs par e = sym (ap (λ (o : Option (List ℕ)). take (length xs) (unwrap_or o (xs ++ par)))
-    (nearest-none r (xs ++ par) e) ∙ take-front xs par)
+    (nearest-none r (xs ++ par) e) ∙ take-append_seam xs par)
 
 -- ---- the bytes and the parity of a part
 pub record IsPart (z : Zone) (image : List ℕ) (p : Part) (bytes par : List ℕ) : Type 0 where
@@ -90,7 +86,7 @@ fixes_are z image p bytes par fs h e =
 reading-bytes : (bytes par : List ℕ) (o : Option (List ℕ))
     → take (length bytes) (unwrap_or o (bytes ++ par)) ≡ (reading_by bytes (bytes ++ par) o).bytes
 reading-bytes bytes par (Some c) = refl
-reading-bytes bytes par None = take-front bytes par
+reading-bytes bytes par None = take-append_seam bytes par
 
 pub data_is : (z : Zone) (image : List ℕ) (p : Part) (bytes par out : List ℕ) → IsPart z image p bytes par
     → out ≡ take (length bytes) (unwrap_or (nearest (length par) (bytes ++ par)) (bytes ++ par))

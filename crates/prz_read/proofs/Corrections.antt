@@ -1,11 +1,11 @@
 -- The corrections of a zone's parts, when others were made before
-use Rattle.std.proofs.Common.{◌≡◌, ℕ, zero, suc, ◌+◌, ◌-◌, ◌*◌, ◌<◌, ◌≤◌, min, List, [], ◌∷◌, ◌++◌, length, take, drop, slice_range, flat_map, refl, sym, ap, ap₂, ◌∙◌, arith, length-take, length-drop, take-append-drop, take_all, w32, append_assoc}
+use Rattle.std.proofs.Common.{◌≡◌, ℕ, ◌+◌, ◌-◌, ◌*◌, ◌<◌, ◌≤◌, min, List, [], ◌∷◌, ◌++◌, length, take, drop, slice_range, flat_map, refl, sym, ap, ap₂, ◌∙◌, arith, length-take, length-drop, w32}
 use Rattle.std.specs.Int.{to_le_bytes}
 use Rattle.std.specs.List.{range_with_len}
-use Rattle.std.proofs.Math.Seq.{drop-nil}
 use Rattle.std.proofs.lemmas.Nat.{le_bytes_4}
-use Rattle.std.proofs.lemmas.List.{append-nil}
+use Rattle.std.proofs.lemmas.List.{append-nil, drop-drop}
 use Rattle.std.proofs.lemmas.Grind.{flat_map-append}
+use Rattle.list_laws.proofs.Slices.{append-slice_range_thirds}
 use Rattle.zone_spec.specs.declared.Zone.{Zone}
 use Rattle.zone_spec.specs.declared.Words.{Words}
 use Rattle.zone_spec.specs.declared.State.{State}
@@ -22,18 +22,13 @@ use Rattle.prz_read.proofs.Images.{block-length, header-length}
 use Rattle.prz_read.proofs.Fronts.{range-front}
 
 -- ---- images that are the same from a place on
-pub drop-plus : (n k : ℕ) (xs : List ℕ) → drop (n + k) xs ≡ drop k (drop n xs)
-drop-plus zero k xs = ap (λ (m : ℕ). drop m xs) (let e : 0 + k ≡ k = omega arith in e)
-drop-plus (suc n) k [] = drop-nil (suc n + k) ∙ sym (ap (λ (l : List ℕ). drop k l) (drop-nil (suc n)) ∙ drop-nil k)
-drop-plus (suc n) k (x ∷ xs) = ap (λ (m : ℕ). drop m (x ∷ xs)) (let e : suc n + k ≡ suc (n + k) = omega arith in e)
-    ∙ drop-plus n k xs
 
 pub slice-same : (x y : List ℕ) (n a b : ℕ) → drop n x ≡ drop n y → n ≤ a → slice_range x a b ≡ slice_range y a b
 slice-same x y n a b e le =
     let split : a ≡ n + (a - n) = omega arith in
     let same : drop a x ≡ drop a y =
-    ap (λ (m : ℕ). drop m x) split ∙ drop-plus n (a - n) x ∙ ap (λ (l : List ℕ). drop (a - n) l) e
-    ∙ sym (drop-plus n (a - n) y) ∙ ap (λ (m : ℕ). drop m y) (sym split) in
+    ap (λ (m : ℕ). drop m x) split ∙ sym (drop-drop (a - n) n x) ∙ ap (λ (l : List ℕ). drop (a - n) l) e
+    ∙ drop-drop (a - n) n y ∙ ap (λ (m : ℕ). drop m y) (sym split) in
     ap (λ (l : List ℕ). take (b - a) l) same
 
 -- ---- one block
@@ -60,13 +55,6 @@ module _ (z : Zone) (x : List ℕ) where
       ∙ ap (λ (ks : List ℕ). flat_map f ks) (sym (range-front b 1))
 
 -- ---- the header
-header-split : (bs : List ℕ) → length bs ≡ 12 → slice_range bs 0 4 ++ slice_range bs 4 8 ++ slice_range bs 8 12 ≡ bs
-header-split bs h =
-    let last : slice_range bs 8 12 ≡ drop 4 (drop 4 bs) = ap (λ (l : List ℕ). take 4 l) (drop-plus 4 4 bs)
-    ∙ take_all 4 (drop 4 (drop 4 bs)) (omega (arith, length-drop 4 (drop 4 bs), length-drop 4 bs)) in
-    append_assoc (take 4 bs) (take 4 (drop 4 bs)) (slice_range bs 8 12)
-    ∙ ap (λ (l : List ℕ). take 4 bs ++ (take 4 (drop 4 bs) ++ l)) last
-    ∙ ap (λ (l : List ℕ). take 4 bs ++ l) (take-append-drop 4 (drop 4 bs)) ∙ take-append-drop 4 bs
 
 pub header-bytes : (bs : List ℕ) → length bs ≡ 12 → AreBytes bs
     → to_le_bytes w32 (words_in bs).sig ++ to_le_bytes w32 (words_in bs).start ++ to_le_bytes w32 (words_in bs).size
@@ -80,7 +68,7 @@ header-bytes bs h k =
     le_bytes_4 (slice_range bs 4 8) _ (long 4 (omega arith)) (slice_range-bytes bs 4 8 k) refl in
     let e2 : to_le_bytes w32 (words_in bs).size ≡ slice_range bs 8 12 =
     le_bytes_4 (slice_range bs 8 12) _ (long 8 (omega arith)) (slice_range-bytes bs 8 12 k) refl in
-    ap₂ (λ (a b : List ℕ). a ++ b) (ap₂ (λ (a b : List ℕ). a ++ b) e0 e1) e2 ∙ header-split bs h
+    ap₂ (λ (a b : List ℕ). a ++ b) (ap₂ (λ (a b : List ℕ). a ++ b) e0 e1) e2 ∙ append-slice_range_thirds bs h
 
 pub words-of : (z : Zone) (x : List ℕ) → (zone_reading z x).words ≡ words_read z x
 unfolding zone_reading

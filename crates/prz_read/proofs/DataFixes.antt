@@ -2,8 +2,11 @@
 use Rattle.std.proofs.Common.{◌≡◌, ℕ, zero, suc, ◌+◌, ◌-◌, ◌*◌, ◌/◌, ◌%◌, ◌<◌, ◌≤◌, min, List, [], ◌++◌, length, take, drop, slice_range, flat_map, refl, sym, ap, ap₂, ◌∙◌, subst, arith, length-take, length-drop, length-append, take-append-drop, take_all, append_assoc}
 use Rattle.std.specs.List.{range_with_len}
 use Rattle.std.proofs.Math.Seq.{take-add, take-append_seam, drop-append_seam}
-use Rattle.std.proofs.lemmas.List.{append-nil}
+use Rattle.std.proofs.lemmas.List.{append-nil, drop-drop}
 use Rattle.std.proofs.lemmas.Grind.{div_ceil_times}
+use Rattle.std.proofs.Math.Nat.{min-le_right}
+use Rattle.list_laws.proofs.Slices.{length-slice_range}
+use Rattle.list_laws.proofs.RoundingUp.{div_ceil_is}
 use Rattle.zone_spec.specs.declared.Zone.{Zone}
 use Rattle.zone_spec.specs.declared.Words.{Words}
 use Rattle.zone_spec.specs.declared.State.{State}
@@ -20,10 +23,10 @@ use Rattle.ring_laws.proofs.BootLaw.{length-reading}
 use Rattle.prz_read.specs.declared.settling.Tally.{Tally}
 use Rattle.prz_read.specs.Making.{Makes, data_fixes, unturned}
 use Rattle.prz_read.specs.Reads.{bytes_read, read_end}
-use Rattle.prz_read.proofs.Images.{block-length, slice_length}
-use Rattle.prz_read.proofs.Fronts.{ceil-is, bytes_read-length, bytes_read-next, bytes_read-none, log-turned, ring-found}
+use Rattle.prz_read.proofs.Images.{block-length}
+use Rattle.prz_read.proofs.Fronts.{bytes_read-length, bytes_read-next, bytes_read-none, log-turned, ring-found}
 use Rattle.prz_read.proofs.Storing.{makes-same, makes-append, makes-keep, makes-spans, makes-length, fix-append, fix-below, fix-length}
-use Rattle.prz_read.proofs.Corrections.{drop-plus, slice-same, block-fixes, fixes-next, state-of, words-of}
+use Rattle.prz_read.proofs.Corrections.{slice-same, block-fixes, fixes-next, state-of, words-of}
 
 -- ---- two runs of bytes that lie side by side
 slice-split : (x : List ℕ) (a n m : ℕ)
@@ -32,7 +35,7 @@ slice-split x a n m =
     ap (λ (k : ℕ). take k (drop a x)) (let e : a + (n + m) - a ≡ n + m = omega arith in e) ∙ take-add n m (drop a x)
     ∙ ap₂ (λ (k l : ℕ). take k (drop a x) ++ take l (drop n (drop a x)))
     (let e : n ≡ a + n - a = omega arith in e) (let e : m ≡ a + n + m - (a + n) = omega arith in e)
-    ∙ ap (λ (l : List ℕ). take (a + n - a) (drop a x) ++ take (a + n + m - (a + n)) l) (sym (drop-plus a n x))
+    ∙ ap (λ (l : List ℕ). take (a + n - a) (drop a x) ++ take (a + n + m - (a + n)) l) (drop-drop n a x)
 
 pub fix-split : (x : List ℕ) (p : ℕ) (xs ys : List ℕ) → p + length xs ≤ length x
     → fix_stores p (slice_range x p (p + length xs)) xs
@@ -40,7 +43,7 @@ pub fix-split : (x : List ℕ) (p : ℕ) (xs ys : List ℕ) → p + length xs �
     ≡ fix_stores p (slice_range x p (p + length (xs ++ ys))) (xs ++ ys)
 fix-split x p xs ys room =
     let front : List ℕ = slice_range x p (p + length xs) in
-    let long : length front ≡ length xs = slice_length x p (length xs) room in
+    let long : length front ≡ length xs = length-slice_range x p (length xs) room in
     sym (ap (λ (n : ℕ). fix_stores p (slice_range x p (p + n)) (xs ++ ys)) (length-append xs ys)
     ∙ ap (λ (l : List ℕ). fix_stores p l (xs ++ ys)) (slice-split x p (length xs) (length ys))
     ∙ fix-append p front (slice_range x (p + length xs) (p + length xs + length ys)) xs ys long
@@ -116,7 +119,7 @@ module _ (z : Zone) (x : List ℕ) (valid : IsValidZone z) (size : length x ≡ 
   unfolding read_end
   below-data n within = blocks-data ((n + z.block - 1) / z.block)
       (let t = div_ceil_times n z.block (block_some z valid) in
-      let e = ceil-is n z.block (block_some z valid) in
+      let e = div_ceil_is n z.block (block_some z valid) in
       let q : ℕ = (n + z.block - 1) / z.block in
       let high : q * z.block < n + z.block = rw (← e) (t.1) in
       grind (arith, high, within))
@@ -126,7 +129,7 @@ module _ (z : Zone) (x : List ℕ) (valid : IsValidZone z) (size : length x ≡ 
   unfolding read_end
   end-whole n e =
       let t = div_ceil_times n z.block (block_some z valid) in
-      let c = ceil-is n z.block (block_some z valid) in
+      let c = div_ceil_is n z.block (block_some z valid) in
       let q : ℕ = (n + z.block - 1) / z.block in
       let low : n ≤ q * z.block = rw (← c) (t.0) in
       let turned : z.block * q ≡ q * z.block = grind arith in
@@ -136,7 +139,7 @@ module _ (z : Zone) (x : List ℕ) (valid : IsValidZone z) (size : length x ≡ 
   unfolding read_end
   end-block n within e =
       let some = block_some z valid in
-      let c = ceil-is n z.block some in
+      let c = div_ceil_is n z.block some in
       let q : ℕ = (n + z.block - 1) / z.block in
       let same : n / z.block ≡ q = (let m : min 1 (n % z.block) ≡ 0 = omega (arith, e) in omega (arith, c, m)) in
       let is : z.block * (n / z.block) + n % z.block ≡ n = omega (arith, some) in
@@ -162,7 +165,8 @@ module _ (z : Zone) (x : List ℕ) (valid : IsValidZone z) (size : length x ≡ 
       let long : length out ≡ min (z.block * (b + 1)) z.cap - z.block * b = ap length read ∙ whole.0 in
       let front = (bytes_read-next z x b n valid size bytes (omega arith) (omega (arith, is, at, ew, some))).1 in
       let most : z.block ≤ 128 = (let v = valid.block in grind (arith, v)) in
-      let last : (n + z.block - 1) / z.block ≡ b + 1 = (let c = ceil-is n z.block k in let m : min 1 (n % z.block) ≡ 1 =
+      let last : (n + z.block - 1) / z.block ≡ b + 1 =
+      (let c = div_ceil_is n z.block k in let m : min 1 (n % z.block) ≡ 1 =
       omega (arith, ew, some) in omega (arith, c, m, eb)) in
       let cut : min z.block (n - z.block * b) ≡ w = omega (arith, is, at, ew, low) in
       let here : bytes_read z x n ≡ bytes_read z x (z.block * b) ++ take w out =
@@ -237,15 +241,12 @@ module _ {i : ℕ} {t t1 t2 t3 : Tally} {c c1 c2 c3 : CutRegion} where
       at2 l) in
       makes-same (ap₂ (λ (u v : List ℕ). data_fixes (span c i) ((u ++ v) ++ tail)) ef eb) all
 
-least : (m n : ℕ) → min m n ≤ n
-least m n = omega arith
-
 -- the bytes of the blocks that a boot reads lie in the data
 pub data-room : (z : Zone) (x : List ℕ) (n : ℕ) (tail : List ℕ)
     → bytes_read z x n ++ tail ≡ bytes_read z x (read_end z n) → n + length tail ≤ z.cap
 unfolding read_end
 data-room z x n tail e =
-    let le : read_end z n ≤ z.cap = least _ z.cap in
+    let le : read_end z n ≤ z.cap = min-le_right _ z.cap in
     let la = length-append (bytes_read z x n) tail in
     let na = bytes_read-length z x n in
     let ne = bytes_read-length z x (read_end z n) in

@@ -1,8 +1,10 @@
 -- The stores of a boot's erasure
-use Rattle.std.proofs.Common.{◌≡◌, ℕ, zero, suc, ◌+◌, ◌<◌, List, [], ◌∷◌, ◌++◌, length, set, flat_map, refl, sym, ap, ap₂, ◌∙◌, arith, length-append, w32, if◌then◌else◌, ◌==◌, Bool, true, false}
+use Rattle.std.proofs.Common.{◌≡◌, ℕ, zero, suc, ◌+◌, List, [], ◌∷◌, ◌++◌, length, set, flat_map, refl, sym, ap, ap₂, ◌∙◌, arith, length-append, w32, if◌then◌else◌, ◌==◌, Bool, true, false}
 use Rattle.std.specs.Int.{to_le_bytes}
 use Rattle.std.specs.List.{AllByRecursion}
 use Rattle.std.proofs.lemmas.List.{append-nil}
+use Rattle.ring_laws.proofs.StoreCounts.{length-byte_stores}
+use Rattle.list_laws.proofs.Elements.{AllByRecursion-append}
 use Rattle.code_spec.specs.Code.{parity_of}
 use Rattle.code_laws.proofs.Laws.{parity_made}
 use Rattle.zone_spec.specs.declared.Zone.{Zone}
@@ -14,23 +16,13 @@ use Rattle.zone_spec.specs.Stages.{stage_stores, stores_in_turn}
 use Rattle.zone_spec.specs.Calls.{erase_stages}
 use Rattle.zone_spec.specs.Reading.{ZoneReading, zone_reading}
 use Rattle.zone_spec.specs.Boot.{fix_stores, part_fixes, boot_fixes, blocks_read, boot_erasure, boot_stores, signing, keeps}
-use Rattle.ring_laws.proofs.PartsLaw.{slice_range-bytes}
+use Rattle.ring_laws.proofs.PartsLaw.{slice_range-bytes, set-bytes}
 use Rattle.ring_laws.proofs.PartWords.{bytes-all, bytes-each}
 use Rattle.ring_laws.proofs.BootLaw.{length-reading}
-use Rattle.ring_laws.proofs.StoreBytes.{all-append}
-use Rattle.prz_read.proofs.Storing.{byte-length}
 
 -- ---- stores of bytes leave bytes
 abbrev pub HasBytes : Store → Type 0
 HasBytes s = AreBytes s.bytes
-
-set-bytes : (x : List ℕ) (at b : ℕ) → AreBytes x → b < 256 → AreBytes (set x at b)
-set-bytes [] zero b h k i = h i
-set-bytes [] (suc at) b h k i = h i
-set-bytes (x ∷ xs) zero b h k zero = k
-set-bytes (x ∷ xs) zero b h k (suc i) = h (suc i)
-set-bytes (x ∷ xs) (suc at) b h k zero = h 0
-set-bytes (x ∷ xs) (suc at) b h k (suc i) = set-bytes xs at b (λ j. h (suc j)) k i
 
 put-bytes : (x : List ℕ) (at : ℕ) (bs : List ℕ) → AreBytes x → AreBytes bs → AreBytes (put x at bs)
 unfolding put
@@ -55,7 +47,8 @@ unfolding fix_stores
 fix-bytes p [] ys h = tt
 fix-bytes p (x ∷ xs) [] h = tt
 fix-bytes p (x ∷ xs) (y ∷ ys) h =
-    all-append HasBytes (if x == y then [] else record { place = p; bytes = y ∷ [] } ∷ []) (fix_stores (p + 1) xs ys)
+    AllByRecursion-append HasBytes (if x == y then [] else record { place = p; bytes = y ∷ [] } ∷ [])
+    (fix_stores (p + 1) xs ys)
     (one (x == y)) (fix-bytes (p + 1) xs ys (λ i. h (suc i)))
   where
     one : (t : Bool) → AllByRecursion HasBytes (if t then [] else record { place = p; bytes = y ∷ [] } ∷ [])
@@ -65,13 +58,14 @@ fix-bytes p (x ∷ xs) (y ∷ ys) h =
 blocks-bytes : (z : Zone) (x : List ℕ) (ks : List ℕ) → AreBytes x
     → AllByRecursion HasBytes (flat_map (λ (k : ℕ). part_fixes z x (Block k)) ks)
 blocks-bytes z x [] h = tt
-blocks-bytes z x (k ∷ ks) h = all-append HasBytes (part_fixes z x (Block k))
+blocks-bytes z x (k ∷ ks) h = AllByRecursion-append HasBytes (part_fixes z x (Block k))
     (flat_map (λ (k : ℕ). part_fixes z x (Block k)) ks) (fix-bytes _ _ _ (length-reading z x (Block k) h).1)
     (blocks-bytes z x ks h)
 
 pub fixes-bytes : (z : Zone) (x : List ℕ) → AreBytes x → AllByRecursion HasBytes (boot_fixes z x)
 unfolding boot_fixes
-fixes-bytes z x h = all-append HasBytes (part_fixes z x Header) _ (fix-bytes _ _ _ (length-reading z x Header h).1)
+fixes-bytes z x h = AllByRecursion-append HasBytes (part_fixes z x Header) _
+    (fix-bytes _ _ _ (length-reading z x Header h).1)
     (blocks-bytes z x (blocks_read z (zone_reading z x) (zone_reading z x).state) h)
 
 -- ---- the signature
@@ -99,8 +93,9 @@ abbrev pub word_stores : Zone → State → List ℕ → List Store
 word_stores z s x = stores_in_turn z (signing z s) x ++ word_store 4 0 ++ word_store 8 0
 
 pub words-bytes : (z : Zone) (s : State) (x : List ℕ) → AllByRecursion HasBytes (word_stores z s x)
-words-bytes z s x = all-append HasBytes (stores_in_turn z (signing z s) x ++ word_store 4 0) (word_store 8 0)
-    (all-append HasBytes (stores_in_turn z (signing z s) x) (word_store 4 0) (signing-bytes z x s) (word-bytes 0, tt))
+words-bytes z s x = AllByRecursion-append HasBytes (stores_in_turn z (signing z s) x ++ word_store 4 0) (word_store 8 0)
+    (AllByRecursion-append HasBytes (stores_in_turn z (signing z s) x) (word_store 4 0) (signing-bytes z x s)
+    (word-bytes 0, tt))
     (word-bytes 0, tt)
 
 -- ---- the header's parity
@@ -114,7 +109,8 @@ parity-long z x h = (parity_made z.parity (part_bytes z x Header)
 
 pub parity-length : (z : Zone) (x y : List ℕ) → AreBytes x → AreBytes y
     → length (parity_stores z x) ≡ length (parity_stores z y)
-parity-length z x y h k = byte-length _ _ ∙ parity-long z x h ∙ sym (parity-long z y k) ∙ sym (byte-length _ _)
+parity-length z x y h k = length-byte_stores _ _ ∙ parity-long z x h ∙ sym (parity-long z y k)
+    ∙ sym (length-byte_stores _ _)
 
 -- the words, and then the parity of the header that they leave
 pub erasure-is : (z : Zone) (s : State) (x : List ℕ) → word_stores z s x ++ parity_stores z

@@ -1,15 +1,13 @@
 -- The front of a zone's data as its blocks read, and the counts of these blocks
-use Rattle.std.proofs.Common.{◌≡◌, ℕ, zero, suc, ◌+◌, ◌-◌, ◌*◌, ◌/◌, ◌%◌, ◌<◌, ◌≤◌, ◌⊎◌, inl, inr, min, List, [], ◌∷◌, ◌++◌, length, take, drop, map, get_or, Bool, true, false, not, ◌==◌, nat_lt, ◌&&◌, ◌||◌, if◌then◌else◌, refl, sym, ap, ap₂, ◌∙◌, arith, mul_comm, mul-le-mul_right, add-mul}
-use Rattle.std.specs.List.{range_with_len, sum_by}
+use Rattle.std.proofs.Common.{◌≡◌, ℕ, ◌+◌, ◌-◌, ◌*◌, ◌%◌, ◌<◌, ◌≤◌, min, List, [], ◌++◌, length, take, drop, map, get_or, Bool, true, false, not, ◌==◌, nat_lt, ◌&&◌, if◌then◌else◌, refl, sym, ap, ap₂, ◌∙◌, arith, mul_comm, ◌||◌}
+use Rattle.std.specs.List.{range_with_len}
 use Rattle.std.specs.Prelude.{slice_index}
 use Rattle.std.proofs.lemmas.List.{map-append}
-use Rattle.std.proofs.lemmas.List.Sums.{sum_by-append}
 use Rattle.std.proofs.lemmas.List.FromFn.{length-map-range_with_len}
 use Rattle.std.proofs.Math.Seq.{drop-append_seam, take-append_seam}
 use Rattle.std.proofs.lemmas.Nat.{div-mul-add, mod-mul-add}
-use Rattle.std.proofs.lemmas.Grind.{div_ceil_times}
 use Rattle.std.proofs.lemmas.Bool.Decides.{nat_tests}
-use Rattle.std.proofs.lemmas.Bool.{cases_lt}
+use Rattle.list_laws.proofs.Ranges.{range_with_len-add, map-range_from_places}
 use Rattle.zone_spec.specs.declared.Zone.{Zone}
 use Rattle.zone_spec.specs.declared.Words.{Words}
 use Rattle.zone_spec.specs.Zones.{IsValidZone}
@@ -26,56 +24,12 @@ use Rattle.ring_laws.proofs.BootLaw.{length-reading}
 use Rattle.prz_read.proofs.Images.{block-length}
 
 -- ---- numbers in a row
-pub range-append : (a n k : ℕ) → range_with_len a (n + k) ≡ range_with_len a n ++ range_with_len (a + n) k
-range-append a zero k = ap (λ (m : ℕ). range_with_len a m) (let e : 0 + k ≡ k = omega arith in e)
-    ∙ ap (λ (m : ℕ). range_with_len m k) (let e : a ≡ a + 0 = omega arith in e)
-range-append a (suc n) k =
-    ap (λ (m : ℕ). range_with_len a m) (let e : suc n + k ≡ suc (n + k) = omega arith in e)
-    ∙ ap (λ (l : List ℕ). a ∷ l) (range-append (a + 1) n k)
-    ∙ ap (λ (m : ℕ). a ∷ (range_with_len (a + 1) n ++ range_with_len m k))
-    (let e : a + 1 + n ≡ a + suc n = omega arith in e)
 
 pub range-front : (n k : ℕ) → range_with_len 0 (n + k) ≡ range_with_len 0 n ++ range_with_len n k
-range-front n k = range-append 0 n k ∙ ap (λ (m : ℕ). range_with_len 0 n ++ range_with_len m k)
+range-front n k = range_with_len-add 0 n k ∙ ap (λ (m : ℕ). range_with_len 0 n ++ range_with_len m k)
     (let e : 0 + n ≡ n = omega arith in e)
 
-pub sum_by-next : (f : ℕ → ℕ) (n : ℕ) → sum_by f (range_with_len 0 (n + 1)) ≡ sum_by f (range_with_len 0 n) + f n
-sum_by-next f n = ap (λ (l : List ℕ). sum_by f l) (range-front n 1) ∙ sum_by-append f (range_with_len 0 n) (n ∷ [])
-    ∙ omega arith
-
-map-is : (f : ℕ → ℕ) (a k : ℕ) (xs : List ℕ) → k ≤ length xs → ((j : ℕ) → j < k → f (a + j) ≡ get_or xs j 0)
-    → map f (range_with_len a k) ≡ take k xs
-map-is f a zero xs l h = refl
-map-is f a (suc k) [] l h = absurd (omega arith)
-map-is f a (suc k) (x ∷ xs) l h =
-    ap₂ (λ (y : ℕ) (ys : List ℕ). y ∷ ys) (ap f (let e : a ≡ a + 0 = omega arith in e) ∙ h 0 (omega arith))
-    (map-is f (a + 1) k xs (omega arith) (λ j m. ap f (let e : a + 1 + j ≡ a + suc j = omega arith in e)
-    ∙ h (suc j) (omega arith)))
-
 -- ---- rounding up
-pub ceil-is : (x k : ℕ) → 0 < k → x / k + min 1 (x % k) ≡ (x + k - 1) / k
-ceil-is x k some =
-    let t = div_ceil_times x k some in
-    let q : ℕ = x / k + min 1 (x % k) in
-    let low : x ≤ q * k = t.0 in
-    let high : q * k < x + k = t.1 in
-    sym (ap (λ (n : ℕ). n / k) (let e : x + k - 1 ≡ q * k + (x + k - 1 - q * k) = omega arith in e)
-    ∙ div-mul-add q k (x + k - 1 - q * k) (omega arith))
-
-pub below-ceil : (x k b : ℕ) → 0 < k → b < x / k + min 1 (x % k) → k * b < x
-below-ceil x k b some h =
-    let t = div_ceil_times x k some in
-    let q : ℕ = x / k + min 1 (x % k) in
-    let high : q * k < x + k = t.1 in
-    let most : (b + 1) * k ≤ q * k = mul-le-mul_right k (let l : b + 1 ≤ q = omega arith in l) in
-    omega (arith, mul_comm k b, add-mul b 1 k)
-
-pub ceil-most : (x k : ℕ) → 0 < k → x / k + min 1 (x % k) ≤ x
-ceil-most x k some = by (cases_lt x (x / k + min 1 (x % k)))
-  where
-    by : (x < x / k + min 1 (x % k)) ⊎ (x / k + min 1 (x % k) ≤ x) → x / k + min 1 (x % k) ≤ x
-    by (inl more) = absurd (omega (arith, below-ceil x k x some more, mul-le-mul_right x some))
-    by (inr most) = most
 
 -- ---- bytes of blocks
 block-byte : (z : Zone) (x : List ℕ) (b j : ℕ) → j < z.block
@@ -93,7 +47,7 @@ bytes_read-more z x n k xs l h =
     ap (λ (ps : List ℕ). map (λ p. byte_read z x p) ps) (range-front n k)
     ∙ map-append (λ p. byte_read z x p) (range_with_len 0 n) (range_with_len n k)
     ∙ ap (λ (ys : List ℕ). map (λ p. byte_read z x p) (range_with_len 0 n) ++ ys)
-    (map-is (λ p. byte_read z x p) n k xs l h)
+    (map-range_from_places (λ p. byte_read z x p) n k xs l h)
 
 -- a block's bytes, as far as they lie below n, come behind those of the blocks before it
 pub bytes_read-next : (z : Zone) (x : List ℕ) (b n : ℕ) → IsValidZone z → length x ≡ z.size → AreBytes x → n ≤ z.cap

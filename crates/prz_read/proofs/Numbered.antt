@@ -5,12 +5,12 @@ use Rattle.std.specs.List.{AllByRecursion, range_with_len}
 use Rattle.std.proofs.lemmas.List.{length-append}
 use Rattle.std.proofs.lemmas.List.FromFn.{length-map-range_with_len}
 use Rattle.std.proofs.lemmas.Option.{slice_get_within}
+use Rattle.list_laws.proofs.Elements.{AllByRecursion-append}
 use Rattle.zone_spec.specs.declared.Zone.{Zone}
 use Rattle.zone_spec.specs.declared.params.Params.{Params}
 use Rattle.zone_spec.specs.declared.params.Row.{Row}
 use Rattle.zone_spec.specs.Layout.{rows, zone_at, zones_from, layout_of}
 use Rattle.zone_params.proofs.WholeLayout.{no_fault}
-use Rattle.ring_laws.proofs.StoreBytes.{all-append}
 
 abbrev Below : ℕ → Zone → Type 0
 Below m z = z.name.index < m
@@ -30,7 +30,7 @@ numbers-below p at (row ∷ rows) m h =
     let both : length (first ++ rest) ≡ length first + length rest = length-append first rest in
     let count : length first ≡ row.count =
     length-map-range_with_len (λ i. zone_at p row.kind row.size i (at + i * row.size)) 0 row.count in
-    all-append (Below m) first rest (row-below p row at 0 row.count m (omega (arith, h, both, count)))
+    AllByRecursion-append (Below m) first rest (row-below p row at 0 row.count m (omega (arith, h, both, count)))
     (numbers-below p (at + row.count * row.size) rows m (omega (arith, h, both)))
 
 at-place : {A : Type 0} (P : A → Type 0) (xs : List A) (k : ℕ) (x : A) → AllByRecursion P xs → slice_get xs k ≡ Some x

@@ -4,8 +4,10 @@ use Rattle.std.specs.List.{range_with_len, sum_by}
 use Rattle.std.proofs.lemmas.List.{take-take}
 use Rattle.std.proofs.Math.Nat.{mul-le-mul_left}
 use Rattle.std.proofs.lemmas.Grind.{div_ceil_times}
+use Rattle.list_laws.proofs.RoundingUp.{div_ceil_is, div_ceil_most}
+use Rattle.list_laws.proofs.Ranges.{sum_by-range_more}
 use Rattle.code_spec.specs.Code.{IsCodeword, nearest, nearest_if}
-use Rattle.rs_decode.proofs.Applied.{distance_self}
+use Rattle.code_laws.proofs.Nearest.{distance_self}
 use Rattle.zone_spec.specs.declared.Zone.{Zone}
 use Rattle.zone_spec.specs.Zones.{IsValidZone}
 use Rattle.zone_spec.specs.Parts.{AreBytes, Part, Block, part_bytes, part_word}
@@ -17,7 +19,7 @@ use Rattle.report_spec.specs.Parts.{part_state}
 use Rattle.prz_read.specs.declared.reading.Front.{Front}
 use Rattle.prz_read.specs.Reads.{bytes_read, corrected_below, bad_below, states_below}
 use Rattle.prz_read.specs.Fronts.{ReadsTo}
-use Rattle.prz_read.proofs.Fronts.{bytes_read-next, bytes_read-none, sum_by-next, ceil-is, ceil-most}
+use Rattle.prz_read.proofs.Fronts.{bytes_read-next, bytes_read-none}
 use Rattle.prz_read.proofs.States.{block-next}
 
 -- a part that stands as a codeword reads as it stands
@@ -50,9 +52,9 @@ module _ (z : Zone) (x : List ℕ) (size b : ℕ) (valid : IsValidZone z) (long 
     bytes = items ∙ ap (λ (l : List ℕ). l ++ take (min z.block (size - z.block * b)) (part_reading z x (Block b)).bytes)
         before.bytes ∙ sym (bytes_read-next z x b size valid long bytes within block).1;
     corrected = ec ∙ ap₂ (λ (n l : ℕ). n + l) before.corrected ek
-        ∙ sym (sum_by-next (λ (j : ℕ). (part_reading z x (Block j)).corrected) b);
+        ∙ sym (sum_by-range_more (λ (j : ℕ). (part_reading z x (Block j)).corrected) b);
     bad = eb ∙ ap₂ (λ (n l : ℕ). n + l) before.bad em
-        ∙ sym (sum_by-next (λ (j : ℕ). (part_reading z x (Block j)).bad) b);
+        ∙ sym (sum_by-range_more (λ (j : ℕ). (part_reading z x (Block j)).bad) b);
     few = (let f = before.few in omega (arith, f, ec, few));
     some = (let most = before.some in omega (arith, most, eb, one));
     states = λ wanted.
@@ -119,10 +121,10 @@ module _ (z : Zone) (x : List ℕ) (size n : ℕ) (front : Front) (valid : IsVal
       subst (λ (m : ℕ). size ≤ z.block * m) (sym last) (let le : size ≤ z.block * q = omega (arith, low, turned) in le)
 
   is-last : n ≡ (size + z.block - 1) / z.block
-  is-last = last ∙ ceil-is size z.block (block_some z valid)
+  is-last = last ∙ div_ceil_is size z.block (block_some z valid)
 
   most : n ≤ size
-  most = subst (λ (m : ℕ). m ≤ size) (sym last) (ceil-most size z.block (block_some z valid))
+  most = subst (λ (m : ℕ). m ≤ size) (sym last) (div_ceil_most size z.block (block_some z valid))
 
   pub whole-bytes : front.bytes.items ≡ bytes_read z x size
   whole-bytes = reads.bytes ∙ ap (λ (m : ℕ). bytes_read z x m)

@@ -5,6 +5,7 @@ use Rattle.std.specs.List.{zip}
 use Rattle.std.specs.Option.{option_map}
 use Rattle.std.proofs.lemmas.List.Sums.{sum_by-cons}
 use Rattle.std.proofs.lemmas.Option.{slice_get-get_or}
+use Rattle.list_laws.proofs.Gets.{slice_get-zip_second}
 use Rattle.zone_spec.specs.declared.Zone.{Zone}
 use Rattle.zone_spec.specs.Layouts.{zones_end, IsLayout}
 use Rattle.zone_spec.specs.Reading.{ZoneReading}
@@ -19,13 +20,6 @@ module _ {A B : Type 0} where
   zip-at (x ∷ xs) (y ∷ ys) zero a b h k = let e : x ≡ a = cc in let f : y ≡ b = cc in
       ap₂ (λ (v : A) (w : B). Some (v, w)) e f
   zip-at (x ∷ xs) (y ∷ ys) (suc i) a b h k = zip-at xs ys i a b h k
-
-  pub zip-second : (xs : List A) (ys : List B) (i : ℕ) (b : B) → i < length xs → slice_get ys i ≡ Some b
-      → option_map (λ (s : A × B). s.1) (slice_get (zip xs ys) i) ≡ Some b
-  zip-second [] ys i b l h = absurd (omega arith)
-  zip-second (x ∷ xs) [] i b l h = cc
-  zip-second (x ∷ xs) (y ∷ ys) zero b l h = h
-  zip-second (x ∷ xs) (y ∷ ys) (suc i) b l h = zip-second xs ys i b (omega arith) h
 
   pub zip-length : (xs : List A) (ys : List B) → length ys ≤ length xs → length (zip xs ys) ≡ length ys
   zip-length [] [] l = refl
@@ -45,7 +39,7 @@ pub reading-beside : (logs : SavedLogs) (i : ℕ) (r : Option ZoneReading) → r
     → i < length logs.readings → length logs.readings ≤ length logs.zones
     → option_map (λ (s : Saved). s.1) (slice_get (saved logs) i) ≡ Some r
 reading-beside logs i r at some room =
-    zip-second logs.zones logs.readings i r (omega arith)
+    slice_get-zip_second logs.zones logs.readings i r (omega arith)
     (slice_get-get_or logs.readings i r some ∙ ap (λ (q : Option ZoneReading). Some q) (sym at))
 
 -- a layout has no more zones than bytes

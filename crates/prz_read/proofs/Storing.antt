@@ -1,35 +1,20 @@
 -- Stores that are made up to a limit, one after another
-use Rattle.std.proofs.Common.{◌≡◌, ℕ, zero, suc, ◌+◌, ◌-◌, ◌<◌, ◌≤◌, List, [], ◌∷◌, ◌++◌, length, take, drop, get_or, slice_range, Bool, true, false, ◌==◌, if◌then◌else◌, refl, sym, ap, ap₂, ◌∙◌, subst, arith, inl, inr, length-take, length-append, get_or-take, get_or-drop, append_assoc}
+use Rattle.std.proofs.Common.{◌≡◌, ℕ, suc, ◌+◌, ◌-◌, ◌<◌, ◌≤◌, List, [], ◌∷◌, ◌++◌, length, take, drop, get_or, Bool, true, false, ◌==◌, if◌then◌else◌, refl, sym, ap, ap₂, ◌∙◌, subst, arith, inl, inr, length-take, length-append, get_or-drop, append_assoc}
 use Rattle.std.specs.List.{AllByRecursion}
 use Rattle.std.proofs.lemmas.Bool.{cases_lt}
-use Rattle.std.proofs.lemmas.List.{get_or_default, set-get_or, drop-set-lt, take-append-le, take_all}
+use Rattle.std.proofs.lemmas.List.{get_or_default, set-get_or, drop-set-lt, take-append-le, take_all, take_more}
 use Rattle.std.proofs.lemmas.Bool.Decides.{nat_tests}
+use Rattle.ring_laws.proofs.Images.{after_stores-append, length-after_stores}
+use Rattle.list_laws.proofs.Elements.{AllByRecursion-append, take-append}
 use Rattle.zone_spec.specs.Stores.{Store, put, after_stores, byte_stores}
 use Rattle.zone_spec.specs.Boot.{fix_stores}
 use Rattle.prz_region.specs.CutRegion.{CutRegion, span, with_span}
-use Rattle.prz_region.proofs.Cuts.{with_span-again, span-with_span, spans-length, put-length}
+use Rattle.prz_region.proofs.Cuts.{with_span-again, span-with_span, spans-length}
 use Rattle.prz_read.specs.declared.settling.Tally.{Tally}
-use Rattle.ring_laws.proofs.StoreBytes.{all-append, all-take}
+use Rattle.ring_laws.proofs.StoreBytes.{all-take}
 use Rattle.prz_read.specs.Making.{Makes}
 
 -- ---- stores in a row
-pub after_stores-append : (x : List ℕ) (ss ts : List Store)
-    → after_stores x (ss ++ ts) ≡ after_stores (after_stores x ss) ts
-unfolding after_stores
-after_stores-append x [] ts = refl
-after_stores-append x (s ∷ ss) ts = after_stores-append (put x s.place s.bytes) ss ts
-
-pub after_stores-length : (x : List ℕ) (ss : List Store) → length (after_stores x ss) ≡ length x
-unfolding after_stores
-after_stores-length x [] = refl
-after_stores-length x (s ∷ ss) = after_stores-length (put x s.place s.bytes) ss ∙ put-length x s.place s.bytes
-
-take-append : {A : Type 0} (n : ℕ) (xs ys : List A) → take n (xs ++ ys) ≡ take n xs ++ take (n - length xs) ys
-take-append n [] ys = ap (λ (m : ℕ). take m ys) (let e : n ≡ n - 0 = omega arith in e)
-    ∙ ap (λ l. l ++ take (n - 0) ys) (let e : [] ≡ take n [] = sym (take_all n [] (omega arith)) in e)
-take-append zero (x ∷ xs) ys = ap (λ (m : ℕ). take m ys) (let e : 0 ≡ 0 - suc (length xs) = omega arith in e)
-take-append (suc n) (x ∷ xs) ys = ap (λ l. x ∷ l) (take-append n xs ys)
-    ∙ ap (λ (m : ℕ). x ∷ (take n xs ++ take m ys)) (let e : n - length xs ≡ suc n - suc (length xs) = omega arith in e)
 
 -- ---- stores up to a limit
 module _ (i : ℕ) (t : Tally) (c : CutRegion) where
@@ -52,7 +37,7 @@ module _ {i : ℕ} {t t' : Tally} {c c' : CutRegion} {ss : List Store} where
   makes-span m lt = ap (λ (d : CutRegion). span d i) m.spans ∙ span-with_span c i _ lt
 
   pub makes-length : Makes ss i t c t' c' → i < length c.spans → length (span c' i) ≡ length (span c i)
-  makes-length m lt = ap length (makes-span m lt) ∙ after_stores-length (span c i) _
+  makes-length m lt = ap length (makes-span m lt) ∙ length-after_stores (span c i) _
 
 module _ {i : ℕ} {t t' t'' : Tally} {c c' c'' : CutRegion} {ss ts : List Store} where
   pub makes-append : i < length c.spans → Makes ss i t c t' c' → Makes ts i t' c' t'' c''
@@ -130,11 +115,6 @@ module _ (i : ℕ) (t t' : Tally) (c c' : CutRegion) (s : Store) where
   }
 
 -- ---- bytes in a row
-pub take-next : (xs : List ℕ) (j : ℕ) → j < length xs → take (j + 1) xs ≡ take j xs ++ get_or xs j 0 ∷ []
-take-next [] j h = absurd (omega arith)
-take-next (x ∷ xs) zero h = refl
-take-next (x ∷ xs) (suc j) h = ap (λ (n : ℕ). take n (x ∷ xs)) (let e : suc j + 1 ≡ suc (j + 1) = omega arith in e)
-    ∙ ap (λ (l : List ℕ). x ∷ l) (take-next xs j (omega arith))
 
 byte-append : (p : ℕ) (xs ys : List ℕ) → byte_stores p (xs ++ ys) ≡ byte_stores p xs ++ byte_stores (p + length xs) ys
 unfolding byte_stores
@@ -151,16 +131,11 @@ byte-next p xs j b h e =
     ∙ ap (λ (n : ℕ). byte_stores p (take j xs) ++ byte_stores (p + n) (get_or xs j 0 ∷ []))
     (let f : j ≡ length (take j xs) = omega (arith, length-take j xs) in f)
     ∙ sym (byte-append p (take j xs) (get_or xs j 0 ∷ []))
-    ∙ ap (λ (l : List ℕ). byte_stores p l) (sym (take-next xs j h))
+    ∙ ap (λ (l : List ℕ). byte_stores p l) (sym (take_more xs j 0 h))
 
 pub byte-none : (p : ℕ) (xs : List ℕ) → [] ≡ byte_stores p (take 0 xs)
 unfolding byte_stores
 byte-none p xs = refl
-
-pub byte-length : (p : ℕ) (xs : List ℕ) → length (byte_stores p xs) ≡ length xs
-unfolding byte_stores
-byte-length p [] = refl
-byte-length p (x ∷ xs) = ap (λ (n : ℕ). suc n) (byte-length (p + 1) xs)
 
 -- ---- corrections
 pub fix-append : (p : ℕ) (xs us ys vs : List ℕ) → length xs ≡ length ys
@@ -186,7 +161,7 @@ fix-next p xs ys j x y l h e f =
     (get_or ys j 0 ∷ [])) (let g : j ≡ length (take j xs) = omega (arith, length-take j xs) in g)
     ∙ sym (fix-append p (take j xs) (get_or xs j 0 ∷ []) (take j ys) (get_or ys j 0 ∷ [])
     (omega (arith, length-take j xs, length-take j ys)))
-    ∙ ap₂ (λ (a b : List ℕ). fix_stores p a b) (sym (take-next xs j (omega arith))) (sym (take-next ys j h))
+    ∙ ap₂ (λ (a b : List ℕ). fix_stores p a b) (sym (take_more xs j 0 (omega arith))) (sym (take_more ys j 0 h))
 
 pub fix-none : (p : ℕ) (xs ys : List ℕ) → [] ≡ fix_stores p (take 0 xs) (take 0 ys)
 unfolding fix_stores
@@ -226,7 +201,7 @@ unfolding fix_stores
 fix-below n p [] ys h = tt
 fix-below n p (x ∷ xs) [] h = tt
 fix-below n p (x ∷ xs) (y ∷ ys) h =
-    all-append (IsBelow n) (if x == y then [] else record { place = p; bytes = y ∷ [] } ∷ [])
+    AllByRecursion-append (IsBelow n) (if x == y then [] else record { place = p; bytes = y ∷ [] } ∷ [])
     (fix_stores (p + 1) xs ys) (one (x == y)) (fix-below n (p + 1) xs ys (omega arith))
   where
     one : (t : Bool) → AllByRecursion (IsBelow n) (if t then [] else record { place = p; bytes = y ∷ [] } ∷ [])
@@ -249,9 +224,6 @@ module _ {i : ℕ} {t t' : Tally} {c c' : CutRegion} {ss : List Store} where
       → drop n (span c' i) ≡ drop n (span c i)
   makes-keep n lt m below = ap (λ (x : List ℕ). drop n x) (makes-span m lt)
       ∙ stores-keep n (span c i) _ (all-take (IsBelow n) (t.limit - t.count) ss below)
-
-pub slice_byte : (x : List ℕ) (a b i : ℕ) → i < b - a → get_or (slice_range x a b) i 0 ≡ get_or x (a + i) 0
-slice_byte x a b i h = get_or-take (b - a) (drop a x) i 0 h ∙ get_or-drop a x i 0
 
 pub byte-same : (x y : List ℕ) (n : ℕ) → drop n x ≡ drop n y → get_or x n 0 ≡ get_or y n 0
 byte-same x y n e =

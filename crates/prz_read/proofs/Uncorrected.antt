@@ -6,7 +6,7 @@ use Rattle.std.proofs.lemmas.List.Sums.{sum_by-cons}
 use Rattle.std.proofs.lemmas.Bool.Decides.{nat_tests}
 use Rattle.code_spec.specs.Code.{nearest, distance}
 use Rattle.code_laws.proofs.Nearest.{IsNear, nearest-IsNear}
-use Rattle.rs_decode.proofs.Applied.{distance_zero}
+use Rattle.code_laws.proofs.Nearest.{distance_zero}
 use Rattle.zone_spec.specs.declared.Zone.{Zone}
 use Rattle.zone_spec.specs.declared.State.{State}
 use Rattle.zone_spec.specs.declared.State.TheVariants.{Unsigned, Empty, Invalid, Found}

@@ -1,26 +1,15 @@
 -- Words of a header, and places in a row
-use Rattle.std.proofs.Common.{◌≡◌, ℕ, suc, ◌+◌, ◌-◌, ◌<◌, ◌≤◌, List, [], ◌∷◌, take, drop, w32, sym, ap, ◌∙◌, arith}
+use Rattle.std.proofs.Common.{◌≡◌, ℕ, suc, ◌+◌, ◌-◌, ◌<◌, ◌≤◌, List, [], ◌∷◌, w32, sym, ap, arith}
 use Rattle.std.specs.Prelude.{slice_range}
 use Rattle.std.specs.Int.{from_le_bytes}
 use Rattle.std.specs.List.{range_with_len}
-use Rattle.std.proofs.lemmas.List.{drop-take, take-take}
-
--- a piece of the front is that piece of the whole
-pub slice_range-front : (xs : List ℕ) (at n m : ℕ) → at + n ≤ m
-    → slice_range (take m xs) at (at + n) ≡ slice_range xs at (at + n)
-slice_range-front xs at n m le =
-    let whole : m ≡ at + (m - at) = omega arith in
-    ap (λ (k : ℕ). take (at + n - at) (drop at (take k xs))) whole
-    ∙ ap (λ (ys : List ℕ). take (at + n - at) ys) (drop-take at (m - at) xs)
-    ∙ take-take (at + n - at) (m - at) (drop at xs) (omega arith)
+use Rattle.list_laws.proofs.Slices.{slice_range-take}
+use Rattle.list_laws.proofs.Ranges.{range_with_len-first}
 
 pub word_of : (xs : List ℕ) (at : ℕ) → at + 4 ≤ 12 → from_le_bytes w32 (slice_range xs at (at + 4))
     ≡ from_le_bytes w32 (slice_range (slice_range xs 0 12) at (at + 4))
-word_of xs at le = ap (λ (bs : List ℕ). from_le_bytes w32 bs) (sym (slice_range-front xs at 4 12 le))
-
--- the first of some places
-pub range_with_len-first : (a b : ℕ) → a < b → range_with_len a (b - a) ≡ a ∷ range_with_len (a + 1) (b - (a + 1))
-range_with_len-first a b lt = let e : b - a ≡ suc (b - (a + 1)) = omega arith in ap (λ (n : ℕ). range_with_len a n) e
+word_of xs at le = ap (λ (bs : List ℕ). from_le_bytes w32 bs)
+    (sym (slice_range-take 12 at (at + 4) xs (omega arith) le))
 
 pub range_with_len-none : (a b : ℕ) → b ≤ a → range_with_len a (b - a) ≡ []
 range_with_len-none a b le = let z : b - a ≡ 0 = omega arith in ap (λ (n : ℕ). range_with_len a n) z

@@ -7,6 +7,7 @@ use Rattle.std.proofs.lemmas.List.{length-map}
 use Rattle.std.proofs.lemmas.List.Concat.{concat_is}
 use Rattle.std.proofs.lemmas.List.Folds.{flat_map-map}
 use Rattle.std.proofs.lemmas.Option.{slice_get-get_or, slice_get_within}
+use Rattle.list_laws.proofs.Gets.{slice_get-map_some}
 use Rattle.circular_buffer.proofs.Places.{slice_get-some}
 use Rattle.zone_spec.specs.declared.Zone.{Zone}
 use Rattle.zone_spec.specs.Parts.{AreBytes}
@@ -45,7 +46,7 @@ use Rattle.ramoops.specs.Booting.{SpansFit, held_after, PreparesTo, AreLogs, Set
 use Rattle.ramoops.specs.Booted.{Booted}
 use Rattle.ramoops.specs.Resting.{IsResting}
 use Rattle.ramoops.proofs.Listed.{all_len}
-use Rattle.ramoops.proofs.Lists.{same_items, get-of-map}
+use Rattle.ramoops.proofs.Lists.{same_items}
 
 module _ (layout : List Zone) (mem : ℕ) (image : List ℕ) (lies : IsLayout layout mem) (size : length image ≡ mem)
     (bytes : AreBytes image) where
@@ -73,14 +74,14 @@ module _ (layout : List Zone) (mem : ℕ) (image : List ℕ) (lies : IsLayout la
   pub span_is : (i : ℕ) (z : Zone) → slice_get layout i ≡ Some z → span (cut_at layout image) i ≡ zone_bytes z image
   span_is i z ez =
       let e : slice_get (cut_at layout image).spans i ≡ Some (zone_bytes z image) =
-      get-of-map (λ (y : Zone). slice_range image y.at (y.at + y.size)) layout i z ez in
+      slice_get-map_some (λ (y : Zone). slice_range image y.at (y.at + y.size)) layout i z ez in
       let g : slice_get (cut_at layout image).spans i ≡ Some (span (cut_at layout image) i) =
       slice_get-get_or (cut_at layout image).spans i [] (slice_get_within (cut_at layout image).spans i _ e) in
       let s : Some (span (cut_at layout image) i) ≡ Some (zone_bytes z image) = sym g ∙ e in cc
 
   pub span_got : (i : ℕ) (z : Zone) → slice_get layout i ≡ Some z
       → slice_get (cut_at layout image).spans i ≡ Some (zone_bytes z image)
-  span_got i z ez = get-of-map (λ (y : Zone). slice_range image y.at (y.at + y.size)) layout i z ez
+  span_got i z ez = slice_get-map_some (λ (y : Zone). slice_range image y.at (y.at + y.size)) layout i z ez
 
   module _ (new : CutRegion) (held : List HeldZone) (settled : SettlesTo layout (cut_at layout image) new
       (length layout)) (held_len : length held ≡ length layout)

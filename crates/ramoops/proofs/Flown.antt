@@ -2,6 +2,7 @@
 use Rattle.std.proofs.Common.{◌≡◌, ℕ, zero, suc, ◌+◌, ◌%◌, ◌<◌, ◌≤◌, Bool, true, false, cond, ◌&&◌, not, is_some, List, [], ◌∷◌, length, slice_get, get_or, set, filter, refl, sym, ap, ◌∙◌, subst, arith, Option, Some, None, true≢false}
 use Rattle.std.proofs.lemmas.List.Sums.{length-filter}
 use Rattle.std.proofs.lemmas.Option.{slice_get-get_or, slice_get_read, slice_get_within}
+use Rattle.std.proofs.lemmas.Bool.{and_parts}
 use Rattle.circular_buffer.proofs.Places.{slice_get-set_same}
 use Rattle.ramoops.specs.Places.{flies_at}
 use Rattle.zone_spec.specs.declared.Zone.{Zone}
@@ -67,11 +68,7 @@ dump_of : (z : Zone) (bytes : List ℕ) (o : Option Flying) (p : Option Flight) 
 dump_of z bytes None None b s e = absurd (true≢false (sym e))
 dump_of z bytes None (Some g) b s e = absurd s
 dump_of z bytes (Some f) None b s e = absurd s
-dump_of z bytes (Some f) (Some g) b s e = (f, refl, ap is_dump s.call ∙ left (is_dump g.call) b e)
-  where
-    left : (x y : Bool) → (x && y) ≡ true → x ≡ true
-    left true y e = refl
-    left false y e = absurd (true≢false (sym e))
+dump_of z bytes (Some f) (Some g) b s e = (f, refl, ap is_dump s.call ∙ (and_parts (is_dump g.call) b e).0)
 
 next_some : (o : Option Stored) → is_next o ≡ true → is_some o ≡ true
 next_some None e = absurd (true≢false (sym e))

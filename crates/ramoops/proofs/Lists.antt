@@ -1,6 +1,7 @@
 -- Items of lists, by their places
-use Rattle.std.proofs.Common.{◌≡◌, ◌≢◌, ℕ, zero, suc, ◌<◌, List, [], ◌∷◌, ◌++◌, length, map, slice_get, set, refl, ap, ◌∙◌, arith, inl, inr, ◌⊎◌, Some}
+use Rattle.std.proofs.Common.{◌≡◌, ◌≢◌, ℕ, zero, suc, ◌<◌, List, [], ◌∷◌, ◌++◌, length, slice_get, set, refl, ap, ◌∙◌, arith, inl, inr, ◌⊎◌, Some}
 use Rattle.machine_laws.proofs.Lists.{get-set}
+pub use Rattle.list_laws.proofs.Gets.{slice_get-map_some as get-of-map}
 
 -- an item of a list that one was put behind: an old one, or that one
 pub get-pushed : {X : Type 0} (xs : List X) (x : X) (i : ℕ) (y : X) → slice_get (xs ++ x ∷ []) i ≡ Some y
@@ -27,9 +28,3 @@ same_items (x ∷ xs) [] e same = absurd (omega (arith, e))
 same_items {X} (x ∷ xs) (y ∷ ys) e same =
     ap (λ (z : X). z ∷ xs) (same 0 x y refl refl) ∙ ap (λ (zs : List X). y ∷ zs)
     (same_items xs ys (omega (arith, e)) (λ i a b ea eb. same (suc i) a b ea eb))
-
-pub get-of-map : {X Y : Type 0} (f : X → Y) (xs : List X) (i : ℕ) (x : X) → slice_get xs i ≡ Some x
-    → slice_get (map f xs) i ≡ Some (f x)
-get-of-map f [] i x e = let n : ◌≡◌ {A = ℕ} 0 1 = cc in absurd (omega (arith, n))
-get-of-map f (w ∷ ws) zero x e = let s : w ≡ x = cc in ap (λ y. Some (f y)) s
-get-of-map f (w ∷ ws) (suc i) x e = get-of-map f ws i x e

@@ -3,6 +3,7 @@ use Rattle.std.proofs.Common.{◌≡◌, ℕ, suc, ◌+◌, ◌-◌, min, nat_le
 use Rattle.std.proofs.lemmas.Bool.{cases_lt}
 use Rattle.std.proofs.lemmas.Bool.Decides.{nat_tests}
 use Rattle.std.proofs.lemmas.Option.{slice_get_within}
+use Rattle.prz_region.proofs.Cuts.{span-with_span}
 use Rattle.zone_spec.specs.declared.Zone.{Zone}
 use Rattle.zone_spec.specs.Reading.{zone_reading}
 use Rattle.zone_spec.specs.Stores.{after_stores}
@@ -12,7 +13,7 @@ use Rattle.ramoops.specs.declared.booting.Passed.{Passed}
 use Rattle.ramoops.specs.declared.booting.BootProgress.{BootProgress}
 use Rattle.ramoops.specs.Parting.{stores_in, stores_before, left_for, Passes, PartsTo}
 use Rattle.ramoops.proofs.Lists.{get-pushed}
-use Rattle.ramoops.proofs.Settling.{span-set, span-other}
+use Rattle.ramoops.proofs.Settling.{span-other}
 
 -- the stores before a zone and its own are those before the next
 pub before_next : (layout : List Zone) (cut : CutRegion) (n : ℕ) (z : Zone) → slice_get layout n ≡ Some z
@@ -80,7 +81,7 @@ parts_next layout old mid new limit n progress passed after z p to len ez e left
         | inr g ↦ (let at : i ≡ n = omega (arith, below, g) in
             let zy : z ≡ y = (let s : Some z ≡ Some y = sym ez ∙ ap (slice_get layout) (sym at) ∙ ey in cc) in
             ap (λ (k : ℕ). span new k) at ∙ ap (λ (c : CutRegion). span c n) e
-            ∙ span-set mid n _ (let a = slice_get_within layout n z ez in let b = to.count in
+            ∙ span-with_span mid n _ (let a = slice_get_within layout n z ez in let b = to.count in
             omega (arith, a, b, len))
             ∙ ap (λ b. after_stores b (take progress.left (boot_stores z b))) same
             ∙ ap (λ k. after_stores (span old n) (take k (boot_stores z (span old n)))) to.left_is

@@ -2,11 +2,14 @@
 use Rattle.std.proofs.Common.{◌≡◌, ◌≢◌, ℕ, zero, suc, ◌+◌, ◌<◌, Bool, true, false, cond, ◌&&◌, ◌==◌, List, [], ◌∷◌, ◌++◌, length, map, take, slice_get, get_or, set, refl, sym, ap, ap₂, ◌∙◌, subst, arith, Option, Some, None, append-nil, true≢false, eqb-true, not, is_some, ◌%◌}
 use Rattle.std.specs.Prelude.{fold, zip}
 use Rattle.std.proofs.lemmas.List.{take_more}
-use Rattle.std.proofs.lemmas.List.Quantifiers.{position-Some}
 use Rattle.std.proofs.lemmas.Option.{slice_get-get_or}
+use Rattle.std.proofs.lemmas.Bool.{and_parts}
+use Rattle.std.proofs.Math.Bool.{and-false}
 use Rattle.circular_buffer.proofs.Places.{slice_get-some}
 use Rattle.machine_spec.specs.Zones.{dump_zones}
 use Rattle.std.proofs.lemmas.List.Concat.{flat_map-append}
+use Rattle.move_laws.proofs.Places.{name_at}
+use Rattle.list_laws.proofs.Gets.{slice_get-zip_parts, slice_get-map_some}
 use Rattle.zone_spec.specs.declared.Zone.{Zone}
 use Rattle.zone_spec.specs.declared.ZoneName.{ZoneName}
 use Rattle.zone_spec.specs.declared.Kind.{Kind}
@@ -23,13 +26,9 @@ use Rattle.ramoops.proofs.Running.{same_kind}
 
 -- ---- a zone by its name
 
-both : (a b : Bool) → (a && b) ≡ true → (a ≡ true) × (b ≡ true)
-both true b e = (refl, e)
-both false b e = absurd (true≢false (sym e))
-
 pub named_alike : (name : ZoneName) (z : Zone) → is_zone name z ≡ true → z.name ≡ name
 named_alike name z e =
-    let b = both (is_of name.kind z.name.kind) (z.name.index == name.index) e in
+    let b = and_parts (is_of name.kind z.name.kind) (z.name.index == name.index) e in
     ap₂ (λ (k : Kind) (n : ℕ). record { kind = k; index = n }) (same_kind name.kind z.name.kind b.0)
     (eqb-true z.name.index name.index b.1)
 
@@ -107,14 +106,6 @@ map_set {B = B} f g (x ∷ xs) (suc i) v others here = ap₂ (λ (y : B) (ys : L
     (others 0 x refl (λ h. omega (arith, h)))
     (map_set f g xs i v (λ j y e ne. others (suc j) y e (λ h. ne (omega (arith, h)))) here)
 
-zip_at : {A B : Type 0} (xs : List A) (ys : List B) (j : ℕ) (p : A × B) → slice_get (zip xs ys) j ≡ Some p
-    → (slice_get xs j ≡ Some p.0) × (slice_get ys j ≡ Some p.1)
-zip_at [] ys j p e = let n : None ≡ Some p = e in cc
-zip_at (x ∷ xs) [] j p e = let n : None ≡ Some p = e in cc
-zip_at {A = A} {B = B} (x ∷ xs) (y ∷ ys) zero p e = let same : (x, y) ≡ p = cc in
-    (ap (λ (q : A × B). Some q.0) same, ap (λ (q : A × B). Some q.1) same)
-zip_at (x ∷ xs) (y ∷ ys) (suc j) p e = zip_at xs ys j p e
-
 module _ (layout : List Zone) (zones : List Saved) (zone : Saved) (s : LiveState) (differ : NamesDiffer layout) where
   abbrev more : List Saved
   more = zones ++ zone ∷ []
@@ -133,7 +124,7 @@ module _ (layout : List Zone) (zones : List Saved) (zone : Saved) (s : LiveState
   nowhere place = ap (λ (zs : List LiveZone). record s { zones = zs })
       (map_same (told more) (told zones) (zip layout s.zones)
       (λ j p e. told_same zones zone p (ap (λ (b : Bool). cond b (found zone.1) [])
-      (no_name layout zone.0.name j p.0 differ place (zip_at layout s.zones j p e).0))))
+      (no_name layout zone.0.name j p.0 differ place (slice_get-zip_parts layout s.zones j p e).0))))
 
   one_more : (r : ZoneReading) (i : ℕ) (z : Zone) (live : LiveZone) → found zone.1 ≡ r ∷ []
       → zone_place layout zone.0.name ≡ Some i → slice_get layout i ≡ Some z → is_zone zone.0.name z ≡ true
@@ -142,31 +133,21 @@ module _ (layout : List Zone) (zones : List Saved) (zone : Saved) (s : LiveState
   one_more r i z live is place ez name el =
       map_set (told more) (told zones) (zip layout s.zones) i (with_log z live r.log)
       (λ j p e ne. told_same zones zone p (ap (λ (b : Bool). cond b (found zone.1) [])
-      (other_name layout zone.0.name i j p.0 differ place (zip_at layout s.zones j p e).0 ne)))
+      (other_name layout zone.0.name i j p.0 differ place (slice_get-zip_parts layout s.zones j p e).0 ne)))
       (λ p e.
-      let at = zip_at layout s.zones i p e in
+      let at = slice_get-zip_parts layout s.zones i p e in
       let same : p.0 ≡ z = (let k : Some p.0 ≡ Some z = sym at.0 ∙ ez in cc) in
       let mine : is_zone zone.0.name p.0 ≡ true = ap (is_zone zone.0.name) same ∙ name in
       let there : told zones p ≡ live = (let k : Some (told zones p) ≡ Some live =
-      sym (mapped_at (told zones) (zip layout s.zones) i p e) ∙ el in cc) in
+      sym (slice_get-map_some (told zones) (zip layout s.zones) i p e) ∙ el in cc) in
       told_more zones zone p r (ap (λ (b : Bool). cond b (found zone.1) []) mine ∙ is)
       ∙ ap₂ (λ (y : Zone) (l : LiveZone). with_log y l r.log) same there)
-    where
-      mapped_at : {A B : Type 0} (f : A → B) (xs : List A) (j : ℕ) (x : A) → slice_get xs j ≡ Some x
-          → slice_get (map f xs) j ≡ Some (f x)
-      mapped_at f [] j x e = let n : None ≡ Some x = e in cc
-      mapped_at {A = A} f (y ∷ ys) zero x e = let same : y ≡ x = cc in ap (λ (w : A). Some (f w)) same
-      mapped_at f (y ∷ ys) (suc j) x e = mapped_at f ys j x e
 
 -- ---- the machine
 
 none_turns : (o : Option Flight) → (flies_dump o && not (is_some o)) ≡ false
 none_turns None = refl
-none_turns (Some f) = by (flies_dump (Some f))
-  where
-    by : (b : Bool) → (b && false) ≡ false
-    by true = refl
-    by false = refl
+none_turns (Some f) = and-false (flies_dump (Some f))
 
 idle_turns : (o p : Option Flight) (n : ℕ) → (not (is_some o) && (n == 0)) ≡ true
     → (flies_dump o && not (is_some p)) ≡ false
@@ -181,14 +162,6 @@ log_turns z live log = by (is_blank live) refl
         → (flies_dump live.flight && not (is_some (with_log z live log).flight)) ≡ false
     by true e = idle_turns live.flight (with_log z live log).flight (length live.told) e
     by false e = rw e (none_turns live.flight)
-
-name_at : (layout : List Zone) (name : ZoneName) (i : ℕ) (z : Zone) → zone_place layout name ≡ Some i
-    → slice_get layout i ≡ Some z → is_zone name z ≡ true
-name_at layout name i z place ez =
-    let p = position-Some (is_zone name) layout i z place in
-    let at : get_or layout i z ≡ z = (let g : Some (get_or layout i z) ≡ Some z =
-    sym (slice_get-get_or layout i z p.0) ∙ ez in cc) in
-    ap (is_zone name) (sym at) ∙ p.1
 
 one_log : (rs : List ZoneReading) (log : List ℕ) → log ∷ [] ≡ map (λ (r : ZoneReading). r.log) rs
     → (r : ZoneReading) × (rs ≡ r ∷ []) × (r.log ≡ log)

@@ -1,6 +1,8 @@
 -- A log appended in a zone that is told nothing yet
 use Rattle.std.proofs.Common.{◌≡◌, ℕ, zero, suc, ◌+◌, ◌%◌, ◌<◌, ◌≤◌, Bool, true, false, cond, not, ◌&&◌, ◌==◌, is_some, List, [], ◌∷◌, length, slice_get, get_or, set, refl, sym, ap, ap₂, ◌∙◌, subst, arith, Option, Some, None, true≢false, eqb-true}
 use Rattle.std.proofs.lemmas.Option.{slice_get-get_or, slice_get_read, slice_get_within}
+use Rattle.std.proofs.Math.Bool.{and-false}
+use Rattle.std.proofs.lemmas.List.{nil_from_length}
 use Rattle.circular_buffer.specs.Buffer.{Buffer}
 use Rattle.zone_spec.specs.declared.Zone.{Zone}
 use Rattle.zone_spec.specs.Zones.{IsValidZone}
@@ -168,10 +170,6 @@ log_started v x i log call zs d all bytes h g e running fit below blank ezs eall
 
 -- ---- whether a zone is blank
 
-length_none : (xs : List ℕ) → length xs ≡ 0 → xs ≡ []
-length_none [] e = refl
-length_none (x ∷ xs) e = absurd (omega (arith, e))
-
 none_flies : (o : Option Flying) → is_some o ≡ false → o ≡ None
 none_flies None e = refl
 none_flies (Some f) e = absurd (true≢false e)
@@ -200,7 +198,7 @@ says_blank v x i h says below e running eh is = record {
     both true eb t = absurd (true≢false (sym (rw eb at t)))
     both false eb t = (
       none_flies h.flight eb,
-      length_none h.told.items (let r : (length h.told.items == 0) ≡ true = rw eb at t in eqb-true _ _ r),
+      nil_from_length h.told.items (let r : (length h.told.items == 0) ≡ true = rw eb at t in eqb-true _ _ r),
     )
 
 -- ---- the whole append
@@ -266,11 +264,7 @@ log_added u v w i log says begins ends layout mem s z live stands ez el =
 
 none_turns : (o : Option Flight) → (flies_dump o && not (is_some o)) ≡ false
 none_turns None = refl
-none_turns (Some f) = by (flies_dump (Some f))
-  where
-    by : (b : Bool) → (b && false) ≡ false
-    by true = refl
-    by false = refl
+none_turns (Some f) = and-false (flies_dump (Some f))
 
 pub log_left : (u : LiveSeen) (i : ℕ) (log : List ℕ) → SaysBlank i u false
     → ChangesZone (λ z live. with_log z live log) i u u

@@ -1,8 +1,10 @@
 -- What a call needs of the zone that it goes to, and that the machine stays one that stands for a sound state
-use Rattle.std.proofs.Common.{◌≡◌, ℕ, ◌+◌, ◌%◌, ◌<◌, Bool, true, false, cond, ◌==◌, ◌&&◌, ◌||◌, not, is_some, zero, suc, List, [], ◌∷◌, length, slice_get, get_or, set, refl, sym, ap, ◌∙◌, subst, arith, Option, Some, None, Result, Err, true≢false}
+use Rattle.std.proofs.Common.{◌≡◌, ℕ, ◌+◌, ◌%◌, ◌<◌, Bool, true, false, cond, ◌==◌, ◌&&◌, not, is_some, List, [], length, slice_get, get_or, set, refl, sym, ap, ◌∙◌, subst, arith, Option, Some, None, Result, Err, true≢false, ◌||◌}
 use Rattle.std.proofs.lemmas.List.Quantifiers.{position-Some}
 use Rattle.std.proofs.lemmas.Option.{slice_get-get_or, slice_get_read, slice_get_within}
 use Rattle.std.proofs.Common.{inl, inr}
+use Rattle.std.proofs.lemmas.Bool.{and_parts}
+use Rattle.std.proofs.lemmas.List.{set-get_or}
 use Rattle.circular_buffer.specs.Buffer.{Buffer}
 use Rattle.zone_spec.specs.Layouts.{IsLayout}
 use Rattle.machine_spec.specs.Zones.{dump_zones}
@@ -112,11 +114,7 @@ dump_kind layout n i z e h =
     let at : get_or layout i z ≡ z = (let g : Some (get_or layout i z)
     ≡ Some z = sym (slice_get-get_or layout i z p.0) ∙ h in cc) in
     let both : is_zone name z ≡ true = ap (is_zone name) (sym at) ∙ p.1 in
-    same_kind DumpKind z.name.kind (left (is_of DumpKind z.name.kind) (z.name.index == n) both)
-  where
-    left : (a b : Bool) → (a && b) ≡ true → a ≡ true
-    left true b e = refl
-    left false b e = absurd (true≢false (sym e))
+    same_kind DumpKind z.name.kind (and_parts (is_of DumpKind z.name.kind) (z.name.index == n) both).0
 
 asked_dump : (layout : List Zone) (cursor i : ℕ) (z : Zone) (ask : Ask) → place_asked layout cursor ask ≡ Some i
     → slice_get layout i ≡ Some z → is_dump (call_of ask) ≡ true → z.name.kind ≡ DumpKind
@@ -238,12 +236,7 @@ runs_after v w i z bytes g running ez ch held next stands sound = record {
 
 -- a span put in its own place changes nothing
 pub same_span : (c : CutRegion) (i : ℕ) → with_span c i (span c i) ≡ c
-same_span c i = ap (λ (xs : List (List ℕ)). record { spans = xs; rest = c.rest }) (set_same c.spans i)
-  where
-    set_same : (xs : List (List ℕ)) (j : ℕ) → set xs j (get_or xs j []) ≡ xs
-    set_same [] j = refl
-    set_same (x ∷ xs) zero = refl
-    set_same (x ∷ xs) (suc j) = ap (λ (ys : List (List ℕ)). x ∷ ys) (set_same xs j)
+same_span c i = ap (λ (xs : List (List ℕ)). record { spans = xs; rest = c.rest }) (set-get_or c.spans i [])
 
 -- ---- the machine after a call was begun
 pub record Begun (v w : LiveSeen) (i : ℕ) (z : Zone) (h g : HeldZone) (ask : Ask) : Type 0 where

@@ -1,10 +1,9 @@
 -- The stores of a boot, zone by zone
 use Rattle.std.proofs.Common.{◌≡◌, ◌≢◌, ℕ, zero, suc, ◌+◌, ◌<◌, ◌≤◌, List, [], ◌∷◌, length, take, slice_get, get_or, set, refl, sym, ap, ◌∙◌, subst, arith, inl, inr, Option, Some, length-set}
-use Rattle.std.specs.Prelude.{zip}
-use Rattle.std.specs.Option.{option_map}
 use Rattle.std.proofs.lemmas.Bool.{cases_lt}
-use Rattle.std.proofs.lemmas.List.{take_all, get_or-set_same}
+use Rattle.std.proofs.lemmas.List.{take_all}
 use Rattle.std.proofs.lemmas.Option.{slice_get-get_or, slice_get_within}
+use Rattle.prz_region.proofs.Cuts.{span-with_span}
 use Rattle.zone_spec.specs.declared.Zone.{Zone}
 use Rattle.zone_spec.specs.Reading.{ZoneReading, zone_reading}
 use Rattle.zone_spec.specs.Stores.{after_stores}
@@ -18,17 +17,6 @@ pub zone_is : (zs layout : List Zone) (i end readings : ℕ) → zs ≡ layout �
     → readings ≡ length layout → slice_get layout i ≡ Some (get_or zs i no_zone)
 zone_is zs layout i end readings e below a b = ap (λ (l : List Zone). slice_get l i) (sym e)
     ∙ slice_get-get_or zs i no_zone (let n = ap length e in omega (arith, n, below, a, b))
-
--- the second of the pair at a place
-pub second_at : {X Y : Type 0} (xs : List X) (ys : List Y) (i : ℕ) (y : Y) → i < length xs → slice_get ys i ≡ Some y
-    → option_map (λ (p : X × Y). p.1) (slice_get (zip xs ys) i) ≡ Some y
-second_at [] ys i y below e = absurd (omega (arith, below))
-second_at (x ∷ xs) [] i y below e = let n : ◌≡◌ {A = ℕ} 0 1 = cc in absurd (omega (arith, n))
-second_at (x ∷ xs) (w ∷ ws) zero y below e = e
-second_at (x ∷ xs) (w ∷ ws) (suc i) y below e = second_at xs ws i y (omega (arith, below)) e
-
-pub span-set : (c : CutRegion) (i : ℕ) (bytes : List ℕ) → i < length c.spans → span (with_span c i bytes) i ≡ bytes
-span-set c i bytes below = get_or-set_same c.spans i bytes [] below
 
 pub span-other : (c : CutRegion) (i j : ℕ) (bytes : List ℕ) → j ≢ i → span (with_span c i bytes) j ≡ span c j
 span-other c i j bytes other = by c.spans i j other
@@ -53,7 +41,8 @@ settles_next layout old mid new n limit z to len ez most e = record {
     | inr g ↦ (let at : i ≡ n = omega (arith, below, g) in
         let same : z ≡ y = (let s : Some z ≡ Some y = sym ez ∙ ap (slice_get layout) (sym at) ∙ ey in cc) in
         ap (λ (k : ℕ). span new k) at ∙ ap (λ (c : CutRegion). span c n) e
-        ∙ span-set mid n _ (let a = slice_get_within layout n z ez in let b = to.count in omega (arith, a, b, len))
+        ∙ span-with_span mid n _ (let a = slice_get_within layout n z ez in let b = to.count in omega
+        (arith, a, b, len))
         ∙ ap (after_stores (span mid n)) (take_all limit (boot_stores z (span mid n)) most)
         ∙ ap (λ (b : List ℕ). after_stores b (boot_stores z b)) (to.others n (omega arith))
         ∙ ap (λ (x : Zone). after_stores (span old n) (boot_stores x (span old n))) same

@@ -6,6 +6,7 @@ use Rattle.std.proofs.lemmas.List.Concat.{flat_map-cons}
 use Rattle.std.specs.List.{concat, range_with_len, list_any}
 use Rattle.std.specs.Option.{option_map}
 use Rattle.std.proofs.lemmas.Option.{slice_get_within}
+use Rattle.list_laws.proofs.Slices.{length-slice_range, get_or-slice_range}
 use Rattle.circular_buffer.proofs.Places.{slice_get-some}
 use Rattle.zone_spec.specs.declared.Zone.{Zone}
 use Rattle.zone_spec.specs.declared.Words.{Words}
@@ -21,7 +22,7 @@ use Rattle.machine_spec.specs.Stop.{cut_of, zone_stopped, stopped, live_image}
 use Rattle.machine_laws.proofs.Lists.{get-map, get-zip-map, length-zip-map}
 use Rattle.ring_laws.proofs.Images.{length-after_stores}
 use Rattle.ring_laws.proofs.HeaderWords.{words_same}
-use Rattle.ring_laws.proofs.Fixes.{slice_byte, slice_length, word_left}
+use Rattle.ring_laws.proofs.Fixes.{word_left}
 use Rattle.prz_region.specs.CutRegion.{span}
 use Rattle.store_steps.specs.Flying.{Flying}
 use Rattle.store_steps.specs.Counts.{total_of, pairs_of, touched_runs}
@@ -40,8 +41,9 @@ use Rattle.ramoops.proofs.Running.{own, over}
 header_at : (z : Zone) (x : List ℕ) → 12 ≤ length x → words_in (part_word z x Header) ≡ standing_words x
 unfolding part_bytes
 header_at z x long =
-    let n : length (part_bytes z x Header) ≡ 12 = slice_length x 0 12 long in
-    words_same _ _ (λ i h. word_left z x Header i (omega (arith, n, h)) ∙ sym (slice_byte x 0 12 i (omega (arith, h))))
+    let n : length (part_bytes z x Header) ≡ 12 = length-slice_range x 0 12 long in
+    words_same _ _ (λ i h. word_left z x Header i (omega (arith, n, h))
+    ∙ sym (get_or-slice_range x 0 12 i (omega (arith, h))))
 
 -- a flight's cut shows what the flight tells
 module _ (z : Zone) (bytes : List ℕ) (seen : Flying) (f : Flight) (long : 12 ≤ length bytes)

@@ -1,6 +1,7 @@
 -- A flight's next stores are those of the flight for which it stands
 use Rattle.std.proofs.Common.{◌≡◌, ◌≢◌, ℕ, ◌+◌, ◌<◌, ◌≤◌, min, Bool, true, false, cond, nat_lt, ◌&&◌, not, is_some, List, length, refl, sym, ap, ◌∙◌, arith, Option, Some, None}
 use Rattle.std.proofs.lemmas.Bool.Decides.{nat_tests}
+use Rattle.std.proofs.Math.Bool.{and-false}
 use Rattle.circular_buffer.specs.Buffer.{Buffer, buffer}
 use Rattle.zone_spec.specs.declared.Zone.{Zone}
 use Rattle.zone_spec.specs.declared.CallKind.{CallKind}
@@ -160,12 +161,8 @@ module _ (k : ℕ) (z : Zone) (f g : Flying) (old new : List ℕ) (steps : Steps
   not_last live None s some = absurd s
   not_last live (Some h) s some = by (nat_lt (h.made + k) (total_stores z h)) refl
     where
-      none : (b : Bool) → (b && false) ≡ false
-      none true = refl
-      none false = refl
-
       by : (t : Bool) → nat_lt (h.made + k) (total_stores z h) ≡ t → turns h live t ≡ false
-      by true e = none (is_dump h.call)
+      by true e = and-false (is_dump h.call)
       by false e = absurd (some (comes_to_end h s e ∙ sym (total_is h s)))
 
   pub no_last : (live : LiveZone) → StandsForSome z old (Some f) live.flight → g.made ≢ total_of g

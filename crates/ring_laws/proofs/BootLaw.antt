@@ -2,6 +2,7 @@
 use Rattle.std.proofs.Common.{◌≡◌, ℕ, zero, suc, ◌+◌, ◌-◌, ◌*◌, ◌<◌, ◌≤◌, List, [], ◌∷◌, length, take, flat_map, get_or, refl, sym, ap, ◌∙◌, subst, arith, inl, inr, Option, Some, None, ◌⊎◌, ext_get_or, length-take-le}
 use Rattle.std.specs.List.{AllByRecursion, range_with_len}
 use Rattle.std.proofs.lemmas.Bool.{cases_eq}
+use Rattle.list_laws.proofs.Elements.{AllByRecursion-append}
 use Rattle.zone_spec.specs.declared.Zone.{Zone}
 use Rattle.zone_spec.specs.declared.State.{State}
 use Rattle.zone_spec.specs.declared.State.TheVariants.{Unsigned, Empty, Invalid, Found}
@@ -18,7 +19,7 @@ use Rattle.ring_laws.proofs.Images.{length-after_stores}
 use Rattle.ring_laws.proofs.PartsLaw.{block_some, slice_range-bytes}
 use Rattle.ring_laws.proofs.PartWords.{length-part_bytes, part_bytes-word, reading_near, reading_none, part_word-IsWord, bytes-each}
 use Rattle.ring_laws.proofs.EveryParity.{part-bytes}
-use Rattle.ring_laws.proofs.StoreBytes.{IsStore, all-append, all-take, after-bytes, one-byte}
+use Rattle.ring_laws.proofs.StoreBytes.{IsStore, all-take, after-bytes, one-byte}
 use Rattle.ring_laws.proofs.States.{Says, state_says, reading_words, reading_state, below_count, count_below}
 use Rattle.ring_laws.proofs.Fixes.{Fixes, IsFix, Fixed, HasStoreAt, IsMended, fix_stores-all, has_fix, has_left, has_right, some_fixed, fixed_there, one_part, fixed_toward, toward_mended, length-bytes_most, length-inside, part_byte}
 
@@ -38,7 +39,7 @@ block_fixes-all : (z : Zone) (image : List ℕ) (n a : ℕ) → ((b : ℕ) → a
     → AllByRecursion (Fixes z image (IsPartOf z)) (flat_map (λ b. part_fixes z image (Block b)) (range_with_len a n))
 block_fixes-all z image zero a h = tt
 block_fixes-all z image (suc n) a h =
-    all-append (Fixes z image (IsPartOf z)) (part_fixes z image (Block a)) _
+    AllByRecursion-append (Fixes z image (IsPartOf z)) (part_fixes z image (Block a)) _
     (part_fixes-all z image (Block a) (h a (omega arith) (omega arith)))
     (block_fixes-all z image n (a + 1) (λ b k l. h b (omega arith) (omega arith)))
 
@@ -109,7 +110,8 @@ module _ (z : Zone) (valid : IsValidZone z) (image : List ℕ) (im : IsImage z i
   pub boot_fixes-all : AllByRecursion (Fixes z image (IsPartOf z)) (boot_fixes z image)
   unfolding boot_fixes
   boot_fixes-all =
-      all-append (Fixes z image (IsPartOf z)) (part_fixes z image Header) _ (part_fixes-all z image Header tt)
+      AllByRecursion-append (Fixes z image (IsPartOf z)) (part_fixes z image Header) _
+      (part_fixes-all z image Header tt)
       (blocks-all reading.state (subst (λ w. Says z w reading.state) (sym (reading_words z image)) says_reading))
 
   pub fixes-stores : (ss : List Store) → AllByRecursion (Fixes z image (IsPartOf z)) ss → AllByRecursion IsStore ss

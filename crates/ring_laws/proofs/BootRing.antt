@@ -1,10 +1,11 @@
 -- A boot leaves each zone in ring form for what it kept, at every parity
-use Rattle.std.proofs.Common.{◌≡◌, ℕ, ◌+◌, ◌*◌, ◌/◌, ◌%◌, ◌<◌, ◌≤◌, Bool, true, false, cond, not, ◌&&◌, ◌||◌, ◌==◌, List, [], ◌∷◌, ◌++◌, take, map, get_or, refl, sym, ap, ◌∙◌, subst, arith, inl, inr, w32, eq-eqb, true≢false}
+use Rattle.std.proofs.Common.{◌≡◌, ℕ, ◌+◌, ◌*◌, ◌/◌, ◌%◌, ◌<◌, ◌≤◌, Bool, true, false, cond, not, ◌&&◌, ◌==◌, List, [], ◌∷◌, ◌++◌, take, map, get_or, refl, sym, ap, ◌∙◌, subst, arith, inl, inr, w32, eq-eqb, true≢false, ◌||◌}
 use Rattle.std.specs.Int.{to_le_bytes}
 use Rattle.std.specs.List.{AllByRecursion}
 use Rattle.std.proofs.lemmas.Bool.Decides.{nat_tests}
 use Rattle.std.proofs.lemmas.Bool.{cases_eq}
 use Rattle.std.proofs.lemmas.List.{length-map}
+use Rattle.list_laws.proofs.Elements.{AllByRecursion-append}
 use Rattle.zone_spec.specs.declared.Zone.{Zone}
 use Rattle.zone_spec.specs.declared.Words.{Words}
 use Rattle.zone_spec.specs.declared.Kind.{Kind}
@@ -26,7 +27,7 @@ use Rattle.ring_laws.proofs.AppendLaw.{all_stages, after_stores-stores_in_turn, 
 use Rattle.ring_laws.proofs.PartsLaw.{block_some, put-bytes}
 use Rattle.ring_laws.proofs.EveryParity.{word-bytes}
 use Rattle.ring_laws.proofs.CallLaw.{erase_law, ring_none}
-use Rattle.ring_laws.proofs.StoreBytes.{IsStore, HasBytes, all-append, all-take, after-bytes, stores_in_turn-all}
+use Rattle.ring_laws.proofs.StoreBytes.{IsStore, HasBytes, all-take, after-bytes, stores_in_turn-all}
 use Rattle.ring_laws.proofs.ReadingLaw.{byte_read-stands}
 use Rattle.ring_laws.proofs.States.{Says, state_says, state_in_reading, reading_is, log_same}
 use Rattle.ring_laws.proofs.BootLaw.{IsRead, booted_bytes, booted_image, booted_mended, stands_as_read, read_stands, boot_fixes-all, fixes-stores}
@@ -184,7 +185,7 @@ module _ (z : Zone) (valid : IsValidZone z) (image : List ℕ) (im : IsImage z i
   pub boot_stores-all : AllByRecursion IsStore (boot_stores z image)
   unfolding boot_stores boot_erasure x booted_bytes erasure_by
   boot_stores-all =
-      all-append IsStore (boot_fixes z image) _ (fixes-stores z valid image im (boot_fixes z image)
+      AllByRecursion-append IsStore (boot_fixes z image) _ (fixes-stores z valid image im (boot_fixes z image)
       (boot_fixes-all z valid image im))
       (stores_in_turn-all z valid (boot_erasure z image) (after_stores image (boot_fixes z image)) x_image.1
       (erasure-all (zone_reading z image)))

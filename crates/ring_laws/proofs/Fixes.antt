@@ -1,8 +1,10 @@
 -- What the corrections of a boot leave, after any number of them
-use Rattle.std.proofs.Common.{◌≡◌, ◌≢◌, ℕ, zero, suc, ◌+◌, ◌-◌, ◌*◌, ◌<◌, ◌≤◌, ◌⊎◌, List, [], ◌∷◌, ◌++◌, length, take, drop, get_or, set, slice_range, Bool, true, false, cond, ◌==◌, refl, sym, ap, ap₂, ◌∙◌, subst, arith, inl, inr, Option, Some, None, length-take, length-drop, length-append, length-set, get_or-take, get_or-drop, get_or-set_same, get_or-set_other, eqb-true, mul-le-mul_right, mul_comm}
+use Rattle.std.proofs.Common.{◌≡◌, ◌≢◌, ℕ, zero, suc, ◌+◌, ◌-◌, ◌*◌, ◌<◌, ◌≤◌, ◌⊎◌, List, [], ◌∷◌, ◌++◌, length, take, drop, get_or, set, slice_range, Bool, true, false, cond, ◌==◌, refl, sym, ap, ap₂, ◌∙◌, subst, arith, inl, inr, Option, Some, None, length-take, length-drop, length-append, length-set, get_or-take, get_or-set_same, get_or-set_other, eqb-true, mul-le-mul_right, mul_comm}
 use Rattle.std.proofs.lemmas.Bool.{cases_lt, cases_eq}
 use Rattle.std.proofs.lemmas.List.{get_or_past, get_or_append_left, get_or-append_right}
 use Rattle.std.specs.List.{AllByRecursion}
+use Rattle.list_laws.proofs.Slices.{get_or-slice_range}
+use Rattle.list_laws.proofs.Elements.{AllByRecursion-append}
 use Rattle.zone_spec.specs.declared.Zone.{Zone}
 use Rattle.zone_spec.specs.Zones.{IsValidZone}
 use Rattle.code_spec.specs.Code.{nearest}
@@ -14,15 +16,8 @@ use Rattle.code_laws.specs.Toward.{IsToward, StandsFor}
 use Rattle.code_laws.proofs.Toward.{toward}
 use Rattle.ring_laws.proofs.Images.{length-put}
 use Rattle.ring_laws.proofs.PartWords.{part_word-IsWord, length-part_bytes, length-part_word, part_word-short, part_bytes-word, reading_near, reading_none}
-use Rattle.ring_laws.proofs.StoreBytes.{all-append}
 
 -- ---- the bytes of a word of a part, by their places in the image
-
-pub slice_byte : (x : List ℕ) (a b i : ℕ) → i < b - a → get_or (slice_range x a b) i 0 ≡ get_or x (a + i) 0
-slice_byte x a b i h = get_or-take (b - a) (drop a x) i 0 h ∙ get_or-drop a x i 0
-
-pub slice_length : (x : List ℕ) (a n : ℕ) → a + n ≤ length x → length (slice_range x a (a + n)) ≡ n
-slice_length x a n h = omega (arith, length-take ((a + n) - a) (drop a x), length-drop a x)
 
 -- ---- corrections as bytes at places
 
@@ -44,7 +39,8 @@ module _ (z : Zone) (image : List ℕ) where
   fix_stores-all Own part j [] cs own h same = tt
   fix_stores-all Own part j (b ∷ bs) [] own h same = tt
   fix_stores-all Own part j (b ∷ bs) (c ∷ cs) own h same =
-      all-append (Fixes z image Own) (cond (b == c) [] (record { place = part_at z part + j; bytes = c ∷ [] } ∷ []))
+      AllByRecursion-append (Fixes z image Own)
+      (cond (b == c) [] (record { place = part_at z part + j; bytes = c ∷ [] } ∷ []))
       (fix_stores (part_at z part + j + 1) bs cs)
       (first (b == c))
       (let e : part_at z part + (j + 1) ≡ part_at z part + j + 1 = omega arith in
@@ -240,7 +236,7 @@ length-bytes_most z x part = omega (
 pub part_byte : (z : Zone) (x : List ℕ) (part : Part) (i : ℕ) → i < part_len z part
     → get_or (part_bytes z x part) i 0 ≡ get_or x (part_at z part + i) 0
 unfolding part_bytes
-part_byte z x part i h = slice_byte x (part_at z part) (part_at z part + part_len z part) i (omega arith)
+part_byte z x part i h = get_or-slice_range x (part_at z part) (part_at z part + part_len z part) i (omega arith)
 
 pub word_left : (z : Zone) (x : List ℕ) (part : Part) (i : ℕ) → i < length (part_bytes z x part)
     → get_or (part_word z x part) i 0 ≡ get_or x (part_at z part + i) 0
@@ -255,7 +251,7 @@ unfolding part_word
 word_right z x part i h k =
     let n : ℕ = length (part_bytes z x part) in
     get_or-append_right (part_bytes z x part) _ n i 0 refl h
-    ∙ slice_byte x (part_parity_at z part) (part_parity_at z part + z.parity) (i - n)
+    ∙ get_or-slice_range x (part_parity_at z part) (part_parity_at z part + z.parity) (i - n)
     (omega (
       arith,
       length-append (part_bytes z x part) (slice_range x (part_parity_at z part)

@@ -1,6 +1,7 @@
 -- The words of a zone's parts, and what the code says of them
 use Rattle.std.proofs.Common.{◌≡◌, ℕ, zero, suc, ◌+◌, ◌-◌, ◌<◌, ◌≤◌, List, [], ◌∷◌, ◌++◌, length, take, drop, get_or, slice_range, refl, ap, arith, length-take, length-drop, length-append, take_at, Some, None, IsTrue}
 use Rattle.std.specs.List.{AllByRecursion}
+use Rattle.list_laws.proofs.Elements.{AllByRecursion-append}
 use Rattle.zone_spec.specs.declared.Zone.{Zone}
 use Rattle.zone_spec.specs.Zones.{IsValidZone}
 use Rattle.code_spec.specs.Code.{IsWord, is_codeword, parity_of, nearest}
@@ -8,11 +9,6 @@ use Rattle.zone_spec.specs.Parts.{AreBytes, Part, part_at, part_len, part_parity
 use Rattle.zone_spec.specs.PartReadings.{part_reading, reading_by}
 use Rattle.code_laws.proofs.Laws.{parity_made}
 use Rattle.ring_laws.proofs.PartsLaw.{HasParity, slice_range-bytes, part_short}
-
-pub bytes-append : (xs ys : List ℕ) → AllByRecursion (λ b. b < 256) xs → AllByRecursion (λ b. b < 256) ys
-    → AllByRecursion (λ b. b < 256) (xs ++ ys)
-bytes-append [] ys h k = k
-bytes-append (x ∷ xs) ys h k = (h.0, bytes-append xs ys h.1 k)
 
 pub bytes-all : (xs : List ℕ) → AreBytes xs → AllByRecursion (λ b. b < 256) xs
 bytes-all [] h = tt
@@ -39,7 +35,7 @@ module _ (z : Zone) where
   unfolding part_word part_bytes
   part_word-IsWord x p h = (
     refl,
-    bytes-append _ _ (bytes-all _
+    AllByRecursion-append (λ b. b < 256) _ _ (bytes-all _
         (slice_range-bytes x (part_at z p) (part_at z p + part_len z p) h))
         (bytes-all _ (slice_range-bytes x (part_parity_at z p) (part_parity_at z p + z.parity) h)),
   )

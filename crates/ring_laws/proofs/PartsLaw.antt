@@ -125,7 +125,7 @@ slice_range-bytes xs a b h i = elim (cases_lt i (b - a)) [
 ]
 
 -- what was put reads back
-slice_range-put : (x bs : List ℕ) (at n : ℕ) → length bs ≡ n → at + n ≤ length x
+pub slice_range-put : (x bs : List ℕ) (at n : ℕ) → length bs ≡ n → at + n ≤ length x
     → slice_range (put x at bs) at (at + n) ≡ bs
 slice_range-put x bs at n l h =
     same_lists _ _ (omega (

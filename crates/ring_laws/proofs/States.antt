@@ -1,9 +1,10 @@
 -- What the state that a boot reads says of the words
-use Rattle.std.proofs.Common.{◌≡◌, ℕ, zero, suc, ◌+◌, ◌-◌, ◌*◌, ◌/◌, ◌<◌, ◌≤◌, Bool, true, false, cond, ◌||◌, ◌==◌, nat_lt, List, [], ◌∷◌, ◌++◌, map, refl, sym, ap, ap₂, ◌∙◌, arith, inl, inr, ltb-false, eq-eqb, add-mul, mul_comm}
+use Rattle.std.proofs.Common.{◌≡◌, ℕ, zero, suc, ◌+◌, ◌-◌, ◌*◌, ◌/◌, ◌<◌, ◌≤◌, Bool, true, false, cond, ◌||◌, ◌==◌, nat_lt, List, ◌∷◌, ◌++◌, map, refl, sym, ap₂, ◌∙◌, arith, inl, inr, ltb-false, eq-eqb, add-mul, mul_comm}
 use Rattle.std.proofs.Math.Nat.{le-div_iff_mul-le}
 use Rattle.std.proofs.lemmas.Bool.Decides.{nat_tests}
 use Rattle.std.proofs.lemmas.Bool.{cases_eq}
 use Rattle.std.specs.List.{range_with_len}
+use Rattle.std.proofs.lemmas.List.{map-append}
 use Rattle.zone_spec.specs.declared.Zone.{Zone}
 use Rattle.zone_spec.specs.declared.Words.{Words}
 use Rattle.zone_spec.specs.declared.State.{State}
@@ -67,9 +68,6 @@ module _ (z : Zone) where
   reading_is image = refl
 
 -- ---- maps over the places of a log
-map-join : (f : ℕ → ℕ) (xs ys : List ℕ) → map f (xs ++ ys) ≡ map f xs ++ map f ys
-map-join f [] ys = refl
-map-join f (x ∷ xs) ys = ap (λ zs. f x ∷ zs) (map-join f xs ys)
 
 pub range_same : (f g : ℕ → ℕ) (n a : ℕ) → ((p : ℕ) → a ≤ p → p < a + n → f p ≡ g p)
     → map f (range_with_len a n) ≡ map g (range_with_len a n)
@@ -80,10 +78,10 @@ range_same f g (suc n) a h = ap₂ (λ x xs. x ∷ xs) (h a (omega arith) (omega
 pub log_same : (f g : ℕ → ℕ) (start size : ℕ) → start ≤ size → ((p : ℕ) → p < size → f p ≡ g p)
     → map f (log_places start size) ≡ map g (log_places start size)
 log_same f g start size l h =
-    map-join f (range_with_len start (size - start)) (range_with_len 0 start)
+    map-append f (range_with_len start (size - start)) (range_with_len 0 start)
     ∙ ap₂ (λ xs ys. xs ++ ys) (range_same f g (size - start) start (λ p a b. h p (omega arith)))
     (range_same f g start 0 (λ p a b. h p (omega arith)))
-    ∙ sym (map-join g (range_with_len start (size - start)) (range_with_len 0 start))
+    ∙ sym (map-append g (range_with_len start (size - start)) (range_with_len 0 start))
 
 -- the blocks that begin below x
 pub below_count : (k x b : ℕ) → 0 < k → b < ((x + k) - 1) / k → k * b < x

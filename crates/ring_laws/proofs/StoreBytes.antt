@@ -1,6 +1,7 @@
 -- The stores of calls and boots are of bytes, and keep an image one of bytes
 use Rattle.std.proofs.Common.{ℕ, zero, suc, ◌+◌, ◌-◌, ◌%◌, ◌<◌, List, [], ◌∷◌, ◌++◌, length, take, drop, map, min, Bool, true, false, cond, ◌==◌, ◌∙◌}
 use Rattle.std.specs.List.{AllByRecursion}
+use Rattle.list_laws.proofs.Elements.{AllByRecursion-append}
 use Rattle.zone_spec.specs.declared.Zone.{Zone}
 use Rattle.zone_spec.specs.declared.Words.{Words}
 use Rattle.zone_spec.specs.Zones.{IsValidZone}
@@ -16,11 +17,6 @@ use Rattle.ring_laws.proofs.PartWords.{has_parity, bytes-each}
 
 abbrev pub IsStore : Store → Type 0
 IsStore s = AreBytes s.bytes
-
-pub all-append : {A : Type 0} (P : A → Type 0) (xs ys : List A) → AllByRecursion P xs → AllByRecursion P ys
-    → AllByRecursion P (xs ++ ys)
-all-append P [] ys h k = k
-all-append P (x ∷ xs) ys h k = (h.0, all-append P xs ys h.1 k)
 
 pub all-take : {A : Type 0} (P : A → Type 0) (n : ℕ) (xs : List A) → AllByRecursion P xs → AllByRecursion P (take n xs)
 all-take P zero xs h = tt
@@ -79,7 +75,7 @@ module _ (z : Zone) (valid : IsValidZone z) where
   stores_in_turn-all [] image h k = tt
   stores_in_turn-all (g ∷ gs) image h k =
       let first = stage_stores-all g image h k.0 in
-      all-append IsStore (stage_stores z g image) _ first
+      AllByRecursion-append IsStore (stage_stores z g image) _ first
       (stores_in_turn-all gs (after_stores image (stage_stores z g image))
       (after-bytes image (stage_stores z g image) h first) k.1)
 
@@ -105,25 +101,25 @@ module _ (z : Zone) (valid : IsValidZone z) where
       let second : List Stage = run_stages z 0 (drop (z.cap - start) q) in
       let last : List Stage = ParityOf Header ∷ [] in
       let starts : List Stage = StartWord ((start + length q) % z.cap) ∷ [] in
-      all-append HasBytes (sizes ++ starts ++ first ++ second) last
-      (all-append HasBytes (sizes ++ starts ++ first) second
-      (all-append HasBytes (sizes ++ starts) first (all-append HasBytes sizes starts
+      AllByRecursion-append HasBytes (sizes ++ starts ++ first ++ second) last
+      (AllByRecursion-append HasBytes (sizes ++ starts ++ first) second
+      (AllByRecursion-append HasBytes (sizes ++ starts) first (AllByRecursion-append HasBytes sizes starts
       (size-all (size == z.cap) (min z.cap (size + length q))) (tt, tt))
       (run-all start (take (z.cap - start) q) parts.0))
       (run-all 0 (drop (z.cap - start) q) parts.1))
       (tt, tt)
 
   pub call_stages-all : (w : Words) (call : Call) → HasCallBytes call → AllByRecursion HasBytes (call_stages z w call)
-  call_stages-all w (Append payload) h = all-append HasBytes _ []
+  call_stages-all w (Append payload) h = AllByRecursion-append HasBytes _ []
       (append-all w.start w.size (last_items z.cap payload) (part-bytes (length payload - z.cap) payload h).1) tt
   call_stages-all w Erase h = (tt, (tt, (tt, tt)))
   call_stages-all w (Dump line body) bytes =
       let h : ℕ = length line in
       let first : List Stage = append_stages z 0 0 line in
       let second : List Stage = append_stages z h h (take (z.cap - h) body) in
-      all-append HasBytes erase_stages (first ++ (second ++ [])) (tt, (tt, (tt, tt)))
-      (all-append HasBytes first (second ++ []) (append-all 0 0 line bytes.0)
-      (all-append HasBytes second [] (append-all h h (take (z.cap - h) body)
+      AllByRecursion-append HasBytes erase_stages (first ++ (second ++ [])) (tt, (tt, (tt, tt)))
+      (AllByRecursion-append HasBytes first (second ++ []) (append-all 0 0 line bytes.0)
+      (AllByRecursion-append HasBytes second [] (append-all h h (take (z.cap - h) body)
       (part-bytes (z.cap - h) body bytes.1).0) tt))
 
   begun-bytes : (image : List ℕ) (call : Call) → CanBegin z image call → HasCallBytes call

@@ -1,28 +1,20 @@
--- what the fixes make of a word
-use Rattle.std.proofs.Common.{◌/◌, ◌≡◌, ◌≢◌, ℕ, zero, suc, ◌+◌, ◌-◌, ◌≤◌, ◌<◌, eqb, Bool, true, false, cond, refl, sym, ap, ap₂, ◌∙◌, subst, arith, List, [], ◌∷◌, ◌++◌, length, get_or, take, set, ◌⊎◌, inl, inr, append_assoc, length-append, length-set, take_at, zero-add}
-use Rattle.std.proofs.lemmas.List.{set_at, get_or_at, get_or-take, set-append_left, set-append_right, set_past}
+-- What the fixes make of a word: its length, distance and values, and that the fixes between two words lead from one
+-- to the other. For `corrected`, `apply` and the sums that tell whether a word is mended.
+use Rattle.std.proofs.lemmas.Bool.{cases_eq}
+use Rattle.std.proofs.Common.{◌≡◌, ◌≢◌, ℕ, zero, suc, ◌+◌, ◌-◌, ◌≤◌, ◌<◌, eqb, Bool, true, false, cond, refl, sym, ap, ap₂, ◌∙◌, arith, List, [], ◌∷◌, ◌++◌, length, get_or, take, set, ◌⊎◌, inl, inr, append_assoc, length-append, length-set, take_at, zero-add}
+use Rattle.std.proofs.lemmas.List.{set_at, get_or_at, set-append_left, set-append_right, set_past, get_or_append_left}
 use Rattle.code_spec.specs.Field.{gf_add, gf_mul, gf_pow}
-use Rattle.code_laws.proofs.Ring.{ring, add_assoc, add_cancel, add_below, equal_from_add, add_zero, one_mul, pow_suc, pow_below, pow_add, pow_255}
+use Rattle.code_laws.proofs.Ring.{ring, add_assoc, add_cancel, add_below, equal_from_add, add_zero}
 use Rattle.code_spec.specs.Code.{value_of, distance}
 use Rattle.code_laws.proofs.Symbols.{Symbols, HasRoots}
-use Rattle.code_laws.proofs.Words.{word_sum, length-word_sum, value_of-word_sum, symbols-word_sum, spots_distance_is, pow_turn}
-use Rattle.rs_decode.specs.Fixes.{AllInside, fixes_from, weight, IsDamage, applied, IsWithin, fixes_between, fix_sum}
+use Rattle.code_laws.proofs.Words.{word_sum, length-word_sum, spots_distance_is, pow_turn}
+use Rattle.rs_decode.specs.Fixes.{AllInside, fixes_from, applied, fixes_between, fix_sum}
+use Rattle.decoder_laws.specs.Damage.{weight, IsWithin}
 use Rattle.rs_decode.specs.declared.Fix.{Fix}
-use Rattle.rs_decode.proofs.Places.{choose_true, choose_false, test_true, test_false, zero_or_not, same_or_not, cases}
-use Rattle.rs_decode.proofs.Fixes.{weight_is}
-
-pub symbols_of : (w : List ℕ) → ((k : ℕ) → get_or w k 0 < 256) → Symbols w
-symbols_of [] h = tt
-symbols_of (c ∷ w) h = (h 0, symbols_of w (λ k. h (suc k)))
-
-pub symbols_at : (w : List ℕ) (k : ℕ) → Symbols w → get_or w k 0 < 256
-symbols_at [] k h = omega arith
-symbols_at (c ∷ w) zero h = h.0
-symbols_at (c ∷ w) (suc k) h = symbols_at w k h.1
-
-pub symbols-append : (u w : List ℕ) → Symbols u → Symbols w → Symbols (u ++ w)
-symbols-append [] w h k = k
-symbols-append (c ∷ u) w h k = (h.0, symbols-append u w h.1 k)
+use Rattle.std.proofs.lemmas.Bool.{cond-true, cond-false, eq-eqb, ne_eqb, cases_lt}
+use Rattle.decoder_laws.proofs.Nearest.{symbols_at}
+use Rattle.decoder_laws.proofs.Damage.{weight_is}
+use Rattle.code_laws.proofs.Nearest.{distance_self}
 
 symbols-set : (w : List ℕ) (i x : ℕ) → Symbols w → x < 256 → Symbols (set w i x)
 symbols-set [] i x h b = tt
@@ -66,25 +58,8 @@ distance-applied u w (f ∷ fs) =
       distance-set u w f.place (gf_add (get_or w f.place 0) f.mask),
     )
 
-pub distance_self : (w : List ℕ) → distance w w ≡ 0
-unfolding distance
-distance_self [] = refl
-distance_self (c ∷ w) = ap (λ (b : Bool). cond b 0 1 + distance w w) (test_true c c refl)
-    ∙ ap (λ (n : ℕ). 0 + n) (distance_self w)
-
 pub applied-near : (w : List ℕ) (fs : List Fix) → distance w (applied fs w) ≤ length fs
 applied-near w fs = omega (arith, distance-applied w w fs, distance_self w)
-
-pub distance_zero : (u w : List ℕ) → length u ≡ length w → distance u w ≤ 0 → u ≡ w
-unfolding bit distance
-distance_zero [] [] e d = refl
-distance_zero [] (b ∷ w) e d = absurd (omega arith)
-distance_zero (a ∷ u) [] e d = absurd (omega arith)
-distance_zero (a ∷ u) (b ∷ w) e d = go (same_or_not a b) (λ d'. distance_zero u w (omega arith) d')
-  where
-    go : (a ≡ b) ⊎ (a ≢ b) → (distance u w ≤ 0 → u ≡ w) → (a ∷ u) ≡ (b ∷ w)
-    go (inl s) ih = ap₂ ◌∷◌ s (ih (omega arith))
-    go (inr n) ih = absurd (omega (arith, ap bit (test_false a b n)))
 
 -- the fixes_between make the other word
 apply_all : (n : ℕ) (pre u w : List ℕ) → length u ≡ length w → n ≡ length pre + length u
@@ -93,7 +68,7 @@ unfolding word_sum
 apply_all n pre [] [] e en = refl
 apply_all n pre [] (b ∷ w) e en = absurd (omega arith)
 apply_all n pre (a ∷ u) [] e en = absurd (omega arith)
-apply_all n pre (a ∷ u) (b ∷ w) e en = go (zero_or_not (gf_add a b))
+apply_all n pre (a ∷ u) (b ∷ w) e en = go (cases_eq (gf_add a b) 0)
     (apply_all n (pre ++ b ∷ []) u w (omega arith) (omega (arith, length-append pre (b ∷ []))))
   where
     D : List ℕ
@@ -105,15 +80,15 @@ apply_all n pre (a ∷ u) (b ∷ w) e en = go (zero_or_not (gf_add a b))
     go : (gf_add a b ≡ 0) ⊎ (gf_add a b ≢ 0) → applied (fixes_from n D) ((pre ++ b ∷ []) ++ u) ≡ (pre ++ b ∷ []) ++ w
         → applied (fixes_from n (gf_add a b ∷ D)) (pre ++ a ∷ u) ≡ pre ++ b ∷ w
     go (inl z) ih =
-        ap (λ (fs : List Fix). applied fs (pre ++ a ∷ u)) (choose_true (eqb (gf_add a b) 0) (fixes_from n D)
-        (fix ∷ fixes_from n D) (test_true (gf_add a b) 0 z))
+        ap (λ (fs : List Fix). applied fs (pre ++ a ∷ u)) (cond-true (eqb (gf_add a b) 0) (fixes_from n D)
+        (fix ∷ fixes_from n D) (eq-eqb (gf_add a b) 0 z))
         ∙ ap (λ (x : ℕ). applied (fixes_from n D) (pre ++ x ∷ u)) (equal_from_add a b z)
         ∙ ap (applied (fixes_from n D)) (sym (append_assoc pre (b ∷ []) u)) ∙ ih ∙ append_assoc pre (b ∷ []) w
     go (inr nz) ih =
         let e' : length u ≡ length w = omega arith in
         let place : n - 1 - length D ≡ length pre = omega (arith, length-word_sum u w e') in
-        ap (λ (fs : List Fix). applied fs (pre ++ a ∷ u)) (choose_false (eqb (gf_add a b) 0) (fixes_from n D)
-        (fix ∷ fixes_from n D) (test_false (gf_add a b) 0 nz))
+        ap (λ (fs : List Fix). applied fs (pre ++ a ∷ u)) (cond-false (eqb (gf_add a b) 0) (fixes_from n D)
+        (fix ∷ fixes_from n D) (ne_eqb (gf_add a b) 0 nz))
         ∙ ap (λ (i : ℕ). applied (fixes_from n D) (set (pre ++ a ∷ u) i
         (gf_add (get_or (pre ++ a ∷ u) i 0) (gf_add a b)))) place
         ∙ ap (λ (x : ℕ). applied (fixes_from n D) (set (pre ++ a ∷ u) (length pre) x))
@@ -123,22 +98,6 @@ apply_all n pre (a ∷ u) (b ∷ w) e en = go (zero_or_not (gf_add a b))
 
 pub apply_fixes_between : (w c : List ℕ) → length w ≡ length c → applied (fixes_between w c) w ≡ c
 apply_fixes_between w c e = apply_all (length w) [] w c e (omega arith)
-
--- the sum of a word and a codeword near it is damage with the word's syndromes
-pub damage_of : (t r : ℕ) (w c s : List ℕ) → t + t ≤ r → Symbols w → IsWithin t r w c
-    → ((k : ℕ) → k < t + t → get_or s k 0 ≡ value_of w (gf_pow 2 k)) → IsDamage t (length w) s (word_sum w c)
-damage_of t r w c s l b h v = record {
-  len = length-word_sum w c h.len;
-  symbols = symbols-word_sum w c b h.symbols;
-  few = omega (arith, weight_is (word_sum w c), spots_distance_is w c h.len, h.near);
-  values = λ k lk. v k lk ∙ sym (add_zero (value_of w (gf_pow 2 k)))
-      ∙ ap (gf_add (value_of w (gf_pow 2 k))) (sym (h.codeword.at k (omega arith)))
-      ∙ sym (value_of-word_sum w c (gf_pow 2 k) h.len);
-}
-
-pub none_at_zero : (t r : ℕ) (w c : List ℕ) → t ≡ 0 → ¬ HasRoots r w → IsWithin t r w c → ⊥
-none_at_zero t r w c z n h = n (subst (HasRoots r) (sym (distance_zero w c h.len (let d = h.near in omega arith)))
-    h.codeword)
 
 -- ---- the values of the fixed word
 value_of-set : (w : List ℕ) (i m x : ℕ) → i < length w → value_of (set w i (gf_add (get_or w i 0) m)) x
@@ -199,15 +158,10 @@ applied_near t r n w fs b a l h = record {
   near = omega (arith, applied-near w fs);
 }
 
-get_or-left : (m p : List ℕ) (i : ℕ) → i < length m → get_or (m ++ p) i 0 ≡ get_or m i 0
-get_or-left [] p i l = absurd (omega arith)
-get_or-left (c ∷ m) p zero l = refl
-get_or-left (c ∷ m) p (suc i) l = get_or-left m p i (omega arith)
-
 -- the fixes of a word make those of its front
 pub take-applied : (n : ℕ) (fs : List Fix) (m p : List ℕ) → length m ≡ n → take n (applied fs (m ++ p)) ≡ applied fs m
 take-applied n [] m p e = take_at m p n e
-take-applied n (f ∷ fs) m p e = go (cases f.place (length m)) (λ m' p' e'. take-applied n fs m' p' e')
+take-applied n (f ∷ fs) m p e = go (cases_lt f.place (length m)) (λ m' p' e'. take-applied n fs m' p' e')
   where
     v : ℕ
     v = gf_add (get_or (m ++ p) f.place 0) f.mask
@@ -219,7 +173,8 @@ take-applied n (f ∷ fs) m p e = go (cases f.place (length m)) (λ m' p' e'. ta
         → ((m' p' : List ℕ) → length m' ≡ n → take n (applied fs (m' ++ p')) ≡ applied fs m')
         → take n (applied fs (set (m ++ p) f.place v)) ≡ applied fs (set m f.place u)
     go (inl l) ih =
-        ap (λ (x : ℕ). take n (applied fs (set (m ++ p) f.place (gf_add x f.mask)))) (get_or-left m p f.place l)
+        ap (λ (x : ℕ). take n (applied fs (set (m ++ p) f.place (gf_add x f.mask))))
+        (get_or_append_left m p 0 f.place l)
         ∙ ap (λ (w : List ℕ). take n (applied fs w)) (set-append_left m p f.place u l)
         ∙ ih (set m f.place u) p (length-set m f.place u ∙ e)
     go (inr l) ih =
@@ -227,53 +182,23 @@ take-applied n (f ∷ fs) m p e = go (cases f.place (length m)) (λ m' p' e'. ta
         ∙ ih m (set p (f.place - length m) v) e
         ∙ ap (applied fs) (sym (set_past m f.place u l))
 
--- the values that the decoder is given, cut to the first 2 t
-pub values_cut : (t r : ℕ) (s w : List ℕ) → t + t ≤ r → ((k : ℕ) → k < r → get_or s k 0 ≡ value_of w (gf_pow 2 k))
-    → (k : ℕ) → k < t + t → get_or (take (t + t) s) k 0 ≡ value_of w (gf_pow 2 k)
-values_cut t r s w l h k lk = get_or-take (t + t) s k 0 lk ∙ h k (omega arith)
-
-pub halves : (r : ℕ) → r / 2 + r / 2 ≤ r
-halves r = omega arith
-
-pub positive : (t r : ℕ) (w c : List ℕ) → ¬ HasRoots r w → IsWithin t r w c → 0 < distance w c
-positive t r w c n h = go (distance w c) refl
-  where
-    go : (d : ℕ) → distance w c ≡ d → 0 < distance w c
-    go zero e = absurd (n (subst (HasRoots r) (sym (distance_zero w c h.len (omega (arith, e)))) h.codeword))
-    go (suc d) e = omega (arith, e)
-
 length-fixes_from : (n : ℕ) (d : List ℕ) → length (fixes_from n d) ≡ weight d
 length-fixes_from n [] = refl
-length-fixes_from n (c ∷ d) = go (zero_or_not c) (length-fixes_from n d)
+length-fixes_from n (c ∷ d) = go (cases_eq c 0) (length-fixes_from n d)
   where
     F : Fix
     F = record { place = n - 1 - length d; mask = c }
 
     go : (c ≡ 0) ⊎ (c ≢ 0) → length (fixes_from n d) ≡ weight d → length (fixes_from n (c ∷ d)) ≡ weight (c ∷ d)
-    go (inl z) e = ap length (choose_true (eqb c 0) (fixes_from n d) (F ∷ fixes_from n d) (test_true c 0 z)) ∙ e
-        ∙ sym (zero-add (weight d)) ∙ ap (λ (b : Bool). cond b 0 1 + weight d) (sym (test_true c 0 z))
-    go (inr m) e = ap length (choose_false (eqb c 0) (fixes_from n d) (F ∷ fixes_from n d) (test_false c 0 m))
+    go (inl z) e = ap length (cond-true (eqb c 0) (fixes_from n d) (F ∷ fixes_from n d) (eq-eqb c 0 z)) ∙ e
+        ∙ sym (zero-add (weight d)) ∙ ap (λ (b : Bool). cond b 0 1 + weight d) (sym (eq-eqb c 0 z))
+    go (inr m) e = ap length (cond-false (eqb c 0) (fixes_from n d) (F ∷ fixes_from n d) (ne_eqb c 0 m))
         ∙ ap suc e ∙ (let f : suc (weight d) ≡ 1 + weight d = omega arith in f)
-        ∙ ap (λ (b : Bool). cond b 0 1 + weight d) (sym (test_false c 0 m))
+        ∙ ap (λ (b : Bool). cond b 0 1 + weight d) (sym (ne_eqb c 0 m))
 
 pub length-fixes_between : (w c : List ℕ) → length w ≡ length c → length (fixes_between w c) ≡ distance w c
 length-fixes_between w c e = length-fixes_from (length w) (word_sum w c) ∙ sym (weight_is (word_sum w c))
     ∙ spots_distance_is w c e
-
--- ---- the loops over fixes
-pub wrapped : (a b s : ℕ) → s + 255 ≡ a + b → gf_pow 2 s ≡ gf_mul (gf_pow 2 a) (gf_pow 2 b)
-wrapped a b s e =
-    sym (one_mul (gf_pow 2 s) (pow_below 2 s)) ∙ ap (λ (x : ℕ). gf_mul x (gf_pow 2 s)) (sym pow_255)
-    ∙ sym (pow_add 2 255 s) ∙ ap (gf_pow 2) (let f : 255 + s ≡ a + b = omega arith in f) ∙ pow_add 2 a b
-
-pub term_step : (m p k t t' : ℕ) → gf_pow 2 t ≡ gf_mul m (gf_pow p k) → gf_pow 2 t' ≡ gf_mul (gf_pow 2 t) p
-    → gf_pow 2 t' ≡ gf_mul m (gf_pow p (k + 1))
-term_step m p k t t' e e' =
-    e' ∙ ap (λ (x : ℕ). gf_mul x p) e ∙ alg m (gf_pow p k) p ∙ ap (gf_mul m) (sym (pow_suc p k))
-    ∙ ap (λ (j : ℕ). gf_mul m (gf_pow p j)) (let f : suc k ≡ k + 1 = omega arith in f)
-  where
-    alg : (m q p : ℕ) → gf_mul (gf_mul m q) p ≡ gf_mul m (gf_mul p q)
-    alg m q p = simp ring
 
 pub sum_step : (n k q v v' total : ℕ) (f : Fix) (fs rest : List Fix) → fs ≡ f ∷ rest
     → v' ≡ gf_add v (gf_mul f.mask (gf_pow (gf_pow 2 q) k)) → q ≡ n - 1 - f.place

@@ -1,16 +1,11 @@
--- The words of the decoder's own functions: fixes, damage and words within a distance
-use Rattle.std.specs.Prelude.{ℕ, ◌≡◌, ◌+◌, ◌-◌, ◌<◌, ◌≤◌, ◌==◌, if◌then◌else◌, List, [], ◌∷◌, length, slice_index, slice_set}
+-- The words of the decoder's own functions: lists of fixes, and what they make of a word
+use Rattle.std.specs.Prelude.{ℕ, ◌≡◌, ◌+◌, ◌-◌, ◌<◌, ◌==◌, if◌then◌else◌, List, [], ◌∷◌, length, slice_index, slice_set}
 use Rattle.code_spec.specs.Field.{gf_add, gf_mul, gf_pow}
-use Rattle.code_spec.specs.Code.{value_of, distance}
+use Rattle.code_spec.specs.Code.{value_of}
 pub use Rattle.code_laws.proofs.Symbols.{Symbols}
-use Rattle.code_laws.proofs.Symbols.{HasRoots}
 use Rattle.code_laws.proofs.Words.{word_sum}
-use Rattle.rs_decode.specs.Places.{gap_ratio}
+use Rattle.decoder_laws.specs.Forney.{gap_ratio}
 use Rattle.rs_decode.specs.declared.Fix.{Fix}
-
-abbrev pub Below255 : List ℕ → Type 0
-Below255 [] = Unit {0}
-Below255 (i ∷ js) = (i < 255) × Below255 js
 
 -- the mask times the product of the gaps is the scaled value of the evaluator
 pub record IsFix (n c : ℕ) (r all : List ℕ) (p : ℕ) (f : Fix) : Type 0 where
@@ -32,22 +27,6 @@ abbrev pub fixes_from : ℕ → List ℕ → List Fix
 fixes_from n [] = []
 fixes_from n (c ∷ d) = if c == 0 then fixes_from n d else record { place = n - 1 - length d; mask = c } ∷ fixes_from n d
 
--- how many symbols are not zero
-abbrev pub weight : List ℕ → ℕ
-weight [] = 0
-weight (c ∷ d) = (if c == 0 then 0 else 1) + weight d
-
-abbrev pub PowersBelow : ℕ → List ℕ → Type 0
-PowersBelow n [] = Unit {0}
-PowersBelow n (i ∷ js) = (i < n) × PowersBelow n js
-
--- the values of D are the syndromes, and at most t of its symbols are not zero
-pub record IsDamage (t n : ℕ) (syndromes D : List ℕ) : Type 0 where
-  pub len : length D ≡ n
-  pub symbols : Symbols D
-  pub few : weight D ≤ t
-  pub values : (k : ℕ) → k < t + t → slice_index syndromes k ≡ value_of D (gf_pow 2 k)
-
 -- a word with the fixes added
 abbrev pub applied : List Fix → List ℕ → List ℕ
 applied [] w = w
@@ -57,13 +36,6 @@ applied (f ∷ fs) w = applied fs (slice_set w f.place (gf_add (slice_index w f.
 abbrev pub fix_sum : ℕ → List Fix → ℕ → ℕ
 fix_sum n [] x = 0
 fix_sum n (f ∷ fs) x = gf_add (gf_mul f.mask (gf_pow x (n - 1 - f.place))) (fix_sum n fs x)
-
--- a codeword that differs from w in at most t places
-pub record IsWithin (t r : ℕ) (w c : List ℕ) : Type 0 where
-  pub len : length w ≡ length c
-  pub symbols : Symbols c
-  pub codeword : HasRoots r c
-  pub near : distance w c ≤ t
 
 -- the differing places with their masks
 abbrev pub fixes_between : List ℕ → List ℕ → List Fix

@@ -7,14 +7,16 @@
 ghost use Rattle.std.specs.Prelude.{◌≡◌, ◌≢◌, ◌+◌, ◌-◌, ◌/◌, ◌≤◌, ◌<◌, ◌↔◌, ℕ, ◌++◌, length, slice_index, slice_set, take, drop, reverse, List, true, false, IsTrue, None, unwrap_or};
 ghost use Rattle.code_spec.specs.Field.{gf_add, gf_mul, gf_pow};
 ghost use Rattle.code_spec.specs.Code.{value_of, distance, nearest, parity_of};
-ghost use Rattle.code_laws.specs.Polynomials.{poly};
-ghost use Rattle.code_laws.specs.Series.{shift, one, Bytes};
+ghost use Rattle.decoder_laws.specs.Polynomials.{poly, LeadingZeros};
+ghost use Rattle.decoder_laws.specs.Series.{shift, one, Bytes};
 ghost use Rattle.code_laws.proofs.Symbols.{HasRoots, IsAdded};
 ghost use Rattle.rs_encode.specs.Lanes.{IsLent};
 ghost use Rattle.rs_decode.specs.Decoding.{decoded_by, fixes_by, within};
-ghost use Rattle.rs_decode.specs.Places.{roots_of, gap_ratio};
-ghost use Rattle.rs_decode.specs.Fixes.{Below255, AreFixes, AllInside, fixes_from, PowersBelow, IsDamage, applied, IsWithin, fixes_between, fix_sum};
-ghost use Rattle.rs_decode.specs.Euclid.{IsStep, IsSolution, LeadingZeros};
+ghost use Rattle.decoder_laws.specs.Chien.{roots_of, PowersBelow};
+ghost use Rattle.decoder_laws.specs.Forney.{gap_ratio, Below255};
+ghost use Rattle.rs_decode.specs.Fixes.{AreFixes, AllInside, fixes_from, applied, fixes_between, fix_sum};
+ghost use Rattle.decoder_laws.specs.Damage.{IsDamage, IsWithin};
+ghost use Rattle.decoder_laws.specs.Euclid.{IsStep, IsSolution};
 
 use arrayvec::ArrayVec;
 use gf_poly::{rising_values, syndromes, values_at};

@@ -1,18 +1,18 @@
 -- The rest of a message as a list of symbols
 use Rattle.std.proofs.Common.{◌≡◌, subst, length-drop, ℕ, ◌+◌, ◌<◌, List, ◌++◌, ◌∷◌, [], length, get_or, sym, ◌∙◌, arith, drop, take, replicate}
 use Rattle.std.proofs.lemmas.List.{take_more}
+use Rattle.list_laws.proofs.Elements.{get_or-replicate_default}
 use Rattle.code_spec.specs.Field.{gf_add, gf_mul}
 use Rattle.code_spec.specs.Code.{IsCodeword}
 use Rattle.code_laws.proofs.Symbols.{HasRoots}
 use Rattle.code_laws.proofs.Parity.{roots_of, codeword_of}
 use Rattle.code_laws.proofs.Steps.{encode_step, zeros_codeword}
-use Rattle.gf256.proofs.Tables.{zeros}
 use Rattle.rs_encode.specs.Generator.{IsGenerator}
 use Rattle.rs_encode.proofs.Steps.{low_of}
 
 -- no symbols have the rest of zeros
 pub bare_none : (r : ℕ) → IsCodeword r (replicate r 0)
-bare_none r = codeword_of r (replicate r 0) (zeros_codeword r (replicate r 0) (λ k l. zeros r k))
+bare_none r = codeword_of r (replicate r 0) (zeros_codeword r (replicate r 0) (λ k l. get_or-replicate_default r k 0))
 
 -- one more symbol of the message
 pub bare_step : (r i f : ℕ) (g m o n : List ℕ) → IsGenerator g → length g ≡ r + 1 → i < length m

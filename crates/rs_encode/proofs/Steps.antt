@@ -4,6 +4,7 @@ use Rattle.std.proofs.lemmas.List.{get_or_past, length-replicate, take_more}
 use Rattle.std.proofs.lemmas.Grind.{same_number_lists}
 use Rattle.std.proofs.lemmas.Bool.{cases_lt}
 use Rattle.std.proofs.lemmas.Nat.{xor_block}
+use Rattle.list_laws.proofs.Elements.{get_or-replicate_default}
 use Rattle.code_spec.specs.Field.{gf_add, gf_mul, gf_pow}
 use Rattle.code_spec.specs.Code.{value_of, IsCodeword, parity_of}
 use Rattle.code_laws.proofs.Words.{value_of-cons}
@@ -13,7 +14,6 @@ use Rattle.code_laws.proofs.Parity.{roots_of, codeword_of, bytes_of}
 use Rattle.code_laws.proofs.Laws.{parity_law}
 use Rattle.code_laws.proofs.Steps.{encode_step, zeros_codeword}
 use Rattle.code_laws.proofs.Xor.{xor_zero_r}
-use Rattle.gf256.proofs.Tables.{zeros}
 use Rattle.rs_encode.specs.Generator.{IsGenerator}
 use Rattle.rs_encode.specs.Lanes.{digit, HoldLanes, IsColumn, IsMultiple, IsRest, IsTable, IsLent}
 use Rattle.rs_encode.proofs.Lanes.{digit-below, digit-top, digit-zero, moved_last, moved, multiple_sum}
@@ -140,8 +140,8 @@ pub rest_none : (r : ℕ) (lanes : List ℕ) → ((j : ℕ) → get_or lanes j 0
 rest_none r lanes z = record {
   rest = replicate r 0;
   len = length-replicate r 0;
-  codeword = codeword_of r (replicate r 0) (zeros_codeword r (replicate r 0) (λ k l. zeros r k));
-  at = λ j k p e. ap (λ (x : ℕ). digit x p) (z j) ∙ digit-zero p ∙ sym (zeros r (16 * j + k));
+  codeword = codeword_of r (replicate r 0) (zeros_codeword r (replicate r 0) (λ k l. get_or-replicate_default r k 0));
+  at = λ j k p e. ap (λ (x : ℕ). digit x p) (z j) ∙ digit-zero p ∙ sym (get_or-replicate_default r (16 * j + k) 0);
 }
 
 -- one lane, by a table of bytes

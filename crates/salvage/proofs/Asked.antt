@@ -2,7 +2,7 @@
 use Rattle.std.proofs.Common.{◌≡◌, ℕ, ◌+◌, ◌%◌, ◌<◌, ◌≤◌, ◌&&◌, ◌==◌, List, length, get_or, refl, sym, ap, ◌∙◌, subst, Bool, true, false, if◌then◌else◌, nat_lt, Option, Some, None, Ok, Err}
 use Rattle.std.specs.Prelude.{slice_get, option_and_then, is_some, Result, IsOk}
 use Rattle.std.specs.List.{position_or_len}
-use Rattle.std.proofs.lemmas.Bool.{ltb-true}
+use Rattle.std.proofs.lemmas.Bool.{ltb-true, and_parts}
 use Rattle.std.proofs.lemmas.Option.{slice_get-get_or}
 use Rattle.zone_spec.specs.declared.Zone.{Zone}
 use Rattle.zone_spec.specs.declared.ZoneName.{ZoneName}
@@ -53,15 +53,11 @@ asked now image dump zs zones v at name o i d b view ei ezs eo en ez ed eb =
     ∙ sym (ap (λ (t : Bool). if t then Ok (zone_reading (get_or zones i d) (bytes_at (get_or zones i d) image at))
     else Err NoRing) (eb ∙ ap (λ (x : List ℕ). (at % 2 == 0) && is_some (ring_at x at (get_or zones i d))) ed))
 
-both : (a b : Bool) → true ≡ (a && b) → b ≡ true
-both true b h = sym h
-both false b h = cc
-
 pub inside : (dump other image : List ℕ) (at : ℕ) (z : Zone) (b : Bool) → dump ≡ image → other ≡ image → b ≡ true
     → b ≡ ((at % 2 == 0) && is_some (ring_at dump at z)) → at + z.size ≤ length other
 inside dump other image at z b ed eo t eb =
     subst (λ (x : List ℕ). at + z.size ≤ length x) (ed ∙ sym eo)
-    (ring_within dump at z (both (at % 2 == 0) (is_some (ring_at dump at z)) (sym t ∙ eb)))
+    (ring_within dump at z (and_parts (at % 2 == 0) (is_some (ring_at dump at z)) (sym (sym t ∙ eb))).1)
 
 -- ---- by the answer
 pub read_ok : (o : Result ZoneReading RingFault) (z : Zone) (image dump : List ℕ) (at : ℕ) (b : Bool) (r : ZoneReading)

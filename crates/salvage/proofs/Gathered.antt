@@ -1,7 +1,8 @@
 -- The shapes of zones, gathered one by one
-use Rattle.std.proofs.Common.{◌≡◌, ℕ, zero, suc, ◌&&◌, ◌||◌, not, ◌==◌, List, [], ◌∷◌, ◌++◌, ◌≤◌, length, drop, filter, refl, sym, ap, ◌∙◌, arith, Bool, true, false, if◌then◌else◌, eqb-true, append_assoc}
+use Rattle.std.proofs.Common.{◌≡◌, ℕ, zero, suc, ◌&&◌, not, ◌==◌, List, [], ◌∷◌, ◌++◌, ◌≤◌, length, drop, filter, refl, sym, ap, ◌∙◌, arith, Bool, true, false, if◌then◌else◌, eqb-true, append_assoc, ◌||◌}
 use Rattle.std.proofs.lemmas.List.{append-nil}
 use Rattle.std.proofs.lemmas.List.Folds.{list_any-append}
+use Rattle.std.proofs.lemmas.Bool.{and_parts}
 use Rattle.zone_spec.specs.declared.Zone.{Zone}
 use Rattle.salvage_spec.specs.Rings.{is_alike, shapes}
 use Rattle.salvage.specs.Shapes.{has_shape, with_shape}
@@ -9,10 +10,6 @@ use Rattle.salvage.specs.Shapes.{has_shape, with_shape}
 -- the zones whose shape is not among these
 abbrev pub unlike : List Zone → List Zone → List Zone
 unlike found zones = filter (λ x. not (has_shape found x)) zones
-
-both : (a b : Bool) → (a && b) ≡ true → (a ≡ true) × (b ≡ true)
-both true b h = (refl, h)
-both false b h = cc
 
 -- the words of two zones of one shape
 record IsAlike (x z : Zone) : Type 0 where
@@ -25,13 +22,13 @@ record IsAlike (x z : Zone) : Type 0 where
 
 alike : (x z : Zone) → is_alike x z ≡ true → IsAlike x z
 alike x z h =
-    let a = both ((x.size == z.size) && (x.cap == z.cap) && (x.blocks == z.blocks) && (x.parity == z.parity)
+    let a = and_parts ((x.size == z.size) && (x.cap == z.cap) && (x.blocks == z.blocks) && (x.parity == z.parity)
     && (x.block == z.block)) (x.sig == z.sig) h in
-    let b = both ((x.size == z.size) && (x.cap == z.cap) && (x.blocks == z.blocks) && (x.parity == z.parity))
+    let b = and_parts ((x.size == z.size) && (x.cap == z.cap) && (x.blocks == z.blocks) && (x.parity == z.parity))
     (x.block == z.block) a.0 in
-    let c = both ((x.size == z.size) && (x.cap == z.cap) && (x.blocks == z.blocks)) (x.parity == z.parity) b.0 in
-    let d = both ((x.size == z.size) && (x.cap == z.cap)) (x.blocks == z.blocks) c.0 in
-    let e = both (x.size == z.size) (x.cap == z.cap) d.0 in
+    let c = and_parts ((x.size == z.size) && (x.cap == z.cap) && (x.blocks == z.blocks)) (x.parity == z.parity) b.0 in
+    let d = and_parts ((x.size == z.size) && (x.cap == z.cap)) (x.blocks == z.blocks) c.0 in
+    let e = and_parts (x.size == z.size) (x.cap == z.cap) d.0 in
     record {
       size = eqb-true x.size z.size e.0;
       cap = eqb-true x.cap z.cap e.1;

@@ -1,14 +1,16 @@
 -- What the code's values say of a header's word
-use Rattle.std.proofs.Common.{◌≡◌, ℕ, zero, suc, ◌+◌, ◌-◌, ◌/◌, ◌<◌, ◌≤◌, ◌&&◌, List, [], ◌∷◌, ◌++◌, length, take, get_or, replicate, refl, sym, ap, ap₂, ◌∙◌, subst, arith, Option, Some, None, unwrap_or, length-append, ◌==◌, nat_le, if◌then◌else◌, true, false, Bool, ◌⊎◌, inl, inr, le-leb, eqb-true}
-use Rattle.std.specs.List.{AllByRecursion}
+use Rattle.std.proofs.Common.{◌≡◌, ℕ, zero, suc, ◌+◌, ◌-◌, ◌/◌, ◌<◌, ◌≤◌, ◌&&◌, List, [], ◌∷◌, ◌++◌, length, take, get_or, replicate, refl, sym, ap, ◌∙◌, arith, Option, Some, None, unwrap_or, length-append, ◌==◌, nat_le, if◌then◌else◌, true, false, Bool, ◌⊎◌, inl, inr, le-leb, eqb-true}
 use Rattle.std.proofs.Math.Dec.{leb}
 use Rattle.std.proofs.lemmas.Bool.Decides.{leb_tells}
+use Rattle.std.proofs.lemmas.Bool.{and_parts}
+use Rattle.std.proofs.lemmas.List.{take_at}
+use Rattle.list_laws.proofs.Elements.{AllByRecursion-append, AllByRecursion_from_places, replicate_from_places}
 use Rattle.zone_spec.specs.declared.Zone.{Zone}
 use Rattle.zone_spec.specs.declared.Words.{Words}
 use Rattle.zone_spec.specs.Zones.{IsValidZone}
 use Rattle.zone_spec.specs.Parts.{words_in}
 use Rattle.code_spec.specs.Code.{IsWord, nearest, nearest_if, is_near, is_codeword, distance}
-use Rattle.code_laws.proofs.Nearest.{the_word-passes}
+use Rattle.code_laws.proofs.Nearest.{the_word-passes, distance_zero, distance_self}
 use Rattle.code_laws.proofs.Parity.{codeword_of}
 use Rattle.code_laws.proofs.Steps.{zeros_codeword}
 use Rattle.rs_decode.specs.Decoding.{decoded_by, decoded_at, within}
@@ -16,18 +18,9 @@ use Rattle.rs_decode.specs.declared.Decoded.TheVariants.{Clean, Fixed, Bad}
 use Rattle.salvage_spec.specs.Rings.{ring_in}
 use Rattle.salvage_spec.specs.declared.FoundRing.{FoundRing}
 use Rattle.salvage_laws.specs.Known.{known, amended, amends, put_in}
-use Rattle.salvage_laws.proofs.Amended.{distance_self, length-put_in, same_at_zero}
+use Rattle.salvage_laws.proofs.Amended.{length-put_in}
 use Rattle.salvage.specs.Headers.{ring_if, ring_near}
 use Rattle.salvage.proofs.Rings.{many, near_is, one_near}
-
-bytes_all : (w : List ℕ) → ((i : ℕ) → get_or w i 0 < 256) → AllByRecursion (λ b. b < 256) w
-bytes_all [] h = tt
-bytes_all (b ∷ w) h = (h 0, bytes_all w (λ i. h (suc i)))
-
-all_append : (v w : List ℕ) → AllByRecursion (λ b. b < 256) v → AllByRecursion (λ b. b < 256) w
-    → AllByRecursion (λ b. b < 256) (v ++ w)
-all_append [] w h k = k
-all_append (b ∷ v) w h k = (h.0, all_append v w h.1 k)
 
 put_in-append : (ks : List (Option ℕ)) (v w : List ℕ) → length ks ≤ length v → put_in ks (v ++ w) ≡ put_in ks v ++ w
 unfolding put_in
@@ -42,11 +35,6 @@ distance-append [] [] w l = distance_self w
 distance-append [] (b ∷ v) w l = absurd (omega arith)
 distance-append (a ∷ u) [] w l = absurd (omega arith)
 distance-append (a ∷ u) (b ∷ v) w l = ap (λ n. (if a == b then 0 else 1) + n) (distance-append u v w (omega arith))
-
-take-front : (n : ℕ) (v w : List ℕ) → length v ≡ n → take n (v ++ w) ≡ v
-take-front n [] w l = subst (λ m. take m w ≡ []) l refl
-take-front zero (b ∷ v) w l = absurd (omega arith)
-take-front (suc n) (b ∷ v) w l = ap (λ xs. b ∷ xs) (take-front n v w (omega arith))
 
 words_taken : (c : List ℕ) → words_in (take 12 c) ≡ words_in c
 words_taken [] = refl
@@ -65,7 +53,7 @@ words_taken (a ∷ b ∷ c ∷ d ∷ e ∷ f ∷ g ∷ h ∷ i ∷ j ∷ k ∷ l
 
 -- a header's bytes have its words, whatever comes after them
 words_front : (bytes par : List ℕ) → length bytes ≡ 12 → words_in bytes ≡ words_in (bytes ++ par)
-words_front bytes par l = ap (λ (w : List ℕ). words_in w) (sym (take-front 12 bytes par l)) ∙ words_taken (bytes ++ par)
+words_front bytes par l = ap (λ (w : List ℕ). words_in w) (sym (take_at bytes par 12 l)) ∙ words_taken (bytes ++ par)
 
 -- the header's bytes with the known ones, of which e differed
 pub record IsProbe (z : Zone) (header par bytes : List ℕ) (e : ℕ) : Type 0 where
@@ -90,7 +78,8 @@ probe_is z header par bytes copied ks e valid hb pb hl pl ek ec eb ee =
       valid = valid;
       word = (
         length-append header par ∙ omega (arith, hl, pl),
-        all_append header par (bytes_all header hb) (bytes_all par pb),
+        AllByRecursion-append (λ b. b < 256) header par (AllByRecursion_from_places (λ b. b < 256) header hb)
+            (AllByRecursion_from_places (λ b. b < 256) par pb),
       );
       amended = a;
       amends = ee ∙ ap (λ x. distance x bytes) ec ∙ sym (distance-append header bytes par (hl ∙ sym long))
@@ -124,17 +113,13 @@ exact r w = by (is_codeword r w) refl
     itself : within 0 w (Some w) ≡ Some w
     itself = ap (λ (b : Bool). if b then Some w else None) (le-leb (distance w w) 0 (omega (arith, distance_self w)))
 
-    both : (a b : Bool) → (a && b) ≡ true → a ≡ true
-    both true b h = refl
-    both false b h = cc
-
     other : (c : List ℕ) → is_codeword r w ≡ false → nearest_if false r w ≡ Some c
         → ((leb (distance w c) 0 ≡ true) × (distance w c ≤ 0)) ⊎ ((leb (distance w c) 0 ≡ false) × (0 < distance w c))
         → (if leb (distance w c) 0 then Some c else None) ≡ None
     other c f n (inl h) =
         let p = the_word-passes (is_near r w) (length w) c n in
-        let same : w ≡ c = same_at_zero w c (sym p.1.0) h.1 in
-        let code : is_codeword r c ≡ true = both (is_codeword r c) (leb (distance w c) (r / 2)) p.0 in
+        let same : w ≡ c = distance_zero w c (sym p.1.0) h.1 in
+        let code : is_codeword r c ≡ true = (and_parts (is_codeword r c) (leb (distance w c) (r / 2)) p.0).0 in
         let bad : true ≡ false = sym code ∙ (ap (is_codeword r) (sym same) ∙ f) in cc
     other c f n (inr h) = ap (λ (b : Bool). if b then Some c else None) h.0
 
@@ -165,10 +150,6 @@ as_amended z at e r bytes par b l c =
         (let s : e + distance (bytes ++ par) (bytes ++ par) ≡ e = omega (arith, distance_self (bytes ++ par)) in s)
         ∙ ap (λ (v : Words). ring_if z at v e) (sym (words_front bytes par l))
     by false = refl
-
-pub not_true : (b : Bool) → (b ≡ true → ⊥) → b ≡ false
-not_true true h = absurd (h refl)
-not_true false h = refl
 
 pub amended_same : (z : Zone) (at e r : ℕ) (bytes par : List ℕ) → length bytes ≡ 12 → (o : Option FoundRing)
     → o ≡ ring_if z at (words_in bytes) e → is_codeword r (bytes ++ par) ≡ true
@@ -257,10 +238,6 @@ append_zeros [] w hv hw k l = hw k l
 append_zeros (b ∷ v) w hv hw zero l = hv 0 (omega arith)
 append_zeros (b ∷ v) w hv hw (suc k) l = append_zeros v w (λ j m. hv (suc j) (omega arith)) hw k (omega arith)
 
-zeros_are : (w : List ℕ) → ((k : ℕ) → k < length w → get_or w k 0 ≡ 0) → w ≡ replicate (length w) 0
-zeros_are [] h = refl
-zeros_are (c ∷ w) h = ap₂ ◌∷◌ (h 0 (omega arith)) (zeros_are w (λ k l. h (suc k) (omega arith)))
-
 no_ring : (z : Zone) (at n : ℕ) → ring_if z at (words_in (replicate 12 0)) n ≡ None
 no_ring z at n = by ((0 == z.sig) && nat_le 0 0 && nat_le 0 z.cap)
   where
@@ -284,7 +261,7 @@ zeros_none z at header par l hh hp =
     codeword_of z.parity (header ++ par) (zeros_codeword z.parity (header ++ par) (append_zeros header par hh hp)) in
     let n : nearest z.parity (header ++ par) ≡ Some (header ++ par) =
     ap (λ (b : Bool). nearest_if b z.parity (header ++ par)) code in
-    let zeros : header ≡ replicate 12 0 = zeros_are header hh ∙ ap (λ (k : ℕ). replicate k 0) l in
+    let zeros : header ≡ replicate 12 0 = replicate_from_places 0 header hh ∙ ap (λ (k : ℕ). replicate k 0) l in
     let d : ℕ = distance (header ++ par) (header ++ par) in
     sym (ap (λ (w : List ℕ). ring_if z at (words_in w) d) zeros ∙ no_ring z at d)
     ∙ one_near z at (header ++ par) (header ++ par) (words_in header) d (words_front header par l) n refl

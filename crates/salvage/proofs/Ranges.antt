@@ -1,10 +1,10 @@
 -- The parts of a zone that lies in a dump, as parts of the dump
-use Rattle.std.proofs.Common.{◌≡◌, ℕ, zero, suc, ◌+◌, ◌-◌, ◌<◌, ◌≤◌, List, [], ◌∷◌, ◌++◌, length, take, drop, replicate, refl, sym, ap, ap₂, ◌∙◌, arith, Option, None, Bool, true, false, if◌then◌else◌, zero-add, le-leb, length-take, length-drop}
+use Rattle.std.proofs.Common.{◌≡◌, ℕ, zero, suc, ◌+◌, ◌-◌, ◌<◌, ◌≤◌, List, [], ◌++◌, length, take, drop, replicate, refl, sym, ap, ap₂, ◌∙◌, arith, Option, None, Bool, true, false, if◌then◌else◌, zero-add, le-leb, length-take, length-drop}
 use Rattle.std.proofs.Math.Dec.{leb}
 use Rattle.std.proofs.lemmas.Bool.Decides.{leb_tells}
 use Rattle.std.proofs.Common.{◌⊎◌, inl, inr}
 use Rattle.std.specs.Prelude.{slice_range, is_some}
-use Rattle.std.proofs.lemmas.List.{drop-take, append-nil, length-replicate}
+use Rattle.std.proofs.lemmas.List.{drop-take, append-nil, length-replicate, take-take, drop-drop}
 use Rattle.zone_spec.specs.declared.Zone.{Zone}
 use Rattle.zone_spec.specs.Parts.{Header, part_word, part_bytes, part_parity_at}
 use Rattle.zone_spec.specs.Stores.{put}
@@ -16,18 +16,6 @@ drop_none : (n : ℕ) → drop {A = ℕ} n [] ≡ []
 drop_none zero = refl
 drop_none (suc n) = refl
 
-drop_drop : (a i : ℕ) (xs : List ℕ) → drop i (drop a xs) ≡ drop (a + i) xs
-drop_drop zero i xs = ap (λ (k : ℕ). drop k xs) (sym (zero-add i))
-drop_drop (suc a) i [] = drop_none i ∙ sym (drop_none (suc a + i))
-drop_drop (suc a) i (x ∷ xs) =
-    let e : suc (a + i) ≡ suc a + i = omega arith in drop_drop a i xs ∙ ap (λ (k : ℕ). drop k (x ∷ xs)) e
-
-take_take : (m n : ℕ) (xs : List ℕ) → m ≤ n → take m (take n xs) ≡ take m xs
-take_take zero n xs l = refl
-take_take (suc m) zero xs l = absurd (omega arith)
-take_take (suc m) (suc n) [] l = refl
-take_take (suc m) (suc n) (x ∷ xs) l = ap (λ (ys : List ℕ). x ∷ ys) (take_take m n xs (omega arith))
-
 slice_within : (xs : List ℕ) (a n i j : ℕ) → i ≤ j → j ≤ n
     → slice_range (slice_range xs a (a + n)) i j ≡ slice_range xs (a + i) (a + j)
 slice_within xs a n i j li lj =
@@ -35,8 +23,8 @@ slice_within xs a n i j li lj =
     let long : j - i ≡ (a + j) - (a + i) = omega arith in
     ap (λ (k : ℕ). take (j - i) (drop i (take k (drop a xs)))) whole
     ∙ ap (take (j - i)) (drop-take i (n - i) (drop a xs))
-    ∙ take_take (j - i) (n - i) (drop i (drop a xs)) (omega arith)
-    ∙ ap (take (j - i)) (drop_drop a i xs)
+    ∙ take-take (j - i) (n - i) (drop i (drop a xs)) (omega arith)
+    ∙ ap (take (j - i)) (drop-drop i a xs)
     ∙ ap (λ (k : ℕ). take k (drop (a + i) xs)) long
 
 -- where a header's bytes and their parity stand in the dump

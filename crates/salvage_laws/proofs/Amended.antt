@@ -1,6 +1,7 @@
 -- Words with known bytes put in: what differs splits at the known bytes
-use Rattle.std.proofs.Common.{◌≡◌, ℕ, suc, ◌+◌, ◌<◌, ◌≤◌, ◌==◌, if◌then◌else◌, List, [], ◌∷◌, length, drop, get_or, refl, sym, ap, ◌∙◌, arith, Option, Some, None, eq-eqb, eqb-true, true, false, Bool}
+use Rattle.std.proofs.Common.{◌≡◌, ℕ, suc, ◌+◌, ◌<◌, ◌==◌, if◌then◌else◌, List, [], ◌∷◌, length, drop, get_or, refl, sym, ap, ◌∙◌, arith, Option, Some, None, eq-eqb}
 use Rattle.std.specs.List.{AllByRecursion}
+use Rattle.code_laws.proofs.Nearest.{distance_self}
 use Rattle.code_spec.specs.Code.{IsWord, distance}
 use Rattle.salvage_laws.specs.Known.{put_in}
 
@@ -10,24 +11,6 @@ differs a b = if a == b then 0 else 1
 differs_self : (a : ℕ) → differs a a ≡ 0
 unfolding differs
 differs_self a = rw (eq-eqb a a refl) refl
-
-pub distance_self : (w : List ℕ) → distance w w ≡ 0
-unfolding distance
-distance_self [] = refl
-distance_self (x ∷ xs) = rw (eq-eqb x x refl) (omega (arith, distance_self xs))
-
-pub same_at_zero : (v w : List ℕ) → length v ≡ length w → distance v w ≤ 0 → v ≡ w
-unfolding distance
-same_at_zero [] [] l h = refl
-same_at_zero [] (w ∷ ws) l h = absurd (omega arith)
-same_at_zero (v ∷ vs) [] l h = absurd (omega arith)
-same_at_zero (v ∷ vs) (w ∷ ws) l h = by (λ k. same_at_zero vs ws (omega arith) k) (v == w) refl h
-  where
-    by : (distance vs ws ≤ 0 → vs ≡ ws) → (b : Bool) → (v == w) ≡ b → (if b then 0 else 1) + distance vs ws ≤ 0
-        → ◌≡◌ {A = List ℕ} (v ∷ vs) (w ∷ ws)
-    by rest true e k = let head : v ≡ w = eqb-true v w e in
-        ap (λ x. x ∷ vs) head ∙ ap (λ xs. w ∷ xs) (rest (omega (arith, k)))
-    by rest false e k = absurd (omega (arith, k))
 
 -- the known bytes are bytes
 abbrev pub AreKnown : List (Option ℕ) → Type 0

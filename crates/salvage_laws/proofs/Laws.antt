@@ -1,17 +1,18 @@
 -- What tells whether a header's word is a ring
-use Rattle.std.proofs.Common.{◌≡◌, ℕ, zero, suc, ◌+◌, ◌-◌, ◌/◌, ◌≤◌, ◌&&◌, ◌==◌, if◌then◌else◌, nat_le, nat_lt, true, false, Bool, List, [], ◌∷◌, ◌++◌, length, take, drop, refl, sym, ap, ◌∙◌, subst, arith, Option, Some, None, IsTrue, eqb-true, eq-eqb, leb-true, le-leb}
+use Rattle.std.proofs.Common.{◌≡◌, ℕ, zero, suc, ◌+◌, ◌-◌, ◌/◌, ◌≤◌, ◌&&◌, ◌==◌, if◌then◌else◌, nat_le, nat_lt, true, false, Bool, List, [], ◌∷◌, length, take, drop, refl, sym, ap, ◌∙◌, subst, arith, Option, Some, None, IsTrue, eqb-true, eq-eqb, leb-true, le-leb}
+use Rattle.std.proofs.lemmas.List.{take-append-drop}
 use Rattle.zone_spec.specs.declared.Zone.{Zone}
 use Rattle.zone_spec.specs.declared.Words.{Words}
 use Rattle.zone_spec.specs.Zones.{IsValidZone}
 use Rattle.zone_spec.specs.Parts.{words_in}
 use Rattle.code_spec.specs.Code.{IsWord, IsCodeword, IsNear, nearest, distance, parity_of}
-use Rattle.code_laws.proofs.Nearest.{nearest-IsNear}
+use Rattle.code_laws.proofs.Nearest.{nearest-IsNear, distance_zero, distance_self}
 use Rattle.code_laws.proofs.Laws.{nearest_law, parity_law}
 use Rattle.salvage_spec.specs.Rings.{IsRingOf, IsRingBy, is_ring_of, found_by, ring_in, ring_of}
 use Rattle.salvage_spec.specs.declared.FoundRing.{FoundRing}
 use Rattle.salvage_laws.specs.Known.{known, amended, amends, IsRingByKnown}
 use Rattle.salvage_laws.specs.Laws.{RingByKnown, CorrectedByKnown, ManyAmends, AllAmends, IsRingAsAmended, RingInIs}
-use Rattle.salvage_laws.proofs.Amended.{distance-put_in, word-put_in, same_at_zero, distance_self}
+use Rattle.salvage_laws.proofs.Amended.{distance-put_in, word-put_in}
 use Rattle.salvage_laws.proofs.Bytes.{has_known, are_known}
 
 -- a codeword near a word of so many bytes, within half the parity
@@ -76,11 +77,6 @@ pub many_is : ManyAmends
 many_is z word c v w many is = let few = (to_known z word c v w is).few in omega (arith, few, many)
 
 -- a codeword of at least twelve bytes is twelve bytes and their parity
-take_drop : (n : ℕ) (xs : List ℕ) → take n xs ++ drop n xs ≡ xs
-take_drop zero xs = refl
-take_drop (suc n) [] = refl
-take_drop (suc n) (x ∷ xs) = ap (λ ys. x ∷ ys) (take_drop n xs)
-
 take_word : (n m : ℕ) (xs : List ℕ) → IsWord (n + m) xs → IsWord n (take n xs) × IsWord m (drop n xs)
 take_word zero m xs h = ((refl, tt), (omega (arith, h.0), h.1))
 take_word (suc n) m [] h = absurd (omega (arith, h.0))
@@ -92,13 +88,13 @@ parity_to : (r : ℕ) (c : List ℕ) → 12 + r ≤ 255 → IsWord (12 + r) c �
 parity_to r c l w code =
     let t = take_word 12 r c w in
     (parity_law r (take 12 c) (drop 12 c) (omega (arith, t.0.0)) (subst (λ n. IsWord n (take 12 c)) (sym t.0.0) t.0)).1
-    (t.1, subst (IsCodeword r) (sym (take_drop 12 c)) code)
+    (t.1, subst (IsCodeword r) (sym (take-append-drop 12 c)) code)
 
 parity_from : (r : ℕ) (c : List ℕ) → 12 + r ≤ 255 → IsWord (12 + r) c → parity_of r (take 12 c) ≡ drop 12 c →
     IsCodeword r c
 parity_from r c l w e =
     let t = take_word 12 r c w in
-    subst (IsCodeword r) (take_drop 12 c)
+    subst (IsCodeword r) (take-append-drop 12 c)
     ((parity_law r (take 12 c) (drop 12 c) (omega (arith, t.0.0)) (subst (λ n. IsWord n (take 12 c)) (sym t.0.0) t.0)).0
     e).1
 
@@ -110,7 +106,7 @@ to_amended z word c v w all is =
     let aw = amended_word z word w in
     let near = near_of z.parity (12 + z.parity) word c w is.nearest in
     record {
-      same = sym (same_at_zero (amended z word) c (aw.0 ∙ sym near.0.0) (omega (arith, close, all)));
+      same = sym (distance_zero (amended z word) c (aw.0 ∙ sym near.0.0) (omega (arith, close, all)));
       parity = parity_to z.parity c (fits z v) near.0 near.1;
       words = is.words;
     }

@@ -1,10 +1,9 @@
 -- Each field that is printed is read back
 use Rattle.std.proofs.Common.{◌≡◌, ℕ, zero, suc, ◌+◌, ◌*◌, ◌<◌, ◌≤◌, ◌^◌, ◌==◌, Bool, true, false, List, [], ◌∷◌, length, Some, None, refl, sym, ap, ◌∙◌, arith, inl, inr}
 use Rattle.std.specs.Prelude.{decimal, codes, bytes_eq, if◌then◌else◌, ◌≢◌}
-use Rattle.std.proofs.lemmas.Bool.{cases_lt}
+use Rattle.std.proofs.lemmas.Bool.{cases_lt, cases_Bool}
 use Rattle.std.proofs.lemmas.List.{get_or_past}
 use Rattle.std.proofs.lemmas.List.Elements.{All-from_get_or}
-use Rattle.std.proofs.Common.{◌⊎◌}
 use Rattle.std.proofs.lemmas.Slice.Eq.{bytes_eq-Decides}
 use Rattle.hex.specs.Hex.{encode_lower, decode_of, IsBytes, lower_digits}
 use Rattle.hex.proofs.HexLemmas.{decode_of-encode_lower, length-encode_with}
@@ -15,10 +14,6 @@ use Rattle.grammar_spec.specs.Fields.{Text, ◌>>=◌, number_below, mask, zone_
 use Rattle.grammar_spec.specs.Printed.{IsZoneOf, zone_text_of, payload_text, flag_text, reason_text, IsPayload}
 use Rattle.script.proofs.Numbers.{number_below-decimal}
 use Rattle.script.proofs.Solid.{IsSolid, solid_literal, solid_append, solid_decimal, solid_hex}
-
-bool_cases : (b : Bool) → (b ≡ true) ⊎ (b ≡ false)
-bool_cases true = inl refl
-bool_cases false = inr refl
 
 pub number_back : (limit n : ℕ) → n < limit → limit ≤ 2 ^ 63 → number_below limit (decimal n) ≡ Some n
 number_back limit n below top = number_below-decimal limit n (decimal n) below (omega (arith, below, top)) refl
@@ -66,7 +61,7 @@ one_byte text e = ap length e
 
 not_dash : (text : Text) (n : ℕ) → length text ≡ 2 * n → bytes_eq text (codes "-") ≡ false
 not_dash text n len =
-    elim (bool_cases (bytes_eq text (codes "-"))) [
+    elim (cases_Bool (bytes_eq text (codes "-"))) [
       | inl yes' ↦ let one = one_byte text ((bytes_eq-Decides text (codes "-")).0 yes') in
           absurd (omega (arith, len, one))
       | inr no' ↦ no'

@@ -1,15 +1,11 @@
 -- A list that is cut at each byte that is a mark
-use Rattle.std.proofs.Common.{◌≡◌, ℕ, ◌+◌, ◌<◌, ◌==◌, Bool, true, false, List, [], ◌∷◌, length, take, drop, get_or, refl, sym, ap, ◌∙◌, arith, inl, inr}
+use Rattle.std.proofs.Common.{◌≡◌, ℕ, ◌+◌, ◌<◌, ◌==◌, Bool, false, List, [], ◌∷◌, length, take, drop, get_or, sym, ap, ◌∙◌, arith, inl, inr}
 use Rattle.std.specs.List.{slice_split, position_or_len}
 use Rattle.std.proofs.lemmas.List.Splits.{slice_split_first, slice_split_none, length-slice_split}
 use Rattle.std.proofs.lemmas.List.Elements.{All-from_get_or}
 use Rattle.std.proofs.lemmas.List.Sums.{fails_before_first, passes_at_first}
-use Rattle.std.proofs.lemmas.Bool.{cases_order}
+use Rattle.std.proofs.lemmas.Bool.{cases_order, false_from_ne_true}
 use Rattle.memchr.specs.Find.{Nowhere, NoneBefore, Passes, is_byte}
-
-not_true : (b : Bool) → (b ≡ true → ⊥) → b ≡ false
-not_true true h = absurd (h refl)
-not_true false h = refl
 
 -- the first place of a mark is where the first part ends
 first_place : (c : ℕ) (xs : List ℕ) (k : ℕ) → NoneBefore (Passes (is_byte c) xs) 0 (length xs) k
@@ -40,7 +36,7 @@ pub cut_nowhere : (c : ℕ) (xs : List ℕ) → Nowhere (Passes (is_byte c) xs) 
     → slice_split (λ b. b == c) xs ≡ xs ∷ []
 cut_nowhere c xs h =
     slice_split_none (λ b. b == c) xs (All-from_get_or (λ x. (x == c) ≡ false) xs 0
-    (λ k below. not_true (get_or xs k 0 == c) (h k (omega arith) below)))
+    (λ k below. false_from_ne_true (get_or xs k 0 == c) (h k (omega arith) below)))
 
 -- there is always a part
 pub some_part : (p : ℕ → Bool) (xs : List ℕ) → 0 < length (slice_split p xs)

@@ -1,6 +1,6 @@
 -- Numbers below a limit, as their decimal texts
 use Rattle.std.proofs.Common.{◌≡◌, ℕ, ◌<◌, ◌≤◌, ◌^◌, Bool, true, false, ◌&&◌, List, Option, Some, None, Result, Ok, Err, cond, nat_lt, refl, sym, ap, subst, ◌∙◌, arith, ◌⊎◌, inl, inr}
-use Rattle.std.specs.Prelude.{decimal, bytes_eq, IsUtf8, unwrap_or}
+use Rattle.std.specs.Prelude.{decimal, bytes_eq, IsUtf8}
 use Rattle.std.specs.Str.Parse.{digits_value, ParsesUnsigned}
 use Rattle.std.specs.Result.{result_unwrap_or, result_ok}
 use Rattle.std.proofs.lemmas.Fmt.{decimal_is_IsNumeral, parse-decimal, IsAscii-decimal}
@@ -8,6 +8,7 @@ use Rattle.std.proofs.lemmas.Str.{IsUtf8-from_ascii}
 use Rattle.std.proofs.lemmas.Slice.Eq.{bytes_eq-Decides}
 use Rattle.std.proofs.lemmas.Bool.{and_parts, and_from}
 use Rattle.std.proofs.lemmas.Bool.Decides.{Decides-ltb}
+use Rattle.std.proofs.lemmas.Option.{cond_some}
 use Rattle.grammar_spec.specs.Fields.{number_below}
 use Rattle.script.specs.Reading.{IsParsed}
 
@@ -17,11 +18,7 @@ parsed_ok {E} text (Ok v) h = λ n top e. ap (λ (q : Result ℕ E). result_unwr
     (parse-decimal 64 n text (Ok v) top top e h)
 parsed_ok text (Err f) h = λ n top e. cc (parse-decimal 64 n text (Err f) top top e h)
 
--- a chosen option
-pub some_of : {X : Type 0} (b : Bool) (x y : X) → cond b (Some x) None ≡ Some y → (b ≡ true) × (x ≡ y)
-some_of true x y h = (refl, ap (λ o. unwrap_or o x) h)
-some_of false x y h = cc h
-
+-- no option is chosen
 pub none_of : {X : Type 0} (b : Bool) (x : X) → (b ≡ true → ⊥) → cond b (Some x) None ≡ None
 none_of true x h = absurd (h refl)
 none_of false x h = refl
@@ -32,7 +29,7 @@ pub number_below-some : (limit : ℕ) (text : List ℕ) (n : ℕ) → number_bel
 unfolding number_below
 number_below-some limit text n h =
     let v = digits_value 10 text in
-    let e = some_of (nat_lt v limit && bytes_eq text (decimal v)) v n h in
+    let e = cond_some (nat_lt v limit && bytes_eq text (decimal v)) v n h in
     let t = and_parts (nat_lt v limit) (bytes_eq text (decimal v)) e.0 in
     rw (← e.1) ((Decides-ltb v limit).0 t.0, (bytes_eq-Decides text (decimal v)).0 t.1)
 

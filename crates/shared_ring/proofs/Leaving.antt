@@ -5,6 +5,7 @@ use Rattle.std.proofs.lemmas.List.{map-append, take-map, drop-map}
 use Rattle.std.proofs.lemmas.Option.{slice_get_within}
 use Rattle.std.specs.Prelude.{slice_get, slice_index, flat_map, position, is_some}
 use Rattle.std.specs.Int.{to_le_bytes}
+use Rattle.prz_region.proofs.Cuts.{span-with_span}
 use Rattle.zone_spec.specs.declared.Zone.{Zone}
 use Rattle.zone_spec.specs.Parts.{standing_words}
 use Rattle.zone_spec.specs.Stores.{put}
@@ -25,7 +26,7 @@ use Rattle.shared_ring.specs.Seats.{is_of, call_of, shown_seat, one_more, seats_
 use Rattle.shared_ring.specs.Seen.{SharedSeen, bytes_of, words_of, StandsFor, IsLeftBy, seated, stepped, words_stored, IsStepped}
 use Rattle.shared_ring.proofs.SeatLists.{more_cases, each_stepped, set_pieces}
 use Rattle.shared_ring.proofs.Tickets.{AreRising, after_own}
-use Rattle.shared_ring.proofs.Regions.{span_stored, before_stored, after_stored}
+use Rattle.shared_ring.proofs.Regions.{before_stored, after_stored}
 use Rattle.shared_ring.proofs.Standing.{shown_at, rising, seat_place, no_call, the_seat}
 
 -- ---- a reservation
@@ -51,7 +52,7 @@ reserved_stands z image os can whole v payload s some =
     record {
       zone = s.zone;
       there = omega (arith, s.there, length-set v.region.spans v.place n);
-      bytes = span_stored v.region v.place n s.there
+      bytes = span-with_span v.region v.place n s.there
           ∙ ap (λ (y : Zone). words_stored v (((words_of v).start + length payload) % y.cap)
           (min y.cap ((words_of v).size + length payload))) s.zone
           ∙ ap (λ (bytes : List ℕ). put bytes 4
@@ -140,7 +141,7 @@ stepped_stands z whole shared v i x s e =
     record {
       zone = s.zone;
       there = omega (arith, s.there, length-set v.region.spans v.place n);
-      bytes = span_stored v.region v.place n s.there
+      bytes = span-with_span v.region v.place n s.there
           ∙ ap (λ (y : Zone). put (bytes_of v) (12 + (x.place + x.stored) % y.cap)
           (slice_index x.payload x.stored ∷ []))
           s.zone

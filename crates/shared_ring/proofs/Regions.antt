@@ -1,15 +1,10 @@
 -- A zone's span among the spans of a cut image
-use Rattle.std.proofs.Common.{◌≡◌, ℕ, zero, suc, ◌+◌, ◌<◌, List, [], ◌∷◌, ◌++◌, length, take, drop, set, get_or, refl, sym, ap, ◌∙◌, arith, append_assoc}
+use Rattle.std.proofs.Common.{◌≡◌, ℕ, zero, suc, ◌+◌, ◌<◌, List, [], ◌∷◌, ◌++◌, length, take, drop, get_or, refl, sym, ap, ◌∙◌, arith, append_assoc}
 use Rattle.std.specs.List.{concat}
-use Rattle.std.proofs.lemmas.List.{take-set, drop-set-lt, get_or-set_same}
-use Rattle.zone_spec.specs.Stores.{put}
+use Rattle.std.proofs.lemmas.List.{take-set, drop-set-lt}
 use Rattle.prz_region.specs.CutRegion.{CutRegion, span, with_span}
 
 -- ---- one span stored into
-
-pub span_stored : (cut : CutRegion) (i : ℕ) (bytes : List ℕ) → i < length cut.spans
-    → span (with_span cut i bytes) i ≡ bytes
-span_stored cut i bytes h = get_or-set_same cut.spans i bytes [] h
 
 pub before_stored : (cut : CutRegion) (i : ℕ) (bytes : List ℕ)
     → concat (take i (with_span cut i bytes).spans) ≡ concat (take i cut.spans)
@@ -41,8 +36,3 @@ joined cut i h =
     ap (λ ys. ys ++ cut.rest) (pieces cut.spans i h)
     ∙ append_assoc (concat (take i cut.spans) ++ span cut i) (concat (drop (suc i) cut.spans)) cut.rest
     ∙ ap (λ m. concat (take i cut.spans) ++ span cut i ++ (concat (drop m cut.spans) ++ cut.rest)) (sym n)
-
--- one byte put is one place set
-pub put_one : (bytes : List ℕ) (at b : ℕ) → put bytes at (b ∷ []) ≡ set bytes at b
-unfolding put
-put_one bytes at b = refl

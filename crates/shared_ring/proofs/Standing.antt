@@ -3,7 +3,7 @@ use Rattle.std.proofs.Common.{◌≡◌, ◌≢◌, ℕ, zero, suc, ◌+◌, ◌
 use Rattle.std.proofs.lemmas.Bool.{ne_eqb, lt-ltb, ltb-false, ltb-true, eqb-true}
 use Rattle.std.proofs.lemmas.List.{length-map}
 use Rattle.std.proofs.lemmas.List.Quantifiers.{position-Some}
-use Rattle.std.proofs.lemmas.Option.{slice_get-map, slice_get_within, get_or_from_slice_get, slice_get-get_or}
+use Rattle.std.proofs.lemmas.Option.{slice_get-map, slice_get_within, get_or_from_slice_get, slice_get-get_or, cond_some}
 use Rattle.std.specs.Prelude.{slice_get, position, Contains}
 use Rattle.std.specs.List.{position_or_len}
 use Rattle.std.specs.Option.{option_map}
@@ -64,10 +64,6 @@ none_past [] i e = omega arith
 none_past (x ∷ xs) zero e = let n : ◌≡◌ {A = ℕ} 0 1 = cc in absurd (omega (arith, n))
 none_past (x ∷ xs) (suc i) e = omega (arith, none_past xs i e)
 
-is_within : (b : Bool) (n i : ℕ) → cond b (Some n) None ≡ Some i → (b ≡ true) × (n ≡ i)
-is_within true n i e = (refl, cc)
-is_within false n i e = cc
-
 pub the_seat : (t : ℕ) (seats : List Seat) (i : ℕ) → position (is_of t) seats ≡ Some i
     → (s : Seat) × (slice_get seats i ≡ Some s) × (s.ticket ≡ t)
 the_seat t seats i e = by (slice_get seats i) refl
@@ -76,7 +72,7 @@ the_seat t seats i e = by (slice_get seats i) refl
     by None f =
         let h : (nat_lt (position_or_len (is_of t) seats) (length seats)
         ≡ true) × (position_or_len (is_of t) seats ≡ i) =
-        is_within (nat_lt (position_or_len (is_of t) seats) (length seats)) (position_or_len (is_of t) seats) i e in
+        cond_some (nat_lt (position_or_len (is_of t) seats) (length seats)) (position_or_len (is_of t) seats) i e in
         let l : position_or_len (is_of t) seats < length seats =
         ltb-true (position_or_len (is_of t) seats) (length seats) h.0 in
         absurd (omega (arith, l, h.1, none_past seats i f))

@@ -3,6 +3,7 @@ use Rattle.std.proofs.Common.{◌≡◌, ℕ, ◌+◌, ◌%◌, ◌^◌, ◌<◌
 use Rattle.std.proofs.lemmas.List.{length-take, length-drop}
 use Rattle.std.specs.Prelude.{slice_get, slice_index}
 use Rattle.std.specs.Int.{to_le_bytes}
+use Rattle.prz_region.proofs.Cuts.{span-with_span}
 use Rattle.zone_spec.specs.declared.Words.{Words}
 use Rattle.zone_spec.specs.Parts.{standing_words}
 use Rattle.zone_spec.specs.Stores.{put}
@@ -13,7 +14,6 @@ use Rattle.shared_ring.specs.declared.seats.Seat.{Seat}
 use Rattle.shared_ring.specs.Seats.{one_more}
 use Rattle.shared_ring.specs.Seen.{SharedSeen, bytes_of, words_of, IsWhole, seated, stepped, words_stored}
 use Rattle.shared_ring.proofs.SeatLists.{are_stepped, are_more}
-use Rattle.shared_ring.proofs.Regions.{span_stored}
 
 pub seated_whole : (v : SharedSeen) (payload : List ℕ) → IsWhole v → length v.seats < 64 → 0 < length payload
     → length payload ≤ v.zone.cap → IsWhole (seated v payload)
@@ -22,7 +22,7 @@ seated_whole v payload w seat some room =
     let size : ℕ = min v.zone.cap ((words_of v).size + length payload) in
     let n : List ℕ = words_stored v start size in
     let below : start < v.zone.cap = mod-lt _ (omega (arith, w.start)) in
-    let at : span (with_span v.region v.place n) v.place ≡ n = span_stored v.region v.place n w.there in
+    let at : span (with_span v.region v.place n) v.place ≡ n = span-with_span v.region v.place n w.there in
     let wide : 12 ≤ length (bytes_of v) = omega (arith, w.room, w.sized) in
     let cap : v.zone.cap < 2 ^ 32 = omega (arith, w.room, w.short) in
     let new : Seat = record { ticket = v.reserved; place = (words_of v).start; stored = 0; payload = payload } in
@@ -57,7 +57,7 @@ pub stepped_whole : (v : SharedSeen) (i : ℕ) (s : Seat) → IsWhole v → slic
 stepped_whole v i s w e =
     let p : ℕ = (s.place + s.stored) % v.zone.cap in
     let n : List ℕ = put (bytes_of v) (12 + p) (slice_index s.payload s.stored ∷ []) in
-    let at : span (with_span v.region v.place n) v.place ≡ n = span_stored v.region v.place n w.there in
+    let at : span (with_span v.region v.place n) v.place ≡ n = span-with_span v.region v.place n w.there in
     let same : standing_words (span (with_span v.region v.place n) v.place) ≡ words_of v =
     ap standing_words at ∙ byte_words (bytes_of v) p (slice_index s.payload s.stored) in
     record {

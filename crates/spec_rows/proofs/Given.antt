@@ -1,8 +1,9 @@
 -- Parity and nearest codewords that are given, not computed
 use Rattle.std.specs.Prelude.{IsTrue}
 use Rattle.std.proofs.Common.{◌≡◌, ◌+◌, ◌/◌, ◌<◌, ◌≤◌, ℕ, List, [], ◌∷◌, ◌++◌, ◌&&◌, ◌==◌, nat_le, nat_lt, not, Bool, true, false, length, refl, sym, ◌∙◌, subst, arith, Option, Some, None}
-use Rattle.std.proofs.lemmas.Bool.{ltb-true, leb-true, eqb-true}
+use Rattle.std.proofs.lemmas.Bool.{ltb-true, leb-true, eqb-true, and_parts}
 use Rattle.std.specs.List.{list_all, AllByRecursion}
+use Rattle.list_laws.proofs.Elements.{AllByRecursion-append}
 use Rattle.code_spec.specs.Code.{parity_of, nearest, distance, IsWord, IsCodeword}
 use Rattle.code_laws.proofs.Laws.{parity_law, nearest_law, apart}
 use Rattle.code_laws.proofs.Parity.{roots_of, codeword_of}
@@ -11,23 +12,14 @@ use Rattle.spec_rows.proofs.Values.{vanishes, vanishes-is}
 abbrev pub are_bytes : List ℕ → Bool
 are_bytes xs = list_all (λ b. nat_lt b 256) xs
 
-both : (a b : Bool) → IsTrue (a && b) → IsTrue a × IsTrue b
-both true b h = (refl, h)
-both false b h = cc
-
 bytes_are : (xs : List ℕ) → IsTrue (are_bytes xs) → AllByRecursion (λ b. b < 256) xs
 bytes_are [] h = tt
 bytes_are (x ∷ xs) h =
-    let t : IsTrue (nat_lt x 256) × IsTrue (are_bytes xs) = both (nat_lt x 256) (are_bytes xs) h in
+    let t : IsTrue (nat_lt x 256) × IsTrue (are_bytes xs) = and_parts (nat_lt x 256) (are_bytes xs) h in
     (ltb-true x 256 t.0, bytes_are xs t.1)
 
 codeword_by : (r : ℕ) (w : List ℕ) → AllByRecursion (λ b. b < 256) w → IsTrue (vanishes r w) → IsCodeword r w
 codeword_by r w bytes h = vanishes-is r w bytes ∙ h
-
-append_bytes : (xs ys : List ℕ) → AllByRecursion (λ b. b < 256) xs → AllByRecursion (λ b. b < 256) ys
-    → AllByRecursion (λ b. b < 256) (xs ++ ys)
-append_bytes [] ys h k = k
-append_bytes (x ∷ xs) ys h k = (h.0, append_bytes xs ys h.1 k)
 
 -- p is r bytes, and makes a codeword of m
 abbrev pub is_parity : ℕ → List ℕ → List ℕ → Bool
@@ -38,14 +30,14 @@ pub given_parity : (r : ℕ) (m p : List ℕ) → IsTrue (is_parity r m p) → p
 given_parity r m p h =
     let short : IsTrue (nat_le (length m + r) 255) × IsTrue
     (are_bytes m && ((length p == r) && (are_bytes p && vanishes r (m ++ p)))) =
-    both (nat_le (length m + r) 255) _ h in
+    and_parts (nat_le (length m + r) 255) _ h in
     let message : IsTrue (are_bytes m) × IsTrue ((length p == r) && (are_bytes p && vanishes r (m ++ p))) =
-    both (are_bytes m) _ short.1 in
+    and_parts (are_bytes m) _ short.1 in
     let total : IsTrue (length p == r) × IsTrue (are_bytes p && vanishes r (m ++ p)) =
-    both (length p == r) _ message.1 in
-    let codeword : IsTrue (are_bytes p) × IsTrue (vanishes r (m ++ p)) = both (are_bytes p) _ total.1 in
+    and_parts (length p == r) _ message.1 in
+    let codeword : IsTrue (are_bytes p) × IsTrue (vanishes r (m ++ p)) = and_parts (are_bytes p) _ total.1 in
     let bytes : AllByRecursion (λ b. b < 256) (m ++ p) =
-    append_bytes m p (bytes_are m message.0) (bytes_are p codeword.0) in
+    AllByRecursion-append (λ b. b < 256) m p (bytes_are m message.0) (bytes_are p codeword.0) in
     (parity_law r m p (leb-true (length m + r) 255 short.0) (refl, bytes_are m message.0)).1
     ((eqb-true (length p) r total.0, bytes_are p codeword.0), codeword_by r (m ++ p) bytes codeword.1)
 
@@ -57,15 +49,15 @@ is_nearest r w c = nat_le (length w) 255 && (are_bytes w &&
 pub given_nearest : (r : ℕ) (w c : List ℕ) → IsTrue (is_nearest r w c) → nearest r w ≡ Some c
 given_nearest r w c h =
     let short : IsTrue (nat_le (length w) 255) × IsTrue (are_bytes w &&
-    ((length c == length w) && (are_bytes c && (vanishes r c && nat_le (distance w c) (r / 2))))) = both
+    ((length c == length w) && (are_bytes c && (vanishes r c && nat_le (distance w c) (r / 2))))) = and_parts
     (nat_le (length w) 255) _ h in
     let word : IsTrue (are_bytes w) × IsTrue ((length c == length w) &&
-    (are_bytes c && (vanishes r c && nat_le (distance w c) (r / 2)))) = both (are_bytes w) _ short.1 in
+    (are_bytes c && (vanishes r c && nat_le (distance w c) (r / 2)))) = and_parts (are_bytes w) _ short.1 in
     let total : IsTrue (length c == length w) × IsTrue (are_bytes c &&
-    (vanishes r c && nat_le (distance w c) (r / 2))) = both (length c == length w) _ word.1 in
+    (vanishes r c && nat_le (distance w c) (r / 2))) = and_parts (length c == length w) _ word.1 in
     let bytes : IsTrue (are_bytes c) × IsTrue (vanishes r c && nat_le (distance w c) (r / 2)) =
-    both (are_bytes c) _ total.1 in
-    let near : IsTrue (vanishes r c) × IsTrue (nat_le (distance w c) (r / 2)) = both (vanishes r c) _ bytes.1 in
+    and_parts (are_bytes c) _ total.1 in
+    let near : IsTrue (vanishes r c) × IsTrue (nat_le (distance w c) (r / 2)) = and_parts (vanishes r c) _ bytes.1 in
     (nearest_law r w c (leb-true (length w) 255 short.0) (refl, bytes_are w word.0)).1 (
       (eqb-true (length c) (length w) total.0, bytes_are c bytes.0),
       codeword_by r c (bytes_are c bytes.0) near.0,
@@ -83,7 +75,7 @@ is_far r w = nat_le (length w) 255 && (are_bytes w && (vanishes (r / 2) w && not
 half_below : (r : ℕ) → r / 2 ≤ r
 half_below r = omega arith
 
-clash : (b : Bool) → IsTrue b → IsTrue (not b) → ⊥
+pub clash : (b : Bool) → IsTrue b → IsTrue (not b) → ⊥
 clash true h k = cc
 clash false h k = cc
 
@@ -92,13 +84,13 @@ pub given_none : (r : ℕ) (w : List ℕ) → IsTrue (is_far r w) → nearest r 
 given_none r w h = by (nearest r w) refl
   where
     short : IsTrue (nat_le (length w) 255) × IsTrue (are_bytes w && (vanishes (r / 2) w && not (vanishes r w)))
-    short = both (nat_le (length w) 255) _ h
+    short = and_parts (nat_le (length w) 255) _ h
 
     word : IsTrue (are_bytes w) × IsTrue (vanishes (r / 2) w && not (vanishes r w))
-    word = both (are_bytes w) _ short.1
+    word = and_parts (are_bytes w) _ short.1
 
     half : IsTrue (vanishes (r / 2) w) × IsTrue (not (vanishes r w))
-    half = both (vanishes (r / 2) w) _ word.1
+    half = and_parts (vanishes (r / 2) w) _ word.1
 
     bytes : IsWord (length w) w
     bytes = (refl, bytes_are w word.0)

@@ -1,7 +1,8 @@
 -- A word of three bytes whose only correction would lie in front of it
 use Rattle.std.specs.Prelude.{IsTrue}
 use Rattle.std.proofs.Common.{◌≡◌, ◌+◌, ◌<◌, ◌≤◌, ◌==◌, ◌⊎◌, ℕ, zero, suc, List, [], ◌∷◌, ◌&&◌, not, if◌then◌else◌, Bool, true, false, refl, sym, ◌∙◌, subst, arith, inl, inr, eq-or-lt_of_le, Option, Some, None}
-use Rattle.std.proofs.lemmas.Bool.{eqb-true}
+use Rattle.std.proofs.lemmas.Bool.{eqb-true, and_parts}
+use Rattle.spec_rows.proofs.Given.{clash}
 use Rattle.code_spec.specs.Field.{gf_add, gf_mul, gf_pow}
 use Rattle.code_spec.specs.Code.{nearest, distance, IsWord, IsCodeword}
 use Rattle.code_laws.proofs.Laws.{nearest_law}
@@ -12,14 +13,10 @@ abbrev checks : (ℕ → Bool) → ℕ → Bool
 checks p zero = true
 checks p (suc n) = p n && checks p n
 
-both : (a b : Bool) → IsTrue (a && b) → IsTrue a × IsTrue b
-both true b h = (refl, h)
-both false b h = cc
-
 all_checked : (p : ℕ → Bool) (n k : ℕ) → k < n → IsTrue (checks p n) → IsTrue (p k)
 all_checked p zero k l h = absurd (omega arith)
 all_checked p (suc n) k l h =
-    let b : IsTrue (p n) × IsTrue (checks p n) = both (p n) (checks p n) h in
+    let b : IsTrue (p n) × IsTrue (checks p n) = and_parts (p n) (checks p n) h in
     elim (eq-or-lt_of_le (let m : k ≤ n = omega arith in m)) [
       | inl e ↦ subst (λ j. IsTrue (p j)) (sym e) b.0
       | inr m ↦ all_checked p n k m b.1
@@ -28,10 +25,6 @@ all_checked p (suc n) k l h =
 -- whether a word of three bytes is no codeword
 no_codeword : ℕ → ℕ → ℕ → Bool
 no_codeword a b d = not (vanishes 2 (a ∷ b ∷ d ∷ []))
-
-clash : (b : Bool) → IsTrue b → IsTrue (not b) → ⊥
-clash true h k = cc
-clash false h k = cc
 
 first_open : (a : ℕ) → a < 256 → IsTrue (no_codeword a 7 6)
 unfolding no_codeword gf_add gf_mul gf_pow
@@ -60,13 +53,13 @@ none_near : (a b d : ℕ) → a < 256 → b < 256 → d < 256 → IsTrue (vanish
     → distance (0 ∷ 7 ∷ 6 ∷ []) (a ∷ b ∷ d ∷ []) ≤ 1 → ⊥
 unfolding distance no_codeword
 none_near a b d la lb ld k h = elim (two_stay (0 == a) (7 == b) (6 == d) h) [
-  | inl s ↦ let t = both (0 == a) (7 == b) s in
+  | inl s ↦ let t = and_parts (0 == a) (7 == b) s in
       clash (vanishes 2 (a ∷ b ∷ d ∷ [])) k (subst (λ x. IsTrue (no_codeword x b d)) (eqb-true 0 a t.0)
       (subst (λ y. IsTrue (no_codeword 0 y d)) (eqb-true 7 b t.1) (third_open d ld)))
-  | inr (inl s) ↦ let t = both (0 == a) (6 == d) s in
+  | inr (inl s) ↦ let t = and_parts (0 == a) (6 == d) s in
       clash (vanishes 2 (a ∷ b ∷ d ∷ [])) k (subst (λ x. IsTrue (no_codeword x b d)) (eqb-true 0 a t.0)
       (subst (λ y. IsTrue (no_codeword 0 b y)) (eqb-true 6 d t.1) (second_open b lb)))
-  | inr (inr s) ↦ let t = both (7 == b) (6 == d) s in
+  | inr (inr s) ↦ let t = and_parts (7 == b) (6 == d) s in
       clash (vanishes 2 (a ∷ b ∷ d ∷ [])) k (subst (λ x. IsTrue (no_codeword a x d)) (eqb-true 7 b t.0)
       (subst (λ y. IsTrue (no_codeword a 7 y)) (eqb-true 6 d t.1) (first_open a la)))
 ]

@@ -1,6 +1,7 @@
 -- A call's stores with parities that are given
 use Rattle.std.specs.Prelude.{IsTrue}
 use Rattle.std.proofs.Common.{◌≡◌, ℕ, List, [], ◌∷◌, ◌++◌, ◌&&◌, Bool, true, false, refl, ap, ◌∙◌}
+use Rattle.std.proofs.lemmas.Bool.{and_parts}
 use Rattle.zone_spec.specs.declared.Zone.{Zone}
 use Rattle.zone_spec.specs.Parts.{part_bytes, part_parity_at}
 use Rattle.zone_spec.specs.Stores.{Store, byte_stores, after_stores}
@@ -26,10 +27,6 @@ are_given z (ParityOf part ∷ gs) (p ∷ ps) image =
     (after_stores image (byte_stores (part_parity_at z part) p))
 are_given z (g ∷ gs) ps image = are_given z gs ps (after_stores image (stage_stores z g image))
 
-both : (a b : Bool) → IsTrue (a && b) → IsTrue a × IsTrue b
-both true b h = (refl, h)
-both false b h = cc
-
 pub given_stores : (z : Zone) (gs : List Stage) (ps : List (List ℕ)) (image : List ℕ)
     → IsTrue (are_given z gs ps image) → stores_in_turn z gs image ≡ with_given z gs ps image
 unfolding stores_in_turn stage_stores
@@ -38,7 +35,7 @@ given_stores z (ParityOf part ∷ gs) [] image h = cc
 given_stores z (ParityOf part ∷ gs) (p ∷ ps) image h =
     let t : IsTrue (is_parity z.parity (part_bytes z image part) p)
     × IsTrue (are_given z gs ps (after_stores image (byte_stores (part_parity_at z part) p))) =
-    both (is_parity z.parity (part_bytes z image part) p) _ h in
+    and_parts (is_parity z.parity (part_bytes z image part) p) _ h in
     ap (λ q. byte_stores (part_parity_at z part) q ++ stores_in_turn z gs
     (after_stores image (byte_stores (part_parity_at z part) q)))
     (given_parity z.parity (part_bytes z image part) p t.0)

@@ -1,5 +1,6 @@
 -- Words and runs are the same on any image, and parity on images that differ in parity alone
 use Rattle.std.proofs.Common.{◌≡◌, ℕ, ◌+◌, ◌-◌, ◌<◌, ◌≤◌, List, [], length, take, drop, refl, sym, ap, ◌∙◌, arith, inl, inr}
+use Rattle.list_laws.proofs.Slices.{take-drop-take}
 use Rattle.zone_spec.specs.declared.Zone.{Zone}
 use Rattle.zone_spec.specs.Zones.{IsValidZone}
 use Rattle.zone_spec.specs.Parts.{AreBytes, Part, Header, Block, part_bytes, part_at, part_len, part_parity_at}
@@ -15,7 +16,7 @@ use Rattle.store_steps.specs.Calls.{AreCallBytes}
 use Rattle.store_steps.specs.Flying.{Flying}
 use Rattle.store_steps.specs.Phases.{phase_len}
 use Rattle.store_steps.specs.Machine.{stores_of, next_stores, IsParity, IsSameData}
-use Rattle.store_steps.proofs.Storing.{part-take, part-byte_stores}
+use Rattle.store_steps.proofs.Storing.{part-byte_stores}
 use Rattle.store_steps.proofs.Stepping.{next_length}
 use Rattle.store_steps.proofs.Handing.{no_bytes, next_stores-all}
 
@@ -47,7 +48,8 @@ part_same z a b p some same =
     let n : ℕ = (k + part_len z p) - k in
     elim (part_end z p some) [
       | inl within ↦ (let h : k + n ≤ 12 + z.cap = omega (arith, within) in
-          sym (part-take n k (12 + z.cap) a h) ∙ ap (λ xs. take n (drop k xs)) same ∙ part-take n k (12 + z.cap) b h)
+          sym (take-drop-take n k (12 + z.cap) a h) ∙ ap (λ xs. take n (drop k xs)) same
+          ∙ take-drop-take n k (12 + z.cap) b h)
       | inr none ↦ (let e : n ≡ 0 = omega (arith, none) in
           ap (λ m. take m (drop k a)) e ∙ sym (ap (λ m. take m (drop k b)) e))
     ]

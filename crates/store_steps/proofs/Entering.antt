@@ -1,7 +1,8 @@
 -- The stores that are left stay the same where a phase is entered
-use Rattle.std.proofs.Common.{◌≡◌, ℕ, suc, ◌+◌, ◌-◌, ◌/◌, ◌%◌, ◌<◌, ◌≤◌, List, [], ◌∷◌, ◌++◌, length, map, refl, sym, ap, ◌∙◌, arith, length-take, length-drop, div-mul-le_self, add-mul}
+use Rattle.std.proofs.Common.{◌≡◌, ℕ, ◌+◌, ◌-◌, ◌/◌, ◌%◌, ◌<◌, ◌≤◌, List, [], ◌∷◌, ◌++◌, length, map, refl, sym, ap, ◌∙◌, arith, length-take, length-drop, div-mul-le_self, add-mul}
 use Rattle.std.proofs.Math.Nat.{le-div_iff_mul-le}
 use Rattle.std.specs.List.{range_with_len, sum_by}
+use Rattle.list_laws.proofs.Ranges.{range_with_len-first}
 use Rattle.zone_spec.specs.declared.Zone.{Zone}
 use Rattle.zone_spec.specs.Parts.{Header, Block}
 use Rattle.zone_spec.specs.Stages.{Stage, StartWord, SizeWord, Run, ParityOf, stage_stores, stage_count, stores_in_turn, blocks_met}
@@ -27,11 +28,8 @@ next_phase : (f : Flying) (p q : Phase) (b : ℕ) (st : Stage) → f.place.phase
 next_phase f p q b st e all done stores count next =
     enters_by f (entered f q b) p q st e all done refl refl refl refl refl refl stores count next
 
-range_step : (a e : ℕ) → a < e → range_with_len a (e - a) ≡ a ∷ range_with_len (a + 1) (e - (a + 1))
-range_step a e h = let n : e - a ≡ suc (e - (a + 1)) = omega arith in ap (range_with_len a) n
-
 parities_step : (a e : ℕ) → a < e → parities_between a e ≡ ParityOf (Block a) ∷ parities_between (a + 1) e
-parities_step a e h = ap (map (λ k. ParityOf (Block k))) (range_step a e h)
+parities_step a e h = ap (map (λ k. ParityOf (Block k))) (range_with_len-first a e h)
 
 parities_end : (a e : ℕ) → e ≤ a → parities_between a e ≡ []
 parities_end a e h = let n : e - a ≡ 0 = omega arith in ap (λ m. map (λ k. ParityOf (Block k)) (range_with_len a m)) n

@@ -2,6 +2,7 @@
 use Rattle.std.proofs.Common.{◌≡◌, ℕ, zero, suc, ◌+◌, ◌-◌, ◌<◌, ◌≤◌, List, [], ◌∷◌, length, take, drop, refl, sym, ap, ◌∙◌, arith, length-take, length-drop}
 use Rattle.std.proofs.lemmas.List.{drop-drop}
 use Rattle.std.specs.List.{AllByRecursion}
+use Rattle.list_laws.proofs.Slices.{take-drop-take}
 use Rattle.ring_laws.proofs.StoreBytes.{IsStore, all-take, byte_stores-all, stage_stores-all}
 use Rattle.ring_laws.proofs.EveryParity.{word-bytes, part-bytes}
 use Rattle.ring_laws.proofs.PartWords.{bytes-each}
@@ -20,9 +21,10 @@ use Rattle.store_steps.specs.declared.place.Phase.TheVariants.{ZeroStart, ZeroSi
 use Rattle.store_steps.specs.Flying.{Flying, payload}
 use Rattle.store_steps.specs.Phases.{first_len, second_len, first_run, second_run}
 use Rattle.store_steps.specs.Machine.{stores_of, next_stores}
-use Rattle.store_steps.proofs.Storing.{part-byte_stores, part-take}
+use Rattle.store_steps.proofs.Storing.{part-byte_stores}
 
-pub line_short : (kind : CallKind) (line body : List ℕ) → length line ≤ 36 → length (line_of (call_of kind line body)) ≤ 36
+pub line_short : (kind : CallKind) (line body : List ℕ) → length line ≤ 36
+    → length (line_of (call_of kind line body)) ≤ 36
 unfolding line_of
 line_short AppendKind line body h = omega arith
 line_short EraseKind line body h = omega arith
@@ -60,7 +62,7 @@ unfolding front_of
 front_part AppendKind line body cap from n h = none n (drop from body) (drop from []) (omega arith)
 front_part EraseKind line body cap from n h = none n (drop from body) (drop from []) (omega arith)
 front_part DumpKind line body cap from n h =
-    sym (part-take n from (cap - length line) body (omega (arith, length-take (cap - length line) body)))
+    sym (take-drop-take n from (cap - length line) body (omega (arith, length-take (cap - length line) body)))
 
 pub last_part : (kind : CallKind) (line body : List ℕ) (cap skip from n : ℕ)
     → (kind ≡ AppendKind → skip ≡ length body - cap) → from + n ≤ length (last_of cap (call_of kind line body))
@@ -118,7 +120,7 @@ first_given f image n e h = sym (
     ap (λ q. take n (drop f.place.number (stores_of f image q))) e
     ∙ part-byte_stores n f.place.number (12 + f.place.start) (first_run f)
     ∙ ap (byte_stores (12 + f.place.start + f.place.number))
-    (part-take n f.place.number (f.zone.cap - f.place.start) (payload f) (omega arith)))
+    (take-drop-take n f.place.number (f.zone.cap - f.place.start) (payload f) (omega arith)))
 
 pub second_given : (f : Flying) (image : List ℕ) (n : ℕ) → f.place.phase ≡ Second
     → f.place.number + n ≤ second_len f → 0 < n
@@ -175,11 +177,13 @@ stores_of-all f image Start valid call h = (word-bytes _, tt)
 stores_of-all f image First valid call h =
     byte_stores-all (12 + f.place.start) (first_run f)
     (part-bytes (f.zone.cap - f.place.start) (payload f) (leg_are f.zone.cap f.call f.place.leg call)).0
-stores_of-all f image FirstParity valid call h = stage_stores-all f.zone valid (ParityOf (Block f.place.block)) image h tt
+stores_of-all f image FirstParity valid call h = stage_stores-all f.zone valid
+    (ParityOf (Block f.place.block)) image h tt
 stores_of-all f image Second valid call h =
     byte_stores-all 12 (second_run f)
     (part-bytes (f.zone.cap - f.place.start) (payload f) (leg_are f.zone.cap f.call f.place.leg call)).1
-stores_of-all f image SecondParity valid call h = stage_stores-all f.zone valid (ParityOf (Block f.place.block)) image h tt
+stores_of-all f image SecondParity valid call h = stage_stores-all f.zone valid
+    (ParityOf (Block f.place.block)) image h tt
 stores_of-all f image HeaderPhase valid call h = stage_stores-all f.zone valid (ParityOf Header) image h tt
 stores_of-all f image Finished valid call h = tt
 

@@ -1,8 +1,8 @@
 -- A part's parity has the zone's number of bytes, and is the same while it is stored
-use Rattle.std.proofs.Common.{◌≡◌, ℕ, suc, ◌+◌, ◌-◌, ◌<◌, ◌≤◌, List, [], ◌∷◌, length, take, drop, get_or, refl, ap, ◌∙◌, arith, get_or-take, get_or-drop, inl, inr, length-take}
+use Rattle.std.proofs.Common.{◌≡◌, ℕ, ◌+◌, ◌-◌, ◌<◌, ◌≤◌, List, length, take, drop, get_or, refl, ap, ◌∙◌, arith, get_or-take, get_or-drop, inl, inr, length-take}
 use Rattle.std.proofs.lemmas.Bool.{cases_lt}
 use Rattle.std.proofs.lemmas.List.{get_or_past}
-use Rattle.std.specs.List.{AllByRecursion}
+use Rattle.list_laws.proofs.Elements.{AllByRecursion_from_places}
 use Rattle.zone_spec.specs.declared.Zone.{Zone}
 use Rattle.zone_spec.specs.Parts.{AreBytes, Part, part_bytes, part_at, part_len, part_parity_at}
 use Rattle.zone_spec.specs.Stores.{put, after_stores, byte_stores}
@@ -13,10 +13,6 @@ use Rattle.ring_laws.proofs.StoreCounts.{length-byte_stores}
 use Rattle.store_steps.proofs.Storing.{part-byte_stores}
 use Rattle.code_spec.specs.Code.{parity_of}
 use Rattle.code_laws.proofs.Laws.{parity_made}
-
-all_bytes : (xs : List ℕ) → ((k : ℕ) → get_or xs k 0 < 256) → AllByRecursion (λ b. b < 256) xs
-all_bytes [] h = tt
-all_bytes (x ∷ xs) h = (h 0, all_bytes xs (λ k. h (suc k)))
 
 front_byte : (n : ℕ) (xs : List ℕ) → ((k : ℕ) → get_or xs k 0 < 256) → (k : ℕ) → get_or (take n xs) k 0 < 256
 front_byte n xs h k = elim (cases_lt k n) [
@@ -31,7 +27,7 @@ parity_length z image p bytes =
     let m : List ℕ = take ((part_at z p + part_len z p) - part_at z p) (drop (part_at z p) image) in
     (parity_made z.parity m (
       refl,
-      all_bytes m (front_byte _ (drop (part_at z p) image)
+      AllByRecursion_from_places (λ b. b < 256) m (front_byte _ (drop (part_at z p) image)
           (λ k. rw (get_or-drop (part_at z p) image k 0) (bytes (part_at z p + k)))),
     )).0.0
 

@@ -4,6 +4,7 @@ use Rattle.std.proofs.lemmas.Bool.{ne_eqb, eq-eqb, cases_lt, lt-ltb, le-ltb}
 use Rattle.std.proofs.lemmas.Bool.Decides.{eqb_tells}
 use Rattle.std.proofs.lemmas.List.Elements.{filter-append}
 use Rattle.std.specs.List.{range_with_len, list_any}
+use Rattle.list_laws.proofs.Ranges.{range_with_len-add}
 use Rattle.zone_spec.specs.Touched.{before_runs, runs_of}
 use Rattle.store_steps.specs.Counts.{runs_between}
 
@@ -22,19 +23,11 @@ lacks_range a zero b h = refl
 lacks_range a (suc n) b h = rw (ne_eqb a b (λ e. elim h [ inl l ↦ omega (arith, e) | inr g ↦ omega (arith, e) ]))
     (lacks_range (a + 1) n b (elim h [ inl l ↦ inl (omega arith) | inr g ↦ inr (omega arith) ]))
 
-range_split : (a m n : ℕ) → range_with_len a (m + n) ≡ range_with_len a m ++ range_with_len (a + m) n
-range_split a zero n = (let e : 0 + n ≡ n = omega arith in ap (range_with_len a) e)
-    ∙ (let e : a ≡ a + 0 = omega arith in ap (λ k. range_with_len k n) e)
-range_split a (suc m) n =
-    (let e : suc m + n ≡ suc (m + n) = omega arith in ap (range_with_len a) e)
-    ∙ ap (λ xs. a ∷ xs) (range_split (a + 1) m n)
-    ∙ (let e : a + 1 + m ≡ a + suc m = omega arith in ap (λ k. a ∷ (range_with_len (a + 1) m ++ range_with_len k n)) e)
-
 -- the numbers from a up to e, and then those up to n
 pub range_cut : (a e n : ℕ) → a ≤ e → e ≤ n → range_with_len a (n - a) ≡ range_with_len a (e - a) ++ range_with_len e
     (n - e)
 range_cut a e n h k =
-    (let l : n - a ≡ (e - a) + (n - e) = omega arith in ap (range_with_len a) l) ∙ range_split a (e - a) (n - e)
+    (let l : n - a ≡ (e - a) + (n - e) = omega arith in ap (range_with_len a) l) ∙ range_with_len-add a (e - a) (n - e)
     ∙ (let m : a + (e - a) ≡ e = omega arith in ap (λ x. range_with_len a (e - a) ++ range_with_len x (n - e)) m)
 
 filter_all : (test : ℕ → Bool) (a n : ℕ) → ((b : ℕ) → a ≤ b → b < a + n → test b ≡ true)

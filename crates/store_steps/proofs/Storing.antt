@@ -1,6 +1,5 @@
 -- The stores that a phase makes next
 use Rattle.std.proofs.Common.{◌≡◌, ℕ, zero, suc, ◌+◌, ◌-◌, ◌*◌, ◌/◌, ◌<◌, ◌≤◌, ◌⊎◌, List, [], ◌∷◌, take, drop, refl, ap, ◌∙◌, subst, arith, mul-le-mul_right}
-use Rattle.std.proofs.lemmas.List.{take-take, drop-take}
 use Rattle.std.proofs.Math.Nat.{div-lt_iff_lt-mul, le-div_iff_mul-le}
 use Rattle.zone_spec.specs.Zones.{IsValidZone}
 use Rattle.zone_spec.specs.declared.Zone.{Zone}
@@ -32,12 +31,6 @@ take-byte_stores (suc n) place (x ∷ xs) =
 pub part-byte_stores : (n k place : ℕ) (xs : List ℕ)
     → take n (drop k (byte_stores place xs)) ≡ byte_stores (place + k) (take n (drop k xs))
 part-byte_stores n k place xs = ap (take n) (drop-byte_stores k place xs) ∙ take-byte_stores n (place + k) (drop k xs)
-
--- bytes of a front
-pub part-take : (n k m : ℕ) (xs : List ℕ) → k + n ≤ m → take n (drop k (take m xs)) ≡ take n (drop k xs)
-part-take n k m xs h =
-    (let e : m ≡ k + (m - k) = omega arith in ap (λ j. take n (drop k (take j xs))) e)
-    ∙ ap (take n) (drop-take k (m - k) xs) ∙ take-take n (m - k) (drop k xs) (omega arith)
 
 pub ready_in : (f : Flying) (n : ℕ) (p : Phase) → f.place.phase ≡ p
     → f.place.number + n ≤ phase_len f f.place.phase → f.place.number + n ≤ phase_len f p

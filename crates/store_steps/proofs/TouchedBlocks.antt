@@ -1,11 +1,12 @@
 -- The blocks that the stages of a call touch
-use Rattle.std.proofs.Common.{◌≡◌, ℕ, zero, suc, ◌+◌, ◌-◌, ◌*◌, ◌/◌, ◌<◌, ◌≤◌, ◌⊎◌, min, Bool, true, false, ◌||◌, List, [], ◌∷◌, ◌++◌, length, take, drop, map, refl, sym, ap, ap₂, ◌∙◌, arith, append-nil, inl, inr, length-take, length-drop, div-mul-le_self, filter, take_all, ◌==◌}
+use Rattle.std.proofs.Common.{◌≡◌, ℕ, zero, suc, ◌+◌, ◌-◌, ◌*◌, ◌/◌, ◌<◌, ◌≤◌, ◌⊎◌, min, true, false, List, [], ◌∷◌, ◌++◌, length, take, drop, map, refl, sym, ap, ap₂, ◌∙◌, arith, append-nil, inl, inr, length-take, length-drop, div-mul-le_self, filter, take_all, ◌==◌, ◌||◌}
 use Rattle.std.proofs.Math.Nat.{div-lt_iff_lt-mul, le-div_iff_mul-le}
 use Rattle.std.proofs.lemmas.Bool.{cases_lt}
 use Rattle.std.proofs.lemmas.Bool.Decides.{eqb_tells}
 use Rattle.std.proofs.lemmas.List.{nil_from_length, drop_all}
 use Rattle.std.proofs.lemmas.List.Folds.{list_any-append}
 use Rattle.std.specs.List.{range_with_len}
+use Rattle.std.proofs.Math.Bool.{or-true}
 use Rattle.zone_spec.specs.declared.Zone.{Zone}
 use Rattle.zone_spec.specs.declared.Words.{Words}
 use Rattle.zone_spec.specs.Zones.{IsValidZone}
@@ -103,11 +104,7 @@ has_first : (xs ys : List ℕ) (b : ℕ) → has xs b ≡ true → has (xs ++ ys
 has_first xs ys b h = list_any-append (λ c. c == b) xs ys ∙ ap (λ t. t || has ys b) h
 
 has_later : (xs ys : List ℕ) (b : ℕ) → has ys b ≡ true → has (xs ++ ys) b ≡ true
-has_later xs ys b h = list_any-append (λ c. c == b) xs ys ∙ ap (λ t. has xs b || t) h ∙ or_true (has xs b)
-  where
-    or_true : (t : Bool) → (t || true) ≡ true
-    or_true true = refl
-    or_true false = refl
+has_later xs ys b h = list_any-append (λ c. c == b) xs ys ∙ ap (λ t. has xs b || t) h ∙ or-true (has xs b)
 
 lacks_both : (xs ys : List ℕ) (b : ℕ) → has xs b ≡ false → has ys b ≡ false → has (xs ++ ys) b ≡ false
 lacks_both xs ys b h k = list_any-append (λ c. c == b) xs ys ∙ ap₂ (λ t u. t || u) h k

@@ -1,9 +1,9 @@
 -- The listed record that a text names: no two names have one text
-use Rattle.std.proofs.Common.{◌≡◌, ◌≢◌, ℕ, zero, suc, ◌*◌, ◌^◌, ◌<◌, ◌≤◌, Bool, true, false, not, ◌||◌, ◌&&◌, ◌==◌, if◌then◌else◌, List, [], ◌∷◌, ◌++◌, codes, map, get_or, Option, Some, None, refl, sym, ap, ap₂, subst, ◌∙◌, arith, append_assoc, eq-eqb}
+use Rattle.std.proofs.Common.{◌≡◌, ◌≢◌, ℕ, zero, suc, ◌*◌, ◌^◌, ◌<◌, ◌≤◌, Bool, true, false, not, ◌==◌, if◌then◌else◌, List, [], ◌∷◌, ◌++◌, codes, map, get_or, Option, Some, None, refl, sym, ap, ap₂, subst, ◌∙◌, arith, append_assoc, eq-eqb, ◌||◌}
 use Rattle.std.specs.Prelude.{decimal, bytes_eq, nat_lt}
 use Rattle.std.specs.List.{All, find, list_any, list_all}
 use Rattle.std.specs.Str.{IsAscii, IsUtf8}
-use Rattle.std.proofs.lemmas.Bool.{true≢false}
+use Rattle.std.proofs.lemmas.Bool.{true≢false, and_parts}
 use Rattle.std.proofs.lemmas.Bool.Decides.{Decides-eqb}
 use Rattle.std.proofs.lemmas.Fmt.{decimal_injective, IsAscii-decimal}
 use Rattle.std.proofs.lemmas.List.{append-nil, append_cancel_left, append_cancel_right}
@@ -65,10 +65,6 @@ is-itself (Dump index packed) = rw (eq-eqb index index refl, flag-same packed) r
 is-itself Console = refl
 is-itself Pmsg = refl
 
-both : (a b : Bool) → (a && b) ≡ true → (a ≡ true) × (b ≡ true)
-both true b e = (refl, e)
-both false b e = cc
-
 same-flag : (p q : Bool) → (if p then q else not q) ≡ true → p ≡ q
 same-flag true true e = refl
 same-flag true false e = cc
@@ -77,7 +73,7 @@ same-flag false false e = refl
 
 pub same-name : (m n : BlkName) → is_name m n ≡ true → m ≡ n
 same-name (Dump i p) (Dump j q) e =
-    let parts = both (i == j) (if p then q else not q) e in
+    let parts = and_parts (i == j) (if p then q else not q) e in
     ap₂ (λ (k : ℕ) (r : Bool). Dump k r) ((Decides-eqb i j).0 parts.0) (same-flag p q parts.1)
 same-name (Dump i p) Console e = cc
 same-name (Dump i p) Pmsg e = cc
@@ -144,7 +140,7 @@ found-none text (m ∷ names) none all =
 literal : (bs : List ℕ) → list_all (λ b. nat_lt b 128) bs ≡ true → IsAscii bs
 literal [] e = IsAscii-nil
 literal (b ∷ bs) e =
-    let parts = both (nat_lt b 128) (list_all (λ c. nat_lt c 128) bs) e in
+    let parts = and_parts (nat_lt b 128) (list_all (λ c. nat_lt c 128) bs) e in
     IsAscii-cons b bs (ltb-true b 128 parts.0) (literal bs parts.1)
 
 name-ascii : (name : BlkName) → IsName name → IsAscii (name_text name)

@@ -1,5 +1,6 @@
 -- A store keeps its room, whatever is written; and the writes of a loading
 use Rattle.std.proofs.Common.{◌≡◌, ℕ, ◌==◌, Bool, true, false, if◌then◌else◌, List, [], ◌∷◌, ◌++◌, length, Option, Some, None, Result, Ok, Err, refl, sym, ap, ◌∙◌, arith, subst, inl, inr}
+use Rattle.blk_laws.proofs.Cuts.{first-all}
 use Rattle.outside.specs.declared.outside.Failed.{Failed}
 use Rattle.blk_spec.specs.declared.BlkCut.{BlkCut}
 use Rattle.blk_spec.specs.declared.BlkCut.TheVariants.{Uncut}
@@ -16,7 +17,6 @@ use Rattle.blk_spec.specs.declared.BlkRing.TheVariants.{Console, Pmsg}
 use Rattle.blk_spec.specs.Layout.{ring_zone}
 use Rattle.blk_spec.specs.States.{BlkState, clearing, load_writes}
 use Rattle.blk_laws.proofs.Lines.{writes-longer}
-use Rattle.zone_blk.proofs.Effects.{first-all}
 
 pub room-after : (n : ℕ) (ws : List Write) (old new : Option (List ℕ)) → new ≡ store_after ws old → HasRoom n old
     → HasRoom n new

@@ -1,9 +1,10 @@
 -- Contents and names of records
-use Rattle.std.proofs.Common.{◌≡◌, ℕ, ◌+◌, Bool, true, false, not, ◌||◌, ◌==◌, if◌then◌else◌, List, [], ◌∷◌, ◌++◌, map, length, length-append, codes, Option, Some, None, is_some, refl, sym, ap, ◌∙◌, append_assoc, Bor, suc, ◌<◌, get_or, arith}
+use Rattle.std.proofs.Common.{◌≡◌, ℕ, ◌+◌, Bool, true, false, not, ◌==◌, if◌then◌else◌, List, [], ◌∷◌, ◌++◌, map, length, length-append, codes, Option, Some, None, is_some, refl, sym, ap, ◌∙◌, append_assoc, Bor, suc, ◌<◌, get_or, arith, ◌||◌}
 use Rattle.std.specs.Prelude.{decimal}
 use Rattle.std.specs.List.{find, list_any, All}
 use Rattle.std.specs.Option.{option_map, option_copied}
-use Rattle.std.proofs.lemmas.Bool.{and_parts, eqb-true}
+use Rattle.std.proofs.lemmas.Bool.{and_parts, eqb-true, cond-true, cond-false}
+use Rattle.std.proofs.Math.Bool.{or-false}
 use Rattle.blk_spec.specs.declared.BlkLayout.{BlkLayout}
 use Rattle.zone_blk.specs.Loading.{IsIn}
 use Rattle.blk_spec.specs.declared.BlkName.{BlkName}
@@ -12,12 +13,11 @@ use Rattle.blk_spec.specs.Reading.{BlkDump}
 use Rattle.blk_spec.specs.Reasons.{reason_word}
 use Rattle.blk_spec.specs.Names.{is_name, dump_name, dump_content}
 use Rattle.blk_spec.specs.States.{BlkState, content_of, is_listed}
-use Rattle.blk_laws.proofs.Listings.{or-false, listed-parts, listed-console, listed-pmsg}
-use Rattle.zone_blk.proofs.Readings.{if-true, if-false}
+use Rattle.blk_laws.proofs.Listings.{listed-parts, listed-console, listed-pmsg}
 
 pub packed-content : (d : BlkDump) → d.packed ≡ true → d.body ≡ dump_content d
 unfolding dump_content
-packed-content d h = sym (if-true d.packed d.body (reason_word d.reason ++ codes ": Total " ++ decimal d.counter
+packed-content d h = sym (cond-true d.packed d.body (reason_word d.reason ++ codes ": Total " ++ decimal d.counter
     ++ codes " times" ++ 10 ∷ d.body) h)
 
 pub plain-content : (d : BlkDump) (body : List ℕ) → d.packed ≡ false → body ≡ d.body
@@ -27,7 +27,7 @@ unfolding dump_content
 plain-content d body h e =
     append_assoc (reason_word d.reason ++ codes ": Total " ++ decimal d.counter ++ codes " times") (10 ∷ []) body
     ∙ ap (λ (xs : List ℕ). reason_word d.reason ++ codes ": Total " ++ decimal d.counter ++ codes " times" ++ 10 ∷ xs) e
-    ∙ sym (if-false d.packed d.body (reason_word d.reason ++ codes ": Total " ++ decimal d.counter ++ codes " times"
+    ∙ sym (cond-false d.packed d.body (reason_word d.reason ++ codes ": Total " ++ decimal d.counter ++ codes " times"
     ++ 10 ∷ d.body) h)
 
 -- a record is listed where it has a content

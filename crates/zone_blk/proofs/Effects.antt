@@ -1,24 +1,19 @@
 -- What the first bytes of writes make of a store
-use Rattle.std.proofs.Common.{◌≡◌, ℕ, zero, suc, ◌+◌, ◌-◌, ◌^◌, ◌<◌, ◌≤◌, ◌==◌, min, Bool, true, false, if◌then◌else◌, nat_le, List, [], ◌∷◌, ◌++◌, length, take, drop, Option, Some, None, refl, sym, ap, ◌∙◌, arith, ◌⊎◌, inl, inr}
-use Rattle.std.proofs.lemmas.List.{take_all, append-nil, take-append-drop}
+use Rattle.std.proofs.Common.{◌≡◌, ℕ, zero, suc, ◌+◌, ◌-◌, ◌^◌, ◌<◌, ◌≤◌, ◌==◌, min, Bool, true, false, if◌then◌else◌, nat_le, List, [], ◌∷◌, ◌++◌, length, take, Option, Some, None, refl, sym, ap, ◌∙◌, arith, ◌⊎◌, inl, inr}
 use Rattle.std.proofs.lemmas.Bool.{leb-true, leb-false, lt-leb, eqb-true}
 use Rattle.std.proofs.lemmas.Bool.Decides.{nat_tests}
 use Rattle.std.proofs.Math.Dec.{leb-zero}
+use Rattle.blk_laws.proofs.Appends.{after-append}
+use Rattle.blk_laws.proofs.Cuts.{first-all}
 use Rattle.blk_spec.specs.declared.BlkCut.{BlkCut}
 use Rattle.blk_spec.specs.declared.BlkCut.TheVariants.{Uncut, After, Dropped}
-use Rattle.blk_spec.specs.Writes.{Write, after_write, after_writes, store_after, bytes_in, first_bytes, through, spent, asks_of}
+use Rattle.blk_spec.specs.Writes.{Write, after_writes, store_after, bytes_in, first_bytes, through, spent, asks_of}
 use Rattle.blk_spec.specs.Answers.{further}
 
 pub bytes_in-append : (vs ws : List Write) → bytes_in (vs ++ ws) ≡ bytes_in vs + bytes_in ws
 unfolding bytes_in
 bytes_in-append [] ws = omega arith
 bytes_in-append (v ∷ vs) ws = omega (arith, bytes_in-append vs ws)
-
-pub after-append : (vs ws : List Write) (store : List ℕ)
-    → after_writes (vs ++ ws) store ≡ after_writes ws (after_writes vs store)
-unfolding after_writes
-after-append [] ws store = refl
-after-append (v ∷ vs) ws store = after-append vs ws (after_write store v)
 
 pub first-append : (n : ℕ) (vs ws : List Write) → first_bytes n (vs ++ ws)
     ≡ first_bytes n vs ++ first_bytes (n - bytes_in vs) ws
@@ -28,26 +23,6 @@ first-append n (v ∷ vs) ws =
     ap (λ rest. record { at = v.at; bytes = take n v.bytes } ∷ rest)
     (first-append (n - length v.bytes) vs ws ∙ ap (λ k. first_bytes (n - length v.bytes) vs ++ first_bytes k ws)
     (omega arith))
-
--- no byte changes nothing, and all bytes are all
-pub none-written : (store : List ℕ) (at : ℕ) → after_write store (record { at = at; bytes = [] }) ≡ store
-none-written store at = rw append-nil (ap (λ k. take at store ++ drop k store) (omega arith)
-    ∙ take-append-drop at store)
-
-pub after-none : (ws : List Write) (store : List ℕ) → after_writes (first_bytes 0 ws) store ≡ store
-unfolding after_writes first_bytes
-after-none [] store = refl
-after-none (w ∷ ws) store =
-    ap (after_writes (first_bytes (0 - length w.bytes) ws)) (none-written store w.at)
-    ∙ ap (λ k. after_writes (first_bytes k ws) store) (omega arith) ∙ after-none ws store
-
-pub first-all : (n : ℕ) (ws : List Write) → bytes_in ws ≤ n → first_bytes n ws ≡ ws
-unfolding first_bytes bytes_in
-first-all n [] h = refl
-first-all n (w ∷ ws) h =
-    ap (λ (bs : List ℕ). record { at = w.at; bytes = bs } ∷ first_bytes (n - length w.bytes) ws)
-    (take_all n w.bytes (omega arith))
-    ∙ ap (λ rest. w ∷ rest) (first-all (n - length w.bytes) ws (omega arith))
 
 -- a store after the first bytes of some writes, then of others
 pub in-turn : (a b : ℕ) (vs ws : List Write) (store : List ℕ) → a ≤ bytes_in vs → (a ≡ bytes_in vs) ⊎ (b ≡ 0)

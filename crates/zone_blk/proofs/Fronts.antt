@@ -1,24 +1,16 @@
 -- A zone's header and its log read as the whole zone does
 use Rattle.std.proofs.Common.{◌≡◌, ℕ, ◌+◌, ◌-◌, ◌≤◌, ◌<◌, true, false, ◌&&◌, nat_lt, List, length, take, drop, ◌++◌, ◌⊎◌, Option, Some, None, IfSome, refl, sym, ap, ◌∙◌, arith}
-use Rattle.std.specs.List.{slice_range}
-use Rattle.std.proofs.lemmas.List.{take-take, drop-drop, drop-take, get_or-take}
+use Rattle.std.proofs.lemmas.List.{take-take, drop-drop, get_or-take}
+use Rattle.list_laws.proofs.Slices.{take-drop-take, slice_range-take}
 use Rattle.zone_spec.specs.declared.Words.{Words}
 use Rattle.blk_spec.specs.declared.BlkZone.{BlkZone}
 use Rattle.blk_spec.specs.Reading.{BlkDump, zone_bytes, header_words, is_valid, is_dump, ring_log, saved_ring, dump_seen, listed_dump}
 use Rattle.zone_blk.proofs.Readings.{no-zone, no-log, start-within, some-log, no-dump, some-dump, dump-body}
 
--- n elements from one on, of a front that has them
-pub part-of-front : {X : Type 0} (n from size : ℕ) (xs : List X) → from + n ≤ size
-    → take n (drop from (take size xs)) ≡ take n (drop from xs)
-part-of-front n from size xs h =
-    let whole : from + (size - from) ≡ size = omega arith in
-    ap (λ k. take n (drop from (take k xs))) (sym whole) ∙ ap (take n) (drop-take from (size - from) xs)
-    ∙ take-take n (size - from) (drop from xs) (omega arith)
-
 part-same : (n from : ℕ) (z : BlkZone) (bs : List ℕ) → from + n ≤ z.size
     → take n (drop (z.at + from) bs) ≡ take n (drop from (zone_bytes bs z))
 part-same n from z bs h =
-    ap (take n) (sym (drop-drop from z.at bs)) ∙ sym (part-of-front n from z.size (drop z.at bs) h)
+    ap (take n) (sym (drop-drop from z.at bs)) ∙ sym (take-drop-take n from z.size (drop z.at bs) h)
 
 -- what was read at a place of the store is that part of the zone
 pub part-read : (n from : ℕ) (z : BlkZone) (holds : Option (List ℕ)) (into : List ℕ) → from + n ≤ z.size
@@ -27,15 +19,12 @@ pub part-read : (n from : ℕ) (z : BlkZone) (holds : Option (List ℕ)) (into :
 part-read n from z None into h e = tt
 part-read n from z (Some bs) into h e = e ∙ part-same n from z bs h
 
-pub range-of-front : (n a b : ℕ) (xs : List ℕ) → a ≤ b → b ≤ n → slice_range (take n xs) a b ≡ slice_range xs a b
-range-of-front n a b xs h k = part-of-front (b - a) a n xs (omega arith)
-
 -- a header's words lie in the zone's first 12 bytes
 words-of-front : (n : ℕ) (bytes : List ℕ) → 12 ≤ n → header_words (take n bytes) ≡ header_words bytes
 words-of-front n bytes h = rw (
-  range-of-front n 0 4 bytes (omega arith) (omega arith),
-  range-of-front n 4 8 bytes (omega arith) (omega arith),
-  range-of-front n 8 12 bytes (omega arith) (omega arith),
+  slice_range-take n 0 4 bytes (omega arith) (omega arith),
+  slice_range-take n 4 8 bytes (omega arith) (omega arith),
+  slice_range-take n 8 12 bytes (omega arith) (omega arith),
 ) refl
 
 pub words-read : (n : ℕ) (z : BlkZone) (holds : Option (List ℕ)) (front : List ℕ) (words : Words) → 12 ≤ n
@@ -73,18 +62,18 @@ log-saved z (Some bs) words log w h e = some-log z (zone_bytes bs z) (drop 12 (z
 -- a dump's header lies in the first 40 bytes of its zone's data
 dump-of-front : (words : Words) (xs : List ℕ) → is_dump words (take 40 xs) ≡ is_dump words xs
 dump-of-front words xs = rw (
-  range-of-front 40 0 4 xs (omega arith) (omega arith),
-  range-of-front 40 8 16 xs (omega arith) (omega arith),
-  range-of-front 40 16 24 xs (omega arith) (omega arith),
+  slice_range-take 40 0 4 xs (omega arith) (omega arith),
+  slice_range-take 40 8 16 xs (omega arith) (omega arith),
+  slice_range-take 40 16 24 xs (omega arith) (omega arith),
 ) refl
 
 seen-of-front : (index : ℕ) (words : Words) (xs body : List ℕ) → body ≡ drop 40 (take words.size xs)
     → record (dump_seen index words (take 40 xs)) { body = body } ≡ dump_seen index words xs
 seen-of-front index words xs body e = rw (
-  range-of-front 40 8 16 xs (omega arith) (omega arith),
-  range-of-front 40 16 24 xs (omega arith) (omega arith),
-  range-of-front 40 28 32 xs (omega arith) (omega arith),
-  range-of-front 40 32 36 xs (omega arith) (omega arith),
+  slice_range-take 40 8 16 xs (omega arith) (omega arith),
+  slice_range-take 40 16 24 xs (omega arith) (omega arith),
+  slice_range-take 40 28 32 xs (omega arith) (omega arith),
+  slice_range-take 40 32 36 xs (omega arith) (omega arith),
   get_or-take 40 xs 24 0 (omega arith),
   e,
 ) refl
@@ -92,7 +81,7 @@ seen-of-front index words xs body e = rw (
 -- the data that follows a header in a front
 content-of-front : (front zone : List ℕ) → front ≡ take 52 zone → take 40 (drop 12 front) ≡ take 40 (drop 12 zone)
 content-of-front front zone e =
-    ap (λ (xs : List ℕ). take 40 (drop 12 xs)) e ∙ part-of-front 40 12 52 zone (omega arith)
+    ap (λ (xs : List ℕ). take 40 (drop 12 xs)) e ∙ take-drop-take 40 12 52 zone (omega arith)
 
 test-of-front : (z : BlkZone) (words : Words) (front zone : List ℕ) → front ≡ take 52 zone
     → (is_valid z words && is_dump words (take 40 (drop 12 front))) ≡ (is_valid z words && is_dump words (drop 12 zone))

@@ -3,7 +3,7 @@ use Rattle.std.proofs.Common.{◌≡◌, ◌≢◌, get_or, eq-eqb, ℕ, zero, s
 use Rattle.std.specs.List.{fold, flat_map, range_with_len, All}
 use Rattle.std.proofs.lemmas.List.{take-take, append-nil, nil_from_length, drop-take, at_drop_more, at_drop_all}
 use Rattle.std.proofs.lemmas.List.Elements.{All-push}
-use Rattle.std.proofs.lemmas.Bool.{and_parts, leb-true}
+use Rattle.std.proofs.lemmas.Bool.{and_parts, leb-true, cond-true, cond-false}
 use Rattle.std.proofs.lemmas.Bool.Decides.{nat_tests}
 use Rattle.zone_spec.specs.declared.Words.{Words}
 use Rattle.blk_spec.specs.declared.BlkZone.{BlkZone}
@@ -11,14 +11,6 @@ use Rattle.blk_spec.specs.declared.BlkLayout.{BlkLayout}
 use Rattle.blk_spec.specs.Layout.{dump_zone}
 use Rattle.blk_spec.specs.Reading.{BlkDump, zone_bytes, header_words, is_valid, is_dump, ring_log, saved_ring, dump_seen, listed_dump, dump_listed, dumps_listed, greatest_counter}
 use Rattle.zone_blk.specs.Loading.{IsIn}
-
-pub if-true : {X : Type 0} (b : Bool) (x y : X) → b ≡ true → (if b then x else y) ≡ x
-if-true true x y h = refl
-if-true false x y h = cc
-
-pub if-false : {X : Type 0} (b : Bool) (x y : X) → b ≡ false → (if b then x else y) ≡ y
-if-false true x y h = cc
-if-false false x y h = refl
 
 -- a zone of no byte has no signature
 pub no-zone : (z : BlkZone) (bytes : List ℕ) → 0 < z.sig → length bytes ≡ 0 → None ≡ saved_ring z bytes
@@ -31,7 +23,7 @@ no-zone z bytes some none =
 pub no-log : (z : BlkZone) (bytes : List ℕ) (words : Words) → words ≡ header_words bytes
     → (is_valid z words && nat_lt 0 words.size) ≡ false → None ≡ saved_ring z bytes
 unfolding saved_ring
-no-log z bytes words e h = rw e at (sym (if-false (is_valid z words && nat_lt 0 words.size)
+no-log z bytes words e h = rw e at (sym (cond-false (is_valid z words && nat_lt 0 words.size)
     (Some (ring_log words (drop 12 bytes))) None h))
 
 -- a ring's start lies within its length
@@ -49,14 +41,14 @@ unfolding saved_ring
 some-log z bytes back log words e d h l =
     ap Some (l ∙ ap (λ (xs : List ℕ). drop words.start (take words.size back) ++ xs)
     (take-take words.start words.size back (start-within z words h)) ∙ ap (ring_log words) d)
-    ∙ sym (if-true (is_valid z words && nat_lt 0 words.size) (Some (ring_log words (drop 12 bytes))) None h)
+    ∙ sym (cond-true (is_valid z words && nat_lt 0 words.size) (Some (ring_log words (drop 12 bytes))) None h)
     ∙ ap (λ (w : Words). if is_valid z w && nat_lt 0 w.size then Some (ring_log w (drop 12 bytes)) else None) e
 
 pub no-dump : (index : ℕ) (z : BlkZone) (bytes back : List ℕ) (words : Words) → words ≡ header_words bytes
     → back ≡ drop 12 bytes → (is_valid z words && is_dump words back) ≡ false → None ≡ listed_dump index z bytes
 unfolding listed_dump
 no-dump index z bytes back words e d h =
-    sym (if-false (is_valid z words && is_dump words back) (Some (dump_seen index words back)) None h)
+    sym (cond-false (is_valid z words && is_dump words back) (Some (dump_seen index words back)) None h)
     ∙ ap (λ (xs : List ℕ). if is_valid z words && is_dump words xs then Some (dump_seen index words xs) else None) d
     ∙ ap (λ (w : Words). if is_valid z w && is_dump w (drop 12 bytes) then Some (dump_seen index w (drop 12 bytes))
     else None) e
@@ -66,7 +58,7 @@ pub some-dump : (index : ℕ) (z : BlkZone) (bytes back : List ℕ) (words : Wor
     → dump ≡ dump_seen index words back → Some dump ≡ listed_dump index z bytes
 unfolding listed_dump
 some-dump index z bytes back words dump e d h s =
-    ap Some s ∙ sym (if-true (is_valid z words && is_dump words back) (Some (dump_seen index words back)) None h)
+    ap Some s ∙ sym (cond-true (is_valid z words && is_dump words back) (Some (dump_seen index words back)) None h)
     ∙ ap (λ (xs : List ℕ). if is_valid z words && is_dump words xs then Some (dump_seen index words xs) else None) d
     ∙ ap (λ (w : Words). if is_valid z w && is_dump w (drop 12 bytes) then Some (dump_seen index w (drop 12 bytes))
     else None) e
@@ -171,7 +163,7 @@ pub greatest-taken : (reason most new i all : ℕ) (d : BlkDump) (dumps : List B
     → greatest-from reason most (drop i dumps) ≡ all → greatest-from reason new (drop (i + 1) dumps) ≡ all
 greatest-taken reason most new i all d dumps h e r n p =
     ap (λ k. greatest-from reason k (drop (i + 1) dumps))
-    (n ∙ sym (if-true (d.reason == reason) (max most d.counter) most (eq-eqb d.reason reason r)))
+    (n ∙ sym (cond-true (d.reason == reason) (max most d.counter) most (eq-eqb d.reason reason r)))
     ∙ sym (greatest-step reason most i d dumps h e) ∙ p
 
 pub greatest-passed : (reason most new i all : ℕ) (d : BlkDump) (dumps : List BlkDump) → i < length dumps
@@ -180,7 +172,7 @@ pub greatest-passed : (reason most new i all : ℕ) (d : BlkDump) (dumps : List 
 greatest-passed reason most new i all d dumps h e r n p =
     let other : (d.reason == reason) ≡ false = grind (arith, nat_tests) in
     ap (λ k. greatest-from reason k (drop (i + 1) dumps))
-    (n ∙ sym (if-false (d.reason == reason) (max most d.counter) most other))
+    (n ∙ sym (cond-false (d.reason == reason) (max most d.counter) most other))
     ∙ sym (greatest-step reason most i d dumps h e) ∙ p
 
 pub greatest-end : (reason most i all : ℕ) (dumps : List BlkDump) → length dumps ≤ i

@@ -6,6 +6,8 @@ use Rattle.std.proofs.lemmas.List.{map-append, drop-map, take-map}
 use Rattle.std.proofs.lemmas.List.FromFn.{length-map-range_with_len}
 use Rattle.std.proofs.Math.Nat.{mul-le-mul_left}
 use Rattle.std.proofs.lemmas.Nat.{div-mul-add, mod-mul-add}
+use Rattle.list_laws.proofs.Slices.{length-slice_range}
+use Rattle.list_laws.proofs.Ranges.{range_with_len-add, map-range_from_places}
 use Rattle.zone_spec.specs.declared.Zone.{Zone}
 use Rattle.zone_spec.specs.Zones.{IsValidZone}
 use Rattle.zone_spec.specs.Parts.{AreBytes, Header, Block, part_bytes}
@@ -14,18 +16,19 @@ use Rattle.zone_spec.specs.Reading.{byte_read}
 use Rattle.ring_laws.proofs.PartsLaw.{block_some}
 use Rattle.ring_laws.proofs.BootLaw.{length-reading}
 use Rattle.zone_boot.specs.Reads.{bytes_at}
-use Rattle.zone_boot.proofs.Rows.{range-append, range-drop, range-take, map-is, slice_length}
+use Rattle.zone_boot.proofs.Rows.{range-drop, range-take}
 
 -- a block has block bytes, the last one those that are left
 pub block-length : (z : Zone) (x : List ℕ) (b : ℕ) → IsValidZone z → length x ≡ z.size → z.block * b < z.cap
     → length (part_bytes z x (Block b)) ≡ min (z.block * (b + 1)) z.cap - z.block * b
 unfolding part_bytes
-block-length z x b valid size within = slice_length x (12 + z.block * b) (min (z.block * (b + 1)) z.cap - z.block * b)
+block-length z x b valid size within = length-slice_range x (12 + z.block * b)
+    (min (z.block * (b + 1)) z.cap - z.block * b)
     (let c = valid.cap in omega (arith, c))
 
 pub header-length : (z : Zone) (x : List ℕ) → IsValidZone z → length x ≡ z.size → length (part_bytes z x Header) ≡ 12
 unfolding part_bytes
-header-length z x valid size = slice_length x 0 12 (let c = valid.at_least in omega (arith, c))
+header-length z x valid size = length-slice_range x 0 12 (let c = valid.at_least in omega (arith, c))
 
 block-byte : (z : Zone) (x : List ℕ) (b j : ℕ) → j < z.block
     → byte_read z x (z.block * b + j) ≡ get_or (part_reading z x (Block b)).bytes j 0
@@ -48,7 +51,7 @@ module _ (z : Zone) (x : List ℕ) where
   pub bytes_at-append : (p n k : ℕ) → bytes_at z x p n ++ bytes_at z x (p + n) k ≡ bytes_at z x p (n + k)
   unfolding bytes_at
   bytes_at-append p n k =
-      sym (ap (λ (ps : List ℕ). map (λ q. byte_read z x q) ps) (range-append p n k)
+      sym (ap (λ (ps : List ℕ). map (λ q. byte_read z x q) ps) (range_with_len-add p n k)
       ∙ map-append (λ q. byte_read z x q) (range_with_len p n) (range_with_len (p + n) k))
 
   pub bytes_at-drop : (k p n : ℕ) → drop k (bytes_at z x p n) ≡ bytes_at z x (p + k) (n - k)
@@ -86,7 +89,7 @@ module _ (z : Zone) (x : List ℕ) (valid : IsValidZone z) (size : length x ≡ 
       let w : ℕ = place % z.block in
       let is : z.block * b + w ≡ place = omega (arith, some) in
       let most = piece-long.2 in
-      map-is (λ q. byte_read z x q) place n (drop w out) (omega (arith, length-drop w out, fits))
+      map-range_from_places (λ q. byte_read z x q) place n (drop w out) (omega (arith, length-drop w out, fits))
       (λ j h. ap (λ (q : ℕ). byte_read z x q) (let e : place + j ≡ z.block * b + (w + j) = omega (arith, is) in e)
       ∙ block-byte z x b (w + j) (omega (arith, most, fits, h))
       ∙ sym (ap (λ (l : List ℕ). get_or l (w + j) 0) reads) ∙ sym (get_or-drop w out j 0))

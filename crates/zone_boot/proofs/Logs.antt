@@ -3,11 +3,12 @@ use Rattle.std.proofs.Common.{◌≡◌, ℕ, ◌+◌, ◌-◌, ◌<◌, ◌≤�
 use Rattle.std.specs.List.{range_with_len}
 use Rattle.std.proofs.lemmas.List.{map-append}
 use Rattle.std.proofs.lemmas.Bool.{cases_lt}
+use Rattle.list_laws.proofs.Elements.{take-append}
 use Rattle.zone_spec.specs.declared.Zone.{Zone}
 use Rattle.zone_spec.specs.declared.Words.{Words}
 use Rattle.zone_spec.specs.Reading.{byte_read, log_read, IsRing}
 use Rattle.zone_boot.specs.Reads.{bytes_at}
-use Rattle.zone_boot.proofs.Rows.{take-append, drop-append}
+use Rattle.zone_boot.proofs.Rows.{drop-append}
 use Rattle.zone_boot.proofs.Blocks.{bytes_at-length, bytes_at-drop, bytes_at-take, bytes_at-none}
 
 module _ (z : Zone) (x : List ℕ) (w : Words) where

@@ -1,8 +1,9 @@
 -- Where a boot begins
-use Rattle.std.proofs.Common.{◌≡◌, ℕ, ◌+◌, ◌-◌, ◌/◌, ◌≤◌, Bool, if◌then◌else◌, List, [], ◌++◌, length, take, drop, flat_map, slice_range, refl, sym, ap, ap₂, ◌∙◌, arith, w32, append_assoc, take-append-drop, take_all, length-take, length-drop}
+use Rattle.std.proofs.Common.{◌≡◌, ℕ, ◌+◌, ◌-◌, ◌/◌, ◌≤◌, Bool, if◌then◌else◌, List, [], ◌++◌, length, drop, flat_map, slice_range, refl, sym, ap, ap₂, ◌∙◌, arith, w32, length-take, length-drop}
 use Rattle.std.specs.Int.{to_le_bytes}
 use Rattle.std.specs.List.{range_with_len}
 use Rattle.std.proofs.lemmas.Nat.{le_bytes_4}
+use Rattle.list_laws.proofs.Slices.{append-slice_range_thirds}
 use Rattle.zone_spec.specs.declared.Zone.{Zone}
 use Rattle.zone_spec.specs.declared.Words.{Words}
 use Rattle.zone_spec.specs.declared.State.{State}
@@ -21,7 +22,6 @@ use Rattle.ring_laws.proofs.States.{reading_words, reading_state}
 use Rattle.zone_boot.specs.declared.deciding.Erasure.{Erasure}
 use Rattle.zone_boot.specs.declared.boots.Phase.TheVariants.{Header as HeaderPhase}
 use Rattle.zone_boot.specs.Left.{part_left, blocks_left, then_stages, stages_of, left_at}
-use Rattle.zone_boot.proofs.Rows.{drop-plus}
 use Rattle.zone_boot.proofs.Blocks.{header-length}
 use Rattle.zone_boot.proofs.Leaving.{left-whole, blocks-whole}
 
@@ -72,13 +72,6 @@ module _ (z : Zone) (x : List ℕ) where
       ∙ ap (λ (l : List Store). l ++ stores_in_turn z (stages_of z e) (after_stores x l)) fixes
 
 -- ---- the header's bytes
-header-split : (bs : List ℕ) → length bs ≡ 12 → slice_range bs 0 4 ++ slice_range bs 4 8 ++ slice_range bs 8 12 ≡ bs
-header-split bs h =
-    let last : slice_range bs 8 12 ≡ drop 4 (drop 4 bs) = ap (λ (l : List ℕ). take 4 l) (drop-plus 4 4 bs)
-    ∙ take_all 4 (drop 4 (drop 4 bs)) (omega (arith, length-drop 4 (drop 4 bs), length-drop 4 bs)) in
-    append_assoc (take 4 bs) (take 4 (drop 4 bs)) (slice_range bs 8 12)
-    ∙ ap (λ (l : List ℕ). take 4 bs ++ (take 4 (drop 4 bs) ++ l)) last
-    ∙ ap (λ (l : List ℕ). take 4 bs ++ l) (take-append-drop 4 (drop 4 bs)) ∙ take-append-drop 4 bs
 
 header-bytes : (bs : List ℕ) → length bs ≡ 12 → AreBytes bs
     → to_le_bytes w32 (words_in bs).sig ++ to_le_bytes w32 (words_in bs).start ++ to_le_bytes w32 (words_in bs).size
@@ -92,7 +85,7 @@ header-bytes bs h k =
     le_bytes_4 (slice_range bs 4 8) _ (long 4 (omega arith)) (slice_range-bytes bs 4 8 k) refl in
     let e2 : to_le_bytes w32 (words_in bs).size ≡ slice_range bs 8 12 =
     le_bytes_4 (slice_range bs 8 12) _ (long 8 (omega arith)) (slice_range-bytes bs 8 12 k) refl in
-    ap₂ (λ (a b : List ℕ). a ++ b) (ap₂ (λ (a b : List ℕ). a ++ b) e0 e1) e2 ∙ header-split bs h
+    ap₂ (λ (a b : List ℕ). a ++ b) (ap₂ (λ (a b : List ℕ). a ++ b) e0 e1) e2 ∙ append-slice_range_thirds bs h
 
 -- the words of a header, as bytes, are those that it reads
 pub header-reads : (z : Zone) (x : List ℕ) (w : Words) (out : List ℕ) → IsValidZone z → length x ≡ z.size → AreBytes x

@@ -1,7 +1,7 @@
 use Rattle.std.proofs.Common.{ℕ, List, length, get_or, ap, ◌∙◌, arith}
 use Rattle.std.proofs.lemmas.List.{get_or-replicate}
 use Rattle.code_spec.specs.Field.{gf_pow}
-use Rattle.gf_poly.proofs.Values.{values_alone}
+use Rattle.code_laws.proofs.Values.{values_alone}
 use Rattle.gf_poly.proofs.values_at.Goals as goal
 
 pub returns : goal.returns

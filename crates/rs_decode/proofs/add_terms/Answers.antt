@@ -1,7 +1,7 @@
 use Rattle.std.proofs.Common.{◌≢◌, ◌<◌, length, refl, sym, ap, ap₂, ◌∙◌, arith, get_or-set_other, get_or-set_same, below_more}
 use Rattle.code_spec.specs.Field.{gf_add, gf_mul, gf_pow}
 use Rattle.code_laws.proofs.Ring.{mul_one, pow_zero, pow_below}
-use Rattle.rs_decode.proofs.Applied.{term_step}
+use Rattle.decoder_laws.proofs.Powers.{pow_term_step}
 use Rattle.rs_decode.proofs.add_terms.Goals as goal
 
 pub loop-k-init : goal.loop-k-init
@@ -16,7 +16,7 @@ loop-k-init c = record {
 pub loop-k-preserved : goal.loop-k-preserved
 loop-k-preserved c = record {
   below = c.log_product-term.ensures.below;
-  term = term_step (gf_pow 2 c.args.mask_log) (gf_pow 2 c.args.power) c.loop-k.k c.loop-k.term
+  term = pow_term_step (gf_pow 2 c.args.mask_log) (gf_pow 2 c.args.power) c.loop-k.k c.loop-k.term
       c.log_product-term.result c.loop-k.invariant.term c.log_product-term.ensures.value;
   done = below_more _ _
       (λ k h. let ne : k ≢ c.loop-k.k = omega arith in rw get_or-set_other (c.loop-k.invariant.done k h))

@@ -1,10 +1,13 @@
 use Rattle.std.proofs.Common.{◌≡◌, ℕ, ◌≤◌, ◌+◌, ◌-◌, List, length, take, arith, sym, ap, ◌∙◌, subst₂, refl, length-take}
 use Rattle.code_spec.specs.Field.{gf_mul}
 use Rattle.code_laws.proofs.Ring.{zero_mul}
-use Rattle.code_laws.specs.Polynomials.{poly}
+use Rattle.decoder_laws.specs.Polynomials.{poly}
 use Rattle.rs_decode.specs.Fixes.{AreFixes}
-use Rattle.rs_decode.specs.Places.{roots_of}
-use Rattle.rs_decode.proofs.Fixes.{found_of, found_count, found_fixes, own_roots_below, are_fixes-length, are_fixes-inside, same_inverse}
+use Rattle.decoder_laws.specs.Chien.{roots_of}
+use Rattle.decoder_laws.proofs.Damage.{found_of}
+use Rattle.decoder_laws.proofs.Chien.{found_count, own_roots_below}
+use Rattle.rs_decode.proofs.Fixes.{found_fixes, are_fixes-length, are_fixes-inside}
+use Rattle.decoder_laws.proofs.Powers.{inverse_is_unique}
 use Rattle.rs_decode.proofs.candidate.Goals as goal
 
 no_constant : (k a c : ℕ) → k ≡ a → k ≡ 0 → gf_mul a c ≡ 1 → ⊥
@@ -74,7 +77,7 @@ returns-clause-found c = λ D g.
     let r : List ℕ = c.solve-solution.result.evaluator.items in
     let f = found_of c.args.t c.args.places c.args.syndromes.now v r D c.requires.places c.requires.len
     c.solve-solution.ensures g in
-    let s : c.inv.result ≡ f.0 = same_inverse c.last-constant.result c.inv.result f.0 c.inv.type_inv f.1.c_byte
+    let s : c.inv.result ≡ f.0 = inverse_is_unique c.last-constant.result c.inv.result f.0 c.inv.type_inv f.1.c_byte
     c.inv.ensures
     (ap (λ (x : ℕ). gf_mul x f.0) (c.last-constant.ensures ∙ ap (λ (u : List ℕ). poly u 0) c.as_slice.ensures.value)
     ∙ f.2) in

@@ -1,12 +1,17 @@
 use Rattle.std.proofs.Common.{◌≡◌, ℕ, ◌+◌, ◌/◌, ◌≤◌, ◌<◌, Bool, IsTrue, ◌↔◌, List, ◌++◌, length, get_or, take, length-append, arith, sym, ap, ◌∙◌, subst}
+use Rattle.rs_encode.proofs.Steps.{symbols_each}
 use Rattle.code_spec.specs.Field.{gf_pow}
 use Rattle.code_laws.proofs.Symbols.{HasRoots, Symbols}
 use Rattle.code_spec.specs.Code.{value_of}
 use Rattle.code_laws.proofs.Words.{word_sum}
-use Rattle.rs_decode.specs.Fixes.{IsDamage, IsWithin, applied, fixes_between, fixes_from}
+use Rattle.decoder_laws.specs.Damage.{IsDamage, IsWithin}
+use Rattle.rs_decode.specs.Fixes.{applied, fixes_between, fixes_from}
 use Rattle.rs_decode.specs.declared.Fix.{Fix}
-use Rattle.rs_decode.proofs.Applied.{damage_of, none_at_zero, applied_near, values_cut, symbols_of, symbols-append, apply_fixes_between, positive}
-use Rattle.rs_decode.proofs.Decoding.{true_false, nearest_of_within, within_none}
+use Rattle.decoder_laws.proofs.Damage.{damage_of, none_at_zero, values_cut, positive}
+use Rattle.rs_decode.proofs.Applied.{applied_near, apply_fixes_between}
+use Rattle.code_laws.proofs.Steps.{symbols-append}
+use Rattle.decoder_laws.proofs.Nearest.{nearest_of_within}
+use Rattle.rs_decode.proofs.Decoding.{true_false, within_none}
 use Rattle.rs_decode.proofs.corrected.Goals as goal
 
 -- a near codeword is damage that the candidate answers
@@ -40,15 +45,15 @@ mended r w us fs answer e h = subst (λ (xs : List Fix). IsTrue answer ↔ HasRo
 pub returns-then-most-eq0-clause-nowhere : goal.returns-then-most-eq0-clause-nowhere
 returns-then-most-eq0-clause-nowhere c = λ _. within_none c.args.most (length c.args.par.now)
     (c.args.msg.now ++ c.args.par.now)
-    (symbols-append c.args.msg.now c.args.par.now (symbols_of c.args.msg.now (λ k. (c.type_inv.msg k).fits))
-    (symbols_of c.args.par.now (λ k. (c.type_inv.par k).fits)))
+    (symbols-append c.args.msg.now c.args.par.now (symbols_each c.args.msg.now (λ k. (c.type_inv.msg k).fits))
+    (symbols_each c.args.par.now (λ k. (c.type_inv.par k).fits)))
     (λ c' h. none_at_zero c.args.most (length c.args.par.now)
     (c.args.msg.now ++ c.args.par.now) c' c.if-most-eq0.true c.requires.wrong h)
 
 pub returns-then-not-found-clause-nowhere : goal.returns-then-not-found-clause-nowhere
 returns-then-not-found-clause-nowhere c =
-    let bm = symbols_of c.args.msg.now (λ k. (c.type_inv.msg k).fits) in
-    let bp = symbols_of c.args.par.now (λ k. (c.type_inv.par k).fits) in
+    let bm = symbols_each c.args.msg.now (λ k. (c.type_inv.msg k).fits) in
+    let bp = symbols_each c.args.par.now (λ k. (c.type_inv.par k).fits) in
     λ _. within_none c.args.most (length c.args.par.now) (c.args.msg.now ++ c.args.par.now)
     (symbols-append c.args.msg.now c.args.par.now bm bp) (λ c' h. true_false c.candidate-found.result
     (c.candidate-found.ensures.found (word_sum (c.args.msg.now ++ c.args.par.now) c')
@@ -64,8 +69,8 @@ returns-clause-near c = λ e.
     let is_mended = mended r W c.as_slice.result.now fs c.is_mended.result c.as_slice.ensures.value
     c.is_mended.ensures in
     applied_near c.args.most r n W fs
-    (symbols-append c.args.msg.now c.args.par.now (symbols_of c.args.msg.now (λ k. (c.type_inv.msg k).fits))
-    (symbols_of c.args.par.now (λ k. (c.type_inv.par k).fits)))
+    (symbols-append c.args.msg.now c.args.par.now (symbols_each c.args.msg.now (λ k. (c.type_inv.msg k).fits))
+    (symbols_each c.args.par.now (λ k. (c.type_inv.par k).fits)))
     c.candidate-found.ensures.inside c.candidate-found.ensures.few
     (is_mended.0 e)
 
@@ -75,8 +80,8 @@ returns-clause-fixes c = λ e.
     same_fixes c.args.msg.now c.args.par.now w c.candidate-found.new.fixes.items
     (c.candidate-found.ensures.found (word_sum (c.args.msg.now ++ c.args.par.now) w)
     (answered c.args.most c.args.msg.now c.args.par.now c.args.values.now w c.requires.most
-    (symbols_of c.args.msg.now (λ k. (c.type_inv.msg k).fits))
-    (symbols_of c.args.par.now (λ k. (c.type_inv.par k).fits)) c.requires.values
+    (symbols_each c.args.msg.now (λ k. (c.type_inv.msg k).fits))
+    (symbols_each c.args.par.now (λ k. (c.type_inv.par k).fits)) c.requires.values
     (returns-clause-near c e))).1
 
 pub returns-clause-some : goal.returns-clause-some
@@ -90,15 +95,15 @@ returns-clause-nearest c = λ e.
     let W : List ℕ = c.args.msg.now ++ c.args.par.now in
     nearest_of_within (length c.args.par.now) W (applied c.candidate-found.new.fixes.items W)
     (omega (arith, length-append c.args.msg.now c.args.par.now, c.requires.fits))
-    (symbols-append c.args.msg.now c.args.par.now (symbols_of c.args.msg.now (λ k. (c.type_inv.msg k).fits))
-    (symbols_of c.args.par.now (λ k. (c.type_inv.par k).fits)))
+    (symbols-append c.args.msg.now c.args.par.now (symbols_each c.args.msg.now (λ k. (c.type_inv.msg k).fits))
+    (symbols_each c.args.par.now (λ k. (c.type_inv.par k).fits)))
     (wider c.args.most (length c.args.par.now) W (applied c.candidate-found.new.fixes.items W) c.requires.most
     (returns-clause-near c e))
 
 pub returns-clause-nowhere : goal.returns-clause-nowhere
 returns-clause-nowhere c = λ e.
-    let bm = symbols_of c.args.msg.now (λ k. (c.type_inv.msg k).fits) in
-    let bp = symbols_of c.args.par.now (λ k. (c.type_inv.par k).fits) in
+    let bm = symbols_each c.args.msg.now (λ k. (c.type_inv.msg k).fits) in
+    let bp = symbols_each c.args.par.now (λ k. (c.type_inv.par k).fits) in
     let W : List ℕ = c.args.msg.now ++ c.args.par.now in
     let n : ℕ = length c.args.msg.now + length c.args.par.now in
     let r : ℕ = length c.args.par.now in

@@ -1,6 +1,7 @@
 use Rattle.std.proofs.Common.{ℕ, List, length, refl, sym, ap, ◌∙◌, ◌++◌}
 use Rattle.code_spec.specs.Code.{nearest}
-use Rattle.rs_decode.specs.Fixes.{IsWithin, applied}
+use Rattle.decoder_laws.specs.Damage.{IsWithin}
+use Rattle.rs_decode.specs.Fixes.{applied}
 use Rattle.rs_decode.specs.declared.Fix.{Fix}
 use Rattle.rs_decode.specs.Decoding.{within}
 use Rattle.rs_decode.proofs.Applied.{length-fixes_between, take-applied}

@@ -1,6 +1,7 @@
 use Rattle.std.proofs.Common.{◌≡◌, ℕ, ◌+◌, ◌-◌, List, length, drop, refl, ap, ◌∙◌, arith}
-use Rattle.code_laws.specs.Polynomials.{poly}
-use Rattle.rs_decode.proofs.Rows.{rows_start, rows_step, rows_end, fewer_zeros, poly-all_zero}
+use Rattle.decoder_laws.specs.Polynomials.{poly}
+use Rattle.rs_decode.proofs.Rows.{rows_start, rows_step, rows_end}
+use Rattle.decoder_laws.proofs.Polynomials.{fewer_zeros, poly-all_zero}
 use Rattle.rs_decode.proofs.euclid.Goals as goal
 
 pub loop-b-init : goal.loop-b-init

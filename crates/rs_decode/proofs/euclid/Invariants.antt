@@ -1,6 +1,6 @@
 use Rattle.std.proofs.Common.{◌+◌, ◌-◌}
-use Rattle.code_laws.specs.Polynomials.{poly}
-use Rattle.rs_decode.specs.Euclid.{IsRows}
+use Rattle.decoder_laws.specs.Polynomials.{poly}
+use Rattle.rs_decode.specs.Rows.{IsRows}
 use Rattle.rs_decode.proofs.euclid.Given as goal
 
 abbrev pub invariant-loop-b : goal.invariant-loop-b

@@ -3,7 +3,8 @@ use Rattle.std.proofs.lemmas.List.{take_more}
 use Rattle.code_spec.specs.Field.{gf_mul}
 use Rattle.rs_decode.specs.Fixes.{AreFixes, IsFix}
 use Rattle.rs_decode.specs.declared.Fix.{Fix}
-use Rattle.rs_decode.proofs.Fixes.{are_fixes-push, powers_below-255, powers_below-at}
+use Rattle.rs_decode.proofs.Fixes.{are_fixes-push}
+use Rattle.decoder_laws.proofs.Chien.{powers_below-255, powers_below-at}
 use Rattle.rs_decode.proofs.fill.Goals as goal
 
 pub fix_of-fix-requires-clause-own : goal.fix_of-fix-requires-clause-own

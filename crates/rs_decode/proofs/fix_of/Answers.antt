@@ -1,7 +1,7 @@
 use Rattle.std.proofs.Common.{◌≡◌, ℕ, ◌<◌, sym, ap, ap₂, ◌∙◌}
 use Rattle.code_spec.specs.Field.{gf_mul}
 use Rattle.code_laws.proofs.Ring.{mul_one, mul_assoc, mul_comm}
-use Rattle.rs_decode.specs.Places.{gap_ratio}
+use Rattle.decoder_laws.specs.Forney.{gap_ratio}
 use Rattle.rs_decode.proofs.fix_of.Goals as goal
 
 quotient : (o u i g m : ℕ) → o < 256 → u ≡ g → gf_mul u i ≡ 1 → m ≡ gf_mul o i → gf_mul m g ≡ o

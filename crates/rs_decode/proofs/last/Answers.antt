@@ -1,4 +1,4 @@
-use Rattle.rs_decode.proofs.Fixes.{poly-last}
+use Rattle.decoder_laws.proofs.Polynomials.{poly-last}
 use Rattle.rs_decode.proofs.last.Goals as goal
 
 pub returns : goal.returns

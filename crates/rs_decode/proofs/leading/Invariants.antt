@@ -1,4 +1,4 @@
-use Rattle.rs_decode.specs.Euclid.{LeadingZeros}
+use Rattle.decoder_laws.specs.Polynomials.{LeadingZeros}
 use Rattle.rs_decode.proofs.leading.Given as goal
 
 abbrev pub invariant-loop-i : goal.invariant-loop-i

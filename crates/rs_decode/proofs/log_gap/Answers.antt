@@ -1,6 +1,6 @@
 use Rattle.std.proofs.Common.{sym, ap, ◌∙◌}
 use Rattle.code_spec.specs.Field.{gf_add}
-use Rattle.rs_decode.proofs.Fixes.{gap_some}
+use Rattle.decoder_laws.proofs.Forney.{gap_some}
 use Rattle.rs_decode.proofs.log_gap.Goals as goal
 
 pub log-requires : goal.log-requires

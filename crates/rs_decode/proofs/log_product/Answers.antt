@@ -1,5 +1,5 @@
 use Rattle.std.proofs.Common.{◌+◌, ◌-◌, arith}
-use Rattle.rs_decode.proofs.Applied.{wrapped}
+use Rattle.decoder_laws.proofs.Powers.{pow_wrapped}
 use Rattle.code_laws.proofs.Ring.{pow_add}
 use Rattle.rs_decode.proofs.log_product.Goals as goal
 
@@ -7,4 +7,4 @@ pub returns-then-sum-lt255-clause-value : goal.returns-then-sum-lt255-clause-val
 returns-then-sum-lt255-clause-value c = pow_add 2 c.args.a c.args.b
 
 pub returns-else-sum-lt255-clause-value : goal.returns-else-sum-lt255-clause-value
-returns-else-sum-lt255-clause-value c = wrapped c.args.a c.args.b (c.args.a + c.args.b - 255) (omega arith)
+returns-else-sum-lt255-clause-value c = pow_wrapped c.args.a c.args.b (c.args.a + c.args.b - 255) (omega arith)

@@ -1,7 +1,7 @@
 use Rattle.std.proofs.Common.{◌≡◌, ℕ, ◌+◌, ◌-◌, ◌*◌, ◌/◌, ◌%◌, ◌<◌, ◌≢◌, List, ◌++◌, ◌∷◌, [], length, get_or, arith, sym, ap, ◌∙◌, suc}
 use Rattle.code_spec.specs.Field.{gf_pow}
 use Rattle.code_spec.specs.Code.{value_of}
-use Rattle.rs_decode.proofs.Fixes.{root_taken, root_none}
+use Rattle.decoder_laws.proofs.Chien.{root_taken, root_none}
 use Rattle.rs_decode.proofs.own_roots.Goals as goal
 use Rattle.rs_decode.proofs.own_roots.Goals.{then-place-eq0, else-place-eq0, then-values-place-eq0, else-values-place-eq0}
 

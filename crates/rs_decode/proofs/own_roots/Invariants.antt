@@ -1,7 +1,7 @@
 use Rattle.std.proofs.Common.{◌≡◌, ◌≢◌, ◌≤◌, ◌<◌, ◌+◌, ◌-◌, ◌*◌, ◌/◌, ◌%◌, ◌++◌, ℕ, length, get_or, take}
 use Rattle.code_spec.specs.Field.{gf_pow}
 use Rattle.code_spec.specs.Code.{value_of}
-use Rattle.rs_decode.specs.Places.{roots_of}
+use Rattle.decoder_laws.specs.Chien.{roots_of}
 use Rattle.rs_decode.proofs.own_roots.Given as goal
 
 abbrev pub invariant-loop-place : goal.invariant-loop-place

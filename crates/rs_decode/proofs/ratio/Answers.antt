@@ -2,9 +2,8 @@ use Rattle.std.proofs.Common.{◌≡◌, ◌≢◌, ℕ, ◌<◌, ◌≤◌, ◌
 use Rattle.std.proofs.lemmas.List.{drop_more, drop_all}
 use Rattle.code_spec.specs.Field.{gf_add, gf_mul, gf_pow}
 use Rattle.code_laws.proofs.Ring.{one_mul, mul_one, mul_assoc, pow_zero, pow_add, pow_below}
-use Rattle.rs_decode.specs.Places.{gap_ratio}
-use Rattle.rs_decode.proofs.Places.{ratio_self, ratio_other}
-use Rattle.rs_decode.proofs.Fixes.{gap_ratio_below, gap_ratio_some, below_255-at}
+use Rattle.decoder_laws.specs.Forney.{gap_ratio}
+use Rattle.decoder_laws.proofs.Forney.{gap_ratio_own, gap_ratio_other, gap_ratio_below, gap_ratio_some, below_255-at}
 use Rattle.rs_decode.proofs.ratio.Goals as goal
 use Rattle.rs_decode.proofs.ratio.Goals.{then-i-power, else-i-power}
 
@@ -23,7 +22,7 @@ skipped : (js : List ℕ) (i j s s' : ℕ) → i < length js → get_or js i 0 �
     → gf_mul (gf_pow 2 s') (gap_ratio (drop (i + 1) js) j) ≡ gap_ratio js j
 skipped js i j s s' l e es h =
     ap₂ gf_mul (ap (gf_pow 2) es) (sym (ap (λ (u : List ℕ). gap_ratio u j) (drop_more js i 0 l)
-    ∙ ratio_self (get_or js i 0) j (drop (i + 1) js) e)) ∙ h
+    ∙ gap_ratio_own (get_or js i 0) j (drop (i + 1) js) e)) ∙ h
 
 taken : (js : List ℕ) (i j s s' g : ℕ) → i < length js → get_or js i 0 ≢ j
     → gf_pow 2 g ≡ gf_add 1 (gf_mul (gf_pow 2 (get_or js i 0)) (gf_pow 2 (255 - j))) → s' ≡ s + g
@@ -35,7 +34,7 @@ taken js i j s s' g l n eg es h =
     ∙ mul_assoc (gf_pow 2 s) (gf_add 1 (gf_mul (gf_pow 2 (get_or js i 0)) (gf_pow 2 (255 - j))))
     (gap_ratio (drop (i + 1) js) j)
     ∙ ap (gf_mul (gf_pow 2 s)) (sym (ap (λ (u : List ℕ). gap_ratio u j) (drop_more js i 0 l)
-    ∙ ratio_other (get_or js i 0) j (drop (i + 1) js) n)) ∙ h
+    ∙ gap_ratio_other (get_or js i 0) j (drop (i + 1) js) n)) ∙ h
 
 pub loop-i-preserved : goal.loop-i-preserved
 loop-i-preserved c = elim c.if-i-power.branch [

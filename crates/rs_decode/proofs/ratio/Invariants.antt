@@ -1,6 +1,6 @@
 use Rattle.std.proofs.Common.{◌≡◌, ◌≤◌, ◌*◌, drop}
 use Rattle.code_spec.specs.Field.{gf_mul, gf_pow}
-use Rattle.rs_decode.specs.Places.{gap_ratio}
+use Rattle.decoder_laws.specs.Forney.{gap_ratio}
 use Rattle.rs_decode.proofs.ratio.Given as goal
 
 abbrev pub invariant-loop-i : goal.invariant-loop-i

@@ -1,8 +1,10 @@
 use Rattle.std.proofs.Common.{ℕ, ◌+◌, ◌-◌, ◌<◌, List, length, ap, ◌∙◌, subst, arith}
 use Rattle.code_spec.specs.Field.{gf_mul}
-use Rattle.code_laws.specs.Series.{scale, shift, one}
-use Rattle.code_laws.specs.Polynomials.{poly}
-use Rattle.rs_decode.proofs.Rows.{step_none, step_more, fewer_zeros, poly-add_shifted, poly-bytes, cleared, room_kept}
+use Rattle.decoder_laws.specs.Series.{scale, shift, one}
+use Rattle.decoder_laws.specs.Polynomials.{poly}
+use Rattle.decoder_laws.proofs.Euclid.{step_none, step_more}
+use Rattle.decoder_laws.proofs.Polynomials.{fewer_zeros, poly-add_shifted, poly-bytes}
+use Rattle.rs_decode.proofs.Rows.{cleared, room_kept}
 use Rattle.rs_decode.proofs.reduce.Goals as goal
 
 pub loop-k-init : goal.loop-k-init

@@ -1,6 +1,6 @@
 use Rattle.std.proofs.Common.{◌+◌, ◌-◌, length}
-use Rattle.code_laws.specs.Polynomials.{poly}
-use Rattle.rs_decode.specs.Euclid.{IsStep, LeadingZeros}
+use Rattle.decoder_laws.specs.Polynomials.{poly, LeadingZeros}
+use Rattle.decoder_laws.specs.Euclid.{IsStep}
 use Rattle.rs_decode.proofs.reduce.Given as goal
 
 abbrev pub invariant-loop-k : goal.invariant-loop-k

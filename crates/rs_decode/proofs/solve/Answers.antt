@@ -1,8 +1,8 @@
 use Rattle.std.proofs.Common.{◌≡◌, ℕ, ◌+◌, List, reverse, sym, ap, ◌∙◌, subst, arith, length-take, drop}
-use Rattle.code_laws.specs.Polynomials.{poly}
-use Rattle.code_laws.specs.Series.{Bytes}
-use Rattle.rs_decode.specs.Euclid.{IsSolution, LeadingZeros}
-use Rattle.rs_decode.proofs.Rows.{zeros_taken, poly-drop_zeros, poly-single, poly-single_last, reversed_bytes}
+use Rattle.decoder_laws.specs.Polynomials.{poly, LeadingZeros}
+use Rattle.decoder_laws.specs.Series.{Bytes}
+use Rattle.decoder_laws.specs.Euclid.{IsSolution}
+use Rattle.decoder_laws.proofs.Polynomials.{zeros_taken, poly-drop_zeros, poly-single, poly-single_last, reversed_bytes}
 use Rattle.rs_decode.proofs.solve.Goals as goal
 
 pub single-requires-clause-zeros : goal.single-requires-clause-zeros

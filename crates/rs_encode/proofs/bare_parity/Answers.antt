@@ -1,8 +1,8 @@
 use Rattle.std.proofs.Common.{◌≡◌, ℕ, ◌+◌, ◌-◌, length-drop, ◌++◌, List, length, take, sym, ap, ◌∙◌, subst, arith, drop, get_or}
 use Rattle.std.proofs.lemmas.List.{take_all, length-replicate}
+use Rattle.list_laws.proofs.Elements.{get_or-replicate_default}
 use Rattle.code_spec.specs.Field.{gf_add, gf_mul}
 use Rattle.code_spec.specs.Code.{IsCodeword}
-use Rattle.gf256.proofs.Tables.{zeros}
 use Rattle.rs_encode.proofs.Steps.{rest_is_parity, symbols_each}
 use Rattle.rs_encode.proofs.Bare.{bare_none, bare_step}
 use Rattle.rs_encode.proofs.bare_parity.Goals as goal
@@ -14,7 +14,8 @@ loop-c-init c =
     record {
       len = ap length zero ∙ length-replicate r 0;
       codeword = subst (IsCodeword r) (sym zero) (bare_none r);
-      bytes = λ k. let z : get_or c.fill.new.self k 0 ≡ 0 = ap (λ (w : List ℕ). get_or w k 0) zero ∙ zeros r k in
+      bytes = λ k. let z : get_or c.fill.new.self k 0 ≡ 0 = ap (λ (w : List ℕ). get_or w k 0) zero
+          ∙ get_or-replicate_default r k 0 in
           omega (arith, z);
     }
 

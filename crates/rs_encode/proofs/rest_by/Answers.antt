@@ -1,15 +1,16 @@
 use Rattle.std.proofs.Common.{ℕ, List, ◌∷◌, [], get_or, take, refl, sym, subst, arith}
 use Rattle.rs_encode.specs.Lanes.{IsRest}
 use Rattle.std.proofs.lemmas.List.{take_all, take_more}
-use Rattle.gf256.proofs.Tables.{zeros}
+use Rattle.list_laws.proofs.Elements.{get_or-replicate_default}
 use Rattle.rs_encode.proofs.Steps.{moved_all, rest_after, rest_none}
 use Rattle.rs_encode.proofs.rest_by.Goals as goal
 
 pub loop-c-init : goal.loop-c-init
 loop-c-init c = record {
   len = refl;
-  fits = λ j. omega (arith, zeros 9 j);
-  rest = λ r more enough few t. rest_none r (0 ∷ 0 ∷ 0 ∷ 0 ∷ 0 ∷ 0 ∷ 0 ∷ 0 ∷ 0 ∷ []) (zeros 9);
+  fits = λ j. omega (arith, get_or-replicate_default {A = ℕ} 9 j 0);
+  rest = λ r more enough few t. rest_none r (0 ∷ 0 ∷ 0 ∷ 0 ∷ 0 ∷ 0 ∷ 0 ∷ 0 ∷ 0 ∷ [])
+      (λ k. get_or-replicate_default 9 k 0);
 }
 
 pub loop-c-preserved : goal.loop-c-preserved

@@ -1,12 +1,12 @@
 use Rattle.std.proofs.Common.{◌∷◌, [], ℕ, List, subst, arith}
 use Rattle.std.proofs.lemmas.List.{take_all}
-use Rattle.gf256.proofs.Tables.{zeros}
+use Rattle.list_laws.proofs.Elements.{get_or-replicate_default}
 use Rattle.rs_encode.specs.Lanes.{IsRest}
 use Rattle.rs_encode.proofs.Steps.{rest_one, rest_none}
 use Rattle.rs_encode.proofs.rest_in_lane.Goals as goal
 
 pub loop-c-init : goal.loop-c-init
-loop-c-init c = λ r few t. rest_none r (0 ∷ []) (zeros 1)
+loop-c-init c = λ r few t. rest_none r (0 ∷ []) (λ k. get_or-replicate_default 1 k 0)
 
 pub loop-c-preserved : goal.loop-c-preserved
 loop-c-preserved c = λ r few t.

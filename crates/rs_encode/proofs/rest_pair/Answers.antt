@@ -1,14 +1,14 @@
 use Rattle.std.proofs.Common.{◌∷◌, [], ℕ, List, subst, arith}
 use Rattle.std.proofs.lemmas.List.{take_all}
-use Rattle.gf256.proofs.Tables.{zeros}
+use Rattle.list_laws.proofs.Elements.{get_or-replicate_default}
 use Rattle.rs_encode.specs.Lanes.{IsRest}
 use Rattle.rs_encode.proofs.Steps.{rest_one, rest_none}
 use Rattle.rs_encode.proofs.rest_pair.Goals as goal
 
 pub loop-i-init : goal.loop-i-init
 loop-i-init c = record {
-  a = λ r few t. rest_none r (0 ∷ []) (zeros 1);
-  b = λ r few t. rest_none r (0 ∷ []) (zeros 1);
+  a = λ r few t. rest_none r (0 ∷ []) (λ k. get_or-replicate_default 1 k 0);
+  b = λ r few t. rest_none r (0 ∷ []) (λ k. get_or-replicate_default 1 k 0);
 }
 
 pub loop-i-preserved : goal.loop-i-preserved

@@ -1,7 +1,7 @@
 -- A log's bytes are read block by block, two blocks at a time as far as they are whole
 use Rattle.std.proofs.Common.{◌≡◌, ◌≤◌, ◌<◌, ℕ, ◌*◌, ◌/◌, refl, subst, ◌∙◌, sym, arith}
+use Rattle.list_laws.proofs.RoundingUp.{lt_from_div_ceil}
 use Rattle.ring_laws.proofs.PartsLaw.{block_some}
-use Rattle.prz_read.proofs.Fronts.{below-ceil}
 use Rattle.prz_read.proofs.Pushing.{pairs-below, reads-none, whole-bytes, whole-corrected, whole-bad, whole-few, whole-states, loop-end}
 use Rattle.prz_read.proofs.reading.read_bytes.Goals as goal
 
@@ -15,7 +15,7 @@ push_pairs-requires-clause-none c = reads-none _ _ _ _ (sym c.in_ok-bytes.ensure
 
 pub push_read-requires-clause-block : goal.push_read-requires-clause-block
 push_read-requires-clause-block c =
-    below-ceil c.args.size c.args.zone.now.block c.loop-b.b (block_some c.args.zone.now c.requires.valid)
+    lt_from_div_ceil c.args.size c.args.zone.now.block c.loop-b.b (block_some c.args.zone.now c.requires.valid)
     (subst (λ (n : ℕ). c.loop-b.b < n) c.div_ceil-count.ensures c.loop-b-test.true)
 
 pub returns : goal.returns

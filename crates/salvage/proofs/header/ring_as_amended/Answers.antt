@@ -1,6 +1,7 @@
 use Rattle.std.proofs.Common.{◌≡◌, ◌++◌, ◌∙◌, length, sym, ap, true, false, ℕ}
+use Rattle.std.proofs.lemmas.Bool.{false_from_ne_true}
 use Rattle.code_spec.specs.Code.{is_codeword}
-use Rattle.salvage.proofs.Probed.{amended_unlike, amended_same, amended_other, not_true}
+use Rattle.salvage.proofs.Probed.{amended_unlike, amended_same, amended_other}
 use Rattle.salvage.proofs.header.ring_as_amended.Goals as goal
 
 pub returns-in_err-ring : goal.returns-in_err-ring
@@ -20,7 +21,7 @@ pub returns-else-is_parity : goal.returns-else-is_parity
 returns-else-is_parity c =
     amended_other c.args.zone.now c.args.at c.args.amends (length c.args.parity.now) c.args.bytes.now
     c.args.parity.now c.requires.len
-    (not_true (is_codeword (length c.args.parity.now) (c.args.bytes.now ++ c.args.parity.now)) (λ h.
+    (false_from_ne_true (is_codeword (length c.args.parity.now) (c.args.bytes.now ++ c.args.parity.now)) (λ h.
     let t : c.is_parity.result ≡ true = c.is_parity.ensures.1
     (ap (λ (r : ℕ). is_codeword r (c.args.bytes.now ++ c.args.parity.now)) c.requires.coder ∙ h) in
     let bad : true ≡ false = sym t ∙ c.if-is_parity.false in cc))

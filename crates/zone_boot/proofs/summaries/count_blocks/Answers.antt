@@ -1,7 +1,7 @@
 use Rattle.std.proofs.Common.{ℕ, ◌+◌, sym, ap₂, ◌∙◌, arith}
+use Rattle.list_laws.proofs.Ranges.{sum_by-range_more}
 use Rattle.zone_spec.specs.Parts.{Block}
 use Rattle.zone_spec.specs.PartReadings.{part_reading}
-use Rattle.zone_boot.proofs.Rows.{sum_by-next}
 use Rattle.zone_boot.proofs.summaries.count_blocks.Goals as goal
 
 pub loop-b-preserved : goal.loop-b-preserved
@@ -14,9 +14,9 @@ loop-b-preserved c =
     let h = c.read_block-outcome.ensures.counts in
     record {
       corrected = ap₂ (λ (n k : ℕ). n + k) was.corrected (more.corrected _ h)
-          ∙ sym (sum_by-next (λ (j : ℕ). (part_reading z x (Block j)).corrected) b);
+          ∙ sym (sum_by-range_more (λ (j : ℕ). (part_reading z x (Block j)).corrected) b);
       bad = ap₂ (λ (n k : ℕ). n + k) was.bad (more.bad _ h)
-          ∙ sym (sum_by-next (λ (j : ℕ). (part_reading z x (Block j)).bad) b);
+          ∙ sym (sum_by-range_more (λ (j : ℕ). (part_reading z x (Block j)).bad) b);
       few = (let a = was.few in let l = more.few in omega (arith, a, l));
       some = (let a = was.some in let l = more.one in omega (arith, a, l));
     }

@@ -1,8 +1,8 @@
 -- Each byte that differs is corrected: the loop makes the fixes so far
 use Rattle.std.proofs.Common.{◌≡◌, ◌+◌, ◌<◌, List, ℕ, length, take, slice_range, sym, ◌∙◌, arith, refl, length-take}
+use Rattle.list_laws.proofs.Slices.{length-slice_range, get_or-slice_range}
 use Rattle.prz_region.specs.CutRegion.{span}
-use Rattle.prz_read.proofs.Images.{slice_length}
-use Rattle.prz_read.proofs.Storing.{makes-none, makes-same, makes-append, makes-length, makes-keep, fix-none, fix-next, fix-length, fix-below, byte-same, slice_byte}
+use Rattle.prz_read.proofs.Storing.{makes-none, makes-same, makes-append, makes-length, makes-keep, fix-none, fix-next, fix-length, fix-below, byte-same}
 use Rattle.prz_read.proofs.settling.Tally.correct.Goals as goal
 
 pub loop-j-init : goal.loop-j-init
@@ -36,11 +36,11 @@ loop-j-preserved c =
     let standing : List ℕ = slice_range x c.args.at (c.args.at + n) in
     let j : ℕ = c.loop-j.j in
     let t : j < n = c.loop-j-test.true in
-    let long : length standing ≡ n = slice_length x c.args.at n c.requires.place in
+    let long : length standing ≡ n = length-slice_range x c.args.at n c.requires.place in
     let now = makes-keep (c.args.at + j) c.requires.span c.loop-j.invariant
     (fix-below (c.args.at + j) c.args.at (take j standing) (take j c.args.bytes.now)
     (omega (arith, length-take j standing))) in
     let stands = byte-same _ x (c.args.at + j) now ∙ sym
-    (slice_byte x c.args.at (c.args.at + n) j (omega (arith, t))) in
+    (get_or-slice_range x c.args.at (c.args.at + n) j (omega (arith, t))) in
     makes-same (fix-next c.args.at standing c.args.bytes.now j _ _ long t stands refl)
     (makes-append c.requires.span c.loop-j.invariant c.correct_byte.ensures)

@@ -1,6 +1,7 @@
 -- Bytes are stored one by one: the loop makes the stores so far
 use Rattle.std.proofs.Common.{arith, refl, take, length-take}
-use Rattle.prz_read.proofs.Storing.{makes-none, makes-same, makes-append, makes-length, byte-none, byte-next, byte-length}
+use Rattle.ring_laws.proofs.StoreCounts.{length-byte_stores}
+use Rattle.prz_read.proofs.Storing.{makes-none, makes-same, makes-append, makes-length, byte-none, byte-next}
 use Rattle.prz_read.proofs.settling.Tally.store_all.Goals as goal
 
 pub loop-j-init : goal.loop-j-init
@@ -15,7 +16,7 @@ store-requires-clause-room c =
     omega (
       arith,
       c.loop-j.invariant.count,
-      byte-length c.args.at (take c.loop-j.j c.args.bytes.now),
+      length-byte_stores c.args.at (take c.loop-j.j c.args.bytes.now),
       c.loop-j-test.true,
       c.requires.room,
       c.requires.small,

@@ -1,11 +1,11 @@
 use Rattle.std.proofs.Common.{◌≡◌, ℕ, ◌+◌, ◌%◌, List, length, set, arith, sym, ap, ap₂, ◌∙◌, subst, Some}
 use Rattle.std.specs.Prelude.{slice_get, slice_index}
+use Rattle.prz_region.proofs.Stores.{put-one}
 use Rattle.prz_region.specs.CutRegion.{CountedRegion, with_span, stored}
 use Rattle.shared_ring.specs.declared.seats.Seat.{Seat}
 use Rattle.shared_ring.specs.Seats.{seats_stepped}
 use Rattle.shared_ring.specs.Seen.{SharedSeen, IsWhole, bytes_of, stepped}
 use Rattle.shared_ring.proofs.SeatLists.{seat_read, is_seat}
-use Rattle.shared_ring.proofs.Regions.{put_one}
 use Rattle.shared_ring.proofs.Wholes.{stepped_whole}
 use Rattle.shared_ring.proofs.shared.Shared.store_next.Goals as goal
 
@@ -38,7 +38,7 @@ left v i place byte x spans seats p b r s =
       zone = v.zone;
       reserved = v.reserved;
       seats = seats_stepped v.seats i x;
-    } in w) (put_one (bytes_of v) (12 + (x.place + x.stored) % v.zone.cap) (slice_index x.payload x.stored)
+    } in w) (put-one (bytes_of v) (12 + (x.place + x.stored) % v.zone.cap) (slice_index x.payload x.stored)
     ∙ ap₂ (λ p b. set (bytes_of v) (12 + p) b) (sym p) (sym b)) in
     at ∙ ap₂ (λ (r : CountedRegion) (xs : List Seat). let w : SharedSeen = record {
       region = r.region;

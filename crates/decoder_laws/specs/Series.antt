@@ -42,3 +42,13 @@ pub record Agree (n : ℕ) (p q : ℕ → ℕ) : Type 0 where
 
 pub record Bytes (p : ℕ → ℕ) : Type 0 where
   pub at : (k : ℕ) → p k < 256
+
+-- (1 + X x) p
+unfoldable pub linear : ℕ → (ℕ → ℕ) → ℕ → ℕ
+linear X p zero = p 0
+linear X p (suc k) = gf_add (p (suc k)) (gf_mul X (p k))
+
+-- p / (1 + X x): at k, the value at X of the word of the coefficients 0 to k
+unfoldable pub horner : ℕ → (ℕ → ℕ) → ℕ → ℕ
+horner X p zero = p 0
+horner X p (suc k) = gf_add (gf_mul X (horner X p k)) (p (suc k))

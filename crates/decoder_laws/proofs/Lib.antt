@@ -1,0 +1,12 @@
+pub mod Series
+pub mod Horner
+pub mod Polynomials
+pub mod Powers
+pub mod KeyEquation
+pub mod Locators
+pub mod Euclid
+pub mod Unique
+pub mod Chien
+pub mod Forney
+pub mod Damage
+pub mod Nearest

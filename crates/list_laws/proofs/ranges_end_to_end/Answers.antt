@@ -1,0 +1,5 @@
+use Rattle.list_laws.proofs.Ranges.{range_with_len-add}
+use Rattle.list_laws.proofs.ranges_end_to_end.Goals as goal
+
+pub returns : goal.returns
+returns c = range_with_len-add

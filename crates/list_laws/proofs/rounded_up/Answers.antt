@@ -1,0 +1,5 @@
+use Rattle.list_laws.proofs.RoundingUp.{div_ceil_is}
+use Rattle.list_laws.proofs.rounded_up.Goals as goal
+
+pub returns : goal.returns
+returns c = div_ceil_is
