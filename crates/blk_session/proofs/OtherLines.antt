@@ -14,9 +14,9 @@ use Rattle.blk_spec.specs.Session.{Session, Extract as ExtractRecord, cause_of, 
 use Rattle.grammar_spec.specs.Printed.{HasFields}
 use Rattle.grammar_spec.specs.declared.line.Line.{Line}
 use Rattle.grammar_spec.specs.declared.line.Line.TheVariants.{Blank, Write, Dump, BeginWrite, BeginErase, BeginDump, Step, Finish, Stop, Flip, Boot, BootPart, List as ListLine, Extract, Erase, KDump, CutAfter, KMsg, Crash, Reserve, StoreNext}
-use Rattle.tool_spec.specs.BlkScripts.{blk_line_done, operation_of, performs, append_to, ring_for, blk_listing, blk_named, blk_extract_text}
-use Rattle.tool_spec.specs.declared.Cause.{Cause}
-use Rattle.tool_spec.specs.declared.Cause.TheVariants.{IsOff, NotHere, NoRecord}
+use Rattle.script_spec.specs.BlkScripts.{blk_line_done, operation_of, performs, append_to, ring_for, blk_listing, blk_named, blk_extract_text}
+use Rattle.script_spec.specs.declared.Cause.{Cause}
+use Rattle.script_spec.specs.declared.Cause.TheVariants.{IsOff, NotHere, NoRecord}
 use Rattle.blk_session.specs.declared.errors.LineError.{LineError}
 use Rattle.blk_session.specs.declared.errors.LineError.TheVariants.{Memory, StoreFault, Refused}
 use Rattle.blk_session.specs.Lines.{LineAsks, LineDone, IsWanted, LineFails, IsExtract}

@@ -3,7 +3,7 @@ ghost use Rattle.std.specs.Prelude.{◌≡◌};
 ghost use Rattle.blk_session.specs.Lines.{error_of};
 
 use std::alloc::AllocError;
-use tool_spec::Cause;
+use script_spec::Cause;
 use zone_blk::BlkFault;
 
 /// Why a line was not done.

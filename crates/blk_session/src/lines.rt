@@ -11,7 +11,7 @@ use crate::{calls, records};
 use outside::Store;
 use script::Line;
 use std::alloc::{AllocError, Global};
-use tool_spec::Cause;
+use script_spec::Cause;
 use zone_blk::{Blk, BlkLayout, BlkTime};
 
 // A line that puts nothing, and may change what is loaded.

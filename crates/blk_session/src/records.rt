@@ -5,7 +5,7 @@ use crate::errors::LineError;
 use crate::texts::extract_text;
 use outside::Bytes;
 use std::alloc::{AllocError, Global};
-use tool_spec::Cause;
+use script_spec::Cause;
 use zone_blk::Blk;
 
 /// A record's name, length and content.

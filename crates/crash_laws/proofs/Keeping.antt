@@ -30,9 +30,9 @@ use Rattle.machine_laws.proofs.Targets.{target-some}
 use Rattle.grammar_spec.specs.Fields.{Text}
 use Rattle.grammar_spec.specs.declared.line.Line.{Line}
 use Rattle.grammar_spec.specs.declared.line.Line.TheVariants.{Blank, Write, Dump, BeginWrite, BeginErase, BeginDump, Step, Finish, Stop, Flip, Boot, BootPart, List as ListLine, Extract, Erase, KDump, CutAfter, KMsg, Crash, Reserve, StoreNext}
-use Rattle.tool_spec.specs.Scripts.{StoreDone, Kernel, new_kernel, Done, beside, prints, does, put_by, named, lists, extracts, extracts_of, erases, erases_of, store_line, line_done, crash_body, crashed, crashes, log_limit}
-use Rattle.tool_spec.specs.declared.Cause.{Cause}
-use Rattle.tool_spec.specs.declared.Cause.TheVariants.{TooLong}
+use Rattle.script_spec.specs.Scripts.{StoreDone, Kernel, new_kernel, Done, beside, prints, does, put_by, named, lists, extracts, extracts_of, erases, erases_of, store_line, line_done, crash_body, crashed, crashes, log_limit}
+use Rattle.script_spec.specs.declared.Cause.{Cause}
+use Rattle.script_spec.specs.declared.Cause.TheVariants.{TooLong}
 use Rattle.crash_laws.specs.Standing.{IsToldLive, IsTold}
 use Rattle.crash_laws.specs.Lines.{dumps_elsewhere, names_dump, is_outside, spares}
 use Rattle.crash_laws.specs.Listings.{LinesKeepTold}

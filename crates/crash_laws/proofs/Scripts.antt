@@ -27,8 +27,8 @@ use Rattle.dump_records.proofs.Lines.{read_back}
 use Rattle.grammar_spec.specs.declared.line.Line.{Line}
 use Rattle.grammar_spec.specs.declared.line.Line.TheVariants.{Boot, Crash, Stop}
 use Rattle.grammar_spec.specs.Printed.{HasFields, AllHaveFields, IsPayload}
-use Rattle.tool_spec.specs.Scripts.{StoreDone, Kernel, new_kernel, Done, Ran, ran, ran_on, next_line, started, put_by, store_line, line_done, crash_body, dump_target}
-use Rattle.tool_spec.specs.declared.Cause.{Cause}
+use Rattle.script_spec.specs.Scripts.{StoreDone, Kernel, new_kernel, Done, Ran, ran, ran_on, next_line, started, put_by, store_line, line_done, crash_body, dump_target}
+use Rattle.script_spec.specs.declared.Cause.{Cause}
 use Rattle.tool_laws.specs.Crashes.{CrashesAreToldWhole}
 use Rattle.tool_laws.proofs.Sound.{IsSound, fold_sound}
 use Rattle.crash_laws.specs.Standing.{IsToldOff, IsTold}

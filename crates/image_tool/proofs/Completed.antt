@@ -3,14 +3,14 @@ use Rattle.std.proofs.Common.{◌≡◌, ◌⊎◌, ℕ, List, [], Result, Ok, E
 use Rattle.blk_spec.specs.declared.BlkLayout.{BlkLayout}
 use Rattle.grammar_spec.specs.Fields.{Text}
 use Rattle.grammar_spec.specs.declared.line.Line.{Line}
-use Rattle.tool_spec.specs.Ends.{End, status_of}
-use Rattle.tool_spec.specs.Commands.{RamCommand, RunScript, ListRecords, ExtractRecord, EraseRecord, ShowLayout, BlankImage, MakeImage, FindRings, ReadRing, RamPlan, Plan, OfRam, OfBlk, OfMove, wanted, wanted_move, plan_of, RunShared}
-use Rattle.tool_spec.specs.Answers.{Outside, RoseFor, IsFree}
-use Rattle.tool_spec.specs.BlkAnswers.{blk_lines, LinesOrStopAnswers}
-use Rattle.tool_spec.specs.PlanAnswers.{RamAnswers, ToolAnswers}
-use Rattle.tool_spec.specs.Complete.{lines_end, plan_end, CommandTells, PlanTells, Completes}
-use Rattle.tool_spec.specs.declared.Stop.{Stop}
-use Rattle.tool_spec.specs.declared.Stop.TheVariants.{ScriptFault, ImageFault, SinkFault}
+use Rattle.command_spec.specs.Ends.{End, status_of}
+use Rattle.command_spec.specs.Commands.{RamCommand, RunScript, ListRecords, ExtractRecord, EraseRecord, ShowLayout, BlankImage, MakeImage, FindRings, ReadRing, RamPlan, Plan, OfRam, OfBlk, OfMove, wanted, wanted_move, plan_of, RunShared}
+use Rattle.command_spec.specs.Answers.{Outside, RoseFor, IsFree}
+use Rattle.command_spec.specs.BlkAnswers.{blk_lines, LinesOrStopAnswers}
+use Rattle.command_spec.specs.PlanAnswers.{RamAnswers, ToolAnswers}
+use Rattle.command_spec.specs.Complete.{lines_end, plan_end, CommandTells, PlanTells, Completes}
+use Rattle.command_spec.specs.declared.Stop.{Stop}
+use Rattle.command_spec.specs.declared.Stop.TheVariants.{ScriptFault, ImageFault, SinkFault}
 
 module _ (a b : Outside) (status : ℕ) (script_ok : RoseFor ScriptFault a b → ⊥) (image_ok : RoseFor ImageFault a b → ⊥)
     (sink_ok : RoseFor SinkFault a b → ⊥) where

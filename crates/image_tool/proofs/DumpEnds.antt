@@ -10,13 +10,13 @@ use Rattle.salvage_spec.specs.declared.RingFault.{RingFault}
 use Rattle.salvage_spec.specs.declared.RingFault.TheVariants.{NoZone, NoRing, Memory as RingMemory}
 use Rattle.salvage.specs.Scans.{Scanned, IsFault}
 use Rattle.grammar_spec.specs.Fields.{Text}
-use Rattle.tool_spec.specs.Ends.{End}
-use Rattle.tool_spec.specs.Texts.{rings_text}
-use Rattle.tool_spec.specs.Commands.{RamCommand, FindRings, ReadRing, RamPlan, reads_image, front_of, dump_limit, shows, stops, wanted, wanted_of, wanted_ring}
-use Rattle.tool_spec.specs.Answers.{Outside, IfHolds, NoScript}
-use Rattle.tool_spec.specs.PlanAnswers.{ram_statuses, IsAmong}
-use Rattle.tool_spec.specs.declared.Stop.{Stop}
-use Rattle.tool_spec.specs.declared.Stop.TheVariants.{Memory, Usage, Param, Layout, NoSharedZone, Short, ScriptFault, ImageFault, SinkFault, TooLong, BadLine, Refused}
+use Rattle.command_spec.specs.Ends.{End}
+use Rattle.command_spec.specs.Texts.{rings_text}
+use Rattle.command_spec.specs.Commands.{RamCommand, FindRings, ReadRing, RamPlan, reads_image, front_of, dump_limit, shows, stops, wanted, wanted_of, wanted_ring}
+use Rattle.command_spec.specs.Answers.{Outside, IfHolds, NoScript}
+use Rattle.command_spec.specs.PlanAnswers.{ram_statuses, IsAmong}
+use Rattle.command_spec.specs.declared.Stop.{Stop}
+use Rattle.command_spec.specs.declared.Stop.TheVariants.{Memory, Usage, Param, Layout, NoSharedZone, Short, ScriptFault, ImageFault, SinkFault, TooLong, BadLine, Refused}
 use Rattle.tool_frame.specs.Stages.{FrontStop}
 use Rattle.tool_frame.specs.Ended.{Ended, CanEnd, RamReadEnds}
 use Rattle.tool_frame.proofs.Script.{Quiet, quiet_memory, put_nothing, ended_as}
@@ -55,16 +55,7 @@ unread plan c a b Memory f g is on none q h = reads plan a b _ (rw is on.memory)
     (record { told = λ bytes t. quiet_memory (wanted plan bytes []) a b q })
 unread plan c a b ImageFault f g is on none q h = reads plan a b _ (rw is on.image) none q.holds
     (record { told = λ bytes t. inl (q.given, q.holds) })
-unread plan c a b Usage f g is on none q h = absurd h
-unread plan c a b (Param x y) f g is on none q h = absurd h
-unread plan c a b (Layout x) f g is on none q h = absurd h
-unread plan c a b NoSharedZone f g is on none q h = absurd h
-unread plan c a b (Short x y) f g is on none q h = absurd h
-unread plan c a b ScriptFault f g is on none q h = absurd h
-unread plan c a b SinkFault f g is on none q h = absurd h
-unread plan c a b TooLong f g is on none q h = absurd h
-unread plan c a b (BadLine x) f g is on none q h = absurd h
-unread plan c a b (Refused x y) f g is on none q h = absurd h
+unread plan c a b s f g is on none q h = absurd h
 
 pub rings_unread : (plan : RamPlan) (a b : Outside) (s : Stop) (f g : ℕ) → plan.command ≡ FindRings → NoScript a b
     → Quiet a b → FrontStop s f g → RamReadEnds plan a b (Err s)

@@ -40,16 +40,16 @@ use Rattle.grammar_spec.specs.declared.line.Line.{Line}
 use Rattle.grammar_spec.specs.declared.line.Line.TheVariants.{Boot, Crash}
 use Rattle.grammar_spec.specs.Printed.{AllHaveFields}
 use Rattle.script.proofs.Inside.{read_fields}
-use Rattle.tool_spec.specs.Texts.{boot_text}
-use Rattle.tool_spec.specs.Scripts.{Kernel, new_kernel, ran, store_line, line_done}
-use Rattle.tool_spec.specs.Commands.{Asked, RamCommand, RunScript, Command, OnRam, RunBlkScript, MoveImage, RamPlan, MovePlan, Laid, Plan, OfRam, OfBlk, OfMove, Wanted, planned, laid_out, with_params, with_layout, with_blk_params, with_blk_layout, with_first_params, with_second_params, with_first_layout, with_second_layout, mem_of, wanted, wanted_run, wanted_lines, script_limit, script_end, stops, lacks_zone}
-use Rattle.tool_spec.specs.Ends.{End, status_of, last_line}
-use Rattle.tool_spec.specs.Answers.{Outside, front, whole, IsFree, Answers, RunAnswers}
-use Rattle.tool_spec.specs.PlanAnswers.{RamAnswers, ToolAnswers}
-use Rattle.tool_spec.specs.declared.Cause.{Cause}
-use Rattle.tool_spec.specs.declared.Stop.{Stop}
-use Rattle.tool_spec.specs.declared.Stop.TheVariants.{TooLong, NoSharedZone}
-use Rattle.tool_frame.proofs.Play.{text_at}
+use Rattle.script_spec.specs.Texts.{boot_text, front, whole}
+use Rattle.script_spec.specs.Scripts.{Kernel, new_kernel, ran, store_line, line_done}
+use Rattle.command_spec.specs.Commands.{Asked, RamCommand, RunScript, Command, OnRam, RunBlkScript, MoveImage, RamPlan, MovePlan, Laid, Plan, OfRam, OfBlk, OfMove, Wanted, planned, laid_out, with_params, with_layout, with_blk_params, with_blk_layout, with_first_params, with_second_params, with_first_layout, with_second_layout, mem_of, wanted, wanted_run, wanted_lines, script_limit, script_end, stops, lacks_zone}
+use Rattle.command_spec.specs.Ends.{End, status_of, last_line}
+use Rattle.command_spec.specs.Answers.{Outside, IsFree, Answers, RunAnswers}
+use Rattle.command_spec.specs.PlanAnswers.{RamAnswers, ToolAnswers}
+use Rattle.script_spec.specs.declared.Cause.{Cause}
+use Rattle.command_spec.specs.declared.Stop.{Stop}
+use Rattle.command_spec.specs.declared.Stop.TheVariants.{TooLong, NoSharedZone}
+use Rattle.tool_laws.proofs.Play.{text_at}
 use Rattle.image_tool.proofs.ScriptEnds.{run_wanted}
 use Rattle.tool_laws.proofs.Sound.{states_sound, take_fit}
 use Rattle.tool_laws.specs.RamScripts.{ScriptReadsWritten}

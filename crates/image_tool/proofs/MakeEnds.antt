@@ -4,10 +4,11 @@ use Rattle.std.specs.Io.KnownBytes.{Appends}
 use Rattle.outside.specs.Outside.{AppendsFront, Writes, WritesFront}
 use Rattle.machine_spec.specs.Stop.{session_image}
 use Rattle.grammar_spec.specs.Fields.{Text}
-use Rattle.tool_spec.specs.Generated.{generated, summary}
-use Rattle.tool_spec.specs.Commands.{MakeImage, RamPlan, wanted, wanted_make, mem_of}
-use Rattle.tool_spec.specs.Answers.{Outside, NoScript, NoImage, PutsAll, whole}
-use Rattle.tool_spec.specs.declared.Stop.TheVariants.{Memory, SinkFault, ImageFault}
+use Rattle.script_spec.specs.Generated.{generated, summary}
+use Rattle.command_spec.specs.Commands.{MakeImage, RamPlan, wanted, wanted_make, mem_of}
+use Rattle.command_spec.specs.Answers.{Outside, NoScript, NoImage, PutsAll}
+use Rattle.script_spec.specs.Texts.{whole}
+use Rattle.command_spec.specs.declared.Stop.TheVariants.{Memory, SinkFault, ImageFault}
 use Rattle.tool_frame.specs.Ended.{WrittenAt, MakeEnds}
 use Rattle.tool_frame.proofs.Script.{Quiet, quiet_memory}
 

@@ -22,9 +22,9 @@ use Rattle.move_laws.specs.Listed.{AreNamed}
 use Rattle.move_laws.proofs.Moved.{moved_image_reads, moved_image_is_sound}
 use Rattle.move_laws.proofs.Saved.{image_logs_fit}
 use Rattle.move_laws.proofs.Ranks.{layouts_are_named, layouts_keep_records}
-use Rattle.tool_spec.specs.Commands.{MovePlan, laid_mem, after_boot, Wanted, stops, wanted_move}
-use Rattle.tool_spec.specs.Answers.{Outside, IfHolds, ImageAnswers, WritesAll}
-use Rattle.tool_spec.specs.declared.Stop.TheVariants.{Short}
+use Rattle.command_spec.specs.Commands.{MovePlan, laid_mem, after_boot, Wanted, stops, wanted_move}
+use Rattle.command_spec.specs.Answers.{Outside, IfHolds, ImageAnswers, WritesAll}
+use Rattle.command_spec.specs.declared.Stop.TheVariants.{Short}
 use Rattle.image_tool.specs.Moves.{Moves, logs_in}
 
 -- the zones of both parameters are their layouts

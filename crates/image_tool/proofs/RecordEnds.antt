@@ -14,15 +14,15 @@ use Rattle.machine_spec.specs.Stop.{live_image}
 use Rattle.prz_read.specs.Saving.{SavedLogs, saved}
 use Rattle.ramoops.specs.LiveSeen.{LiveSeen, StandsLive}
 use Rattle.grammar_spec.specs.Fields.{Text}
-use Rattle.tool_spec.specs.Ends.{End}
-use Rattle.tool_spec.specs.Texts.{listing}
-use Rattle.tool_spec.specs.Scripts.{named}
-use Rattle.tool_spec.specs.Commands.{RamCommand, ListRecords, ExtractRecord, EraseRecord, RamPlan, reads_image, mem_of, after_boot, shows, leaves, unlisted, Wanted, wanted, wanted_of, wanted_extract, wanted_erase}
-use Rattle.tool_spec.specs.Answers.{Outside, IfHolds, NoScript}
-use Rattle.tool_spec.specs.declared.Cause.{Cause}
-use Rattle.tool_spec.specs.declared.Cause.TheVariants.{IsOff, IsLive, NoZone, Busy, Idle, OutOfImage, NoRecord, NotHere, TooLong, NoSeat, Crowded, NoRing}
-use Rattle.tool_spec.specs.declared.Stop.{Stop}
-use Rattle.tool_spec.specs.declared.Stop.TheVariants.{Memory as MemoryStop, ImageFault, SinkFault, Refused as RefusedStop}
+use Rattle.command_spec.specs.Ends.{End}
+use Rattle.script_spec.specs.Texts.{listing}
+use Rattle.script_spec.specs.Scripts.{named}
+use Rattle.command_spec.specs.Commands.{RamCommand, ListRecords, ExtractRecord, EraseRecord, RamPlan, reads_image, mem_of, after_boot, shows, leaves, unlisted, Wanted, wanted, wanted_of, wanted_extract, wanted_erase}
+use Rattle.command_spec.specs.Answers.{Outside, IfHolds, NoScript}
+use Rattle.script_spec.specs.declared.Cause.{Cause}
+use Rattle.script_spec.specs.declared.Cause.TheVariants.{IsOff, IsLive, NoZone, Busy, Idle, OutOfImage, NoRecord, NotHere, TooLong, NoSeat, Crowded, NoRing}
+use Rattle.command_spec.specs.declared.Stop.{Stop}
+use Rattle.command_spec.specs.declared.Stop.TheVariants.{Memory as MemoryStop, ImageFault, SinkFault, Refused as RefusedStop}
 use Rattle.tool_frame.specs.Ended.{Ended, CanEnd, RamReadEnds, RamImageEnds}
 use Rattle.tool_frame.specs.Stages.{LoadStop}
 use Rattle.tool_frame.proofs.Image.{load_can, image_stopped, image_done}

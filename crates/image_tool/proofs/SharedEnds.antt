@@ -5,13 +5,13 @@ use Rattle.outside.specs.Outside.{AppendsFront, Writes, WritesFront}
 use Rattle.grammar_spec.specs.Fields.{Text}
 use Rattle.grammar_spec.specs.Lines.{script_of}
 use Rattle.grammar_spec.specs.declared.line.Line.{Line}
-use Rattle.tool_spec.specs.Ends.{End, status_of}
-use Rattle.tool_spec.specs.Commands.{RunScript, RunShared, RamPlan, Wanted, wanted, wanted_shared, wanted_shared_lines, mem_of, stops}
-use Rattle.tool_spec.specs.Answers.{Outside}
-use Rattle.tool_spec.specs.PlanAnswers.{ram_statuses, IsAmong}
-use Rattle.tool_spec.specs.declared.Cause.{Cause}
-use Rattle.tool_spec.specs.declared.Stop.{Stop}
-use Rattle.tool_spec.specs.declared.Stop.TheVariants.{Memory, Usage, Param, Layout, NoSharedZone, Short, ScriptFault, ImageFault, SinkFault, TooLong, BadLine, Refused}
+use Rattle.command_spec.specs.Ends.{End, status_of}
+use Rattle.command_spec.specs.Commands.{RunScript, RunShared, RamPlan, Wanted, wanted, wanted_shared, wanted_shared_lines, mem_of, stops}
+use Rattle.command_spec.specs.Answers.{Outside}
+use Rattle.command_spec.specs.PlanAnswers.{ram_statuses, IsAmong}
+use Rattle.script_spec.specs.declared.Cause.{Cause}
+use Rattle.command_spec.specs.declared.Stop.{Stop}
+use Rattle.command_spec.specs.declared.Stop.TheVariants.{Memory, Usage, Param, Layout, NoSharedZone, Short, ScriptFault, ImageFault, SinkFault, TooLong, BadLine, Refused}
 use Rattle.tool_frame.specs.Ended.{Ended, RunEnds, ScriptEnds, CausedAt, WrittenAt}
 use Rattle.image_tool.specs.Shares.{SharesLines}
 use Rattle.tool_frame.proofs.ReadParts.{Read, read_unput, read_unsaved, read_refused, read_done}
@@ -39,16 +39,7 @@ share_stops : (P : Stop → Type 0) (w : Wanted) → P Memory
     → ((n : ℕ) (c : Cause) → w ≡ stops (Refused n c) → P (Refused n c)) → (s : Stop) → SharesLines w (Err s) → P s
 share_stops P w memory refused Memory h = memory
 share_stops P w memory refused (Refused n c) h = refused n c h
-share_stops P w memory refused Usage h = absurd h
-share_stops P w memory refused (Param x y) h = absurd h
-share_stops P w memory refused (Layout x) h = absurd h
-share_stops P w memory refused NoSharedZone h = absurd h
-share_stops P w memory refused (Short x y) h = absurd h
-share_stops P w memory refused ScriptFault h = absurd h
-share_stops P w memory refused ImageFault h = absurd h
-share_stops P w memory refused SinkFault h = absurd h
-share_stops P w memory refused TooLong h = absurd h
-share_stops P w memory refused (BadLine x) h = absurd h
+share_stops P w memory refused s h = absurd h
 
 pub share_caused : (w : Wanted) (s : Stop) (f f' g g' h h' : ℕ) → SharesLines w (Err s)
     → CausedAt f f' g g' h h' (Err s)

@@ -8,11 +8,11 @@ use Rattle.machine_spec.specs.Stop.{stopped}
 use Rattle.shared_spec.specs.Histories.{CanOpen, image_left}
 use Rattle.grammar_spec.specs.Lines.{script_of}
 use Rattle.grammar_spec.specs.declared.line.Line.{Line}
-use Rattle.tool_spec.specs.Commands.{RunShared, RamPlan, Wanted, wanted, wanted_shared, wanted_shared_lines, wanted_in_zone, wanted_ran, after_boot, mem_of, script_limit, stops}
-use Rattle.tool_spec.specs.SharedScripts.{SharedRan, shared_name, shared_ran, zone_to_share, lacks_plain_ftrace}
-use Rattle.tool_spec.specs.Answers.{Outside, WritesAll}
-use Rattle.tool_spec.specs.declared.Cause.{Cause}
-use Rattle.tool_spec.specs.declared.Stop.TheVariants.{TooLong}
+use Rattle.command_spec.specs.Commands.{RunShared, RamPlan, Wanted, wanted, wanted_shared, wanted_shared_lines, wanted_in_zone, wanted_ran, after_boot, mem_of, script_limit, stops}
+use Rattle.script_spec.specs.SharedScripts.{SharedRan, shared_name, shared_ran, zone_to_share, lacks_plain_ftrace}
+use Rattle.command_spec.specs.Answers.{Outside, WritesAll}
+use Rattle.script_spec.specs.declared.Cause.{Cause}
+use Rattle.command_spec.specs.declared.Stop.TheVariants.{TooLong}
 use Rattle.outside.specs.Outside.{Writes}
 use Rattle.tool_frame.proofs.Script.{nat_lt-false}
 use Rattle.tool_laws.proofs.SharedScripts.{full_log_read}

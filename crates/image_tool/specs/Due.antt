@@ -2,12 +2,12 @@
 use Rattle.std.specs.Prelude.{◌≡◌, ◌≢◌, ◌⊎◌, ⊤, ℕ, List, ◌++◌, Option, Result, Ok, Err}
 use Rattle.std.specs.Io.KnownBytes.{Appends}
 use Rattle.grammar_spec.specs.Fields.{Text}
-use Rattle.tool_spec.specs.Ends.{End, status_of, last_line}
-use Rattle.tool_spec.specs.Commands.{RamCommand, RunScript, MakeImage, RunShared, Plan, OfRam, OfBlk, OfMove}
-use Rattle.tool_spec.specs.Answers.{Outside}
-use Rattle.tool_spec.specs.declared.Stop.{Stop}
-use Rattle.tool_frame.specs.Playing.{PutsText}
-use Rattle.tool_spec.specs.declared.Stop.TheVariants.{ImageFault, SinkFault}
+use Rattle.command_spec.specs.Ends.{End, status_of, last_line}
+use Rattle.command_spec.specs.Commands.{RamCommand, RunScript, MakeImage, RunShared, Plan, OfRam, OfBlk, OfMove}
+use Rattle.command_spec.specs.Answers.{Outside}
+use Rattle.command_spec.specs.declared.Stop.{Stop}
+use Rattle.script_spec.specs.Playing.{PutsText}
+use Rattle.command_spec.specs.declared.Stop.TheVariants.{ImageFault, SinkFault}
 
 -- ---- the work of a command, before its last line
 

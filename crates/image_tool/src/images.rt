@@ -1,12 +1,12 @@
 // The commands that read no image.
 ghost use Rattle.std.specs.Prelude.{◌≡◌, ℕ, ◌≤◌, ◌<◌, ◌∷◌, [], List, Option, Err, replicate};
 ghost use Rattle.outside.specs.Outside.{WritesFront};
-ghost use Rattle.tool_spec.specs.declared.Stop.TheVariants.{ImageFault};
-ghost use Rattle.tool_spec.specs.Texts.{layout_text};
-ghost use Rattle.tool_spec.specs.Ends.{status_of};
-ghost use Rattle.tool_spec.specs.Commands.{ShowLayout, BlankImage, shows, leaves};
-ghost use Rattle.tool_spec.specs.PlanAnswers.{ram_statuses, IsAmong};
-ghost use Rattle.tool_frame.specs.Stages.{KeptUnless};
+ghost use Rattle.command_spec.specs.declared.Stop.TheVariants.{ImageFault};
+ghost use Rattle.command_spec.specs.Texts.{layout_text};
+ghost use Rattle.command_spec.specs.Ends.{status_of};
+ghost use Rattle.command_spec.specs.Commands.{ShowLayout, BlankImage, shows, leaves};
+ghost use Rattle.command_spec.specs.PlanAnswers.{ram_statuses, IsAmong};
+ghost use Rattle.script_spec.specs.Playing.{KeptUnless};
 ghost use Rattle.tool_frame.specs.Ended.{EndedAt, CausedAt, KeptAt, FailsAsked};
 ghost use Rattle.zone_params.specs.Laid.{params_of, zones_of};
 ghost use Rattle.image_tool.specs.Due.{PutsNone};

@@ -1,8 +1,8 @@
 // The image of a generated session.
 ghost use Rattle.std.specs.Prelude.{◌≤◌, ℕ, List, Option};
-ghost use Rattle.tool_spec.specs.Commands.{MakeImage};
-ghost use Rattle.tool_spec.specs.Answers.{outside};
-ghost use Rattle.tool_frame.specs.Stages.{KeptUnless};
+ghost use Rattle.command_spec.specs.Commands.{MakeImage};
+ghost use Rattle.command_spec.specs.Answers.{outside};
+ghost use Rattle.script_spec.specs.Playing.{KeptUnless};
 ghost use Rattle.tool_frame.specs.Ended.{CausedAt, KeptAt, FailsAsked, MakeEnds};
 ghost use Rattle.image_tool.specs.Plans.{plan_for};
 ghost use Rattle.image_tool.specs.Due.{PutsFirst};

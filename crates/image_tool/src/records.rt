@@ -2,12 +2,13 @@
 ghost use Rattle.std.specs.Prelude.{◌≡◌, ◌≤◌, ℕ, List, Option, IfOk, IfErr};
 ghost use Rattle.zone_spec.specs.Layout.{rounded};
 ghost use Rattle.zone_params.specs.Laid.{params_of, zones_of};
-ghost use Rattle.tool_spec.specs.Commands.{ListRecords, ExtractRecord, EraseRecord};
-ghost use Rattle.tool_spec.specs.Answers.{outside};
+ghost use Rattle.command_spec.specs.Commands.{ListRecords, ExtractRecord, EraseRecord};
+ghost use Rattle.command_spec.specs.Answers.{outside};
 ghost use Rattle.tool_frame.specs.Ended.{CausedAt, KeptAt, RamReadEnds, RamImageEnds};
 ghost use Rattle.image_tool.specs.Plans.{plan_for};
 ghost use Rattle.image_tool.specs.Due.{PutsNone};
-ghost use Rattle.tool_frame.specs.Stages.{KeptUnless, LoadStop};
+ghost use Rattle.script_spec.specs.Playing.{KeptUnless};
+ghost use Rattle.tool_frame.specs.Stages.{LoadStop};
 ghost use Rattle.image_tool.specs.Records.{SavedFrom, stop_for};
 
 use crate::stores::{boot_store, fresh_store};

@@ -1,11 +1,12 @@
 // The rings of a memory dump: all of them listed, and one read.
 ghost use Rattle.std.specs.Prelude.{◌≡◌, ◌≤◌, ◌++◌, ℕ, List, Option, OnOk, IfOk, IfErr};
 ghost use Rattle.zone_params.specs.Laid.{zones_of};
-ghost use Rattle.tool_spec.specs.Texts.{ring_line, rings_text};
-ghost use Rattle.tool_spec.specs.Commands.{FindRings, ReadRing};
-ghost use Rattle.tool_spec.specs.Answers.{outside};
+ghost use Rattle.command_spec.specs.Texts.{ring_line, rings_text};
+ghost use Rattle.command_spec.specs.Commands.{FindRings, ReadRing};
+ghost use Rattle.command_spec.specs.Answers.{outside};
 ghost use Rattle.tool_frame.specs.Ended.{CausedAt, RamReadEnds};
-ghost use Rattle.tool_frame.specs.Stages.{KeptUnless, FrontStop};
+ghost use Rattle.script_spec.specs.Playing.{KeptUnless};
+ghost use Rattle.tool_frame.specs.Stages.{FrontStop};
 ghost use Rattle.image_tool.specs.Plans.{plan_for};
 ghost use Rattle.image_tool.specs.Due.{PutsNone};
 ghost use Rattle.image_tool.specs.Dumps.{ScansFrom, ring_stop as stop_for};

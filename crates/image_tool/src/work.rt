@@ -1,8 +1,8 @@
 // The run of a command.
 ghost use Rattle.std.specs.Prelude.{◌≡◌, ◌≤◌, Ok};
 ghost use Rattle.outside.specs.Outside.{Rose};
-ghost use Rattle.tool_spec.specs.Commands.{OfRam, plan_of};
-ghost use Rattle.tool_spec.specs.Answers.{outside};
+ghost use Rattle.command_spec.specs.Commands.{OfRam, plan_of};
+ghost use Rattle.command_spec.specs.Answers.{outside};
 ghost use Rattle.tool_frame.specs.Words.{plan_for, ram_command_seen, texts};
 ghost use Rattle.tool_frame.specs.Ended.{WorkDone};
 ghost use Rattle.image_tool.specs.Runs.{Runs};

@@ -11,9 +11,9 @@ use Rattle.grammar_spec.specs.declared.line.Line.TheVariants.{Blank, Write, Dump
 use Rattle.zone_spec.specs.declared.Time.{Time}
 use Rattle.machine_spec.specs.Sound.{IsTime}
 use Rattle.grammar_spec.specs.Printed.{HasFields}
-use Rattle.tool_spec.specs.Scripts.{Kernel, store_line, line_done}
-use Rattle.tool_spec.specs.declared.Cause.{Cause}
-use Rattle.tool_spec.specs.declared.Cause.TheVariants.{IsOff, IsLive, NotHere}
+use Rattle.script_spec.specs.Scripts.{Kernel, store_line, line_done}
+use Rattle.script_spec.specs.declared.Cause.{Cause}
+use Rattle.script_spec.specs.declared.Cause.TheVariants.{IsOff, IsLive, NotHere}
 use Rattle.ram_session.specs.Sessions.{Live, LineRefused}
 use Rattle.ram_session.specs.Machines.{MachineRefused}
 use Rattle.ram_session.specs.declared.machine.Machine.TheVariants.{Off as OffMachine}

@@ -24,9 +24,9 @@ use Rattle.kmsg_dump.specs.Kept.{IsLine, Keeps}
 use Rattle.grammar_spec.specs.Fields.{is_message}
 use Rattle.grammar_spec.specs.Printed.{HasFields}
 use Rattle.grammar_spec.specs.declared.line.Line.TheVariants.{KMsg, Crash, Dump}
-use Rattle.tool_spec.specs.Scripts.{Kernel as KernelOf, beside, prints, crash_body, crashed, crashes, log_limit, why_of, room_in, dump_target, store_line, line_done}
-use Rattle.tool_spec.specs.declared.Cause.{Cause}
-use Rattle.tool_spec.specs.declared.Cause.TheVariants.{TooLong, NoZone}
+use Rattle.script_spec.specs.Scripts.{Kernel as KernelOf, beside, prints, crash_body, crashed, crashes, log_limit, why_of, room_in, dump_target, store_line, line_done}
+use Rattle.script_spec.specs.declared.Cause.{Cause}
+use Rattle.script_spec.specs.declared.Cause.TheVariants.{TooLong, NoZone}
 use Rattle.ram_session.specs.Kernels.{StandsForKernel, DumpsAlike, left_in, first_room}
 use Rattle.ram_session.specs.Sessions.{Live as LiveStore, LineDone, LineRefused, LineFails}
 use Rattle.ram_session.specs.Machines.{MachineDone, MachineRefused, MachineFails}

@@ -8,9 +8,9 @@ use Rattle.ramoops.specs.OffSeen.{OffSeen}
 use Rattle.ramoops.specs.LiveSeen.{LiveSeen}
 use Rattle.grammar_spec.specs.declared.line.Line.{Line}
 use Rattle.grammar_spec.specs.declared.line.Line.TheVariants.{Blank, Write, Dump, BeginWrite, BeginErase, BeginDump, Step, Finish, Stop, Flip, Boot, BootPart, List as ListLine, Extract, Erase, KDump, CutAfter, KMsg, Crash, Reserve, StoreNext}
-use Rattle.tool_spec.specs.Scripts.{Kernel as KernelOf, new_kernel, beside, store_line, line_done}
-use Rattle.tool_spec.specs.declared.Cause.{Cause}
-use Rattle.tool_spec.specs.declared.Cause.TheVariants.{IsLive}
+use Rattle.script_spec.specs.Scripts.{Kernel as KernelOf, new_kernel, beside, store_line, line_done}
+use Rattle.script_spec.specs.declared.Cause.{Cause}
+use Rattle.script_spec.specs.declared.Cause.TheVariants.{IsLive}
 use Rattle.ram_session.specs.Kernels.{StandsForKernel}
 use Rattle.ram_session.specs.Sessions.{Off as OffStore, Live as LiveStore, LineDone, LineRefused, LineFails, KeepsKernel}
 use Rattle.ram_session.specs.Machines.{MachineDone, MachineRefused, MachineFails}

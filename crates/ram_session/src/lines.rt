@@ -14,7 +14,7 @@ use prz_read::Logs;
 use ramoops::{Live, Off};
 use script::Line;
 use std::alloc::Global;
-use tool_spec::Cause;
+use script_spec::Cause;
 
 // A line of a call.
 #[tactic(auto, using(crate::proofs::AnyLines::dump_time, crate::proofs::AnyLines::begin_dump_time))]

@@ -11,7 +11,7 @@ use outside::Bytes;
 use prz_read::Logs;
 use ramoops::{Live, Off};
 use std::alloc::AllocError;
-use tool_spec::Cause;
+use script_spec::Cause;
 
 /// The machine of a script: off, or live, with the logs that its last boot saved and its kernel.
 #[derive(Drop)]

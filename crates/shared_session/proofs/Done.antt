@@ -7,9 +7,9 @@ use Rattle.shared_ring.specs.Seen.{SharedSeen, IsLeftBy}
 use Rattle.grammar_spec.specs.Printed.{HasFields}
 use Rattle.grammar_spec.specs.declared.line.Line.{Line}
 use Rattle.grammar_spec.specs.declared.line.Line.TheVariants.{Blank, Write, Dump, BeginWrite, BeginErase, BeginDump, Step, Finish, Stop, Flip, Boot, BootPart, List as ListLine, Extract, Erase, KDump, CutAfter, KMsg, Crash, Reserve, StoreNext}
-use Rattle.tool_spec.specs.SharedScripts.{shared_line, reserves, stores}
-use Rattle.tool_spec.specs.declared.Cause.{Cause}
-use Rattle.tool_spec.specs.declared.Cause.TheVariants.{NotHere}
+use Rattle.script_spec.specs.SharedScripts.{shared_line, reserves, stores}
+use Rattle.script_spec.specs.declared.Cause.{Cause}
+use Rattle.script_spec.specs.declared.Cause.TheVariants.{NotHere}
 use Rattle.shared_session.specs.Left.{IsLeft}
 
 blank_is : (h : History) → shared_line h Blank ≡ Ok h

@@ -14,8 +14,8 @@ use Rattle.shared_ring.specs.Seen.{SharedSeen, IsLeftBy}
 use Rattle.grammar_spec.specs.Printed.{HasFields, AllHaveFields}
 use Rattle.grammar_spec.specs.declared.line.Line.{Line}
 use Rattle.grammar_spec.specs.declared.line.Line.TheVariants.{Blank, Write, Dump, BeginWrite, BeginErase, BeginDump, Step, Finish, Stop, Flip, Boot, BootPart, List as ListLine, Extract, Erase, KDump, CutAfter, KMsg, Crash, Reserve, StoreNext}
-use Rattle.tool_spec.specs.SharedScripts.{SharedRan, shared_on, next_shared, shared_ran, shared_line, reserves, stores, with_steps}
-use Rattle.tool_spec.specs.declared.Cause.{Cause}
+use Rattle.script_spec.specs.SharedScripts.{SharedRan, shared_on, next_shared, shared_ran, shared_line, reserves, stores, with_steps}
+use Rattle.script_spec.specs.declared.Cause.{Cause}
 use Rattle.shared_session.specs.Left.{IsLeft, just_opened, IsOpened, PlaysAll, StopsAt}
 use Rattle.shared_session.proofs.Steps.{next_zone}
 

@@ -1,22 +1,23 @@
 -- What run answers to any words, from how their work ended and what the last line left
 use Rattle.std.proofs.Common.{◌≡◌, ◌≢◌, ◌⊎◌, true, false, ℕ, List, [], Option, Result, Ok, Err, refl, sym, ap, ◌∙◌, arith, inl, inr}
+use Rattle.std.proofs.KnownBytes.{Appends-nil}
 use Rattle.blk_spec.specs.declared.BlkLayout.{BlkLayout}
-use Rattle.tool_spec.specs.Ends.{End, status_of}
-use Rattle.tool_spec.specs.Commands.{RamCommand, RunScript, ListRecords, ExtractRecord, EraseRecord, ShowLayout, BlankImage, MakeImage, FindRings, ReadRing, RamPlan, Plan, OfRam, OfBlk, OfMove, Wanted, wanted, wanted_of_image, wanted_move, mem_of, RunShared}
-use Rattle.tool_spec.specs.Answers.{Outside, NoScript, NoImage, RoseFor, FaultAnswers}
-use Rattle.tool_spec.specs.BlkAnswers.{blk_lines}
-use Rattle.tool_spec.specs.PlanAnswers.{PlanAnswers, ToolAnswers, ram_statuses, statuses, IsAmong}
+use Rattle.command_spec.specs.Ends.{End, status_of}
+use Rattle.command_spec.specs.Commands.{RamCommand, RunScript, ListRecords, ExtractRecord, EraseRecord, ShowLayout, BlankImage, MakeImage, FindRings, ReadRing, RamPlan, Plan, OfRam, OfBlk, OfMove, Wanted, wanted, wanted_of_image, wanted_move, mem_of, RunShared}
+use Rattle.command_spec.specs.Answers.{Outside, NoScript, NoImage, RoseFor, FaultAnswers}
+use Rattle.command_spec.specs.BlkAnswers.{blk_lines}
+use Rattle.command_spec.specs.PlanAnswers.{PlanAnswers, ToolAnswers, ram_statuses, statuses, IsAmong}
 use Rattle.tool_frame.specs.Ends.{LastPut, Finished}
 use Rattle.tool_frame.specs.Words.{PlanStop}
 use Rattle.tool_frame.specs.Ended.{Ended, Caused, KeptBefore, ImageEnds, ReadEnds, RamEnds, PlanEnds, Nothing, WorkEnds, WorkDone}
 use Rattle.tool_frame.proofs.ReadParts.{unread_memory}
-use Rattle.tool_frame.proofs.Answered.{GoesOn, rose_on, nothing_put}
+use Rattle.tool_frame.proofs.Answered.{GoesOn, rose_on}
 use Rattle.tool_frame.proofs.Tool.{status_is, script_on, image_on, image_answers, ram_answers, no_texts}
 use Rattle.tool_frame.proofs.BlkScript.{memory_lines}
 use Rattle.tool_frame.proofs.BlkAnswered.{blk_answers}
 use Rattle.tool_frame.proofs.Script.{Quiet}
-use Rattle.tool_spec.specs.declared.Stop.{Stop}
-use Rattle.tool_spec.specs.declared.Stop.TheVariants.{Memory, Usage, Param, Layout, NoSharedZone, Short, ScriptFault, ImageFault, SinkFault, TooLong, BadLine, Refused}
+use Rattle.command_spec.specs.declared.Stop.{Stop}
+use Rattle.command_spec.specs.declared.Stop.TheVariants.{Memory, Usage, Param, Layout, NoSharedZone, Short, ScriptFault, ImageFault, SinkFault, TooLong, BadLine, Refused}
 
 -- ---- the statuses of a command
 
@@ -65,19 +66,11 @@ can_end (ReadRing at name) plan a b e h = h.can
 
 blk_can : (layout : BlkLayout) (e : End) (holds holds' : Option (List ℕ)) → KeptBefore holds holds' e
     → IsAmong (statuses (OfBlk layout)) (status_of e)
-blk_can layout (Ok u) holds holds' h = refl
-blk_can layout (Err Memory) holds holds' h = refl
 blk_can layout (Err Usage) holds holds' h = absurd h
 blk_can layout (Err (Param x y)) holds holds' h = absurd h
 blk_can layout (Err (Layout x)) holds holds' h = absurd h
 blk_can layout (Err NoSharedZone) holds holds' h = absurd h
-blk_can layout (Err (Short x y)) holds holds' h = refl
-blk_can layout (Err ScriptFault) holds holds' h = refl
-blk_can layout (Err ImageFault) holds holds' h = refl
-blk_can layout (Err SinkFault) holds holds' h = refl
-blk_can layout (Err TooLong) holds holds' h = refl
-blk_can layout (Err (BadLine x)) holds holds' h = refl
-blk_can layout (Err (Refused x y)) holds holds' h = refl
+blk_can layout e holds holds' h = refl
 
 plan_can : (plan : Plan) (a b : Outside) (e : End) → PlanEnds plan a b e
     → IsAmong (statuses plan) (status_of e)
@@ -112,38 +105,17 @@ fault_put s a m b status script image given f seven = elim f.shown [
 
 fault_answers : (s : Stop) (a m b : Outside) (status : ℕ) → NoScript a b → NoImage a b → m.given ≡ a.given
     → Finished (Err s) m.given b.given m.sink_faults b.sink_faults status → FaultAnswers s a b status
-fault_answers Memory a m b status script image given f =
-    fault_put Memory a m b status script image given f (λ z. absurd (omega arith))
-fault_answers Usage a m b status script image given f =
-    fault_put Usage a m b status script image given f (λ z. absurd (omega arith))
-fault_answers (Param x y) a m b status script image given f =
-    fault_put (Param x y) a m b status script image given f (λ z. absurd (omega arith))
-fault_answers (Layout x) a m b status script image given f =
-    fault_put (Layout x) a m b status script image given f (λ z. absurd (omega arith))
-fault_answers NoSharedZone a m b status script image given f =
-    fault_put NoSharedZone a m b status script image given f (λ z. absurd (omega arith))
-fault_answers (Short x y) a m b status script image given f =
-    fault_put (Short x y) a m b status script image given f (λ z. absurd (omega arith))
-fault_answers ScriptFault a m b status script image given f =
-    fault_put ScriptFault a m b status script image given f (λ z. absurd (omega arith))
-fault_answers ImageFault a m b status script image given f =
-    fault_put ImageFault a m b status script image given f (λ z. absurd (omega arith))
-fault_answers TooLong a m b status script image given f =
-    fault_put TooLong a m b status script image given f (λ z. absurd (omega arith))
-fault_answers (BadLine x) a m b status script image given f =
-    fault_put (BadLine x) a m b status script image given f (λ z. absurd (omega arith))
-fault_answers (Refused x y) a m b status script image given f =
-    fault_put (Refused x y) a m b status script image given f (λ z. absurd (omega arith))
 fault_answers SinkFault a m b status script image given f =
     let same : b.given ≡ a.given = f.same ∙ given in
     record {
       exact = inr f.answer;
       shown = λ z. absurd (z f.answer);
-      sink_fault = λ z. record { count = 0; within = omega arith; bytes = rw same (nothing_put a.given) };
-      script =
-          script;
+      sink_fault = λ z. record { count = 0; within = omega arith; bytes = rw same (Appends-nil a.given) };
+      script = script;
       image = image;
     }
+fault_answers s a m b status script image given f =
+    fault_put s a m b status script image given f (λ z. absurd (omega arith))
 
 -- ---- any words
 
@@ -249,29 +221,9 @@ same_stop f s e = let same : s ≡ f = cc in ap (λ x. Err x) same
 pub plan_stopped : (r : Result Plan Stop) (s : Stop) (a b : Outside) → PlanStop s r → Nothing a b
     → WorkEnds r a b (Err s)
 plan_stopped (Ok plan) Memory a b h n = memory_ends plan a b n
-plan_stopped (Ok plan) Usage a b h n = absurd (clash h)
-plan_stopped (Ok plan) (Param x y) a b h n = absurd (clash h)
-plan_stopped (Ok plan) (Layout x) a b h n = absurd (clash h)
-plan_stopped (Ok plan) NoSharedZone a b h n = absurd (clash h)
-plan_stopped (Ok plan) (Short x y) a b h n = absurd (clash h)
-plan_stopped (Ok plan) ScriptFault a b h n = absurd (clash h)
-plan_stopped (Ok plan) ImageFault a b h n = absurd (clash h)
-plan_stopped (Ok plan) SinkFault a b h n = absurd (clash h)
-plan_stopped (Ok plan) TooLong a b h n = absurd (clash h)
-plan_stopped (Ok plan) (BadLine x) a b h n = absurd (clash h)
-plan_stopped (Ok plan) (Refused x y) a b h n = absurd (clash h)
+plan_stopped (Ok plan) s a b h n = absurd (clash h)
 plan_stopped (Err f) Memory a b h n = let no_plan : false ≡ true = h in cc
-plan_stopped (Err f) Usage a b h n = (same_stop f _ h, n)
-plan_stopped (Err f) (Param x y) a b h n = (same_stop f _ h, n)
-plan_stopped (Err f) (Layout x) a b h n = (same_stop f _ h, n)
-plan_stopped (Err f) NoSharedZone a b h n = (same_stop f _ h, n)
-plan_stopped (Err f) (Short x y) a b h n = (same_stop f _ h, n)
-plan_stopped (Err f) ScriptFault a b h n = (same_stop f _ h, n)
-plan_stopped (Err f) ImageFault a b h n = (same_stop f _ h, n)
-plan_stopped (Err f) SinkFault a b h n = (same_stop f _ h, n)
-plan_stopped (Err f) TooLong a b h n = (same_stop f _ h, n)
-plan_stopped (Err f) (BadLine x) a b h n = (same_stop f _ h, n)
-plan_stopped (Err f) (Refused x y) a b h n = (same_stop f _ h, n)
+plan_stopped (Err f) s a b h n = (same_stop f _ h, n)
 
 -- ---- all that is said of words
 

@@ -1,11 +1,11 @@
 -- How the stages of a command that reads the image, and no script, end it
 use Rattle.std.proofs.Common.{◌≡◌, ℕ, ◌<◌, ◌≤◌, List, [], length, take, Option, Err, IfSome, refl, sym, ap, ◌∙◌, inl, true, true≢false}
-use Rattle.tool_spec.specs.Ends.{End}
-use Rattle.tool_spec.specs.Commands.{RamCommand, RunScript, ListRecords, ExtractRecord, EraseRecord, ShowLayout, BlankImage, MakeImage, FindRings, ReadRing, RamPlan, wanted, wanted_of, reads_image, front_of, mem_of, stops, RunShared}
-use Rattle.tool_spec.specs.Answers.{Outside, IfHolds}
-use Rattle.tool_spec.specs.PlanAnswers.{ram_statuses, IsAmong}
-use Rattle.tool_spec.specs.declared.Stop.{Stop}
-use Rattle.tool_spec.specs.declared.Stop.TheVariants.{Short}
+use Rattle.command_spec.specs.Ends.{End}
+use Rattle.command_spec.specs.Commands.{RamCommand, RunScript, ListRecords, ExtractRecord, EraseRecord, ShowLayout, BlankImage, MakeImage, FindRings, ReadRing, RamPlan, wanted, wanted_of, reads_image, front_of, mem_of, stops, RunShared}
+use Rattle.command_spec.specs.Answers.{Outside, IfHolds}
+use Rattle.command_spec.specs.PlanAnswers.{ram_statuses, IsAmong}
+use Rattle.command_spec.specs.declared.Stop.{Stop}
+use Rattle.command_spec.specs.declared.Stop.TheVariants.{Short}
 use Rattle.tool_frame.specs.Stages.{LoadStop}
 use Rattle.tool_frame.specs.Ended.{Ended, CanEnd}
 use Rattle.tool_frame.proofs.Script.{Quiet, quiet_memory, put_nothing, ended_as, nat_lt-true, nat_lt-false}

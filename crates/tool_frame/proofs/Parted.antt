@@ -5,7 +5,7 @@ use Rattle.std.specs.List.{position, position_or_len}
 use Rattle.std.specs.declared.string.String.{String}
 use Rattle.std.specs.declared.alloc.Global.{Global}
 use Rattle.grammar_spec.specs.Fields.{Text}
-use Rattle.tool_spec.specs.Commands.{Asked, MoveImage, is_to, parted, with_to}
+use Rattle.command_spec.specs.Commands.{Asked, MoveImage, is_to, parted, with_to}
 use Rattle.tool_frame.specs.Words.{texts}
 
 abbrev pub place_of : List (String Global) → Option ℕ

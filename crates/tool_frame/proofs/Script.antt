@@ -1,18 +1,18 @@
 -- How the stages of a command that reads an image and a script end it, whatever it wants of the lines
 use Rattle.std.proofs.Common.{◌≡◌, ℕ, ◌<◌, ◌≤◌, List, [], length, take, Option, Some, None, Result, Ok, Err, IfSome, refl, sym, ◌∙◌, arith, inl, inr, true, false, nat_lt}
+use Rattle.std.proofs.KnownBytes.{Appends-nil}
 use Rattle.std.proofs.lemmas.Bool.Decides.{nat_tests}
 use Rattle.std.specs.Io.KnownBytes.{Appends}
 use Rattle.grammar_spec.specs.Lines.{script_of}
 use Rattle.grammar_spec.specs.declared.line.Line.{Line}
-use Rattle.tool_spec.specs.Ends.{End, status_of}
-use Rattle.tool_spec.specs.Commands.{RunScript, RamPlan, Wanted, wanted, mem_of, stops, script_limit}
-use Rattle.tool_spec.specs.Answers.{Outside, NoScript}
-use Rattle.tool_spec.specs.PlanAnswers.{ram_statuses, IsAmong}
-use Rattle.tool_spec.specs.declared.Stop.{Stop}
-use Rattle.tool_spec.specs.declared.Stop.TheVariants.{Memory, Short, TooLong, BadLine}
+use Rattle.command_spec.specs.Ends.{End, status_of}
+use Rattle.command_spec.specs.Commands.{RunScript, RamPlan, Wanted, wanted, mem_of, stops, script_limit}
+use Rattle.command_spec.specs.Answers.{Outside, NoScript}
+use Rattle.command_spec.specs.PlanAnswers.{ram_statuses, IsAmong}
+use Rattle.command_spec.specs.declared.Stop.{Stop}
+use Rattle.command_spec.specs.declared.Stop.TheVariants.{Memory, Short, TooLong, BadLine}
 use Rattle.tool_frame.specs.Stages.{LoadStop, ScriptStop, ParseStop}
 use Rattle.tool_frame.specs.Ended.{Ended, RunEnds, ScriptEnds, CausedAt, WrittenAt}
-use Rattle.tool_frame.proofs.Answered.{nothing_put}
 use Rattle.tool_frame.proofs.ReadParts.{Read, read_of, unread_memory, unread_fault, unread_short, read_memory, read_fault, read_long, read_bad}
 use Rattle.tool_frame.proofs.StageStops.{load_stops, script_stops, parse_stops}
 use Rattle.tool_frame.proofs.Tool.{no_texts}
@@ -32,7 +32,7 @@ pub quiet_memory : (w : Wanted) (a b : Outside) → Quiet a b → Ended w a b (E
 quiet_memory w a b q = (rw q.given (no_texts w a.given), q.holds)
 
 pub put_nothing : (a b : Outside) → Quiet a b → Appends a.given b.given []
-put_nothing a b q = rw q.given (nothing_put a.given)
+put_nothing a b q = rw q.given (Appends-nil a.given)
 
 pub ended_as : (w v : Wanted) (a b : Outside) (e : End) → w ≡ v → Ended v a b e → Ended w a b e
 ended_as w v a b e same h = rw same h

@@ -1,17 +1,20 @@
 -- What the tool answers for each command, from how its work ended and what the last line left
 use Rattle.std.proofs.Common.{◌≡◌, ◌≢◌, ◌⊎◌, true, false, ℕ, ◌<◌, ◌≤◌, List, [], ◌++◌, length, take, Option, Result, Ok, Err, refl, sym, ◌∙◌, arith, inl, inr, append_assoc, IsOk}
+use Rattle.std.proofs.KnownBytes.{Appends-nil, Appends-trans}
 use Rattle.std.specs.Io.KnownBytes.{Appends, IsAtEnd}
 use Rattle.grammar_spec.specs.Lines.{script_of}
 use Rattle.grammar_spec.specs.Fields.{Text}
-use Rattle.tool_spec.specs.Ends.{End, status_of, last_line}
-use Rattle.tool_spec.specs.Commands.{RamCommand, RunScript, ListRecords, ExtractRecord, EraseRecord, ShowLayout, BlankImage, MakeImage, FindRings, ReadRing, RamPlan, Wanted, wanted, wanted_of_image, mem_of, script_limit, RunShared}
-use Rattle.tool_spec.specs.Answers.{Outside, NoScript, NoImage, RoseFor, PutsAll, IsFree, SavedInPart, ShortAnswers, ScriptAnswers, ScriptUse, ScriptRead, RunAnswers, ImageAnswers, ReadAnswers, MakeAnswers, whole}
-use Rattle.tool_spec.specs.PlanAnswers.{ram_statuses, RamAnswers}
+use Rattle.command_spec.specs.Ends.{End, status_of, last_line}
+use Rattle.command_spec.specs.Commands.{RamCommand, RunScript, ListRecords, ExtractRecord, EraseRecord, ShowLayout, BlankImage, MakeImage, FindRings, ReadRing, RamPlan, Wanted, wanted, wanted_of_image, mem_of, script_limit, RunShared}
+use Rattle.command_spec.specs.Answers.{Outside, NoScript, NoImage, RoseFor, PutsAll, IsFree, SavedInPart, ShortAnswers, ScriptAnswers, ScriptUse, ScriptRead, RunAnswers, ImageAnswers, ReadAnswers, MakeAnswers}
+use Rattle.script_spec.specs.Texts.{whole}
+use Rattle.command_spec.specs.PlanAnswers.{ram_statuses, RamAnswers}
 use Rattle.tool_frame.specs.Ends.{LastPut, Finished}
-use Rattle.tool_frame.specs.Ended.{PutTexts, Caused, ShortAt, ScriptAt, UseAt, ScriptEnds, RunEnds, ImageEnds, ReadEnds, WrittenAt, MakeEnds, RamEnds}
-use Rattle.tool_frame.proofs.Answered.{GoesOn, rose_on, sink_rose, saved_in_part, answers, appends_on, nothing_put}
-use Rattle.tool_spec.specs.declared.Stop.{Stop}
-use Rattle.tool_spec.specs.declared.Stop.TheVariants.{Memory, Usage, Param, Layout, NoSharedZone, Short, ScriptFault, ImageFault, SinkFault, TooLong, BadLine, Refused}
+use Rattle.script_spec.specs.Playing.{PutTexts}
+use Rattle.tool_frame.specs.Ended.{Caused, ShortAt, ScriptAt, UseAt, ScriptEnds, RunEnds, ImageEnds, ReadEnds, WrittenAt, MakeEnds, RamEnds}
+use Rattle.tool_frame.proofs.Answered.{GoesOn, rose_on, sink_rose, saved_in_part, answers}
+use Rattle.command_spec.specs.declared.Stop.{Stop}
+use Rattle.command_spec.specs.declared.Stop.TheVariants.{Memory, Usage, Param, Layout, NoSharedZone, Short, ScriptFault, ImageFault, SinkFault, TooLong, BadLine, Refused}
 
 pub script_on : (a m b : Outside) → NoScript a m → NoScript m b → NoScript a b
 script_on a m b h k = record { left = k.left ∙ h.left; source = k.source ∙ h.source }
@@ -37,18 +40,8 @@ module _ (a m b : Outside) (on : GoesOn a m b) (status : ℕ) where
   pub status_is : (e : End) → Caused a m e → Finished e m.given b.given m.sink_faults b.sink_faults status
       → IsStatus e a b status
   status_is (Ok u) c f = inl f.answer
-  status_is (Err Memory) c f = put_status Memory f
-  status_is (Err Usage) c f = put_status Usage f
-  status_is (Err (Param x y)) c f = put_status (Param x y) f
-  status_is (Err (Layout x)) c f = put_status (Layout x) f
-  status_is (Err NoSharedZone) c f = put_status NoSharedZone f
-  status_is (Err (Short x y)) c f = put_status (Short x y) f
-  status_is (Err ScriptFault) c f = put_status ScriptFault f
-  status_is (Err ImageFault) c f = put_status ImageFault f
   status_is (Err SinkFault) c f = inr (f.answer, rose_on a m b on SinkFault c f.later)
-  status_is (Err TooLong) c f = put_status TooLong f
-  status_is (Err (BadLine x)) c f = put_status (BadLine x) f
-  status_is (Err (Refused x y)) c f = put_status (Refused x y) f
+  status_is (Err s) c f = put_status s f
 
   -- text that was put by the end of the work, and the last line; or the output failed
   put_after : (s : Stop) (n : ℕ) → status_of (Err s) ≡ n → n ≢ 7 → m.given ≡ a.given
@@ -113,16 +106,9 @@ module _ (a m b : Outside) (on : GoesOn a m b) (status : ℕ) where
         (rose_on a m b on ImageFault c f.later) (λ k. inr (k, rose_on a m b on ImageFault c f.later))
         (put_status ImageFault f)
     short_at (Err (Short x y)) c h q f = short_stop x y h q.1 f
-    short_at (Err Usage) c h q f = enough 2 (λ z. absurd (omega arith)) h (put_status Usage f)
-    short_at (Err (Param x y)) c h q f = enough 3 (λ z. absurd (omega arith)) h (put_status (Param x y) f)
-    short_at (Err (Layout x)) c h q f = enough 3 (λ z. absurd (omega arith)) h (put_status (Layout x) f)
-    short_at (Err NoSharedZone) c h q f = enough 3 (λ z. absurd (omega arith)) h (put_status NoSharedZone f)
-    short_at (Err ScriptFault) c h q f = enough 5 (λ z. absurd (omega arith)) h (put_status ScriptFault f)
     short_at (Err SinkFault) c h q f = enough 7 (λ z. absurd (omega arith)) h
         (inr (f.answer, rose_on a m b on SinkFault c f.later))
-    short_at (Err TooLong) c h q f = enough 8 (λ z. absurd (omega arith)) h (put_status TooLong f)
-    short_at (Err (BadLine x)) c h q f = enough 9 (λ z. absurd (omega arith)) h (put_status (BadLine x) f)
-    short_at (Err (Refused x y)) c h q f = enough 10 (λ z. absurd (omega arith)) h (put_status (Refused x y) f)
+    short_at (Err s) c h q f = enough (status_of (Err s)) (λ z. absurd (omega arith)) h (put_status s f)
 
   -- ---- a script
 
@@ -196,16 +182,8 @@ module _ (a m b : Outside) (on : GoesOn a m b) (status : ℕ) where
     ]
     script_at (Err TooLong) c h q f = too_long h (put_status TooLong f)
     script_at (Err (BadLine x)) c h q f = bad_line x h q.1 f
-    script_at (Err Usage) c h q f = good 2 (λ z. absurd (omega arith)) (λ z. absurd (omega arith)) h
-        (put_status Usage f)
-    script_at (Err (Param x y)) c h q f = good 3 (λ z. absurd (omega arith)) (λ z. absurd (omega arith)) h
-        (put_status (Param x y) f)
-    script_at (Err (Layout x)) c h q f = good 3 (λ z. absurd (omega arith)) (λ z. absurd (omega arith)) h
-        (put_status (Layout x) f)
-    script_at (Err NoSharedZone) c h q f = good 3 (λ z. absurd (omega arith)) (λ z. absurd (omega arith)) h
-        (put_status NoSharedZone f)
-    script_at (Err (Refused x y)) c h q f = good 10 (λ z. absurd (omega arith)) (λ z. absurd (omega arith)) h
-        (put_status (Refused x y) f)
+    script_at (Err s) c h q f = good (status_of (Err s)) (λ z. absurd (omega arith)) (λ z. absurd (omega arith)) h
+        (put_status s f)
 
   -- ---- how much of the script was read
 
@@ -299,22 +277,6 @@ module _ (a m b : Outside) (on : GoesOn a m b) (status : ℕ) where
       → ScriptUse a b status
   use_at (Ok u) c h f = ended_at 0 (λ z. absurd (omega arith)) (λ z. absurd (omega arith)) (λ z. absurd (omega arith))
       (λ z. absurd (omega arith)) h f.answer
-  use_at (Err Memory) c h f = quiet_end Memory 1 refl (λ z. absurd (omega arith)) (λ z. absurd (omega arith))
-      (λ z. absurd (omega arith)) (λ z. absurd (omega arith)) (λ z. absurd (omega arith)) (λ z. absurd (omega arith))
-      (λ z. absurd (omega arith)) (put_status Memory f)
-  use_at (Err Usage) c h f = quiet_end Usage 2 refl (λ z. absurd (omega arith)) (λ z. absurd (omega arith))
-      (λ z. absurd (omega arith)) (λ z. absurd (omega arith)) (λ z. absurd (omega arith)) (λ z. absurd (omega arith))
-      (λ z. absurd (omega arith)) (put_status Usage f)
-  use_at (Err (Param x y)) c h f = quiet_end (Param x y) 3 refl (λ z. absurd (omega arith)) (λ z. absurd (omega arith))
-      (λ z. absurd (omega arith)) (λ z. absurd (omega arith)) (λ z. absurd (omega arith)) (λ z. absurd (omega arith))
-      (λ z. absurd (omega arith)) (put_status (Param x y) f)
-  use_at (Err (Layout x)) c h f = quiet_end (Layout x) 3 refl (λ z. absurd (omega arith)) (λ z. absurd (omega arith))
-      (λ z. absurd (omega arith)) (λ z. absurd (omega arith)) (λ z. absurd (omega arith)) (λ z. absurd (omega arith))
-      (λ z. absurd (omega arith)) (put_status (Layout x) f)
-  use_at (Err NoSharedZone) c h f = quiet_end NoSharedZone 3 refl (λ z. absurd (omega arith))
-      (λ z. absurd (omega arith))
-      (λ z. absurd (omega arith)) (λ z. absurd (omega arith)) (λ z. absurd (omega arith)) (λ z. absurd (omega arith))
-      (λ z. absurd (omega arith)) (put_status NoSharedZone f)
   use_at (Err (Short x y)) c h f = used_by (Short x y) (unread_at h.0) (put_status (Short x y) f)
   use_at (Err ScriptFault) c h f = used_by ScriptFault
       (λ k. fault_at (put_after ScriptFault 5 refl (λ z. absurd (omega arith)) h f k) k) (put_status ScriptFault f)
@@ -328,6 +290,9 @@ module _ (a m b : Outside) (on : GoesOn a m b) (status : ℕ) where
   use_at (Err (Refused x y)) c h f = used_by (Refused x y)
       (ended_at 10 (λ z. absurd (omega arith)) (λ z. absurd (omega arith)) (λ z. absurd (omega arith))
       (λ z. absurd (omega arith)) h) (put_status (Refused x y) f)
+  use_at (Err s) c h f = quiet_end s (status_of (Err s)) refl (λ z. absurd (omega arith)) (λ z. absurd (omega arith))
+      (λ z. absurd (omega arith)) (λ z. absurd (omega arith)) (λ z. absurd (omega arith)) (λ z. absurd (omega arith))
+      (λ z. absurd (omega arith)) (put_status s f)
 
   -- ---- commands
 
@@ -350,22 +315,12 @@ module _ (a m b : Outside) (on : GoesOn a m b) (status : ℕ) where
   some_put s f = elim f.shown [ inl h ↦ (last_line s, h.1) | inr h ↦ (take h.2.count (last_line s), h.2.bytes) ]
 
   none_put : b.given ≡ m.given → PutsMore
-  none_put same = ([], rw same (nothing_put m.given))
+  none_put same = ([], rw same (Appends-nil m.given))
 
   last_put : (e : End) → Finished e m.given b.given m.sink_faults b.sink_faults status → PutsMore
   last_put (Ok u) f = none_put f.same
   last_put (Err SinkFault) f = none_put f.same
-  last_put (Err Memory) f = some_put Memory f
-  last_put (Err Usage) f = some_put Usage f
-  last_put (Err (Param x y)) f = some_put (Param x y) f
-  last_put (Err (Layout x)) f = some_put (Layout x) f
-  last_put (Err NoSharedZone) f = some_put NoSharedZone f
-  last_put (Err (Short x y)) f = some_put (Short x y) f
-  last_put (Err ScriptFault) f = some_put ScriptFault f
-  last_put (Err ImageFault) f = some_put ImageFault f
-  last_put (Err TooLong) f = some_put TooLong f
-  last_put (Err (BadLine x)) f = some_put (BadLine x) f
-  last_put (Err (Refused x y)) f = some_put (Refused x y) f
+  last_put (Err s) f = some_put s f
 
   -- text that was put first stays so
   text_on : (w : Wanted) → NoImage a m ⊎ PutsAll w a m → PutsMore → NoImage a b ⊎ PutsAll w a b
@@ -374,7 +329,7 @@ module _ (a m b : Outside) (on : GoesOn a m b) (status : ℕ) where
       inr (
         h.0 ++ put.0,
         rw (← append_assoc (whole w.texts) h.0 put.0)
-            (appends_on a.given m.given b.given (whole w.texts ++ h.0) put.0 h.1 put.1),
+            (Appends-trans a.given m.given b.given (whole w.texts ++ h.0) put.0 h.1 put.1),
       )
 
   -- the image failed as it was written
@@ -395,17 +350,8 @@ module _ (a m b : Outside) (on : GoesOn a m b) (status : ℕ) where
       → SavedInPart w a b (last_line ImageFault)
   written_at w (Err ImageFault) c h f = image_written w c h f
   written_at w (Ok u) c h f = not_six w 0 (λ z. absurd (omega arith)) (inl f.answer)
-  written_at w (Err Memory) c h f = not_six w 1 (λ z. absurd (omega arith)) (put_status Memory f)
-  written_at w (Err Usage) c h f = not_six w 2 (λ z. absurd (omega arith)) (put_status Usage f)
-  written_at w (Err (Param x y)) c h f = not_six w 3 (λ z. absurd (omega arith)) (put_status (Param x y) f)
-  written_at w (Err (Layout x)) c h f = not_six w 3 (λ z. absurd (omega arith)) (put_status (Layout x) f)
-  written_at w (Err NoSharedZone) c h f = not_six w 3 (λ z. absurd (omega arith)) (put_status NoSharedZone f)
-  written_at w (Err (Short x y)) c h f = not_six w 4 (λ z. absurd (omega arith)) (put_status (Short x y) f)
-  written_at w (Err ScriptFault) c h f = not_six w 5 (λ z. absurd (omega arith)) (put_status ScriptFault f)
   written_at w (Err SinkFault) c h f = not_six w 7 (λ z. absurd (omega arith)) (inl f.answer)
-  written_at w (Err TooLong) c h f = not_six w 8 (λ z. absurd (omega arith)) (put_status TooLong f)
-  written_at w (Err (BadLine x)) c h f = not_six w 9 (λ z. absurd (omega arith)) (put_status (BadLine x) f)
-  written_at w (Err (Refused x y)) c h f = not_six w 10 (λ z. absurd (omega arith)) (put_status (Refused x y) f)
+  written_at w (Err s) c h f = not_six w (status_of (Err s)) (λ z. absurd (omega arith)) (put_status s f)
 
   run_answers : (plan : RamPlan) (e : End) → Caused a m e → RunEnds plan a m e
       → Finished e m.given b.given m.sink_faults b.sink_faults status → RunAnswers plan a b status
@@ -468,4 +414,4 @@ module _ (a m b : Outside) (on : GoesOn a m b) (status : ℕ) where
 -- ---- work that nothing has come of
 
 pub no_texts : (w : Wanted) (given : Option (List ℕ)) → PutTexts w.texts given given
-no_texts w given = record { count = 0; bytes = nothing_put given }
+no_texts w given = record { count = 0; bytes = Appends-nil given }

@@ -1,7 +1,7 @@
 -- Only a script on a shared zone asks for one
 use Rattle.std.proofs.Common.{◌≡◌, false, refl}
 use Rattle.zone_spec.specs.declared.params.Params.{Params}
-use Rattle.tool_spec.specs.Commands.{lacks_zone}
+use Rattle.command_spec.specs.Commands.{lacks_zone}
 use Rattle.tool_frame.specs.declared.words.RamCommand.{RamCommand}
 use Rattle.tool_frame.specs.declared.words.RamCommand.TheVariants.{Run, List as ListCommand, Extract, Erase, Layout as LayoutCommand, Blank, Make, Salvage, Rescue}
 use Rattle.tool_frame.specs.Words.{ram_command_seen}

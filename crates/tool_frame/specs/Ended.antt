@@ -6,24 +6,16 @@ use Rattle.blk_spec.specs.declared.BlkLayout.{BlkLayout}
 use Rattle.grammar_spec.specs.Fields.{Text}
 use Rattle.grammar_spec.specs.Lines.{script_of}
 use Rattle.grammar_spec.specs.declared.line.Line.{Line}
-use Rattle.tool_spec.specs.Ends.{End, status_of}
-use Rattle.tool_spec.specs.Commands.{RamCommand, RunScript, ListRecords, ExtractRecord, EraseRecord, ShowLayout, BlankImage, MakeImage, FindRings, ReadRing, RamPlan, Plan, OfRam, OfBlk, OfMove, Wanted, wanted, wanted_of_image, wanted_move, mem_of, stops, script_limit, RunShared}
-use Rattle.tool_spec.specs.Answers.{Outside, IfHolds, IfLeft, IfTold, NoScript, NoImage, Later, front, whole, WritesAll, WritesSome, PutsAll}
-use Rattle.tool_spec.specs.BlkAnswers.{blk_lines, BlkStop, AllDone}
-use Rattle.tool_spec.specs.PlanAnswers.{ram_statuses, statuses, IsAmong, WritesLast}
-use Rattle.tool_frame.specs.Stages.{KeptUnless}
-use Rattle.tool_spec.specs.declared.Stop.{Stop}
-use Rattle.tool_spec.specs.declared.Stop.TheVariants.{Memory, Usage, Param, Layout, NoSharedZone, Short, ScriptFault, ImageFault, SinkFault, TooLong, BadLine, Refused}
-
--- some first texts were put
-pub record PutTexts (texts : List Text) (old new : Option (List ℕ)) : Type 0 where
-  pub count : ℕ
-  pub bytes : Appends old new (front texts count)
-
--- a front of some first texts was put
-pub record PutSome (texts : List Text) (old new : Option (List ℕ)) : Type 0 where
-  pub count : ℕ
-  pub bytes : AppendsFront old new (front texts count)
+use Rattle.command_spec.specs.Ends.{End, status_of}
+use Rattle.command_spec.specs.Commands.{RamCommand, RunScript, ListRecords, ExtractRecord, EraseRecord, ShowLayout, BlankImage, MakeImage, FindRings, ReadRing, RamPlan, Plan, OfRam, OfBlk, OfMove, Wanted, wanted, wanted_of_image, wanted_move, mem_of, stops, script_limit, RunShared}
+use Rattle.command_spec.specs.Answers.{Outside, IfHolds, IfLeft, IfTold, NoScript, NoImage, Later, WritesAll, WritesSome, PutsAll}
+use Rattle.script_spec.specs.Texts.{front, whole}
+use Rattle.command_spec.specs.BlkAnswers.{blk_lines, BlkStop}
+use Rattle.script_spec.specs.BlkStops.{AllDone}
+use Rattle.command_spec.specs.PlanAnswers.{ram_statuses, statuses, IsAmong, WritesLast}
+use Rattle.script_spec.specs.Playing.{KeptUnless, PutTexts, PutSome}
+use Rattle.command_spec.specs.declared.Stop.{Stop}
+use Rattle.command_spec.specs.declared.Stop.TheVariants.{Memory, Usage, Param, Layout, NoSharedZone, Short, ScriptFault, ImageFault, SinkFault, TooLong, BadLine, Refused}
 
 -- the output and the image after the work of a command that wants this
 abbrev pub EndedAt : Wanted → Option (List ℕ) → Option (List ℕ) → Option (List ℕ) → Option (List ℕ) → End → Type 0

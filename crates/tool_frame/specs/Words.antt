@@ -6,10 +6,10 @@ use Rattle.blk_spec.specs.Layout.{IsLayout}
 use Rattle.zone_params.specs.declared.types.Layout.{Layout}
 use Rattle.zone_params.specs.Laid.{params_of, zones_of}
 use Rattle.grammar_spec.specs.Fields.{Text}
-use Rattle.tool_spec.specs.Commands.{RamCommand, RunScript, ListRecords, ExtractRecord, EraseRecord, ShowLayout, BlankImage, MakeImage, FindRings, ReadRing, Command, OnRam, RunBlkScript, MoveImage, Asked, RamPlan, Laid, MovePlan, Plan, OfRam, OfBlk, OfMove, RunShared}
-use Rattle.tool_spec.specs.SharedScripts.{lacks_plain_ftrace}
-use Rattle.tool_spec.specs.declared.Stop.{Stop}
-use Rattle.tool_spec.specs.declared.Stop.TheVariants.{Memory, ScriptFault, ImageFault, SinkFault}
+use Rattle.command_spec.specs.Commands.{RamCommand, RunScript, ListRecords, ExtractRecord, EraseRecord, ShowLayout, BlankImage, MakeImage, FindRings, ReadRing, Command, OnRam, RunBlkScript, MoveImage, Asked, RamPlan, Laid, MovePlan, Plan, OfRam, OfBlk, OfMove, RunShared}
+use Rattle.script_spec.specs.SharedScripts.{lacks_plain_ftrace}
+use Rattle.command_spec.specs.declared.Stop.{Stop}
+use Rattle.command_spec.specs.declared.Stop.TheVariants.{Memory, ScriptFault, ImageFault, SinkFault}
 use Rattle.tool_frame.specs.declared.words.RamCommand.{RamCommand as ReadRamCommand}
 use Rattle.tool_frame.specs.declared.words.RamCommand.TheVariants.{Run, List as ListCommand, Extract, Erase, Layout as LayoutCommand, Blank, Make, Salvage, Rescue}
 use Rattle.tool_frame.specs.declared.asked.Command.{Command as ReadCommand}

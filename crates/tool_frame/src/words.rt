@@ -1,6 +1,6 @@
 // The words of the command line.
 ghost use Rattle.std.specs.Prelude.{◌≡◌, ◌<◌, position, string_bytes, [], ◌∷◌, MatchResult, MatchOption, None, Some, Ok, IfOk, IfErr};
-ghost use Rattle.tool_spec.specs.Commands.{OnRam, RunBlkScript, MoveImage, is_to, with_to, asked, asked_by, with_name, with_number, with_place, with_first_layout, laid_out, plan_of, ExtractRecord, EraseRecord, RunShared};
+ghost use Rattle.command_spec.specs.Commands.{OnRam, RunBlkScript, MoveImage, is_to, with_to, asked, asked_by, with_name, with_number, with_place, with_first_layout, laid_out, plan_of, ExtractRecord, EraseRecord, RunShared};
 ghost use Rattle.zone_spec.specs.Layout.{layout_of};
 ghost use Rattle.tool_frame.specs.Words.{asked_seen, plan_seen, ram_command_seen, command_seen, texts, PlanStop, IsLaid, IsNoFault};
 

@@ -15,8 +15,8 @@ use Rattle.blk_laws.proofs.CutSessions.{cut-run}
 use Rattle.zone_spec.specs.declared.ZoneName.{ZoneName}
 use Rattle.grammar_spec.specs.declared.line.Line.{Line}
 use Rattle.grammar_spec.specs.declared.line.Line.TheVariants.{Blank, Write, Dump, BeginWrite, BeginErase, BeginDump, Step, Finish, Stop, Flip, Boot, BootPart, List as ListLine, Extract, Erase, KDump, CutAfter, KMsg, Crash, Reserve, StoreNext}
-use Rattle.tool_spec.specs.BlkScripts.{BlkRan, blk_ran_on, blk_next_line, blk_ran, blk_started, blk_line_done, operation_of, performs_if, done_unless, put_by, ring_for, append_to}
-use Rattle.tool_spec.specs.declared.Cause.{Cause}
+use Rattle.script_spec.specs.BlkScripts.{BlkRan, blk_ran_on, blk_next_line, blk_ran, blk_started, blk_line_done, operation_of, performs_if, done_unless, put_by, ring_for, append_to}
+use Rattle.script_spec.specs.declared.Cause.{Cause}
 use Rattle.tool_laws.specs.BlkScripts.{operation_unless, before, operations_from, script_operations, script_calls, is_no_boot, ScriptsAreSessions, EveryBootListsReading, WholeScriptListsTold, EarlyCutScriptListsBefore}
 
 -- what a script so far is left in by an operation, done or refused

@@ -23,8 +23,8 @@ use Rattle.shared_laws.proofs.Closing.{zone_left, log_left}
 use Rattle.shared_laws.proofs.Laws.{words_of_all_law, log_differs_at_open_calls}
 use Rattle.grammar_spec.specs.declared.line.Line.{Line}
 use Rattle.grammar_spec.specs.declared.line.Line.TheVariants.{Blank, Write, Dump, BeginWrite, BeginErase, BeginDump, Step, Finish, Stop, Flip, Boot, BootPart, List as ListLine, Extract, Erase, KDump, CutAfter, KMsg, Crash, Reserve, StoreNext}
-use Rattle.tool_spec.specs.SharedScripts.{SharedRan, shared_ran, shared_on, next_shared, shared_line, reserves, stores, with_steps}
-use Rattle.tool_spec.specs.declared.Cause.{Cause}
+use Rattle.script_spec.specs.SharedScripts.{SharedRan, shared_ran, shared_on, next_shared, shared_line, reserves, stores, with_steps}
+use Rattle.script_spec.specs.declared.Cause.{Cause}
 use Rattle.tool_laws.specs.SharedScripts.{payload_of, log_in, full_log, ReadsShared, SharedScriptsReadFullLog}
 
 -- ---- what the lines reserve

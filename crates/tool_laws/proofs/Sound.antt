@@ -19,9 +19,9 @@ use Rattle.grammar_spec.specs.declared.line.Line.{Line}
 use Rattle.grammar_spec.specs.declared.line.Line.TheVariants.{Blank, Write, Dump, BeginWrite, BeginErase, BeginDump, Step, Finish, Stop, Flip, Boot, BootPart, List as ListLine, Extract, Erase, KDump, CutAfter, KMsg, Crash, Reserve, StoreNext}
 use Rattle.grammar_spec.specs.Fields.{Text}
 use Rattle.grammar_spec.specs.Printed.{HasFields, AllHaveFields, IsPayload}
-use Rattle.tool_spec.specs.Scripts.{StoreDone, Kernel, new_kernel, Done, Ran, ran, ran_on, next_line, started, store_line, beside, prints, crash_body, crashed, crashes, log_limit, why_of, room_in, dump_target, line_done, does, done_or_refused, named, lists, extracts, extracts_of, erases, erases_of, put_by}
-use Rattle.tool_spec.specs.declared.Cause.{Cause}
-use Rattle.tool_spec.specs.declared.Cause.TheVariants.{TooLong}
+use Rattle.script_spec.specs.Scripts.{StoreDone, Kernel, new_kernel, Done, Ran, ran, ran_on, next_line, started, store_line, beside, prints, crash_body, crashed, crashes, log_limit, why_of, room_in, dump_target, line_done, does, done_or_refused, named, lists, extracts, extracts_of, erases, erases_of, put_by}
+use Rattle.script_spec.specs.declared.Cause.{Cause}
+use Rattle.script_spec.specs.declared.Cause.TheVariants.{TooLong}
 use Rattle.kmsg_spec.specs.Bodies.{last_lines}
 use Rattle.tool_laws.proofs.Kernels.{all_last, body_bytes}
 

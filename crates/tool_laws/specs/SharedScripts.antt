@@ -11,7 +11,7 @@ use Rattle.shared_spec.specs.Histories.{shared_zone, image_left}
 use Rattle.shared_laws.specs.Laws.{IsOfNoOpenCall}
 use Rattle.grammar_spec.specs.declared.line.Line.{Line}
 use Rattle.grammar_spec.specs.declared.line.Line.TheVariants.{Reserve}
-use Rattle.tool_spec.specs.SharedScripts.{shared_ran}
+use Rattle.script_spec.specs.SharedScripts.{shared_ran}
 
 -- the payload that a line reserves
 abbrev pub payload_of : Line → List ℕ

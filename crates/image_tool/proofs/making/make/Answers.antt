@@ -1,5 +1,5 @@
 use Rattle.std.proofs.Common.{refl}
-use Rattle.tool_spec.specs.Commands.{MakeImage}
+use Rattle.command_spec.specs.Commands.{MakeImage}
 use Rattle.image_tool.specs.Plans.{plan_for}
 use Rattle.image_tool.proofs.MakeEnds.{make_unput, make_saved, make_unsaved}
 use Rattle.image_tool.proofs.Due.{text_put}

@@ -1,5 +1,5 @@
 use Rattle.std.proofs.Common.{refl}
-use Rattle.tool_spec.specs.Commands.{EraseRecord}
+use Rattle.command_spec.specs.Commands.{EraseRecord}
 use Rattle.image_tool.specs.Plans.{plan_for}
 use Rattle.image_tool.proofs.RecordEnds.{erase_saved, erase_unsaved, erase_stopped}
 use Rattle.image_tool.proofs.records.erase.Goals as goal

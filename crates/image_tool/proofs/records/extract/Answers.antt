@@ -1,7 +1,7 @@
 use Rattle.std.proofs.Common.{refl, subst, List, ℕ, Err}
 use Rattle.prz_read.specs.Saving.{saved}
 use Rattle.ram_session.specs.Records.{IsContent}
-use Rattle.tool_spec.specs.Commands.{ExtractRecord}
+use Rattle.command_spec.specs.Commands.{ExtractRecord}
 use Rattle.image_tool.specs.Plans.{plan_for}
 use Rattle.image_tool.proofs.RecordEnds.{extract_put, extract_front, extract_stopped}
 use Rattle.image_tool.proofs.Due.{none_put}

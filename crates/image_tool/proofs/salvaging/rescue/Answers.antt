@@ -3,7 +3,7 @@ use Rattle.std.proofs.Common.{refl, subst, Err}
 use Rattle.std.specs.Io.KnownBytes.{Appends}
 use Rattle.outside.specs.Outside.{AppendsFront}
 use Rattle.zone_spec.specs.Reading.{ZoneReading}
-use Rattle.tool_spec.specs.Commands.{ReadRing}
+use Rattle.command_spec.specs.Commands.{ReadRing}
 use Rattle.image_tool.specs.Plans.{plan_for}
 use Rattle.image_tool.proofs.DumpEnds.{ring_put, ring_front, ring_refused}
 use Rattle.image_tool.proofs.Due.{none_put}

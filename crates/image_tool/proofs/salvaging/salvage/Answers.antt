@@ -1,7 +1,7 @@
 -- The rings of a dump, put
 use Rattle.std.proofs.Common.{ap, ◌∙◌, refl, Err}
-use Rattle.tool_spec.specs.Texts.{rings_text}
-use Rattle.tool_spec.specs.Commands.{FindRings}
+use Rattle.command_spec.specs.Texts.{rings_text}
+use Rattle.command_spec.specs.Commands.{FindRings}
 use Rattle.image_tool.specs.Plans.{plan_for}
 use Rattle.image_tool.proofs.DumpEnds.{rings_memory, rings_put, rings_front}
 use Rattle.image_tool.proofs.Due.{none_put}

@@ -1,6 +1,6 @@
 -- How each stage of a script on a shared zone ends it
 use Rattle.std.proofs.Common.{refl, ◌∙◌, arith, Err}
-use Rattle.tool_spec.specs.Commands.{RunShared}
+use Rattle.command_spec.specs.Commands.{RunShared}
 use Rattle.tool_frame.specs.Words.{plan_for}
 use Rattle.tool_frame.proofs.ReadParts.{read_whole}
 use Rattle.tool_frame.proofs.Script.{load_stopped, script_stopped, parse_stopped, load_caused, script_caused, parse_caused}

@@ -1,5 +1,5 @@
 use Rattle.std.proofs.Common.{refl, arith}
-use Rattle.tool_spec.specs.Commands.{ShowLayout, BlankImage}
+use Rattle.command_spec.specs.Commands.{ShowLayout, BlankImage}
 use Rattle.tool_frame.specs.Words.{plan_for}
 use Rattle.tool_frame.specs.declared.words.RamCommand.TheVariants.{Run, List, Extract, Erase, Layout, Blank, Make, Salvage, Rescue}
 use Rattle.image_tool.proofs.WorkEnds.{arm_done, kept_same, count_same, layout_shown, blank_left}

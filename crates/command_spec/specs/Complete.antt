@@ -3,13 +3,13 @@ use Rattle.std.specs.Prelude.{◌≡◌, ◌⊎◌, ⊤, ℕ, List, Some, Result
 use Rattle.blk_spec.specs.declared.BlkLayout.{BlkLayout}
 use Rattle.grammar_spec.specs.Fields.{Text}
 use Rattle.grammar_spec.specs.declared.line.Line.{Line}
-use Rattle.tool_spec.specs.Ends.{End}
-use Rattle.tool_spec.specs.Commands.{RamCommand, RunScript, ShowLayout, BlankImage, MakeImage, RunShared, Plan, OfRam, OfBlk, OfMove, wanted, wanted_move, plan_of}
-use Rattle.tool_spec.specs.BlkScripts.{blk_ran}
-use Rattle.tool_spec.specs.Answers.{Outside, RoseFor}
-use Rattle.tool_spec.specs.BlkAnswers.{blk_lines, blk_end}
-use Rattle.tool_spec.specs.declared.Stop.{Stop}
-use Rattle.tool_spec.specs.declared.Stop.TheVariants.{ScriptFault, ImageFault, SinkFault}
+use Rattle.command_spec.specs.Ends.{End}
+use Rattle.command_spec.specs.Commands.{RamCommand, RunScript, ShowLayout, BlankImage, MakeImage, RunShared, Plan, OfRam, OfBlk, OfMove, wanted, wanted_move, plan_of}
+use Rattle.script_spec.specs.BlkScripts.{blk_ran}
+use Rattle.command_spec.specs.Answers.{Outside, RoseFor}
+use Rattle.command_spec.specs.BlkAnswers.{blk_lines, blk_end}
+use Rattle.command_spec.specs.declared.Stop.{Stop}
+use Rattle.command_spec.specs.declared.Stop.TheVariants.{ScriptFault, ImageFault, SinkFault}
 
 -- ---- the end that is wanted
 

@@ -1,12 +1,12 @@
 -- What run answers to any words
 use Rattle.std.specs.Prelude.{◌≡◌, ◌≢◌, ◌⊎◌, ⊤, ℕ, ◌==◌, true, List, [], ◌∷◌, Result, Ok, Err}
 use Rattle.std.specs.List.{list_any}
-use Rattle.tool_spec.specs.Commands.{RamCommand, RunScript, ListRecords, ExtractRecord, EraseRecord, ShowLayout, BlankImage, MakeImage, FindRings, ReadRing, RamPlan, wanted_of_image, Plan, OfRam, OfBlk, OfMove, wanted_move, RunShared}
+use Rattle.command_spec.specs.Commands.{RamCommand, RunScript, ListRecords, ExtractRecord, EraseRecord, ShowLayout, BlankImage, MakeImage, FindRings, ReadRing, RamPlan, wanted_of_image, Plan, OfRam, OfBlk, OfMove, wanted_move, RunShared}
 use Rattle.outside.specs.Outside.{Rose}
-use Rattle.tool_spec.specs.Answers.{Outside, RoseFor, RunAnswers, ImageAnswers, ReadAnswers, MakeAnswers, ShowAnswers, FaultAnswers}
-use Rattle.tool_spec.specs.BlkAnswers.{BlkAnswers}
-use Rattle.tool_spec.specs.declared.Stop.{Stop}
-use Rattle.tool_spec.specs.declared.Stop.TheVariants.{ImageFault}
+use Rattle.command_spec.specs.Answers.{Outside, RoseFor, RunAnswers, ImageAnswers, ReadAnswers, MakeAnswers, ShowAnswers, FaultAnswers}
+use Rattle.command_spec.specs.BlkAnswers.{BlkAnswers}
+use Rattle.command_spec.specs.declared.Stop.{Stop}
+use Rattle.command_spec.specs.declared.Stop.TheVariants.{ImageFault}
 
 -- what each command on an image answers
 abbrev pub RamAnswers : RamCommand → RamPlan → Outside → Outside → ℕ → Type 0

@@ -27,16 +27,17 @@ use Rattle.grammar_spec.specs.BlkWords.{first_fault as blk_first_fault, params_o
 use Rattle.grammar_spec.specs.Fields.{Text, number, zone}
 use Rattle.grammar_spec.specs.Lines.{script_of}
 use Rattle.grammar_spec.specs.declared.line.Line.{Line}
-use Rattle.tool_spec.specs.Texts.{layout_text, listing, move_text, rings_text}
-use Rattle.tool_spec.specs.Scripts.{Ran, ran, named}
-use Rattle.tool_spec.specs.SharedScripts.{SharedRan, shared_ran, shared_text, zone_to_share, lacks_plain_ftrace}
+use Rattle.command_spec.specs.Texts.{layout_text, rings_text}
+use Rattle.script_spec.specs.Texts.{listing, move_text}
+use Rattle.script_spec.specs.Scripts.{Ran, ran, named}
+use Rattle.script_spec.specs.SharedScripts.{SharedRan, shared_ran, shared_text, zone_to_share, lacks_plain_ftrace}
 use Rattle.shared_spec.specs.Histories.{shared_zone, image_left}
-use Rattle.tool_spec.specs.Generated.{Generated, generated, summary}
-use Rattle.tool_spec.specs.Ends.{End}
-use Rattle.tool_spec.specs.declared.Cause.{Cause}
-use Rattle.tool_spec.specs.declared.Cause.TheVariants.{NoRecord, NoZone, NoRing}
-use Rattle.tool_spec.specs.declared.Stop.{Stop}
-use Rattle.tool_spec.specs.declared.Stop.TheVariants.{Memory, Usage, Param, Layout as LayoutStop, Short, TooLong, BadLine, Refused, NoSharedZone}
+use Rattle.script_spec.specs.Generated.{Generated, generated, summary}
+use Rattle.command_spec.specs.Ends.{End}
+use Rattle.script_spec.specs.declared.Cause.{Cause}
+use Rattle.script_spec.specs.declared.Cause.TheVariants.{NoRecord, NoZone, NoRing}
+use Rattle.command_spec.specs.declared.Stop.{Stop}
+use Rattle.command_spec.specs.declared.Stop.TheVariants.{Memory, Usage, Param, Layout as LayoutStop, Short, TooLong, BadLine, Refused, NoSharedZone}
 
 -- ---- words
 

@@ -4,10 +4,11 @@ use Rattle.std.specs.Io.KnownBytes.{Appends, IsAtEnd}
 use Rattle.outside.specs.Outside.{Rose, AppendsFront, Writes, WritesFront}
 use Rattle.grammar_spec.specs.Fields.{Text}
 use Rattle.grammar_spec.specs.Lines.{script_of}
-use Rattle.tool_spec.specs.Ends.{End, status_of, last_line}
-use Rattle.tool_spec.specs.Commands.{RamPlan, Wanted, wanted, mem_of, script_limit}
-use Rattle.tool_spec.specs.declared.Stop.{Stop}
-use Rattle.tool_spec.specs.declared.Stop.TheVariants.{Memory, Short, ScriptFault, ImageFault, SinkFault, TooLong, BadLine}
+use Rattle.script_spec.specs.Texts.{front, whole}
+use Rattle.command_spec.specs.Ends.{End, status_of, last_line}
+use Rattle.command_spec.specs.Commands.{RamPlan, Wanted, wanted, mem_of, script_limit}
+use Rattle.command_spec.specs.declared.Stop.{Stop}
+use Rattle.command_spec.specs.declared.Stop.TheVariants.{Memory, Short, ScriptFault, ImageFault, SinkFault, TooLong, BadLine}
 
 -- ---- the outside
 
@@ -77,14 +78,6 @@ pub record NoOtherFault (a b : Outside) (status : ℕ) : Type 0 where
   pub either : (b.source_faults ≡ a.source_faults) ⊎ (b.store_faults ≡ a.store_faults)
 
 -- ---- text and image
-
--- the first k texts end to end
-abbrev pub front : List Text → ℕ → Text
-front texts k = flat_map (λ text. text) (take k texts)
-
--- all of them
-abbrev pub whole : List Text → Text
-whole texts = flat_map (λ text. text) texts
 
 -- some first texts were put, and then a last line
 pub record PutThen (texts : List Text) (old new : Option (List ℕ)) (last : Text) : Type 0 where
