@@ -10,8 +10,8 @@ ghost use Rattle.blk_session.specs.Lines.{LineDone, LineFails, OperationDone, Op
 
 use crate::errors::{LineError, line_error};
 use outside::{Bytes, Store};
-use std::alloc::Global;
 use script_spec::Cause;
+use std::alloc::Global;
 use zone_blk::{Blk, BlkLayout, BlkName, BlkRing, BlkTime, Reason};
 use zone_spec::{Kind, ZoneName};
 

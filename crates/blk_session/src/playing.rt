@@ -14,8 +14,8 @@ use crate::errors::LineError;
 use crate::lines::do_line;
 use outside::{Failed, Sink, Store};
 use script::Line;
-use std::alloc::Global;
 use script_spec::LineStop;
+use std::alloc::Global;
 use zone_blk::{Blk, BlkLayout};
 
 // The stop of a script at the line of this number.

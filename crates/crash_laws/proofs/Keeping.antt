@@ -1,6 +1,5 @@
 -- Lines that leave a dump zone alone
-use Rattle.std.proofs.Common.{◌≡◌, ◌≢◌, ℕ, ◌+◌, ◌==◌, Bool, true, false, cond, not, ◌&&◌, ◌||◌, nat_lt, List, [], ◌∷◌, ◌++◌, length, filter, slice_get, bytes_eq, Option, Some, None, Result, Ok, Err, refl, sym, ap, ◌∙◌, subst, true≢false, eqb-true}
-use Rattle.std.proofs.lemmas.Bool.{and_parts}
+use Rattle.std.proofs.Common.{◌≡◌, ℕ, ◌+◌, ◌==◌, Bool, true, false, cond, not, ◌||◌, nat_lt, List, [], ◌∷◌, ◌++◌, length, filter, slice_get, bytes_eq, Option, Some, None, Result, Ok, Err, refl, sym, ap, ◌∙◌, subst, true≢false, eqb-true}
 use Rattle.zone_spec.specs.declared.Zone.{Zone}
 use Rattle.zone_spec.specs.declared.Kind.{Kind}
 use Rattle.zone_spec.specs.declared.Kind.TheVariants.{Dump as DumpKind, Console, Ftrace, Pmsg}
@@ -311,46 +310,14 @@ module _ (layout : List Zone) (mem : ℕ) (lies : IsLayout layout mem) (z : Zone
       → spares z session line ≡ true → IsTold z place told session → line_done layout session kernel line ≡ Ok d
       → IsTold z place told d.session
   unfolding line_done
-  line_keeps session kernel Blank d state s k h =
-      beside_keeps session kernel Blank d state s k h
-  line_keeps session kernel (Write name bytes) d state s k h =
-      beside_keeps session kernel (Write name bytes) d state s k h
-  line_keeps session kernel (Dump time packed bytes) d state s k h =
-      beside_keeps session kernel (Dump time packed bytes) d state s k h
-  line_keeps session kernel (BeginWrite name bytes) d state s k h =
-      beside_keeps session kernel (BeginWrite name bytes) d state s k h
-  line_keeps session kernel (BeginErase name) d state s k h =
-      beside_keeps session kernel (BeginErase name) d state s k h
-  line_keeps session kernel (BeginDump time packed bytes) d state s k h =
-      beside_keeps session kernel (BeginDump time packed bytes) d state s k h
-  line_keeps session kernel (Step name count) d state s k h =
-      beside_keeps session kernel (Step name count) d state s k h
-  line_keeps session kernel (Finish name) d state s k h =
-      beside_keeps session kernel (Finish name) d state s k h
   line_keeps session kernel Stop d state s k h =
       beside_keeps session new_kernel Stop d state s k h
-  line_keeps session kernel (Flip p mask) d state s k h =
-      beside_keeps session kernel (Flip p mask) d state s k h
   line_keeps session kernel Boot d state s k h =
       beside_keeps session new_kernel Boot d state s k h
-  line_keeps session kernel (BootPart limit) d state s k h =
-      beside_keeps session kernel (BootPart limit) d state s k h
-  line_keeps session kernel ListLine d state s k h =
-      beside_keeps session kernel ListLine d state s k h
-  line_keeps session kernel (Extract text) d state s k h =
-      beside_keeps session kernel (Extract text) d state s k h
-  line_keeps session kernel (Erase text) d state s k h =
-      beside_keeps session kernel (Erase text) d state s k h
-  line_keeps session kernel (KDump secs nanos packed reason bytes) d state s k h =
-      beside_keeps session kernel (KDump secs nanos packed reason bytes) d state s k h
-  line_keeps session kernel (CutAfter limit) d state s k h =
-      beside_keeps session kernel (CutAfter limit) d state s k h
-  line_keeps session kernel (Reserve bytes) d state s k h =
-      beside_keeps session kernel (Reserve bytes) d state s k h
-  line_keeps session kernel (StoreNext ticket limit) d state s k h =
-      beside_keeps session kernel (StoreNext ticket limit) d state s k h
   line_keeps session kernel (KMsg text) d state s k h = prints_keep session kernel text d k h
   line_keeps session kernel (Crash reason time) d state s k h = crash_keeps session kernel reason time d state s k h
+  line_keeps session kernel line d state s k h =
+      beside_keeps session kernel line d state s k h
 
 pub lines_keep : LinesKeepTold
 lines_keep layout mem session kernel line done z place told lies state hz kind text s h k =

@@ -10,8 +10,8 @@ use crate::machine::{LineError, Machine};
 use outside::{Failed, Sink};
 use ramoops::Off;
 use script::{Line, Lines};
-use std::alloc::Global;
 use script_spec::LineStop;
+use std::alloc::Global;
 
 // Does the line of this number, and puts its text.
 fn play_line<O: Sink>(
@@ -47,7 +47,12 @@ fn play_line<O: Sink>(
 }
 
 /// Does the lines in order on a store that is off, and prints the text of each as it is done.
-pub fn play<O: Sink>(alloc: Global, off: Off, lines: Lines, out: &mut O) -> Result<Machine, LineStop>
+pub fn play<O: Sink>(
+    alloc: Global,
+    off: Off,
+    lines: Lines,
+    out: &mut O,
+) -> Result<Machine, LineStop>
     requires fields { AllHaveFields lines }
     requires few { length lines < 2 ^ 32 }
     ensures later { O.faults out.old ≤ O.faults out.new }

@@ -16,9 +16,9 @@ use crate::texts::extract_text;
 use outside::Bytes;
 use prz_read::Logs;
 use pstore_records::{ContentFault, Name, content, find, length};
+use script_spec::Cause;
 use std::alloc::Global;
 use std::str;
-use script_spec::Cause;
 
 fn name_of(text: &[u8]) -> Option<Name>
     ensures name { IsNameOf text.now result }

@@ -10,8 +10,8 @@ ghost use Rattle.shared_session.specs.Left.{IsLeft};
 
 use outside::Bytes;
 use script::Line;
-use shared_ring::{NoCall, Shared, SharedRefusal};
 use script_spec::Cause;
+use shared_ring::{NoCall, Shared, SharedRefusal};
 
 // A reservation.
 fn reserve(shared: &mut Shared, payload: Bytes) -> Result<(), Cause>

@@ -7,8 +7,8 @@ ghost use Rattle.shared_session.specs.Left.{just_opened, IsOpened, Plays};
 
 use crate::lines::do_line;
 use script::Lines;
-use shared_ring::Shared;
 use script_spec::LineStop;
+use shared_ring::Shared;
 
 /// Does the lines in order on a zone that was just opened, up to the first that is refused. Takes no memory.
 pub fn play(shared: &mut Shared, lines: Lines) -> Result<(), LineStop>
