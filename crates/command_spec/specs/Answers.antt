@@ -1,5 +1,5 @@
 -- What a command answers: its status, the text that it put, and what the image then holds
-use Rattle.std.specs.Prelude.{◌≡◌, ◌≢◌, ◌⊎◌, ⊤, ℕ, ◌≤◌, ◌<◌, List, [], ◌++◌, length, take, flat_map, Option, None, Some, Ok, Err}
+use Rattle.std.specs.Prelude.{◌≡◌, ◌≢◌, ◌⊎◌, ⊤, ℕ, ◌≤◌, ◌<◌, List, [], ◌++◌, length, take, Option, None, Some, Ok, Err}
 use Rattle.std.specs.Io.KnownBytes.{Appends, IsAtEnd}
 use Rattle.outside.specs.Outside.{Rose, AppendsFront, Writes, WritesFront}
 use Rattle.grammar_spec.specs.Fields.{Text}

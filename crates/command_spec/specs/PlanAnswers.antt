@@ -1,50 +1,55 @@
 -- What run answers to any words
-use Rattle.std.specs.Prelude.{◌≡◌, ◌≢◌, ◌⊎◌, ⊤, ℕ, ◌==◌, true, List, [], ◌∷◌, Result, Ok, Err}
+use Rattle.std.specs.Prelude.{◌≡◌, ◌≢◌, ◌⊎◌, ⊤, ℕ, ◌==◌, Bool, true, false, if◌then◌else◌, List, [], ◌∷◌, Result, Ok, Err}
 use Rattle.std.specs.List.{list_any}
-use Rattle.command_spec.specs.Commands.{RamCommand, RunScript, ListRecords, ExtractRecord, EraseRecord, ShowLayout, BlankImage, MakeImage, FindRings, ReadRing, RamPlan, wanted_of_image, Plan, OfRam, OfBlk, OfMove, wanted_move, RunShared}
+use Rattle.command_spec.specs.Commands.{RamCommand, Extract, Erase, Rescue, Class, RunsScript, ReadsImage, ReadsDump, WritesImage, MakesImage, ShowsText, class_of, RamPlan, wanted_of_image, Plan, OfRam, OfBlk, OfMove, wanted_move}
 use Rattle.outside.specs.Outside.{Rose}
 use Rattle.command_spec.specs.Answers.{Outside, RoseFor, RunAnswers, ImageAnswers, ReadAnswers, MakeAnswers, ShowAnswers, FaultAnswers}
 use Rattle.command_spec.specs.BlkAnswers.{BlkAnswers}
 use Rattle.command_spec.specs.declared.Stop.{Stop}
 use Rattle.command_spec.specs.declared.Stop.TheVariants.{ImageFault}
 
--- what each command on an image answers
-abbrev pub RamAnswers : RamCommand → RamPlan → Outside → Outside → ℕ → Type 0
-RamAnswers RunScript plan a b status = RunAnswers plan a b status
-RamAnswers ListRecords plan a b status = ReadAnswers (wanted_of_image plan) a b status
-RamAnswers (ExtractRecord name) plan a b status = ReadAnswers (wanted_of_image plan) a b status
-RamAnswers (EraseRecord name) plan a b status = ImageAnswers (wanted_of_image plan) a b status
-RamAnswers ShowLayout plan a b status = ShowAnswers plan a b status
-RamAnswers BlankImage plan a b status = MakeAnswers plan a b status
-RamAnswers (MakeImage n) plan a b status = MakeAnswers plan a b status
-RamAnswers RunShared plan a b status = RunAnswers plan a b status
-RamAnswers FindRings plan a b status = ReadAnswers (wanted_of_image plan) a b status
-RamAnswers (ReadRing at name) plan a b status = ReadAnswers (wanted_of_image plan) a b status
+-- what each class of commands on an image answers
+abbrev pub ClassAnswers : Class → RamPlan → Outside → Outside → ℕ → Type 0
+ClassAnswers RunsScript plan a b status = RunAnswers plan a b status
+ClassAnswers ReadsImage plan a b status = ReadAnswers (wanted_of_image plan) a b status
+ClassAnswers ReadsDump plan a b status = ReadAnswers (wanted_of_image plan) a b status
+ClassAnswers WritesImage plan a b status = ImageAnswers (wanted_of_image plan) a b status
+ClassAnswers MakesImage plan a b status = MakeAnswers plan a b status
+ClassAnswers ShowsText plan a b status = ShowAnswers plan a b status
 
 -- what each command answers
 abbrev pub PlanAnswers : Plan → Outside → Outside → ℕ → Type 0
-PlanAnswers (OfRam plan) a b status = RamAnswers plan.command plan a b status
+PlanAnswers (OfRam plan) a b status = ClassAnswers (class_of plan.command) plan a b status
 PlanAnswers (OfBlk layout) a b status = BlkAnswers layout a b status
 PlanAnswers (OfMove plan) a b status = ImageAnswers (wanted_move plan) a b status
 
--- the statuses that a command on an image can answer where its words have no fault
-abbrev pub ram_statuses : RamCommand → List ℕ
-ram_statuses RunScript = 0 ∷ 1 ∷ 4 ∷ 5 ∷ 6 ∷ 7 ∷ 8 ∷ 9 ∷ 10 ∷ []
-ram_statuses ListRecords = 0 ∷ 1 ∷ 4 ∷ 6 ∷ 7 ∷ []
-ram_statuses (ExtractRecord name) = 0 ∷ 1 ∷ 4 ∷ 6 ∷ 7 ∷ 10 ∷ []
-ram_statuses (EraseRecord name) = 0 ∷ 1 ∷ 4 ∷ 6 ∷ 7 ∷ 10 ∷ []
-ram_statuses ShowLayout = 0 ∷ 1 ∷ 7 ∷ []
-ram_statuses BlankImage = 0 ∷ 1 ∷ 6 ∷ 7 ∷ []
-ram_statuses (MakeImage n) = 0 ∷ 1 ∷ 6 ∷ 7 ∷ []
-ram_statuses RunShared = 0 ∷ 1 ∷ 4 ∷ 5 ∷ 6 ∷ 7 ∷ 8 ∷ 9 ∷ 10 ∷ []
-ram_statuses FindRings = 0 ∷ 1 ∷ 6 ∷ 7 ∷ []
-ram_statuses (ReadRing at name) = 0 ∷ 1 ∷ 6 ∷ 7 ∷ 10 ∷ []
+-- whether a command names a record or a place, which may not be there
+abbrev pub names_one : RamCommand → Bool
+names_one (Extract name) = true
+names_one (Erase name) = true
+names_one (Rescue at name) = true
+names_one other = false
 
--- and every command
+abbrev pub or_refused : Bool → List ℕ
+or_refused refused = if refused then 10 ∷ [] else []
+
+-- the statuses that a class of commands can answer where the words have no fault
+abbrev pub class_statuses : Class → Bool → List ℕ
+class_statuses RunsScript refused = 0 ∷ 1 ∷ 4 ∷ 5 ∷ 6 ∷ 7 ∷ 8 ∷ 9 ∷ 10 ∷ []
+class_statuses ReadsImage refused = 0 ∷ 1 ∷ 4 ∷ 6 ∷ 7 ∷ or_refused refused
+class_statuses ReadsDump refused = 0 ∷ 1 ∷ 6 ∷ 7 ∷ or_refused refused
+class_statuses WritesImage refused = 0 ∷ 1 ∷ 4 ∷ 6 ∷ 7 ∷ or_refused refused
+class_statuses MakesImage refused = 0 ∷ 1 ∷ 6 ∷ 7 ∷ []
+class_statuses ShowsText refused = 0 ∷ 1 ∷ 7 ∷ []
+
+abbrev pub ram_statuses : RamCommand → List ℕ
+ram_statuses command = class_statuses (class_of command) (names_one command)
+
+-- and every command: a script on the block store, and a move, which names nothing
 abbrev pub statuses : Plan → List ℕ
 statuses (OfRam plan) = ram_statuses plan.command
-statuses (OfBlk layout) = 0 ∷ 1 ∷ 4 ∷ 5 ∷ 6 ∷ 7 ∷ 8 ∷ 9 ∷ 10 ∷ []
-statuses (OfMove plan) = 0 ∷ 1 ∷ 4 ∷ 6 ∷ 7 ∷ []
+statuses (OfBlk layout) = class_statuses RunsScript false
+statuses (OfMove plan) = class_statuses WritesImage false
 
 abbrev pub IsAmong : List ℕ → ℕ → Type 0
 IsAmong all status = list_any (λ n. n == status) all ≡ true
@@ -83,23 +88,17 @@ WritesAtEnd a b status = status ≢ 0 → NeverWrites a b ⊎ StoreFailed a b st
 abbrev pub FailsWriting : Outside → Outside → ℕ → Type 0
 FailsWriting a b status = status ≡ 6 → Rose a.writes b.writes
 
-abbrev pub CommandWrites : RamCommand → Outside → Outside → ℕ → Type 0
-CommandWrites RunScript a b status = WritesAtEnd a b status
-CommandWrites ListRecords a b status = NeverWrites a b
-CommandWrites (ExtractRecord name) a b status = NeverWrites a b
-CommandWrites (EraseRecord name) a b status = WritesAtEnd a b status
-CommandWrites ShowLayout a b status = NeverWrites a b
-CommandWrites BlankImage a b status = WritesAtEnd a b status × FailsWriting a b status
-CommandWrites (MakeImage n) a b status = WritesAtEnd a b status × FailsWriting a b status
-CommandWrites RunShared a b status = WritesAtEnd a b status
-CommandWrites FindRings a b status = NeverWrites a b
-CommandWrites (ReadRing at name) a b status = NeverWrites a b
+abbrev pub ClassWrites : Class → Outside → Outside → ℕ → Type 0
+ClassWrites RunsScript a b status = WritesAtEnd a b status
+ClassWrites WritesImage a b status = WritesAtEnd a b status
+ClassWrites MakesImage a b status = WritesAtEnd a b status × FailsWriting a b status
+ClassWrites other a b status = NeverWrites a b
 
 -- a script on the block store writes as its lines are done, and never on a status that comes before them; words with a
 -- fault write nothing
 abbrev pub PlanWrites : Result Plan Stop → Outside → Outside → ℕ → Type 0
-PlanWrites (Ok (OfRam plan)) a b status = CommandWrites plan.command a b status
+PlanWrites (Ok (OfRam plan)) a b status = ClassWrites (class_of plan.command) a b status
 PlanWrites (Ok (OfBlk layout)) a b status = status ≢ 0 → status ≢ 1 → status ≢ 6 → status ≢ 7 → status ≢ 10
     → NeverWrites a b
-PlanWrites (Ok (OfMove plan)) a b status = WritesAtEnd a b status
+PlanWrites (Ok (OfMove plan)) a b status = ClassWrites WritesImage a b status
 PlanWrites (Err s) a b status = NeverWrites a b

@@ -5,7 +5,7 @@ use Rattle.std.specs.Io.KnownBytes.{Appends}
 use Rattle.zone_spec.specs.declared.Zone.{Zone}
 use Rattle.grammar_spec.specs.declared.line.Line.{Line}
 use Rattle.command_spec.specs.Ends.{End, last_line}
-use Rattle.command_spec.specs.Commands.{RamCommand, RunScript, ListRecords, ExtractRecord, EraseRecord, ShowLayout, BlankImage, MakeImage, FindRings, ReadRing, RunShared, Plan, OfRam, OfBlk, OfMove}
+use Rattle.command_spec.specs.Commands.{Plan, OfRam, OfBlk, OfMove}
 use Rattle.script_spec.specs.Scripts.{ran}
 use Rattle.command_spec.specs.Answers.{Outside}
 use Rattle.script_spec.specs.Texts.{front, whole}
@@ -13,7 +13,7 @@ use Rattle.tool_frame.specs.Ends.{LastPut, Finished}
 use Rattle.script_spec.specs.Playing.{PutsText, PlayStop}
 use Rattle.tool_frame.specs.Words.{ram_command_seen}
 use Rattle.tool_frame.specs.declared.words.RamCommand.{RamCommand as ReadRamCommand}
-use Rattle.image_tool.specs.Due.{PutsNone, PutsFirst, PutsLines, PutsBefore, PutsByPlan, LineAlone, LineOrText, LineAtEnd, CommandLine, LastLine}
+use Rattle.image_tool.specs.Due.{PutsNone, PutsFirst, PutsLines, PutsBefore, PutsByPlan, LineAlone, LineOrText, LineAtEnd, LastLine, Puts, PutsLast, PutsTextFirst, PutsByLine, puts_of, PutsAs, LineAs}
 use Rattle.command_spec.specs.declared.Stop.{Stop}
 use Rattle.command_spec.specs.declared.Stop.TheVariants.{ImageFault, SinkFault}
 use Rattle.script_spec.specs.declared.LineStop.{LineStop}
@@ -66,14 +66,13 @@ lines_same : (e : End) (given : Option (List ℕ)) → PutsLines given given e
 lines_same (Ok u) given = tt
 lines_same (Err s) given = no_text given
 
-before_same : (c : RamCommand) (e : End) (given : Option (List ℕ)) → PutsBefore c given given e
-before_same RunScript e given = lines_same e given
-before_same (MakeImage n) e given = first_put e given given refl
-before_same RunShared e given = first_put e given given refl
-before_same c e given = none_put e given given refl
+puts_same : (p : Puts) (e : End) (given : Option (List ℕ)) → PutsAs p given given e
+puts_same PutsLast e given = none_put e given given refl
+puts_same PutsTextFirst e given = first_put e given given refl
+puts_same PutsByLine e given = lines_same e given
 
 pub plan_same : (r : Result Plan Stop) (e : End) (given : Option (List ℕ)) → PutsByPlan r given given e
-plan_same (Ok (OfRam plan)) e given = before_same plan.command e given
+plan_same (Ok (OfRam plan)) e given = puts_same (puts_of plan.command) e given
 plan_same (Ok (OfBlk layout)) e given = lines_same e given
 plan_same (Ok (OfMove plan)) e given = first_put e given given refl
 plan_same (Err s) e given = none_put e given given refl
@@ -128,16 +127,15 @@ module _ (a b : Outside) (given : Option (List ℕ)) (faults status : ℕ) where
   after_lines (Err SinkFault) h f none seven = absurd (seven f.answer)
   after_lines (Err s) h f none seven = text_line s f h none seven
 
-  by_command : (c : RamCommand) (e : End) → PutsBefore c a.given given e
-      → Finished e given b.given faults b.sink_faults status → CommandLine c a b status
-  by_command RunScript e h f = after_lines e h f
-  by_command (MakeImage n) e h f = first e h f
-  by_command RunShared e h f = first e h f
-  by_command c e h f = alone e h f
+  line_as : (p : Puts) (e : End) → PutsAs p a.given given e
+      → Finished e given b.given faults b.sink_faults status → LineAs p a b status
+  line_as PutsLast e h f = alone e h f
+  line_as PutsTextFirst e h f = first e h f
+  line_as PutsByLine e h f = after_lines e h f
 
   pub last_line_put : (r : Result Plan Stop) (e : End) → PutsByPlan r a.given given e
       → Finished e given b.given faults b.sink_faults status → LastLine r a b status
-  last_line_put (Ok (OfRam plan)) e h f = by_command plan.command e h f
+  last_line_put (Ok (OfRam plan)) e h f = line_as (puts_of plan.command) e h f
   last_line_put (Ok (OfBlk layout)) e h f = after_lines e h f
   last_line_put (Ok (OfMove plan)) e h f = first e h f
   last_line_put (Err s) e h f = alone e h f

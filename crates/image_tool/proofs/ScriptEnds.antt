@@ -1,6 +1,6 @@
 -- How a script's lines end its run
 use Rattle.std.proofs.Common.{◌≡◌, ℕ, ◌≤◌, List, length, take, Option, Ok, Err, IfSome, refl, ◌∙◌, inr}
-use Rattle.outside.specs.Outside.{Rose, Writes, WritesFront}
+use Rattle.outside.specs.Outside.{Writes, WritesFront}
 use Rattle.zone_spec.specs.declared.Zone.{Zone}
 use Rattle.machine_spec.specs.States.{Session}
 use Rattle.machine_spec.specs.Stop.{session_image}
@@ -8,27 +8,24 @@ use Rattle.grammar_spec.specs.Lines.{script_of}
 use Rattle.grammar_spec.specs.declared.line.Line.{Line}
 use Rattle.command_spec.specs.Ends.{End, stop_of, status_of}
 use Rattle.script_spec.specs.Scripts.{ran}
-use Rattle.command_spec.specs.Commands.{RunScript, RamPlan, wanted, wanted_run, wanted_script, wanted_lines, mem_of, script_end}
+use Rattle.command_spec.specs.Commands.{Run, RamPlan, wanted, wanted_run, wanted_script, wanted_lines, mem_of}
 use Rattle.command_spec.specs.Answers.{Outside}
-use Rattle.script_spec.specs.Texts.{whole}
 use Rattle.command_spec.specs.PlanAnswers.{ram_statuses, IsAmong}
-use Rattle.script_spec.specs.declared.Cause.{Cause}
 use Rattle.script_spec.specs.declared.LineStop.{LineStop}
 use Rattle.script_spec.specs.declared.LineStop.TheVariants.{Memory as MemoryThere, StoreFault, SinkFault as SinkFaultThere, Refused as RefusedThere}
 use Rattle.command_spec.specs.declared.Stop.TheVariants.{Memory, ImageFault, SinkFault, Refused}
-use Rattle.std.specs.Io.KnownBytes.{Appends}
-use Rattle.script_spec.specs.Playing.{Played, PlayStop, PutTexts, PutSome}
+use Rattle.script_spec.specs.Playing.{Played, PlayStop}
 use Rattle.tool_frame.specs.Ended.{Ended, CausedAt, RunEnds, ScriptEnds, WrittenAt}
 use Rattle.tool_frame.proofs.ReadParts.{Read, read_memory, read_unput, read_unsaved, read_refused, read_done}
 use Rattle.tool_frame.proofs.Script.{nat_lt-true, nat_lt-false, IsScripted, Loaded, room_in, lines_ended}
 
 -- ---- what is wanted
 
-pub run_wanted : (plan : RamPlan) (bytes script : List ℕ) → plan.command ≡ RunScript → mem_of plan ≤ length bytes
+pub run_wanted : (plan : RamPlan) (bytes script : List ℕ) → plan.command ≡ Run → mem_of plan ≤ length bytes
     → wanted plan bytes script ≡ wanted_run plan.zones (take (mem_of plan) bytes) script
 run_wanted plan bytes script is h = rw (is, nat_lt-false h) refl
 
-pub scripted : (plan : RamPlan) → plan.command ≡ RunScript → IsScripted plan (wanted_script plan.zones)
+pub scripted : (plan : RamPlan) → plan.command ≡ Run → IsScripted plan (wanted_script plan.zones)
 scripted plan is = record {
   statuses = rw is refl;
   short = λ bytes script h. rw (is, nat_lt-true h) refl;
@@ -47,12 +44,12 @@ play_caused SinkFaultThere layout image lines given given' f f' g g' h h' p = p.
 play_caused StoreFault layout image lines given given' f f' g g' h h' p = absurd p
 play_caused stop layout image lines given given' f f' g g' h h' p = tt
 
-module _ (plan : RamPlan) (is : plan.command ≡ RunScript) (a b : Outside) (image : List ℕ) (l : Loaded plan a image)
+module _ (plan : RamPlan) (is : plan.command ≡ Run) (a b : Outside) (image : List ℕ) (l : Loaded plan a image)
     (text : List ℕ) (r : Read a b text) (lines : List Line) (ok : script_of text ≡ Ok lines) where
   room : IfSome a.holds (λ bs. mem_of plan ≤ length bs)
   room = room_in plan a image l
 
-  run_ended : (e : End) → IsAmong (ram_statuses RunScript) (status_of e) → ScriptEnds (mem_of plan) a b e
+  run_ended : (e : End) → IsAmong (ram_statuses Run) (status_of e) → ScriptEnds (mem_of plan) a b e
       → Ended (wanted_lines (ran plan.zones image lines)) a b e
       → WrittenAt (wanted_lines (ran plan.zones image lines)) a b e → RunEnds plan a b e
   run_ended e can read h written = lines_ended plan (wanted_script plan.zones) (scripted plan is) a b image l

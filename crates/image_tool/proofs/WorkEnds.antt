@@ -1,19 +1,19 @@
 -- How the work of each command ends
-use Rattle.std.proofs.Common.{◌≡◌, ℕ, List, [], ◌∷◌, Option, Result, Ok, Err, refl, subst, inr, replicate, arith}
+use Rattle.std.proofs.Common.{◌≡◌, ℕ, [], ◌∷◌, Result, Ok, Err, refl, subst, inr, replicate, arith}
 use Rattle.std.proofs.KnownBytes.{Appends-nil}
 use Rattle.outside.specs.Outside.{WritesFront}
 use Rattle.command_spec.specs.Ends.{End, status_of}
 use Rattle.command_spec.specs.Texts.{layout_text}
-use Rattle.command_spec.specs.Commands.{RamCommand, RunScript, ListRecords, ExtractRecord, EraseRecord, ShowLayout, BlankImage, MakeImage, FindRings, ReadRing, RunShared, RamPlan, Plan, OfRam, OfBlk, OfMove, Wanted, mem_of, shows, leaves}
+use Rattle.command_spec.specs.Commands.{ShowLayout, Blank, RamPlan, Plan, OfRam, OfBlk, OfMove, Wanted, mem_of, shows, leaves, Class, MakesImage, class_of}
 use Rattle.command_spec.specs.Answers.{Outside, NoScript, NoImage, WritesSome}
 use Rattle.command_spec.specs.PlanAnswers.{ram_statuses, IsAmong}
 use Rattle.command_spec.specs.declared.Stop.{Stop}
-use Rattle.command_spec.specs.declared.Stop.TheVariants.{Memory, Usage, Param, Layout, NoSharedZone, Short, ScriptFault, ImageFault, SinkFault, TooLong, BadLine, Refused}
+use Rattle.command_spec.specs.declared.Stop.TheVariants.{Memory, ScriptFault, ImageFault, SinkFault, Refused}
 use Rattle.tool_frame.specs.Words.{PlanStop, IsNoFault, plan_for, ram_command_seen}
 use Rattle.tool_frame.specs.declared.words.RamCommand.{RamCommand as ReadRamCommand}
 use Rattle.zone_params.specs.declared.types.Layout.{Layout as ReadLayout}
 use Rattle.script_spec.specs.Playing.{KeptUnless}
-use Rattle.tool_frame.specs.Ended.{EndedAt, Ended, CausedAt, KeptAt, WrittenAt, RamEnds, Nothing, LinesAsk, CommandAsks, Asks, WorkDone}
+use Rattle.tool_frame.specs.Ended.{EndedAt, Ended, CausedAt, KeptAt, WrittenAt, RamEnds, Nothing, LinesAsk, Asks, WorkDone, ClassAsks}
 use Rattle.tool_frame.proofs.AnyWords.{plan_stopped}
 
 -- a stop that no fault of the outside makes has its cause
@@ -48,13 +48,12 @@ none_asked (Err (Refused x y)) old new h = tt
 none_asked (Err s) old new h = h
 
 -- an image that was not asked to be written: words of which no plan was read
-command_unasked : (k : RamCommand) (old new : ℕ) → new ≡ old → CommandAsks k old new (Err Memory)
-command_unasked BlankImage old new h = (h, tt)
-command_unasked (MakeImage n) old new h = (h, tt)
-command_unasked k old new h = h
+class_unasked : (class : Class) (old new : ℕ) → new ≡ old → ClassAsks class old new (Err Memory)
+class_unasked MakesImage old new h = (h, tt)
+class_unasked class old new h = h
 
 plan_unasked : (plan : Plan) (old new : ℕ) → new ≡ old → Asks (Ok plan) old new (Err Memory)
-plan_unasked (OfRam plan) old new h = command_unasked plan.command old new h
+plan_unasked (OfRam plan) old new h = class_unasked (class_of plan.command) old new h
 plan_unasked (OfBlk layout) old new h = tt
 plan_unasked (OfMove plan) old new h = h
 
@@ -117,8 +116,8 @@ blank_written w (Err ImageFault) a b h none same wrote done =
     (done, rw (none, same) (Appends-nil a.given), wrote refl)
 blank_written w e a b h none same wrote done = tt
 
-pub blank_left : (plan : RamPlan) (mem : ℕ) (e : End) (a b : Outside) → mem ≡ mem_of plan → plan.command ≡ BlankImage
-    → NoScript a b → b.given ≡ a.given → IsAmong (ram_statuses BlankImage) (status_of e)
+pub blank_left : (plan : RamPlan) (mem : ℕ) (e : End) (a b : Outside) → mem ≡ mem_of plan → plan.command ≡ Blank
+    → NoScript a b → b.given ≡ a.given → IsAmong (ram_statuses Blank) (status_of e)
     → EndedAt (leaves (replicate mem 0)) a.given a.given a.holds b.holds e
     → (e ≡ Err ImageFault → WritesFront a.holds b.holds 0 (replicate mem 0)) → RamEnds plan.command plan a b e
 blank_left plan mem e a b same is script given can ended wrote =

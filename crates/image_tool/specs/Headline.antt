@@ -21,7 +21,7 @@ use Rattle.script_spec.specs.Scripts.{ran, dump_target, crash_body}
 use Rattle.tool_laws.specs.RamScripts.{script_written, ScriptReadsWritten}
 use Rattle.crash_laws.specs.Lines.{AllSpare}
 use Rattle.crash_laws.specs.Listings.{Lists, crash_record}
-use Rattle.command_spec.specs.Commands.{RunScript, RunShared, RamPlan, Plan, OfRam, OfBlk, OfMove, after_boot, mem_of}
+use Rattle.command_spec.specs.Commands.{Run, SharedRun, RamPlan, Plan, OfRam, OfBlk, OfMove, after_boot, mem_of}
 use Rattle.script_spec.specs.SharedScripts.{zone_to_share}
 use Rattle.tool_laws.specs.SharedScripts.{ReadsShared}
 use Rattle.machine_spec.specs.Stop.{stopped}
@@ -104,10 +104,10 @@ pub record SharedReads (layout : List Zone) (image : List ℕ) (lines : List Lin
 -- reads
 abbrev pub RamReads : RamPlan → Outside → Outside → ℕ → Type 0
 RamReads plan a b status =
-    (plan.command ≡ RunScript → IfTold a
+    (plan.command ≡ Run → IfTold a
     (λ bytes script. (lines : List Line) → mem_of plan ≤ length bytes → script_of script ≡ Ok lines
     → ScriptReads plan.zones (take (mem_of plan) bytes) lines a b status))
-    × (plan.command ≡ RunShared → status ≡ 0 → IfTold a
+    × (plan.command ≡ SharedRun → status ≡ 0 → IfTold a
     (λ bytes script. (lines : List Line) → mem_of plan ≤ length bytes → script_of script ≡ Ok lines
     → SharedReads plan.zones (take (mem_of plan) bytes) lines a b))
 

@@ -1,68 +1,47 @@
 -- What run answers to any words, from how their work ended and what the last line left
-use Rattle.std.proofs.Common.{◌≡◌, ◌≢◌, ◌⊎◌, true, false, ℕ, List, [], Option, Result, Ok, Err, refl, sym, ap, ◌∙◌, arith, inl, inr}
+use Rattle.std.proofs.Common.{◌≡◌, ◌≢◌, ◌⊎◌, true, false, Bool, ℕ, List, [], Option, Result, Ok, Err, refl, sym, ap, ◌∙◌, arith, inl, inr}
 use Rattle.std.proofs.KnownBytes.{Appends-nil}
 use Rattle.blk_spec.specs.declared.BlkLayout.{BlkLayout}
 use Rattle.command_spec.specs.Ends.{End, status_of}
-use Rattle.command_spec.specs.Commands.{RamCommand, RunScript, ListRecords, ExtractRecord, EraseRecord, ShowLayout, BlankImage, MakeImage, FindRings, ReadRing, RamPlan, Plan, OfRam, OfBlk, OfMove, Wanted, wanted, wanted_of_image, wanted_move, mem_of, RunShared}
-use Rattle.command_spec.specs.Answers.{Outside, NoScript, NoImage, RoseFor, FaultAnswers}
+use Rattle.command_spec.specs.Commands.{RamCommand, RamPlan, Plan, OfRam, OfBlk, OfMove, Wanted, wanted, wanted_of_image, wanted_move, mem_of, Class, RunsScript, ReadsImage, ReadsDump, WritesImage, MakesImage, ShowsText, class_of}
+use Rattle.command_spec.specs.Answers.{Outside, NoScript, NoImage, FaultAnswers}
 use Rattle.command_spec.specs.BlkAnswers.{blk_lines}
-use Rattle.command_spec.specs.PlanAnswers.{PlanAnswers, ToolAnswers, ram_statuses, statuses, IsAmong}
+use Rattle.command_spec.specs.PlanAnswers.{PlanAnswers, ToolAnswers, ram_statuses, statuses, IsAmong, class_statuses, names_one}
 use Rattle.tool_frame.specs.Ends.{LastPut, Finished}
 use Rattle.tool_frame.specs.Words.{PlanStop}
-use Rattle.tool_frame.specs.Ended.{Ended, Caused, KeptBefore, ImageEnds, ReadEnds, RamEnds, PlanEnds, Nothing, WorkEnds, WorkDone}
+use Rattle.tool_frame.specs.Ended.{Ended, Caused, KeptBefore, ImageEnds, ReadEnds, PlanEnds, Nothing, WorkEnds, WorkDone, ClassEnds}
 use Rattle.tool_frame.proofs.ReadParts.{unread_memory}
-use Rattle.tool_frame.proofs.Answered.{GoesOn, rose_on}
-use Rattle.tool_frame.proofs.Tool.{status_is, script_on, image_on, image_answers, ram_answers, no_texts}
+use Rattle.tool_frame.proofs.Answered.{GoesOn}
+use Rattle.tool_frame.proofs.Tool.{status_is, script_on, image_on, image_answers, no_texts, class_answers}
 use Rattle.tool_frame.proofs.BlkScript.{memory_lines}
 use Rattle.tool_frame.proofs.BlkAnswered.{blk_answers}
 use Rattle.tool_frame.proofs.Script.{Quiet}
 use Rattle.command_spec.specs.declared.Stop.{Stop}
-use Rattle.command_spec.specs.declared.Stop.TheVariants.{Memory, Usage, Param, Layout, NoSharedZone, Short, ScriptFault, ImageFault, SinkFault, TooLong, BadLine, Refused}
+use Rattle.command_spec.specs.declared.Stop.TheVariants.{Memory, Usage, Param, Layout, NoSharedZone, SinkFault}
 
 -- ---- the statuses of a command
 
 -- each can want memory, and fail to put its text
-ram_can_want : (c : RamCommand) → IsAmong (ram_statuses c) 1
-ram_can_want RunScript = refl
-ram_can_want ListRecords = refl
-ram_can_want (ExtractRecord name) = refl
-ram_can_want (EraseRecord name) = refl
-ram_can_want ShowLayout = refl
-ram_can_want BlankImage = refl
-ram_can_want (MakeImage n) = refl
-ram_can_want RunShared = refl
-ram_can_want FindRings = refl
-ram_can_want (ReadRing at name) = refl
+can_want : (class : Class) (refused : Bool) → IsAmong (class_statuses class refused) 1
+can_want RunsScript refused = refl
+can_want class refused = refl
 
-ram_can_fail : (c : RamCommand) → IsAmong (ram_statuses c) 7
-ram_can_fail RunScript = refl
-ram_can_fail ListRecords = refl
-ram_can_fail (ExtractRecord name) = refl
-ram_can_fail (EraseRecord name) = refl
-ram_can_fail ShowLayout = refl
-ram_can_fail BlankImage = refl
-ram_can_fail (MakeImage n) = refl
-ram_can_fail RunShared = refl
-ram_can_fail FindRings = refl
-ram_can_fail (ReadRing at name) = refl
+class_can_fail : (class : Class) (refused : Bool) → IsAmong (class_statuses class refused) 7
+class_can_fail RunsScript refused = refl
+class_can_fail class refused = refl
+
+ram_can_want : (c : RamCommand) → IsAmong (ram_statuses c) 1
+ram_can_want c = can_want (class_of c) (names_one c)
 
 can_fail : (plan : Plan) → IsAmong (statuses plan) 7
-can_fail (OfRam plan) = ram_can_fail plan.command
+can_fail (OfRam plan) = class_can_fail (class_of plan.command) (names_one plan.command)
 can_fail (OfBlk layout) = refl
 can_fail (OfMove plan) = refl
 
-can_end : (c : RamCommand) (plan : RamPlan) (a b : Outside) (e : End) → RamEnds c plan a b e
+can_end : (class : Class) (plan : RamPlan) (a b : Outside) (e : End) → ClassEnds class plan a b e
     → IsAmong (ram_statuses plan.command) (status_of e)
-can_end RunScript plan a b e h = h.can
-can_end ListRecords plan a b e h = h.can
-can_end (ExtractRecord name) plan a b e h = h.can
-can_end (EraseRecord name) plan a b e h = h.can
-can_end ShowLayout plan a b e h = h.can
-can_end BlankImage plan a b e h = h.can
-can_end (MakeImage n) plan a b e h = h.can
-can_end RunShared plan a b e h = h.can
-can_end FindRings plan a b e h = h.can
-can_end (ReadRing at name) plan a b e h = h.can
+can_end RunsScript plan a b e h = h.can
+can_end class plan a b e h = h.can
 
 blk_can : (layout : BlkLayout) (e : End) (holds holds' : Option (List ℕ)) → KeptBefore holds holds' e
     → IsAmong (statuses (OfBlk layout)) (status_of e)
@@ -74,7 +53,7 @@ blk_can layout e holds holds' h = refl
 
 plan_can : (plan : Plan) (a b : Outside) (e : End) → PlanEnds plan a b e
     → IsAmong (statuses plan) (status_of e)
-plan_can (OfRam plan) a b e h = can_end plan.command plan a b e h
+plan_can (OfRam plan) a b e h = can_end (class_of plan.command) plan a b e h
 plan_can (OfBlk layout) a b e h = blk_can layout e a.holds b.holds h.kept
 plan_can (OfMove plan) a b e h = h.can
 
@@ -122,7 +101,7 @@ fault_answers s a m b status script image given f =
 plan_answers : (plan : Plan) (a m b : Outside) (e : End) (status : ℕ) → GoesOn a m b → Caused a m e
     → PlanEnds plan a m e → Finished e m.given b.given m.sink_faults b.sink_faults status
     → PlanAnswers plan a b status
-plan_answers (OfRam plan) a m b e status on c h f = ram_answers a m b on status plan.command plan e c h f
+plan_answers (OfRam plan) a m b e status on c h f = class_answers a m b on status (class_of plan.command) plan e c h f
 plan_answers (OfBlk layout) a m b e status on c h f = blk_answers layout a m b e status on c h f
 plan_answers (OfMove plan) a m b e status on c h f =
     image_answers a m b on status (statuses (OfMove plan)) (wanted_move plan) e c h f
@@ -161,47 +140,32 @@ read_memory all want a b can h = record {
   image = h.image.holds;
 }
 
-ram_memory : (c : RamCommand) (plan : RamPlan) (a b : Outside) → Nothing a b → RamEnds c plan a b (Err Memory)
-ram_memory RunScript plan a b h = record {
+class_memory : (class : Class) (plan : RamPlan) (a b : Outside) → Nothing a b → ClassEnds class plan a b (Err Memory)
+class_memory RunsScript plan a b h = record {
   can = ram_can_want plan.command;
   whole = record { told = λ bytes script t l. out_of_memory (wanted plan bytes script) a b h };
   read = unread_memory (mem_of plan) a b h.script;
   image_fault = inl h.script;
 }
-ram_memory RunShared plan a b h = record {
+class_memory ReadsImage plan a b h = read_memory _ (wanted_of_image plan) a b (ram_can_want plan.command) h
+class_memory ReadsDump plan a b h = read_memory _ (wanted_of_image plan) a b (ram_can_want plan.command) h
+class_memory WritesImage plan a b h = image_memory _ (wanted_of_image plan) a b (ram_can_want plan.command) h
+class_memory MakesImage plan a b h = record {
   can = ram_can_want plan.command;
-  whole = record { told = λ bytes script t l. out_of_memory (wanted plan bytes script) a b h };
-  read = unread_memory (mem_of plan) a b h.script;
-  image_fault = inl h.script;
+  whole = out_of_memory (wanted plan [] []) a b h;
+  script = h.script;
+  image_fault = tt;
+  text_first = inl h.image;
 }
-ram_memory ListRecords plan a b h = read_memory _ (wanted_of_image plan) a b (ram_can_want plan.command) h
-ram_memory (ExtractRecord name) plan a b h = read_memory _ (wanted_of_image plan) a b (ram_can_want plan.command) h
-ram_memory (EraseRecord name) plan a b h = image_memory _ (wanted_of_image plan) a b (ram_can_want plan.command) h
-ram_memory ShowLayout plan a b h = record {
+class_memory ShowsText plan a b h = record {
   can = ram_can_want plan.command;
   whole = out_of_memory (wanted plan [] []) a b h;
   script = h.script;
   image = h.image;
 }
-ram_memory BlankImage plan a b h = record {
-  can = ram_can_want plan.command;
-  whole = out_of_memory (wanted plan [] []) a b h;
-  script = h.script;
-  image_fault = tt;
-  text_first = inl h.image;
-}
-ram_memory (MakeImage n) plan a b h = record {
-  can = ram_can_want plan.command;
-  whole = out_of_memory (wanted plan [] []) a b h;
-  script = h.script;
-  image_fault = tt;
-  text_first = inl h.image;
-}
-ram_memory FindRings plan a b h = read_memory _ (wanted_of_image plan) a b (ram_can_want plan.command) h
-ram_memory (ReadRing at name) plan a b h = read_memory _ (wanted_of_image plan) a b (ram_can_want plan.command) h
 
 memory_ends : (plan : Plan) (a b : Outside) → Nothing a b → PlanEnds plan a b (Err Memory)
-memory_ends (OfRam plan) a b h = ram_memory plan.command plan a b h
+memory_ends (OfRam plan) a b h = class_memory (class_of plan.command) plan a b h
 memory_ends (OfBlk layout) a b h =
     let q : Quiet a b = record { given = h.given; holds = h.image.holds } in
     record {

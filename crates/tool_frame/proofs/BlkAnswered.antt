@@ -14,7 +14,7 @@ use Rattle.command_spec.specs.BlkAnswers.{blk_lines, blk_end, BlkStop, StoppedFo
 use Rattle.script_spec.specs.BlkStops.{AllDone}
 use Rattle.command_spec.specs.declared.Stop.{Stop}
 use Rattle.script_spec.specs.declared.Cause.{Cause}
-use Rattle.command_spec.specs.declared.Stop.TheVariants.{Memory, Usage, Param, Layout, NoSharedZone, Short, ScriptFault, ImageFault, SinkFault, TooLong, BadLine, Refused}
+use Rattle.command_spec.specs.declared.Stop.TheVariants.{Memory, Usage, Param, Layout, NoSharedZone, ScriptFault, ImageFault, SinkFault, Refused}
 use Rattle.tool_frame.specs.Ends.{LastPut, Finished}
 use Rattle.tool_frame.specs.Ended.{Caused, StoppedAt, LinesEnded, LinesOrStopEnded, UnreadAt, KeptBefore, BlkEnds}
 use Rattle.tool_frame.proofs.Answered.{GoesOn, rose_on, sink_rose, answers}

@@ -12,7 +12,7 @@ use Rattle.command_spec.specs.BlkAnswers.{blk_lines, lines_or_bad}
 use Rattle.script_spec.specs.BlkStops.{EndsAt}
 use Rattle.script_spec.specs.declared.Cause.{Cause}
 use Rattle.command_spec.specs.declared.Stop.{Stop}
-use Rattle.command_spec.specs.declared.Stop.TheVariants.{Memory, Usage, Param, Layout, NoSharedZone, Short, ScriptFault, ImageFault, SinkFault, TooLong, BadLine, Refused}
+use Rattle.command_spec.specs.declared.Stop.TheVariants.{Memory, Short, ScriptFault, ImageFault, SinkFault, TooLong, BadLine, Refused}
 use Rattle.tool_frame.specs.Stages.{SizeStop, ScriptStop, ParseStop}
 use Rattle.tool_frame.specs.Ended.{CausedAt, ScriptEnds, LinesEnded, LinesOrStopEnded, KeptBefore, LinesAsk, BlkEnds}
 use Rattle.tool_frame.proofs.ReadParts.{Read, read_of, room_of, unread_memory, unread_fault, unread_short, read_memory, read_fault, read_long, read_bad, read_unput, read_unsaved, read_refused, read_done}

@@ -1,16 +1,16 @@
 -- What of the image was kept, and which counts of faults, from how the work ended and what the last line left
 use Rattle.std.proofs.Common.{◌≡◌, ◌≢◌, ◌⊎◌, ℕ, Result, Ok, Err, refl, sym, ap, ◌∙◌, arith, inl, inr}
 use Rattle.command_spec.specs.Ends.{End, status_of}
-use Rattle.command_spec.specs.Commands.{RamCommand, RunScript, ListRecords, ExtractRecord, EraseRecord, ShowLayout, BlankImage, MakeImage, FindRings, ReadRing, Plan, OfRam, OfBlk, OfMove, RunShared}
+use Rattle.command_spec.specs.Commands.{Plan, OfRam, OfBlk, OfMove, Class, RunsScript, WritesImage, MakesImage, class_of}
 use Rattle.command_spec.specs.Answers.{Outside, NoScript, NoImage, RoseFor, NoOtherFault}
-use Rattle.command_spec.specs.PlanAnswers.{Untouched, StoreFailed, FailsWriting, CommandWrites, PlanWrites}
+use Rattle.command_spec.specs.PlanAnswers.{Untouched, StoreFailed, FailsWriting, PlanWrites, ClassWrites}
 use Rattle.tool_frame.specs.Ends.{LastPut, Finished}
 use Rattle.script_spec.specs.Playing.{KeptUnless}
-use Rattle.tool_frame.specs.Ended.{Caused, Counted, KeptAt, LinesAsk, FailsAsked, CommandAsks, Asks, WorkDone}
+use Rattle.tool_frame.specs.Ended.{Caused, Counted, KeptAt, LinesAsk, FailsAsked, Asks, WorkDone, ClassAsks}
 use Rattle.tool_frame.proofs.Answered.{GoesOn, rose_on}
 use Rattle.tool_frame.proofs.Tool.{status_is}
 use Rattle.command_spec.specs.declared.Stop.{Stop}
-use Rattle.command_spec.specs.declared.Stop.TheVariants.{Memory, Usage, Param, Layout, NoSharedZone, Short, ScriptFault, ImageFault, SinkFault, TooLong, BadLine, Refused}
+use Rattle.command_spec.specs.declared.Stop.TheVariants.{Memory, ScriptFault, ImageFault, SinkFault, Refused}
 
 module _ (a m b : Outside) (on : GoesOn a m b) (status : ℕ) where
   -- the store failed, and the last line was put, or the output failed in it
@@ -54,28 +54,21 @@ module _ (a m b : Outside) (on : GoesOn a m b) (status : ℕ) where
   fails_asked (Err s) same c k f six = absurd (not_six (status_of (Err s)) (λ z. absurd (omega arith))
       (status_is a m b on status (Err s) c f) six)
 
-  command_writes : (k : RamCommand) (e : End) → b.writes ≡ m.writes → Caused a m e
-      → CommandAsks k a.writes m.writes e → Finished e m.given b.given m.sink_faults b.sink_faults status
-      → CommandWrites k a b status
-  command_writes RunScript e same c k f = kept_by a.writes m.writes b.writes e same c k f
-  command_writes ListRecords e same c k f = same ∙ k
-  command_writes (ExtractRecord name) e same c k f = same ∙ k
-  command_writes (EraseRecord name) e same c k f = kept_by a.writes m.writes b.writes e same c k f
-  command_writes ShowLayout e same c k f = same ∙ k
-  command_writes BlankImage e same c k f =
+  class_writes : (class : Class) (e : End) → b.writes ≡ m.writes → Caused a m e
+      → ClassAsks class a.writes m.writes e → Finished e m.given b.given m.sink_faults b.sink_faults status
+      → ClassWrites class a b status
+  class_writes RunsScript e same c k f = kept_by a.writes m.writes b.writes e same c k f
+  class_writes WritesImage e same c k f = kept_by a.writes m.writes b.writes e same c k f
+  class_writes MakesImage e same c k f =
       (kept_by a.writes m.writes b.writes e same c k.0 f, fails_asked e same c k.1 f)
-  command_writes (MakeImage n) e same c k f =
-      (kept_by a.writes m.writes b.writes e same c k.0 f, fails_asked e same c k.1 f)
-  command_writes RunShared e same c k f = kept_by a.writes m.writes b.writes e same c k f
-  command_writes FindRings e same c k f = same ∙ k
-  command_writes (ReadRing at name) e same c k f = same ∙ k
+  class_writes class e same c k f = same ∙ k
 
   writes_by : (r : Result Plan Stop) (e : End) → b.writes ≡ m.writes → Caused a m e → Asks r a.writes m.writes e
       → Finished e m.given b.given m.sink_faults b.sink_faults status → PlanWrites r a b status
-  writes_by (Ok (OfRam plan)) e same c k f = command_writes plan.command e same c k f
+  writes_by (Ok (OfRam plan)) e same c k f = class_writes (class_of plan.command) e same c k f
   writes_by (Ok (OfBlk layout)) e same c k f =
       kept_early a.writes m.writes b.writes e same k (status_is a m b on status e c f)
-  writes_by (Ok (OfMove plan)) e same c k f = kept_by a.writes m.writes b.writes e same c k f
+  writes_by (Ok (OfMove plan)) e same c k f = class_writes WritesImage e same c k f
   writes_by (Err s) e same c k f = same ∙ k
 
   -- ---- counts of faults

@@ -6,7 +6,7 @@ use Rattle.std.specs.Io.KnownBytes.{Appends}
 use Rattle.grammar_spec.specs.Lines.{script_of}
 use Rattle.grammar_spec.specs.declared.line.Line.{Line}
 use Rattle.command_spec.specs.Ends.{End, status_of}
-use Rattle.command_spec.specs.Commands.{RunScript, RamPlan, Wanted, wanted, mem_of, stops, script_limit}
+use Rattle.command_spec.specs.Commands.{Run, RamPlan, Wanted, wanted, mem_of, stops, script_limit}
 use Rattle.command_spec.specs.Answers.{Outside, NoScript}
 use Rattle.command_spec.specs.PlanAnswers.{ram_statuses, IsAmong}
 use Rattle.command_spec.specs.declared.Stop.{Stop}
@@ -44,7 +44,7 @@ written_as w v a b e same h = rw same h
 
 -- a command that wants this of an image and of the lines of a script, and with the statuses of a script
 pub record IsScripted (plan : RamPlan) (want : List ℕ → Result (List Line) ℕ → Wanted) : Type 0 where
-  pub statuses : ram_statuses plan.command ≡ ram_statuses RunScript
+  pub statuses : ram_statuses plan.command ≡ ram_statuses Run
   pub short : (bytes script : List ℕ) → length bytes < mem_of plan
       → wanted plan bytes script ≡ stops (Short (length bytes) (mem_of plan))
   pub long : (bytes script : List ℕ) → mem_of plan ≤ length bytes → script_limit < length script
@@ -172,7 +172,7 @@ module _ (plan : RamPlan) (want : List ℕ → Result (List Line) ℕ → Wanted
 
       -- the lines ended so
       pub lines_ended : (lines : List Line) → script_of text ≡ Ok lines → (w : Wanted) → want image (Ok lines) ≡ w
-          → (e : End) → IsAmong (ram_statuses RunScript) (status_of e) → ScriptEnds (mem_of plan) a b e → Ended w a b e
+          → (e : End) → IsAmong (ram_statuses Run) (status_of e) → ScriptEnds (mem_of plan) a b e → Ended w a b e
           → WrittenAt w a b e → RunEnds plan a b e
       lines_ended lines ok w same e can read h written = record {
         can = rw is.statuses can;

@@ -1,7 +1,7 @@
 -- A stop at an image's size, or at its bytes, as a stop of its reading; the front of a store
 use Rattle.std.proofs.Common.{ℕ, List, Option}
 use Rattle.command_spec.specs.declared.Stop.{Stop}
-use Rattle.command_spec.specs.declared.Stop.TheVariants.{Memory, Usage, Param, Layout, Short, ScriptFault, ImageFault, SinkFault, TooLong, BadLine, Refused, NoSharedZone}
+use Rattle.command_spec.specs.declared.Stop.TheVariants.{Memory, Short, ImageFault}
 use Rattle.tool_frame.specs.Stages.{SizeStop, FrontStop, LoadStop}
 
 pub size_load : (s : Stop) (mem : ℕ) (holds : Option (List ℕ)) (before now : ℕ) → SizeStop s mem holds before now

@@ -4,7 +4,7 @@ use Rattle.outside.specs.Outside.{Rose}
 use Rattle.grammar_spec.specs.declared.line.Line.{Line}
 use Rattle.command_spec.specs.Commands.{script_limit}
 use Rattle.command_spec.specs.declared.Stop.{Stop}
-use Rattle.command_spec.specs.declared.Stop.TheVariants.{Memory, Usage, Param, Layout, NoSharedZone, Short, ScriptFault, ImageFault, SinkFault, TooLong, BadLine, Refused}
+use Rattle.command_spec.specs.declared.Stop.TheVariants.{Memory, Short, ScriptFault, ImageFault, TooLong, BadLine}
 use Rattle.tool_frame.specs.Stages.{LoadStop, ScriptStop, ParseStop}
 
 module _ (P : Stop → Type 0) where

@@ -5,16 +5,16 @@ use Rattle.std.specs.Io.KnownBytes.{Appends, IsAtEnd}
 use Rattle.grammar_spec.specs.Lines.{script_of}
 use Rattle.grammar_spec.specs.Fields.{Text}
 use Rattle.command_spec.specs.Ends.{End, status_of, last_line}
-use Rattle.command_spec.specs.Commands.{RamCommand, RunScript, ListRecords, ExtractRecord, EraseRecord, ShowLayout, BlankImage, MakeImage, FindRings, ReadRing, RamPlan, Wanted, wanted, wanted_of_image, mem_of, script_limit, RunShared}
+use Rattle.command_spec.specs.Commands.{RamPlan, Wanted, wanted, wanted_of_image, mem_of, script_limit, Class, RunsScript, ReadsImage, ReadsDump, WritesImage, MakesImage, ShowsText}
 use Rattle.command_spec.specs.Answers.{Outside, NoScript, NoImage, RoseFor, PutsAll, IsFree, SavedInPart, ShortAnswers, ScriptAnswers, ScriptUse, ScriptRead, RunAnswers, ImageAnswers, ReadAnswers, MakeAnswers}
 use Rattle.script_spec.specs.Texts.{whole}
-use Rattle.command_spec.specs.PlanAnswers.{ram_statuses, RamAnswers}
+use Rattle.command_spec.specs.PlanAnswers.{ram_statuses, ClassAnswers}
 use Rattle.tool_frame.specs.Ends.{LastPut, Finished}
 use Rattle.script_spec.specs.Playing.{PutTexts}
-use Rattle.tool_frame.specs.Ended.{Caused, ShortAt, ScriptAt, UseAt, ScriptEnds, RunEnds, ImageEnds, ReadEnds, WrittenAt, MakeEnds, RamEnds}
+use Rattle.tool_frame.specs.Ended.{Caused, ShortAt, ScriptAt, UseAt, ScriptEnds, RunEnds, ImageEnds, ReadEnds, WrittenAt, MakeEnds, ClassEnds}
 use Rattle.tool_frame.proofs.Answered.{GoesOn, rose_on, sink_rose, saved_in_part, answers}
 use Rattle.command_spec.specs.declared.Stop.{Stop}
-use Rattle.command_spec.specs.declared.Stop.TheVariants.{Memory, Usage, Param, Layout, NoSharedZone, Short, ScriptFault, ImageFault, SinkFault, TooLong, BadLine, Refused}
+use Rattle.command_spec.specs.declared.Stop.TheVariants.{Memory, Short, ScriptFault, ImageFault, SinkFault, TooLong, BadLine, Refused}
 
 pub script_on : (a m b : Outside) → NoScript a m → NoScript m b → NoScript a b
 script_on a m b h k = record { left = k.left ∙ h.left; source = k.source ∙ h.source }
@@ -391,25 +391,18 @@ module _ (a m b : Outside) (on : GoesOn a m b) (status : ℕ) where
     image = on.image.holds ∙ h.image;
   }
 
-  pub ram_answers : (k : RamCommand) (plan : RamPlan) (e : End) → Caused a m e → RamEnds k plan a m e
-      → Finished e m.given b.given m.sink_faults b.sink_faults status → RamAnswers k plan a b status
-  ram_answers RunScript plan e c h f = run_answers plan e c h f
-  ram_answers ListRecords plan e c h f = read_answers (ram_statuses plan.command) (wanted_of_image plan) e c h f
-  ram_answers (ExtractRecord name) plan e c h f =
-      read_answers (ram_statuses plan.command) (wanted_of_image plan) e c h f
-  ram_answers (EraseRecord name) plan e c h f =
-      image_answers (ram_statuses plan.command) (wanted_of_image plan) e c h f
-  ram_answers ShowLayout plan e c h f = record {
+  pub class_answers : (class : Class) (plan : RamPlan) (e : End) → Caused a m e → ClassEnds class plan a m e
+      → Finished e m.given b.given m.sink_faults b.sink_faults status → ClassAnswers class plan a b status
+  class_answers RunsScript plan e c h f = run_answers plan e c h f
+  class_answers ReadsImage plan e c h f = read_answers (ram_statuses plan.command) (wanted_of_image plan) e c h f
+  class_answers ReadsDump plan e c h f = read_answers (ram_statuses plan.command) (wanted_of_image plan) e c h f
+  class_answers WritesImage plan e c h f = image_answers (ram_statuses plan.command) (wanted_of_image plan) e c h f
+  class_answers MakesImage plan e c h f = make_answers plan e c h f
+  class_answers ShowsText plan e c h f = record {
     whole = answers a m b on _ status e c h.whole f;
     script = script_on a m b h.script on.script;
     image = image_on a m b h.image on.image;
   }
-  ram_answers BlankImage plan e c h f = make_answers plan e c h f
-  ram_answers (MakeImage n) plan e c h f = make_answers plan e c h f
-  ram_answers RunShared plan e c h f = run_answers plan e c h f
-  ram_answers FindRings plan e c h f = read_answers (ram_statuses plan.command) (wanted_of_image plan) e c h f
-  ram_answers (ReadRing at name) plan e c h f =
-      read_answers (ram_statuses plan.command) (wanted_of_image plan) e c h f
 
 -- ---- work that nothing has come of
 

@@ -1,15 +1,15 @@
 -- How the work of a run ends, before its last line
 use Rattle.std.specs.Prelude.{◌≡◌, ◌⊎◌, ⊤, ℕ, ◌≤◌, ◌<◌, List, [], length, Option, Result, Ok, Err, IsOk}
 use Rattle.std.specs.Io.KnownBytes.{Appends, IsAtEnd}
-use Rattle.outside.specs.Outside.{Rose, AppendsFront}
+use Rattle.outside.specs.Outside.{Rose}
 use Rattle.blk_spec.specs.declared.BlkLayout.{BlkLayout}
 use Rattle.grammar_spec.specs.Fields.{Text}
 use Rattle.grammar_spec.specs.Lines.{script_of}
 use Rattle.grammar_spec.specs.declared.line.Line.{Line}
 use Rattle.command_spec.specs.Ends.{End, status_of}
-use Rattle.command_spec.specs.Commands.{RamCommand, RunScript, ListRecords, ExtractRecord, EraseRecord, ShowLayout, BlankImage, MakeImage, FindRings, ReadRing, RamPlan, Plan, OfRam, OfBlk, OfMove, Wanted, wanted, wanted_of_image, wanted_move, mem_of, stops, script_limit, RunShared}
+use Rattle.command_spec.specs.Commands.{RamCommand, Class, RunsScript, ReadsImage, ReadsDump, WritesImage, MakesImage, ShowsText, class_of, RamPlan, Plan, OfRam, OfBlk, OfMove, Wanted, wanted, wanted_of_image, wanted_move, mem_of, stops, script_limit}
 use Rattle.command_spec.specs.Answers.{Outside, IfHolds, IfLeft, IfTold, NoScript, NoImage, Later, WritesAll, WritesSome, PutsAll}
-use Rattle.script_spec.specs.Texts.{front, whole}
+use Rattle.script_spec.specs.Texts.{whole}
 use Rattle.command_spec.specs.BlkAnswers.{blk_lines, BlkStop}
 use Rattle.script_spec.specs.BlkStops.{AllDone}
 use Rattle.command_spec.specs.PlanAnswers.{ram_statuses, statuses, IsAmong, WritesLast}
@@ -185,17 +185,16 @@ pub record BlkEnds (layout : BlkLayout) (a b : Outside) (e : End) : Type 0 where
 
 -- ---- any words
 
+abbrev pub ClassEnds : Class → RamPlan → Outside → Outside → End → Type 0
+ClassEnds RunsScript plan a b e = RunEnds plan a b e
+ClassEnds ReadsImage plan a b e = RamReadEnds plan a b e
+ClassEnds ReadsDump plan a b e = RamReadEnds plan a b e
+ClassEnds WritesImage plan a b e = RamImageEnds plan a b e
+ClassEnds MakesImage plan a b e = MakeEnds plan a b e
+ClassEnds ShowsText plan a b e = ShowEnds plan a b e
+
 abbrev pub RamEnds : RamCommand → RamPlan → Outside → Outside → End → Type 0
-RamEnds RunScript plan a b e = RunEnds plan a b e
-RamEnds ListRecords plan a b e = RamReadEnds plan a b e
-RamEnds (ExtractRecord name) plan a b e = RamReadEnds plan a b e
-RamEnds (EraseRecord name) plan a b e = RamImageEnds plan a b e
-RamEnds ShowLayout plan a b e = ShowEnds plan a b e
-RamEnds BlankImage plan a b e = MakeEnds plan a b e
-RamEnds (MakeImage n) plan a b e = MakeEnds plan a b e
-RamEnds RunShared plan a b e = RunEnds plan a b e
-RamEnds FindRings plan a b e = RamReadEnds plan a b e
-RamEnds (ReadRing at name) plan a b e = RamReadEnds plan a b e
+RamEnds command plan a b e = ClassEnds (class_of command) plan a b e
 
 abbrev pub PlanEnds : Plan → Outside → Outside → End → Type 0
 PlanEnds (OfRam plan) a b e = RamEnds plan.command plan a b e
@@ -219,17 +218,11 @@ FailsAsked old new (Err ImageFault) = Rose old new
 FailsAsked old new e = ⊤
 
 -- how often the image was asked to be written: a command that only reads never asks
-abbrev pub CommandAsks : RamCommand → ℕ → ℕ → End → Type 0
-CommandAsks RunScript old new e = KeptAt old new e
-CommandAsks ListRecords old new e = new ≡ old
-CommandAsks (ExtractRecord name) old new e = new ≡ old
-CommandAsks (EraseRecord name) old new e = KeptAt old new e
-CommandAsks ShowLayout old new e = new ≡ old
-CommandAsks BlankImage old new e = KeptAt old new e × FailsAsked old new e
-CommandAsks (MakeImage n) old new e = KeptAt old new e × FailsAsked old new e
-CommandAsks RunShared old new e = KeptAt old new e
-CommandAsks FindRings old new e = new ≡ old
-CommandAsks (ReadRing at name) old new e = new ≡ old
+abbrev pub ClassAsks : Class → ℕ → ℕ → End → Type 0
+ClassAsks RunsScript old new e = KeptAt old new e
+ClassAsks WritesImage old new e = KeptAt old new e
+ClassAsks MakesImage old new e = KeptAt old new e × FailsAsked old new e
+ClassAsks other old new e = new ≡ old
 
 -- a script on the block store asks as its lines are done, and not before
 abbrev pub LinesAsk : ℕ → ℕ → End → Type 0
@@ -241,9 +234,9 @@ LinesAsk old new (Err (Refused n cause)) = ⊤
 LinesAsk old new (Err s) = new ≡ old
 
 abbrev pub Asks : Result Plan Stop → ℕ → ℕ → End → Type 0
-Asks (Ok (OfRam plan)) old new e = CommandAsks plan.command old new e
+Asks (Ok (OfRam plan)) old new e = ClassAsks (class_of plan.command) old new e
 Asks (Ok (OfBlk layout)) old new e = LinesAsk old new e
-Asks (Ok (OfMove plan)) old new e = KeptAt old new e
+Asks (Ok (OfMove plan)) old new e = ClassAsks WritesImage old new e
 Asks (Err s) old new e = new ≡ old
 
 -- all that holds once the work is done, before the last line: no count of faults falls, a fault has its cause and no
