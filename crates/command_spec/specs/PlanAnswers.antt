@@ -1,27 +1,13 @@
 -- What run answers to any words
 use Rattle.std.specs.Prelude.{◌≡◌, ◌≢◌, ◌⊎◌, ⊤, ℕ, ◌==◌, Bool, true, false, if◌then◌else◌, List, [], ◌∷◌, Result, Ok, Err}
+use Rattle.command_spec.specs.Ends.{last_line}
 use Rattle.std.specs.List.{list_any}
-use Rattle.command_spec.specs.Commands.{RamCommand, Extract, Erase, Rescue, Class, RunsScript, ReadsImage, ReadsDump, WritesImage, MakesImage, ShowsText, class_of, RamPlan, wanted_of_image, Plan, OfRam, OfBlk, OfMove, wanted_move}
+use Rattle.command_spec.specs.Commands.{RamCommand, Extract, Erase, Rescue, Class, RunsScript, ReadsImage, ReadsDump, WritesImage, MakesImage, ShowsText, class_of, RamPlan, wanted_of_image, Plan, OfRam, OfBlk, OfMove, wanted_move, Wanted, wanted, mem_of}
 use Rattle.outside.specs.Outside.{Rose}
-use Rattle.command_spec.specs.Answers.{Outside, RoseFor, RunAnswers, ImageAnswers, ReadAnswers, MakeAnswers, ShowAnswers, FaultAnswers}
+use Rattle.command_spec.specs.Answers.{Outside, RoseFor, FaultAnswers, OfScript, OfImage, OfReading, OfMaking, OfShowing, Answers, ScriptRead, SavedInPart}
 use Rattle.command_spec.specs.BlkAnswers.{BlkAnswers}
 use Rattle.command_spec.specs.declared.Stop.{Stop}
 use Rattle.command_spec.specs.declared.Stop.TheVariants.{ImageFault}
-
--- what each class of commands on an image answers
-abbrev pub ClassAnswers : Class → RamPlan → Outside → Outside → ℕ → Type 0
-ClassAnswers RunsScript plan a b status = RunAnswers plan a b status
-ClassAnswers ReadsImage plan a b status = ReadAnswers (wanted_of_image plan) a b status
-ClassAnswers ReadsDump plan a b status = ReadAnswers (wanted_of_image plan) a b status
-ClassAnswers WritesImage plan a b status = ImageAnswers (wanted_of_image plan) a b status
-ClassAnswers MakesImage plan a b status = MakeAnswers plan a b status
-ClassAnswers ShowsText plan a b status = ShowAnswers plan a b status
-
--- what each command answers
-abbrev pub PlanAnswers : Plan → Outside → Outside → ℕ → Type 0
-PlanAnswers (OfRam plan) a b status = ClassAnswers (class_of plan.command) plan a b status
-PlanAnswers (OfBlk layout) a b status = BlkAnswers layout a b status
-PlanAnswers (OfMove plan) a b status = ImageAnswers (wanted_move plan) a b status
 
 -- whether a command names a record or a place, which may not be there
 abbrev pub names_one : RamCommand → Bool
@@ -54,9 +40,49 @@ statuses (OfMove plan) = class_statuses WritesImage false
 abbrev pub IsAmong : List ℕ → ℕ → Type 0
 IsAmong all status = list_any (λ n. n == status) all ≡ true
 
+-- what each kind of command answers, by one of its statuses
+abbrev pub Can : RamPlan → ℕ → Type 0
+Can plan status = IsAmong (ram_statuses plan.command) status
+
+-- the image failed as it was written back
+abbrev pub FailsSaved : Outside → Outside → ℕ → Wanted → Type 0
+FailsSaved a b status w = status ≡ 6 → SavedInPart w a b (last_line ImageFault)
+
+abbrev pub RunAnswers : RamPlan → Outside → Outside → ℕ → Type 0
+RunAnswers plan a b status = OfScript (λ n. Can plan n) (λ n. ScriptRead (mem_of plan) a b n) (λ n w. Answers w a b n)
+    (λ n w. FailsSaved a b n w) plan a b status
+
+abbrev pub ImageAnswers : List ℕ → (List ℕ → Wanted) → Outside → Outside → ℕ → Type 0
+ImageAnswers all want a b status = OfImage (λ n. IsAmong all n) (λ n w. Answers w a b n) want a b status
+
+abbrev pub ReadAnswers : RamPlan → Outside → Outside → ℕ → Type 0
+ReadAnswers plan a b status = OfReading (λ n. Can plan n) (λ n w. Answers w a b n) (wanted_of_image plan) a b status
+
+abbrev pub MakeAnswers : RamPlan → Outside → Outside → ℕ → Type 0
+MakeAnswers plan a b status = OfMaking (λ n. Can plan n) (λ n w. Answers w a b n) (λ n w. FailsSaved a b n w)
+    (wanted plan [] []) a b status
+
+abbrev pub ShowAnswers : RamPlan → Outside → Outside → ℕ → Type 0
+ShowAnswers plan a b status = OfShowing (λ n. Can plan n) (λ n w. Answers w a b n) (wanted plan [] []) a b status
+
+-- what each class of commands on an image answers
+abbrev pub ClassAnswers : Class → RamPlan → Outside → Outside → ℕ → Type 0
+ClassAnswers RunsScript plan a b status = RunAnswers plan a b status
+ClassAnswers ReadsImage plan a b status = ReadAnswers plan a b status
+ClassAnswers ReadsDump plan a b status = ReadAnswers plan a b status
+ClassAnswers WritesImage plan a b status = ImageAnswers (ram_statuses plan.command) (wanted_of_image plan) a b status
+ClassAnswers MakesImage plan a b status = MakeAnswers plan a b status
+ClassAnswers ShowsText plan a b status = ShowAnswers plan a b status
+
+-- what each command answers
+abbrev pub PlanAnswers : Plan → Outside → Outside → ℕ → Type 0
+PlanAnswers (OfRam plan) a b status = ClassAnswers (class_of plan.command) plan a b status
+PlanAnswers (OfBlk layout) a b status = BlkAnswers layout a b status × IsAmong (statuses (OfBlk layout)) status
+PlanAnswers (OfMove plan) a b status = ImageAnswers (statuses (OfMove plan)) (wanted_move plan) a b status
+
 -- what the words answer: a command of its plan, by one of its statuses, or the first fault
 abbrev pub ToolAnswers : Result Plan Stop → Outside → Outside → ℕ → Type 0
-ToolAnswers (Ok plan) a b status = PlanAnswers plan a b status × IsAmong (statuses plan) status
+ToolAnswers (Ok plan) a b status = PlanAnswers plan a b status
 ToolAnswers (Err s) a b status = FaultAnswers s a b status
 
 -- a command that writes the image only once all else is done; a script on the block store writes as its lines are done

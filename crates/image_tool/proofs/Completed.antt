@@ -58,11 +58,11 @@ module _ (a b : Outside) (status : ℕ) (script_ok : RoseFor ScriptFault a b →
 
   tool_done : (r : Result Plan Stop) → ToolAnswers r a b status → (bytes script : List ℕ)
       → PlanTells r a bytes script → plan_end r bytes script ≡ Ok tt → Done
-  tool_done (Ok (OfRam plan)) h bytes script tells done = ram_done plan.command plan refl h.0 bytes script tells done
+  tool_done (Ok (OfRam plan)) h bytes script tells done = ram_done plan.command plan refl h bytes script tells done
   tool_done (Ok (OfBlk layout)) h bytes script tells done = lines_done layout bytes (blk_lines layout bytes script)
       (h.0.whole.told bytes script tells.0 tells.1) done
   tool_done (Ok (OfMove plan)) h bytes script tells done =
-      exact_done (wanted_move plan bytes).end (h.0.whole.told bytes tells).exact done
+      exact_done (wanted_move plan bytes).end (h.whole.told bytes tells).exact done
   tool_done (Err s) h bytes script tells done = no_stop s done
 
 pub completes : (words : List Text) (a b : Outside) (status : ℕ) → ToolAnswers (plan_of words) a b status

@@ -44,8 +44,8 @@ use Rattle.script_spec.specs.Texts.{boot_text, front, whole}
 use Rattle.script_spec.specs.Scripts.{Kernel, new_kernel, ran, store_line, line_done}
 use Rattle.command_spec.specs.Commands.{Asked, RamCommand, Run, Command, OnRam, BlkRun, Move, RamPlan, MovePlan, Laid, Plan, OfRam, OfBlk, OfMove, Wanted, planned, laid_out, with_params, with_layout, with_blk_params, with_blk_layout, with_first_params, with_second_params, with_first_layout, with_second_layout, mem_of, wanted, wanted_run, wanted_lines, script_limit, script_end, stops, lacks_zone, class_of}
 use Rattle.command_spec.specs.Ends.{End, status_of, last_line}
-use Rattle.command_spec.specs.Answers.{Outside, IsFree, Answers, RunAnswers}
-use Rattle.command_spec.specs.PlanAnswers.{ToolAnswers, ClassAnswers}
+use Rattle.command_spec.specs.Answers.{Outside, IsFree, Answers}
+use Rattle.command_spec.specs.PlanAnswers.{ToolAnswers, ClassAnswers, RunAnswers}
 use Rattle.script_spec.specs.declared.Cause.{Cause}
 use Rattle.command_spec.specs.declared.Stop.{Stop}
 use Rattle.command_spec.specs.declared.Stop.TheVariants.{TooLong, NoSharedZone}
@@ -440,7 +440,7 @@ pub run_reads : LaterBootListsCrash → (o : Option Asked) (r : Result Plan Stop
 run_reads law o (Err s) a b status e held answers = tt
 run_reads law o (Ok (OfBlk layout)) a b status e held answers = tt
 run_reads law o (Ok (OfMove plan)) a b status e held answers =
-    move_reads plan a b status (planned_move o plan e) held answers.0
+    move_reads plan a b status (planned_move o plan e) held answers
 run_reads law o (Ok (OfRam plan)) a b status e held answers = (
   λ is. record {
     told = λ bytes script holds left lines long good.
@@ -456,7 +456,7 @@ run_reads law o (Ok (OfRam plan)) a b status e held answers = (
         λ k. scripts_read_written plan.zones (mem_of plan) (take (mem_of plan) bytes) (take k lines) lies size front
         (take_fit k lines (read_fields script lines good)) in
         let run : RunAnswers plan a b status =
-        subst (λ (c : RamCommand). ClassAnswers (class_of c) plan a b status) is answers.0 in
+        subst (λ (c : RamCommand). ClassAnswers (class_of c) plan a b status) is answers in
         record {
           read = reads;
           written = written;
@@ -472,7 +472,7 @@ run_reads law o (Ok (OfRam plan)) a b status e held answers = (
     told = λ bytes script holds left lines long good.
         let all : AreBytes bytes = rw holds at held in
         let run : RunAnswers plan a b status =
-        subst (λ (c : RamCommand). ClassAnswers (class_of c) plan a b status) is answers.0 in
+        subst (λ (c : RamCommand). ClassAnswers (class_of c) plan a b status) is answers in
         let d = (run.whole.told bytes script holds left).done zero in
         let p = planned_is o plan e in
         shared_reads plan is bytes script lines long good p.0

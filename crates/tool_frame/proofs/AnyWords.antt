@@ -1,5 +1,5 @@
 -- What run answers to any words, from how their work ended and what the last line left
-use Rattle.std.proofs.Common.{◌≡◌, ◌≢◌, ◌⊎◌, true, false, Bool, ℕ, List, [], Option, Result, Ok, Err, refl, sym, ap, ◌∙◌, arith, inl, inr}
+use Rattle.std.proofs.Common.{◌≡◌, ◌≢◌, true, false, Bool, ℕ, List, [], Option, Result, Ok, Err, refl, sym, ap, ◌∙◌, arith, inl, inr}
 use Rattle.std.proofs.KnownBytes.{Appends-nil}
 use Rattle.blk_spec.specs.declared.BlkLayout.{BlkLayout}
 use Rattle.command_spec.specs.Ends.{End, status_of}
@@ -12,7 +12,7 @@ use Rattle.tool_frame.specs.Words.{PlanStop}
 use Rattle.tool_frame.specs.Ended.{Ended, Caused, KeptBefore, ImageEnds, ReadEnds, PlanEnds, Nothing, WorkEnds, WorkDone, ClassEnds}
 use Rattle.tool_frame.proofs.ReadParts.{unread_memory}
 use Rattle.tool_frame.proofs.Answered.{GoesOn}
-use Rattle.tool_frame.proofs.Tool.{status_is, script_on, image_on, image_answers, no_texts, class_answers}
+use Rattle.tool_frame.proofs.Tool.{status_is, script_on, image_on, image_answers, no_texts, class_answers, among}
 use Rattle.tool_frame.proofs.BlkScript.{memory_lines}
 use Rattle.tool_frame.proofs.BlkAnswered.{blk_answers}
 use Rattle.tool_frame.proofs.Script.{Quiet}
@@ -26,22 +26,8 @@ can_want : (class : Class) (refused : Bool) → IsAmong (class_statuses class re
 can_want RunsScript refused = refl
 can_want class refused = refl
 
-class_can_fail : (class : Class) (refused : Bool) → IsAmong (class_statuses class refused) 7
-class_can_fail RunsScript refused = refl
-class_can_fail class refused = refl
-
 ram_can_want : (c : RamCommand) → IsAmong (ram_statuses c) 1
 ram_can_want c = can_want (class_of c) (names_one c)
-
-can_fail : (plan : Plan) → IsAmong (statuses plan) 7
-can_fail (OfRam plan) = class_can_fail (class_of plan.command) (names_one plan.command)
-can_fail (OfBlk layout) = refl
-can_fail (OfMove plan) = refl
-
-can_end : (class : Class) (plan : RamPlan) (a b : Outside) (e : End) → ClassEnds class plan a b e
-    → IsAmong (ram_statuses plan.command) (status_of e)
-can_end RunsScript plan a b e h = h.can
-can_end class plan a b e h = h.can
 
 blk_can : (layout : BlkLayout) (e : End) (holds holds' : Option (List ℕ)) → KeptBefore holds holds' e
     → IsAmong (statuses (OfBlk layout)) (status_of e)
@@ -50,18 +36,6 @@ blk_can layout (Err (Param x y)) holds holds' h = absurd h
 blk_can layout (Err (Layout x)) holds holds' h = absurd h
 blk_can layout (Err NoSharedZone) holds holds' h = absurd h
 blk_can layout e holds holds' h = refl
-
-plan_can : (plan : Plan) (a b : Outside) (e : End) → PlanEnds plan a b e
-    → IsAmong (statuses plan) (status_of e)
-plan_can (OfRam plan) a b e h = can_end (class_of plan.command) plan a b e h
-plan_can (OfBlk layout) a b e h = blk_can layout e a.holds b.holds h.kept
-plan_can (OfMove plan) a b e h = h.can
-
--- the status of an end, or 7
-among : {A : Type 0} (all : List ℕ) (n status : ℕ) → IsAmong all n → IsAmong all 7 → (status ≡ n) ⊎ ((status ≡ 7) × A)
-    → IsAmong all status
-among all n status h k (inl is) = rw is h
-among all n status h k (inr is) = rw is.0 k
 
 fault_put : (s : Stop) (a m b : Outside) (status : ℕ) → NoScript a b → NoImage a b → m.given ≡ a.given
     → LastPut s m.given b.given m.sink_faults b.sink_faults status → status_of (Err s) ≢ 7 → FaultAnswers s a b status
@@ -102,17 +76,17 @@ plan_answers : (plan : Plan) (a m b : Outside) (e : End) (status : ℕ) → Goes
     → PlanEnds plan a m e → Finished e m.given b.given m.sink_faults b.sink_faults status
     → PlanAnswers plan a b status
 plan_answers (OfRam plan) a m b e status on c h f = class_answers a m b on status (class_of plan.command) plan e c h f
-plan_answers (OfBlk layout) a m b e status on c h f = blk_answers layout a m b e status on c h f
+plan_answers (OfBlk layout) a m b e status on c h f = (
+  blk_answers layout a m b e status on c h f,
+  among (statuses (OfBlk layout)) (status_of e) status (blk_can layout e a.holds m.holds h.kept) refl
+      (status_is a m b on status e c f),
+)
 plan_answers (OfMove plan) a m b e status on c h f =
-    image_answers a m b on status (statuses (OfMove plan)) (wanted_move plan) e c h f
+    image_answers a m b on status (statuses (OfMove plan)) refl (wanted_move plan) e c h f
 
 tool_answers : (r : Result Plan Stop) (a m b : Outside) (e : End) (status : ℕ) → GoesOn a m b → Caused a m e
     → WorkEnds r a m e → Finished e m.given b.given m.sink_faults b.sink_faults status → ToolAnswers r a b status
-tool_answers (Ok plan) a m b e status on c h f = (
-  plan_answers plan a m b e status on c h f,
-  among (statuses plan) (status_of e) status (plan_can plan a m e h) (can_fail plan)
-      (status_is a m b on status e c f),
-)
+tool_answers (Ok plan) a m b e status on c h f = plan_answers plan a m b e status on c h f
 tool_answers (Err s) a m b e status on c h f =
     fault_answers s a m b status (script_on a m b h.1.script on.script) (image_on a m b h.1.image on.image) h.1.given
     (rw h.0 at f)

@@ -1,17 +1,17 @@
 -- What the tool answers for each command, from how its work ended and what the last line left
-use Rattle.std.proofs.Common.{◌≡◌, ◌≢◌, ◌⊎◌, true, false, ℕ, ◌<◌, ◌≤◌, List, [], ◌++◌, length, take, Option, Result, Ok, Err, refl, sym, ◌∙◌, arith, inl, inr, append_assoc, IsOk}
+use Rattle.std.proofs.Common.{◌≡◌, ◌≢◌, ◌⊎◌, true, false, Bool, ℕ, ◌<◌, ◌≤◌, List, [], ◌++◌, length, take, Option, Result, Ok, Err, refl, sym, ◌∙◌, arith, inl, inr, append_assoc, IsOk}
 use Rattle.std.proofs.KnownBytes.{Appends-nil, Appends-trans}
 use Rattle.std.specs.Io.KnownBytes.{Appends, IsAtEnd}
 use Rattle.grammar_spec.specs.Lines.{script_of}
 use Rattle.grammar_spec.specs.Fields.{Text}
 use Rattle.command_spec.specs.Ends.{End, status_of, last_line}
-use Rattle.command_spec.specs.Commands.{RamPlan, Wanted, wanted, wanted_of_image, mem_of, script_limit, Class, RunsScript, ReadsImage, ReadsDump, WritesImage, MakesImage, ShowsText}
-use Rattle.command_spec.specs.Answers.{Outside, NoScript, NoImage, RoseFor, PutsAll, IsFree, SavedInPart, ShortAnswers, ScriptAnswers, ScriptUse, ScriptRead, RunAnswers, ImageAnswers, ReadAnswers, MakeAnswers}
+use Rattle.command_spec.specs.Commands.{RamPlan, Wanted, wanted, wanted_of_image, mem_of, script_limit, Class, RunsScript, ReadsImage, ReadsDump, WritesImage, MakesImage, ShowsText, class_of}
+use Rattle.command_spec.specs.Answers.{Outside, NoScript, NoImage, RoseFor, PutsAll, IsFree, SavedInPart, ShortAnswers, ScriptAnswers, ScriptUse, ScriptRead}
 use Rattle.script_spec.specs.Texts.{whole}
-use Rattle.command_spec.specs.PlanAnswers.{ram_statuses, ClassAnswers}
+use Rattle.command_spec.specs.PlanAnswers.{ram_statuses, ClassAnswers, class_statuses, names_one, IsAmong, Can, ImageAnswers, ReadAnswers}
 use Rattle.tool_frame.specs.Ends.{LastPut, Finished}
 use Rattle.script_spec.specs.Playing.{PutTexts}
-use Rattle.tool_frame.specs.Ended.{Caused, ShortAt, ScriptAt, UseAt, ScriptEnds, RunEnds, ImageEnds, ReadEnds, WrittenAt, MakeEnds, ClassEnds}
+use Rattle.tool_frame.specs.Ended.{Caused, ShortAt, ScriptAt, UseAt, ScriptEnds, ImageEnds, WrittenAt, ClassEnds, CanEnd, RamReadEnds}
 use Rattle.tool_frame.proofs.Answered.{GoesOn, rose_on, sink_rose, saved_in_part, answers}
 use Rattle.command_spec.specs.declared.Stop.{Stop}
 use Rattle.command_spec.specs.declared.Stop.TheVariants.{Memory, Short, ScriptFault, ImageFault, SinkFault, TooLong, BadLine, Refused}
@@ -26,6 +26,17 @@ image_on a m b h k = record { holds = k.holds ∙ h.holds; store = k.store ∙ h
 no_error : {A B : Type 0} (r : Result A B) (b : B) → IsOk r → r ≡ Err b → ⊥
 no_error (Ok a) b h e = let clash : Ok a ≡ Err b = e in cc
 no_error (Err c) b h e = let clash : false ≡ true = h in cc
+
+-- each class of commands can fail to put its text
+class_can_fail : (class : Class) (refused : Bool) → IsAmong (class_statuses class refused) 7
+class_can_fail RunsScript refused = refl
+class_can_fail class refused = refl
+
+-- the status of an end, or 7
+pub among : {A : Type 0} (all : List ℕ) (n status : ℕ) → IsAmong all n → IsAmong all 7 → (status ≡ n) ⊎ ((status ≡ 7) × A)
+    → IsAmong all status
+among all n status h k (inl is) = rw is h
+among all n status h k (inr is) = rw is.0 k
 
 -- ---- the status of an end
 
@@ -353,52 +364,59 @@ module _ (a m b : Outside) (on : GoesOn a m b) (status : ℕ) where
   written_at w (Err SinkFault) c h f = not_six w 7 (λ z. absurd (omega arith)) (inl f.answer)
   written_at w (Err s) c h f = not_six w (status_of (Err s)) (λ z. absurd (omega arith)) (put_status s f)
 
-  run_answers : (plan : RamPlan) (e : End) → Caused a m e → RunEnds plan a m e
-      → Finished e m.given b.given m.sink_faults b.sink_faults status → RunAnswers plan a b status
-  run_answers plan e c h f = record {
-    whole = record { told = λ bytes text t l. answers a m b on _ status e c (h.whole.told bytes text t l) f };
-    read = script_read (mem_of plan) e c h.read f;
-    image_fault = λ six. elim h.image_fault [
-      | inl k ↦ inl (script_on a m b k on.script)
-      | inr k ↦ inr (record {
-        told = λ bytes text t l. written_at (wanted plan bytes text) e c (k.told bytes text t l) f six;
-      })
-    ];
-  }
-
-  make_answers : (plan : RamPlan) (e : End) → Caused a m e → MakeEnds plan a m e
-      → Finished e m.given b.given m.sink_faults b.sink_faults status → MakeAnswers plan a b status
-  make_answers plan e c h f = record {
-    whole = answers a m b on _ status e c h.whole f;
-    script = script_on a m b h.script on.script;
-    image_fault = written_at (wanted plan [] []) e c h.image_fault f;
-    text_first = text_on (wanted plan [] []) h.text_first (last_put e f);
-  }
+  -- a status among those of the command
+  can_answer : (plan : RamPlan) (e : End) → Caused a m e → CanEnd plan e
+      → Finished e m.given b.given m.sink_faults b.sink_faults status → Can plan status
+  can_answer plan e c h f = among (ram_statuses plan.command) (status_of e) status h
+      (class_can_fail (class_of plan.command) (names_one plan.command)) (status_is e c f)
 
   -- a command that reads the image
-  pub image_answers : (all : List ℕ) (want : List ℕ → Wanted) (e : End) → Caused a m e → ImageEnds all want a m e
-      → Finished e m.given b.given m.sink_faults b.sink_faults status → ImageAnswers want a b status
-  image_answers all want e c h f = record {
+  pub image_answers : (all : List ℕ) → IsAmong all 7 → (want : List ℕ → Wanted) (e : End) → Caused a m e
+      → ImageEnds all want a m e → Finished e m.given b.given m.sink_faults b.sink_faults status
+      → ImageAnswers all want a b status
+  image_answers all fail want e c h f = record {
+    can = among all (status_of e) status h.can fail (status_is e c f);
     whole = record { told = λ bytes t. answers a m b on (want bytes) status e c (h.whole.told bytes t) f };
     script = script_on a m b h.script on.script;
   }
 
-  pub read_answers : (all : List ℕ) (want : List ℕ → Wanted) (e : End) → Caused a m e → ReadEnds all want a m e
-      → Finished e m.given b.given m.sink_faults b.sink_faults status → ReadAnswers want a b status
-  read_answers all want e c h f = record {
-    whole = record { told = λ bytes t. answers a m b on (want bytes) status e c (h.whole.told bytes t) f };
+  read_answers : (plan : RamPlan) (e : End) → Caused a m e → RamReadEnds plan a m e
+      → Finished e m.given b.given m.sink_faults b.sink_faults status → ReadAnswers plan a b status
+  read_answers plan e c h f = record {
+    can = can_answer plan e c h.can f;
+    whole = record {
+      told = λ bytes t. answers a m b on (wanted_of_image plan bytes) status e c (h.whole.told bytes t) f;
+    };
     script = script_on a m b h.script on.script;
     image = on.image.holds ∙ h.image;
   }
 
   pub class_answers : (class : Class) (plan : RamPlan) (e : End) → Caused a m e → ClassEnds class plan a m e
       → Finished e m.given b.given m.sink_faults b.sink_faults status → ClassAnswers class plan a b status
-  class_answers RunsScript plan e c h f = run_answers plan e c h f
-  class_answers ReadsImage plan e c h f = read_answers (ram_statuses plan.command) (wanted_of_image plan) e c h f
-  class_answers ReadsDump plan e c h f = read_answers (ram_statuses plan.command) (wanted_of_image plan) e c h f
-  class_answers WritesImage plan e c h f = image_answers (ram_statuses plan.command) (wanted_of_image plan) e c h f
-  class_answers MakesImage plan e c h f = make_answers plan e c h f
+  class_answers RunsScript plan e c h f = record {
+    can = can_answer plan e c h.can f;
+    whole = record { told = λ bytes text t l. answers a m b on _ status e c (h.whole.told bytes text t l) f };
+    read = script_read (mem_of plan) e c h.read f;
+    image_fault = elim h.image_fault [
+      | inl k ↦ inl (script_on a m b k on.script)
+      | inr k ↦ inr (record {
+        told = λ bytes text t l. written_at (wanted plan bytes text) e c (k.told bytes text t l) f;
+      })
+    ];
+  }
+  class_answers ReadsImage plan e c h f = read_answers plan e c h f
+  class_answers ReadsDump plan e c h f = read_answers plan e c h f
+  class_answers WritesImage plan e c h f = image_answers (ram_statuses plan.command)
+      (class_can_fail (class_of plan.command) (names_one plan.command)) (wanted_of_image plan) e c h f
+  class_answers MakesImage plan e c h f = record {
+    can = can_answer plan e c h.can f;
+    whole = answers a m b on _ status e c h.whole f;
+    script = script_on a m b h.script on.script;
+    image_fault = written_at (wanted plan [] []) e c h.image_fault f;
+    text_first = text_on (wanted plan [] []) h.text_first (last_put e f);
+  }
   class_answers ShowsText plan e c h f = record {
+    can = can_answer plan e c h.can f;
     whole = answers a m b on _ status e c h.whole f;
     script = script_on a m b h.script on.script;
     image = image_on a m b h.image on.image;

@@ -8,7 +8,7 @@ use Rattle.grammar_spec.specs.Lines.{script_of}
 use Rattle.grammar_spec.specs.declared.line.Line.{Line}
 use Rattle.command_spec.specs.Ends.{End, status_of}
 use Rattle.command_spec.specs.Commands.{RamCommand, Class, RunsScript, ReadsImage, ReadsDump, WritesImage, MakesImage, ShowsText, class_of, RamPlan, Plan, OfRam, OfBlk, OfMove, Wanted, wanted, wanted_of_image, wanted_move, mem_of, stops, script_limit}
-use Rattle.command_spec.specs.Answers.{Outside, IfHolds, IfLeft, IfTold, NoScript, NoImage, Later, WritesAll, WritesSome, PutsAll}
+use Rattle.command_spec.specs.Answers.{Outside, IfHolds, IfLeft, IfTold, NoScript, NoImage, Later, WritesAll, WritesSome, OfScript, OfImage, OfReading, OfMaking, OfShowing}
 use Rattle.script_spec.specs.Texts.{whole}
 use Rattle.command_spec.specs.BlkAnswers.{blk_lines, BlkStop}
 use Rattle.script_spec.specs.BlkStops.{AllDone}
@@ -101,25 +101,17 @@ WrittenAt w a b (Err ImageFault) = (w.end ≡ Ok tt) × Appends a.given b.given 
     × WritesSome w.writes a.holds b.holds
 WrittenAt w a b e = ⊤
 
--- how each command's work ends, as far as the outside tells what it uses
-pub record RunEnds (plan : RamPlan) (a b : Outside) (e : End) : Type 0 where
-  pub can : CanEnd plan e
-  pub whole : IfTold a (λ bytes script. Ended (wanted plan bytes script) a b e)
-  pub read : ScriptEnds (mem_of plan) a b e
-  -- before the script is read the image may fail as it is read too
-  pub image_fault : NoScript a b ⊎ IfTold a (λ bytes script. WrittenAt (wanted plan bytes script) a b e)
+-- how each kind of command's work ends, as far as the outside tells what it uses
+abbrev pub RunEnds : RamPlan → Outside → Outside → End → Type 0
+RunEnds plan a b e = OfScript (λ d. CanEnd plan d) (λ d. ScriptEnds (mem_of plan) a b d) (λ d w. Ended w a b d)
+    (λ d w. WrittenAt w a b d) plan a b e
 
 -- with these statuses, where this is wanted of the image
-pub record ImageEnds (all : List ℕ) (want : List ℕ → Wanted) (a b : Outside) (e : End) : Type 0 where
-  pub can : IsAmong all (status_of e)
-  pub whole : IfHolds a (λ bytes. Ended (want bytes) a b e)
-  pub script : NoScript a b
+abbrev pub ImageEnds : List ℕ → (List ℕ → Wanted) → Outside → Outside → End → Type 0
+ImageEnds all want a b e = OfImage (λ d. IsAmong all (status_of d)) (λ d w. Ended w a b d) want a b e
 
-pub record ReadEnds (all : List ℕ) (want : List ℕ → Wanted) (a b : Outside) (e : End) : Type 0 where
-  pub can : IsAmong all (status_of e)
-  pub whole : IfHolds a (λ bytes. Ended (want bytes) a b e)
-  pub script : NoScript a b
-  pub image : b.holds ≡ a.holds
+abbrev pub ReadEnds : List ℕ → (List ℕ → Wanted) → Outside → Outside → End → Type 0
+ReadEnds all want a b e = OfReading (λ d. IsAmong all (status_of d)) (λ d w. Ended w a b d) want a b e
 
 -- the same of commands on an image
 abbrev pub RamImageEnds : RamPlan → Outside → Outside → End → Type 0
@@ -128,18 +120,12 @@ RamImageEnds plan a b e = ImageEnds (ram_statuses plan.command) (wanted_of_image
 abbrev pub RamReadEnds : RamPlan → Outside → Outside → End → Type 0
 RamReadEnds plan a b e = ReadEnds (ram_statuses plan.command) (wanted_of_image plan) a b e
 
-pub record MakeEnds (plan : RamPlan) (a b : Outside) (e : End) : Type 0 where
-  pub can : CanEnd plan e
-  pub whole : Ended (wanted plan [] []) a b e
-  pub script : NoScript a b
-  pub image_fault : WrittenAt (wanted plan [] []) a b e
-  pub text_first : NoImage a b ⊎ PutsAll (wanted plan [] []) a b
+abbrev pub MakeEnds : RamPlan → Outside → Outside → End → Type 0
+MakeEnds plan a b e = OfMaking (λ d. CanEnd plan d) (λ d w. Ended w a b d) (λ d w. WrittenAt w a b d)
+    (wanted plan [] []) a b e
 
-pub record ShowEnds (plan : RamPlan) (a b : Outside) (e : End) : Type 0 where
-  pub can : CanEnd plan e
-  pub whole : Ended (wanted plan [] []) a b e
-  pub script : NoScript a b
-  pub image : NoImage a b
+abbrev pub ShowEnds : RamPlan → Outside → Outside → End → Type 0
+ShowEnds plan a b e = OfShowing (λ d. CanEnd plan d) (λ d w. Ended w a b d) (wanted plan [] []) a b e
 
 -- ---- a script on the block store
 
