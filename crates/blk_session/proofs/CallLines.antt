@@ -14,8 +14,8 @@ use Rattle.blk_spec.specs.States.{BlkState, loaded, load_writes, cut_after}
 use Rattle.blk_spec.specs.Session.{Append, AppendElsewhere, Dump as DumpNow, Erase as EraseRecord, cause_of, session_after, load_session}
 use Rattle.blk_spec.specs.Answers.{Device, further, HasFront, Loads}
 use Rattle.grammar_spec.specs.declared.line.Line.TheVariants.{Write, Boot, Erase, KDump, CutAfter}
-use Rattle.tool_spec.specs.BlkScripts.{blk_line_done, operation_of, append_to, ring_for, reason_of, blk_named, line_writes}
-use Rattle.tool_spec.specs.declared.Cause.TheVariants.{NoZone, NoRecord}
+use Rattle.script_spec.specs.BlkScripts.{blk_line_done, operation_of, append_to, ring_for, reason_of, blk_named, line_writes}
+use Rattle.script_spec.specs.declared.Cause.TheVariants.{NoZone, NoRecord}
 use Rattle.blk_session.specs.declared.errors.LineError.TheVariants.{Refused}
 use Rattle.blk_session.specs.Lines.{LineDone, IsWantedLine, LineFails, error_of}
 use Rattle.blk_session.proofs.Operations.{line_fails}

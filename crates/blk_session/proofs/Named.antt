@@ -5,7 +5,7 @@ use Rattle.std.specs.List.{find, list_any}
 use Rattle.blk_spec.specs.declared.BlkName.{BlkName}
 use Rattle.blk_spec.specs.Names.{name_text, is_name}
 use Rattle.blk_spec.specs.States.{BlkState, names_of, is_listed}
-use Rattle.tool_spec.specs.BlkScripts.{blk_named}
+use Rattle.script_spec.specs.BlkScripts.{blk_named}
 use Rattle.zone_blk.proofs.Called.{is-itself}
 
 found_any : (text : List ℕ) (names : List BlkName) (name : BlkName)

@@ -18,8 +18,8 @@ use Rattle.blk_spec.specs.States.{BlkState, append_refusal, append_of, appended,
 use Rattle.blk_spec.specs.Session.{Session, Operation, Append, Dump as DumpNow, Erase as EraseRecord, NoRecord as NoRecordSession, cause_for, cause_loaded, cause_of, called, done_loaded, unless_refused, session_after}
 use Rattle.grammar_spec.specs.Fields.{Text}
 use Rattle.grammar_spec.specs.declared.line.Line.{Line}
-use Rattle.grammar_spec.specs.declared.line.Line.TheVariants.{Blank, Write, Dump, BeginWrite, BeginErase, BeginDump, Step, Finish, Stop, Flip, Boot, BootPart, List as ListLine, Extract, Erase, KDump, CutAfter, KMsg, Crash, Reserve, StoreNext}
-use Rattle.tool_spec.specs.BlkScripts.{blk_line_done, operation_of, performs, performs_if, done_unless, put_loaded, writes_loaded}
+use Rattle.grammar_spec.specs.declared.line.Line.TheVariants.{Write, Boot, List as ListLine, Extract, Erase, KDump, CutAfter}
+use Rattle.script_spec.specs.BlkScripts.{blk_line_done, operation_of, performs, performs_if, done_unless, put_loaded, writes_loaded}
 use Rattle.blk_session.specs.declared.errors.LineError.{LineError}
 use Rattle.blk_session.specs.declared.errors.LineError.TheVariants.{Memory, StoreFault, Refused}
 use Rattle.blk_session.specs.Lines.{LineAsks, LineDone, LineFails, OperationAsks, OperationDone, OperationFaults, OperationFails, error_of}
@@ -160,27 +160,14 @@ pub as_operation : (layout : BlkLayout) (session : Session) (line : Line) (opera
     → operation_of session.blk line ≡ Some operation → blk_line_done layout session line
     ≡ performs layout session operation
 unfolding blk_line_done operation_of
-as_operation layout session Blank operation e = cc
 as_operation layout session (Write zone bytes) operation e = ap (performs_if layout session) e
-as_operation layout session (Dump time packed bytes) operation e = cc
-as_operation layout session (BeginWrite zone bytes) operation e = cc
-as_operation layout session (BeginErase zone) operation e = cc
-as_operation layout session (BeginDump time packed bytes) operation e = cc
-as_operation layout session (Step zone k) operation e = cc
-as_operation layout session (Finish zone) operation e = cc
-as_operation layout session Stop operation e = cc
-as_operation layout session (Flip place mask) operation e = cc
 as_operation layout session Boot operation e = ap (performs_if layout session) e
-as_operation layout session (BootPart k) operation e = cc
 as_operation layout session ListLine operation e = ap (performs_if layout session) e
 as_operation layout session (Extract name) operation e = ap (performs_if layout session) e
 as_operation layout session (Erase name) operation e = ap (performs_if layout session) e
 as_operation layout session (KDump secs nanos packed reason bytes) operation e = ap (performs_if layout session) e
 as_operation layout session (CutAfter k) operation e = ap (performs_if layout session) e
-as_operation layout session (KMsg bytes) operation e = cc
-as_operation layout session (Crash reason time) operation e = cc
-as_operation layout session (Reserve bytes) operation e = cc
-as_operation layout session (StoreNext ticket k) operation e = cc
+as_operation layout session line operation e = cc
 
 module _ (layout : BlkLayout) (old : Option BlkState) (line : Line) (operation : Operation)
     (is : operation_of old line ≡ Some operation) where

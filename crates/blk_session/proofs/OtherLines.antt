@@ -14,9 +14,9 @@ use Rattle.blk_spec.specs.Session.{Session, Extract as ExtractRecord, cause_of, 
 use Rattle.grammar_spec.specs.Printed.{HasFields}
 use Rattle.grammar_spec.specs.declared.line.Line.{Line}
 use Rattle.grammar_spec.specs.declared.line.Line.TheVariants.{Blank, Write, Dump, BeginWrite, BeginErase, BeginDump, Step, Finish, Stop, Flip, Boot, BootPart, List as ListLine, Extract, Erase, KDump, CutAfter, KMsg, Crash, Reserve, StoreNext}
-use Rattle.tool_spec.specs.BlkScripts.{blk_line_done, operation_of, performs, append_to, ring_for, blk_listing, blk_named, blk_extract_text}
-use Rattle.tool_spec.specs.declared.Cause.{Cause}
-use Rattle.tool_spec.specs.declared.Cause.TheVariants.{IsOff, NotHere, NoRecord}
+use Rattle.script_spec.specs.BlkScripts.{blk_line_done, operation_of, performs, append_to, ring_for, blk_listing, blk_named, blk_extract_text}
+use Rattle.script_spec.specs.declared.Cause.{Cause}
+use Rattle.script_spec.specs.declared.Cause.TheVariants.{IsOff, NotHere, NoRecord}
 use Rattle.blk_session.specs.declared.errors.LineError.{LineError}
 use Rattle.blk_session.specs.declared.errors.LineError.TheVariants.{Memory, StoreFault, Refused}
 use Rattle.blk_session.specs.Lines.{LineAsks, LineDone, IsWanted, LineFails, IsExtract}
@@ -174,38 +174,11 @@ waits_line layout bytes (CutAfter n) h = refl
 waits_line layout bytes ListLine h = refl
 waits_line layout bytes (Extract b) h = refl
 waits_line layout bytes (Erase b) h = refl
-waits_line layout bytes Blank h = absurd h
-waits_line layout bytes (Dump t k b) h = absurd h
-waits_line layout bytes (BeginWrite z b) h = absurd h
-waits_line layout bytes (BeginErase z) h = absurd h
-waits_line layout bytes (BeginDump t k b) h = absurd h
-waits_line layout bytes (Step z n) h = absurd h
-waits_line layout bytes (Finish z) h = absurd h
-waits_line layout bytes Stop h = absurd h
-waits_line layout bytes (Flip a m) h = absurd h
-waits_line layout bytes Boot h = absurd h
-waits_line layout bytes (BootPart n) h = absurd h
-waits_line layout bytes (KMsg b) h = absurd h
-waits_line layout bytes (Crash r t) h = absurd h
-waits_line layout bytes (Reserve b) h = absurd h
-waits_line layout bytes (StoreNext t n) h = absurd h
+waits_line layout bytes line h = absurd h
 
 elsewhere_line : (layout : BlkLayout) (session : Session) (line : Line) → IsElsewhere line
     → blk_line_done layout session line ≡ Err NotHere
 unfolding blk_line_done operation_of
-elsewhere_line layout session (Dump t k b) h = refl
-elsewhere_line layout session (BeginWrite z b) h = refl
-elsewhere_line layout session (BeginErase z) h = refl
-elsewhere_line layout session (BeginDump t k b) h = refl
-elsewhere_line layout session (Step z n) h = refl
-elsewhere_line layout session (Finish z) h = refl
-elsewhere_line layout session Stop h = refl
-elsewhere_line layout session (Flip a m) h = refl
-elsewhere_line layout session (BootPart n) h = refl
-elsewhere_line layout session (KMsg b) h = refl
-elsewhere_line layout session (Crash r t) h = refl
-elsewhere_line layout session (Reserve b) h = refl
-elsewhere_line layout session (StoreNext t n) h = refl
 elsewhere_line layout session Blank h = absurd h
 elsewhere_line layout session (Write z b) h = absurd h
 elsewhere_line layout session (KDump a n k r b) h = absurd h
@@ -214,6 +187,7 @@ elsewhere_line layout session ListLine h = absurd h
 elsewhere_line layout session (Extract b) h = absurd h
 elsewhere_line layout session (Erase b) h = absurd h
 elsewhere_line layout session Boot h = absurd h
+elsewhere_line layout session line h = refl
 
 pub elsewhere : (layout : BlkLayout) (old : Option BlkState) (line : Line) (store : Device) (faults : ℕ)
     → IsElsewhere line → LineFails (Refused NotHere) layout old line store store faults faults
@@ -228,19 +202,6 @@ pub is_elsewhere : (line : Line) → line ≢ Blank → ((z : ZoneName) (b : Lis
     → line ≢ ListLine → ((b : List ℕ) → line ≢ Extract b) → ((b : List ℕ) → line ≢ Erase b)
     → ((a n : ℕ) (k : Bool) (r : ℕ) (b : List ℕ) → line ≢ KDump a n k r b) → ((n : ℕ) → line ≢ CutAfter n)
     → IsElsewhere line
-is_elsewhere (Dump t k b) p q r s t1 t2 t3 t4 = tt
-is_elsewhere (BeginWrite z b) p q r s t1 t2 t3 t4 = tt
-is_elsewhere (BeginErase z) p q r s t1 t2 t3 t4 = tt
-is_elsewhere (BeginDump t k b) p q r s t1 t2 t3 t4 = tt
-is_elsewhere (Step z n) p q r s t1 t2 t3 t4 = tt
-is_elsewhere (Finish z) p q r s t1 t2 t3 t4 = tt
-is_elsewhere Stop p q r s t1 t2 t3 t4 = tt
-is_elsewhere (Flip a m) p q r s t1 t2 t3 t4 = tt
-is_elsewhere (BootPart n) p q r s t1 t2 t3 t4 = tt
-is_elsewhere (KMsg b) p q r s t1 t2 t3 t4 = tt
-is_elsewhere (Crash n u) p q r s t1 t2 t3 t4 = tt
-is_elsewhere (Reserve b) p q r s t1 t2 t3 t4 = tt
-is_elsewhere (StoreNext m n) p q r s t1 t2 t3 t4 = tt
 is_elsewhere Blank p q r s t1 t2 t3 t4 = absurd (p refl)
 is_elsewhere (Write z b) p q r s t1 t2 t3 t4 = absurd (q z b refl)
 is_elsewhere Boot p q r s t1 t2 t3 t4 = absurd (r refl)
@@ -249,6 +210,7 @@ is_elsewhere (Extract b) p q r s t1 t2 t3 t4 = absurd (t1 b refl)
 is_elsewhere (Erase b) p q r s t1 t2 t3 t4 = absurd (t2 b refl)
 is_elsewhere (KDump a n k u b) p q r s t1 t2 t3 t4 = absurd (t3 a n k u b refl)
 is_elsewhere (CutAfter n) p q r s t1 t2 t3 t4 = absurd (t4 n refl)
+is_elsewhere line p q r s t1 t2 t3 t4 = tt
 
 -- ---- a dump's time
 

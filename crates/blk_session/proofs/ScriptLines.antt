@@ -6,6 +6,7 @@ use Rattle.std.proofs.lemmas.Option.{slice_get_read}
 use Rattle.std.proofs.lemmas.List.{take_all}
 use Rattle.std.specs.List.{fold}
 use Rattle.std.specs.Io.KnownBytes.{Appends}
+use Rattle.std.proofs.KnownBytes.{Appends-nil, Appends-trans}
 use Rattle.blk_spec.specs.declared.BlkLayout.{BlkLayout}
 use Rattle.blk_spec.specs.States.{BlkState}
 use Rattle.blk_spec.specs.Session.{Session}
@@ -13,17 +14,14 @@ use Rattle.grammar_spec.specs.Fields.{Text}
 use Rattle.grammar_spec.specs.declared.line.Line.{Line}
 use Rattle.blk_spec.specs.Writes.{bytes_in}
 use Rattle.blk_spec.specs.Answers.{Device, HasFront}
-use Rattle.tool_spec.specs.BlkScripts.{BlkDone, BlkRan, blk_ran, blk_ran_on, blk_next_line, blk_started, blk_line_done, line_writes, WriteNothing}
-use Rattle.tool_spec.specs.Answers.{front, whole}
-use Rattle.tool_spec.specs.BlkAnswers.{StopsAt, LinesEnd}
-use Rattle.tool_spec.specs.Ends.{End}
-use Rattle.tool_frame.specs.Playing.{BlkPlayCaused}
-use Rattle.tool_spec.specs.declared.Cause.{Cause}
-use Rattle.tool_spec.specs.declared.Stop.{Stop}
-use Rattle.tool_spec.specs.declared.Stop.TheVariants.{Memory, Usage, Param, Layout, NoSharedZone, Short, ScriptFault, ImageFault, SinkFault, TooLong, BadLine, Refused}
-use Rattle.tool_frame.proofs.Answered.{appends_on}
-use Rattle.tool_frame.proofs.Answered.{nothing_put}
-use Rattle.tool_frame.proofs.Play.{Extends, extends_self, extends_on, front_of, whole_more}
+use Rattle.script_spec.specs.BlkScripts.{BlkDone, BlkRan, blk_ran, blk_ran_on, blk_next_line, blk_started, blk_line_done, line_writes, WriteNothing}
+use Rattle.script_spec.specs.Texts.{front, whole}
+use Rattle.script_spec.specs.BlkStops.{StopsAt, EndsAt}
+use Rattle.script_spec.specs.Playing.{LinesEnd, BlkPlayCaused}
+use Rattle.script_spec.specs.declared.Cause.{Cause}
+use Rattle.script_spec.specs.declared.LineStop.{LineStop}
+use Rattle.script_spec.specs.declared.LineStop.TheVariants.{Memory, StoreFault, SinkFault, Refused}
+use Rattle.tool_laws.proofs.Play.{Extends, extends_self, extends_on, front_of, whole_more}
 use Rattle.blk_session.specs.Playing.{Seen, Puts, LineStops}
 
 -- ---- texts only grow
@@ -97,9 +95,9 @@ abbrev pub PlaysSoFar : BlkLayout → List Line → ℕ → Option BlkState → 
 PlaysSoFar layout lines i blk a b = (bytes : List ℕ) → a.store.holds ≡ Some bytes → PlaysTo layout bytes lines i blk a b
 
 -- how the lines end from one moment to another, where the store tells its bytes
-abbrev pub Plays : End → BlkLayout → List Line → Seen → Seen → Type 0
+abbrev pub Plays : LinesEnd → BlkLayout → List Line → Seen → Seen → Type 0
 Plays e layout lines a b = (bytes : List ℕ) → a.store.holds ≡ Some bytes
-    → LinesEnd e layout bytes lines a.given b.given b.store.holds
+    → EndsAt e layout bytes lines a.given b.given b.store.holds
 
 pub plays_none : (layout : BlkLayout) (lines : List Line) (a : Seen) → PlaysSoFar layout lines 0 None a a
 plays_none layout lines a bytes told = record {
@@ -108,7 +106,7 @@ plays_none layout lines a bytes told = record {
   session = refl;
   none = refl;
   count = refl;
-  texts = nothing_put a.given;
+  texts = Appends-nil a.given;
   unwritten = λ none. refl;
 }
 
@@ -176,12 +174,12 @@ module _ (layout : BlkLayout) (bytes : List ℕ) (lines : List Line) (i : ℕ) (
           session = rw e refl;
           none = rw e refl;
           count = one_more d l.done;
-          texts = rw (e, whole_more so_far.texts puts.text) (appends_on a.given b.given c.given (whole so_far.texts)
+          texts = rw (e, whole_more so_far.texts puts.text) (Appends-trans a.given b.given c.given (whole so_far.texts)
               puts.text p.texts puts.put);
           unwritten = λ none. puts.done.asks.unwritten (writes_none (in_all d l.done) none) ∙ p.unwritten none;
         }
 
-    pub on_stop : (stop : Stop) (c : Seen) → LineStops stop layout blk line (i + 1) b c
+    pub on_stop : (stop : LineStop) (c : Seen) → LineStops stop layout blk line (i + 1) b c
         → StopsAt stop layout bytes lines a.given c.given c.store.holds
     on_stop Memory c h =
         let w = h.1.2 p.store in
@@ -198,7 +196,7 @@ module _ (layout : BlkLayout) (bytes : List ℕ) (lines : List Line) (i : ℕ) (
           };
           put = rw (h.0, ← p.count, prefix_front layout bytes lines i) p.texts;
         }
-    on_stop ImageFault c h =
+    on_stop StoreFault c h =
         let w = h.1.1.wanted p.store in
         let f : HasFront (line_writes layout (blk_ran layout bytes (take i lines)).session.blk line)
         (Some (blk_ran layout bytes (take i lines)).session.store) c.store.holds = rw (p.session, ← p.holds)
@@ -234,7 +232,7 @@ module _ (layout : BlkLayout) (bytes : List ℕ) (lines : List Line) (i : ℕ) (
             holds = l.holds ∙ ap (λ (r : BlkRan). Some r.session.store) (sym e);
           };
           put = rw (← p.count, prefix_front layout bytes lines i)
-              (appends_on a.given b.given c.given (whole so_far.texts) (take h.1.put.count h.1.text)
+              (Appends-trans a.given b.given c.given (whole so_far.texts) (take h.1.put.count h.1.text)
               p.texts h.1.put.bytes);
         }
     on_stop (Refused n cause) c h =
@@ -242,27 +240,20 @@ module _ (layout : BlkLayout) (bytes : List ℕ) (lines : List Line) (i : ℕ) (
         record {
           text = whole (blk_ran layout bytes lines).texts;
           stops = record {
-            end = rw (e, h.0, p.count) refl;
+            number = rw (e, p.count) (h.0);
+            refused = rw e refl;
             texts = refl;
             holds = ap (λ (d : Device). d.holds) h.2.0 ∙ p.holds ∙ ap (λ (s : Session). Some s.store) (sym p.session)
                 ∙ ap (λ (r : BlkRan). Some r.session.store) (sym e);
           };
           put = rw (e, h.1) p.texts;
         }
-    on_stop Usage c h = absurd h
-    on_stop (Param x y) c h = absurd h
-    on_stop (Layout x) c h = absurd h
-    on_stop NoSharedZone c h = absurd h
-    on_stop (Short x y) c h = absurd h
-    on_stop ScriptFault c h = absurd h
-    on_stop TooLong c h = absurd h
-    on_stop (BadLine x) c h = absurd h
 
     -- and where no line of those that are done writes, a stop leaves the store's count of writes
-    pub stays_on : (stop : Stop) (c : Seen) → LineStops stop layout blk line (i + 1) b c
+    pub stays_on : (stop : LineStop) (c : Seen) → LineStops stop layout blk line (i + 1) b c
         → WriteNothing layout bytes lines → c.store.writes ≡ a.store.writes
     stays_on Memory c h none = h.1.0.1 ∙ p.unwritten none
-    stays_on ImageFault c h none =
+    stays_on StoreFault c h none =
         let w = h.1.1.wanted p.store in
         h.1.1.asks.unwritten (writes_none (in_all w.wants w.is) none) ∙ p.unwritten none
     stays_on SinkFault c h none =
@@ -270,14 +261,6 @@ module _ (layout : BlkLayout) (bytes : List ℕ) (lines : List Line) (i : ℕ) (
         let d : BlkDone = record { session = record { store = l.after; blk = h.1.new }; text = h.1.text } in
         h.1.done.asks.unwritten (writes_none (in_all d l.done) none) ∙ p.unwritten none
     stays_on (Refused n cause) c h none = ap (λ (d : Device). d.writes) h.2.0 ∙ p.unwritten none
-    stays_on Usage c h none = absurd h
-    stays_on (Param x y) c h none = absurd h
-    stays_on (Layout x) c h none = absurd h
-    stays_on NoSharedZone c h none = absurd h
-    stays_on (Short x y) c h none = absurd h
-    stays_on ScriptFault c h none = absurd h
-    stays_on TooLong c h none = absurd h
-    stays_on (BadLine x) c h none = absurd h
 
 module _ (layout : BlkLayout) (lines : List Line) (i : ℕ) (line : Line) (below : i < length lines)
     (is : line ≡ get_or lines i line) (blk : Option BlkState) (a b : Seen)
@@ -286,11 +269,11 @@ module _ (layout : BlkLayout) (lines : List Line) (i : ℕ) (line : Line) (below
       → PlaysSoFar layout lines (i + 1) next a c
   plays_next next c puts bytes told = on_next layout bytes lines i line below is blk a b (so_far bytes told) next c puts
 
-  pub plays_stop : (stop : Stop) (c : Seen) → LineStops stop layout blk line (i + 1) b c
+  pub plays_stop : (stop : LineStop) (c : Seen) → LineStops stop layout blk line (i + 1) b c
       → Plays (Err stop) layout lines a c
   plays_stop stop c h bytes told = on_stop layout bytes lines i line below is blk a b (so_far bytes told) stop c h
 
-  pub plays_unwritten : (stop : Stop) (c : Seen) → LineStops stop layout blk line (i + 1) b c → (bytes : List ℕ)
+  pub plays_unwritten : (stop : LineStop) (c : Seen) → LineStops stop layout blk line (i + 1) b c → (bytes : List ℕ)
       → a.store.holds ≡ Some bytes → WriteNothing layout bytes lines → c.store.writes ≡ a.store.writes
   plays_unwritten stop c h bytes told none =
       stays_on layout bytes lines i line below is blk a b (so_far bytes told) stop c h none
@@ -307,18 +290,10 @@ plays_all layout lines i blk a b all so_far bytes told =
     }
 
 -- a stop's cause, whether the store tells its bytes or not
-pub stop_caused : (stop : Stop) (layout : BlkLayout) (blk : Option BlkState) (line : Line) (number : ℕ) (a b c : Seen)
+pub stop_caused : (stop : LineStop) (layout : BlkLayout) (blk : Option BlkState) (line : Line) (number : ℕ) (a b c : Seen)
     → a.store_faults ≤ b.store_faults → a.sink_faults ≤ b.sink_faults → LineStops stop layout blk line number b c
     → BlkPlayCaused (Err stop) a.store_faults c.store_faults a.sink_faults c.sink_faults
 stop_caused Memory layout blk line number a b c s o h = tt
-stop_caused ImageFault layout blk line number a b c s o h = omega (arith, s, h.1.0)
+stop_caused StoreFault layout blk line number a b c s o h = omega (arith, s, h.1.0)
 stop_caused SinkFault layout blk line number a b c s o h = omega (arith, o, h.0)
 stop_caused (Refused n cause) layout blk line number a b c s o h = tt
-stop_caused Usage layout blk line number a b c s o h = absurd h
-stop_caused (Param x y) layout blk line number a b c s o h = absurd h
-stop_caused (Layout x) layout blk line number a b c s o h = absurd h
-stop_caused NoSharedZone layout blk line number a b c s o h = absurd h
-stop_caused (Short x y) layout blk line number a b c s o h = absurd h
-stop_caused ScriptFault layout blk line number a b c s o h = absurd h
-stop_caused TooLong layout blk line number a b c s o h = absurd h
-stop_caused (BadLine x) layout blk line number a b c s o h = absurd h

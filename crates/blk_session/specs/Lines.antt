@@ -13,9 +13,9 @@ use Rattle.blk_spec.specs.Answers.{Device, HasFront, IsUnwritten}
 use Rattle.grammar_spec.specs.Fields.{Text}
 use Rattle.grammar_spec.specs.declared.line.Line.{Line}
 use Rattle.grammar_spec.specs.declared.line.Line.TheVariants.{Write, Boot, List as ListLine, Extract, Erase, KDump, CutAfter}
-use Rattle.tool_spec.specs.BlkScripts.{BlkDone, blk_line_done, line_writes, NeedsStore, TakesMemory, performs, writes_by, blk_named, blk_extract_text}
-use Rattle.tool_spec.specs.declared.Cause.{Cause}
-use Rattle.tool_spec.specs.declared.Cause.TheVariants.{NoZone, NoRecord}
+use Rattle.script_spec.specs.BlkScripts.{BlkDone, blk_line_done, line_writes, NeedsStore, TakesMemory, performs, writes_by, blk_named, blk_extract_text}
+use Rattle.script_spec.specs.declared.Cause.{Cause}
+use Rattle.script_spec.specs.declared.Cause.TheVariants.{NoZone, NoRecord}
 use Rattle.blk_session.specs.declared.errors.LineError.{LineError}
 use Rattle.blk_session.specs.declared.errors.LineError.TheVariants.{Memory, StoreFault, Refused}
 

@@ -7,8 +7,8 @@ use Rattle.blk_spec.specs.States.{BlkState}
 use Rattle.blk_spec.specs.Answers.{Device}
 use Rattle.grammar_spec.specs.Fields.{Text}
 use Rattle.grammar_spec.specs.declared.line.Line.{Line}
-use Rattle.tool_spec.specs.declared.Stop.{Stop}
-use Rattle.tool_spec.specs.declared.Stop.TheVariants.{Memory, ImageFault, SinkFault, Refused}
+use Rattle.script_spec.specs.declared.LineStop.{LineStop}
+use Rattle.script_spec.specs.declared.LineStop.TheVariants.{Memory, StoreFault, SinkFault, Refused}
 use Rattle.blk_session.specs.declared.errors.LineError.TheVariants.{Memory as MemoryThere, StoreFault as StoreFaultThere, Refused as RefusedThere}
 use Rattle.blk_session.specs.Lines.{LineDone, LineFails}
 
@@ -36,16 +36,15 @@ pub record PutsPart (layout : BlkLayout) (old : Option BlkState) (line : Line) (
   pub put : AppendsFront a.given b.given text
 
 -- why a line of this number was not done or not put
-abbrev pub LineStops : Stop → BlkLayout → Option BlkState → Line → ℕ → Seen → Seen → Type 0
+abbrev pub LineStops : LineStop → BlkLayout → Option BlkState → Line → ℕ → Seen → Seen → Type 0
 LineStops Memory layout old line number a b =
     (b.given ≡ a.given) × LineFails MemoryThere layout old line a.store b.store a.store_faults b.store_faults
-LineStops ImageFault layout old line number a b =
+LineStops StoreFault layout old line number a b =
     (b.given ≡ a.given) × LineFails StoreFaultThere layout old line a.store b.store a.store_faults b.store_faults
 LineStops SinkFault layout old line number a b = Rose a.sink_faults b.sink_faults × PutsPart layout old line a b
 LineStops (Refused n cause) layout old line number a b =
     (n ≡ number) × (b.given ≡ a.given) × LineFails (RefusedThere cause)
     layout old line a.store b.store a.store_faults b.store_faults
-LineStops stop layout old line number a b = ⊥
 
 -- no count of faults falls
 pub record Later (a b : Seen) : Type 0 where

@@ -5,13 +5,13 @@ ghost use Rattle.blk_spec.specs.Answers.{HasRoom, device};
 ghost use Rattle.blk_spec.specs.States.{BlkState};
 ghost use Rattle.blk_spec.specs.Session.{Append, Dump as DumpNow, Erase as EraseRecord};
 ghost use Rattle.grammar_spec.specs.declared.line.Line.TheVariants.{Write, KDump, Boot, Erase};
-ghost use Rattle.tool_spec.specs.BlkScripts.{ring_for as ring_of_kind, reason_of as reason_of_number};
+ghost use Rattle.script_spec.specs.BlkScripts.{ring_for as ring_of_kind, reason_of as reason_of_number};
 ghost use Rattle.blk_session.specs.Lines.{LineDone, LineFails, OperationDone, OperationFails, KeptUnlessFault};
 
 use crate::errors::{LineError, line_error};
 use outside::{Bytes, Store};
+use script_spec::Cause;
 use std::alloc::Global;
-use tool_spec::Cause;
 use zone_blk::{Blk, BlkLayout, BlkName, BlkRing, BlkTime, Reason};
 use zone_spec::{Kind, ZoneName};
 

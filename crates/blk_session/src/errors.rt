@@ -2,8 +2,8 @@
 ghost use Rattle.std.specs.Prelude.{◌≡◌};
 ghost use Rattle.blk_session.specs.Lines.{error_of};
 
+use script_spec::Cause;
 use std::alloc::AllocError;
-use tool_spec::Cause;
 use zone_blk::BlkFault;
 
 /// Why a line was not done.

@@ -10,8 +10,8 @@ use crate::texts::listing;
 use crate::{calls, records};
 use outside::Store;
 use script::Line;
+use script_spec::Cause;
 use std::alloc::{AllocError, Global};
-use tool_spec::Cause;
 use zone_blk::{Blk, BlkLayout, BlkTime};
 
 // A line that puts nothing, and may change what is loaded.

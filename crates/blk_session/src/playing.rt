@@ -3,11 +3,10 @@ ghost use Rattle.std.specs.Prelude.{◌≡◌, ℕ, ◌<◌, ◌≤◌, ◌^◌,
 ghost use Rattle.blk_spec.specs.Layout.{IsLayout};
 ghost use Rattle.blk_spec.specs.Answers.{HasRoom, device};
 ghost use Rattle.grammar_spec.specs.Printed.{HasFields, AllHaveFields};
-ghost use Rattle.tool_spec.specs.BlkScripts.{WriteNothing};
-ghost use Rattle.tool_spec.specs.BlkAnswers.{LinesEnd};
-ghost use Rattle.tool_spec.specs.declared.Stop.TheVariants.{ImageFault, SinkFault};
-ghost use Rattle.tool_frame.specs.Stages.{KeptUnless};
-ghost use Rattle.tool_frame.specs.Playing.{PutsText, BlkPlayCaused};
+ghost use Rattle.script_spec.specs.BlkScripts.{WriteNothing};
+ghost use Rattle.script_spec.specs.BlkStops.{EndsAt};
+ghost use Rattle.script_spec.specs.declared.LineStop.TheVariants.{StoreFault, SinkFault};
+ghost use Rattle.script_spec.specs.Playing.{KeptUnless, PutsText, BlkPlayCaused};
 ghost use Rattle.blk_session.specs.Stops.{stop_of};
 ghost use Rattle.blk_session.specs.Playing.{seen, Puts, LineStops, Later};
 
@@ -15,18 +14,18 @@ use crate::errors::LineError;
 use crate::lines::do_line;
 use outside::{Failed, Sink, Store};
 use script::Line;
+use script_spec::LineStop;
 use std::alloc::Global;
-use tool_spec::Stop;
 use zone_blk::{Blk, BlkLayout};
 
 // The stop of a script at the line of this number.
-fn stop_at(number: u32, error: LineError) -> Stop
+fn stop_at(number: u32, error: LineError) -> LineStop
     ensures { result ≡ stop_of number error }
 {
     match error {
-        LineError::Memory => Stop::Memory,
-        LineError::StoreFault => Stop::ImageFault,
-        LineError::Refused(cause) => Stop::Refused {
+        LineError::Memory => LineStop::Memory,
+        LineError::StoreFault => LineStop::StoreFault,
+        LineError::Refused(cause) => LineStop::Refused {
             line: number,
             cause,
         },
@@ -42,7 +41,7 @@ fn play_line<S: Store, O: Sink>(
     line: &Line,
     number: u32,
     out: &mut O,
-) -> Result<Option<Blk>, Stop>
+) -> Result<Option<Blk>, LineStop>
     requires layout { IsLayout layout }
     requires fields { HasFields line.now }
     requires loaded { IfSome blk (λ b. b.layout ≡ layout) }
@@ -54,7 +53,7 @@ fn play_line<S: Store, O: Sink>(
         (O.given out.old) (O.faults out.old))
         (seen (device (S.holds store.new) (S.writes store.new) (S.read_faults store.new)) (S.faults store.new)
         (O.given out.new) (O.faults out.new)) }
-    ensures kept_store { KeptUnless ImageFault result (S.faults store.old) (S.faults store.new) }
+    ensures kept_store { KeptUnless StoreFault result (S.faults store.old) (S.faults store.new) }
     ensures kept_sink { KeptUnless SinkFault result (O.faults out.old) (O.faults out.new) }
     ensures played { let before = device (S.holds store.old) (S.writes store.old) (S.read_faults store.old) in
         let now = device (S.holds store.new) (S.writes store.new) (S.read_faults store.new) in
@@ -69,7 +68,7 @@ fn play_line<S: Store, O: Sink>(
     };
     match out.put(&text) {
         Ok(()) => Ok(next),
-        Err(Failed) => Err(Stop::SinkFault),
+        Err(Failed) => Err(LineStop::SinkFault),
     }
 }
 
@@ -81,7 +80,7 @@ pub fn play<S: Store, O: Sink>(
     store: &mut S,
     lines: &[Line],
     out: &mut O,
-) -> Result<(), Stop>
+) -> Result<(), LineStop>
     requires layout { IsLayout layout }
     requires fields { AllHaveFields lines.now }
     requires few { length lines.now < 2 ^ 32 }
@@ -89,11 +88,11 @@ pub fn play<S: Store, O: Sink>(
     ensures later { (S.faults store.old ≤ S.faults store.new) × (O.faults out.old ≤ O.faults out.new) }
     ensures caused { BlkPlayCaused result (S.faults store.old) (S.faults store.new) (O.faults out.old)
         (O.faults out.new) }
-    ensures kept_store { KeptUnless ImageFault result (S.faults store.old) (S.faults store.new) }
+    ensures kept_store { KeptUnless StoreFault result (S.faults store.old) (S.faults store.new) }
     ensures kept_sink { KeptUnless SinkFault result (O.faults out.old) (O.faults out.new) }
     ensures put { PutsText (O.given out.old) (O.given out.new) }
     ensures played { (bytes : List ℕ) → S.holds store.old ≡ Some bytes
-        → LinesEnd result layout bytes lines.now (O.given out.old) (O.given out.new) (S.holds store.new) }
+        → EndsAt result layout bytes lines.now (O.given out.old) (O.given out.new) (S.holds store.new) }
     ensures unwritten { (bytes : List ℕ) → S.holds store.old ≡ Some bytes → WriteNothing layout bytes lines.now
         → S.writes store.new ≡ S.writes store.old }
 {

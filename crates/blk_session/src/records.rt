@@ -4,8 +4,8 @@ ghost use Rattle.blk_session.specs.Lines.{IsExtract};
 use crate::errors::LineError;
 use crate::texts::extract_text;
 use outside::Bytes;
+use script_spec::Cause;
 use std::alloc::{AllocError, Global};
-use tool_spec::Cause;
 use zone_blk::Blk;
 
 /// A record's name, length and content.

@@ -9,7 +9,7 @@ use script::parse;
 use std::alloc::{AllocError, Global};
 use std::process::Abort;
 use std::test::Fail;
-use tool_spec::{Cause, Stop};
+use script_spec::{Cause, LineStop};
 use zone_blk::BlkLayout;
 
 const LAYOUT: BlkLayout = BlkLayout {
@@ -44,7 +44,7 @@ fn played(
     store: &mut MemStore,
     script: &str,
     out: &mut MemSink,
-) -> Result<Result<(), Stop>, Fail>
+) -> Result<Result<(), LineStop>, Fail>
     requires { HasRoom 16384 (Some (store_holds store.old)) }
 {
     if script.len() > 1000 {
@@ -96,7 +96,7 @@ fn assert_played(
     rt: &(impl Abort + AllocGlobal),
     script: &str,
     text: &str,
-    end: Result<(), Stop>,
+    end: Result<(), LineStop>,
 ) -> Result<(), Fail> {
     let mut store = zeros(rt.alloc(), 16384, &[])?;
     let mut out = MemSink::new(rt.alloc(), 1000, Calls::new(rt.alloc(), &[])?)?;
@@ -114,7 +114,7 @@ fn worked_sessions(rt: HostRuntime) -> Result<(), Fail> {
         assert_played(&rt, script, text, Ok(()))?;
     }
     for (script, text, line, cause) in REFUSED.iter().copied() {
-        assert_played(&rt, script, text, Err(Stop::Refused { line, cause }))?;
+        assert_played(&rt, script, text, Err(LineStop::Refused { line, cause }))?;
     }
     Ok(())
 }
@@ -148,7 +148,7 @@ fn each_call_of_the_store_fails(rt: HostRuntime) -> Result<(), Fail> {
         let mut out = MemSink::new(alloc, 1000, Calls::new(alloc, &[])?)?;
         match played(alloc, &mut store, FIRST, &mut out)? {
             Ok(()) => break,
-            Err(stop) => assert!(rt; stop == Stop::ImageFault, "call {call}"),
+            Err(stop) => assert!(rt; stop == LineStop::StoreFault, "call {call}"),
         }
         failed = call;
         assert!(rt; was_put(&out, ""), "call {call}");
@@ -164,7 +164,7 @@ fn each_put_fails(rt: HostRuntime) -> Result<(), Fail> {
         let mut store = zeros(alloc, 16384, &[])?;
         let mut out = MemSink::new(alloc, 1000, Calls::new(alloc, &[call])?)?;
         let end = played(alloc, &mut store, FIRST, &mut out)?;
-        assert!(rt; end == Err(Stop::SinkFault), "put {call}");
+        assert!(rt; end == Err(LineStop::SinkFault), "put {call}");
         assert!(rt; was_put(&out, text), "put {call}");
     }
     Ok(())

@@ -9,7 +9,6 @@ use Rattle.zone_spec.specs.declared.State.TheVariants.{Found}
 use Rattle.zone_spec.specs.declared.Words.{Words}
 use Rattle.zone_spec.specs.Zones.{IsValidZone}
 use Rattle.zone_spec.specs.Parts.{Part, Header, Block, part_at, part_bytes, standing_words}
-use Rattle.zone_spec.specs.PartReadings.{part_reading}
 use Rattle.zone_spec.specs.Stores.{Store, after_stores}
 use Rattle.zone_spec.specs.Stages.{Stage, stores_in_turn}
 use Rattle.zone_spec.specs.Calls.{erase_stages}

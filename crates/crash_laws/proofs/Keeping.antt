@@ -1,6 +1,5 @@
 -- Lines that leave a dump zone alone
-use Rattle.std.proofs.Common.{◌≡◌, ◌≢◌, ℕ, ◌+◌, ◌==◌, Bool, true, false, cond, not, ◌&&◌, ◌||◌, nat_lt, List, [], ◌∷◌, ◌++◌, length, filter, slice_get, bytes_eq, Option, Some, None, Result, Ok, Err, refl, sym, ap, ◌∙◌, subst, true≢false, eqb-true}
-use Rattle.std.proofs.lemmas.Bool.{and_parts}
+use Rattle.std.proofs.Common.{◌≡◌, ℕ, ◌+◌, ◌==◌, Bool, true, false, cond, not, ◌||◌, nat_lt, List, [], ◌∷◌, ◌++◌, length, filter, slice_get, bytes_eq, Option, Some, None, Result, Ok, Err, refl, sym, ap, ◌∙◌, subst, true≢false, eqb-true}
 use Rattle.zone_spec.specs.declared.Zone.{Zone}
 use Rattle.zone_spec.specs.declared.Kind.{Kind}
 use Rattle.zone_spec.specs.declared.Kind.TheVariants.{Dump as DumpKind, Console, Ftrace, Pmsg}
@@ -30,9 +29,9 @@ use Rattle.machine_laws.proofs.Targets.{target-some}
 use Rattle.grammar_spec.specs.Fields.{Text}
 use Rattle.grammar_spec.specs.declared.line.Line.{Line}
 use Rattle.grammar_spec.specs.declared.line.Line.TheVariants.{Blank, Write, Dump, BeginWrite, BeginErase, BeginDump, Step, Finish, Stop, Flip, Boot, BootPart, List as ListLine, Extract, Erase, KDump, CutAfter, KMsg, Crash, Reserve, StoreNext}
-use Rattle.tool_spec.specs.Scripts.{StoreDone, Kernel, new_kernel, Done, beside, prints, does, put_by, named, lists, extracts, extracts_of, erases, erases_of, store_line, line_done, crash_body, crashed, crashes, log_limit}
-use Rattle.tool_spec.specs.declared.Cause.{Cause}
-use Rattle.tool_spec.specs.declared.Cause.TheVariants.{TooLong}
+use Rattle.script_spec.specs.Scripts.{StoreDone, Kernel, new_kernel, Done, beside, prints, does, put_by, named, lists, extracts, extracts_of, erases, erases_of, store_line, line_done, crash_body, crashed, crashes, log_limit}
+use Rattle.script_spec.specs.declared.Cause.{Cause}
+use Rattle.script_spec.specs.declared.Cause.TheVariants.{TooLong}
 use Rattle.crash_laws.specs.Standing.{IsToldLive, IsTold}
 use Rattle.crash_laws.specs.Lines.{dumps_elsewhere, names_dump, is_outside, spares}
 use Rattle.crash_laws.specs.Listings.{LinesKeepTold}
@@ -311,46 +310,14 @@ module _ (layout : List Zone) (mem : ℕ) (lies : IsLayout layout mem) (z : Zone
       → spares z session line ≡ true → IsTold z place told session → line_done layout session kernel line ≡ Ok d
       → IsTold z place told d.session
   unfolding line_done
-  line_keeps session kernel Blank d state s k h =
-      beside_keeps session kernel Blank d state s k h
-  line_keeps session kernel (Write name bytes) d state s k h =
-      beside_keeps session kernel (Write name bytes) d state s k h
-  line_keeps session kernel (Dump time packed bytes) d state s k h =
-      beside_keeps session kernel (Dump time packed bytes) d state s k h
-  line_keeps session kernel (BeginWrite name bytes) d state s k h =
-      beside_keeps session kernel (BeginWrite name bytes) d state s k h
-  line_keeps session kernel (BeginErase name) d state s k h =
-      beside_keeps session kernel (BeginErase name) d state s k h
-  line_keeps session kernel (BeginDump time packed bytes) d state s k h =
-      beside_keeps session kernel (BeginDump time packed bytes) d state s k h
-  line_keeps session kernel (Step name count) d state s k h =
-      beside_keeps session kernel (Step name count) d state s k h
-  line_keeps session kernel (Finish name) d state s k h =
-      beside_keeps session kernel (Finish name) d state s k h
   line_keeps session kernel Stop d state s k h =
       beside_keeps session new_kernel Stop d state s k h
-  line_keeps session kernel (Flip p mask) d state s k h =
-      beside_keeps session kernel (Flip p mask) d state s k h
   line_keeps session kernel Boot d state s k h =
       beside_keeps session new_kernel Boot d state s k h
-  line_keeps session kernel (BootPart limit) d state s k h =
-      beside_keeps session kernel (BootPart limit) d state s k h
-  line_keeps session kernel ListLine d state s k h =
-      beside_keeps session kernel ListLine d state s k h
-  line_keeps session kernel (Extract text) d state s k h =
-      beside_keeps session kernel (Extract text) d state s k h
-  line_keeps session kernel (Erase text) d state s k h =
-      beside_keeps session kernel (Erase text) d state s k h
-  line_keeps session kernel (KDump secs nanos packed reason bytes) d state s k h =
-      beside_keeps session kernel (KDump secs nanos packed reason bytes) d state s k h
-  line_keeps session kernel (CutAfter limit) d state s k h =
-      beside_keeps session kernel (CutAfter limit) d state s k h
-  line_keeps session kernel (Reserve bytes) d state s k h =
-      beside_keeps session kernel (Reserve bytes) d state s k h
-  line_keeps session kernel (StoreNext ticket limit) d state s k h =
-      beside_keeps session kernel (StoreNext ticket limit) d state s k h
   line_keeps session kernel (KMsg text) d state s k h = prints_keep session kernel text d k h
   line_keeps session kernel (Crash reason time) d state s k h = crash_keeps session kernel reason time d state s k h
+  line_keeps session kernel line d state s k h =
+      beside_keeps session kernel line d state s k h
 
 pub lines_keep : LinesKeepTold
 lines_keep layout mem session kernel line done z place told lies state hz kind text s h k =

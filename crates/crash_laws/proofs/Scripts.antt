@@ -1,5 +1,5 @@
 -- A crash in a script, and what a later boot lists of it
-use Rattle.std.proofs.Common.{◌≡◌, ℕ, zero, suc, ◌+◌, true, false, List, [], ◌∷◌, ◌++◌, length, take, drop, slice_get, is_some, Contains, Option, Some, None, Result, Ok, Err, refl, sym, ap, ◌∙◌, subst, arith}
+use Rattle.std.proofs.Common.{◌≡◌, ℕ, zero, suc, true, false, List, [], ◌∷◌, ◌++◌, length, take, drop, slice_get, is_some, Contains, Option, Some, None, Result, Ok, Err, refl, sym, ap, ◌∙◌, subst, arith}
 use Rattle.std.specs.List.{fold}
 use Rattle.std.proofs.lemmas.Bool.{and_parts}
 use Rattle.std.proofs.lemmas.List.Sums.{fold-append}
@@ -27,8 +27,8 @@ use Rattle.dump_records.proofs.Lines.{read_back}
 use Rattle.grammar_spec.specs.declared.line.Line.{Line}
 use Rattle.grammar_spec.specs.declared.line.Line.TheVariants.{Boot, Crash, Stop}
 use Rattle.grammar_spec.specs.Printed.{HasFields, AllHaveFields, IsPayload}
-use Rattle.tool_spec.specs.Scripts.{StoreDone, Kernel, new_kernel, Done, Ran, ran, ran_on, next_line, started, put_by, store_line, line_done, crash_body, dump_target}
-use Rattle.tool_spec.specs.declared.Cause.{Cause}
+use Rattle.script_spec.specs.Scripts.{StoreDone, Kernel, new_kernel, Done, Ran, ran, ran_on, next_line, started, put_by, store_line, line_done, crash_body, dump_target}
+use Rattle.script_spec.specs.declared.Cause.{Cause}
 use Rattle.tool_laws.specs.Crashes.{CrashesAreToldWhole}
 use Rattle.tool_laws.proofs.Sound.{IsSound, fold_sound}
 use Rattle.crash_laws.specs.Standing.{IsToldOff, IsTold}

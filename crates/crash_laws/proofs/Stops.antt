@@ -1,5 +1,5 @@
 -- What a stop, a boot and the erasure of another record leave of a zone
-use Rattle.std.proofs.Common.{◌≡◌, ◌≢◌, ℕ, zero, suc, ◌+◌, ◌-◌, ◌==◌, Bool, true, false, cond, List, [], ◌∷◌, ◌++◌, length, take, drop, map, zip, flat_map, slice_get, slice_set, Contains, ◌||◌, nat_lt, nat_le, Option, Some, refl, sym, ap, ◌∙◌, subst, arith, append_assoc, true≢false, is_some}
+use Rattle.std.proofs.Common.{◌≡◌, ℕ, zero, suc, ◌+◌, ◌-◌, ◌==◌, Bool, true, false, cond, List, [], ◌∷◌, ◌++◌, length, take, drop, map, zip, flat_map, slice_get, slice_set, Contains, ◌||◌, nat_lt, nat_le, Option, Some, refl, sym, ap, ◌∙◌, subst, arith, append_assoc, true≢false, is_some}
 use Rattle.std.proofs.lemmas.Bool.Decides.{nat_tests}
 use Rattle.std.proofs.lemmas.List.Elements.{Contains-append_left}
 use Rattle.std.proofs.lemmas.List.Sums.{sum_by-cons}

@@ -13,8 +13,8 @@ use Rattle.machine_spec.specs.LiveCalls.{Dump as AskDump, asked_name, begins, ma
 use Rattle.machine_spec.specs.Operations.{operated, answered, Make, Cause as SessionCause}
 use Rattle.grammar_spec.specs.Fields.{Text}
 use Rattle.grammar_spec.specs.declared.line.Line.TheVariants.{Dump, Crash}
-use Rattle.tool_spec.specs.Scripts.{StoreDone, Kernel, Done, beside, done_or_refused, put_by, store_line, line_done, crash_body, crashed, dump_target}
-use Rattle.tool_spec.specs.declared.Cause.{Cause}
+use Rattle.script_spec.specs.Scripts.{StoreDone, Kernel, Done, beside, done_or_refused, put_by, store_line, line_done, crash_body, crashed, dump_target}
+use Rattle.script_spec.specs.declared.Cause.{Cause}
 use Rattle.tool_laws.specs.Crashes.{CrashesAreToldWhole}
 use Rattle.crash_laws.specs.Standing.{IsToldLive, IsTold}
 use Rattle.crash_laws.specs.Listings.{crash_dump, CrashTellsZone}

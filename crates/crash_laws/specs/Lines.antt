@@ -9,7 +9,7 @@ use Rattle.machine_spec.specs.States.{Session, Off, Live}
 use Rattle.grammar_spec.specs.Fields.{Text}
 use Rattle.grammar_spec.specs.declared.line.Line.{Line}
 use Rattle.grammar_spec.specs.declared.line.Line.TheVariants.{Write, Dump, BeginWrite, BeginErase, BeginDump, Flip, Erase, Crash}
-use Rattle.tool_spec.specs.Scripts.{ran}
+use Rattle.script_spec.specs.Scripts.{ran}
 
 -- whether the next dump goes to another zone; there is none while the machine is off
 abbrev pub dumps_elsewhere : Zone → Session → Bool

@@ -15,7 +15,7 @@ use Rattle.machine_spec.specs.LiveZones.{Target}
 use Rattle.grammar_spec.specs.declared.line.Line.{Line}
 use Rattle.grammar_spec.specs.declared.line.Line.TheVariants.{Boot, Crash, Stop}
 use Rattle.grammar_spec.specs.Printed.{AllHaveFields}
-use Rattle.tool_spec.specs.Scripts.{Kernel, Done, line_done, ran, dump_target, crash_body}
+use Rattle.script_spec.specs.Scripts.{Kernel, Done, line_done, ran, dump_target, crash_body}
 use Rattle.crash_laws.specs.Standing.{IsTold}
 use Rattle.crash_laws.specs.Lines.{spares, AllSpare}
 

@@ -3,14 +3,14 @@ use Rattle.std.proofs.Common.{◌≡◌, ◌⊎◌, ℕ, List, [], Result, Ok, E
 use Rattle.blk_spec.specs.declared.BlkLayout.{BlkLayout}
 use Rattle.grammar_spec.specs.Fields.{Text}
 use Rattle.grammar_spec.specs.declared.line.Line.{Line}
-use Rattle.tool_spec.specs.Ends.{End, status_of}
-use Rattle.tool_spec.specs.Commands.{RamCommand, RunScript, ListRecords, ExtractRecord, EraseRecord, ShowLayout, BlankImage, MakeImage, FindRings, ReadRing, RamPlan, Plan, OfRam, OfBlk, OfMove, wanted, wanted_move, plan_of, RunShared}
-use Rattle.tool_spec.specs.Answers.{Outside, RoseFor, IsFree}
-use Rattle.tool_spec.specs.BlkAnswers.{blk_lines, LinesOrStopAnswers}
-use Rattle.tool_spec.specs.PlanAnswers.{RamAnswers, ToolAnswers}
-use Rattle.tool_spec.specs.Complete.{lines_end, plan_end, CommandTells, PlanTells, Completes}
-use Rattle.tool_spec.specs.declared.Stop.{Stop}
-use Rattle.tool_spec.specs.declared.Stop.TheVariants.{ScriptFault, ImageFault, SinkFault}
+use Rattle.command_spec.specs.Ends.{End, status_of}
+use Rattle.command_spec.specs.Commands.{RamCommand, Run, ShowLayout, Blank, Make, RamPlan, Plan, OfRam, OfBlk, OfMove, wanted, wanted_move, plan_of, SharedRun, class_of}
+use Rattle.command_spec.specs.Answers.{Outside, RoseFor, IsFree}
+use Rattle.command_spec.specs.BlkAnswers.{blk_lines, LinesOrStopAnswers}
+use Rattle.command_spec.specs.PlanAnswers.{ToolAnswers, ClassAnswers}
+use Rattle.command_spec.specs.Complete.{lines_end, plan_end, PlanTells, Completes, ClassTells}
+use Rattle.command_spec.specs.declared.Stop.{Stop}
+use Rattle.command_spec.specs.declared.Stop.TheVariants.{ScriptFault, ImageFault, SinkFault}
 
 module _ (a b : Outside) (status : ℕ) (script_ok : RoseFor ScriptFault a b → ⊥) (image_ok : RoseFor ImageFault a b → ⊥)
     (sink_ok : RoseFor SinkFault a b → ⊥) where
@@ -28,35 +28,23 @@ module _ (a b : Outside) (status : ℕ) (script_ok : RoseFor ScriptFault a b →
   exact_done e (inr free) done = free_done free
 
   -- what a command wants does not stand on what it does not read
-  ram_done : (c : RamCommand) (plan : RamPlan) → plan.command ≡ c → RamAnswers c plan a b status
+  ram_done : (c : RamCommand) (plan : RamPlan) → plan.command ≡ c → ClassAnswers (class_of c) plan a b status
       → (bytes script : List ℕ)
-      → CommandTells c a bytes script → (wanted plan bytes script).end ≡ Ok tt → Done
-  ram_done RunScript plan is h bytes script tells done =
+      → ClassTells (class_of c) a bytes script → (wanted plan bytes script).end ≡ Ok tt → Done
+  ram_done Run plan is h bytes script tells done =
       exact_done (wanted plan bytes script).end (h.whole.told bytes script tells.0 tells.1).exact done
-  ram_done RunShared plan is h bytes script tells done =
+  ram_done SharedRun plan is h bytes script tells done =
       exact_done (wanted plan bytes script).end (h.whole.told bytes script tells.0 tells.1).exact done
-  ram_done ListRecords plan is h bytes script tells done =
-      let same : wanted plan bytes script ≡ wanted plan bytes [] = rw is refl in
-      exact_done (wanted plan bytes []).end (h.whole.told bytes tells).exact (rw same at done)
-  ram_done (ExtractRecord name) plan is h bytes script tells done =
-      let same : wanted plan bytes script ≡ wanted plan bytes [] = rw is refl in
-      exact_done (wanted plan bytes []).end (h.whole.told bytes tells).exact (rw same at done)
-  ram_done (EraseRecord name) plan is h bytes script tells done =
-      let same : wanted plan bytes script ≡ wanted plan bytes [] = rw is refl in
-      exact_done (wanted plan bytes []).end (h.whole.told bytes tells).exact (rw same at done)
   ram_done ShowLayout plan is h bytes script tells done =
       let same : wanted plan bytes script ≡ wanted plan [] [] = rw is refl in
       exact_done (wanted plan [] []).end h.whole.exact (rw same at done)
-  ram_done BlankImage plan is h bytes script tells done =
+  ram_done Blank plan is h bytes script tells done =
       let same : wanted plan bytes script ≡ wanted plan [] [] = rw is refl in
       exact_done (wanted plan [] []).end h.whole.exact (rw same at done)
-  ram_done (MakeImage n) plan is h bytes script tells done =
+  ram_done (Make n) plan is h bytes script tells done =
       let same : wanted plan bytes script ≡ wanted plan [] [] = rw is refl in
       exact_done (wanted plan [] []).end h.whole.exact (rw same at done)
-  ram_done FindRings plan is h bytes script tells done =
-      let same : wanted plan bytes script ≡ wanted plan bytes [] = rw is refl in
-      exact_done (wanted plan bytes []).end (h.whole.told bytes tells).exact (rw same at done)
-  ram_done (ReadRing at name) plan is h bytes script tells done =
+  ram_done c plan is h bytes script tells done =
       let same : wanted plan bytes script ≡ wanted plan bytes [] = rw is refl in
       exact_done (wanted plan bytes []).end (h.whole.told bytes tells).exact (rw same at done)
 
@@ -70,11 +58,11 @@ module _ (a b : Outside) (status : ℕ) (script_ok : RoseFor ScriptFault a b →
 
   tool_done : (r : Result Plan Stop) → ToolAnswers r a b status → (bytes script : List ℕ)
       → PlanTells r a bytes script → plan_end r bytes script ≡ Ok tt → Done
-  tool_done (Ok (OfRam plan)) h bytes script tells done = ram_done plan.command plan refl h.0 bytes script tells done
+  tool_done (Ok (OfRam plan)) h bytes script tells done = ram_done plan.command plan refl h bytes script tells done
   tool_done (Ok (OfBlk layout)) h bytes script tells done = lines_done layout bytes (blk_lines layout bytes script)
       (h.0.whole.told bytes script tells.0 tells.1) done
   tool_done (Ok (OfMove plan)) h bytes script tells done =
-      exact_done (wanted_move plan bytes).end (h.0.whole.told bytes tells).exact done
+      exact_done (wanted_move plan bytes).end (h.whole.told bytes tells).exact done
   tool_done (Err s) h bytes script tells done = no_stop s done
 
 pub completes : (words : List Text) (a b : Outside) (status : ℕ) → ToolAnswers (plan_of words) a b status

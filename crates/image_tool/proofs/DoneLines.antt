@@ -4,9 +4,9 @@ use Rattle.std.specs.List.{fold}
 use Rattle.zone_spec.specs.declared.Zone.{Zone}
 use Rattle.grammar_spec.specs.Fields.{Text}
 use Rattle.grammar_spec.specs.declared.line.Line.{Line}
-use Rattle.tool_spec.specs.Scripts.{Done, Ran, ran, ran_on, next_line, started, line_done}
-use Rattle.tool_spec.specs.declared.Cause.{Cause}
-use Rattle.tool_frame.proofs.Play.{Extends, extends_self, extends_on}
+use Rattle.script_spec.specs.Scripts.{Done, Ran, ran, ran_on, next_line, started, line_done}
+use Rattle.script_spec.specs.declared.Cause.{Cause}
+use Rattle.tool_laws.proofs.Play.{Extends, extends_self, extends_on}
 use Rattle.image_tool.specs.Headline.{done_lines}
 
 -- after a refused line nothing changes

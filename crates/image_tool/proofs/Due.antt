@@ -4,17 +4,20 @@ use Rattle.std.proofs.KnownBytes.{Appends-nil, Appends-trans}
 use Rattle.std.specs.Io.KnownBytes.{Appends}
 use Rattle.zone_spec.specs.declared.Zone.{Zone}
 use Rattle.grammar_spec.specs.declared.line.Line.{Line}
-use Rattle.tool_spec.specs.Ends.{End, last_line}
-use Rattle.tool_spec.specs.Commands.{RamCommand, RunScript, ListRecords, ExtractRecord, EraseRecord, ShowLayout, BlankImage, MakeImage, FindRings, ReadRing, RunShared, Plan, OfRam, OfBlk, OfMove}
-use Rattle.tool_spec.specs.Scripts.{ran}
-use Rattle.tool_spec.specs.Answers.{Outside, front, whole}
+use Rattle.command_spec.specs.Ends.{End, last_line}
+use Rattle.command_spec.specs.Commands.{Plan, OfRam, OfBlk, OfMove}
+use Rattle.script_spec.specs.Scripts.{ran}
+use Rattle.command_spec.specs.Answers.{Outside}
+use Rattle.script_spec.specs.Texts.{front, whole}
 use Rattle.tool_frame.specs.Ends.{LastPut, Finished}
-use Rattle.tool_frame.specs.Playing.{PutsText, PlayStop}
+use Rattle.script_spec.specs.Playing.{PutsText, PlayStop}
 use Rattle.tool_frame.specs.Words.{ram_command_seen}
 use Rattle.tool_frame.specs.declared.words.RamCommand.{RamCommand as ReadRamCommand}
-use Rattle.image_tool.specs.Due.{PutsNone, PutsFirst, PutsLines, PutsBefore, PutsByPlan, LineAlone, LineOrText, LineAtEnd, CommandLine, LastLine}
-use Rattle.tool_spec.specs.declared.Stop.{Stop}
-use Rattle.tool_spec.specs.declared.Stop.TheVariants.{Memory, Usage, Param, Layout, NoSharedZone, Short, ScriptFault, ImageFault, SinkFault, TooLong, BadLine, Refused}
+use Rattle.image_tool.specs.Due.{PutsNone, PutsFirst, PutsLines, PutsBefore, PutsByPlan, LineAlone, LineOrText, LineAtEnd, LastLine, Puts, PutsLast, PutsTextFirst, PutsByLine, puts_of, PutsAs, LineAs}
+use Rattle.command_spec.specs.declared.Stop.{Stop}
+use Rattle.command_spec.specs.declared.Stop.TheVariants.{ImageFault, SinkFault}
+use Rattle.script_spec.specs.declared.LineStop.{LineStop}
+use Rattle.script_spec.specs.declared.LineStop.TheVariants.{Memory as MemoryThere, StoreFault, SinkFault as SinkFaultThere, Refused as RefusedThere}
 
 -- ---- before the last line
 
@@ -26,52 +29,23 @@ no_text given = text_put given given [] (Appends-nil given)
 
 pub none_put : (e : End) (given given' : Option (List ℕ)) → given' ≡ given → PutsNone given given' e
 none_put (Ok u) given given' h = tt
-none_put (Err Memory) given given' h = h
-none_put (Err Usage) given given' h = h
-none_put (Err (Param x y)) given given' h = h
-none_put (Err (Layout x)) given given' h = h
-none_put (Err NoSharedZone) given given' h = h
-none_put (Err (Short x y)) given given' h = h
-none_put (Err ScriptFault) given given' h = h
-none_put (Err ImageFault) given given' h = h
 none_put (Err SinkFault) given given' h = tt
-none_put (Err TooLong) given given' h = h
-none_put (Err (BadLine x)) given given' h = h
-none_put (Err (Refused x y)) given given' h = h
+none_put (Err s) given given' h = h
 
 pub first_put : (e : End) (given given' : Option (List ℕ)) → given' ≡ given → PutsFirst given given' e
-first_put (Ok u) given given' h = tt
-first_put (Err Memory) given given' h = h
-first_put (Err Usage) given given' h = h
-first_put (Err (Param x y)) given given' h = h
-first_put (Err (Layout x)) given given' h = h
-first_put (Err NoSharedZone) given given' h = h
-first_put (Err (Short x y)) given given' h = h
-first_put (Err ScriptFault) given given' h = h
 first_put (Err ImageFault) given given' h = rw h (no_text given)
-first_put (Err SinkFault) given given' h = tt
-first_put (Err TooLong) given given' h = h
-first_put (Err (BadLine x)) given given' h = h
-first_put (Err (Refused x y)) given given' h = h
+first_put e given given' h = none_put e given given' h
 
 -- the lines that were done before a script stopped
-pub lines_put : (stop : Stop) (layout : List Zone) (image : List ℕ) (lines : List Line) (old new : Option (List ℕ))
+pub lines_put : (stop : LineStop) (layout : List Zone) (image : List ℕ) (lines : List Line) (old new : Option (List ℕ))
     (before now : ℕ) → PlayStop stop layout image lines old new before now → PutsText old new
-lines_put Memory layout image lines old new before now h =
+lines_put MemoryThere layout image lines old new before now h =
     text_put old new (front (ran layout image lines).texts h.count) h.bytes
-lines_put SinkFault layout image lines old new before now h =
+lines_put SinkFaultThere layout image lines old new before now h =
     text_put old new (take h.1.bytes.count (front (ran layout image lines).texts h.1.count)) h.1.bytes.bytes
-lines_put (Refused n cause) layout image lines old new before now h =
-    text_put old new (whole (ran layout image lines).texts) h.1
-lines_put Usage layout image lines old new before now h = absurd h
-lines_put (Param x y) layout image lines old new before now h = absurd h
-lines_put (Layout x) layout image lines old new before now h = absurd h
-lines_put NoSharedZone layout image lines old new before now h = absurd h
-lines_put (Short x y) layout image lines old new before now h = absurd h
-lines_put ScriptFault layout image lines old new before now h = absurd h
-lines_put ImageFault layout image lines old new before now h = absurd h
-lines_put TooLong layout image lines old new before now h = absurd h
-lines_put (BadLine x) layout image lines old new before now h = absurd h
+lines_put (RefusedThere n cause) layout image lines old new before now h =
+    text_put old new (whole (ran layout image lines).texts) h.texts
+lines_put StoreFault layout image lines old new before now h = absurd h
 
 -- whatever way the lines ended
 pub ended_put : (e : End) (given given' : Option (List ℕ)) → PutsText given given' → PutsLines given given' e
@@ -92,20 +66,13 @@ lines_same : (e : End) (given : Option (List ℕ)) → PutsLines given given e
 lines_same (Ok u) given = tt
 lines_same (Err s) given = no_text given
 
-before_same : (c : RamCommand) (e : End) (given : Option (List ℕ)) → PutsBefore c given given e
-before_same RunScript e given = lines_same e given
-before_same (MakeImage n) e given = first_put e given given refl
-before_same RunShared e given = first_put e given given refl
-before_same ListRecords e given = none_put e given given refl
-before_same (ExtractRecord name) e given = none_put e given given refl
-before_same (EraseRecord name) e given = none_put e given given refl
-before_same ShowLayout e given = none_put e given given refl
-before_same BlankImage e given = none_put e given given refl
-before_same FindRings e given = none_put e given given refl
-before_same (ReadRing at name) e given = none_put e given given refl
+puts_same : (p : Puts) (e : End) (given : Option (List ℕ)) → PutsAs p given given e
+puts_same PutsLast e given = none_put e given given refl
+puts_same PutsTextFirst e given = first_put e given given refl
+puts_same PutsByLine e given = lines_same e given
 
 pub plan_same : (r : Result Plan Stop) (e : End) (given : Option (List ℕ)) → PutsByPlan r given given e
-plan_same (Ok (OfRam plan)) e given = before_same plan.command e given
+plan_same (Ok (OfRam plan)) e given = puts_same (puts_of plan.command) e given
 plan_same (Ok (OfBlk layout)) e given = lines_same e given
 plan_same (Ok (OfMove plan)) e given = first_put e given given refl
 plan_same (Err s) e given = none_put e given given refl
@@ -137,17 +104,7 @@ module _ (a b : Outside) (given : Option (List ℕ)) (faults status : ℕ) where
       → Finished e given b.given faults b.sink_faults status → LineAlone a b status
   alone (Ok u) h f none seven = absurd (none f.answer)
   alone (Err SinkFault) h f none seven = absurd (seven f.answer)
-  alone (Err Memory) h f none seven = line_put Memory f h none seven
-  alone (Err Usage) h f none seven = line_put Usage f h none seven
-  alone (Err (Param x y)) h f none seven = line_put (Param x y) f h none seven
-  alone (Err (Layout x)) h f none seven = line_put (Layout x) f h none seven
-  alone (Err NoSharedZone) h f none seven = line_put NoSharedZone f h none seven
-  alone (Err (Short x y)) h f none seven = line_put (Short x y) f h none seven
-  alone (Err ScriptFault) h f none seven = line_put ScriptFault f h none seven
-  alone (Err ImageFault) h f none seven = line_put ImageFault f h none seven
-  alone (Err TooLong) h f none seven = line_put TooLong f h none seven
-  alone (Err (BadLine x)) h f none seven = line_put (BadLine x) f h none seven
-  alone (Err (Refused x y)) h f none seven = line_put (Refused x y) f h none seven
+  alone (Err s) h f none seven = line_put s f h none seven
 
   -- an image that failed behind the text
   unsaved : LastPut ImageFault given b.given faults b.sink_faults status → PutsText a.given given
@@ -162,51 +119,23 @@ module _ (a b : Outside) (given : Option (List ℕ)) (faults status : ℕ) where
   first : (e : End) → PutsFirst a.given given e
       → Finished e given b.given faults b.sink_faults status → LineOrText a b status
   first (Err ImageFault) h f none seven = unsaved f h none seven
-  first (Ok u) h f none seven = inl (alone (Ok u) h f none seven)
-  first (Err SinkFault) h f none seven = inl (alone (Err SinkFault) h f none seven)
-  first (Err Memory) h f none seven = inl (alone (Err Memory) h f none seven)
-  first (Err Usage) h f none seven = inl (alone (Err Usage) h f none seven)
-  first (Err (Param x y)) h f none seven = inl (alone (Err (Param x y)) h f none seven)
-  first (Err (Layout x)) h f none seven = inl (alone (Err (Layout x)) h f none seven)
-  first (Err NoSharedZone) h f none seven = inl (alone (Err NoSharedZone) h f none seven)
-  first (Err (Short x y)) h f none seven = inl (alone (Err (Short x y)) h f none seven)
-  first (Err ScriptFault) h f none seven = inl (alone (Err ScriptFault) h f none seven)
-  first (Err TooLong) h f none seven = inl (alone (Err TooLong) h f none seven)
-  first (Err (BadLine x)) h f none seven = inl (alone (Err (BadLine x)) h f none seven)
-  first (Err (Refused x y)) h f none seven = inl (alone (Err (Refused x y)) h f none seven)
+  first e h f none seven = inl (alone e h f none seven)
 
   after_lines : (e : End) → PutsLines a.given given e
       → Finished e given b.given faults b.sink_faults status → LineAtEnd a b status
   after_lines (Ok u) h f none seven = absurd (none f.answer)
   after_lines (Err SinkFault) h f none seven = absurd (seven f.answer)
-  after_lines (Err Memory) h f none seven = text_line Memory f h none seven
-  after_lines (Err Usage) h f none seven = text_line Usage f h none seven
-  after_lines (Err (Param x y)) h f none seven = text_line (Param x y) f h none seven
-  after_lines (Err (Layout x)) h f none seven = text_line (Layout x) f h none seven
-  after_lines (Err NoSharedZone) h f none seven = text_line NoSharedZone f h none seven
-  after_lines (Err (Short x y)) h f none seven = text_line (Short x y) f h none seven
-  after_lines (Err ScriptFault) h f none seven = text_line ScriptFault f h none seven
-  after_lines (Err ImageFault) h f none seven = text_line ImageFault f h none seven
-  after_lines (Err TooLong) h f none seven = text_line TooLong f h none seven
-  after_lines (Err (BadLine x)) h f none seven = text_line (BadLine x) f h none seven
-  after_lines (Err (Refused x y)) h f none seven = text_line (Refused x y) f h none seven
+  after_lines (Err s) h f none seven = text_line s f h none seven
 
-  by_command : (c : RamCommand) (e : End) → PutsBefore c a.given given e
-      → Finished e given b.given faults b.sink_faults status → CommandLine c a b status
-  by_command RunScript e h f = after_lines e h f
-  by_command (MakeImage n) e h f = first e h f
-  by_command RunShared e h f = first e h f
-  by_command ListRecords e h f = alone e h f
-  by_command (ExtractRecord name) e h f = alone e h f
-  by_command (EraseRecord name) e h f = alone e h f
-  by_command ShowLayout e h f = alone e h f
-  by_command BlankImage e h f = alone e h f
-  by_command FindRings e h f = alone e h f
-  by_command (ReadRing at name) e h f = alone e h f
+  line_as : (p : Puts) (e : End) → PutsAs p a.given given e
+      → Finished e given b.given faults b.sink_faults status → LineAs p a b status
+  line_as PutsLast e h f = alone e h f
+  line_as PutsTextFirst e h f = first e h f
+  line_as PutsByLine e h f = after_lines e h f
 
   pub last_line_put : (r : Result Plan Stop) (e : End) → PutsByPlan r a.given given e
       → Finished e given b.given faults b.sink_faults status → LastLine r a b status
-  last_line_put (Ok (OfRam plan)) e h f = by_command plan.command e h f
+  last_line_put (Ok (OfRam plan)) e h f = line_as (puts_of plan.command) e h f
   last_line_put (Ok (OfBlk layout)) e h f = after_lines e h f
   last_line_put (Ok (OfMove plan)) e h f = first e h f
   last_line_put (Err s) e h f = alone e h f

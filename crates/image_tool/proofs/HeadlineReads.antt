@@ -40,16 +40,16 @@ use Rattle.grammar_spec.specs.declared.line.Line.{Line}
 use Rattle.grammar_spec.specs.declared.line.Line.TheVariants.{Boot, Crash}
 use Rattle.grammar_spec.specs.Printed.{AllHaveFields}
 use Rattle.script.proofs.Inside.{read_fields}
-use Rattle.tool_spec.specs.Texts.{boot_text}
-use Rattle.tool_spec.specs.Scripts.{Kernel, new_kernel, ran, store_line, line_done}
-use Rattle.tool_spec.specs.Commands.{Asked, RamCommand, RunScript, Command, OnRam, RunBlkScript, MoveImage, RamPlan, MovePlan, Laid, Plan, OfRam, OfBlk, OfMove, Wanted, planned, laid_out, with_params, with_layout, with_blk_params, with_blk_layout, with_first_params, with_second_params, with_first_layout, with_second_layout, mem_of, wanted, wanted_run, wanted_lines, script_limit, script_end, stops, lacks_zone}
-use Rattle.tool_spec.specs.Ends.{End, status_of, last_line}
-use Rattle.tool_spec.specs.Answers.{Outside, front, whole, IsFree, Answers, RunAnswers}
-use Rattle.tool_spec.specs.PlanAnswers.{RamAnswers, ToolAnswers}
-use Rattle.tool_spec.specs.declared.Cause.{Cause}
-use Rattle.tool_spec.specs.declared.Stop.{Stop}
-use Rattle.tool_spec.specs.declared.Stop.TheVariants.{TooLong, NoSharedZone}
-use Rattle.tool_frame.proofs.Play.{text_at}
+use Rattle.script_spec.specs.Texts.{boot_text, front, whole}
+use Rattle.script_spec.specs.Scripts.{Kernel, new_kernel, ran, store_line, line_done}
+use Rattle.command_spec.specs.Commands.{Asked, RamCommand, Run, Command, OnRam, BlkRun, Move, RamPlan, MovePlan, Laid, Plan, OfRam, OfBlk, OfMove, Wanted, planned, laid_out, with_params, with_layout, with_blk_params, with_blk_layout, with_first_params, with_second_params, with_first_layout, with_second_layout, mem_of, wanted, wanted_run, wanted_lines, script_limit, script_end, stops, lacks_zone, class_of}
+use Rattle.command_spec.specs.Ends.{End, status_of, last_line}
+use Rattle.command_spec.specs.Answers.{Outside, IsFree, Answers}
+use Rattle.command_spec.specs.PlanAnswers.{ToolAnswers, ClassAnswers, RunAnswers}
+use Rattle.script_spec.specs.declared.Cause.{Cause}
+use Rattle.command_spec.specs.declared.Stop.{Stop}
+use Rattle.command_spec.specs.declared.Stop.TheVariants.{TooLong, NoSharedZone}
+use Rattle.tool_laws.proofs.Play.{text_at}
 use Rattle.image_tool.proofs.ScriptEnds.{run_wanted}
 use Rattle.tool_laws.proofs.Sound.{states_sound, take_fit}
 use Rattle.tool_laws.specs.RamScripts.{ScriptReadsWritten}
@@ -156,8 +156,8 @@ first_read plan second before to words (Some fault) h = cc
 command_whole : (c : Command) (before : ℕ) (words : List Text) (plan : RamPlan)
     → laid_out c before words ≡ Ok (OfRam plan) → IsLayout plan.zones (mem_of plan)
 command_whole (OnRam command) before words plan h = read command before words plan (first_fault [] words) h
-command_whole RunBlkScript before words plan h = absurd (blk_read before words plan (blk_first_fault [] words) h)
-command_whole (MoveImage to) before words plan h =
+command_whole BlkRun before words plan h = absurd (blk_read before words plan (blk_first_fault [] words) h)
+command_whole (Move to) before words plan h =
     absurd (first_read plan (before + length words + 1) before to words (first_fault [] words) h)
 
 planned_whole : (o : Option Asked) (plan : RamPlan) → planned o ≡ Ok (OfRam plan) → IsLayout plan.zones (mem_of plan)
@@ -190,8 +190,8 @@ of_params command before words plan (Some fault) h = absurd (cc)
 of_command : (c : Command) (before : ℕ) (words : List Text) (plan : RamPlan)
     → laid_out c before words ≡ Ok (OfRam plan) → IsPlanned plan
 of_command (OnRam command) before words plan h = of_params command before words plan (first_fault [] words) h
-of_command RunBlkScript before words plan h = absurd (blk_read before words plan (blk_first_fault [] words) h)
-of_command (MoveImage to) before words plan h =
+of_command BlkRun before words plan h = absurd (blk_read before words plan (blk_first_fault [] words) h)
+of_command (Move to) before words plan h =
     absurd (first_read plan (before + length words + 1) before to words (first_fault [] words) h)
 
 planned_is : (o : Option Asked) (plan : RamPlan) → planned o ≡ Ok (OfRam plan) → IsPlanned plan
@@ -307,7 +307,7 @@ wanted_status : (a b : Outside) (status : ℕ) (w : Wanted) → status ≡ 10
 wanted_status a b status w is (inl h) = sym h ∙ is
 wanted_status a b status w is (inr h) = absurd (not_free a b status is h)
 
-module _ (plan : RamPlan) (bytes script : List ℕ) (lines : List Line) (is : plan.command ≡ RunScript)
+module _ (plan : RamPlan) (bytes script : List ℕ) (lines : List Line) (is : plan.command ≡ Run)
     (long : mem_of plan ≤ length bytes) (good : script_of script ≡ Ok lines) where
   abbrev image : List ℕ
   image = take (mem_of plan) bytes
@@ -425,8 +425,8 @@ blk_words before words plan (Some fault) h = absurd (cc)
 move_laid : (c : Command) (before : ℕ) (words : List Text) (plan : MovePlan)
     → laid_out c before words ≡ Ok (OfMove plan) → IsLaidMove plan
 move_laid (OnRam command) before words plan h = absurd (ram_words command before words plan (first_fault [] words) h)
-move_laid RunBlkScript before words plan h = absurd (blk_words before words plan (blk_first_fault [] words) h)
-move_laid (MoveImage to) before words plan h =
+move_laid BlkRun before words plan h = absurd (blk_words before words plan (blk_first_fault [] words) h)
+move_laid (Move to) before words plan h =
     first_words plan (before + length words + 1) before to words (first_fault [] words) h
 
 planned_move : (o : Option Asked) (plan : MovePlan) → planned o ≡ Ok (OfMove plan) → IsLaidMove plan
@@ -440,7 +440,7 @@ pub run_reads : LaterBootListsCrash → (o : Option Asked) (r : Result Plan Stop
 run_reads law o (Err s) a b status e held answers = tt
 run_reads law o (Ok (OfBlk layout)) a b status e held answers = tt
 run_reads law o (Ok (OfMove plan)) a b status e held answers =
-    move_reads plan a b status (planned_move o plan e) held answers.0
+    move_reads plan a b status (planned_move o plan e) held answers
 run_reads law o (Ok (OfRam plan)) a b status e held answers = (
   λ is. record {
     told = λ bytes script holds left lines long good.
@@ -456,7 +456,7 @@ run_reads law o (Ok (OfRam plan)) a b status e held answers = (
         λ k. scripts_read_written plan.zones (mem_of plan) (take (mem_of plan) bytes) (take k lines) lies size front
         (take_fit k lines (read_fields script lines good)) in
         let run : RunAnswers plan a b status =
-        subst (λ (c : RamCommand). RamAnswers c plan a b status) is answers.0 in
+        subst (λ (c : RamCommand). ClassAnswers (class_of c) plan a b status) is answers in
         record {
           read = reads;
           written = written;
@@ -472,7 +472,7 @@ run_reads law o (Ok (OfRam plan)) a b status e held answers = (
     told = λ bytes script holds left lines long good.
         let all : AreBytes bytes = rw holds at held in
         let run : RunAnswers plan a b status =
-        subst (λ (c : RamCommand). RamAnswers c plan a b status) is answers.0 in
+        subst (λ (c : RamCommand). ClassAnswers (class_of c) plan a b status) is answers in
         let d = (run.whole.told bytes script holds left).done zero in
         let p = planned_is o plan e in
         shared_reads plan is bytes script lines long good p.0

@@ -4,18 +4,19 @@ use Rattle.std.specs.Io.KnownBytes.{Appends}
 use Rattle.outside.specs.Outside.{AppendsFront, Writes, WritesFront}
 use Rattle.machine_spec.specs.Stop.{session_image}
 use Rattle.grammar_spec.specs.Fields.{Text}
-use Rattle.tool_spec.specs.Generated.{generated, summary}
-use Rattle.tool_spec.specs.Commands.{MakeImage, RamPlan, wanted, wanted_make, mem_of}
-use Rattle.tool_spec.specs.Answers.{Outside, NoScript, NoImage, PutsAll, whole}
-use Rattle.tool_spec.specs.declared.Stop.TheVariants.{Memory, SinkFault, ImageFault}
+use Rattle.script_spec.specs.Generated.{generated, summary}
+use Rattle.command_spec.specs.Commands.{Make, RamPlan, wanted, wanted_make, mem_of}
+use Rattle.command_spec.specs.Answers.{Outside, NoScript, NoImage, PutsAll}
+use Rattle.script_spec.specs.Texts.{whole}
+use Rattle.command_spec.specs.declared.Stop.TheVariants.{Memory, SinkFault, ImageFault}
 use Rattle.tool_frame.specs.Ended.{WrittenAt, MakeEnds}
 use Rattle.tool_frame.proofs.Script.{Quiet, quiet_memory}
 
-make_wanted : (plan : RamPlan) (n : ℕ) → plan.command ≡ MakeImage n
+make_wanted : (plan : RamPlan) (n : ℕ) → plan.command ≡ Make n
     → wanted plan [] [] ≡ wanted_make n plan.zones (generated plan.zones (mem_of plan) n)
 make_wanted plan n is = rw is refl
 
-module _ (plan : RamPlan) (n : ℕ) (a b : Outside) (is : plan.command ≡ MakeImage n) (none : NoScript a b) where
+module _ (plan : RamPlan) (n : ℕ) (a b : Outside) (is : plan.command ≡ Make n) (none : NoScript a b) where
   pub make_memory : NoImage a b → Quiet a b → MakeEnds plan a b (Err Memory)
   make_memory image q = record {
     can = rw is refl;

@@ -7,13 +7,13 @@ use Rattle.machine_spec.specs.Erasures.{saved_logs}
 use Rattle.machine_spec.specs.Moved.{fitting, moved}
 use Rattle.prz_read.specs.Saving.{SavedLogs, saved}
 use Rattle.grammar_spec.specs.Fields.{Text}
-use Rattle.tool_spec.specs.Ends.{End}
-use Rattle.tool_spec.specs.Texts.{move_text}
-use Rattle.tool_spec.specs.Commands.{MovePlan, OfMove, laid_mem, after_boot, stops, Wanted, wanted_moved, wanted_move}
-use Rattle.tool_spec.specs.Answers.{Outside, IfHolds, NoScript}
-use Rattle.tool_spec.specs.PlanAnswers.{statuses}
-use Rattle.tool_spec.specs.declared.Stop.{Stop}
-use Rattle.tool_spec.specs.declared.Stop.TheVariants.{Memory, Short, ImageFault, SinkFault}
+use Rattle.command_spec.specs.Ends.{End}
+use Rattle.script_spec.specs.Texts.{move_text}
+use Rattle.command_spec.specs.Commands.{MovePlan, OfMove, laid_mem, after_boot, stops, Wanted, wanted_moved, wanted_move}
+use Rattle.command_spec.specs.Answers.{Outside, IfHolds, NoScript}
+use Rattle.command_spec.specs.PlanAnswers.{statuses}
+use Rattle.command_spec.specs.declared.Stop.{Stop}
+use Rattle.command_spec.specs.declared.Stop.TheVariants.{Memory, Short, ImageFault, SinkFault}
 use Rattle.tool_frame.specs.Stages.{LoadStop}
 use Rattle.tool_frame.specs.Ended.{Ended, ImageEnds}
 use Rattle.tool_frame.proofs.Script.{Quiet, quiet_memory, put_nothing, ended_as, nat_lt-true, nat_lt-false}

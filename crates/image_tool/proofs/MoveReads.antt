@@ -1,5 +1,6 @@
 -- A boot of a moved image lists the records that fit, and its zones read clean
 use Rattle.std.proofs.Common.{◌≡◌, ℕ, ◌+◌, ◌^◌, ◌<◌, Bool, true, false, nat_lt, get_or, List, [], ◌++◌, length, drop, take, Option, Some, None, Ok, Err, IfSome, refl, sym, ap, ◌∙◌, subst, arith}
+use Rattle.command_spec.specs.PlanAnswers.{ImageAnswers, statuses}
 use Rattle.std.specs.Prelude.{filter, slice_get}
 use Rattle.std.proofs.Math.Seq.{take-append_seam, drop-append_seam}
 use Rattle.std.proofs.lemmas.Option.{slice_get_within, slice_get-get_or}
@@ -22,9 +23,9 @@ use Rattle.move_laws.specs.Listed.{AreNamed}
 use Rattle.move_laws.proofs.Moved.{moved_image_reads, moved_image_is_sound}
 use Rattle.move_laws.proofs.Saved.{image_logs_fit}
 use Rattle.move_laws.proofs.Ranks.{layouts_are_named, layouts_keep_records}
-use Rattle.tool_spec.specs.Commands.{MovePlan, laid_mem, after_boot, Wanted, stops, wanted_move}
-use Rattle.tool_spec.specs.Answers.{Outside, IfHolds, ImageAnswers, WritesAll}
-use Rattle.tool_spec.specs.declared.Stop.TheVariants.{Short}
+use Rattle.command_spec.specs.Commands.{MovePlan, laid_mem, after_boot, Wanted, stops, wanted_move, OfMove}
+use Rattle.command_spec.specs.Answers.{Outside, IfHolds, WritesAll}
+use Rattle.command_spec.specs.declared.Stop.TheVariants.{Short}
 use Rattle.image_tool.specs.Moves.{Moves, logs_in}
 
 -- the zones of both parameters are their layouts
@@ -140,7 +141,7 @@ moved_by plan bytes true e h = absurd (short_not_done (wanted_move plan bytes) (
 moved_by plan bytes false e h = rw e refl
 
 pub move_reads : (plan : MovePlan) (a b : Outside) (status : ℕ) → IsLaidMove plan → IfSome a.holds AreBytes
-    → ImageAnswers (wanted_move plan) a b status → status ≡ 0 → IfHolds a (λ bytes. Moves plan bytes b)
+    → ImageAnswers (statuses (OfMove plan)) (wanted_move plan) a b status → status ≡ 0 → IfHolds a (λ bytes. Moves plan bytes b)
 move_reads plan a b status laid held answers zero = record {
   told = λ bytes holds.
       let d = (answers.whole.told bytes holds).done zero in

@@ -14,15 +14,15 @@ use Rattle.machine_spec.specs.Stop.{live_image}
 use Rattle.prz_read.specs.Saving.{SavedLogs, saved}
 use Rattle.ramoops.specs.LiveSeen.{LiveSeen, StandsLive}
 use Rattle.grammar_spec.specs.Fields.{Text}
-use Rattle.tool_spec.specs.Ends.{End}
-use Rattle.tool_spec.specs.Texts.{listing}
-use Rattle.tool_spec.specs.Scripts.{named}
-use Rattle.tool_spec.specs.Commands.{RamCommand, ListRecords, ExtractRecord, EraseRecord, RamPlan, reads_image, mem_of, after_boot, shows, leaves, unlisted, Wanted, wanted, wanted_of, wanted_extract, wanted_erase}
-use Rattle.tool_spec.specs.Answers.{Outside, IfHolds, NoScript}
-use Rattle.tool_spec.specs.declared.Cause.{Cause}
-use Rattle.tool_spec.specs.declared.Cause.TheVariants.{IsOff, IsLive, NoZone, Busy, Idle, OutOfImage, NoRecord, NotHere, TooLong, NoSeat, Crowded, NoRing}
-use Rattle.tool_spec.specs.declared.Stop.{Stop}
-use Rattle.tool_spec.specs.declared.Stop.TheVariants.{Memory as MemoryStop, ImageFault, SinkFault, Refused as RefusedStop}
+use Rattle.command_spec.specs.Ends.{End}
+use Rattle.script_spec.specs.Texts.{listing}
+use Rattle.script_spec.specs.Scripts.{named}
+use Rattle.command_spec.specs.Commands.{RamCommand, ListRecords, Extract, Erase, RamPlan, reads_image, mem_of, after_boot, shows, leaves, unlisted, Wanted, wanted, wanted_of, wanted_extract, wanted_erase, class_of}
+use Rattle.command_spec.specs.Answers.{Outside, IfHolds, NoScript}
+use Rattle.script_spec.specs.declared.Cause.{Cause}
+use Rattle.script_spec.specs.declared.Cause.TheVariants.{IsOff, IsLive, NoZone, Busy, Idle, OutOfImage, NoRecord, NotHere, TooLong, NoSeat, Crowded, NoRing}
+use Rattle.command_spec.specs.declared.Stop.{Stop}
+use Rattle.command_spec.specs.declared.Stop.TheVariants.{Memory as MemoryStop, ImageFault, SinkFault, Refused as RefusedStop}
 use Rattle.tool_frame.specs.Ended.{Ended, CanEnd, RamReadEnds, RamImageEnds}
 use Rattle.tool_frame.specs.Stages.{LoadStop}
 use Rattle.tool_frame.proofs.Image.{load_can, image_stopped, image_done}
@@ -61,14 +61,14 @@ leaves_script plan a b e can none whole = record { can = can; whole = whole; scr
 -- ---- an image that was not read
 
 pub unread : (plan : RamPlan) (c : RamCommand) (a b : Outside) (s : Stop) (f g : ℕ) → plan.command ≡ c
-    → reads_image c ≡ true → NoScript a b → Quiet a b → LoadStop s (mem_of plan) a.holds f g
+    → reads_image (class_of c) ≡ true → NoScript a b → Quiet a b → LoadStop s (mem_of plan) a.holds f g
     → RamReadEnds plan a b (Err s)
 unread plan c a b s f g is image none q h = reads plan a b _ (load_can plan c s (mem_of plan) a.holds f g is image h)
     none q.holds
     (image_stopped plan c a b s f g is image q h)
 
 pub unread_image : (plan : RamPlan) (c : RamCommand) (a b : Outside) (s : Stop) (f g : ℕ) → plan.command ≡ c
-    → reads_image c ≡ true → NoScript a b → Quiet a b → LoadStop s (mem_of plan) a.holds f g
+    → reads_image (class_of c) ≡ true → NoScript a b → Quiet a b → LoadStop s (mem_of plan) a.holds f g
     → RamImageEnds plan a b (Err s)
 unread_image plan c a b s f g is image none q h =
     leaves_script plan a b _ (load_can plan c s (mem_of plan) a.holds f g is image h) none
@@ -83,12 +83,12 @@ saved_from booted = record { image = booted.image; read = booted.read; logs_are 
 module _ (plan : RamPlan) (a b : Outside) (logs : SavedLogs)
     (read : SavedFrom plan.zones (mem_of plan) a.holds logs) where
   -- what a command wants of the image that was read
-  done : (c : RamCommand) (e : End) → plan.command ≡ c → reads_image c ≡ true
+  done : (c : RamCommand) (e : End) → plan.command ≡ c → reads_image (class_of c) ≡ true
       → Ended (wanted_of plan.params plan.zones read.image [] c) a b e
       → IfHolds a (λ bytes. Ended (wanted plan bytes []) a b e)
   done c e is reads ended = image_done plan c a b read.image e is reads read.read ended
 
-  pub memory_ends : (c : RamCommand) → plan.command ≡ c → reads_image c ≡ true → Quiet a b
+  pub memory_ends : (c : RamCommand) → plan.command ≡ c → reads_image (class_of c) ≡ true → Quiet a b
       → IfHolds a (λ bytes. Ended (wanted plan bytes []) a b (Err MemoryStop))
   memory_ends c is reads q = done c (Err MemoryStop) is reads
       (quiet_memory (wanted_of plan.params plan.zones read.image [] c) a b q)
@@ -114,10 +114,10 @@ extract_found layout s None bytes e = absurd (cc)
 extract_found layout s (Some r) bytes e = let same : content (saved_logs layout s) r ≡ bytes = cc in
     ap (λ (t : Text). shows (t ∷ [])) same
 
-module _ (plan : RamPlan) (a b : Outside) (logs : SavedLogs) (name : Text) (is : plan.command ≡ ExtractRecord name)
+module _ (plan : RamPlan) (a b : Outside) (logs : SavedLogs) (name : Text) (is : plan.command ≡ Extract name)
     (read : SavedFrom plan.zones (mem_of plan) a.holds logs) where
   module _ (bytes : List ℕ) (found : IsContent (saved logs) name (Ok bytes)) (same : b.holds ≡ a.holds) where
-    extract_wanted : wanted_of plan.params plan.zones read.image [] (ExtractRecord name) ≡ shows (bytes ∷ [])
+    extract_wanted : wanted_of plan.params plan.zones read.image [] (Extract name) ≡ shows (bytes ∷ [])
     extract_wanted =
         let here : option_map (content (saved_logs plan.zones (after_boot plan.zones read.image)))
         (named (saved_logs plan.zones (after_boot plan.zones read.image)) name) ≡ Some bytes =
@@ -127,15 +127,15 @@ module _ (plan : RamPlan) (a b : Outside) (logs : SavedLogs) (name : Text) (is :
 
     pub extract_put : NoScript a b → Appends a.given b.given bytes → RamReadEnds plan a b (Ok tt)
     extract_put none put = reads plan a b _ (rw is refl) none same
-        (image_done plan (ExtractRecord name) a b read.image (Ok tt)
-        is refl read.read (put_all_of (wanted_of plan.params plan.zones read.image [] (ExtractRecord name))
+        (image_done plan (Extract name) a b read.image (Ok tt)
+        is refl read.read (put_all_of (wanted_of plan.params plan.zones read.image [] (Extract name))
         a b bytes extract_wanted same put))
 
     pub extract_front : NoScript a b → AppendsFront a.given b.given bytes → RamReadEnds plan a b (Err SinkFault)
     extract_front none put = reads plan a b _ (rw is refl) none same
-        (image_done plan (ExtractRecord name) a b read.image
+        (image_done plan (Extract name) a b read.image
         (Err SinkFault)
-        is refl read.read (put_front_of (wanted_of plan.params plan.zones read.image [] (ExtractRecord name))
+        is refl read.read (put_front_of (wanted_of plan.params plan.zones read.image [] (Extract name))
         a b bytes extract_wanted same put))
 
   extract_unlisted : (cause : Cause) → cause ≡ NoRecord → named (saved logs) name ≡ None → Quiet a b
@@ -143,15 +143,15 @@ module _ (plan : RamPlan) (a b : Outside) (logs : SavedLogs) (name : Text) (is :
   extract_unlisted cause why none q =
       let here : named (saved_logs plan.zones (after_boot plan.zones read.image)) name ≡ None =
       ap (λ (zones : List Saved). named zones name) (sym read.logs_are) ∙ none in
-      let w : wanted_of plan.params plan.zones read.image [] (ExtractRecord name) ≡ unlisted =
+      let w : wanted_of plan.params plan.zones read.image [] (Extract name) ≡ unlisted =
       ap (wanted_extract plan.zones (after_boot plan.zones read.image)) here in
-      rw why (image_done plan (ExtractRecord name) a b read.image (Err (RefusedStop 2 NoRecord)) is refl read.read
-      (unlisted_ends (wanted_of plan.params plan.zones read.image [] (ExtractRecord name)) a b w q))
+      rw why (image_done plan (Extract name) a b read.image (Err (RefusedStop 2 NoRecord)) is refl read.read
+      (unlisted_ends (wanted_of plan.params plan.zones read.image [] (Extract name)) a b w q))
 
   pub extract_stopped : (e : LineError) (s : Stop) → s ≡ stop_for e → IsContent (saved logs) name (Err e)
       → NoScript a b → Quiet a b → RamReadEnds plan a b (Err s)
   extract_stopped Memory s same h none q = rw same (reads plan a b _ (rw is refl) none q.holds
-      (memory_ends plan a b logs read (ExtractRecord name) is refl q))
+      (memory_ends plan a b logs read (Extract name) is refl q))
   extract_stopped (Refused cause) s same h none q = rw same (reads plan a b _ (rw is refl) none q.holds
       (extract_unlisted cause h.0 h.1 q))
 
@@ -170,11 +170,11 @@ no_flights image (z ∷ layout) test = ap (λ (b : Bool). b
     (zip layout (map (booted_zone image) layout))) (idle (test z)) ∙ no_flights image layout test
 
 module _ (plan : RamPlan) (a b : Outside) (live : LiveSeen) (logs : SavedLogs) (name : Text)
-    (is : plan.command ≡ EraseRecord name) (booted : BootedFrom plan.zones (mem_of plan) a.holds live logs) where
+    (is : plan.command ≡ Erase name) (booted : BootedFrom plan.zones (mem_of plan) a.holds live logs) where
   module _ (w : LiveSeen) (logs' : SavedLogs) (bytes : List ℕ) (erase : ErasesNamed live logs name w logs')
       (left : (layout : List Zone) (mem : ℕ) (s : LiveState) → StandsLive layout mem w s → bytes ≡ live_image s)
       (given : b.given ≡ a.given) where
-    erase_wanted : wanted_of plan.params plan.zones booted.image [] (EraseRecord name) ≡ leaves bytes
+    erase_wanted : wanted_of plan.params plan.zones booted.image [] (Erase name) ≡ leaves bytes
     erase_wanted =
         let s = after_boot plan.zones booted.image in
         let e = erase plan.zones (mem_of plan) s booted.lies booted.stands booted.logs_are booted.state in
@@ -183,12 +183,12 @@ module _ (plan : RamPlan) (a b : Outside) (live : LiveSeen) (logs : SavedLogs) (
 
     pub erase_saved : NoScript a b → Writes a.holds b.holds 0 bytes → RamImageEnds plan a b (Ok tt)
     erase_saved none wrote = leaves_script plan a b _ (rw is refl) none
-        (image_done plan (EraseRecord name) a b booted.image (Ok tt)
+        (image_done plan (Erase name) a b booted.image (Ok tt)
         is refl booted.read (rw (erase_wanted, given) (wrote_all bytes a.given a.holds b.holds wrote)))
 
     pub erase_unsaved : NoScript a b → WritesFront a.holds b.holds 0 bytes → RamImageEnds plan a b (Err ImageFault)
     erase_unsaved none wrote = leaves_script plan a b _ (rw is refl) none
-        (image_done plan (EraseRecord name) a b booted.image
+        (image_done plan (Erase name) a b booted.image
         (Err ImageFault) is refl booted.read (rw (erase_wanted, given)
         (wrote_front bytes a.given a.holds b.holds wrote)))
 
@@ -197,10 +197,10 @@ module _ (plan : RamPlan) (a b : Outside) (live : LiveSeen) (logs : SavedLogs) (
   erase_unlisted none q =
       let here : named (saved_logs plan.zones (after_boot plan.zones booted.image)) name ≡ None =
       ap (λ (zones : List Saved). named zones name) (sym booted.logs_are) ∙ none in
-      let w : wanted_of plan.params plan.zones booted.image [] (EraseRecord name) ≡ unlisted =
+      let w : wanted_of plan.params plan.zones booted.image [] (Erase name) ≡ unlisted =
       ap (wanted_erase plan.zones (after_boot plan.zones booted.image)) here in
-      image_done plan (EraseRecord name) a b booted.image (Err (RefusedStop 2 NoRecord)) is refl booted.read
-      (unlisted_ends (wanted_of plan.params plan.zones booted.image [] (EraseRecord name)) a b w q)
+      image_done plan (Erase name) a b booted.image (Err (RefusedStop 2 NoRecord)) is refl booted.read
+      (unlisted_ends (wanted_of plan.params plan.zones booted.image [] (Erase name)) a b w q)
 
   -- behind a boot no flight is in the way
   not_busy : IsBusy live logs name → ⊥

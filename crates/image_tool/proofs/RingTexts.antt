@@ -3,7 +3,8 @@ use Rattle.std.proofs.Common.{◌≡◌, ℕ, List, ◌++◌, ap, ◌∙◌, app
 use Rattle.std.specs.Prelude.{codes, decimal}
 use Rattle.grammar_spec.specs.Printed.{zone_text}
 use Rattle.salvage_spec.specs.declared.FoundRing.{FoundRing}
-use Rattle.tool_spec.specs.Texts.{newline, ring_line}
+use Rattle.script_spec.specs.Texts.{newline}
+use Rattle.command_spec.specs.Texts.{ring_line}
 
 joined : (old a n b z c s d t e x f : List ℕ)
     → (((((((((((old ++ a) ++ n) ++ b) ++ z) ++ c) ++ s) ++ d) ++ t) ++ e) ++ x) ++ f)

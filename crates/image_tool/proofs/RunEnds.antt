@@ -1,10 +1,10 @@
 -- What a run's end leaves of the image, of what is asked of it, and of the counts of faults
 use Rattle.std.proofs.Common.{◌≡◌, ℕ, Result}
-use Rattle.tool_spec.specs.Commands.{Plan}
-use Rattle.tool_spec.specs.Ends.{End}
-use Rattle.tool_spec.specs.Answers.{Outside, NoScript, NoImage, NoOtherFault}
-use Rattle.tool_spec.specs.PlanAnswers.{Untouched, PlanWrites}
-use Rattle.tool_spec.specs.declared.Stop.{Stop}
+use Rattle.command_spec.specs.Commands.{Plan}
+use Rattle.command_spec.specs.Ends.{End}
+use Rattle.command_spec.specs.Answers.{Outside, NoScript, NoImage, NoOtherFault}
+use Rattle.command_spec.specs.PlanAnswers.{Untouched, PlanWrites}
+use Rattle.command_spec.specs.declared.Stop.{Stop}
 use Rattle.tool_frame.specs.Ends.{Finished}
 use Rattle.tool_frame.specs.Ended.{WorkDone}
 use Rattle.tool_frame.proofs.Counts.{work_untouched, work_writes, work_no_other_fault}

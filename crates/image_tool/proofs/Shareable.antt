@@ -31,15 +31,17 @@ use Rattle.machine_laws.proofs.Operations.{fresh_is_sound, operations_keep_state
 use Rattle.crash_laws.proofs.Stops.{zone_in}
 use Rattle.shared_spec.specs.Machine.{CanShare}
 use Rattle.shared_spec.specs.Histories.{History, CanOpen, shared_zone, image_left}
-use Rattle.tool_spec.specs.Commands.{after_boot, wanted_shared_lines, wanted_ran, stops}
-use Rattle.tool_spec.specs.declared.Cause.{Cause}
-use Rattle.tool_spec.specs.declared.Stop.{Stop}
-use Rattle.tool_spec.specs.declared.Stop.TheVariants.{Memory, Usage, Param, Layout, NoSharedZone, Short, ScriptFault, ImageFault, SinkFault, TooLong, BadLine, Refused}
+use Rattle.command_spec.specs.Commands.{after_boot, wanted_shared_lines, wanted_ran, stops}
+use Rattle.script_spec.specs.declared.Cause.{Cause}
+use Rattle.command_spec.specs.Ends.{stop_of}
+use Rattle.command_spec.specs.declared.Stop.TheVariants.{Refused as RefusedStop}
+use Rattle.script_spec.specs.declared.LineStop.{LineStop}
+use Rattle.script_spec.specs.declared.LineStop.TheVariants.{Refused}
 use Rattle.grammar_spec.specs.declared.line.Line.{Line}
 use Rattle.shared_ring.specs.Seen.{SharedSeen, IsLeftBy}
 use Rattle.shared_session.specs.Left.{just_opened, IsOpened, PlaysAll, StopsAt, Plays}
 use Rattle.image_tool.specs.Shares.{SharesLines}
-use Rattle.tool_spec.specs.SharedScripts.{shared_name, zone_at as zone_named, zone_to_share, lacks_plain_ftrace, shared_ran, shared_text}
+use Rattle.script_spec.specs.SharedScripts.{shared_name, zone_at as zone_named, zone_to_share, lacks_plain_ftrace, shared_ran, shared_text}
 
 -- ---- the zone is there
 
@@ -267,22 +269,12 @@ module _ (zones : List Zone) (image last : List ℕ) (lines : List Line)
       (sym (shown r.history p.left)) (sym (closed r.history p.left))
 
   refused_as : (v : SharedSeen) (n : ℕ) (cause : Cause) → StopsAt z last lines v n cause
-      → wanted_shared_lines zones image (Ok lines) ≡ stops (Refused n cause)
+      → wanted_shared_lines zones image (Ok lines) ≡ stops (RefusedStop n cause)
   refused_as v n cause s =
       let r = shared_ran z last lines in
-      ran_wanted ∙ ap (wanted_ran r) s.refused ∙ ap (λ k. stops (Refused k cause)) s.count
+      ran_wanted ∙ ap (wanted_ran r) s.refused ∙ ap (λ k. stops (RefusedStop k cause)) s.count
 
-  pub share_stopped : (stop : Stop) (v : SharedSeen) → Plays z last lines v (Err stop)
-      → SharesLines (wanted_shared_lines zones image (Ok lines)) (Err stop)
+  pub share_stopped : (stop : LineStop) (v : SharedSeen) → Plays z last lines v (Err stop)
+      → SharesLines (wanted_shared_lines zones image (Ok lines)) (Err (stop_of stop))
   share_stopped (Refused n cause) v p = refused_as v n cause p
-  share_stopped Memory v p = absurd p
-  share_stopped Usage v p = absurd p
-  share_stopped (Param x y) v p = absurd p
-  share_stopped (Layout x) v p = absurd p
-  share_stopped NoSharedZone v p = absurd p
-  share_stopped (Short x y) v p = absurd p
-  share_stopped ScriptFault v p = absurd p
-  share_stopped ImageFault v p = absurd p
-  share_stopped SinkFault v p = absurd p
-  share_stopped TooLong v p = absurd p
-  share_stopped (BadLine x) v p = absurd p
+  share_stopped stop v p = absurd p

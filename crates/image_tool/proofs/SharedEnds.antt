@@ -5,13 +5,13 @@ use Rattle.outside.specs.Outside.{AppendsFront, Writes, WritesFront}
 use Rattle.grammar_spec.specs.Fields.{Text}
 use Rattle.grammar_spec.specs.Lines.{script_of}
 use Rattle.grammar_spec.specs.declared.line.Line.{Line}
-use Rattle.tool_spec.specs.Ends.{End, status_of}
-use Rattle.tool_spec.specs.Commands.{RunScript, RunShared, RamPlan, Wanted, wanted, wanted_shared, wanted_shared_lines, mem_of, stops}
-use Rattle.tool_spec.specs.Answers.{Outside}
-use Rattle.tool_spec.specs.PlanAnswers.{ram_statuses, IsAmong}
-use Rattle.tool_spec.specs.declared.Cause.{Cause}
-use Rattle.tool_spec.specs.declared.Stop.{Stop}
-use Rattle.tool_spec.specs.declared.Stop.TheVariants.{Memory, Usage, Param, Layout, NoSharedZone, Short, ScriptFault, ImageFault, SinkFault, TooLong, BadLine, Refused}
+use Rattle.command_spec.specs.Ends.{End, status_of}
+use Rattle.command_spec.specs.Commands.{Run, SharedRun, RamPlan, Wanted, wanted, wanted_shared, wanted_shared_lines, mem_of, stops}
+use Rattle.command_spec.specs.Answers.{Outside}
+use Rattle.command_spec.specs.PlanAnswers.{ram_statuses, IsAmong}
+use Rattle.script_spec.specs.declared.Cause.{Cause}
+use Rattle.command_spec.specs.declared.Stop.{Stop}
+use Rattle.command_spec.specs.declared.Stop.TheVariants.{Memory, ImageFault, SinkFault, Refused}
 use Rattle.tool_frame.specs.Ended.{Ended, RunEnds, ScriptEnds, CausedAt, WrittenAt}
 use Rattle.image_tool.specs.Shares.{SharesLines}
 use Rattle.tool_frame.proofs.ReadParts.{Read, read_unput, read_unsaved, read_refused, read_done}
@@ -19,11 +19,11 @@ use Rattle.tool_frame.proofs.Script.{Quiet, nat_lt-true, nat_lt-false, put_nothi
 
 -- ---- what is wanted
 
-shared_wanted : (plan : RamPlan) (bytes script : List ℕ) → plan.command ≡ RunShared → mem_of plan ≤ length bytes
+shared_wanted : (plan : RamPlan) (bytes script : List ℕ) → plan.command ≡ SharedRun → mem_of plan ≤ length bytes
     → wanted plan bytes script ≡ wanted_shared plan.zones (take (mem_of plan) bytes) script
 shared_wanted plan bytes script is h = rw (is, nat_lt-false h) refl
 
-pub shared_scripted : (plan : RamPlan) → plan.command ≡ RunShared → IsScripted plan (wanted_shared_lines plan.zones)
+pub shared_scripted : (plan : RamPlan) → plan.command ≡ SharedRun → IsScripted plan (wanted_shared_lines plan.zones)
 shared_scripted plan is = record {
   statuses = rw is refl;
   short = λ bytes script h. rw (is, nat_lt-true h) refl;
@@ -39,29 +39,20 @@ share_stops : (P : Stop → Type 0) (w : Wanted) → P Memory
     → ((n : ℕ) (c : Cause) → w ≡ stops (Refused n c) → P (Refused n c)) → (s : Stop) → SharesLines w (Err s) → P s
 share_stops P w memory refused Memory h = memory
 share_stops P w memory refused (Refused n c) h = refused n c h
-share_stops P w memory refused Usage h = absurd h
-share_stops P w memory refused (Param x y) h = absurd h
-share_stops P w memory refused (Layout x) h = absurd h
-share_stops P w memory refused NoSharedZone h = absurd h
-share_stops P w memory refused (Short x y) h = absurd h
-share_stops P w memory refused ScriptFault h = absurd h
-share_stops P w memory refused ImageFault h = absurd h
-share_stops P w memory refused SinkFault h = absurd h
-share_stops P w memory refused TooLong h = absurd h
-share_stops P w memory refused (BadLine x) h = absurd h
+share_stops P w memory refused s h = absurd h
 
 pub share_caused : (w : Wanted) (s : Stop) (f f' g g' h h' : ℕ) → SharesLines w (Err s)
     → CausedAt f f' g g' h h' (Err s)
 share_caused w s f f' g g' h h' is =
     share_stops (λ t. CausedAt f f' g g' h h' (Err t)) w tt (λ n c refused. tt) s is
 
-module _ (plan : RamPlan) (is : plan.command ≡ RunShared) (a b : Outside) (image : List ℕ) (l : Loaded plan a image)
+module _ (plan : RamPlan) (is : plan.command ≡ SharedRun) (a b : Outside) (image : List ℕ) (l : Loaded plan a image)
     (text : List ℕ) (r : Read a b text) (lines : List Line) (ok : script_of text ≡ Ok lines) where
   room : IfSome a.holds (λ bs. mem_of plan ≤ length bs)
   room = room_in plan a image l
 
   shared_ended : (w : Wanted) → wanted_shared_lines plan.zones image (Ok lines) ≡ w → (e : End)
-      → IsAmong (ram_statuses RunScript) (status_of e) → ScriptEnds (mem_of plan) a b e → Ended w a b e
+      → IsAmong (ram_statuses Run) (status_of e) → ScriptEnds (mem_of plan) a b e → Ended w a b e
       → WrittenAt w a b e → RunEnds plan a b e
   shared_ended w same e can read h written = lines_ended plan (wanted_shared_lines plan.zones)
       (shared_scripted plan is) a b

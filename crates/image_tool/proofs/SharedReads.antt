@@ -1,5 +1,5 @@
 -- What a reader finds after a script on the shared zone of an image that is done
-use Rattle.std.proofs.Common.{◌≡◌, ℕ, ◌≤◌, Bool, true, false, cond, nat_lt, List, length, take, refl, ap, ◌∙◌, Option, Some, None, Ok, Err}
+use Rattle.std.proofs.Common.{◌≡◌, ℕ, ◌≤◌, Bool, true, false, cond, nat_lt, List, length, take, refl, ap, ◌∙◌, Option, Some, None, Ok}
 use Rattle.zone_spec.specs.declared.Zone.{Zone}
 use Rattle.zone_spec.specs.Layout.{layout_of}
 use Rattle.zone_spec.specs.Layouts.{IsLayout}
@@ -8,11 +8,11 @@ use Rattle.machine_spec.specs.Stop.{stopped}
 use Rattle.shared_spec.specs.Histories.{CanOpen, image_left}
 use Rattle.grammar_spec.specs.Lines.{script_of}
 use Rattle.grammar_spec.specs.declared.line.Line.{Line}
-use Rattle.tool_spec.specs.Commands.{RunShared, RamPlan, Wanted, wanted, wanted_shared, wanted_shared_lines, wanted_in_zone, wanted_ran, after_boot, mem_of, script_limit, stops}
-use Rattle.tool_spec.specs.SharedScripts.{SharedRan, shared_name, shared_ran, zone_to_share, lacks_plain_ftrace}
-use Rattle.tool_spec.specs.Answers.{Outside, WritesAll}
-use Rattle.tool_spec.specs.declared.Cause.{Cause}
-use Rattle.tool_spec.specs.declared.Stop.TheVariants.{TooLong}
+use Rattle.command_spec.specs.Commands.{SharedRun, RamPlan, wanted, wanted_shared, wanted_shared_lines, wanted_in_zone, wanted_ran, after_boot, mem_of, script_limit, stops}
+use Rattle.script_spec.specs.SharedScripts.{SharedRan, shared_name, shared_ran, zone_to_share, lacks_plain_ftrace}
+use Rattle.command_spec.specs.Answers.{Outside, WritesAll}
+use Rattle.script_spec.specs.declared.Cause.{Cause}
+use Rattle.command_spec.specs.declared.Stop.TheVariants.{TooLong}
 use Rattle.outside.specs.Outside.{Writes}
 use Rattle.tool_frame.proofs.Script.{nat_lt-false}
 use Rattle.tool_laws.proofs.SharedScripts.{full_log_read}
@@ -28,7 +28,7 @@ when_done true o r old new e w = absurd (cc)
 when_done false None r old new e w = (refl, w)
 when_done false (Some c) r old new e w = absurd (cc)
 
-pub shared_reads : (plan : RamPlan) → plan.command ≡ RunShared → (bytes script : List ℕ) (lines : List Line)
+pub shared_reads : (plan : RamPlan) → plan.command ≡ SharedRun → (bytes script : List ℕ) (lines : List Line)
     → mem_of plan ≤ length bytes → script_of script ≡ Ok lines → layout_of plan.params ≡ Ok plan.zones
     → lacks_plain_ftrace plan.params ≡ false → IsLayout plan.zones (mem_of plan)
     → length (take (mem_of plan) bytes) ≡ mem_of plan → AreBytes (take (mem_of plan) bytes) → (a b : Outside)

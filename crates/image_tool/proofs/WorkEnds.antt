@@ -1,51 +1,33 @@
 -- How the work of each command ends
-use Rattle.std.proofs.Common.{◌≡◌, ℕ, List, [], ◌∷◌, Option, Result, Ok, Err, refl, subst, inr, replicate, arith}
+use Rattle.std.proofs.Common.{◌≡◌, ℕ, [], ◌∷◌, Result, Ok, Err, refl, subst, inr, replicate, arith}
+use Rattle.std.proofs.KnownBytes.{Appends-nil}
 use Rattle.outside.specs.Outside.{WritesFront}
-use Rattle.tool_spec.specs.Ends.{End, status_of}
-use Rattle.tool_spec.specs.Texts.{layout_text}
-use Rattle.tool_spec.specs.Commands.{RamCommand, RunScript, ListRecords, ExtractRecord, EraseRecord, ShowLayout, BlankImage, MakeImage, FindRings, ReadRing, RunShared, RamPlan, Plan, OfRam, OfBlk, OfMove, Wanted, mem_of, shows, leaves}
-use Rattle.tool_spec.specs.Answers.{Outside, NoScript, NoImage, WritesSome}
-use Rattle.tool_spec.specs.PlanAnswers.{ram_statuses, IsAmong}
-use Rattle.tool_spec.specs.declared.Stop.{Stop}
-use Rattle.tool_spec.specs.declared.Stop.TheVariants.{Memory, Usage, Param, Layout, NoSharedZone, Short, ScriptFault, ImageFault, SinkFault, TooLong, BadLine, Refused}
+use Rattle.command_spec.specs.Ends.{End, status_of}
+use Rattle.command_spec.specs.Texts.{layout_text}
+use Rattle.command_spec.specs.Commands.{ShowLayout, Blank, RamPlan, Plan, OfRam, OfBlk, OfMove, Wanted, mem_of, shows, leaves, Class, MakesImage, class_of}
+use Rattle.command_spec.specs.Answers.{Outside, NoScript, NoImage, WritesSome}
+use Rattle.command_spec.specs.PlanAnswers.{ram_statuses, IsAmong}
+use Rattle.command_spec.specs.declared.Stop.{Stop}
+use Rattle.command_spec.specs.declared.Stop.TheVariants.{Memory, ScriptFault, ImageFault, SinkFault, Refused}
 use Rattle.tool_frame.specs.Words.{PlanStop, IsNoFault, plan_for, ram_command_seen}
 use Rattle.tool_frame.specs.declared.words.RamCommand.{RamCommand as ReadRamCommand}
 use Rattle.zone_params.specs.declared.types.Layout.{Layout as ReadLayout}
-use Rattle.tool_frame.specs.Stages.{KeptUnless}
-use Rattle.tool_frame.specs.Ended.{EndedAt, Ended, CausedAt, KeptAt, WrittenAt, RamEnds, Nothing, LinesAsk, CommandAsks, Asks, WorkDone}
-use Rattle.tool_frame.proofs.Answered.{nothing_put}
+use Rattle.script_spec.specs.Playing.{KeptUnless}
+use Rattle.tool_frame.specs.Ended.{EndedAt, Ended, CausedAt, KeptAt, WrittenAt, RamEnds, Nothing, LinesAsk, Asks, WorkDone, ClassAsks}
 use Rattle.tool_frame.proofs.AnyWords.{plan_stopped}
 
 -- a stop that no fault of the outside makes has its cause
 pub no_fault_caused : (s : Stop) (f f' g g' h h' : ℕ) → IsNoFault s → CausedAt f f' g g' h h' (Err s)
-no_fault_caused Memory f f' g g' h h' n = tt
-no_fault_caused Usage f f' g g' h h' n = tt
-no_fault_caused (Param x y) f f' g g' h h' n = tt
-no_fault_caused (Layout x) f f' g g' h h' n = tt
-no_fault_caused NoSharedZone f f' g g' h h' n = tt
-no_fault_caused (Short x y) f f' g g' h h' n = tt
 no_fault_caused ScriptFault f f' g g' h h' n = absurd n
 no_fault_caused ImageFault f f' g g' h h' n = absurd n
 no_fault_caused SinkFault f f' g g' h h' n = absurd n
-no_fault_caused TooLong f f' g g' h h' n = tt
-no_fault_caused (BadLine x) f f' g g' h h' n = tt
-no_fault_caused (Refused x y) f f' g g' h h' n = tt
+no_fault_caused s f f' g g' h h' n = tt
 
 -- an image that was not written
 pub kept_same : {A : Type 0} (e : End) (holds holds' : A) → holds' ≡ holds → KeptAt holds holds' e
 kept_same (Ok u) holds holds' h = tt
-kept_same (Err Memory) holds holds' h = h
-kept_same (Err Usage) holds holds' h = h
-kept_same (Err (Param x y)) holds holds' h = h
-kept_same (Err (Layout x)) holds holds' h = h
-kept_same (Err NoSharedZone) holds holds' h = h
-kept_same (Err (Short x y)) holds holds' h = h
-kept_same (Err ScriptFault) holds holds' h = h
 kept_same (Err ImageFault) holds holds' h = tt
-kept_same (Err SinkFault) holds holds' h = h
-kept_same (Err TooLong) holds holds' h = h
-kept_same (Err (BadLine x)) holds holds' h = h
-kept_same (Err (Refused x y)) holds holds' h = h
+kept_same (Err s) holds holds' h = h
 
 -- a count that did not change at all
 pub count_same : (fault : Stop) (e : End) (before now : ℕ) → now ≡ before → KeptUnless fault e before now
@@ -60,33 +42,18 @@ count_since fault e before mid now same h = subst (λ (n : ℕ). KeptUnless faul
 pub none_asked : (e : End) (old new : ℕ) → new ≡ old → LinesAsk old new e
 none_asked (Ok u) old new h = tt
 none_asked (Err Memory) old new h = tt
-none_asked (Err Usage) old new h = h
-none_asked (Err (Param x y)) old new h = h
-none_asked (Err (Layout x)) old new h = h
-none_asked (Err NoSharedZone) old new h = h
-none_asked (Err (Short x y)) old new h = h
-none_asked (Err ScriptFault) old new h = h
 none_asked (Err ImageFault) old new h = tt
 none_asked (Err SinkFault) old new h = tt
-none_asked (Err TooLong) old new h = h
-none_asked (Err (BadLine x)) old new h = h
 none_asked (Err (Refused x y)) old new h = tt
+none_asked (Err s) old new h = h
 
 -- an image that was not asked to be written: words of which no plan was read
-command_unasked : (k : RamCommand) (old new : ℕ) → new ≡ old → CommandAsks k old new (Err Memory)
-command_unasked RunScript old new h = h
-command_unasked ListRecords old new h = h
-command_unasked (ExtractRecord name) old new h = h
-command_unasked (EraseRecord name) old new h = h
-command_unasked ShowLayout old new h = h
-command_unasked BlankImage old new h = (h, tt)
-command_unasked (MakeImage n) old new h = (h, tt)
-command_unasked RunShared old new h = h
-command_unasked FindRings old new h = h
-command_unasked (ReadRing at name) old new h = h
+class_unasked : (class : Class) (old new : ℕ) → new ≡ old → ClassAsks class old new (Err Memory)
+class_unasked MakesImage old new h = (h, tt)
+class_unasked class old new h = h
 
 plan_unasked : (plan : Plan) (old new : ℕ) → new ≡ old → Asks (Ok plan) old new (Err Memory)
-plan_unasked (OfRam plan) old new h = command_unasked plan.command old new h
+plan_unasked (OfRam plan) old new h = class_unasked (class_of plan.command) old new h
 plan_unasked (OfBlk layout) old new h = tt
 plan_unasked (OfMove plan) old new h = h
 
@@ -96,17 +63,7 @@ no_plan e = cc
 unasked : (r : Result Plan Stop) (s : Stop) (old new : ℕ) → PlanStop s r → new ≡ old → Asks r old new (Err s)
 unasked (Err f) s old new is h = h
 unasked (Ok plan) Memory old new is h = plan_unasked plan old new h
-unasked (Ok plan) Usage old new is h = absurd (no_plan is)
-unasked (Ok plan) (Param x y) old new is h = absurd (no_plan is)
-unasked (Ok plan) (Layout x) old new is h = absurd (no_plan is)
-unasked (Ok plan) NoSharedZone old new is h = absurd (no_plan is)
-unasked (Ok plan) (Short x y) old new is h = absurd (no_plan is)
-unasked (Ok plan) ScriptFault old new is h = absurd (no_plan is)
-unasked (Ok plan) ImageFault old new is h = absurd (no_plan is)
-unasked (Ok plan) SinkFault old new is h = absurd (no_plan is)
-unasked (Ok plan) TooLong old new is h = absurd (no_plan is)
-unasked (Ok plan) (BadLine x) old new is h = absurd (no_plan is)
-unasked (Ok plan) (Refused x y) old new is h = absurd (no_plan is)
+unasked (Ok plan) s old new is h = absurd (no_plan is)
 
 -- the work of the command that was read
 pub arm_done : (c k : ReadRamCommand) (layout : ReadLayout) (a b : Outside) (e : End) → c ≡ k
@@ -155,23 +112,12 @@ layout_shown plan e a b is script image can ended = rw is (record {
 -- a blank image was written; it has no text, so all of that was put first
 blank_written : (w : Wanted) (e : End) (a b : Outside) → Ended w a b e → (w.texts ≡ []) → b.given ≡ a.given
     → (e ≡ Err ImageFault → WritesSome w.writes a.holds b.holds) → w.end ≡ Ok tt → WrittenAt w a b e
-blank_written w (Ok u) a b h none same wrote done = tt
-blank_written w (Err Memory) a b h none same wrote done = tt
-blank_written w (Err Usage) a b h none same wrote done = tt
-blank_written w (Err (Param x y)) a b h none same wrote done = tt
-blank_written w (Err (Layout x)) a b h none same wrote done = tt
-blank_written w (Err NoSharedZone) a b h none same wrote done = tt
-blank_written w (Err (Short x y)) a b h none same wrote done = tt
-blank_written w (Err ScriptFault) a b h none same wrote done = tt
 blank_written w (Err ImageFault) a b h none same wrote done =
-    (done, rw (none, same) (nothing_put a.given), wrote refl)
-blank_written w (Err SinkFault) a b h none same wrote done = tt
-blank_written w (Err TooLong) a b h none same wrote done = tt
-blank_written w (Err (BadLine x)) a b h none same wrote done = tt
-blank_written w (Err (Refused x y)) a b h none same wrote done = tt
+    (done, rw (none, same) (Appends-nil a.given), wrote refl)
+blank_written w e a b h none same wrote done = tt
 
-pub blank_left : (plan : RamPlan) (mem : ℕ) (e : End) (a b : Outside) → mem ≡ mem_of plan → plan.command ≡ BlankImage
-    → NoScript a b → b.given ≡ a.given → IsAmong (ram_statuses BlankImage) (status_of e)
+pub blank_left : (plan : RamPlan) (mem : ℕ) (e : End) (a b : Outside) → mem ≡ mem_of plan → plan.command ≡ Blank
+    → NoScript a b → b.given ≡ a.given → IsAmong (ram_statuses Blank) (status_of e)
     → EndedAt (leaves (replicate mem 0)) a.given a.given a.holds b.holds e
     → (e ≡ Err ImageFault → WritesFront a.holds b.holds 0 (replicate mem 0)) → RamEnds plan.command plan a b e
 blank_left plan mem e a b same is script given can ended wrote =
@@ -182,5 +128,5 @@ blank_left plan mem e a b same is script given can ended wrote =
       script = script;
       image_fault = blank_written (leaves (replicate (mem_of plan) 0)) e a b whole refl given
           (λ f. rw (← same) (wrote f)) refl;
-      text_first = inr ([], rw given (nothing_put a.given));
+      text_first = inr ([], rw given (Appends-nil a.given));
     })

@@ -2,12 +2,12 @@
 use Rattle.std.specs.Prelude.{◌≡◌, ◌≢◌, ◌⊎◌, ⊤, ℕ, List, ◌++◌, Option, Result, Ok, Err}
 use Rattle.std.specs.Io.KnownBytes.{Appends}
 use Rattle.grammar_spec.specs.Fields.{Text}
-use Rattle.tool_spec.specs.Ends.{End, status_of, last_line}
-use Rattle.tool_spec.specs.Commands.{RamCommand, RunScript, MakeImage, RunShared, Plan, OfRam, OfBlk, OfMove}
-use Rattle.tool_spec.specs.Answers.{Outside}
-use Rattle.tool_spec.specs.declared.Stop.{Stop}
-use Rattle.tool_frame.specs.Playing.{PutsText}
-use Rattle.tool_spec.specs.declared.Stop.TheVariants.{ImageFault, SinkFault}
+use Rattle.command_spec.specs.Ends.{End, status_of, last_line}
+use Rattle.command_spec.specs.Commands.{RamCommand, Run, Make, SharedRun, Plan, OfRam, OfBlk, OfMove}
+use Rattle.command_spec.specs.Answers.{Outside}
+use Rattle.command_spec.specs.declared.Stop.{Stop}
+use Rattle.script_spec.specs.Playing.{PutsText}
+use Rattle.command_spec.specs.declared.Stop.TheVariants.{ImageFault, SinkFault}
 
 -- ---- the work of a command, before its last line
 
@@ -27,11 +27,28 @@ abbrev pub PutsLines : Option (List ℕ) → Option (List ℕ) → End → Type 
 PutsLines given given' (Ok u) = ⊤
 PutsLines given given' (Err s) = PutsText given given'
 
+-- when a command puts its text
+pub data Puts : Type 0 where
+  -- last of all, or none
+  PutsLast : Puts
+  -- before it writes the image
+  PutsTextFirst : Puts
+  -- as its lines are done
+  PutsByLine : Puts
+
+abbrev pub puts_of : RamCommand → Puts
+puts_of Run = PutsByLine
+puts_of SharedRun = PutsTextFirst
+puts_of (Make n) = PutsTextFirst
+puts_of other = PutsLast
+
+abbrev pub PutsAs : Puts → Option (List ℕ) → Option (List ℕ) → End → Type 0
+PutsAs PutsLast given given' e = PutsNone given given' e
+PutsAs PutsTextFirst given given' e = PutsFirst given given' e
+PutsAs PutsByLine given given' e = PutsLines given given' e
+
 abbrev pub PutsBefore : RamCommand → Option (List ℕ) → Option (List ℕ) → End → Type 0
-PutsBefore RunScript given given' e = PutsLines given given' e
-PutsBefore (MakeImage n) given given' e = PutsFirst given given' e
-PutsBefore RunShared given given' e = PutsFirst given given' e
-PutsBefore other given given' e = PutsNone given given' e
+PutsBefore command given given' e = PutsAs (puts_of command) given given' e
 
 abbrev pub PutsByPlan : Result Plan Stop → Option (List ℕ) → Option (List ℕ) → End → Type 0
 PutsByPlan (Ok (OfRam plan)) given given' e = PutsBefore plan.command given given' e
@@ -66,15 +83,14 @@ LineOrText a b status = status ≢ 0 → status ≢ 7 → IsLine a b status ⊎ 
 abbrev pub LineAtEnd : Outside → Outside → ℕ → Type 0
 LineAtEnd a b status = status ≢ 0 → status ≢ 7 → EndsIn a b status
 
-abbrev pub CommandLine : RamCommand → Outside → Outside → ℕ → Type 0
-CommandLine RunScript a b status = LineAtEnd a b status
-CommandLine (MakeImage n) a b status = LineOrText a b status
-CommandLine RunShared a b status = LineOrText a b status
-CommandLine other a b status = LineAlone a b status
+abbrev pub LineAs : Puts → Outside → Outside → ℕ → Type 0
+LineAs PutsLast a b status = LineAlone a b status
+LineAs PutsTextFirst a b status = LineOrText a b status
+LineAs PutsByLine a b status = LineAtEnd a b status
 
 -- what each command puts last
 abbrev pub LastLine : Result Plan Stop → Outside → Outside → ℕ → Type 0
-LastLine (Ok (OfRam plan)) a b status = CommandLine plan.command a b status
+LastLine (Ok (OfRam plan)) a b status = LineAs (puts_of plan.command) a b status
 LastLine (Ok (OfBlk layout)) a b status = LineAtEnd a b status
 LastLine (Ok (OfMove plan)) a b status = LineOrText a b status
 LastLine (Err s) a b status = LineAlone a b status

@@ -5,10 +5,10 @@ use Rattle.salvage_spec.specs.Rings.{rings}
 use Rattle.salvage_spec.specs.declared.RingFault.{RingFault}
 use Rattle.salvage_spec.specs.declared.RingFault.TheVariants.{NoZone, NoRing, Memory}
 use Rattle.salvage.specs.Scans.{Scanned}
-use Rattle.tool_spec.specs.Commands.{dump_limit}
-use Rattle.tool_spec.specs.declared.Cause.TheVariants.{NoZone as NoZoneCause, NoRing as NoRingCause}
-use Rattle.tool_spec.specs.declared.Stop.{Stop}
-use Rattle.tool_spec.specs.declared.Stop.TheVariants.{Memory as MemoryStop, Refused}
+use Rattle.command_spec.specs.Commands.{dump_limit}
+use Rattle.script_spec.specs.declared.Cause.TheVariants.{NoZone as NoZoneCause, NoRing as NoRingCause}
+use Rattle.command_spec.specs.declared.Stop.{Stop}
+use Rattle.command_spec.specs.declared.Stop.TheVariants.{Memory as MemoryStop, Refused}
 
 -- a scan, from its first byte on, of the front of a store's bytes, where these are told
 pub record ScansFrom (zones : List Zone) (holds : Option (List ℕ)) (scan : Scanned) : Type 0 where

@@ -16,18 +16,18 @@ use Rattle.grammar_spec.specs.Fields.{Text}
 use Rattle.grammar_spec.specs.Lines.{script_of}
 use Rattle.grammar_spec.specs.declared.line.Line.{Line}
 use Rattle.grammar_spec.specs.declared.line.Line.TheVariants.{Boot, Crash}
-use Rattle.tool_spec.specs.Texts.{boot_text}
-use Rattle.tool_spec.specs.Scripts.{ran, dump_target, crash_body}
+use Rattle.script_spec.specs.Texts.{boot_text, front}
+use Rattle.script_spec.specs.Scripts.{ran, dump_target, crash_body}
 use Rattle.tool_laws.specs.RamScripts.{script_written, ScriptReadsWritten}
 use Rattle.crash_laws.specs.Lines.{AllSpare}
 use Rattle.crash_laws.specs.Listings.{Lists, crash_record}
-use Rattle.tool_spec.specs.Commands.{RunScript, RunShared, RamPlan, Plan, OfRam, OfBlk, OfMove, after_boot, mem_of}
-use Rattle.tool_spec.specs.SharedScripts.{zone_to_share}
+use Rattle.command_spec.specs.Commands.{Run, SharedRun, RamPlan, Plan, OfRam, OfBlk, OfMove, after_boot, mem_of}
+use Rattle.script_spec.specs.SharedScripts.{zone_to_share}
 use Rattle.tool_laws.specs.SharedScripts.{ReadsShared}
 use Rattle.machine_spec.specs.Stop.{stopped}
 use Rattle.outside.specs.Outside.{Writes}
-use Rattle.tool_spec.specs.Answers.{Outside, IfHolds, IfTold, front}
-use Rattle.tool_spec.specs.declared.Stop.{Stop}
+use Rattle.command_spec.specs.Answers.{Outside, IfHolds, IfTold}
+use Rattle.command_spec.specs.declared.Stop.{Stop}
 use Rattle.image_tool.specs.Moves.{Moves}
 
 -- after each line of a script, if the machine is then off, the next boot reads of each zone what it must: the headline,
@@ -104,10 +104,10 @@ pub record SharedReads (layout : List Zone) (image : List ℕ) (lines : List Lin
 -- reads
 abbrev pub RamReads : RamPlan → Outside → Outside → ℕ → Type 0
 RamReads plan a b status =
-    (plan.command ≡ RunScript → IfTold a
+    (plan.command ≡ Run → IfTold a
     (λ bytes script. (lines : List Line) → mem_of plan ≤ length bytes → script_of script ≡ Ok lines
     → ScriptReads plan.zones (take (mem_of plan) bytes) lines a b status))
-    × (plan.command ≡ RunShared → status ≡ 0 → IfTold a
+    × (plan.command ≡ SharedRun → status ≡ 0 → IfTold a
     (λ bytes script. (lines : List Line) → mem_of plan ≤ length bytes → script_of script ≡ Ok lines
     → SharedReads plan.zones (take (mem_of plan) bytes) lines a b))
 

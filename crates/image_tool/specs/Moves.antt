@@ -6,8 +6,8 @@ use Rattle.machine_spec.specs.Zones.{zone_bytes}
 use Rattle.machine_spec.specs.Erasures.{saved_logs}
 use Rattle.machine_spec.specs.Moved.{fits, fitting}
 use Rattle.move_laws.specs.Moves.{ReadsLog}
-use Rattle.tool_spec.specs.Commands.{MovePlan, Laid, laid_mem, after_boot}
-use Rattle.tool_spec.specs.Answers.{Outside}
+use Rattle.command_spec.specs.Commands.{MovePlan, Laid, laid_mem, after_boot}
+use Rattle.command_spec.specs.Answers.{Outside}
 
 -- the logs that a boot of the front of a store's bytes saves
 abbrev pub logs_in : Laid → List ℕ → List Saved

@@ -3,9 +3,9 @@ use Rattle.std.specs.Prelude.{◌≡◌, ℕ, ◌≤◌, List, length, take, Opt
 use Rattle.zone_spec.specs.declared.Zone.{Zone}
 use Rattle.machine_spec.specs.Erasures.{saved_logs}
 use Rattle.prz_read.specs.Saving.{SavedLogs, saved}
-use Rattle.tool_spec.specs.Commands.{after_boot}
-use Rattle.tool_spec.specs.declared.Stop.{Stop}
-use Rattle.tool_spec.specs.declared.Stop.TheVariants.{Memory as MemoryStop, Refused as RefusedStop}
+use Rattle.command_spec.specs.Commands.{after_boot}
+use Rattle.command_spec.specs.declared.Stop.{Stop}
+use Rattle.command_spec.specs.declared.Stop.TheVariants.{Memory as MemoryStop, Refused as RefusedStop}
 use Rattle.ram_session.specs.declared.machine.LineError.{LineError}
 use Rattle.ram_session.specs.declared.machine.LineError.TheVariants.{Memory, Refused}
 

@@ -1,10 +1,10 @@
 -- What run says of its words
 use Rattle.std.specs.Prelude.{ℕ, List}
 use Rattle.grammar_spec.specs.Fields.{Text}
-use Rattle.tool_spec.specs.Commands.{plan_of}
-use Rattle.tool_spec.specs.Answers.{Outside, NoOtherFault}
-use Rattle.tool_spec.specs.PlanAnswers.{Untouched, PlanWrites, ToolAnswers}
-use Rattle.tool_spec.specs.Complete.{Completes}
+use Rattle.command_spec.specs.Commands.{plan_of}
+use Rattle.command_spec.specs.Answers.{Outside, NoOtherFault}
+use Rattle.command_spec.specs.PlanAnswers.{Untouched, PlanWrites, ToolAnswers}
+use Rattle.command_spec.specs.Complete.{Completes}
 use Rattle.image_tool.specs.Headline.{RunReads}
 use Rattle.image_tool.specs.Due.{LastLine}
 

@@ -6,10 +6,10 @@ use Rattle.zone_spec.specs.declared.Zone.{Zone}
 
 use Rattle.machine_spec.specs.Stop.{stopped}
 use Rattle.shared_spec.specs.Histories.{CanOpen}
-use Rattle.tool_spec.specs.SharedScripts.{shared_name, lacks_plain_ftrace}
-use Rattle.tool_spec.specs.Commands.{Wanted, stops, after_boot}
-use Rattle.tool_spec.specs.declared.Stop.{Stop}
-use Rattle.tool_spec.specs.declared.Stop.TheVariants.{Memory, Refused}
+use Rattle.script_spec.specs.SharedScripts.{shared_name, lacks_plain_ftrace}
+use Rattle.command_spec.specs.Commands.{Wanted, stops, after_boot}
+use Rattle.command_spec.specs.declared.Stop.{Stop}
+use Rattle.command_spec.specs.declared.Stop.TheVariants.{Memory, Refused}
 
 -- the text and the image that are wanted; or the line that is refused, or want of memory
 abbrev pub SharesLines : Wanted → Result (Vec ℕ × List ℕ) Stop → Type 0

@@ -7,7 +7,7 @@ use Rattle.machine_spec.specs.Sound.{IsState}
 use Rattle.machine_spec.specs.Erasures.{saved_logs}
 use Rattle.prz_read.specs.Saving.{SavedLogs, saved}
 use Rattle.ramoops.specs.LiveSeen.{LiveSeen, StandsLive}
-use Rattle.tool_spec.specs.Commands.{after_boot}
+use Rattle.command_spec.specs.Commands.{after_boot}
 
 -- the store behind the first boot of the first mem bytes, where these are told
 pub record BootedFrom (layout : List Zone) (mem : ℕ) (holds : Option (List ℕ)) (live : LiveSeen)

@@ -1,8 +1,8 @@
 // A script on the block store.
 ghost use Rattle.std.specs.Prelude.{Ok};
 ghost use Rattle.blk_spec.specs.Layout.{IsLayout};
-ghost use Rattle.tool_spec.specs.Commands.{OfBlk};
-ghost use Rattle.tool_spec.specs.Answers.{outside};
+ghost use Rattle.command_spec.specs.Commands.{OfBlk};
+ghost use Rattle.command_spec.specs.Answers.{outside};
 ghost use Rattle.tool_frame.specs.Ended.{WorkDone};
 ghost use Rattle.image_tool.specs.Due.{PutsLines};
 
@@ -10,7 +10,7 @@ use blk_params::BlkLayout;
 use blk_session::play;
 use outside::{Sink, Source, Store};
 use std::alloc::Global;
-use tool_frame::{Stop, check_size, lines, read_script};
+use tool_frame::{Stop, check_size, end_of, lines, read_script};
 
 /// Does a script on the block store, which is written as the lines are done.
 pub fn run_blk_script<S: Source, M: Store, O: Sink>(
@@ -40,5 +40,5 @@ pub fn run_blk_script<S: Source, M: Store, O: Sink>(
         Ok(lines) => lines,
         Err(stop) => return Err(stop),
     };
-    play(alloc, layout, image, lines.as_slice(), out)
+    end_of(play(alloc, layout, image, lines.as_slice(), out))
 }

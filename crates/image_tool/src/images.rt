@@ -1,12 +1,12 @@
 // The commands that read no image.
 ghost use Rattle.std.specs.Prelude.{◌≡◌, ℕ, ◌≤◌, ◌<◌, ◌∷◌, [], List, Option, Err, replicate};
 ghost use Rattle.outside.specs.Outside.{WritesFront};
-ghost use Rattle.tool_spec.specs.declared.Stop.TheVariants.{ImageFault};
-ghost use Rattle.tool_spec.specs.Texts.{layout_text};
-ghost use Rattle.tool_spec.specs.Ends.{status_of};
-ghost use Rattle.tool_spec.specs.Commands.{ShowLayout, BlankImage, shows, leaves};
-ghost use Rattle.tool_spec.specs.PlanAnswers.{ram_statuses, IsAmong};
-ghost use Rattle.tool_frame.specs.Stages.{KeptUnless};
+ghost use Rattle.command_spec.specs.declared.Stop.TheVariants.{ImageFault};
+ghost use Rattle.command_spec.specs.Texts.{layout_text};
+ghost use Rattle.command_spec.specs.Ends.{status_of};
+ghost use Rattle.command_spec.specs.Commands.{ShowLayout, Blank, shows, leaves};
+ghost use Rattle.command_spec.specs.PlanAnswers.{ram_statuses, IsAmong};
+ghost use Rattle.script_spec.specs.Playing.{KeptUnless};
 ghost use Rattle.tool_frame.specs.Ended.{EndedAt, CausedAt, KeptAt, FailsAsked};
 ghost use Rattle.zone_params.specs.Laid.{params_of, zones_of};
 ghost use Rattle.image_tool.specs.Due.{PutsNone};
@@ -48,7 +48,7 @@ pub fn blank<M: Store>(image: &mut M, mem: u32) -> Result<(), Stop>
     ensures asks { KeptAt (M.writes image.old) (M.writes image.new) result }
     ensures asked { FailsAsked (M.writes image.old) (M.writes image.new) result }
     ensures image_count { KeptUnless Stop.ImageFault result (M.faults image.old) (M.faults image.new) }
-    ensures can { IsAmong (ram_statuses BlankImage) (status_of result) }
+    ensures can { IsAmong (ram_statuses Blank) (status_of result) }
     ensures ended { (given : Option (List ℕ)) → EndedAt (leaves (replicate mem 0)) given given (M.holds image.old)
         (M.holds image.new) result }
     ensures written { result ≡ Err ImageFault

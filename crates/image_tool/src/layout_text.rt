@@ -1,6 +1,7 @@
 // The text of a layout.
 ghost use Rattle.std.specs.Prelude.{◌≡◌, ◌++◌, ◌==◌, ◌&&◌, codes, decimal, OnOk, IfOk, length};
-ghost use Rattle.tool_spec.specs.Texts.{newline, is_uniform, layout_line, layout_text, own_parity};
+ghost use Rattle.script_spec.specs.Texts.{newline};
+ghost use Rattle.command_spec.specs.Texts.{is_uniform, layout_line, layout_text, own_parity};
 ghost use Rattle.zone_params.specs.Laid.{params_of, zones_of};
 
 use std::alloc::{AllocError, Global};

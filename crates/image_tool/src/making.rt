@@ -1,8 +1,8 @@
 // The image of a generated session.
 ghost use Rattle.std.specs.Prelude.{◌≤◌, ℕ, List, Option};
-ghost use Rattle.tool_spec.specs.Commands.{MakeImage};
-ghost use Rattle.tool_spec.specs.Answers.{outside};
-ghost use Rattle.tool_frame.specs.Stages.{KeptUnless};
+ghost use Rattle.command_spec.specs.Commands.{Make};
+ghost use Rattle.command_spec.specs.Answers.{outside};
+ghost use Rattle.script_spec.specs.Playing.{KeptUnless};
 ghost use Rattle.tool_frame.specs.Ended.{CausedAt, KeptAt, FailsAsked, MakeEnds};
 ghost use Rattle.image_tool.specs.Plans.{plan_for};
 ghost use Rattle.image_tool.specs.Due.{PutsFirst};
@@ -29,7 +29,7 @@ pub fn make<M: Store, O: Sink>(
     ensures asked { FailsAsked (M.writes image.old) (M.writes image.new) result }
     ensures image_count { KeptUnless Stop.ImageFault result (M.faults image.old) (M.faults image.new) }
     ensures out_count { KeptUnless Stop.SinkFault result (O.faults out.old) (O.faults out.new) }
-    ensures ended { (left : Option (List ℕ)) (f : ℕ) → MakeEnds (plan_for (MakeImage n) layout)
+    ensures ended { (left : Option (List ℕ)) (f : ℕ) → MakeEnds (plan_for (Make n) layout)
         (outside left f (M.holds image.old) (M.faults image.old) (M.writes image.old)
         (O.given out.old) (O.faults out.old))
         (outside left f (M.holds image.new) (M.faults image.new) (M.writes image.new)

@@ -4,11 +4,11 @@ ghost use Rattle.std.specs.Prelude.{◌≡◌, ◌≤◌, ℕ, List, Option, IfO
 ghost use Rattle.zone_params.specs.Laid.{params_of, zones_of};
 ghost use Rattle.machine_spec.specs.Moved.{fitting, moved as moved_state};
 ghost use Rattle.prz_read.specs.Saving.{saved};
-ghost use Rattle.tool_spec.specs.Commands.{OfMove, wanted_move};
-ghost use Rattle.tool_spec.specs.PlanAnswers.{statuses};
-ghost use Rattle.tool_spec.specs.Answers.{outside};
+ghost use Rattle.command_spec.specs.Commands.{OfMove, wanted_move};
+ghost use Rattle.command_spec.specs.PlanAnswers.{statuses};
+ghost use Rattle.command_spec.specs.Answers.{outside};
 ghost use Rattle.tool_frame.specs.Words.{move_for};
-ghost use Rattle.tool_frame.specs.Stages.{KeptUnless};
+ghost use Rattle.script_spec.specs.Playing.{KeptUnless};
 ghost use Rattle.tool_frame.specs.Ended.{CausedAt, KeptAt, ImageEnds};
 ghost use Rattle.image_tool.specs.Due.{PutsFirst};
 

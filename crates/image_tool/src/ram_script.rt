@@ -1,7 +1,7 @@
 // A script on an image.
 ghost use Rattle.std.specs.Prelude.{Ok};
-ghost use Rattle.tool_spec.specs.Commands.{RunScript, OfRam};
-ghost use Rattle.tool_spec.specs.Answers.{outside};
+ghost use Rattle.command_spec.specs.Commands.{Run, OfRam};
+ghost use Rattle.command_spec.specs.Answers.{outside};
 ghost use Rattle.tool_frame.specs.Words.{plan_for};
 ghost use Rattle.tool_frame.specs.Ended.{WorkDone};
 ghost use Rattle.image_tool.specs.Due.{PutsLines};
@@ -10,7 +10,7 @@ use crate::stores::fresh_store;
 use outside::{Failed, Sink, Source, Store};
 use ram_session::play;
 use std::alloc::{AllocError, Global};
-use tool_frame::{Stop, lines, load, read_script, save};
+use tool_frame::{Stop, lines, load, read_script, save, stop_of};
 use zone_params::types::Layout;
 
 /// Does a script on an image, and writes that back.
@@ -25,7 +25,7 @@ pub fn run_script<S: Source, M: Store, O: Sink>(
         (M.faults image.old) (M.writes image.old) (O.given out.old) (O.faults out.old) in
         let after = outside (S.left script.new) (S.faults script.new) (M.holds image.new)
         (M.faults image.new) (M.writes image.new) (O.given out.new) (O.faults out.new) in
-        WorkDone (Ok (OfRam (plan_for RunScript layout))) before after result }
+        WorkDone (Ok (OfRam (plan_for Run layout))) before after result }
     ensures put { PutsLines (O.given out.old) (O.given out.new) result }
 {
     let bytes = match load(alloc, image, layout.mem()) {
@@ -46,7 +46,7 @@ pub fn run_script<S: Source, M: Store, O: Sink>(
     };
     let machine = match play(alloc, off, lines, out) {
         Ok(machine) => machine,
-        Err(stop) => return Err(stop),
+        Err(stop) => return Err(stop_of(stop)),
     };
     match save(image, machine.into_image().as_slice()) {
         Ok(()) => Ok(()),

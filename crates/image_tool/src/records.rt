@@ -2,12 +2,13 @@
 ghost use Rattle.std.specs.Prelude.{◌≡◌, ◌≤◌, ℕ, List, Option, IfOk, IfErr};
 
 ghost use Rattle.zone_params.specs.Laid.{params_of, zones_of};
-ghost use Rattle.tool_spec.specs.Commands.{ListRecords, ExtractRecord, EraseRecord};
-ghost use Rattle.tool_spec.specs.Answers.{outside};
+ghost use Rattle.command_spec.specs.Commands.{ListRecords, Extract, Erase};
+ghost use Rattle.command_spec.specs.Answers.{outside};
 ghost use Rattle.tool_frame.specs.Ended.{CausedAt, KeptAt, RamReadEnds, RamImageEnds};
 ghost use Rattle.image_tool.specs.Plans.{plan_for};
 ghost use Rattle.image_tool.specs.Due.{PutsNone};
-ghost use Rattle.tool_frame.specs.Stages.{KeptUnless, LoadStop};
+ghost use Rattle.script_spec.specs.Playing.{KeptUnless};
+ghost use Rattle.tool_frame.specs.Stages.{LoadStop};
 ghost use Rattle.image_tool.specs.Records.{SavedFrom, stop_for};
 
 use crate::stores::{boot_store, fresh_store};
@@ -106,7 +107,7 @@ pub fn extract<M: Load, O: Sink>(
     ensures unwritten { M.writes image.new ≡ M.writes image.old }
     ensures image_count { KeptUnless Stop.ImageFault result (M.faults image.old) (M.faults image.new) }
     ensures out_count { KeptUnless Stop.SinkFault result (O.faults out.old) (O.faults out.new) }
-    ensures ended { (left : Option (List ℕ)) (f : ℕ) → RamReadEnds (plan_for (ExtractRecord name.now) layout)
+    ensures ended { (left : Option (List ℕ)) (f : ℕ) → RamReadEnds (plan_for (Extract name.now) layout)
         (outside left f (M.holds image.old) (M.faults image.old) (M.writes image.old)
         (O.given out.old) (O.faults out.old))
         (outside left f (M.holds image.new) (M.faults image.new) (M.writes image.new)
@@ -135,7 +136,7 @@ pub fn erase<M: Store>(alloc: Global, layout: Layout, name: &str, image: &mut M)
     ensures asks { KeptAt (M.writes image.old) (M.writes image.new) result }
     ensures image_count { KeptUnless Stop.ImageFault result (M.faults image.old) (M.faults image.new) }
     ensures ended { (left given : Option (List ℕ)) (f h : ℕ)
-        → RamImageEnds (plan_for (EraseRecord name.now) layout)
+        → RamImageEnds (plan_for (Erase name.now) layout)
         (outside left f (M.holds image.old) (M.faults image.old) (M.writes image.old) given h)
         (outside left f (M.holds image.new) (M.faults image.new) (M.writes image.new) given h) result }
 {

@@ -1,11 +1,12 @@
 // The rings of a memory dump: all of them listed, and one read.
 ghost use Rattle.std.specs.Prelude.{◌≡◌, ◌≤◌, ◌++◌, ℕ, List, Option, OnOk, IfOk, IfErr};
 ghost use Rattle.zone_params.specs.Laid.{zones_of};
-ghost use Rattle.tool_spec.specs.Texts.{ring_line, rings_text};
-ghost use Rattle.tool_spec.specs.Commands.{FindRings, ReadRing};
-ghost use Rattle.tool_spec.specs.Answers.{outside};
+ghost use Rattle.command_spec.specs.Texts.{ring_line, rings_text};
+ghost use Rattle.command_spec.specs.Commands.{Salvage, Rescue};
+ghost use Rattle.command_spec.specs.Answers.{outside};
 ghost use Rattle.tool_frame.specs.Ended.{CausedAt, RamReadEnds};
-ghost use Rattle.tool_frame.specs.Stages.{KeptUnless, FrontStop};
+ghost use Rattle.script_spec.specs.Playing.{KeptUnless};
+ghost use Rattle.tool_frame.specs.Stages.{FrontStop};
 ghost use Rattle.image_tool.specs.Plans.{plan_for};
 ghost use Rattle.image_tool.specs.Due.{PutsNone};
 ghost use Rattle.image_tool.specs.Dumps.{ScansFrom, ring_stop as stop_for};
@@ -108,7 +109,7 @@ pub fn salvage<M: Load, O: Sink>(
     ensures unwritten { M.writes image.new ≡ M.writes image.old }
     ensures image_count { KeptUnless Stop.ImageFault result (M.faults image.old) (M.faults image.new) }
     ensures out_count { KeptUnless Stop.SinkFault result (O.faults out.old) (O.faults out.new) }
-    ensures ended { (left : Option (List ℕ)) (f : ℕ) → RamReadEnds (plan_for FindRings layout)
+    ensures ended { (left : Option (List ℕ)) (f : ℕ) → RamReadEnds (plan_for Salvage layout)
         (outside left f (M.holds image.old) (M.faults image.old) (M.writes image.old)
         (O.given out.old) (O.faults out.old))
         (outside left f (M.holds image.new) (M.faults image.new) (M.writes image.new)
@@ -149,7 +150,7 @@ pub fn rescue<M: Load, O: Sink>(
     ensures unwritten { M.writes image.new ≡ M.writes image.old }
     ensures image_count { KeptUnless Stop.ImageFault result (M.faults image.old) (M.faults image.new) }
     ensures out_count { KeptUnless Stop.SinkFault result (O.faults out.old) (O.faults out.new) }
-    ensures ended { (left : Option (List ℕ)) (f : ℕ) → RamReadEnds (plan_for (ReadRing at name) layout)
+    ensures ended { (left : Option (List ℕ)) (f : ℕ) → RamReadEnds (plan_for (Rescue at name) layout)
         (outside left f (M.holds image.old) (M.faults image.old) (M.writes image.old)
         (O.given out.old) (O.faults out.old))
         (outside left f (M.holds image.new) (M.faults image.new) (M.writes image.new)

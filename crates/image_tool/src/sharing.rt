@@ -3,8 +3,8 @@ ghost use Rattle.std.specs.Prelude.{◌≡◌, ◌<◌, ◌^◌, vec_len, length
 
 ghost use Rattle.zone_params.specs.Laid.{params_of, zones_of};
 ghost use Rattle.grammar_spec.specs.Printed.{AllHaveFields};
-ghost use Rattle.tool_spec.specs.Commands.{RunShared, OfRam, wanted_shared_lines};
-ghost use Rattle.tool_spec.specs.Answers.{outside};
+ghost use Rattle.command_spec.specs.Commands.{SharedRun, OfRam, wanted_shared_lines};
+ghost use Rattle.command_spec.specs.Answers.{outside};
 ghost use Rattle.tool_frame.specs.Words.{plan_for, CanShareIn};
 ghost use Rattle.tool_frame.specs.Ended.{WorkDone};
 ghost use Rattle.image_tool.specs.Shares.{SharesLines, IsBooted};
@@ -16,7 +16,7 @@ use script::Lines;
 use shared_ring::Shared;
 use shared_session::{play, shared_text};
 use std::alloc::{AllocError, Global};
-use tool_frame::{Stop, lines, load, read_script, save};
+use tool_frame::{Stop, lines, load, read_script, save, stop_of};
 use zone_params::types::Layout;
 use zone_params::{Kind, ZoneName};
 
@@ -63,7 +63,7 @@ fn share(
     let text = shared_text(alloc, &shared);
     let image = shared.close();
     match (played, text) {
-        (Err(stop), _) => Err(stop),
+        (Err(stop), _) => Err(stop_of(stop)),
         (Ok(()), Ok(text)) => Ok((text, image)),
         (Ok(()), Err(AllocError)) => Err(Stop::Memory),
     }
@@ -83,7 +83,7 @@ pub fn run_shared_script<S: Source, M: Store, O: Sink>(
         (M.faults image.old) (M.writes image.old) (O.given out.old) (O.faults out.old) in
         let after = outside (S.left script.new) (S.faults script.new) (M.holds image.new)
         (M.faults image.new) (M.writes image.new) (O.given out.new) (O.faults out.new) in
-        WorkDone (Ok (OfRam (plan_for RunShared booted))) before after result }
+        WorkDone (Ok (OfRam (plan_for SharedRun booted))) before after result }
     ensures put { PutsFirst (O.given out.old) (O.given out.new) result }
 {
     let bytes = match load(alloc, image, booted.mem()) {

@@ -3,7 +3,8 @@ ghost use Rattle.std.specs.Prelude.{◌≡◌, ◌≤◌, vec_len, IfOk, IfErr};
 
 ghost use Rattle.zone_params.specs.Laid.{params_of, zones_of};
 ghost use Rattle.ram_session.specs.Playing.{StandsFresh};
-ghost use Rattle.tool_frame.specs.Stages.{KeptUnless, LoadStop};
+ghost use Rattle.script_spec.specs.Playing.{KeptUnless};
+ghost use Rattle.tool_frame.specs.Stages.{LoadStop};
 ghost use Rattle.image_tool.specs.Stores.{BootedFrom};
 
 use outside::{Bytes, Load};

@@ -1,8 +1,8 @@
 // The run of a command.
 ghost use Rattle.std.specs.Prelude.{◌≡◌, ◌≤◌, Ok};
 ghost use Rattle.outside.specs.Outside.{Rose};
-ghost use Rattle.tool_spec.specs.Commands.{OfRam, plan_of};
-ghost use Rattle.tool_spec.specs.Answers.{outside};
+ghost use Rattle.command_spec.specs.Commands.{OfRam, plan_of};
+ghost use Rattle.command_spec.specs.Answers.{outside};
 ghost use Rattle.tool_frame.specs.Words.{plan_for, ram_command_seen, texts};
 ghost use Rattle.tool_frame.specs.Ended.{WorkDone};
 ghost use Rattle.image_tool.specs.Runs.{Runs};
@@ -40,10 +40,10 @@ fn do_command<S: Source, M: Store, O: Sink>(
 {
     match command {
         RamCommand::Run => run_script(alloc, layout, script, image, out),
-        RamCommand::List => list(alloc, layout, image, out),
+        RamCommand::ListRecords => list(alloc, layout, image, out),
         RamCommand::Extract(name) => extract(alloc, layout, name, image, out),
         RamCommand::Erase(name) => erase(alloc, layout, name, image),
-        RamCommand::Layout => show_layout(alloc, &layout, out),
+        RamCommand::ShowLayout => show_layout(alloc, &layout, out),
         RamCommand::Blank => blank(image, layout.mem()),
         RamCommand::Make(n) => make(alloc, layout, n, image, out),
         RamCommand::Salvage => salvage(alloc, layout, image, out),

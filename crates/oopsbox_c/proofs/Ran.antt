@@ -2,7 +2,7 @@
 use Rattle.std.proofs.Common.{◌≡◌, ℕ, ◌≤◌, List, [], Some, subst, arith}
 use Rattle.outside.specs.Outside.{Rose}
 use Rattle.grammar_spec.specs.Fields.{Text}
-use Rattle.tool_spec.specs.Answers.{Outside, outside}
+use Rattle.command_spec.specs.Answers.{Outside, outside}
 use Rattle.image_tool.specs.Runs.{Runs}
 use Rattle.oopsbox_c.specs.Runs.{IsRun}
 

@@ -8,7 +8,7 @@ use Rattle.zone_spec.specs.declared.Kind.TheVariants.{Dump as DumpKind}
 use Rattle.zone_spec.specs.Records.{is_of}
 use Rattle.machine_spec.specs.Zones.{dump_zones}
 use Rattle.machine_spec.specs.LiveCalls.{Ask, Dump}
-use Rattle.tool_spec.specs.Generated.{draw, draw_each, joined, rings, append_to, dump_of, cut_in, drawn_append, drawn_dump, drawn_turn, drawn_cut}
+use Rattle.script_spec.specs.Generated.{draw, draw_each, joined, rings, append_to, dump_of, cut_in, drawn_append, drawn_dump, drawn_turn, drawn_cut}
 use Rattle.ram_generator.specs.Sessions.{IsForRing, IsCutOfRing}
 
 abbrev IsRing : ZoneName → Type 0

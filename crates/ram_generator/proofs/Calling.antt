@@ -5,7 +5,7 @@ use Rattle.zone_spec.specs.Layouts.{IsLayout}
 use Rattle.ramoops.specs.declared.ask.Ask.{Ask}
 use Rattle.ramoops.specs.Asks.{ask_seen}
 use Rattle.ramoops.specs.LiveSeen.{LiveSeen}
-use Rattle.tool_spec.specs.Generated.{Generated, with_call}
+use Rattle.script_spec.specs.Generated.{Generated, with_call}
 use Rattle.ram_generator.specs.declared.counts.Counts.{Counts}
 use Rattle.ram_generator.specs.Counting.{AreBelow, Grows}
 use Rattle.ram_generator.specs.Sessions.{RunsIdle}

@@ -17,7 +17,7 @@ use Rattle.machine_spec.specs.LiveCalls.{Append, call_of}
 use Rattle.machine_spec.specs.Operations.{Begin, Step}
 use Rattle.machine_laws.proofs.Targets.{target-some}
 use Rattle.ramoops.specs.LiveSeen.{LiveSeen}
-use Rattle.tool_spec.specs.Generated.{Generated, after, stores_of, stores_in, uncut, with_cut}
+use Rattle.script_spec.specs.Generated.{Generated, after, stores_of, stores_in, uncut, with_cut}
 use Rattle.ram_generator.specs.declared.counts.Counts.{Counts}
 use Rattle.ram_generator.specs.Counting.{calls_added}
 use Rattle.ram_generator.specs.Sessions.{IsForRing, AreIdle, without, without_ring, IsBegun, IsLeft, RunsIdle, RunsCut}

@@ -4,7 +4,7 @@ use Rattle.std.specs.List.{range_with_len}
 use Rattle.zone_spec.specs.declared.Zone.{Zone}
 use Rattle.zone_spec.specs.Zones.{IsValidZone}
 use Rattle.zone_spec.specs.Parts.{Part, Header, Block, part_at, part_len}
-use Rattle.tool_spec.specs.Generated.{draw, draws, draw_each, joined, masked, drawn_flips, drawn_damage}
+use Rattle.script_spec.specs.Generated.{draw, draws, draw_each, joined, masked, drawn_flips, drawn_damage}
 use Rattle.ram_generator.proofs.Each.{IsAdded, added_first, added_more, added_all, range_next, range_end}
 use Rattle.ram_generator.specs.Damage.{blocks_of}
 

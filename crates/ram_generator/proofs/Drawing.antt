@@ -1,7 +1,7 @@
 -- Numbers drawn one behind another
 use Rattle.std.proofs.Common.{◌≡◌, ℕ, suc, ◌+◌, ◌-◌, ◌<◌, List, [], ◌∷◌, ◌++◌, refl, sym, ◌∙◌, arith}
 use Rattle.std.proofs.lemmas.List.{append_assoc, append-nil}
-use Rattle.tool_spec.specs.Generated.{draw, draws, masked}
+use Rattle.script_spec.specs.Generated.{draw, draws, masked}
 
 -- what is drawn is these and then the rest
 pub record IsDrawn (so_far : List ℕ) (rest all : List ℕ × ℕ) : Type 0 where

@@ -4,7 +4,7 @@ use Rattle.std.specs.List.{range_with_len}
 use Rattle.std.proofs.lemmas.List.{append_assoc, append-nil}
 use Rattle.std.proofs.lemmas.Grind.{flat_map-append}
 use Rattle.zone_params.proofs.LaidOut.{drop_next}
-use Rattle.tool_spec.specs.Generated.{Drawn, draw_each, joined}
+use Rattle.script_spec.specs.Generated.{Drawn, draw_each, joined}
 
 -- what is drawn, end to end, is these and then the rest
 pub record IsJoined {A : Type 0} (so_far : List A) (rest all : List (List A) × ℕ) : Type 0 where

@@ -7,7 +7,7 @@ use Rattle.zone_spec.specs.declared.Zone.{Zone}
 use Rattle.zone_spec.specs.declared.Kind.TheVariants.{Dump}
 use Rattle.zone_spec.specs.Records.{is_of}
 use Rattle.zone_spec.specs.Layouts.{IsLayout, zones_end}
-use Rattle.tool_spec.specs.Generated.{rings}
+use Rattle.script_spec.specs.Generated.{rings}
 use Rattle.ram_generator.specs.Damage.{IsWithin}
 
 end_cons : (y : Zone) (ys : List Zone) → zones_end (y ∷ ys) ≡ y.size + zones_end ys

@@ -7,7 +7,7 @@ use Rattle.zone_spec.specs.declared.Zone.{Zone}
 use Rattle.machine_spec.specs.States.{OffState, Off}
 use Rattle.machine_spec.specs.Off.{flipped}
 use Rattle.ramoops.specs.OffSeen.{OffSeen, StandsOff}
-use Rattle.tool_spec.specs.Generated.{Generated, with_flip}
+use Rattle.script_spec.specs.Generated.{Generated, with_flip}
 use Rattle.ram_generator.specs.Damage.{IsFlipped, IsDamaged, flipped_to}
 
 flip_within : (layout : List Zone) (g : Generated) (s : OffState) (place mask : ℕ) → g.session ≡ Off s

@@ -19,7 +19,7 @@ use Rattle.machine_spec.specs.Sound.{IsState, IsAsk, IsOperation}
 use Rattle.machine_laws.proofs.Targets.{target-some}
 use Rattle.machine_laws.proofs.Operations.{operations_keep_states_sound}
 use Rattle.ramoops.specs.LiveSeen.{LiveSeen, StandsLive}
-use Rattle.tool_spec.specs.Generated.{Generated, after, stores_of, stores_in, with_call}
+use Rattle.script_spec.specs.Generated.{Generated, after, stores_of, stores_in, with_call}
 use Rattle.ram_generator.specs.declared.counts.Counts.{Counts}
 use Rattle.ram_generator.specs.Counting.{calls_added}
 use Rattle.ram_generator.specs.Sessions.{IsForRing, AreIdle, left_in, IsMade, IsBegun, IsLeft, RunsIdle}

@@ -18,7 +18,7 @@ use Rattle.machine_laws.proofs.Operations.{fresh_is_sound, operations_keep_state
 use Rattle.ramoops.specs.LiveSeen.{LiveSeen}
 use Rattle.ramoops.specs.OffSeen.{OffSeen, StandsOff}
 use Rattle.ramoops.specs.Booted.{Booted}
-use Rattle.tool_spec.specs.Generated.{Generated, CutAppend, draw_each, joined, rings, drawn_turn, drawn_cut, drawn_damage, with_call, with_cut, with_stop, with_flip, with_boot, is_told, is_other, zones_uncut, drawn_halt, drawn_boot, round, rounds}
+use Rattle.script_spec.specs.Generated.{Generated, CutAppend, draw_each, joined, rings, drawn_turn, drawn_cut, drawn_damage, with_call, with_cut, with_stop, with_flip, with_boot, is_told, is_other, zones_uncut, drawn_halt, drawn_boot, round, rounds}
 use Rattle.ram_generator.specs.declared.counts.Counts.{Counts}
 use Rattle.ram_generator.specs.Counting.{counted, flips_added, verdicts_added}
 use Rattle.ram_generator.specs.Damage.{IsWithin, IsDamaged}

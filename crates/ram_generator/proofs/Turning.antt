@@ -5,7 +5,7 @@ use Rattle.zone_spec.specs.declared.Zone.{Zone}
 use Rattle.zone_spec.specs.declared.ZoneName.{ZoneName}
 use Rattle.machine_spec.specs.Zones.{dump_zones}
 use Rattle.machine_spec.specs.LiveCalls.{Ask, Append, Dump}
-use Rattle.tool_spec.specs.Generated.{CutAppend, draw, draws, rings, cut_in, dump_of, drawn_append, drawn_dump, drawn_turn, drawn_cut, draw_each, joined}
+use Rattle.script_spec.specs.Generated.{CutAppend, draw, draws, rings, cut_in, dump_of, drawn_append, drawn_dump, drawn_turn, drawn_cut, draw_each, joined}
 use Rattle.std.specs.List.{range_with_len}
 use Rattle.ramoops.specs.declared.ask.Ask.{Ask as RustAsk}
 use Rattle.ramoops.specs.Asks.{ask_seen}

@@ -9,7 +9,7 @@ use Rattle.machine_spec.specs.Boot.{booted}
 use Rattle.machine_spec.specs.Stop.{live_image, session_image}
 use Rattle.machine_spec.specs.Report.{ZoneReport}
 use Rattle.ramoops.specs.LiveSeen.{LiveSeen, StandsLive}
-use Rattle.tool_spec.specs.Generated.{Generated, first_boot, rounds, generated, summary}
+use Rattle.script_spec.specs.Generated.{Generated, first_boot, rounds, generated, summary}
 use Rattle.ram_generator.specs.declared.counts.Counts.{Counts}
 use Rattle.ram_generator.specs.Counting.{none_counted, counted}
 use Rattle.ram_generator.specs.Sessions.{RunsIdle, IsUp}

@@ -2,8 +2,8 @@
 use Rattle.std.specs.Prelude.{ℕ, ◌+◌, ◌*◌, ◌^◌, ◌≤◌, ◌++◌, codes, decimal}
 use Rattle.machine_spec.specs.States.{Session}
 use Rattle.grammar_spec.specs.Fields.{Text}
-use Rattle.tool_spec.specs.Texts.{newline}
-use Rattle.tool_spec.specs.Generated.{Generated}
+use Rattle.script_spec.specs.Texts.{newline}
+use Rattle.script_spec.specs.Generated.{Generated}
 use Rattle.ram_generator.specs.declared.counts.Counts.{Counts}
 
 abbrev pub none_counted : Counts

@@ -6,7 +6,7 @@ use Rattle.zone_spec.specs.Parts.{Part, Block}
 use Rattle.zone_spec.specs.Reading.{blocks_below}
 use Rattle.machine_spec.specs.States.{OffState, Off}
 use Rattle.ramoops.specs.OffSeen.{OffSeen, StandsOff}
-use Rattle.tool_spec.specs.Generated.{Generated, with_flip}
+use Rattle.script_spec.specs.Generated.{Generated, with_flip}
 
 -- a zone that a layout can have, within 32 bits
 abbrev pub IsWithin : Zone → Type 0

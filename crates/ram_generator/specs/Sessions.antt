@@ -17,7 +17,7 @@ use Rattle.machine_spec.specs.Report.{ZoneReport, report}
 use Rattle.machine_spec.specs.Sound.{IsState}
 use Rattle.ramoops.specs.LiveSeen.{LiveSeen, StandsLive}
 use Rattle.ramoops.specs.OffSeen.{OffSeen, StandsOff}
-use Rattle.tool_spec.specs.Generated.{Generated, CutAppend, after, stores_of, uncut, zones_uncut}
+use Rattle.script_spec.specs.Generated.{Generated, CutAppend, after, stores_of, uncut, zones_uncut}
 use Rattle.ram_generator.specs.declared.counts.Counts.{Counts}
 use Rattle.ram_generator.specs.declared.rounds.RoundPlan.{RoundPlan}
 use Rattle.ram_generator.specs.Counting.{counted}

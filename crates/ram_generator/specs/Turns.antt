@@ -5,7 +5,7 @@ use Rattle.machine_spec.specs.Zones.{dump_zones}
 use Rattle.machine_spec.specs.LiveCalls.{Ask as Asked}
 use Rattle.ramoops.specs.Asks.{ask_seen, CanBeAsked}
 use Rattle.ramoops.specs.declared.ask.Ask.{Ask}
-use Rattle.tool_spec.specs.Generated.{CutAppend as CutDrawn, rings}
+use Rattle.script_spec.specs.Generated.{CutAppend as CutDrawn, rings}
 use Rattle.ram_generator.specs.declared.turns.CutAppend.{CutAppend}
 use Rattle.ram_generator.specs.declared.turns.Targets.{Targets}
 

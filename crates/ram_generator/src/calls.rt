@@ -9,7 +9,7 @@ ghost use Rattle.machine_spec.specs.Operations.{Step};
 ghost use Rattle.machine_spec.specs.Sound.{IsState, IsAsk};
 ghost use Rattle.ramoops.specs.Asks.{ask_seen, CanBeAsked};
 ghost use Rattle.ramoops.specs.LiveSeen.{StandsLive};
-ghost use Rattle.tool_spec.specs.Generated.{Generated, with_call, with_cut};
+ghost use Rattle.script_spec.specs.Generated.{Generated, with_call, with_cut};
 ghost use Rattle.ram_generator.specs.Turns.{cut_of};
 ghost use Rattle.ram_generator.specs.Counting.{AreBelow, Grows, calls_added};
 ghost use Rattle.ram_generator.specs.Sessions.{IsForRing, IsCutOfRing, AreIdle, left_in, IsMade};

@@ -6,7 +6,7 @@ ghost use Rattle.zone_spec.specs.Zones.{IsValidZone};
 ghost use Rattle.zone_spec.specs.Parts.{Part, part_at, part_len};
 ghost use Rattle.machine_spec.specs.States.{OffState, Off as OffOf};
 ghost use Rattle.ramoops.specs.OffSeen.{StandsOff};
-ghost use Rattle.tool_spec.specs.Generated.{Generated, drawn_flips, drawn_damage, draw_each, joined};
+ghost use Rattle.script_spec.specs.Generated.{Generated, drawn_flips, drawn_damage, draw_each, joined};
 ghost use Rattle.ram_generator.specs.Damage.{blocks_of, IsWithin, IsFlipped, IsDamaged};
 
 use crate::Draws;

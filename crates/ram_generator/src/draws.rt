@@ -1,6 +1,6 @@
 // The numbers of a generated session.
 ghost use Rattle.std.specs.Prelude.{◌≡◌, ◌<◌, ◌+◌, ◌^◌, ◌++◌, IfOk, OnOk};
-ghost use Rattle.tool_spec.specs.Generated.{draw, draws, masked};
+ghost use Rattle.script_spec.specs.Generated.{draw, draws, masked};
 
 use outside::Bytes;
 use std::alloc::{AllocError, Global};
@@ -30,7 +30,7 @@ impl Draws {
     }
 
     /// The next number, below `m`.
-    #[tactic(auto, unfolding(tool_spec::specs::Generated::draw))]
+    #[tactic(auto, unfolding(script_spec::specs::Generated::draw))]
     pub fn draw(&mut self, m: u32) -> u32
         requires { 0 < m }
         ensures drawn { (result, self.new) ≡ draw m self.old }

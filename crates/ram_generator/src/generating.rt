@@ -5,7 +5,7 @@ ghost use Rattle.zone_spec.specs.declared.Zone.{Zone};
 ghost use Rattle.machine_spec.specs.States.{Session};
 ghost use Rattle.machine_spec.specs.Stop.{session_image};
 ghost use Rattle.zone_params.specs.Laid.{params_of, zones_of};
-ghost use Rattle.tool_spec.specs.Generated.{generated, summary as summary_of};
+ghost use Rattle.script_spec.specs.Generated.{generated, summary as summary_of};
 ghost use Rattle.ram_generator.specs.Counting.{counted, counts_text};
 
 use crate::counts::Counts;

@@ -4,7 +4,7 @@ ghost use Rattle.std.specs.List.{All, range_with_len};
 ghost use Rattle.zone_spec.specs.Records.{is_of};
 ghost use Rattle.zone_spec.specs.declared.Kind.TheVariants.{Dump as DumpKind};
 ghost use Rattle.ramoops.specs.Asks.{ask_seen, CanBeAsked};
-ghost use Rattle.tool_spec.specs.Generated.{rings as rings_in, draw_each, joined, drawn_dump, drawn_turn, drawn_cut};
+ghost use Rattle.script_spec.specs.Generated.{rings as rings_in, draw_each, joined, drawn_dump, drawn_turn, drawn_cut};
 ghost use Rattle.zone_params.specs.Laid.{zones_of};
 ghost use Rattle.ram_generator.specs.Damage.{IsWithin};
 ghost use Rattle.ram_generator.specs.Turns.{turn_of, TurnCanBeAsked, cut_of, AreTargets};

@@ -11,9 +11,9 @@ use Rattle.grammar_spec.specs.declared.line.Line.TheVariants.{Blank, Write, Dump
 use Rattle.zone_spec.specs.declared.Time.{Time}
 use Rattle.machine_spec.specs.Sound.{IsTime}
 use Rattle.grammar_spec.specs.Printed.{HasFields}
-use Rattle.tool_spec.specs.Scripts.{Kernel, store_line, line_done}
-use Rattle.tool_spec.specs.declared.Cause.{Cause}
-use Rattle.tool_spec.specs.declared.Cause.TheVariants.{IsOff, IsLive, NotHere}
+use Rattle.script_spec.specs.Scripts.{Kernel, store_line, line_done}
+use Rattle.script_spec.specs.declared.Cause.{Cause}
+use Rattle.script_spec.specs.declared.Cause.TheVariants.{IsOff, IsLive, NotHere}
 use Rattle.ram_session.specs.Sessions.{Live, LineRefused}
 use Rattle.ram_session.specs.Machines.{MachineRefused}
 use Rattle.ram_session.specs.declared.machine.Machine.TheVariants.{Off as OffMachine}
@@ -64,102 +64,41 @@ IsElsewhere other = ⊥
 waits_for_boot_line : (layout : List Zone) (s : OffState) (k : Kernel) (line : Line) → WaitsForBoot line
     → line_done layout (OffOf s) k line ≡ Err IsOff
 unfolding line_done store_line
-waits_for_boot_line layout s k (Write z b) h = refl
-waits_for_boot_line layout s k (Dump t p b) h = refl
-waits_for_boot_line layout s k (BeginWrite z b) h = refl
-waits_for_boot_line layout s k (BeginErase z) h = refl
-waits_for_boot_line layout s k (BeginDump t p b) h = refl
-waits_for_boot_line layout s k (Step z n) h = refl
-waits_for_boot_line layout s k (Finish z) h = refl
-waits_for_boot_line layout s k Stop h = refl
-waits_for_boot_line layout s k ListLine h = refl
-waits_for_boot_line layout s k (Extract b) h = refl
-waits_for_boot_line layout s k (Erase b) h = refl
 waits_for_boot_line layout s k (Flip a m) h = absurd h
 waits_for_boot_line layout s k Boot h = absurd h
 waits_for_boot_line layout s k (BootPart n) h = absurd h
 waits_for_boot_line layout s k (KDump a n p r b) h = absurd h
 waits_for_boot_line layout s k (CutAfter n) h = absurd h
-waits_for_boot_line layout s k (KMsg b) h = refl
-waits_for_boot_line layout s k (Crash r t) h = refl
 waits_for_boot_line layout s k (Reserve b) h = absurd h
 waits_for_boot_line layout s k (StoreNext t n) h = absurd h
 waits_for_boot_line layout s k Blank h = absurd h
+waits_for_boot_line layout s k line h = refl
 
 waits_for_stop_line : (layout : List Zone) (s : LiveState) (line : Line) → WaitsForStop line
     → store_line layout (LiveOf s) line ≡ Err IsLive
 unfolding store_line
-waits_for_stop_line layout s (Write z b) h = absurd h
-waits_for_stop_line layout s (Dump t k b) h = absurd h
-waits_for_stop_line layout s (BeginWrite z b) h = absurd h
-waits_for_stop_line layout s (BeginErase z) h = absurd h
-waits_for_stop_line layout s (BeginDump t k b) h = absurd h
-waits_for_stop_line layout s (Step z n) h = absurd h
-waits_for_stop_line layout s (Finish z) h = absurd h
-waits_for_stop_line layout s Stop h = absurd h
-waits_for_stop_line layout s ListLine h = absurd h
-waits_for_stop_line layout s (Extract b) h = absurd h
-waits_for_stop_line layout s (Erase b) h = absurd h
 waits_for_stop_line layout s (Flip a m) h = refl
 waits_for_stop_line layout s Boot h = refl
 waits_for_stop_line layout s (BootPart n) h = refl
-waits_for_stop_line layout s (KDump a n k r b) h = absurd h
-waits_for_stop_line layout s (CutAfter n) h = absurd h
-waits_for_stop_line layout s (KMsg b) h = absurd h
-waits_for_stop_line layout s (Crash r t) h = absurd h
-waits_for_stop_line layout s (Reserve b) h = absurd h
-waits_for_stop_line layout s (StoreNext t n) h = absurd h
-waits_for_stop_line layout s Blank h = absurd h
+waits_for_stop_line layout s line h = absurd h
 
 elsewhere_off_line : (layout : List Zone) (s : OffState) (k : Kernel) (line : Line) → IsElsewhere line
     → line_done layout (OffOf s) k line ≡ Err NotHere
 unfolding line_done store_line
-elsewhere_off_line layout s k (Write z b) h = absurd h
-elsewhere_off_line layout s k (Dump t p b) h = absurd h
-elsewhere_off_line layout s k (BeginWrite z b) h = absurd h
-elsewhere_off_line layout s k (BeginErase z) h = absurd h
-elsewhere_off_line layout s k (BeginDump t p b) h = absurd h
-elsewhere_off_line layout s k (Step z n) h = absurd h
-elsewhere_off_line layout s k (Finish z) h = absurd h
-elsewhere_off_line layout s k Stop h = absurd h
-elsewhere_off_line layout s k ListLine h = absurd h
-elsewhere_off_line layout s k (Extract b) h = absurd h
-elsewhere_off_line layout s k (Erase b) h = absurd h
-elsewhere_off_line layout s k (Flip a m) h = absurd h
-elsewhere_off_line layout s k Boot h = absurd h
-elsewhere_off_line layout s k (BootPart n) h = absurd h
 elsewhere_off_line layout s k (KDump a n p r b) h = refl
 elsewhere_off_line layout s k (CutAfter n) h = refl
-elsewhere_off_line layout s k (KMsg b) h = absurd h
-elsewhere_off_line layout s k (Crash r t) h = absurd h
 elsewhere_off_line layout s k (Reserve b) h = refl
 elsewhere_off_line layout s k (StoreNext t n) h = refl
-elsewhere_off_line layout s k Blank h = absurd h
+elsewhere_off_line layout s k line h = absurd h
 
 elsewhere_live_line : (layout : List Zone) (s : LiveState) (line : Line) → IsElsewhere line
     → store_line layout (LiveOf s) line ≡ Err NotHere
 unfolding store_line
-elsewhere_live_line layout s (Write z b) h = absurd h
-elsewhere_live_line layout s (Dump t k b) h = absurd h
-elsewhere_live_line layout s (BeginWrite z b) h = absurd h
-elsewhere_live_line layout s (BeginErase z) h = absurd h
-elsewhere_live_line layout s (BeginDump t k b) h = absurd h
-elsewhere_live_line layout s (Step z n) h = absurd h
-elsewhere_live_line layout s (Finish z) h = absurd h
-elsewhere_live_line layout s Stop h = absurd h
-elsewhere_live_line layout s ListLine h = absurd h
-elsewhere_live_line layout s (Extract b) h = absurd h
-elsewhere_live_line layout s (Erase b) h = absurd h
-elsewhere_live_line layout s (Flip a m) h = absurd h
-elsewhere_live_line layout s Boot h = absurd h
-elsewhere_live_line layout s (BootPart n) h = absurd h
 elsewhere_live_line layout s (KDump a n k r b) h = refl
 elsewhere_live_line layout s (CutAfter n) h = refl
-elsewhere_live_line layout s (KMsg b) h = absurd h
-elsewhere_live_line layout s (Crash r t) h = absurd h
 elsewhere_live_line layout s (Reserve b) h = refl
 elsewhere_live_line layout s (StoreNext t n) h = refl
-elsewhere_live_line layout s Blank h = absurd h
+elsewhere_live_line layout s line h = absurd h
 
 pub waits_for_boot : (off : OffSeen) (line : Line) → WaitsForBoot line → MachineRefused (OffMachine off) line IsOff
 waits_for_boot off line h = refused_off off line IsOff (λ layout s k. waits_for_boot_line layout s k line h)

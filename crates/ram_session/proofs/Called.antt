@@ -1,5 +1,5 @@
 -- The listed record that a text names, by the one name that has the text
-use Rattle.std.proofs.Common.{◌≡◌, ℕ, suc, ◌+◌, ◌^◌, ◌<◌, Bool, true, false, ◌&&◌, if◌then◌else◌, List, [], ◌∷◌, ◌++◌, codes, length, Option, Some, None, refl, sym, ap, subst, ◌∙◌, arith}
+use Rattle.std.proofs.Common.{◌≡◌, ℕ, suc, ◌^◌, ◌<◌, Bool, true, false, ◌&&◌, if◌then◌else◌, List, [], ◌∷◌, ◌++◌, codes, length, Option, Some, None, refl, sym, ap, subst, ◌∙◌, arith}
 use Rattle.std.specs.Prelude.{bytes_eq, decimal, filter, flat_map, nat_lt}
 use Rattle.std.specs.List.{AllByRecursion, list_all, zip}
 use Rattle.std.specs.Option.{option_map}
@@ -23,7 +23,7 @@ use Rattle.zone_spec.specs.TimeLines.{read_line}
 use Rattle.prz_read.specs.Saving.{SavedLogs, AreNumbered, saved}
 use Rattle.pstore_records.specs.Candidates.{IsCandidate}
 use Rattle.pstore_records.proofs.Given.{same-name, record-name}
-use Rattle.tool_spec.specs.Scripts.{named}
+use Rattle.script_spec.specs.Scripts.{named}
 use Rattle.ram_session.proofs.RecordLines.{itself, name_of}
 
 all-append : {A : Type 0} (P : A → Type 0) (xs ys : List A) → AllByRecursion P xs → AllByRecursion P ys

@@ -16,8 +16,8 @@ use Rattle.machine_laws.proofs.Listed.{found_is_listed}
 use Rattle.prz_read.specs.Saving.{SavedLogs, saved}
 use Rattle.ramoops.specs.LiveSeen.{LiveSeen, StandsLive}
 use Rattle.grammar_spec.specs.declared.line.Line.TheVariants.{Erase}
-use Rattle.tool_spec.specs.Scripts.{store_line, named, erases_of}
-use Rattle.tool_spec.specs.declared.Cause.TheVariants.{IsOff, IsLive, NoZone, Busy, Idle, OutOfImage, NoRecord, NotHere, TooLong, NoSeat, Crowded, NoRing}
+use Rattle.script_spec.specs.Scripts.{store_line, named, erases_of}
+use Rattle.script_spec.specs.declared.Cause.TheVariants.{IsOff, IsLive, NoZone, Busy, Idle, OutOfImage, NoRecord, NotHere, TooLong, NoSeat, Crowded, NoRing}
 use Rattle.ram_session.specs.Erasing.{Erases, Forgets, ErasesNamed, IsBusy, EraseFails}
 use Rattle.ram_session.specs.Sessions.{Live, LineDone, LineRefused, LineFails}
 use Rattle.ram_session.specs.declared.machine.LineError.{LineError}

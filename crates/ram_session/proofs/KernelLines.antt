@@ -15,7 +15,7 @@ use Rattle.zone_spec.specs.Records.{is_of}
 use Rattle.zone_spec.specs.TimeLines.{line_text}
 use Rattle.machine_spec.specs.States.{LiveZone, LiveState, Off as OffOf, Live as LiveOf}
 use Rattle.machine_spec.specs.Sound.{IsTime}
-use Rattle.machine_spec.specs.LiveZones.{Target, target_of, target_at, target}
+use Rattle.machine_spec.specs.LiveZones.{Target, target_of, target_at}
 use Rattle.prz_read.specs.Saving.{SavedLogs}
 use Rattle.ramoops.specs.LiveSeen.{LiveSeen}
 use Rattle.kmsg_spec.specs.declared.Why.{Why}
@@ -24,9 +24,9 @@ use Rattle.kmsg_dump.specs.Kept.{IsLine, Keeps}
 use Rattle.grammar_spec.specs.Fields.{is_message}
 use Rattle.grammar_spec.specs.Printed.{HasFields}
 use Rattle.grammar_spec.specs.declared.line.Line.TheVariants.{KMsg, Crash, Dump}
-use Rattle.tool_spec.specs.Scripts.{Kernel as KernelOf, beside, prints, crash_body, crashed, crashes, log_limit, why_of, room_in, dump_target, store_line, line_done}
-use Rattle.tool_spec.specs.declared.Cause.{Cause}
-use Rattle.tool_spec.specs.declared.Cause.TheVariants.{TooLong, NoZone}
+use Rattle.script_spec.specs.Scripts.{Kernel as KernelOf, beside, prints, crash_body, crashed, log_limit, why_of, room_in, dump_target, store_line, line_done}
+use Rattle.script_spec.specs.declared.Cause.{Cause}
+use Rattle.script_spec.specs.declared.Cause.TheVariants.{TooLong, NoZone}
 use Rattle.ram_session.specs.Kernels.{StandsForKernel, DumpsAlike, left_in, first_room}
 use Rattle.ram_session.specs.Sessions.{Live as LiveStore, LineDone, LineRefused, LineFails}
 use Rattle.ram_session.specs.Machines.{MachineDone, MachineRefused, MachineFails}

@@ -15,8 +15,8 @@ use Rattle.prz_read.specs.Saving.{SavedLogs}
 use Rattle.ramoops.specs.LiveSeen.{LiveSeen}
 use Rattle.grammar_spec.specs.declared.line.Line.{Line}
 use Rattle.grammar_spec.specs.declared.line.Line.TheVariants.{Write, Dump as DumpLine, BeginWrite, BeginErase, BeginDump, Step, Finish}
-use Rattle.tool_spec.specs.Scripts.{store_line, done_or_refused, refusal_cause}
-use Rattle.tool_spec.specs.declared.Cause.{Cause}
+use Rattle.script_spec.specs.Scripts.{store_line, done_or_refused, refusal_cause}
+use Rattle.script_spec.specs.declared.Cause.{Cause}
 use Rattle.tool_laws.proofs.Steps.{calls_keep_logs}
 use Rattle.ram_session.specs.Answers.{Done, IsRefused, Begun, NotBegun}
 use Rattle.ram_session.specs.Sessions.{Live, LineDone, LineRefused}

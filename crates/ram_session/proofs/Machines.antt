@@ -7,10 +7,10 @@ use Rattle.prz_read.specs.Saving.{SavedLogs}
 use Rattle.ramoops.specs.OffSeen.{OffSeen}
 use Rattle.ramoops.specs.LiveSeen.{LiveSeen}
 use Rattle.grammar_spec.specs.declared.line.Line.{Line}
-use Rattle.grammar_spec.specs.declared.line.Line.TheVariants.{Blank, Write, Dump, BeginWrite, BeginErase, BeginDump, Step, Finish, Stop, Flip, Boot, BootPart, List as ListLine, Extract, Erase, KDump, CutAfter, KMsg, Crash, Reserve, StoreNext}
-use Rattle.tool_spec.specs.Scripts.{Kernel as KernelOf, new_kernel, beside, store_line, line_done}
-use Rattle.tool_spec.specs.declared.Cause.{Cause}
-use Rattle.tool_spec.specs.declared.Cause.TheVariants.{IsLive}
+use Rattle.grammar_spec.specs.declared.line.Line.TheVariants.{Stop, Boot, KMsg, Crash}
+use Rattle.script_spec.specs.Scripts.{Kernel as KernelOf, new_kernel, beside, store_line, line_done}
+use Rattle.script_spec.specs.declared.Cause.{Cause}
+use Rattle.script_spec.specs.declared.Cause.TheVariants.{IsLive}
 use Rattle.ram_session.specs.Kernels.{StandsForKernel}
 use Rattle.ram_session.specs.Sessions.{Off as OffStore, Live as LiveStore, LineDone, LineRefused, LineFails, KeepsKernel}
 use Rattle.ram_session.specs.Machines.{MachineDone, MachineRefused, MachineFails}
@@ -22,52 +22,20 @@ use Rattle.ram_session.specs.declared.machine.LineError.TheVariants.{Memory, Ref
 kept : (layout : List Zone) (s : Session) (k : KernelOf) (line : Line) → KeepsKernel line
     → line_done layout s k line ≡ beside k (store_line layout s line)
 unfolding line_done
-kept layout s k Blank h = refl
-kept layout s k (Write z b) h = refl
-kept layout s k (Dump t p b) h = refl
-kept layout s k (BeginWrite z b) h = refl
-kept layout s k (BeginErase z) h = refl
-kept layout s k (BeginDump t p b) h = refl
-kept layout s k (Step z n) h = refl
-kept layout s k (Finish z) h = refl
 kept layout s k Stop h = absurd h
-kept layout s k (Flip a m) h = refl
 kept layout s k Boot h = absurd h
-kept layout s k (BootPart n) h = refl
-kept layout s k ListLine h = refl
-kept layout s k (Extract b) h = refl
-kept layout s k (Erase b) h = refl
-kept layout s k (KDump a n p r b) h = refl
-kept layout s k (CutAfter n) h = refl
 kept layout s k (KMsg b) h = absurd h
 kept layout s k (Crash r t) h = absurd h
-kept layout s k (Reserve b) h = refl
-kept layout s k (StoreNext t n) h = refl
+kept layout s k line h = refl
 
 -- a line that is none of the four
 pub keeps_unless : (line : Line) → line ≢ Boot → line ≢ Stop → ((b : List ℕ) → line ≢ KMsg b)
     → ((r : ℕ) (t : Time) → line ≢ Crash r t) → KeepsKernel line
-keeps_unless Blank p q r t = tt
-keeps_unless (Write z b) p q r t = tt
-keeps_unless (Dump u k b) p q r t = tt
-keeps_unless (BeginWrite z b) p q r t = tt
-keeps_unless (BeginErase z) p q r t = tt
-keeps_unless (BeginDump u k b) p q r t = tt
-keeps_unless (Step z n) p q r t = tt
-keeps_unless (Finish z) p q r t = tt
 keeps_unless Stop p q r t = absurd (q refl)
-keeps_unless (Flip a m) p q r t = tt
 keeps_unless Boot p q r t = absurd (p refl)
-keeps_unless (BootPart n) p q r t = tt
-keeps_unless ListLine p q r t = tt
-keeps_unless (Extract b) p q r t = tt
-keeps_unless (Erase b) p q r t = tt
-keeps_unless (KDump a n k u b) p q r t = tt
-keeps_unless (CutAfter n) p q r t = tt
 keeps_unless (KMsg b) p q r t = absurd (r b refl)
 keeps_unless (Crash u v) p q r t = absurd (t u v refl)
-keeps_unless (Reserve b) p q r t = tt
-keeps_unless (StoreNext u n) p q r t = tt
+keeps_unless line p q r t = tt
 
 -- ---- off
 

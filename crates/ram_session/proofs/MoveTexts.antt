@@ -9,7 +9,7 @@ use Rattle.machine_spec.specs.Moved.{fits}
 use Rattle.pstore_records.specs.declared.moving.Move.{Move}
 use Rattle.pstore_records.specs.Counts.{corrected_in, bad_in}
 use Rattle.pstore_records.specs.Moves.{move_of}
-use Rattle.tool_spec.specs.Texts.{newline, move_line, move_text}
+use Rattle.script_spec.specs.Texts.{newline, move_line, move_text}
 use Rattle.ram_session.specs.Entries.{told_text}
 
 line-is : (layout : List Zone) (zones : List Saved) (r : Listed)

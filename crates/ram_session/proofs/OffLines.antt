@@ -6,8 +6,8 @@ use Rattle.machine_spec.specs.States.{OffState, Off as OffOf, Live as LiveOf}
 use Rattle.machine_spec.specs.Off.{flipped}
 use Rattle.ramoops.specs.OffSeen.{OffSeen, StandsOff}
 use Rattle.grammar_spec.specs.declared.line.Line.TheVariants.{Flip}
-use Rattle.tool_spec.specs.Scripts.{store_line}
-use Rattle.tool_spec.specs.declared.Cause.TheVariants.{OutOfImage}
+use Rattle.script_spec.specs.Scripts.{store_line}
+use Rattle.script_spec.specs.declared.Cause.TheVariants.{OutOfImage}
 use Rattle.ram_session.specs.Sessions.{Off, LineDone, LineRefused}
 
 nat_lt-true : {a b : ℕ} → a < b → nat_lt a b ≡ true

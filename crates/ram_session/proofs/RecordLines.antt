@@ -16,9 +16,9 @@ use Rattle.prz_read.specs.Saving.{SavedLogs, saved}
 use Rattle.ramoops.specs.LiveSeen.{LiveSeen}
 use Rattle.grammar_spec.specs.declared.line.Line.TheVariants.{Extract}
 use Rattle.pstore_records.proofs.Given.{same-name}
-use Rattle.tool_spec.specs.Texts.{extract_text}
-use Rattle.tool_spec.specs.Scripts.{store_line, named, extracts_of}
-use Rattle.tool_spec.specs.declared.Cause.TheVariants.{NoRecord}
+use Rattle.script_spec.specs.Texts.{extract_text}
+use Rattle.script_spec.specs.Scripts.{store_line, named, extracts_of}
+use Rattle.script_spec.specs.declared.Cause.TheVariants.{NoRecord}
 use Rattle.ram_session.specs.Sessions.{Live, LineDone, LineRefused}
 
 -- ---- the record whose name has a text

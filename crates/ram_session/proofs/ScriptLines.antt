@@ -7,12 +7,12 @@ use Rattle.machine_spec.specs.Sound.{IsState}
 use Rattle.ramoops.specs.OffSeen.{OffSeen}
 use Rattle.grammar_spec.specs.declared.line.Line.{Line}
 use Rattle.grammar_spec.specs.Printed.{AllHaveFields}
-use Rattle.tool_spec.specs.Scripts.{Kernel, new_kernel}
-use Rattle.tool_spec.specs.declared.Stop.{Stop}
-use Rattle.tool_spec.specs.declared.Stop.TheVariants.{Memory, Usage, Param, Layout, NoSharedZone, Short, ScriptFault, ImageFault, SinkFault, TooLong, BadLine, Refused}
+use Rattle.script_spec.specs.Scripts.{Kernel, new_kernel}
+use Rattle.script_spec.specs.declared.LineStop.{LineStop}
+use Rattle.script_spec.specs.declared.LineStop.TheVariants.{Memory, StoreFault, SinkFault, Refused}
 use Rattle.tool_laws.specs.Scripts.{ScriptStatesAreSound}
-use Rattle.tool_frame.specs.Playing.{PlayedTo, PlayStop}
-use Rattle.tool_frame.proofs.Play.{played_none, played_on, played_all, stopped_memory, stopped_refused, stopped_put}
+use Rattle.script_spec.specs.Playing.{PlayedTo, PlayStop}
+use Rattle.tool_laws.proofs.Play.{played_none, played_on, played_all, stopped_memory, stopped_refused, stopped_put}
 use Rattle.ram_session.specs.Sessions.{Stands}
 use Rattle.ram_session.specs.Machines.{store_of, HasKernel}
 use Rattle.ram_session.specs.Playing.{Puts, LineStops, StandsFresh, PlaysAll}
@@ -69,7 +69,7 @@ module _ (sound : ScriptStatesAreSound) (first : Machine) (lines : List Line) (f
             puts.text puts.text a b c below is p.played l.done refl puts.put;
       }
 
-  pub plays_stop : (stop : Stop) (c : Option (List ℕ)) (g g0 h : ℕ) → g0 ≤ g
+  pub plays_stop : (stop : LineStop) (c : Option (List ℕ)) (g g0 h : ℕ) → g0 ≤ g
       → LineStops stop machine line (i + 1) b c g h → (off : OffSeen) → first ≡ Off off
       → (layout : List Zone) (mem : ℕ) (image : List ℕ) → StandsFresh layout mem image off
       → PlayStop stop layout image lines a c g0 h
@@ -89,15 +89,7 @@ module _ (sound : ScriptStatesAreSound) (first : Machine) (lines : List Line) (f
       rw (stop.0, stop.1) (stopped_refused layout image lines i line cause p.session p.kernel a b below is p.played
       (stop.2 layout mem p.session p.kernel f.lies f.alike p.stands p.has
       (state off layout mem image f p)))
-  plays_stop Usage c g g0 h le stop off start layout mem image f = absurd stop
-  plays_stop (Param x y) c g g0 h le stop off start layout mem image f = absurd stop
-  plays_stop (Layout x) c g g0 h le stop off start layout mem image f = absurd stop
-  plays_stop NoSharedZone c g g0 h le stop off start layout mem image f = absurd stop
-  plays_stop (Short x y) c g g0 h le stop off start layout mem image f = absurd stop
-  plays_stop ScriptFault c g g0 h le stop off start layout mem image f = absurd stop
-  plays_stop ImageFault c g g0 h le stop off start layout mem image f = absurd stop
-  plays_stop TooLong c g g0 h le stop off start layout mem image f = absurd stop
-  plays_stop (BadLine x) c g g0 h le stop off start layout mem image f = absurd stop
+  plays_stop StoreFault c g g0 h le stop off start layout mem image f = absurd stop
 
 pub plays_all : (off : OffSeen) (lines : List Line) (i : ℕ) (machine : Machine) (a b : Option (List ℕ))
     → length lines ≤ i → PlaysSoFar (Off off) lines i machine a b → (layout : List Zone) (mem : ℕ) (image : List ℕ)

@@ -13,7 +13,7 @@ use Rattle.prz_read.proofs.Saves.{zip-at}
 use Rattle.pstore_records.proofs.Steps.{item-at}
 use Rattle.ramoops.specs.declared.report.ZoneReport.{ZoneReport as RustZoneReport}
 use Rattle.ramoops.specs.Reports.{report_seen}
-use Rattle.tool_spec.specs.Texts.{zone_lines, boot_text}
+use Rattle.script_spec.specs.Texts.{zone_lines, boot_text}
 
 abbrev pub sides : List Saved → List RustZoneReport → List (Saved × ZoneReport)
 sides zones reports = zip zones (map report_seen reports)

@@ -12,8 +12,8 @@ use Rattle.ramoops.specs.LiveSeen.{LiveSeen, StandsLive}
 use Rattle.ramoops.specs.Booted.{Booted, BootedInPart}
 use Rattle.machine_spec.specs.BootPart.{boot_parted, boot_made}
 use Rattle.grammar_spec.specs.declared.line.Line.TheVariants.{Blank, Boot, BootPart, Stop, List as ListLine}
-use Rattle.tool_spec.specs.Texts.{boot_text, part_text, listing}
-use Rattle.tool_spec.specs.Scripts.{store_line}
+use Rattle.script_spec.specs.Texts.{boot_text, part_text, listing}
+use Rattle.script_spec.specs.Scripts.{store_line}
 use Rattle.ram_session.specs.Sessions.{StoreSeen, Off, Live, LineDone}
 
 boot_line : (layout : List Zone) (s : OffState) → store_line layout (OffOf s) Boot

@@ -8,7 +8,7 @@ use Rattle.pstore_records.specs.declared.records.ContentFault.{ContentFault}
 use Rattle.pstore_records.specs.declared.records.ContentFault.TheVariants.{NoRecord, Memory}
 use Rattle.pstore_records.specs.declared.table.Entry.{Entry}
 use Rattle.pstore_records.specs.declared.moving.Move.{Move}
-use Rattle.tool_spec.specs.Texts.{newline, time_text}
+use Rattle.script_spec.specs.Texts.{newline, time_text}
 
 -- the line of a record
 abbrev pub entry_text : Entry → List ℕ

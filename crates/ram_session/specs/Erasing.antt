@@ -12,8 +12,8 @@ use Rattle.machine_spec.specs.Erasures.{saved_logs, erase_zone, erased}
 use Rattle.prz_read.specs.Saving.{SavedLogs, saved}
 use Rattle.ramoops.specs.LiveSeen.{LiveSeen, StandsLive}
 use Rattle.grammar_spec.specs.Fields.{Text}
-use Rattle.tool_spec.specs.Scripts.{named}
-use Rattle.tool_spec.specs.declared.Cause.TheVariants.{NoRecord, Busy}
+use Rattle.script_spec.specs.Scripts.{named}
+use Rattle.script_spec.specs.declared.Cause.TheVariants.{NoRecord, Busy}
 use Rattle.ram_session.specs.declared.machine.LineError.{LineError}
 use Rattle.ram_session.specs.declared.machine.LineError.TheVariants.{Memory, Refused}
 

@@ -7,7 +7,7 @@ use Rattle.zone_spec.specs.declared.Kind.TheVariants.{Dump as DumpKind}
 use Rattle.zone_spec.specs.Records.{is_of}
 use Rattle.zone_spec.specs.TimeLines.{line_text}
 use Rattle.kmsg_dump.specs.Kept.{Keeps}
-use Rattle.tool_spec.specs.Scripts.{Kernel as KernelOf, log_limit}
+use Rattle.script_spec.specs.Scripts.{Kernel as KernelOf, log_limit}
 use Rattle.ram_session.specs.declared.kernel.Kernel.{Kernel}
 
 -- a kernel stands for one of the definitions

@@ -6,8 +6,8 @@ use Rattle.machine_spec.specs.States.{Session}
 use Rattle.machine_spec.specs.Sound.{IsState}
 use Rattle.grammar_spec.specs.Fields.{Text}
 use Rattle.grammar_spec.specs.declared.line.Line.{Line}
-use Rattle.tool_spec.specs.Scripts.{Kernel as KernelOf, new_kernel, line_done}
-use Rattle.tool_spec.specs.declared.Cause.{Cause}
+use Rattle.script_spec.specs.Scripts.{Kernel as KernelOf, new_kernel, line_done}
+use Rattle.script_spec.specs.declared.Cause.{Cause}
 use Rattle.ram_session.specs.Kernels.{StandsForKernel, DumpsAlike}
 use Rattle.ram_session.specs.Sessions.{StoreSeen, Off as OffStore, Live as LiveStore, Stands, TakesMemory}
 use Rattle.ram_session.specs.declared.machine.Machine.{Machine}

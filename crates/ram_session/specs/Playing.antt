@@ -10,9 +10,9 @@ use Rattle.machine_spec.specs.Off.{fresh}
 use Rattle.ramoops.specs.OffSeen.{OffSeen, StandsOff}
 use Rattle.grammar_spec.specs.Fields.{Text}
 use Rattle.grammar_spec.specs.declared.line.Line.{Line}
-use Rattle.tool_spec.specs.declared.Stop.{Stop}
-use Rattle.tool_spec.specs.declared.Stop.TheVariants.{Memory, SinkFault, Refused}
-use Rattle.tool_frame.specs.Playing.{Played, PlayStop}
+use Rattle.script_spec.specs.declared.LineStop.{LineStop}
+use Rattle.script_spec.specs.declared.LineStop.TheVariants.{Memory, StoreFault, SinkFault, Refused}
+use Rattle.script_spec.specs.Playing.{Played, PlayStop}
 use Rattle.ram_session.specs.Sessions.{Stands}
 use Rattle.ram_session.specs.Kernels.{DumpsAlike}
 use Rattle.ram_session.specs.Machines.{store_of, MachineDone, MachineRefused}
@@ -31,12 +31,12 @@ pub record PutsPart (old : Machine) (line : Line) (given given' : Option (List �
   pub put : AppendsFront given given' text
 
 -- why a line of this number was not done or not put
-abbrev pub LineStops : Stop → Machine → Line → ℕ → Option (List ℕ) → Option (List ℕ) → ℕ → ℕ → Type 0
+abbrev pub LineStops : LineStop → Machine → Line → ℕ → Option (List ℕ) → Option (List ℕ) → ℕ → ℕ → Type 0
 LineStops Memory old line number given given' faults faults' = given' ≡ given
+LineStops StoreFault old line number given given' faults faults' = ⊥
 LineStops SinkFault old line number given given' faults faults' = Rose faults faults' × PutsPart old line given given'
 LineStops (Refused n cause) old line number given given' faults faults' =
     (n ≡ number) × (given' ≡ given) × MachineRefused old line cause
-LineStops stop old line number given given' faults faults' = ⊥
 
 -- a store of which nothing is known stands for this image
 pub record StandsFresh (layout : List Zone) (mem : ℕ) (image : List ℕ) (off : OffSeen) : Type 0 where
@@ -54,7 +54,7 @@ pub record PlaysAll (layout : List Zone) (mem : ℕ) (image : List ℕ) (lines :
   pub played : Played layout image lines session given given'
 
 -- a script on a store, for each image for which that stands
-abbrev pub Plays : OffSeen → List Line → Option (List ℕ) → Option (List ℕ) → ℕ → ℕ → Result Machine Stop → Type 0
+abbrev pub Plays : OffSeen → List Line → Option (List ℕ) → Option (List ℕ) → ℕ → ℕ → Result Machine LineStop → Type 0
 Plays off lines given given' faults faults' (Ok machine) = (layout : List Zone) (mem : ℕ) (image : List ℕ)
     → StandsFresh layout mem image off → PlaysAll layout mem image lines machine given given'
 Plays off lines given given' faults faults' (Err stop) = (layout : List Zone) (mem : ℕ) (image : List ℕ)

@@ -4,8 +4,8 @@ use Rattle.std.specs.Option.{option_map}
 use Rattle.zone_spec.specs.Records.{Saved}
 use Rattle.zone_spec.specs.Notices.{content}
 use Rattle.grammar_spec.specs.Fields.{Text}
-use Rattle.tool_spec.specs.Scripts.{named}
-use Rattle.tool_spec.specs.declared.Cause.TheVariants.{NoRecord}
+use Rattle.script_spec.specs.Scripts.{named}
+use Rattle.script_spec.specs.declared.Cause.TheVariants.{NoRecord}
 use Rattle.ram_session.specs.declared.machine.LineError.{LineError}
 use Rattle.ram_session.specs.declared.machine.LineError.TheVariants.{Memory, Refused}
 

@@ -12,8 +12,8 @@ use Rattle.ramoops.specs.LiveSeen.{LiveSeen, StandsLive}
 use Rattle.grammar_spec.specs.Fields.{Text}
 use Rattle.grammar_spec.specs.declared.line.Line.{Line}
 use Rattle.grammar_spec.specs.declared.line.Line.TheVariants.{Write, Dump, BeginWrite, BeginErase, BeginDump, Step, Finish, KMsg, Crash, Boot, BootPart, Stop, List as ListLine, Extract}
-use Rattle.tool_spec.specs.Scripts.{store_line}
-use Rattle.tool_spec.specs.declared.Cause.{Cause}
+use Rattle.script_spec.specs.Scripts.{store_line}
+use Rattle.script_spec.specs.declared.Cause.{Cause}
 use Rattle.ram_session.specs.declared.machine.LineError.{LineError}
 use Rattle.ram_session.specs.declared.machine.LineError.TheVariants.{Memory, Refused}
 

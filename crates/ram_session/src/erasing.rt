@@ -15,7 +15,7 @@ use crate::record_lines::named;
 use prz_read::Logs;
 use pstore_records::{Name, is_in};
 use ramoops::{Ask, Live};
-use tool_spec::Cause;
+use script_spec::Cause;
 use zone_spec::ZoneName;
 
 // The name of the i-th zone.

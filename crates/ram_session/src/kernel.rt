@@ -1,6 +1,6 @@
 // The kernel of a live machine.
 ghost use Rattle.std.specs.Prelude.{◌≡◌, IfOk};
-ghost use Rattle.tool_spec.specs.Scripts.{new_kernel};
+ghost use Rattle.script_spec.specs.Scripts.{new_kernel};
 ghost use Rattle.ram_session.specs.Kernels.{StandsForKernel};
 
 use kmsg_dump::KLog;

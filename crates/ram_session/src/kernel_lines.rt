@@ -9,7 +9,7 @@ ghost use Rattle.prz_read.specs.Saving.{SavedLogs};
 ghost use Rattle.ramoops.specs.LiveSeen.{LiveSeen};
 ghost use Rattle.kmsg_dump.specs.Kept.{IsLine};
 ghost use Rattle.grammar_spec.specs.declared.line.Line.TheVariants.{KMsg, Crash};
-ghost use Rattle.tool_spec.specs.Scripts.{why_of};
+ghost use Rattle.script_spec.specs.Scripts.{why_of};
 ghost use Rattle.ram_session.specs.Kernels.{first_room};
 ghost use Rattle.ram_session.specs.Machines.{MachineDone, MachineFails};
 ghost use Rattle.ram_session.specs.declared.machine.Machine.TheVariants.{Live as LiveMachine};
@@ -21,7 +21,7 @@ use arrayvec::ArrayString;
 use dump_records::line;
 use kmsg_dump::Why;
 use ramoops::Live;
-use tool_spec::Cause;
+use script_spec::Cause;
 use zone_spec::{Kind, Time, Zone};
 
 /// A line that the kernel prints, given without its newline.

@@ -13,8 +13,8 @@ use crate::{Kernel, kernel_lines, live_lines, off_lines, record_lines, state_lin
 use prz_read::Logs;
 use ramoops::{Live, Off};
 use script::Line;
+use script_spec::Cause;
 use std::alloc::Global;
-use tool_spec::Cause;
 
 // A line of a call.
 #[tactic(auto, using(crate::proofs::AnyLines::dump_time, crate::proofs::AnyLines::begin_dump_time))]

@@ -4,13 +4,13 @@ ghost use Rattle.prz_read.specs.Saving.{SavedLogs};
 ghost use Rattle.machine_spec.specs.Sound.{IsTime};
 ghost use Rattle.ram_session.specs.Sessions.{Live as LiveStore, LineDone, LineFails};
 ghost use Rattle.grammar_spec.specs.declared.line.Line.TheVariants.{Write, Dump, BeginWrite, BeginErase, BeginDump, Step, Finish};
-ghost use Rattle.tool_spec.specs.Scripts.{refusal_cause};
+ghost use Rattle.script_spec.specs.Scripts.{refusal_cause};
 
 use crate::calls;
 use crate::machine::LineError;
 use outside::Bytes;
 use ramoops::{Ask, Live, Refusal};
-use tool_spec::Cause;
+use script_spec::Cause;
 use zone_spec::{Time, ZoneName};
 
 fn cause(why: Refusal) -> Cause

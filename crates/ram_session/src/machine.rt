@@ -10,8 +10,8 @@ use crate::Kernel;
 use outside::Bytes;
 use prz_read::Logs;
 use ramoops::{Live, Off};
+use script_spec::Cause;
 use std::alloc::AllocError;
-use tool_spec::Cause;
 
 /// The machine of a script: off, or live, with the logs that its last boot saved and its kernel.
 #[derive(Drop)]

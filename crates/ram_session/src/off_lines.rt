@@ -2,10 +2,10 @@
 ghost use Rattle.std.specs.Prelude.{[], MatchResult};
 ghost use Rattle.ram_session.specs.Sessions.{Off as OffStore, LineDone, LineRefused};
 ghost use Rattle.grammar_spec.specs.declared.line.Line.TheVariants.{Flip};
-ghost use Rattle.tool_spec.specs.declared.Cause.TheVariants.{OutOfImage};
+ghost use Rattle.script_spec.specs.declared.Cause.TheVariants.{OutOfImage};
 
 use ramoops::Off;
-use tool_spec::Cause;
+use script_spec::Cause;
 
 /// A flip of a byte.
 #[tactic(auto, using(crate::proofs::OffLines::flip_done, crate::proofs::OffLines::flip_refused))]

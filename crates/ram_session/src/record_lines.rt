@@ -6,7 +6,7 @@ ghost use Rattle.pstore_records.specs.Candidates.{IsCandidate};
 ghost use Rattle.zone_spec.specs.Records.{Listed};
 ghost use Rattle.prz_read.specs.Saving.{saved};
 ghost use Rattle.grammar_spec.specs.declared.line.Line.TheVariants.{Extract};
-ghost use Rattle.tool_spec.specs.Scripts.{named as record_named};
+ghost use Rattle.script_spec.specs.Scripts.{named as record_named};
 ghost use Rattle.ram_session.specs.Records.{IsContent};
 ghost use Rattle.ram_session.specs.Sessions.{Live as LiveStore, LineDone, LineFails};
 ghost use Rattle.ramoops.specs.LiveSeen.{LiveSeen};
@@ -16,9 +16,9 @@ use crate::texts::extract_text;
 use outside::Bytes;
 use prz_read::Logs;
 use pstore_records::{ContentFault, Name, content, find, length};
+use script_spec::Cause;
 use std::alloc::Global;
 use std::str;
-use tool_spec::Cause;
 
 fn name_of(text: &[u8]) -> Option<Name>
     ensures name { IsNameOf text.now result }

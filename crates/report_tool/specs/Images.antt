@@ -3,8 +3,8 @@ use Rattle.std.specs.Prelude.{◌≡◌, ℕ, ◌≤◌, List, length, take, ⊤
 use Rattle.std.specs.Io.KnownBytes.{Appends}
 use Rattle.outside.specs.Outside.{Rose, AppendsFront}
 use Rattle.record_report.specs.Reports.{ReportHeld, IsReport}
-use Rattle.tool_spec.specs.declared.Stop.{Stop}
-use Rattle.tool_spec.specs.declared.Stop.TheVariants.{Memory, ImageFault, Short, SinkFault}
+use Rattle.command_spec.specs.declared.Stop.{Stop}
+use Rattle.command_spec.specs.declared.Stop.TheVariants.{Memory, ImageFault, Short, SinkFault}
 use Rattle.tool_frame.specs.Stages.{LoadStop}
 use Rattle.report_tool.specs.declared.plan.Plan.{Plan}
 use Rattle.report_tool.specs.declared.showing.Format.{Format}

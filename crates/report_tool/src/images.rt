@@ -1,7 +1,8 @@
 // One image, from its store to the sink.
 ghost use Rattle.std.specs.Prelude.{◌≡◌, ◌≤◌, IfOk, IfErr, MatchResult};
-ghost use Rattle.tool_spec.specs.declared.Stop.TheVariants.{ImageFault, SinkFault};
-ghost use Rattle.tool_frame.specs.Stages.{KeptUnless, LoadStop};
+ghost use Rattle.command_spec.specs.declared.Stop.TheVariants.{ImageFault, SinkFault};
+ghost use Rattle.script_spec.specs.Playing.{KeptUnless};
+ghost use Rattle.tool_frame.specs.Stages.{LoadStop};
 ghost use Rattle.report_tool.specs.Images.{IsRead, IsReported, IsNotReported};
 
 use crate::showing::{Format, shown};

@@ -4,7 +4,7 @@ use prz_read::{Logs, Reading, State, Words};
 use ram_session::{LineError, content_of, listing};
 use std::alloc::{AllocError, Global};
 use std::test::Fail;
-use tool_spec::Cause;
+use script_spec::Cause;
 use zone_params::types::Layout;
 use zone_params::{Params, layout};
 

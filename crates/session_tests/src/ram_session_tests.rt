@@ -9,7 +9,7 @@ use ramoops::{Ask, Live, Refusal};
 use script::parse;
 use std::process::Abort;
 use std::test::Fail;
-use tool_spec::{Cause, Stop};
+use script_spec::{Cause, LineStop};
 use zone_spec::{Kind, ZoneName};
 
 const ONE: &str = "mem_size=4096 record_size=0 ftrace_size=0 pmsg_size=0";
@@ -75,7 +75,7 @@ fn calls_are_refused(rt: HostRuntime) {
 fn played(
     rt: &(impl Abort + AllocGlobal),
     script: &[u8],
-) -> Result<(Result<Machine, Stop>, Vec<u8>), Fail> {
+) -> Result<(Result<Machine, LineStop>, Vec<u8>), Fail> {
     let alloc = rt.alloc();
     let off = off(alloc, ONE)?;
     let lines = match parse(alloc, script) {
@@ -107,10 +107,10 @@ const DONE_TEXT: &[u8] = b"boot console found start 3 size 3 corrected 0 bad 0 a
     records 1\nconsole-ramoops-0 3\nconsole-ramoops-0 3\nabc\n";
 
 // A script, why its last line is refused, and what it puts after the first boot's line.
-const REFUSED: &[(&[u8], Stop, &[u8])] = &[
+const REFUSED: &[(&[u8], LineStop, &[u8])] = &[
     (
         b"boot\nwrite pmsg 616263\n",
-        Stop::Refused {
+        LineStop::Refused {
             line: 2,
             cause: Cause::NoZone,
         },
@@ -118,7 +118,7 @@ const REFUSED: &[(&[u8], Stop, &[u8])] = &[
     ),
     (
         b"boot\nextract console-ramoops-0\n",
-        Stop::Refused {
+        LineStop::Refused {
             line: 2,
             cause: Cause::NoRecord,
         },
@@ -126,7 +126,7 @@ const REFUSED: &[(&[u8], Stop, &[u8])] = &[
     ),
     (
         b"boot\nwrite console 616263\nstop\nboot\nextract pmsg-ramoops-0\n",
-        Stop::Refused {
+        LineStop::Refused {
             line: 5,
             cause: Cause::NoRecord,
         },
@@ -134,7 +134,7 @@ const REFUSED: &[(&[u8], Stop, &[u8])] = &[
     ),
     (
         b"boot\nwrite console 616263\nstop\nboot\nextract console-ramoops-1\n",
-        Stop::Refused {
+        LineStop::Refused {
             line: 5,
             cause: Cause::NoRecord,
         },

@@ -6,10 +6,10 @@ use Rattle.shared_spec.specs.Histories.{History, shared_zone}
 use Rattle.shared_ring.specs.Seen.{SharedSeen, IsLeftBy}
 use Rattle.grammar_spec.specs.Printed.{HasFields}
 use Rattle.grammar_spec.specs.declared.line.Line.{Line}
-use Rattle.grammar_spec.specs.declared.line.Line.TheVariants.{Blank, Write, Dump, BeginWrite, BeginErase, BeginDump, Step, Finish, Stop, Flip, Boot, BootPart, List as ListLine, Extract, Erase, KDump, CutAfter, KMsg, Crash, Reserve, StoreNext}
-use Rattle.tool_spec.specs.SharedScripts.{shared_line, reserves, stores}
-use Rattle.tool_spec.specs.declared.Cause.{Cause}
-use Rattle.tool_spec.specs.declared.Cause.TheVariants.{NotHere}
+use Rattle.grammar_spec.specs.declared.line.Line.TheVariants.{Blank, Reserve, StoreNext}
+use Rattle.script_spec.specs.SharedScripts.{shared_line, reserves, stores}
+use Rattle.script_spec.specs.declared.Cause.{Cause}
+use Rattle.script_spec.specs.declared.Cause.TheVariants.{NotHere}
 use Rattle.shared_session.specs.Left.{IsLeft}
 
 blank_is : (h : History) → shared_line h Blank ≡ Ok h
@@ -53,21 +53,4 @@ unfolding shared_line
 other_line h Blank a b c = absurd (a refl)
 other_line h (Reserve payload) a b c = absurd (b payload refl)
 other_line h (StoreNext t k) a b c = absurd (c t k refl)
-other_line h (Write zone bytes) a b c = refl
-other_line h (Dump time packed bytes) a b c = refl
-other_line h (BeginWrite zone bytes) a b c = refl
-other_line h (BeginErase zone) a b c = refl
-other_line h (BeginDump time packed bytes) a b c = refl
-other_line h (Step zone k) a b c = refl
-other_line h (Finish zone) a b c = refl
-other_line h Stop a b c = refl
-other_line h (Flip place mask) a b c = refl
-other_line h Boot a b c = refl
-other_line h (BootPart k) a b c = refl
-other_line h ListLine a b c = refl
-other_line h (Extract name) a b c = refl
-other_line h (Erase name) a b c = refl
-other_line h (KDump secs nanos packed reason bytes) a b c = refl
-other_line h (CutAfter limit) a b c = refl
-other_line h (KMsg text) a b c = refl
-other_line h (Crash reason time) a b c = refl
+other_line h line a b c = refl

@@ -1,8 +1,8 @@
 -- The text at the end of a script, from its pieces
 use Rattle.std.proofs.Common.{◌≡◌, ℕ, ◌-◌, List, [], ◌++◌, ap, ap₂, ◌∙◌, append_assoc}
 use Rattle.std.specs.Prelude.{codes, decimal}
-use Rattle.tool_spec.specs.Texts.{newline}
-use Rattle.tool_spec.specs.SharedScripts.{calls_text}
+use Rattle.script_spec.specs.Texts.{newline}
+use Rattle.script_spec.specs.SharedScripts.{calls_text}
 
 joined : (old a x b y c z d w e : List ℕ) → ((((((((old ++ a) ++ x) ++ b) ++ y) ++ c) ++ z) ++ d) ++ w) ++ e
     ≡ old ++ ((((((((a ++ x) ++ b) ++ y) ++ c) ++ z) ++ d) ++ w) ++ e)

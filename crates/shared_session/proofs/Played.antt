@@ -13,9 +13,9 @@ use Rattle.shared_spec.specs.Histories.{History, shared_zone, and_then}
 use Rattle.shared_ring.specs.Seen.{SharedSeen, IsLeftBy}
 use Rattle.grammar_spec.specs.Printed.{HasFields, AllHaveFields}
 use Rattle.grammar_spec.specs.declared.line.Line.{Line}
-use Rattle.grammar_spec.specs.declared.line.Line.TheVariants.{Blank, Write, Dump, BeginWrite, BeginErase, BeginDump, Step, Finish, Stop, Flip, Boot, BootPart, List as ListLine, Extract, Erase, KDump, CutAfter, KMsg, Crash, Reserve, StoreNext}
-use Rattle.tool_spec.specs.SharedScripts.{SharedRan, shared_on, next_shared, shared_ran, shared_line, reserves, stores, with_steps}
-use Rattle.tool_spec.specs.declared.Cause.{Cause}
+use Rattle.grammar_spec.specs.declared.line.Line.TheVariants.{Blank, Reserve, StoreNext}
+use Rattle.script_spec.specs.SharedScripts.{SharedRan, shared_on, next_shared, shared_ran, shared_line, reserves, stores, with_steps}
+use Rattle.script_spec.specs.declared.Cause.{Cause}
 use Rattle.shared_session.specs.Left.{IsLeft, just_opened, IsOpened, PlaysAll, StopsAt}
 use Rattle.shared_session.proofs.Steps.{next_zone}
 
@@ -67,24 +67,7 @@ line_calls h next Blank e = let same : h ≡ next = cc in omega (arith, ap calls
 line_calls h next (Reserve payload) e =
     by_reserving h next payload (refusal h.zone (shared_zone h).calls (length payload)) e
 line_calls h next (StoreNext t k) e = by_storing h next t k (open_call (shared_zone h).calls t) e
-line_calls h next (Write zone bytes) e = cc
-line_calls h next (Dump time packed bytes) e = cc
-line_calls h next (BeginWrite zone bytes) e = cc
-line_calls h next (BeginErase zone) e = cc
-line_calls h next (BeginDump time packed bytes) e = cc
-line_calls h next (Step zone k) e = cc
-line_calls h next (Finish zone) e = cc
-line_calls h next Stop e = cc
-line_calls h next (Flip place mask) e = cc
-line_calls h next Boot e = cc
-line_calls h next (BootPart k) e = cc
-line_calls h next ListLine e = cc
-line_calls h next (Extract name) e = cc
-line_calls h next (Erase name) e = cc
-line_calls h next (KDump secs nanos packed reason bytes) e = cc
-line_calls h next (CutAfter limit) e = cc
-line_calls h next (KMsg text) e = cc
-line_calls h next (Crash reason time) e = cc
+line_calls h next line e = cc
 
 -- ---- lines in order
 

@@ -10,8 +10,8 @@ use Rattle.shared_spec.specs.Runs.{SharedOperation, Reserve as ReserveBytes, Sto
 use Rattle.shared_spec.specs.Histories.{History, shared_zone, and_then}
 use Rattle.shared_laws.proofs.Seats.{one_more_operation}
 use Rattle.shared_ring.specs.Seen.{SharedSeen, StandsFor, IsLeftBy, IsStepped, IsReserved}
-use Rattle.tool_spec.specs.SharedScripts.{with_steps, stores, reserves}
-use Rattle.tool_spec.specs.declared.Cause.TheVariants.{Idle}
+use Rattle.script_spec.specs.SharedScripts.{with_steps, stores, reserves}
+use Rattle.script_spec.specs.declared.Cause.TheVariants.{Idle}
 use Rattle.shared_session.specs.Left.{IsLeft}
 
 pub next_zone : (h : History) (o : SharedOperation) → shared_zone (and_then h o) ≡ operated h.zone (shared_zone h) o

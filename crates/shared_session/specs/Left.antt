@@ -4,10 +4,10 @@ use Rattle.zone_spec.specs.declared.Zone.{Zone}
 use Rattle.shared_spec.specs.Histories.{History}
 use Rattle.shared_ring.specs.Seen.{SharedSeen, IsLeftBy}
 use Rattle.grammar_spec.specs.declared.line.Line.{Line}
-use Rattle.tool_spec.specs.SharedScripts.{shared_ran}
-use Rattle.tool_spec.specs.declared.Cause.{Cause}
-use Rattle.tool_spec.specs.declared.Stop.{Stop}
-use Rattle.tool_spec.specs.declared.Stop.TheVariants.{Refused}
+use Rattle.script_spec.specs.SharedScripts.{shared_ran}
+use Rattle.script_spec.specs.declared.Cause.{Cause}
+use Rattle.script_spec.specs.Playing.{LinesEnd}
+use Rattle.script_spec.specs.declared.LineStop.TheVariants.{Refused}
 
 -- what is wanted is not refused, and this is left by it
 pub record IsLeft (wanted : Result History Cause) (v : SharedSeen) : Type 0 where
@@ -36,7 +36,7 @@ pub record StopsAt (z : Zone) (image : List ℕ) (lines : List Line) (v : Shared
   pub count : (shared_ran z image lines).count + 1 ≡ n
   pub left : IsLeftBy (shared_ran z image lines).history v
 
-abbrev pub Plays : Zone → List ℕ → List Line → SharedSeen → Result (Unit {0}) Stop → Type 0
+abbrev pub Plays : Zone → List ℕ → List Line → SharedSeen → LinesEnd → Type 0
 Plays z image lines v (Ok u) = PlaysAll z image lines v
 Plays z image lines v (Err (Refused n cause)) = StopsAt z image lines v n cause
 Plays z image lines v (Err other) = ⊥

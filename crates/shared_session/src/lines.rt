@@ -5,13 +5,13 @@ ghost use Rattle.shared_spec.specs.Calls.{open_call};
 ghost use Rattle.shared_spec.specs.Machine.{refusal};
 ghost use Rattle.shared_spec.specs.Histories.{History, shared_zone};
 ghost use Rattle.shared_ring.specs.Seen.{IsLeftBy};
-ghost use Rattle.tool_spec.specs.SharedScripts.{reserves, stores, with_steps, shared_line};
+ghost use Rattle.script_spec.specs.SharedScripts.{reserves, stores, with_steps, shared_line};
 ghost use Rattle.shared_session.specs.Left.{IsLeft};
 
 use outside::Bytes;
 use script::Line;
+use script_spec::Cause;
 use shared_ring::{NoCall, Shared, SharedRefusal};
-use tool_spec::Cause;
 
 // A reservation.
 fn reserve(shared: &mut Shared, payload: Bytes) -> Result<(), Cause>

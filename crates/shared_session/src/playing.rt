@@ -7,11 +7,11 @@ ghost use Rattle.shared_session.specs.Left.{just_opened, IsOpened, Plays};
 
 use crate::lines::do_line;
 use script::Lines;
+use script_spec::LineStop;
 use shared_ring::Shared;
-use tool_spec::Stop;
 
 /// Does the lines in order on a zone that was just opened, up to the first that is refused. Takes no memory.
-pub fn play(shared: &mut Shared, lines: Lines) -> Result<(), Stop>
+pub fn play(shared: &mut Shared, lines: Lines) -> Result<(), LineStop>
     requires fields { AllHaveFields lines }
     requires few { length lines < 2 ^ 32 }
     requires opened { IsOpened shared.old }
@@ -24,7 +24,7 @@ pub fn play(shared: &mut Shared, lines: Lines) -> Result<(), Stop>
         match do_line(shared, line) {
             Ok(()) => {}
             Err(cause) => {
-                return Err(Stop::Refused {
+                return Err(LineStop::Refused {
                     line: number,
                     cause,
                 });

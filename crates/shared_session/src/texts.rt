@@ -2,7 +2,7 @@
 ghost use Rattle.std.specs.Prelude.{◌≡◌, ◌++◌, flat_map, IfOk, OnOk};
 ghost use Rattle.shared_spec.specs.Histories.{History, shared_zone};
 ghost use Rattle.shared_ring.specs.Seen.{IsLeftBy};
-ghost use Rattle.tool_spec.specs.SharedScripts.{open_text, shared_text};
+ghost use Rattle.script_spec.specs.SharedScripts.{open_text, shared_text};
 
 use shared_ring::{OpenCall, Shared};
 use std::alloc::{AllocError, Global};

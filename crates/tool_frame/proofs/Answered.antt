@@ -1,37 +1,20 @@
 -- What a run answers, from how its work ended and what its last line left
-use Rattle.std.proofs.Common.{◌≡◌, ◌≢◌, ◌⊎◌, ℕ, ◌+◌, ◌≤◌, List, [], ◌++◌, length, take, Option, Some, None, Ok, Err, sym, ◌∙◌, arith, inl, inr, append_assoc, append-nil, length-append, lit≤}
+use Rattle.std.proofs.Common.{◌≡◌, ◌≢◌, ◌⊎◌, ℕ, ◌+◌, ◌≤◌, List, [], ◌++◌, length, take, Option, Ok, Err, sym, ◌∙◌, arith, inl, inr, append-nil, length-append, lit≤}
+use Rattle.std.proofs.KnownBytes.{Appends-nil, Appends-trans}
 use Rattle.std.proofs.lemmas.Grind.{common_steps}
 use Rattle.std.proofs.Math.Seq.{take-append-add}
 use Rattle.std.specs.Io.KnownBytes.{Appends}
 use Rattle.outside.specs.Outside.{AppendsFront}
 use Rattle.grammar_spec.specs.Fields.{Text}
-use Rattle.tool_spec.specs.Ends.{End, status_of, last_line}
-use Rattle.tool_spec.specs.Commands.{Wanted}
-use Rattle.tool_spec.specs.Answers.{Outside, Later, NoScript, NoImage, RoseFor, front, whole, WritesAll, WritesSome, IsFree, PutFront, SavedInPart, CanStop, Answers}
+use Rattle.command_spec.specs.Ends.{End, status_of, last_line}
+use Rattle.command_spec.specs.Commands.{Wanted}
+use Rattle.command_spec.specs.Answers.{Outside, Later, NoScript, NoImage, RoseFor, WritesAll, WritesSome, IsFree, PutFront, SavedInPart, CanStop, Answers}
+use Rattle.script_spec.specs.Texts.{front, whole}
 use Rattle.tool_frame.specs.Ends.{LastPut, Finished, Silent}
-use Rattle.tool_frame.specs.Ended.{PutTexts, PutSome, Ended, Caused}
-use Rattle.tool_spec.specs.declared.Stop.{Stop}
-use Rattle.tool_spec.specs.declared.Stop.TheVariants.{Memory, Usage, Param, Layout, NoSharedZone, Short, ScriptFault, ImageFault, SinkFault, TooLong, BadLine, Refused}
-
--- text in two parts
-pub appends_on : (a b c : Option (List ℕ)) (xs ys : List ℕ) → Appends a b xs → Appends b c ys → Appends a c (xs ++ ys)
-appends_on None b c xs ys h k = tt
-appends_on (Some a) None c xs ys h k = absurd h
-appends_on (Some a) (Some b) None xs ys h k = absurd k
-appends_on (Some a) (Some b) (Some c) xs ys h k = rw (k, h) (append_assoc a xs ys)
-
--- text, and then the front of more
-pub front_on : (a b c : Option (List ℕ)) (xs ys : List ℕ) → Appends a b xs → AppendsFront b c ys
-    → AppendsFront a c (xs ++ ys)
-front_on None b c xs ys h k = record { count = 0; within = omega arith; bytes = tt }
-front_on (Some a) None c xs ys h k = absurd h
-front_on (Some a) (Some b) None xs ys h k = absurd k.bytes
-front_on (Some a) (Some b) (Some c) xs ys h k =
-    record {
-      count = length xs + k.count;
-      within = omega (arith, length-append xs ys, k.within);
-      bytes = rw (take-append-add xs ys k.count, k.bytes, h) (append_assoc a xs (take k.count ys));
-    }
+use Rattle.script_spec.specs.Playing.{PutTexts, PutSome}
+use Rattle.tool_frame.specs.Ended.{Ended, Caused}
+use Rattle.command_spec.specs.declared.Stop.{Stop}
+use Rattle.command_spec.specs.declared.Stop.TheVariants.{Memory, ScriptFault, ImageFault, SinkFault}
 
 -- all texts are the first of them, so many as there are
 all_texts : (texts : List Text) → front texts (length texts) ≡ whole texts
@@ -40,11 +23,6 @@ all_texts texts = grind (arith, common_steps)
 -- a front of a text is a front of it and nothing more
 front_alone : (a b : Option (List ℕ)) (xs : List ℕ) → AppendsFront a b xs → AppendsFront a b (xs ++ [])
 front_alone a b xs h = rw (append-nil xs) h
-
--- nothing was put
-pub nothing_put : (given : Option (List ℕ)) → Appends given given []
-nothing_put None = tt
-nothing_put (Some xs) = grind (arith, common_steps)
 
 -- ---- the last line
 
@@ -57,18 +35,10 @@ pub record GoesOn (a m b : Outside) : Type 0 where
 module _ (a m b : Outside) (on : GoesOn a m b) where
   -- a fault that was met in the work is one of the whole run
   pub rose_on : (s : Stop) → Caused a m (Err s) → m.sink_faults ≤ b.sink_faults → RoseFor s a b
-  rose_on Memory h k = tt
-  rose_on Usage h k = tt
-  rose_on (Param x y) h k = tt
-  rose_on (Layout x) h k = tt
-  rose_on NoSharedZone h k = tt
-  rose_on (Short x y) h k = tt
   rose_on ScriptFault h k = rw on.script.source h
   rose_on ImageFault h k = rw on.image.store h
   rose_on SinkFault h k = omega (arith, h, k)
-  rose_on TooLong h k = tt
-  rose_on (BadLine x) h k = tt
-  rose_on (Refused x y) h k = tt
+  rose_on s h k = tt
 
   -- and so is a fault of the last line
   pub sink_rose : RoseFor SinkFault m b → RoseFor SinkFault a b
@@ -84,7 +54,13 @@ module _ (a m b : Outside) (on : GoesOn a m b) where
       last = s;
       can = can;
       rose = rose;
-      bytes = front_on a.given m.given b.given (front w.texts count) (last_line s) puts last;
+      bytes = record {
+        count = length (front w.texts count) + last.count;
+        within = omega (arith, length-append (front w.texts count) (last_line s), last.within);
+        bytes = rw (take-append-add (front w.texts count) (last_line s) last.count)
+            (Appends-trans a.given m.given b.given (front w.texts count) (take last.count (last_line s)) puts
+            last.bytes);
+      };
       holds = on.image.holds ∙ kept;
     }
 
@@ -125,7 +101,7 @@ module _ (a m b : Outside) (on : GoesOn a m b) where
           exact = inl (rw e is);
           done = λ z. absurd (omega arith);
           refused = λ s' e' nf. let same_stop : s' ≡ s = cc in
-              rw same_stop (appends_on a.given m.given b.given (whole w.texts) (last_line s) puts put);
+              rw same_stop (Appends-trans a.given m.given b.given (whole w.texts) (last_line s) puts put);
           memory = λ z. absurd (omega arith);
           script_fault = λ z. absurd (five (sym is ∙ z));
           image_fault = λ z. absurd (six (sym is ∙ z));
@@ -155,7 +131,7 @@ module _ (a m b : Outside) (on : GoesOn a m b) where
           refused = λ s e nf. absurd (nf (inl one));
           memory = λ z. record {
             count = puts.count;
-            bytes = appends_on a.given m.given b.given (front w.texts puts.count) (last_line Memory) puts.bytes put;
+            bytes = Appends-trans a.given m.given b.given (front w.texts puts.count) (last_line Memory) puts.bytes put;
           };
           script_fault = λ z. absurd (omega arith);
           image_fault = λ z. absurd (omega arith);
@@ -165,7 +141,7 @@ module _ (a m b : Outside) (on : GoesOn a m b) where
 
     -- nothing was put before the last line
     none_put : m.given ≡ a.given → Appends a.given m.given (front w.texts 0)
-    none_put quiet = rw quiet (nothing_put a.given)
+    none_put quiet = rw quiet (Appends-nil a.given)
 
     answers_script_fault : Caused a m (Err ScriptFault) → m.given ≡ a.given → m.holds ≡ a.holds
         → LastPut ScriptFault m.given b.given m.sink_faults b.sink_faults status → Answers w a b status
@@ -205,7 +181,7 @@ module _ (a m b : Outside) (on : GoesOn a m b) where
     saved_in_part last caused later e puts wrote put = record {
       end = e;
       rose = rose_on ImageFault caused later;
-      put = appends_on a.given m.given b.given (whole w.texts) last puts put;
+      put = Appends-trans a.given m.given b.given (whole w.texts) last puts put;
       written = rw on.image.holds wrote;
     }
 
@@ -258,19 +234,5 @@ module _ (a m b : Outside) (on : GoesOn a m b) where
       | inr k ↦ answers_unwritten c k.0 k.1 k.2 f
     ]
     answers (Err SinkFault) c h f = answers_unput c h.0 h.1 f
-    answers (Err Usage) c h f = answers_fixed Usage (lit≤ tt) (λ z. absurd (omega arith))
-        (λ z. absurd (omega arith)) (λ z. absurd (omega arith)) h.0 tt h.0 h.1 h.2 f
-    answers (Err (Param x y)) c h f = answers_fixed (Param x y) (lit≤ tt) (λ z. absurd (omega arith))
-        (λ z. absurd (omega arith)) (λ z. absurd (omega arith)) h.0 tt h.0 h.1 h.2 f
-    answers (Err (Layout x)) c h f = answers_fixed (Layout x) (lit≤ tt) (λ z. absurd (omega arith))
-        (λ z. absurd (omega arith)) (λ z. absurd (omega arith)) h.0 tt h.0 h.1 h.2 f
-    answers (Err NoSharedZone) c h f = answers_fixed NoSharedZone (lit≤ tt) (λ z. absurd (omega arith))
-        (λ z. absurd (omega arith)) (λ z. absurd (omega arith)) h.0 tt h.0 h.1 h.2 f
-    answers (Err (Short x y)) c h f = answers_fixed (Short x y) (lit≤ tt) (λ z. absurd (omega arith))
-        (λ z. absurd (omega arith)) (λ z. absurd (omega arith)) h.0 tt h.0 h.1 h.2 f
-    answers (Err TooLong) c h f = answers_fixed TooLong (lit≤ tt) (λ z. absurd (omega arith))
-        (λ z. absurd (omega arith)) (λ z. absurd (omega arith)) h.0 tt h.0 h.1 h.2 f
-    answers (Err (BadLine x)) c h f = answers_fixed (BadLine x) (lit≤ tt) (λ z. absurd (omega arith))
-        (λ z. absurd (omega arith)) (λ z. absurd (omega arith)) h.0 tt h.0 h.1 h.2 f
-    answers (Err (Refused x y)) c h f = answers_fixed (Refused x y) (lit≤ tt) (λ z. absurd (omega arith))
-        (λ z. absurd (omega arith)) (λ z. absurd (omega arith)) h.0 tt h.0 h.1 h.2 f
+    answers (Err s) c h f = answers_fixed s (lit≤ tt) (λ z. absurd (omega arith)) (λ z. absurd (omega arith))
+        (λ z. absurd (omega arith)) h.0 tt h.0 h.1 h.2 f

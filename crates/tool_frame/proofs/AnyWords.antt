@@ -1,95 +1,41 @@
 -- What run answers to any words, from how their work ended and what the last line left
-use Rattle.std.proofs.Common.{◌≡◌, ◌≢◌, ◌⊎◌, true, false, ℕ, List, [], Option, Result, Ok, Err, refl, sym, ap, ◌∙◌, arith, inl, inr}
+use Rattle.std.proofs.Common.{◌≡◌, ◌≢◌, true, false, Bool, ℕ, List, [], Option, Result, Ok, Err, refl, sym, ap, ◌∙◌, arith, inl, inr}
+use Rattle.std.proofs.KnownBytes.{Appends-nil}
 use Rattle.blk_spec.specs.declared.BlkLayout.{BlkLayout}
-use Rattle.tool_spec.specs.Ends.{End, status_of}
-use Rattle.tool_spec.specs.Commands.{RamCommand, RunScript, ListRecords, ExtractRecord, EraseRecord, ShowLayout, BlankImage, MakeImage, FindRings, ReadRing, RamPlan, Plan, OfRam, OfBlk, OfMove, Wanted, wanted, wanted_of_image, wanted_move, mem_of, RunShared}
-use Rattle.tool_spec.specs.Answers.{Outside, NoScript, NoImage, RoseFor, FaultAnswers}
-use Rattle.tool_spec.specs.BlkAnswers.{blk_lines}
-use Rattle.tool_spec.specs.PlanAnswers.{PlanAnswers, ToolAnswers, ram_statuses, statuses, IsAmong}
+use Rattle.command_spec.specs.Ends.{End, status_of}
+use Rattle.command_spec.specs.Commands.{RamCommand, RamPlan, Plan, OfRam, OfBlk, OfMove, Wanted, wanted, wanted_of_image, wanted_move, mem_of, Class, RunsScript, ReadsImage, ReadsDump, WritesImage, MakesImage, ShowsText, class_of}
+use Rattle.command_spec.specs.Answers.{Outside, NoScript, NoImage, FaultAnswers}
+use Rattle.command_spec.specs.BlkAnswers.{blk_lines}
+use Rattle.command_spec.specs.PlanAnswers.{PlanAnswers, ToolAnswers, ram_statuses, statuses, IsAmong, class_statuses, names_one}
 use Rattle.tool_frame.specs.Ends.{LastPut, Finished}
 use Rattle.tool_frame.specs.Words.{PlanStop}
-use Rattle.tool_frame.specs.Ended.{Ended, Caused, KeptBefore, ImageEnds, ReadEnds, RamEnds, PlanEnds, Nothing, WorkEnds, WorkDone}
+use Rattle.tool_frame.specs.Ended.{Ended, Caused, KeptBefore, ImageEnds, ReadEnds, PlanEnds, Nothing, WorkEnds, WorkDone, ClassEnds}
 use Rattle.tool_frame.proofs.ReadParts.{unread_memory}
-use Rattle.tool_frame.proofs.Answered.{GoesOn, rose_on, nothing_put}
-use Rattle.tool_frame.proofs.Tool.{status_is, script_on, image_on, image_answers, ram_answers, no_texts}
+use Rattle.tool_frame.proofs.Answered.{GoesOn}
+use Rattle.tool_frame.proofs.Tool.{status_is, script_on, image_on, image_answers, no_texts, class_answers, among}
 use Rattle.tool_frame.proofs.BlkScript.{memory_lines}
 use Rattle.tool_frame.proofs.BlkAnswered.{blk_answers}
 use Rattle.tool_frame.proofs.Script.{Quiet}
-use Rattle.tool_spec.specs.declared.Stop.{Stop}
-use Rattle.tool_spec.specs.declared.Stop.TheVariants.{Memory, Usage, Param, Layout, NoSharedZone, Short, ScriptFault, ImageFault, SinkFault, TooLong, BadLine, Refused}
+use Rattle.command_spec.specs.declared.Stop.{Stop}
+use Rattle.command_spec.specs.declared.Stop.TheVariants.{Memory, Usage, Param, Layout, NoSharedZone, SinkFault}
 
 -- ---- the statuses of a command
 
 -- each can want memory, and fail to put its text
+can_want : (class : Class) (refused : Bool) → IsAmong (class_statuses class refused) 1
+can_want RunsScript refused = refl
+can_want class refused = refl
+
 ram_can_want : (c : RamCommand) → IsAmong (ram_statuses c) 1
-ram_can_want RunScript = refl
-ram_can_want ListRecords = refl
-ram_can_want (ExtractRecord name) = refl
-ram_can_want (EraseRecord name) = refl
-ram_can_want ShowLayout = refl
-ram_can_want BlankImage = refl
-ram_can_want (MakeImage n) = refl
-ram_can_want RunShared = refl
-ram_can_want FindRings = refl
-ram_can_want (ReadRing at name) = refl
-
-ram_can_fail : (c : RamCommand) → IsAmong (ram_statuses c) 7
-ram_can_fail RunScript = refl
-ram_can_fail ListRecords = refl
-ram_can_fail (ExtractRecord name) = refl
-ram_can_fail (EraseRecord name) = refl
-ram_can_fail ShowLayout = refl
-ram_can_fail BlankImage = refl
-ram_can_fail (MakeImage n) = refl
-ram_can_fail RunShared = refl
-ram_can_fail FindRings = refl
-ram_can_fail (ReadRing at name) = refl
-
-can_fail : (plan : Plan) → IsAmong (statuses plan) 7
-can_fail (OfRam plan) = ram_can_fail plan.command
-can_fail (OfBlk layout) = refl
-can_fail (OfMove plan) = refl
-
-can_end : (c : RamCommand) (plan : RamPlan) (a b : Outside) (e : End) → RamEnds c plan a b e
-    → IsAmong (ram_statuses plan.command) (status_of e)
-can_end RunScript plan a b e h = h.can
-can_end ListRecords plan a b e h = h.can
-can_end (ExtractRecord name) plan a b e h = h.can
-can_end (EraseRecord name) plan a b e h = h.can
-can_end ShowLayout plan a b e h = h.can
-can_end BlankImage plan a b e h = h.can
-can_end (MakeImage n) plan a b e h = h.can
-can_end RunShared plan a b e h = h.can
-can_end FindRings plan a b e h = h.can
-can_end (ReadRing at name) plan a b e h = h.can
+ram_can_want c = can_want (class_of c) (names_one c)
 
 blk_can : (layout : BlkLayout) (e : End) (holds holds' : Option (List ℕ)) → KeptBefore holds holds' e
     → IsAmong (statuses (OfBlk layout)) (status_of e)
-blk_can layout (Ok u) holds holds' h = refl
-blk_can layout (Err Memory) holds holds' h = refl
 blk_can layout (Err Usage) holds holds' h = absurd h
 blk_can layout (Err (Param x y)) holds holds' h = absurd h
 blk_can layout (Err (Layout x)) holds holds' h = absurd h
 blk_can layout (Err NoSharedZone) holds holds' h = absurd h
-blk_can layout (Err (Short x y)) holds holds' h = refl
-blk_can layout (Err ScriptFault) holds holds' h = refl
-blk_can layout (Err ImageFault) holds holds' h = refl
-blk_can layout (Err SinkFault) holds holds' h = refl
-blk_can layout (Err TooLong) holds holds' h = refl
-blk_can layout (Err (BadLine x)) holds holds' h = refl
-blk_can layout (Err (Refused x y)) holds holds' h = refl
-
-plan_can : (plan : Plan) (a b : Outside) (e : End) → PlanEnds plan a b e
-    → IsAmong (statuses plan) (status_of e)
-plan_can (OfRam plan) a b e h = can_end plan.command plan a b e h
-plan_can (OfBlk layout) a b e h = blk_can layout e a.holds b.holds h.kept
-plan_can (OfMove plan) a b e h = h.can
-
--- the status of an end, or 7
-among : {A : Type 0} (all : List ℕ) (n status : ℕ) → IsAmong all n → IsAmong all 7 → (status ≡ n) ⊎ ((status ≡ 7) × A)
-    → IsAmong all status
-among all n status h k (inl is) = rw is h
-among all n status h k (inr is) = rw is.0 k
+blk_can layout e holds holds' h = refl
 
 fault_put : (s : Stop) (a m b : Outside) (status : ℕ) → NoScript a b → NoImage a b → m.given ≡ a.given
     → LastPut s m.given b.given m.sink_faults b.sink_faults status → status_of (Err s) ≢ 7 → FaultAnswers s a b status
@@ -112,56 +58,35 @@ fault_put s a m b status script image given f seven = elim f.shown [
 
 fault_answers : (s : Stop) (a m b : Outside) (status : ℕ) → NoScript a b → NoImage a b → m.given ≡ a.given
     → Finished (Err s) m.given b.given m.sink_faults b.sink_faults status → FaultAnswers s a b status
-fault_answers Memory a m b status script image given f =
-    fault_put Memory a m b status script image given f (λ z. absurd (omega arith))
-fault_answers Usage a m b status script image given f =
-    fault_put Usage a m b status script image given f (λ z. absurd (omega arith))
-fault_answers (Param x y) a m b status script image given f =
-    fault_put (Param x y) a m b status script image given f (λ z. absurd (omega arith))
-fault_answers (Layout x) a m b status script image given f =
-    fault_put (Layout x) a m b status script image given f (λ z. absurd (omega arith))
-fault_answers NoSharedZone a m b status script image given f =
-    fault_put NoSharedZone a m b status script image given f (λ z. absurd (omega arith))
-fault_answers (Short x y) a m b status script image given f =
-    fault_put (Short x y) a m b status script image given f (λ z. absurd (omega arith))
-fault_answers ScriptFault a m b status script image given f =
-    fault_put ScriptFault a m b status script image given f (λ z. absurd (omega arith))
-fault_answers ImageFault a m b status script image given f =
-    fault_put ImageFault a m b status script image given f (λ z. absurd (omega arith))
-fault_answers TooLong a m b status script image given f =
-    fault_put TooLong a m b status script image given f (λ z. absurd (omega arith))
-fault_answers (BadLine x) a m b status script image given f =
-    fault_put (BadLine x) a m b status script image given f (λ z. absurd (omega arith))
-fault_answers (Refused x y) a m b status script image given f =
-    fault_put (Refused x y) a m b status script image given f (λ z. absurd (omega arith))
 fault_answers SinkFault a m b status script image given f =
     let same : b.given ≡ a.given = f.same ∙ given in
     record {
       exact = inr f.answer;
       shown = λ z. absurd (z f.answer);
-      sink_fault = λ z. record { count = 0; within = omega arith; bytes = rw same (nothing_put a.given) };
-      script =
-          script;
+      sink_fault = λ z. record { count = 0; within = omega arith; bytes = rw same (Appends-nil a.given) };
+      script = script;
       image = image;
     }
+fault_answers s a m b status script image given f =
+    fault_put s a m b status script image given f (λ z. absurd (omega arith))
 
 -- ---- any words
 
 plan_answers : (plan : Plan) (a m b : Outside) (e : End) (status : ℕ) → GoesOn a m b → Caused a m e
     → PlanEnds plan a m e → Finished e m.given b.given m.sink_faults b.sink_faults status
     → PlanAnswers plan a b status
-plan_answers (OfRam plan) a m b e status on c h f = ram_answers a m b on status plan.command plan e c h f
-plan_answers (OfBlk layout) a m b e status on c h f = blk_answers layout a m b e status on c h f
+plan_answers (OfRam plan) a m b e status on c h f = class_answers a m b on status (class_of plan.command) plan e c h f
+plan_answers (OfBlk layout) a m b e status on c h f = (
+  blk_answers layout a m b e status on c h f,
+  among (statuses (OfBlk layout)) (status_of e) status (blk_can layout e a.holds m.holds h.kept) refl
+      (status_is a m b on status e c f),
+)
 plan_answers (OfMove plan) a m b e status on c h f =
-    image_answers a m b on status (statuses (OfMove plan)) (wanted_move plan) e c h f
+    image_answers a m b on status (statuses (OfMove plan)) refl (wanted_move plan) e c h f
 
 tool_answers : (r : Result Plan Stop) (a m b : Outside) (e : End) (status : ℕ) → GoesOn a m b → Caused a m e
     → WorkEnds r a m e → Finished e m.given b.given m.sink_faults b.sink_faults status → ToolAnswers r a b status
-tool_answers (Ok plan) a m b e status on c h f = (
-  plan_answers plan a m b e status on c h f,
-  among (statuses plan) (status_of e) status (plan_can plan a m e h) (can_fail plan)
-      (status_is a m b on status e c f),
-)
+tool_answers (Ok plan) a m b e status on c h f = plan_answers plan a m b e status on c h f
 tool_answers (Err s) a m b e status on c h f =
     fault_answers s a m b status (script_on a m b h.1.script on.script) (image_on a m b h.1.image on.image) h.1.given
     (rw h.0 at f)
@@ -189,47 +114,32 @@ read_memory all want a b can h = record {
   image = h.image.holds;
 }
 
-ram_memory : (c : RamCommand) (plan : RamPlan) (a b : Outside) → Nothing a b → RamEnds c plan a b (Err Memory)
-ram_memory RunScript plan a b h = record {
+class_memory : (class : Class) (plan : RamPlan) (a b : Outside) → Nothing a b → ClassEnds class plan a b (Err Memory)
+class_memory RunsScript plan a b h = record {
   can = ram_can_want plan.command;
   whole = record { told = λ bytes script t l. out_of_memory (wanted plan bytes script) a b h };
   read = unread_memory (mem_of plan) a b h.script;
   image_fault = inl h.script;
 }
-ram_memory RunShared plan a b h = record {
+class_memory ReadsImage plan a b h = read_memory _ (wanted_of_image plan) a b (ram_can_want plan.command) h
+class_memory ReadsDump plan a b h = read_memory _ (wanted_of_image plan) a b (ram_can_want plan.command) h
+class_memory WritesImage plan a b h = image_memory _ (wanted_of_image plan) a b (ram_can_want plan.command) h
+class_memory MakesImage plan a b h = record {
   can = ram_can_want plan.command;
-  whole = record { told = λ bytes script t l. out_of_memory (wanted plan bytes script) a b h };
-  read = unread_memory (mem_of plan) a b h.script;
-  image_fault = inl h.script;
+  whole = out_of_memory (wanted plan [] []) a b h;
+  script = h.script;
+  image_fault = tt;
+  text_first = inl h.image;
 }
-ram_memory ListRecords plan a b h = read_memory _ (wanted_of_image plan) a b (ram_can_want plan.command) h
-ram_memory (ExtractRecord name) plan a b h = read_memory _ (wanted_of_image plan) a b (ram_can_want plan.command) h
-ram_memory (EraseRecord name) plan a b h = image_memory _ (wanted_of_image plan) a b (ram_can_want plan.command) h
-ram_memory ShowLayout plan a b h = record {
+class_memory ShowsText plan a b h = record {
   can = ram_can_want plan.command;
   whole = out_of_memory (wanted plan [] []) a b h;
   script = h.script;
   image = h.image;
 }
-ram_memory BlankImage plan a b h = record {
-  can = ram_can_want plan.command;
-  whole = out_of_memory (wanted plan [] []) a b h;
-  script = h.script;
-  image_fault = tt;
-  text_first = inl h.image;
-}
-ram_memory (MakeImage n) plan a b h = record {
-  can = ram_can_want plan.command;
-  whole = out_of_memory (wanted plan [] []) a b h;
-  script = h.script;
-  image_fault = tt;
-  text_first = inl h.image;
-}
-ram_memory FindRings plan a b h = read_memory _ (wanted_of_image plan) a b (ram_can_want plan.command) h
-ram_memory (ReadRing at name) plan a b h = read_memory _ (wanted_of_image plan) a b (ram_can_want plan.command) h
 
 memory_ends : (plan : Plan) (a b : Outside) → Nothing a b → PlanEnds plan a b (Err Memory)
-memory_ends (OfRam plan) a b h = ram_memory plan.command plan a b h
+memory_ends (OfRam plan) a b h = class_memory (class_of plan.command) plan a b h
 memory_ends (OfBlk layout) a b h =
     let q : Quiet a b = record { given = h.given; holds = h.image.holds } in
     record {
@@ -249,29 +159,9 @@ same_stop f s e = let same : s ≡ f = cc in ap (λ x. Err x) same
 pub plan_stopped : (r : Result Plan Stop) (s : Stop) (a b : Outside) → PlanStop s r → Nothing a b
     → WorkEnds r a b (Err s)
 plan_stopped (Ok plan) Memory a b h n = memory_ends plan a b n
-plan_stopped (Ok plan) Usage a b h n = absurd (clash h)
-plan_stopped (Ok plan) (Param x y) a b h n = absurd (clash h)
-plan_stopped (Ok plan) (Layout x) a b h n = absurd (clash h)
-plan_stopped (Ok plan) NoSharedZone a b h n = absurd (clash h)
-plan_stopped (Ok plan) (Short x y) a b h n = absurd (clash h)
-plan_stopped (Ok plan) ScriptFault a b h n = absurd (clash h)
-plan_stopped (Ok plan) ImageFault a b h n = absurd (clash h)
-plan_stopped (Ok plan) SinkFault a b h n = absurd (clash h)
-plan_stopped (Ok plan) TooLong a b h n = absurd (clash h)
-plan_stopped (Ok plan) (BadLine x) a b h n = absurd (clash h)
-plan_stopped (Ok plan) (Refused x y) a b h n = absurd (clash h)
+plan_stopped (Ok plan) s a b h n = absurd (clash h)
 plan_stopped (Err f) Memory a b h n = let no_plan : false ≡ true = h in cc
-plan_stopped (Err f) Usage a b h n = (same_stop f _ h, n)
-plan_stopped (Err f) (Param x y) a b h n = (same_stop f _ h, n)
-plan_stopped (Err f) (Layout x) a b h n = (same_stop f _ h, n)
-plan_stopped (Err f) NoSharedZone a b h n = (same_stop f _ h, n)
-plan_stopped (Err f) (Short x y) a b h n = (same_stop f _ h, n)
-plan_stopped (Err f) ScriptFault a b h n = (same_stop f _ h, n)
-plan_stopped (Err f) ImageFault a b h n = (same_stop f _ h, n)
-plan_stopped (Err f) SinkFault a b h n = (same_stop f _ h, n)
-plan_stopped (Err f) TooLong a b h n = (same_stop f _ h, n)
-plan_stopped (Err f) (BadLine x) a b h n = (same_stop f _ h, n)
-plan_stopped (Err f) (Refused x y) a b h n = (same_stop f _ h, n)
+plan_stopped (Err f) s a b h n = (same_stop f _ h, n)
 
 -- ---- all that is said of words
 

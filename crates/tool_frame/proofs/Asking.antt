@@ -2,7 +2,7 @@
 use Rattle.std.proofs.Common.{◌≡◌, ℕ, ◌-◌, ◌≤◌, List, [], ◌∷◌, drop, take, length, get_or, Option, None, Some, MatchOption, String, Global, string_bytes, ap, ap₂, ◌∙◌, subst, arith}
 use Rattle.std.proofs.Math.Seq.{take-length}
 use Rattle.grammar_spec.specs.Fields.{Text}
-use Rattle.tool_spec.specs.Commands.{Asked, asked, asked_by}
+use Rattle.command_spec.specs.Commands.{Asked, asked, asked_by}
 use Rattle.tool_frame.specs.declared.asked.Asked.{Asked as ReadAsked}
 use Rattle.tool_frame.specs.Words.{texts, asked_seen}
 

@@ -1,21 +1,23 @@
 -- What a script on the block store answers, from how its work ended and what the last line left
-use Rattle.std.proofs.Common.{◌≡◌, ◌≢◌, ◌⊎◌, ℕ, List, take, Result, Ok, Err, refl, sym, ap, ◌∙◌, arith, inl, inr, append-nil}
+use Rattle.std.proofs.Common.{◌≡◌, ◌≢◌, ◌⊎◌, ℕ, ◌+◌, List, length, take, Some, Result, Ok, Err, refl, sym, ap, ◌∙◌, arith, inl, inr, append-nil}
+use Rattle.std.proofs.KnownBytes.{Appends-trans}
 use Rattle.std.specs.Io.KnownBytes.{Appends}
 use Rattle.outside.specs.Outside.{AppendsFront}
 use Rattle.blk_spec.specs.declared.BlkLayout.{BlkLayout}
 use Rattle.grammar_spec.specs.Fields.{Text}
 use Rattle.grammar_spec.specs.declared.line.Line.{Line}
-use Rattle.tool_spec.specs.Ends.{End, status_of, last_line}
-use Rattle.tool_spec.specs.Commands.{stops}
-use Rattle.tool_spec.specs.Answers.{Outside, NoScript, RoseFor}
-use Rattle.tool_spec.specs.BlkScripts.{blk_ran}
-use Rattle.tool_spec.specs.BlkAnswers.{blk_lines, blk_end, BlkStop, AllDone, StoppedFor, StoppedUnput, LinesAnswers, LinesOrStopAnswers, BlkAnswers}
-use Rattle.tool_spec.specs.declared.Stop.{Stop}
-use Rattle.tool_spec.specs.declared.Cause.{Cause}
-use Rattle.tool_spec.specs.declared.Stop.TheVariants.{Memory, Usage, Param, Layout, NoSharedZone, Short, ScriptFault, ImageFault, SinkFault, TooLong, BadLine, Refused}
+use Rattle.command_spec.specs.Ends.{End, status_of, last_line}
+use Rattle.command_spec.specs.Commands.{stops}
+use Rattle.command_spec.specs.Answers.{Outside, NoScript, RoseFor}
+use Rattle.script_spec.specs.BlkScripts.{BlkRan, blk_ran}
+use Rattle.command_spec.specs.BlkAnswers.{blk_lines, blk_end, BlkStop, StoppedFor, StoppedUnput, LinesAnswers, LinesOrStopAnswers, BlkAnswers}
+use Rattle.script_spec.specs.BlkStops.{AllDone}
+use Rattle.command_spec.specs.declared.Stop.{Stop}
+use Rattle.script_spec.specs.declared.Cause.{Cause}
+use Rattle.command_spec.specs.declared.Stop.TheVariants.{Memory, Usage, Param, Layout, NoSharedZone, ScriptFault, ImageFault, SinkFault, Refused}
 use Rattle.tool_frame.specs.Ends.{LastPut, Finished}
 use Rattle.tool_frame.specs.Ended.{Caused, StoppedAt, LinesEnded, LinesOrStopEnded, UnreadAt, KeptBefore, BlkEnds}
-use Rattle.tool_frame.proofs.Answered.{GoesOn, rose_on, sink_rose, answers, appends_on}
+use Rattle.tool_frame.proofs.Answered.{GoesOn, rose_on, sink_rose, answers}
 use Rattle.tool_frame.proofs.Tool.{script_on, status_is, script_read}
 
 -- the status of an end, or 7
@@ -34,19 +36,14 @@ module _ (a m b : Outside) (on : GoesOn a m b) (status : ℕ) where
   unread_at : (e : End) → UnreadAt a m e → IsStatus e a b status → status ≡ 6 → NoScript a b
   unread_at (Err ImageFault) h is six = script_on a m b h on.script
   unread_at (Ok u) h is six = not_six 0 (λ z. absurd (omega arith)) is six
-  unread_at (Err Memory) h is six = not_six 1 (λ z. absurd (omega arith)) is six
-  unread_at (Err Usage) h is six = not_six 2 (λ z. absurd (omega arith)) is six
-  unread_at (Err (Param x y)) h is six = not_six 3 (λ z. absurd (omega arith)) is six
-  unread_at (Err (Layout x)) h is six = not_six 3 (λ z. absurd (omega arith)) is six
-  unread_at (Err NoSharedZone) h is six = not_six 3 (λ z. absurd (omega arith)) is six
-  unread_at (Err (Short x y)) h is six = not_six 4 (λ z. absurd (omega arith)) is six
-  unread_at (Err ScriptFault) h is six = not_six 5 (λ z. absurd (omega arith)) is six
-  unread_at (Err SinkFault) h is six = not_six 7 (λ z. absurd (omega arith)) is six
-  unread_at (Err TooLong) h is six = not_six 8 (λ z. absurd (omega arith)) is six
-  unread_at (Err (BadLine x)) h is six = not_six 9 (λ z. absurd (omega arith)) is six
-  unread_at (Err (Refused x y)) h is six = not_six 10 (λ z. absurd (omega arith)) is six
+  unread_at (Err s) h is six = not_six (status_of (Err s)) (λ z. absurd (omega arith)) is six
 
 -- ---- good lines
+
+-- lines that a refused one ended
+refused_end : (n : ℕ) (cause : Cause) (r : BlkRan) → n ≡ length r.texts + 1 → r.refused ≡ Some cause
+    → blk_end r ≡ Err (Refused n cause)
+refused_end n cause r number refused = rw (refused, number) refl
 
 same_stop : (e : End) (s t : Stop) → e ≡ Err s → e ≡ Err t → t ≡ s
 same_stop e s t h k = let same : Err s ≡ Err t = sym h ∙ k in cc
@@ -67,13 +64,7 @@ module _ (layout : BlkLayout) (bytes : List ℕ) (a m b : Outside) (on : GoesOn 
     stop_on ScriptFault text h = rw on.image.holds h
     stop_on SinkFault text h = rw on.image.holds h
     stop_on (Refused n cause) text h = rw on.image.holds h
-    stop_on Usage text h = absurd h
-    stop_on (Param x y) text h = absurd h
-    stop_on (Layout x) text h = absurd h
-    stop_on NoSharedZone text h = absurd h
-    stop_on (Short x y) text h = absurd h
-    stop_on TooLong text h = absurd h
-    stop_on (BadLine x) text h = absurd h
+    stop_on s text h = absurd h
 
     -- a last line after lines that stopped
     put_last : (s : Stop) → StoppedAt s layout bytes lines a m → Appends m.given b.given (last_line s)
@@ -81,7 +72,7 @@ module _ (layout : BlkLayout) (bytes : List ℕ) (a m b : Outside) (on : GoesOn 
     put_last s k put = record {
       text = k.text;
       stops = stop_on s k.text k.stops;
-      put = appends_on a.given m.given b.given k.text (last_line s) k.put put;
+      put = Appends-trans a.given m.given b.given k.text (last_line s) k.put put;
     }
 
     put_part : (s : Stop) → RoseFor s a b → StoppedAt s layout bytes lines a m
@@ -93,7 +84,7 @@ module _ (layout : BlkLayout) (bytes : List ℕ) (a m b : Outside) (on : GoesOn 
           text = k.text;
           stops = stop_on s k.text k.stops;
           part = put.count;
-          put = appends_on a.given m.given b.given k.text (take put.count (last_line s)) k.put put.bytes;
+          put = Appends-trans a.given m.given b.given k.text (take put.count (last_line s)) k.put put.bytes;
         }
 
     put_none : RoseFor SinkFault a b → b.given ≡ m.given → StoppedAt SinkFault layout bytes lines a m
@@ -201,17 +192,11 @@ module _ (layout : BlkLayout) (bytes : List ℕ) (a m b : Outside) (on : GoesOn 
     lines_answers (Err ImageFault) c h f = lines_stopped ImageFault c h f
         (answers_image_fault (rose_on a m b on ImageFault c f.later))
     lines_answers (Err (Refused n cause)) c h f = lines_stopped (Refused n cause) c h f
-        (answers_refused n cause h.stops.end)
+        (answers_refused n cause (refused_end n cause (blk_ran layout bytes lines) h.stops.number h.stops.refused))
     lines_answers (Err SinkFault) c h f =
         let rose : RoseFor SinkFault a b = rose_on a m b on SinkFault c f.later in
         unput f.answer rose (put_none rose f.same h)
-    lines_answers (Err Usage) c h f = absurd h.stops
-    lines_answers (Err (Param x y)) c h f = absurd h.stops
-    lines_answers (Err (Layout x)) c h f = absurd h.stops
-    lines_answers (Err NoSharedZone) c h f = absurd h.stops
-    lines_answers (Err (Short x y)) c h f = absurd h.stops
-    lines_answers (Err TooLong) c h f = absurd h.stops
-    lines_answers (Err (BadLine x)) c h f = absurd h.stops
+    lines_answers (Err s) c h f = absurd h.stops
 
   lines_or_stop : (r : Result (List Line) Stop) (e : End) → Caused a m e → LinesOrStopEnded layout bytes r a m e
       → Finished e m.given b.given m.sink_faults b.sink_faults status → LinesOrStopAnswers layout bytes r a b status
@@ -238,10 +223,7 @@ module _ (a m b : Outside) (status : ℕ) where
   kept_before (Err (Param x y)) h is zero one six seven ten = absurd h
   kept_before (Err (Layout x)) h is zero one six seven ten = absurd h
   kept_before (Err NoSharedZone) h is zero one six seven ten = absurd h
-  kept_before (Err (Short x y)) h is zero one six seven ten = h
-  kept_before (Err ScriptFault) h is zero one six seven ten = h
-  kept_before (Err TooLong) h is zero one six seven ten = h
-  kept_before (Err (BadLine x)) h is zero one six seven ten = h
+  kept_before (Err s) h is zero one six seven ten = h
 
 pub blk_answers : (layout : BlkLayout) (a m b : Outside) (e : End) (status : ℕ) → GoesOn a m b → Caused a m e
     → BlkEnds layout a m e → Finished e m.given b.given m.sink_faults b.sink_faults status → BlkAnswers layout a b

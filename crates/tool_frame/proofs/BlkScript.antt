@@ -1,24 +1,27 @@
 -- How the stages of a script on the block store end its work
-use Rattle.std.proofs.Common.{◌≡◌, ℕ, ◌<◌, ◌≤◌, List, [], length, Option, Some, Result, Ok, Err, IfSome, refl, sym, ◌∙◌, arith, inl, inr}
+use Rattle.std.proofs.Common.{◌≡◌, ℕ, ◌<◌, ◌≤◌, List, [], length, Option, Some, Result, Ok, Err, IfSome, refl, sym, ap, ◌∙◌, arith, inl, inr}
 use Rattle.std.specs.Bool.{⊤}
 use Rattle.outside.specs.Outside.{Rose}
 use Rattle.blk_spec.specs.declared.BlkLayout.{BlkLayout}
 use Rattle.grammar_spec.specs.Lines.{script_of}
 use Rattle.grammar_spec.specs.declared.line.Line.{Line}
-use Rattle.tool_spec.specs.Ends.{End}
-use Rattle.tool_spec.specs.Commands.{script_limit, stops}
-use Rattle.tool_spec.specs.Answers.{Outside, NoScript}
-use Rattle.tool_spec.specs.BlkAnswers.{blk_lines, lines_or_bad, LinesEnd}
-use Rattle.tool_spec.specs.declared.Cause.{Cause}
-use Rattle.tool_spec.specs.declared.Stop.{Stop}
-use Rattle.tool_spec.specs.declared.Stop.TheVariants.{Memory, Usage, Param, Layout, NoSharedZone, Short, ScriptFault, ImageFault, SinkFault, TooLong, BadLine, Refused}
+use Rattle.command_spec.specs.Ends.{End, stop_of, end_of}
+use Rattle.command_spec.specs.Commands.{script_limit, stops}
+use Rattle.command_spec.specs.Answers.{Outside, NoScript}
+use Rattle.command_spec.specs.BlkAnswers.{blk_lines, lines_or_bad}
+use Rattle.script_spec.specs.BlkStops.{EndsAt}
+use Rattle.script_spec.specs.declared.Cause.{Cause}
+use Rattle.command_spec.specs.declared.Stop.{Stop}
+use Rattle.command_spec.specs.declared.Stop.TheVariants.{Memory, Short, ScriptFault, ImageFault, SinkFault, TooLong, BadLine, Refused}
 use Rattle.tool_frame.specs.Stages.{SizeStop, ScriptStop, ParseStop}
 use Rattle.tool_frame.specs.Ended.{CausedAt, ScriptEnds, LinesEnded, LinesOrStopEnded, KeptBefore, LinesAsk, BlkEnds}
 use Rattle.tool_frame.proofs.ReadParts.{Read, read_of, room_of, unread_memory, unread_fault, unread_short, read_memory, read_fault, read_long, read_bad, read_unput, read_unsaved, read_refused, read_done}
 use Rattle.tool_frame.proofs.Script.{Quiet, nat_lt-true, nat_lt-false, quiet_memory, put_nothing}
 use Rattle.tool_frame.proofs.StageStops.{load_stops, script_stops, parse_stops}
 use Rattle.tool_frame.proofs.Sizes.{size_load}
-use Rattle.tool_frame.specs.Playing.{BlkPlayCaused}
+use Rattle.script_spec.specs.Playing.{LinesEnd, KeptUnless, BlkPlayCaused}
+use Rattle.script_spec.specs.declared.LineStop.{LineStop}
+use Rattle.script_spec.specs.declared.LineStop.TheVariants.{Memory as MemoryThere, StoreFault, SinkFault as SinkFaultThere, Refused as RefusedThere}
 
 -- ---- which lines are wanted
 
@@ -162,75 +165,65 @@ module _ (layout : BlkLayout) (a b : Outside) (room : IfSome a.holds (λ bs. lay
 
 -- ---- lines
 
--- lines that were begun, from the moment before the first
-lines_played : (e : End) (layout : BlkLayout) (bytes : List ℕ) (lines : List Line) (a b : Outside)
-    → LinesEnd e layout bytes lines a.given b.given b.holds → LinesEnded layout bytes lines a b e
-lines_played (Ok u) layout bytes lines a b p = p
-lines_played (Err Memory) layout bytes lines a b p = record { text = p.text; stops = inr p.stops; put = p.put }
-lines_played (Err ImageFault) layout bytes lines a b p = record { text = p.text; stops = inr p.stops; put = p.put }
-lines_played (Err SinkFault) layout bytes lines a b p = record { text = p.text; stops = p.stops; put = p.put }
-lines_played (Err (Refused n cause)) layout bytes lines a b p =
-    record { text = p.text; stops = p.stops; put = p.put }
-lines_played (Err Usage) layout bytes lines a b p = absurd p.stops
-lines_played (Err (Param x y)) layout bytes lines a b p = absurd p.stops
-lines_played (Err (Layout x)) layout bytes lines a b p = absurd p.stops
-lines_played (Err NoSharedZone) layout bytes lines a b p = absurd p.stops
-lines_played (Err (Short x y)) layout bytes lines a b p = absurd p.stops
-lines_played (Err ScriptFault) layout bytes lines a b p = absurd p.stops
-lines_played (Err TooLong) layout bytes lines a b p = absurd p.stops
-lines_played (Err (BadLine x)) layout bytes lines a b p = absurd p.stops
+-- a count of faults behind lines, in the words of their run
+pub unless_line : (fault : LineStop) (e : LinesEnd) (before now : ℕ) → KeptUnless fault e before now
+    → KeptUnless (stop_of fault) (end_of e) before now
+unless_line fault (Ok u) before now h = h
+unless_line fault (Err stop) before now h = λ other. h (λ same. other (ap stop_of same))
 
--- the ends that lines have, and no others
+-- lines that were begun, from the moment before the first
+lines_played : (e : LinesEnd) (layout : BlkLayout) (bytes : List ℕ) (lines : List Line) (a b : Outside)
+    → EndsAt e layout bytes lines a.given b.given b.holds → LinesEnded layout bytes lines a b (end_of e)
+lines_played (Ok u) layout bytes lines a b p = p
+lines_played (Err MemoryThere) layout bytes lines a b p = record { text = p.text; stops = inr p.stops; put = p.put }
+lines_played (Err StoreFault) layout bytes lines a b p = record { text = p.text; stops = inr p.stops; put = p.put }
+lines_played (Err SinkFaultThere) layout bytes lines a b p = record { text = p.text; stops = p.stops; put = p.put }
+lines_played (Err (RefusedThere n cause)) layout bytes lines a b p =
+    record { text = p.text; stops = p.stops; put = p.put }
+
+-- the ends of lines as ends of their run
 played_ends : (P : End → Type 0) (g g' h h' : ℕ) → ((u : ⊤) → P (Ok u)) → P (Err Memory)
     → (Rose g g' → P (Err ImageFault)) → (Rose h h' → P (Err SinkFault))
-    → ((n : ℕ) (cause : Cause) → P (Err (Refused n cause))) → (e : End) → BlkPlayCaused e g g' h h' → P e
-played_ends P g g' h h' done memory image sink refused (Ok u) c = done u
-played_ends P g g' h h' done memory image sink refused (Err Memory) c = memory
-played_ends P g g' h h' done memory image sink refused (Err ImageFault) c = image c
-played_ends P g g' h h' done memory image sink refused (Err SinkFault) c = sink c
-played_ends P g g' h h' done memory image sink refused (Err (Refused n cause)) c = refused n cause
-played_ends P g g' h h' done memory image sink refused (Err Usage) c = absurd c
-played_ends P g g' h h' done memory image sink refused (Err (Param x y)) c = absurd c
-played_ends P g g' h h' done memory image sink refused (Err (Layout x)) c = absurd c
-played_ends P g g' h h' done memory image sink refused (Err NoSharedZone) c = absurd c
-played_ends P g g' h h' done memory image sink refused (Err (Short x y)) c = absurd c
-played_ends P g g' h h' done memory image sink refused (Err ScriptFault) c = absurd c
-played_ends P g g' h h' done memory image sink refused (Err TooLong) c = absurd c
-played_ends P g g' h h' done memory image sink refused (Err (BadLine x)) c = absurd c
+    → ((n : ℕ) (cause : Cause) → P (Err (Refused n cause))) → (e : LinesEnd) → BlkPlayCaused e g g' h h' → P (end_of e)
+played_ends P g g' h h' done memory image sink refused (Ok u) c = done tt
+played_ends P g g' h h' done memory image sink refused (Err MemoryThere) c = memory
+played_ends P g g' h h' done memory image sink refused (Err StoreFault) c = image c
+played_ends P g g' h h' done memory image sink refused (Err SinkFaultThere) c = sink c
+played_ends P g g' h h' done memory image sink refused (Err (RefusedThere n cause)) c = refused n cause
 
 -- lines end no other way than after their reading
 module _ (mem : ℕ) (a b : Outside) (room : IfSome a.holds (λ bs. mem ≤ length bs)) (text : List ℕ)
     (read : Read a b text) (lines : List Line) (ok : script_of text ≡ Ok lines) where
-  played_read : (e : End) (g g' h h' : ℕ) → BlkPlayCaused e g g' h h' → ScriptEnds mem a b e
+  played_read : (e : LinesEnd) (g g' h h' : ℕ) → BlkPlayCaused e g g' h h' → ScriptEnds mem a b (end_of e)
   played_read e g g' h h' c = played_ends (λ d. ScriptEnds mem a b d) g g' h h'
       (λ u. read_done mem a b room text read lines ok) (read_memory mem a b room)
       (λ rose. read_unsaved mem a b room text read) (λ rose. read_unput mem a b room text read)
       (λ n cause. read_refused mem a b room text read lines ok n cause) e c
 
-played_kept : (e : End) (g g' h h' : ℕ) (before now : Option (List ℕ)) → BlkPlayCaused e g g' h h'
-    → KeptBefore before now e
+played_kept : (e : LinesEnd) (g g' h h' : ℕ) (before now : Option (List ℕ)) → BlkPlayCaused e g g' h h'
+    → KeptBefore before now (end_of e)
 played_kept e g g' h h' before now c = played_ends (λ d. KeptBefore before now d) g g' h h' (λ u. tt) tt (λ rose. tt)
     (λ rose. tt) (λ n cause. tt) e c
 
-pub played_asks : (e : End) (g g' h h' old new : ℕ) → BlkPlayCaused e g g' h h' → LinesAsk old new e
+pub played_asks : (e : LinesEnd) (g g' h h' old new : ℕ) → BlkPlayCaused e g g' h h' → LinesAsk old new (end_of e)
 played_asks e g g' h h' old new c = played_ends (λ d. LinesAsk old new d) g g' h h' (λ u. tt) tt (λ rose. tt)
     (λ rose. tt) (λ n cause. tt) e c
 
 -- a fault is named only if its count rose since the moment before the lines, at which no count was lower
-pub played_caused : (e : End) (f f' g0 g g' h0 h h' : ℕ) → g0 ≤ g → h0 ≤ h → BlkPlayCaused e g g' h h'
-    → CausedAt f f' g0 g' h0 h' e
+pub played_caused : (e : LinesEnd) (f f' g0 g g' h0 h h' : ℕ) → g0 ≤ g → h0 ≤ h → BlkPlayCaused e g g' h h'
+    → CausedAt f f' g0 g' h0 h' (end_of e)
 played_caused e f f' g0 g g' h0 h h' p q c = played_ends (λ d. CausedAt f f' g0 g' h0 h' d) g g' h h' (λ u. tt) tt
     (λ rose. omega (arith, p, rose)) (λ rose. omega (arith, q, rose)) (λ n cause. tt) e c
 
 -- lines were played on a store that holds what it held
-pub play_ended : (layout : BlkLayout) (a b : Outside) (text : List ℕ) (lines : List Line) (e : End)
+pub play_ended : (layout : BlkLayout) (a b : Outside) (text : List ℕ) (lines : List Line) (e : LinesEnd)
     (holds : Option (List ℕ)) (g g' h h' : ℕ) → IfSome a.holds (λ bs. layout.total ≤ length bs) → Read a b text
     → script_of text ≡ Ok lines → holds ≡ a.holds → BlkPlayCaused e g g' h h'
-    → ((bytes : List ℕ) → holds ≡ Some bytes → LinesEnd e layout bytes lines a.given b.given b.holds)
-    → BlkEnds layout a b e
+    → ((bytes : List ℕ) → holds ≡ Some bytes → EndsAt e layout bytes lines a.given b.given b.holds)
+    → BlkEnds layout a b (end_of e)
 play_ended layout a b text lines e holds g g' h h' room read ok same c p = record {
   whole = record {
-    told = λ bytes script t s. lines_as layout bytes (blk_lines layout bytes script) (Ok lines) a b e
+    told = λ bytes script t s. lines_as layout bytes (blk_lines layout bytes script) (Ok lines) a b (end_of e)
         (lines_read layout a b room text read bytes script (Ok lines) ok t s)
         (lines_played e layout bytes lines a b (p bytes (same ∙ t)));
   };

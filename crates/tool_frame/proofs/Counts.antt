@@ -1,16 +1,16 @@
 -- What of the image was kept, and which counts of faults, from how the work ended and what the last line left
 use Rattle.std.proofs.Common.{◌≡◌, ◌≢◌, ◌⊎◌, ℕ, Result, Ok, Err, refl, sym, ap, ◌∙◌, arith, inl, inr}
-use Rattle.tool_spec.specs.Ends.{End, status_of}
-use Rattle.tool_spec.specs.Commands.{RamCommand, RunScript, ListRecords, ExtractRecord, EraseRecord, ShowLayout, BlankImage, MakeImage, FindRings, ReadRing, Plan, OfRam, OfBlk, OfMove, RunShared}
-use Rattle.tool_spec.specs.Answers.{Outside, NoScript, NoImage, RoseFor, NoOtherFault}
-use Rattle.tool_spec.specs.PlanAnswers.{Untouched, StoreFailed, FailsWriting, CommandWrites, PlanWrites}
+use Rattle.command_spec.specs.Ends.{End, status_of}
+use Rattle.command_spec.specs.Commands.{Plan, OfRam, OfBlk, OfMove, Class, RunsScript, WritesImage, MakesImage, class_of}
+use Rattle.command_spec.specs.Answers.{Outside, NoScript, NoImage, RoseFor, NoOtherFault}
+use Rattle.command_spec.specs.PlanAnswers.{Untouched, StoreFailed, FailsWriting, PlanWrites, ClassWrites}
 use Rattle.tool_frame.specs.Ends.{LastPut, Finished}
-use Rattle.tool_frame.specs.Stages.{KeptUnless}
-use Rattle.tool_frame.specs.Ended.{Caused, Counted, KeptAt, LinesAsk, FailsAsked, CommandAsks, Asks, WorkDone}
+use Rattle.script_spec.specs.Playing.{KeptUnless}
+use Rattle.tool_frame.specs.Ended.{Caused, Counted, KeptAt, LinesAsk, FailsAsked, Asks, WorkDone, ClassAsks}
 use Rattle.tool_frame.proofs.Answered.{GoesOn, rose_on}
 use Rattle.tool_frame.proofs.Tool.{status_is}
-use Rattle.tool_spec.specs.declared.Stop.{Stop}
-use Rattle.tool_spec.specs.declared.Stop.TheVariants.{Memory, Usage, Param, Layout, NoSharedZone, Short, ScriptFault, ImageFault, SinkFault, TooLong, BadLine, Refused}
+use Rattle.command_spec.specs.declared.Stop.{Stop}
+use Rattle.command_spec.specs.declared.Stop.TheVariants.{Memory, ScriptFault, ImageFault, SinkFault, Refused}
 
 module _ (a m b : Outside) (on : GoesOn a m b) (status : ℕ) where
   -- the store failed, and the last line was put, or the output failed in it
@@ -27,17 +27,7 @@ module _ (a m b : Outside) (on : GoesOn a m b) (status : ℕ) where
       → (new ≡ old) ⊎ StoreFailed a b status
   kept_by old mid new (Ok u) same c k f zero = absurd (zero f.answer)
   kept_by old mid new (Err ImageFault) same c k f zero = inr (store_failed c f)
-  kept_by old mid new (Err Memory) same c k f zero = inl (same ∙ k)
-  kept_by old mid new (Err Usage) same c k f zero = inl (same ∙ k)
-  kept_by old mid new (Err (Param x y)) same c k f zero = inl (same ∙ k)
-  kept_by old mid new (Err (Layout x)) same c k f zero = inl (same ∙ k)
-  kept_by old mid new (Err NoSharedZone) same c k f zero = inl (same ∙ k)
-  kept_by old mid new (Err (Short x y)) same c k f zero = inl (same ∙ k)
-  kept_by old mid new (Err ScriptFault) same c k f zero = inl (same ∙ k)
-  kept_by old mid new (Err SinkFault) same c k f zero = inl (same ∙ k)
-  kept_by old mid new (Err TooLong) same c k f zero = inl (same ∙ k)
-  kept_by old mid new (Err (BadLine x)) same c k f zero = inl (same ∙ k)
-  kept_by old mid new (Err (Refused x y)) same c k f zero = inl (same ∙ k)
+  kept_by old mid new (Err s) same c k f zero = inl (same ∙ k)
 
   -- what was kept until the lines of a script on the block store were begun
   kept_early : (old mid new : ℕ) (e : End) → new ≡ mid → LinesAsk old mid e
@@ -49,14 +39,7 @@ module _ (a m b : Outside) (on : GoesOn a m b) (status : ℕ) where
   kept_early old mid new (Err ImageFault) same k (inl s) zero one six seven ten = absurd (six s)
   kept_early old mid new (Err SinkFault) same k (inl s) zero one six seven ten = absurd (seven s)
   kept_early old mid new (Err (Refused x y)) same k (inl s) zero one six seven ten = absurd (ten s)
-  kept_early old mid new (Err Usage) same k (inl s) zero one six seven ten = same ∙ k
-  kept_early old mid new (Err (Param x y)) same k (inl s) zero one six seven ten = same ∙ k
-  kept_early old mid new (Err (Layout x)) same k (inl s) zero one six seven ten = same ∙ k
-  kept_early old mid new (Err NoSharedZone) same k (inl s) zero one six seven ten = same ∙ k
-  kept_early old mid new (Err (Short x y)) same k (inl s) zero one six seven ten = same ∙ k
-  kept_early old mid new (Err ScriptFault) same k (inl s) zero one six seven ten = same ∙ k
-  kept_early old mid new (Err TooLong) same k (inl s) zero one six seven ten = same ∙ k
-  kept_early old mid new (Err (BadLine x)) same k (inl s) zero one six seven ten = same ∙ k
+  kept_early old mid new (Err t) same k (inl s) zero one six seven ten = same ∙ k
 
   -- the image failed only after it was asked to be written
   not_six : (n : ℕ) → n ≢ 6 → (status ≡ n) ⊎ ((status ≡ 7) × RoseFor SinkFault a b) → status ≡ 6 → ⊥
@@ -68,51 +51,24 @@ module _ (a m b : Outside) (on : GoesOn a m b) (status : ℕ) where
   fails_asked (Err ImageFault) same c k f six = rw same k
   fails_asked (Ok u) same c k f six = absurd (not_six 0 (λ z. absurd (omega arith))
       (status_is a m b on status (Ok u) c f) six)
-  fails_asked (Err Memory) same c k f six = absurd (not_six 1 (λ z. absurd (omega arith))
-      (status_is a m b on status (Err Memory) c f) six)
-  fails_asked (Err Usage) same c k f six = absurd (not_six 2 (λ z. absurd (omega arith))
-      (status_is a m b on status (Err Usage) c f) six)
-  fails_asked (Err (Param x y)) same c k f six = absurd (not_six 3 (λ z. absurd (omega arith))
-      (status_is a m b on status (Err (Param x y)) c f) six)
-  fails_asked (Err (Layout x)) same c k f six = absurd (not_six 3 (λ z. absurd (omega arith))
-      (status_is a m b on status (Err (Layout x)) c f) six)
-  fails_asked (Err NoSharedZone) same c k f six = absurd (not_six 3 (λ z. absurd (omega arith))
-      (status_is a m b on status (Err NoSharedZone) c f) six)
-  fails_asked (Err (Short x y)) same c k f six = absurd (not_six 4 (λ z. absurd (omega arith))
-      (status_is a m b on status (Err (Short x y)) c f) six)
-  fails_asked (Err ScriptFault) same c k f six = absurd (not_six 5 (λ z. absurd (omega arith))
-      (status_is a m b on status (Err ScriptFault) c f) six)
-  fails_asked (Err SinkFault) same c k f six = absurd (not_six 7 (λ z. absurd (omega arith))
-      (status_is a m b on status (Err SinkFault) c f) six)
-  fails_asked (Err TooLong) same c k f six = absurd (not_six 8 (λ z. absurd (omega arith))
-      (status_is a m b on status (Err TooLong) c f) six)
-  fails_asked (Err (BadLine x)) same c k f six = absurd (not_six 9 (λ z. absurd (omega arith))
-      (status_is a m b on status (Err (BadLine x)) c f) six)
-  fails_asked (Err (Refused x y)) same c k f six = absurd (not_six 10 (λ z. absurd (omega arith))
-      (status_is a m b on status (Err (Refused x y)) c f) six)
+  fails_asked (Err s) same c k f six = absurd (not_six (status_of (Err s)) (λ z. absurd (omega arith))
+      (status_is a m b on status (Err s) c f) six)
 
-  command_writes : (k : RamCommand) (e : End) → b.writes ≡ m.writes → Caused a m e
-      → CommandAsks k a.writes m.writes e → Finished e m.given b.given m.sink_faults b.sink_faults status
-      → CommandWrites k a b status
-  command_writes RunScript e same c k f = kept_by a.writes m.writes b.writes e same c k f
-  command_writes ListRecords e same c k f = same ∙ k
-  command_writes (ExtractRecord name) e same c k f = same ∙ k
-  command_writes (EraseRecord name) e same c k f = kept_by a.writes m.writes b.writes e same c k f
-  command_writes ShowLayout e same c k f = same ∙ k
-  command_writes BlankImage e same c k f =
+  class_writes : (class : Class) (e : End) → b.writes ≡ m.writes → Caused a m e
+      → ClassAsks class a.writes m.writes e → Finished e m.given b.given m.sink_faults b.sink_faults status
+      → ClassWrites class a b status
+  class_writes RunsScript e same c k f = kept_by a.writes m.writes b.writes e same c k f
+  class_writes WritesImage e same c k f = kept_by a.writes m.writes b.writes e same c k f
+  class_writes MakesImage e same c k f =
       (kept_by a.writes m.writes b.writes e same c k.0 f, fails_asked e same c k.1 f)
-  command_writes (MakeImage n) e same c k f =
-      (kept_by a.writes m.writes b.writes e same c k.0 f, fails_asked e same c k.1 f)
-  command_writes RunShared e same c k f = kept_by a.writes m.writes b.writes e same c k f
-  command_writes FindRings e same c k f = same ∙ k
-  command_writes (ReadRing at name) e same c k f = same ∙ k
+  class_writes class e same c k f = same ∙ k
 
   writes_by : (r : Result Plan Stop) (e : End) → b.writes ≡ m.writes → Caused a m e → Asks r a.writes m.writes e
       → Finished e m.given b.given m.sink_faults b.sink_faults status → PlanWrites r a b status
-  writes_by (Ok (OfRam plan)) e same c k f = command_writes plan.command e same c k f
+  writes_by (Ok (OfRam plan)) e same c k f = class_writes (class_of plan.command) e same c k f
   writes_by (Ok (OfBlk layout)) e same c k f =
       kept_early a.writes m.writes b.writes e same k (status_is a m b on status e c f)
-  writes_by (Ok (OfMove plan)) e same c k f = kept_by a.writes m.writes b.writes e same c k f
+  writes_by (Ok (OfMove plan)) e same c k f = class_writes WritesImage e same c k f
   writes_by (Err s) e same c k f = same ∙ k
 
   -- ---- counts of faults
@@ -126,17 +82,7 @@ module _ (a m b : Outside) (on : GoesOn a m b) (status : ℕ) where
       → b.sink_faults ≡ m.sink_faults
   last_sink (Ok u) f seven = f.faults
   last_sink (Err SinkFault) f seven = f.faults
-  last_sink (Err Memory) f seven = line_sink Memory f seven
-  last_sink (Err Usage) f seven = line_sink Usage f seven
-  last_sink (Err (Param x y)) f seven = line_sink (Param x y) f seven
-  last_sink (Err (Layout x)) f seven = line_sink (Layout x) f seven
-  last_sink (Err NoSharedZone) f seven = line_sink NoSharedZone f seven
-  last_sink (Err (Short x y)) f seven = line_sink (Short x y) f seven
-  last_sink (Err ScriptFault) f seven = line_sink ScriptFault f seven
-  last_sink (Err TooLong) f seven = line_sink TooLong f seven
-  last_sink (Err (BadLine x)) f seven = line_sink (BadLine x) f seven
-  last_sink (Err (Refused x y)) f seven = line_sink (Refused x y) f seven
-  last_sink (Err ImageFault) f seven = line_sink ImageFault f seven
+  last_sink (Err s) f seven = line_sink s f seven
 
   -- an end other than for this fault
   kept_unless : (fault : Stop) (before now n : ℕ) (e : End) → status_of (Err fault) ≡ n → KeptUnless fault e before now
@@ -150,17 +96,7 @@ module _ (a m b : Outside) (on : GoesOn a m b) (status : ℕ) where
       → (b.source_faults ≡ a.source_faults) ⊎ (b.store_faults ≡ a.store_faults)
   either_kept (Ok u) k = inl (on.script.source ∙ k.source)
   either_kept (Err ScriptFault) k = inr (on.image.store ∙ k.store (λ same. cc))
-  either_kept (Err Memory) k = inl (on.script.source ∙ k.source (λ same. cc))
-  either_kept (Err Usage) k = inl (on.script.source ∙ k.source (λ same. cc))
-  either_kept (Err (Param x y)) k = inl (on.script.source ∙ k.source (λ same. cc))
-  either_kept (Err (Layout x)) k = inl (on.script.source ∙ k.source (λ same. cc))
-  either_kept (Err NoSharedZone) k = inl (on.script.source ∙ k.source (λ same. cc))
-  either_kept (Err (Short x y)) k = inl (on.script.source ∙ k.source (λ same. cc))
-  either_kept (Err SinkFault) k = inl (on.script.source ∙ k.source (λ same. cc))
-  either_kept (Err TooLong) k = inl (on.script.source ∙ k.source (λ same. cc))
-  either_kept (Err (BadLine x)) k = inl (on.script.source ∙ k.source (λ same. cc))
-  either_kept (Err (Refused x y)) k = inl (on.script.source ∙ k.source (λ same. cc))
-  either_kept (Err ImageFault) k = inl (on.script.source ∙ k.source (λ same. cc))
+  either_kept (Err s) k = inl (on.script.source ∙ k.source (λ same. cc))
 
   no_other_fault : (e : End) → Caused a m e → Counted a m e
       → Finished e m.given b.given m.sink_faults b.sink_faults status → NoOtherFault a b status

@@ -1,43 +1,35 @@
 -- How the stages of a command that reads the image, and no script, end it
-use Rattle.std.proofs.Common.{◌≡◌, ℕ, ◌<◌, ◌≤◌, List, [], length, take, Option, Err, IfSome, refl, sym, ap, ◌∙◌, inl, true, true≢false}
-use Rattle.tool_spec.specs.Ends.{End}
-use Rattle.tool_spec.specs.Commands.{RamCommand, RunScript, ListRecords, ExtractRecord, EraseRecord, ShowLayout, BlankImage, MakeImage, FindRings, ReadRing, RamPlan, wanted, wanted_of, reads_image, front_of, mem_of, stops, RunShared}
-use Rattle.tool_spec.specs.Answers.{Outside, IfHolds}
-use Rattle.tool_spec.specs.PlanAnswers.{ram_statuses, IsAmong}
-use Rattle.tool_spec.specs.declared.Stop.{Stop}
-use Rattle.tool_spec.specs.declared.Stop.TheVariants.{Short}
+use Rattle.std.proofs.Common.{◌≡◌, ℕ, ◌<◌, ◌≤◌, List, [], length, take, Option, Err, IfSome, refl, sym, ap, ◌∙◌, inl, Bool, true, true≢false}
+use Rattle.command_spec.specs.Ends.{End}
+use Rattle.command_spec.specs.Commands.{RamCommand, RamPlan, wanted, wanted_of, reads_image, front_of, mem_of, stops, Class, RunsScript, ReadsImage, ReadsDump, WritesImage, class_of}
+use Rattle.command_spec.specs.Answers.{Outside, IfHolds}
+use Rattle.command_spec.specs.PlanAnswers.{IsAmong, class_statuses, names_one}
+use Rattle.command_spec.specs.declared.Stop.{Stop}
+use Rattle.command_spec.specs.declared.Stop.TheVariants.{Short}
 use Rattle.tool_frame.specs.Stages.{LoadStop}
 use Rattle.tool_frame.specs.Ended.{Ended, CanEnd}
 use Rattle.tool_frame.proofs.Script.{Quiet, quiet_memory, put_nothing, ended_as, nat_lt-true, nat_lt-false}
 use Rattle.tool_frame.proofs.StageStops.{load_stops}
 
-short_wanted : (plan : RamPlan) (c : RamCommand) (bytes : List ℕ) → plan.command ≡ c → reads_image c ≡ true
+short_wanted : (plan : RamPlan) (c : RamCommand) (bytes : List ℕ) → plan.command ≡ c → reads_image (class_of c) ≡ true
     → length bytes < mem_of plan → wanted plan bytes [] ≡ stops (Short (length bytes) (mem_of plan))
 short_wanted plan c bytes is reads h = rw (is, reads, nat_lt-true h) refl
 
 -- a command that reads an image takes that and no more
-front_is : (plan : RamPlan) (c : RamCommand) → reads_image c ≡ true → front_of c plan ≡ mem_of plan
-front_is plan RunScript reads = refl
-front_is plan ListRecords reads = refl
-front_is plan (ExtractRecord name) reads = refl
-front_is plan (EraseRecord name) reads = refl
-front_is plan ShowLayout reads = absurd (true≢false (sym reads))
-front_is plan BlankImage reads = absurd (true≢false (sym reads))
-front_is plan (MakeImage n) reads = absurd (true≢false (sym reads))
-front_is plan RunShared reads = refl
-front_is plan FindRings reads = absurd (true≢false (sym reads))
-front_is plan (ReadRing at name) reads = absurd (true≢false (sym reads))
+front_is : (plan : RamPlan) (class : Class) → reads_image class ≡ true → front_of class plan ≡ mem_of plan
+front_is plan ReadsDump reads = absurd (true≢false (sym reads))
+front_is plan class reads = refl
 
-image_wanted : (plan : RamPlan) (c : RamCommand) (bytes : List ℕ) → plan.command ≡ c → reads_image c ≡ true
+image_wanted : (plan : RamPlan) (c : RamCommand) (bytes : List ℕ) → plan.command ≡ c → reads_image (class_of c) ≡ true
     → mem_of plan ≤ length bytes → wanted plan bytes [] ≡ wanted_of plan.params plan.zones (take (mem_of plan) bytes)
     [] c
 image_wanted plan c bytes is reads h =
-    let e : wanted plan bytes [] ≡ wanted_of plan.params plan.zones (take (front_of c plan) bytes) [] c =
+    let e : wanted plan bytes [] ≡ wanted_of plan.params plan.zones (take (front_of (class_of c) plan) bytes) [] c =
     rw (is, reads, nat_lt-false h) refl in
-    e ∙ ap (λ (n : ℕ). wanted_of plan.params plan.zones (take n bytes) [] c) (front_is plan c reads)
+    e ∙ ap (λ (n : ℕ). wanted_of plan.params plan.zones (take n bytes) [] c) (front_is plan (class_of c) reads)
 
 stop_short : (plan : RamPlan) (c : RamCommand) (a b : Outside) (has needed : ℕ) → plan.command ≡ c
-    → reads_image c ≡ true
+    → reads_image (class_of c) ≡ true
     → Quiet a b → (needed ≡ mem_of plan) × (has < mem_of plan) × IfSome a.holds (λ bs. has ≡ length bs)
     → IfHolds a (λ bytes. Ended (wanted plan bytes []) a b (Err (Short has needed)))
 stop_short plan c a b has needed is reads q h = record {
@@ -50,7 +42,7 @@ stop_short plan c a b has needed is reads q h = record {
 
 -- the image was not read
 pub image_stopped : (plan : RamPlan) (c : RamCommand) (a b : Outside) (s : Stop) (f g : ℕ) → plan.command ≡ c
-    → reads_image c ≡ true → Quiet a b → LoadStop s (mem_of plan) a.holds f g
+    → reads_image (class_of c) ≡ true → Quiet a b → LoadStop s (mem_of plan) a.holds f g
     → IfHolds a (λ bytes. Ended (wanted plan bytes []) a b (Err s))
 image_stopped plan c a b s f g is reads q h = load_stops
     (λ t. IfHolds a (λ bytes. Ended (wanted plan bytes []) a b (Err t))) (mem_of plan) a.holds f g
@@ -59,28 +51,23 @@ image_stopped plan c a b s f g is reads q h = load_stops
     (λ has needed size. stop_short plan c a b has needed is reads q size) s h
 
 -- a command that reads the image can want memory, find it too short, and fail to read it
-can_read : (c : RamCommand) → reads_image c ≡ true
-    → IsAmong (ram_statuses c) 1 × IsAmong (ram_statuses c) 4 × IsAmong (ram_statuses c) 6
-can_read RunScript reads = (refl, refl, refl)
-can_read ListRecords reads = (refl, refl, refl)
-can_read (ExtractRecord name) reads = (refl, refl, refl)
-can_read (EraseRecord name) reads = (refl, refl, refl)
-can_read ShowLayout reads = absurd (true≢false (sym reads))
-can_read BlankImage reads = absurd (true≢false (sym reads))
-can_read (MakeImage n) reads = absurd (true≢false (sym reads))
-can_read RunShared reads = (refl, refl, refl)
-can_read FindRings reads = absurd (true≢false (sym reads))
-can_read (ReadRing at name) reads = absurd (true≢false (sym reads))
+can_read : (class : Class) (refused : Bool) → reads_image class ≡ true
+    → IsAmong (class_statuses class refused) 1 × IsAmong (class_statuses class refused) 4
+    × IsAmong (class_statuses class refused) 6
+can_read RunsScript refused reads = (refl, refl, refl)
+can_read ReadsImage refused reads = (refl, refl, refl)
+can_read WritesImage refused reads = (refl, refl, refl)
+can_read class refused reads = absurd (true≢false (sym reads))
 
 pub load_can : (plan : RamPlan) (c : RamCommand) (s : Stop) (mem : ℕ) (holds : Option (List ℕ)) (f g : ℕ)
-    → plan.command ≡ c → reads_image c ≡ true → LoadStop s mem holds f g → CanEnd plan (Err s)
+    → plan.command ≡ c → reads_image (class_of c) ≡ true → LoadStop s mem holds f g → CanEnd plan (Err s)
 load_can plan c s mem holds f g is reads h = load_stops (λ t. CanEnd plan (Err t)) mem holds f g
-    (rw is ((can_read c reads).0)) (λ rose. rw is ((can_read c reads).2))
-    (λ has needed size. rw is ((can_read c reads).1)) s h
+    (rw is ((can_read (class_of c) (names_one c) reads).0)) (λ rose. rw is ((can_read (class_of c) (names_one c) reads).2))
+    (λ has needed size. rw is ((can_read (class_of c) (names_one c) reads).1)) s h
 
 -- the image was read, and what is wanted of it was done
 pub image_done : (plan : RamPlan) (c : RamCommand) (a b : Outside) (image : List ℕ) (e : End) → plan.command ≡ c
-    → reads_image c ≡ true → IfSome a.holds (λ bs. (mem_of plan ≤ length bs) × (image ≡ take (mem_of plan) bs))
+    → reads_image (class_of c) ≡ true → IfSome a.holds (λ bs. (mem_of plan ≤ length bs) × (image ≡ take (mem_of plan) bs))
     → Ended (wanted_of plan.params plan.zones image [] c) a b e
     → IfHolds a (λ bytes. Ended (wanted plan bytes []) a b e)
 image_done plan c a b image e is reads loaded h = record {

@@ -3,7 +3,6 @@ pub mod Pieces
 pub mod Parted
 pub mod Answered
 pub mod Image
-pub mod Play
 pub mod StageStops
 pub mod Script
 pub mod ReadParts

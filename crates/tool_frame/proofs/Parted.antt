@@ -5,7 +5,7 @@ use Rattle.std.specs.List.{position, position_or_len}
 use Rattle.std.specs.declared.string.String.{String}
 use Rattle.std.specs.declared.alloc.Global.{Global}
 use Rattle.grammar_spec.specs.Fields.{Text}
-use Rattle.tool_spec.specs.Commands.{Asked, MoveImage, is_to, parted, with_to}
+use Rattle.command_spec.specs.Commands.{Asked, Move, is_to, parted, with_to}
 use Rattle.tool_frame.specs.Words.{texts}
 
 abbrev pub place_of : List (String Global) → Option ℕ
@@ -28,7 +28,7 @@ unfolding with_to
 no_to words none = ap (λ (o : Option ℕ). parted o (texts words)) (place-is words ∙ none)
 
 abbrev moves : List Text → List Text → Asked
-moves from to = record { command = MoveImage to; before = 2; params = from }
+moves from to = record { command = Move to; before = 2; params = from }
 
 pub one_to : (words to : List (String Global)) (i : ℕ) (b : Bool) → place_of words ≡ Some i
     → to ≡ drop (i + 1) words → is_some (place_of to) ≡ b

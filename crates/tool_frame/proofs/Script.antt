@@ -1,18 +1,18 @@
 -- How the stages of a command that reads an image and a script end it, whatever it wants of the lines
 use Rattle.std.proofs.Common.{◌≡◌, ℕ, ◌<◌, ◌≤◌, List, [], length, take, Option, Some, None, Result, Ok, Err, IfSome, refl, sym, ◌∙◌, arith, inl, inr, true, false, nat_lt}
+use Rattle.std.proofs.KnownBytes.{Appends-nil}
 use Rattle.std.proofs.lemmas.Bool.Decides.{nat_tests}
 use Rattle.std.specs.Io.KnownBytes.{Appends}
 use Rattle.grammar_spec.specs.Lines.{script_of}
 use Rattle.grammar_spec.specs.declared.line.Line.{Line}
-use Rattle.tool_spec.specs.Ends.{End, status_of}
-use Rattle.tool_spec.specs.Commands.{RunScript, RamPlan, Wanted, wanted, mem_of, stops, script_limit}
-use Rattle.tool_spec.specs.Answers.{Outside, NoScript}
-use Rattle.tool_spec.specs.PlanAnswers.{ram_statuses, IsAmong}
-use Rattle.tool_spec.specs.declared.Stop.{Stop}
-use Rattle.tool_spec.specs.declared.Stop.TheVariants.{Memory, Short, TooLong, BadLine}
+use Rattle.command_spec.specs.Ends.{End, status_of}
+use Rattle.command_spec.specs.Commands.{Run, RamPlan, Wanted, wanted, mem_of, stops, script_limit}
+use Rattle.command_spec.specs.Answers.{Outside, NoScript}
+use Rattle.command_spec.specs.PlanAnswers.{ram_statuses, IsAmong}
+use Rattle.command_spec.specs.declared.Stop.{Stop}
+use Rattle.command_spec.specs.declared.Stop.TheVariants.{Memory, Short, TooLong, BadLine}
 use Rattle.tool_frame.specs.Stages.{LoadStop, ScriptStop, ParseStop}
 use Rattle.tool_frame.specs.Ended.{Ended, RunEnds, ScriptEnds, CausedAt, WrittenAt}
-use Rattle.tool_frame.proofs.Answered.{nothing_put}
 use Rattle.tool_frame.proofs.ReadParts.{Read, read_of, unread_memory, unread_fault, unread_short, read_memory, read_fault, read_long, read_bad}
 use Rattle.tool_frame.proofs.StageStops.{load_stops, script_stops, parse_stops}
 use Rattle.tool_frame.proofs.Tool.{no_texts}
@@ -32,7 +32,7 @@ pub quiet_memory : (w : Wanted) (a b : Outside) → Quiet a b → Ended w a b (E
 quiet_memory w a b q = (rw q.given (no_texts w a.given), q.holds)
 
 pub put_nothing : (a b : Outside) → Quiet a b → Appends a.given b.given []
-put_nothing a b q = rw q.given (nothing_put a.given)
+put_nothing a b q = rw q.given (Appends-nil a.given)
 
 pub ended_as : (w v : Wanted) (a b : Outside) (e : End) → w ≡ v → Ended v a b e → Ended w a b e
 ended_as w v a b e same h = rw same h
@@ -44,7 +44,7 @@ written_as w v a b e same h = rw same h
 
 -- a command that wants this of an image and of the lines of a script, and with the statuses of a script
 pub record IsScripted (plan : RamPlan) (want : List ℕ → Result (List Line) ℕ → Wanted) : Type 0 where
-  pub statuses : ram_statuses plan.command ≡ ram_statuses RunScript
+  pub statuses : ram_statuses plan.command ≡ ram_statuses Run
   pub short : (bytes script : List ℕ) → length bytes < mem_of plan
       → wanted plan bytes script ≡ stops (Short (length bytes) (mem_of plan))
   pub long : (bytes script : List ℕ) → mem_of plan ≤ length bytes → script_limit < length script
@@ -172,7 +172,7 @@ module _ (plan : RamPlan) (want : List ℕ → Result (List Line) ℕ → Wanted
 
       -- the lines ended so
       pub lines_ended : (lines : List Line) → script_of text ≡ Ok lines → (w : Wanted) → want image (Ok lines) ≡ w
-          → (e : End) → IsAmong (ram_statuses RunScript) (status_of e) → ScriptEnds (mem_of plan) a b e → Ended w a b e
+          → (e : End) → IsAmong (ram_statuses Run) (status_of e) → ScriptEnds (mem_of plan) a b e → Ended w a b e
           → WrittenAt w a b e → RunEnds plan a b e
       lines_ended lines ok w same e can read h written = record {
         can = rw is.statuses can;

@@ -2,9 +2,9 @@
 use Rattle.std.proofs.Common.{◌≡◌, ℕ, ◌<◌, List, length, Option, Result, Err, IfSome}
 use Rattle.outside.specs.Outside.{Rose}
 use Rattle.grammar_spec.specs.declared.line.Line.{Line}
-use Rattle.tool_spec.specs.Commands.{script_limit}
-use Rattle.tool_spec.specs.declared.Stop.{Stop}
-use Rattle.tool_spec.specs.declared.Stop.TheVariants.{Memory, Usage, Param, Layout, NoSharedZone, Short, ScriptFault, ImageFault, SinkFault, TooLong, BadLine, Refused}
+use Rattle.command_spec.specs.Commands.{script_limit}
+use Rattle.command_spec.specs.declared.Stop.{Stop}
+use Rattle.command_spec.specs.declared.Stop.TheVariants.{Memory, Short, ScriptFault, ImageFault, TooLong, BadLine}
 use Rattle.tool_frame.specs.Stages.{LoadStop, ScriptStop, ParseStop}
 
 module _ (P : Stop → Type 0) where
@@ -15,15 +15,7 @@ module _ (P : Stop → Type 0) where
   load_stops mem holds f g memory fault short Memory h = memory
   load_stops mem holds f g memory fault short ImageFault h = fault h
   load_stops mem holds f g memory fault short (Short has needed) h = short has needed h
-  load_stops mem holds f g memory fault short Usage h = absurd h
-  load_stops mem holds f g memory fault short (Param x y) h = absurd h
-  load_stops mem holds f g memory fault short (Layout x) h = absurd h
-  load_stops mem holds f g memory fault short NoSharedZone h = absurd h
-  load_stops mem holds f g memory fault short ScriptFault h = absurd h
-  load_stops mem holds f g memory fault short SinkFault h = absurd h
-  load_stops mem holds f g memory fault short TooLong h = absurd h
-  load_stops mem holds f g memory fault short (BadLine x) h = absurd h
-  load_stops mem holds f g memory fault short (Refused x y) h = absurd h
+  load_stops mem holds f g memory fault short s h = absurd h
 
   -- reading a script
   pub script_stops : (left : Option (List ℕ)) (f g : ℕ) → P Memory → (Rose f g → P ScriptFault)
@@ -31,28 +23,11 @@ module _ (P : Stop → Type 0) where
   script_stops left f g memory fault long Memory h = memory
   script_stops left f g memory fault long ScriptFault h = fault h
   script_stops left f g memory fault long TooLong h = long h
-  script_stops left f g memory fault long Usage h = absurd h
-  script_stops left f g memory fault long (Param x y) h = absurd h
-  script_stops left f g memory fault long (Layout x) h = absurd h
-  script_stops left f g memory fault long NoSharedZone h = absurd h
-  script_stops left f g memory fault long (Short x y) h = absurd h
-  script_stops left f g memory fault long ImageFault h = absurd h
-  script_stops left f g memory fault long SinkFault h = absurd h
-  script_stops left f g memory fault long (BadLine x) h = absurd h
-  script_stops left f g memory fault long (Refused x y) h = absurd h
+  script_stops left f g memory fault long s h = absurd h
 
   -- reading the lines of a script
   pub parse_stops : (read : Result (List Line) ℕ) → P Memory → ((n : ℕ) → read ≡ Err n → P (BadLine n))
       → (s : Stop) → ParseStop s read → P s
   parse_stops read memory bad Memory h = memory
   parse_stops read memory bad (BadLine n) h = bad n h
-  parse_stops read memory bad Usage h = absurd h
-  parse_stops read memory bad (Param x y) h = absurd h
-  parse_stops read memory bad (Layout x) h = absurd h
-  parse_stops read memory bad NoSharedZone h = absurd h
-  parse_stops read memory bad (Short x y) h = absurd h
-  parse_stops read memory bad ScriptFault h = absurd h
-  parse_stops read memory bad ImageFault h = absurd h
-  parse_stops read memory bad SinkFault h = absurd h
-  parse_stops read memory bad TooLong h = absurd h
-  parse_stops read memory bad (Refused x y) h = absurd h
+  parse_stops read memory bad s h = absurd h

@@ -1,17 +1,20 @@
 -- What the tool answers for each command, from how its work ended and what the last line left
-use Rattle.std.proofs.Common.{◌≡◌, ◌≢◌, ◌⊎◌, true, false, ℕ, ◌<◌, ◌≤◌, List, [], ◌++◌, length, take, Option, Result, Ok, Err, refl, sym, ◌∙◌, arith, inl, inr, append_assoc, IsOk}
+use Rattle.std.proofs.Common.{◌≡◌, ◌≢◌, ◌⊎◌, true, false, Bool, ℕ, ◌<◌, ◌≤◌, List, [], ◌++◌, length, take, Option, Result, Ok, Err, refl, sym, ◌∙◌, arith, inl, inr, append_assoc, IsOk}
+use Rattle.std.proofs.KnownBytes.{Appends-nil, Appends-trans}
 use Rattle.std.specs.Io.KnownBytes.{Appends, IsAtEnd}
 use Rattle.grammar_spec.specs.Lines.{script_of}
 use Rattle.grammar_spec.specs.Fields.{Text}
-use Rattle.tool_spec.specs.Ends.{End, status_of, last_line}
-use Rattle.tool_spec.specs.Commands.{RamCommand, RunScript, ListRecords, ExtractRecord, EraseRecord, ShowLayout, BlankImage, MakeImage, FindRings, ReadRing, RamPlan, Wanted, wanted, wanted_of_image, mem_of, script_limit, RunShared}
-use Rattle.tool_spec.specs.Answers.{Outside, NoScript, NoImage, RoseFor, PutsAll, IsFree, SavedInPart, ShortAnswers, ScriptAnswers, ScriptUse, ScriptRead, RunAnswers, ImageAnswers, ReadAnswers, MakeAnswers, whole}
-use Rattle.tool_spec.specs.PlanAnswers.{ram_statuses, RamAnswers}
+use Rattle.command_spec.specs.Ends.{End, status_of, last_line}
+use Rattle.command_spec.specs.Commands.{RamPlan, Wanted, wanted, wanted_of_image, mem_of, script_limit, Class, RunsScript, ReadsImage, ReadsDump, WritesImage, MakesImage, ShowsText, class_of}
+use Rattle.command_spec.specs.Answers.{Outside, NoScript, NoImage, RoseFor, PutsAll, IsFree, SavedInPart, ShortAnswers, ScriptAnswers, ScriptUse, ScriptRead}
+use Rattle.script_spec.specs.Texts.{whole}
+use Rattle.command_spec.specs.PlanAnswers.{ram_statuses, ClassAnswers, class_statuses, names_one, IsAmong, Can, ImageAnswers, ReadAnswers}
 use Rattle.tool_frame.specs.Ends.{LastPut, Finished}
-use Rattle.tool_frame.specs.Ended.{PutTexts, Caused, ShortAt, ScriptAt, UseAt, ScriptEnds, RunEnds, ImageEnds, ReadEnds, WrittenAt, MakeEnds, RamEnds}
-use Rattle.tool_frame.proofs.Answered.{GoesOn, rose_on, sink_rose, saved_in_part, answers, appends_on, nothing_put}
-use Rattle.tool_spec.specs.declared.Stop.{Stop}
-use Rattle.tool_spec.specs.declared.Stop.TheVariants.{Memory, Usage, Param, Layout, NoSharedZone, Short, ScriptFault, ImageFault, SinkFault, TooLong, BadLine, Refused}
+use Rattle.script_spec.specs.Playing.{PutTexts}
+use Rattle.tool_frame.specs.Ended.{Caused, ShortAt, ScriptAt, UseAt, ScriptEnds, ImageEnds, WrittenAt, ClassEnds, CanEnd, RamReadEnds}
+use Rattle.tool_frame.proofs.Answered.{GoesOn, rose_on, sink_rose, saved_in_part, answers}
+use Rattle.command_spec.specs.declared.Stop.{Stop}
+use Rattle.command_spec.specs.declared.Stop.TheVariants.{Memory, Short, ScriptFault, ImageFault, SinkFault, TooLong, BadLine, Refused}
 
 pub script_on : (a m b : Outside) → NoScript a m → NoScript m b → NoScript a b
 script_on a m b h k = record { left = k.left ∙ h.left; source = k.source ∙ h.source }
@@ -23,6 +26,17 @@ image_on a m b h k = record { holds = k.holds ∙ h.holds; store = k.store ∙ h
 no_error : {A B : Type 0} (r : Result A B) (b : B) → IsOk r → r ≡ Err b → ⊥
 no_error (Ok a) b h e = let clash : Ok a ≡ Err b = e in cc
 no_error (Err c) b h e = let clash : false ≡ true = h in cc
+
+-- each class of commands can fail to put its text
+class_can_fail : (class : Class) (refused : Bool) → IsAmong (class_statuses class refused) 7
+class_can_fail RunsScript refused = refl
+class_can_fail class refused = refl
+
+-- the status of an end, or 7
+pub among : {A : Type 0} (all : List ℕ) (n status : ℕ) → IsAmong all n → IsAmong all 7 → (status ≡ n) ⊎ ((status ≡ 7) × A)
+    → IsAmong all status
+among all n status h k (inl is) = rw is h
+among all n status h k (inr is) = rw is.0 k
 
 -- ---- the status of an end
 
@@ -37,18 +51,8 @@ module _ (a m b : Outside) (on : GoesOn a m b) (status : ℕ) where
   pub status_is : (e : End) → Caused a m e → Finished e m.given b.given m.sink_faults b.sink_faults status
       → IsStatus e a b status
   status_is (Ok u) c f = inl f.answer
-  status_is (Err Memory) c f = put_status Memory f
-  status_is (Err Usage) c f = put_status Usage f
-  status_is (Err (Param x y)) c f = put_status (Param x y) f
-  status_is (Err (Layout x)) c f = put_status (Layout x) f
-  status_is (Err NoSharedZone) c f = put_status NoSharedZone f
-  status_is (Err (Short x y)) c f = put_status (Short x y) f
-  status_is (Err ScriptFault) c f = put_status ScriptFault f
-  status_is (Err ImageFault) c f = put_status ImageFault f
   status_is (Err SinkFault) c f = inr (f.answer, rose_on a m b on SinkFault c f.later)
-  status_is (Err TooLong) c f = put_status TooLong f
-  status_is (Err (BadLine x)) c f = put_status (BadLine x) f
-  status_is (Err (Refused x y)) c f = put_status (Refused x y) f
+  status_is (Err s) c f = put_status s f
 
   -- text that was put by the end of the work, and the last line; or the output failed
   put_after : (s : Stop) (n : ℕ) → status_of (Err s) ≡ n → n ≢ 7 → m.given ≡ a.given
@@ -113,16 +117,9 @@ module _ (a m b : Outside) (on : GoesOn a m b) (status : ℕ) where
         (rose_on a m b on ImageFault c f.later) (λ k. inr (k, rose_on a m b on ImageFault c f.later))
         (put_status ImageFault f)
     short_at (Err (Short x y)) c h q f = short_stop x y h q.1 f
-    short_at (Err Usage) c h q f = enough 2 (λ z. absurd (omega arith)) h (put_status Usage f)
-    short_at (Err (Param x y)) c h q f = enough 3 (λ z. absurd (omega arith)) h (put_status (Param x y) f)
-    short_at (Err (Layout x)) c h q f = enough 3 (λ z. absurd (omega arith)) h (put_status (Layout x) f)
-    short_at (Err NoSharedZone) c h q f = enough 3 (λ z. absurd (omega arith)) h (put_status NoSharedZone f)
-    short_at (Err ScriptFault) c h q f = enough 5 (λ z. absurd (omega arith)) h (put_status ScriptFault f)
     short_at (Err SinkFault) c h q f = enough 7 (λ z. absurd (omega arith)) h
         (inr (f.answer, rose_on a m b on SinkFault c f.later))
-    short_at (Err TooLong) c h q f = enough 8 (λ z. absurd (omega arith)) h (put_status TooLong f)
-    short_at (Err (BadLine x)) c h q f = enough 9 (λ z. absurd (omega arith)) h (put_status (BadLine x) f)
-    short_at (Err (Refused x y)) c h q f = enough 10 (λ z. absurd (omega arith)) h (put_status (Refused x y) f)
+    short_at (Err s) c h q f = enough (status_of (Err s)) (λ z. absurd (omega arith)) h (put_status s f)
 
   -- ---- a script
 
@@ -196,16 +193,8 @@ module _ (a m b : Outside) (on : GoesOn a m b) (status : ℕ) where
     ]
     script_at (Err TooLong) c h q f = too_long h (put_status TooLong f)
     script_at (Err (BadLine x)) c h q f = bad_line x h q.1 f
-    script_at (Err Usage) c h q f = good 2 (λ z. absurd (omega arith)) (λ z. absurd (omega arith)) h
-        (put_status Usage f)
-    script_at (Err (Param x y)) c h q f = good 3 (λ z. absurd (omega arith)) (λ z. absurd (omega arith)) h
-        (put_status (Param x y) f)
-    script_at (Err (Layout x)) c h q f = good 3 (λ z. absurd (omega arith)) (λ z. absurd (omega arith)) h
-        (put_status (Layout x) f)
-    script_at (Err NoSharedZone) c h q f = good 3 (λ z. absurd (omega arith)) (λ z. absurd (omega arith)) h
-        (put_status NoSharedZone f)
-    script_at (Err (Refused x y)) c h q f = good 10 (λ z. absurd (omega arith)) (λ z. absurd (omega arith)) h
-        (put_status (Refused x y) f)
+    script_at (Err s) c h q f = good (status_of (Err s)) (λ z. absurd (omega arith)) (λ z. absurd (omega arith)) h
+        (put_status s f)
 
   -- ---- how much of the script was read
 
@@ -299,22 +288,6 @@ module _ (a m b : Outside) (on : GoesOn a m b) (status : ℕ) where
       → ScriptUse a b status
   use_at (Ok u) c h f = ended_at 0 (λ z. absurd (omega arith)) (λ z. absurd (omega arith)) (λ z. absurd (omega arith))
       (λ z. absurd (omega arith)) h f.answer
-  use_at (Err Memory) c h f = quiet_end Memory 1 refl (λ z. absurd (omega arith)) (λ z. absurd (omega arith))
-      (λ z. absurd (omega arith)) (λ z. absurd (omega arith)) (λ z. absurd (omega arith)) (λ z. absurd (omega arith))
-      (λ z. absurd (omega arith)) (put_status Memory f)
-  use_at (Err Usage) c h f = quiet_end Usage 2 refl (λ z. absurd (omega arith)) (λ z. absurd (omega arith))
-      (λ z. absurd (omega arith)) (λ z. absurd (omega arith)) (λ z. absurd (omega arith)) (λ z. absurd (omega arith))
-      (λ z. absurd (omega arith)) (put_status Usage f)
-  use_at (Err (Param x y)) c h f = quiet_end (Param x y) 3 refl (λ z. absurd (omega arith)) (λ z. absurd (omega arith))
-      (λ z. absurd (omega arith)) (λ z. absurd (omega arith)) (λ z. absurd (omega arith)) (λ z. absurd (omega arith))
-      (λ z. absurd (omega arith)) (put_status (Param x y) f)
-  use_at (Err (Layout x)) c h f = quiet_end (Layout x) 3 refl (λ z. absurd (omega arith)) (λ z. absurd (omega arith))
-      (λ z. absurd (omega arith)) (λ z. absurd (omega arith)) (λ z. absurd (omega arith)) (λ z. absurd (omega arith))
-      (λ z. absurd (omega arith)) (put_status (Layout x) f)
-  use_at (Err NoSharedZone) c h f = quiet_end NoSharedZone 3 refl (λ z. absurd (omega arith))
-      (λ z. absurd (omega arith))
-      (λ z. absurd (omega arith)) (λ z. absurd (omega arith)) (λ z. absurd (omega arith)) (λ z. absurd (omega arith))
-      (λ z. absurd (omega arith)) (put_status NoSharedZone f)
   use_at (Err (Short x y)) c h f = used_by (Short x y) (unread_at h.0) (put_status (Short x y) f)
   use_at (Err ScriptFault) c h f = used_by ScriptFault
       (λ k. fault_at (put_after ScriptFault 5 refl (λ z. absurd (omega arith)) h f k) k) (put_status ScriptFault f)
@@ -328,6 +301,9 @@ module _ (a m b : Outside) (on : GoesOn a m b) (status : ℕ) where
   use_at (Err (Refused x y)) c h f = used_by (Refused x y)
       (ended_at 10 (λ z. absurd (omega arith)) (λ z. absurd (omega arith)) (λ z. absurd (omega arith))
       (λ z. absurd (omega arith)) h) (put_status (Refused x y) f)
+  use_at (Err s) c h f = quiet_end s (status_of (Err s)) refl (λ z. absurd (omega arith)) (λ z. absurd (omega arith))
+      (λ z. absurd (omega arith)) (λ z. absurd (omega arith)) (λ z. absurd (omega arith)) (λ z. absurd (omega arith))
+      (λ z. absurd (omega arith)) (put_status s f)
 
   -- ---- commands
 
@@ -350,22 +326,12 @@ module _ (a m b : Outside) (on : GoesOn a m b) (status : ℕ) where
   some_put s f = elim f.shown [ inl h ↦ (last_line s, h.1) | inr h ↦ (take h.2.count (last_line s), h.2.bytes) ]
 
   none_put : b.given ≡ m.given → PutsMore
-  none_put same = ([], rw same (nothing_put m.given))
+  none_put same = ([], rw same (Appends-nil m.given))
 
   last_put : (e : End) → Finished e m.given b.given m.sink_faults b.sink_faults status → PutsMore
   last_put (Ok u) f = none_put f.same
   last_put (Err SinkFault) f = none_put f.same
-  last_put (Err Memory) f = some_put Memory f
-  last_put (Err Usage) f = some_put Usage f
-  last_put (Err (Param x y)) f = some_put (Param x y) f
-  last_put (Err (Layout x)) f = some_put (Layout x) f
-  last_put (Err NoSharedZone) f = some_put NoSharedZone f
-  last_put (Err (Short x y)) f = some_put (Short x y) f
-  last_put (Err ScriptFault) f = some_put ScriptFault f
-  last_put (Err ImageFault) f = some_put ImageFault f
-  last_put (Err TooLong) f = some_put TooLong f
-  last_put (Err (BadLine x)) f = some_put (BadLine x) f
-  last_put (Err (Refused x y)) f = some_put (Refused x y) f
+  last_put (Err s) f = some_put s f
 
   -- text that was put first stays so
   text_on : (w : Wanted) → NoImage a m ⊎ PutsAll w a m → PutsMore → NoImage a b ⊎ PutsAll w a b
@@ -374,7 +340,7 @@ module _ (a m b : Outside) (on : GoesOn a m b) (status : ℕ) where
       inr (
         h.0 ++ put.0,
         rw (← append_assoc (whole w.texts) h.0 put.0)
-            (appends_on a.given m.given b.given (whole w.texts ++ h.0) put.0 h.1 put.1),
+            (Appends-trans a.given m.given b.given (whole w.texts ++ h.0) put.0 h.1 put.1),
       )
 
   -- the image failed as it was written
@@ -395,77 +361,68 @@ module _ (a m b : Outside) (on : GoesOn a m b) (status : ℕ) where
       → SavedInPart w a b (last_line ImageFault)
   written_at w (Err ImageFault) c h f = image_written w c h f
   written_at w (Ok u) c h f = not_six w 0 (λ z. absurd (omega arith)) (inl f.answer)
-  written_at w (Err Memory) c h f = not_six w 1 (λ z. absurd (omega arith)) (put_status Memory f)
-  written_at w (Err Usage) c h f = not_six w 2 (λ z. absurd (omega arith)) (put_status Usage f)
-  written_at w (Err (Param x y)) c h f = not_six w 3 (λ z. absurd (omega arith)) (put_status (Param x y) f)
-  written_at w (Err (Layout x)) c h f = not_six w 3 (λ z. absurd (omega arith)) (put_status (Layout x) f)
-  written_at w (Err NoSharedZone) c h f = not_six w 3 (λ z. absurd (omega arith)) (put_status NoSharedZone f)
-  written_at w (Err (Short x y)) c h f = not_six w 4 (λ z. absurd (omega arith)) (put_status (Short x y) f)
-  written_at w (Err ScriptFault) c h f = not_six w 5 (λ z. absurd (omega arith)) (put_status ScriptFault f)
   written_at w (Err SinkFault) c h f = not_six w 7 (λ z. absurd (omega arith)) (inl f.answer)
-  written_at w (Err TooLong) c h f = not_six w 8 (λ z. absurd (omega arith)) (put_status TooLong f)
-  written_at w (Err (BadLine x)) c h f = not_six w 9 (λ z. absurd (omega arith)) (put_status (BadLine x) f)
-  written_at w (Err (Refused x y)) c h f = not_six w 10 (λ z. absurd (omega arith)) (put_status (Refused x y) f)
+  written_at w (Err s) c h f = not_six w (status_of (Err s)) (λ z. absurd (omega arith)) (put_status s f)
 
-  run_answers : (plan : RamPlan) (e : End) → Caused a m e → RunEnds plan a m e
-      → Finished e m.given b.given m.sink_faults b.sink_faults status → RunAnswers plan a b status
-  run_answers plan e c h f = record {
+  -- a status among those of the command
+  can_answer : (plan : RamPlan) (e : End) → Caused a m e → CanEnd plan e
+      → Finished e m.given b.given m.sink_faults b.sink_faults status → Can plan status
+  can_answer plan e c h f = among (ram_statuses plan.command) (status_of e) status h
+      (class_can_fail (class_of plan.command) (names_one plan.command)) (status_is e c f)
+
+  -- a command that reads the image
+  pub image_answers : (all : List ℕ) → IsAmong all 7 → (want : List ℕ → Wanted) (e : End) → Caused a m e
+      → ImageEnds all want a m e → Finished e m.given b.given m.sink_faults b.sink_faults status
+      → ImageAnswers all want a b status
+  image_answers all fail want e c h f = record {
+    can = among all (status_of e) status h.can fail (status_is e c f);
+    whole = record { told = λ bytes t. answers a m b on (want bytes) status e c (h.whole.told bytes t) f };
+    script = script_on a m b h.script on.script;
+  }
+
+  read_answers : (plan : RamPlan) (e : End) → Caused a m e → RamReadEnds plan a m e
+      → Finished e m.given b.given m.sink_faults b.sink_faults status → ReadAnswers plan a b status
+  read_answers plan e c h f = record {
+    can = can_answer plan e c h.can f;
+    whole = record {
+      told = λ bytes t. answers a m b on (wanted_of_image plan bytes) status e c (h.whole.told bytes t) f;
+    };
+    script = script_on a m b h.script on.script;
+    image = on.image.holds ∙ h.image;
+  }
+
+  pub class_answers : (class : Class) (plan : RamPlan) (e : End) → Caused a m e → ClassEnds class plan a m e
+      → Finished e m.given b.given m.sink_faults b.sink_faults status → ClassAnswers class plan a b status
+  class_answers RunsScript plan e c h f = record {
+    can = can_answer plan e c h.can f;
     whole = record { told = λ bytes text t l. answers a m b on _ status e c (h.whole.told bytes text t l) f };
     read = script_read (mem_of plan) e c h.read f;
-    image_fault = λ six. elim h.image_fault [
+    image_fault = elim h.image_fault [
       | inl k ↦ inl (script_on a m b k on.script)
       | inr k ↦ inr (record {
-        told = λ bytes text t l. written_at (wanted plan bytes text) e c (k.told bytes text t l) f six;
+        told = λ bytes text t l. written_at (wanted plan bytes text) e c (k.told bytes text t l) f;
       })
     ];
   }
-
-  make_answers : (plan : RamPlan) (e : End) → Caused a m e → MakeEnds plan a m e
-      → Finished e m.given b.given m.sink_faults b.sink_faults status → MakeAnswers plan a b status
-  make_answers plan e c h f = record {
+  class_answers ReadsImage plan e c h f = read_answers plan e c h f
+  class_answers ReadsDump plan e c h f = read_answers plan e c h f
+  class_answers WritesImage plan e c h f = image_answers (ram_statuses plan.command)
+      (class_can_fail (class_of plan.command) (names_one plan.command)) (wanted_of_image plan) e c h f
+  class_answers MakesImage plan e c h f = record {
+    can = can_answer plan e c h.can f;
     whole = answers a m b on _ status e c h.whole f;
     script = script_on a m b h.script on.script;
     image_fault = written_at (wanted plan [] []) e c h.image_fault f;
     text_first = text_on (wanted plan [] []) h.text_first (last_put e f);
   }
-
-  -- a command that reads the image
-  pub image_answers : (all : List ℕ) (want : List ℕ → Wanted) (e : End) → Caused a m e → ImageEnds all want a m e
-      → Finished e m.given b.given m.sink_faults b.sink_faults status → ImageAnswers want a b status
-  image_answers all want e c h f = record {
-    whole = record { told = λ bytes t. answers a m b on (want bytes) status e c (h.whole.told bytes t) f };
-    script = script_on a m b h.script on.script;
-  }
-
-  pub read_answers : (all : List ℕ) (want : List ℕ → Wanted) (e : End) → Caused a m e → ReadEnds all want a m e
-      → Finished e m.given b.given m.sink_faults b.sink_faults status → ReadAnswers want a b status
-  read_answers all want e c h f = record {
-    whole = record { told = λ bytes t. answers a m b on (want bytes) status e c (h.whole.told bytes t) f };
-    script = script_on a m b h.script on.script;
-    image = on.image.holds ∙ h.image;
-  }
-
-  pub ram_answers : (k : RamCommand) (plan : RamPlan) (e : End) → Caused a m e → RamEnds k plan a m e
-      → Finished e m.given b.given m.sink_faults b.sink_faults status → RamAnswers k plan a b status
-  ram_answers RunScript plan e c h f = run_answers plan e c h f
-  ram_answers ListRecords plan e c h f = read_answers (ram_statuses plan.command) (wanted_of_image plan) e c h f
-  ram_answers (ExtractRecord name) plan e c h f =
-      read_answers (ram_statuses plan.command) (wanted_of_image plan) e c h f
-  ram_answers (EraseRecord name) plan e c h f =
-      image_answers (ram_statuses plan.command) (wanted_of_image plan) e c h f
-  ram_answers ShowLayout plan e c h f = record {
+  class_answers ShowsText plan e c h f = record {
+    can = can_answer plan e c h.can f;
     whole = answers a m b on _ status e c h.whole f;
     script = script_on a m b h.script on.script;
     image = image_on a m b h.image on.image;
   }
-  ram_answers BlankImage plan e c h f = make_answers plan e c h f
-  ram_answers (MakeImage n) plan e c h f = make_answers plan e c h f
-  ram_answers RunShared plan e c h f = run_answers plan e c h f
-  ram_answers FindRings plan e c h f = read_answers (ram_statuses plan.command) (wanted_of_image plan) e c h f
-  ram_answers (ReadRing at name) plan e c h f =
-      read_answers (ram_statuses plan.command) (wanted_of_image plan) e c h f
 
 -- ---- work that nothing has come of
 
 pub no_texts : (w : Wanted) (given : Option (List ℕ)) → PutTexts w.texts given given
-no_texts w given = record { count = 0; bytes = nothing_put given }
+no_texts w given = record { count = 0; bytes = Appends-nil given }

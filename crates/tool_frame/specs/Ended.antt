@@ -1,29 +1,21 @@
 -- How the work of a run ends, before its last line
 use Rattle.std.specs.Prelude.{◌≡◌, ◌⊎◌, ⊤, ℕ, ◌≤◌, ◌<◌, List, [], length, Option, Result, Ok, Err, IsOk}
 use Rattle.std.specs.Io.KnownBytes.{Appends, IsAtEnd}
-use Rattle.outside.specs.Outside.{Rose, AppendsFront}
+use Rattle.outside.specs.Outside.{Rose}
 use Rattle.blk_spec.specs.declared.BlkLayout.{BlkLayout}
 use Rattle.grammar_spec.specs.Fields.{Text}
 use Rattle.grammar_spec.specs.Lines.{script_of}
 use Rattle.grammar_spec.specs.declared.line.Line.{Line}
-use Rattle.tool_spec.specs.Ends.{End, status_of}
-use Rattle.tool_spec.specs.Commands.{RamCommand, RunScript, ListRecords, ExtractRecord, EraseRecord, ShowLayout, BlankImage, MakeImage, FindRings, ReadRing, RamPlan, Plan, OfRam, OfBlk, OfMove, Wanted, wanted, wanted_of_image, wanted_move, mem_of, stops, script_limit, RunShared}
-use Rattle.tool_spec.specs.Answers.{Outside, IfHolds, IfLeft, IfTold, NoScript, NoImage, Later, front, whole, WritesAll, WritesSome, PutsAll}
-use Rattle.tool_spec.specs.BlkAnswers.{blk_lines, BlkStop, AllDone}
-use Rattle.tool_spec.specs.PlanAnswers.{ram_statuses, statuses, IsAmong, WritesLast}
-use Rattle.tool_frame.specs.Stages.{KeptUnless}
-use Rattle.tool_spec.specs.declared.Stop.{Stop}
-use Rattle.tool_spec.specs.declared.Stop.TheVariants.{Memory, Usage, Param, Layout, NoSharedZone, Short, ScriptFault, ImageFault, SinkFault, TooLong, BadLine, Refused}
-
--- some first texts were put
-pub record PutTexts (texts : List Text) (old new : Option (List ℕ)) : Type 0 where
-  pub count : ℕ
-  pub bytes : Appends old new (front texts count)
-
--- a front of some first texts was put
-pub record PutSome (texts : List Text) (old new : Option (List ℕ)) : Type 0 where
-  pub count : ℕ
-  pub bytes : AppendsFront old new (front texts count)
+use Rattle.command_spec.specs.Ends.{End, status_of}
+use Rattle.command_spec.specs.Commands.{RamCommand, Class, RunsScript, ReadsImage, ReadsDump, WritesImage, MakesImage, ShowsText, class_of, RamPlan, Plan, OfRam, OfBlk, OfMove, Wanted, wanted, wanted_of_image, wanted_move, mem_of, stops, script_limit}
+use Rattle.command_spec.specs.Answers.{Outside, IfHolds, IfLeft, IfTold, NoScript, NoImage, Later, WritesAll, WritesSome, OfScript, OfImage, OfReading, OfMaking, OfShowing}
+use Rattle.script_spec.specs.Texts.{whole}
+use Rattle.command_spec.specs.BlkAnswers.{blk_lines, BlkStop}
+use Rattle.script_spec.specs.BlkStops.{AllDone}
+use Rattle.command_spec.specs.PlanAnswers.{ram_statuses, statuses, IsAmong, WritesLast}
+use Rattle.script_spec.specs.Playing.{KeptUnless, PutTexts, PutSome}
+use Rattle.command_spec.specs.declared.Stop.{Stop}
+use Rattle.command_spec.specs.declared.Stop.TheVariants.{Memory, Usage, Param, Layout, NoSharedZone, Short, ScriptFault, ImageFault, SinkFault, TooLong, BadLine, Refused}
 
 -- the output and the image after the work of a command that wants this
 abbrev pub EndedAt : Wanted → Option (List ℕ) → Option (List ℕ) → Option (List ℕ) → Option (List ℕ) → End → Type 0
@@ -109,25 +101,17 @@ WrittenAt w a b (Err ImageFault) = (w.end ≡ Ok tt) × Appends a.given b.given 
     × WritesSome w.writes a.holds b.holds
 WrittenAt w a b e = ⊤
 
--- how each command's work ends, as far as the outside tells what it uses
-pub record RunEnds (plan : RamPlan) (a b : Outside) (e : End) : Type 0 where
-  pub can : CanEnd plan e
-  pub whole : IfTold a (λ bytes script. Ended (wanted plan bytes script) a b e)
-  pub read : ScriptEnds (mem_of plan) a b e
-  -- before the script is read the image may fail as it is read too
-  pub image_fault : NoScript a b ⊎ IfTold a (λ bytes script. WrittenAt (wanted plan bytes script) a b e)
+-- how each kind of command's work ends, as far as the outside tells what it uses
+abbrev pub RunEnds : RamPlan → Outside → Outside → End → Type 0
+RunEnds plan a b e = OfScript (λ d. CanEnd plan d) (λ d. ScriptEnds (mem_of plan) a b d) (λ d w. Ended w a b d)
+    (λ d w. WrittenAt w a b d) plan a b e
 
 -- with these statuses, where this is wanted of the image
-pub record ImageEnds (all : List ℕ) (want : List ℕ → Wanted) (a b : Outside) (e : End) : Type 0 where
-  pub can : IsAmong all (status_of e)
-  pub whole : IfHolds a (λ bytes. Ended (want bytes) a b e)
-  pub script : NoScript a b
+abbrev pub ImageEnds : List ℕ → (List ℕ → Wanted) → Outside → Outside → End → Type 0
+ImageEnds all want a b e = OfImage (λ d. IsAmong all (status_of d)) (λ d w. Ended w a b d) want a b e
 
-pub record ReadEnds (all : List ℕ) (want : List ℕ → Wanted) (a b : Outside) (e : End) : Type 0 where
-  pub can : IsAmong all (status_of e)
-  pub whole : IfHolds a (λ bytes. Ended (want bytes) a b e)
-  pub script : NoScript a b
-  pub image : b.holds ≡ a.holds
+abbrev pub ReadEnds : List ℕ → (List ℕ → Wanted) → Outside → Outside → End → Type 0
+ReadEnds all want a b e = OfReading (λ d. IsAmong all (status_of d)) (λ d w. Ended w a b d) want a b e
 
 -- the same of commands on an image
 abbrev pub RamImageEnds : RamPlan → Outside → Outside → End → Type 0
@@ -136,18 +120,12 @@ RamImageEnds plan a b e = ImageEnds (ram_statuses plan.command) (wanted_of_image
 abbrev pub RamReadEnds : RamPlan → Outside → Outside → End → Type 0
 RamReadEnds plan a b e = ReadEnds (ram_statuses plan.command) (wanted_of_image plan) a b e
 
-pub record MakeEnds (plan : RamPlan) (a b : Outside) (e : End) : Type 0 where
-  pub can : CanEnd plan e
-  pub whole : Ended (wanted plan [] []) a b e
-  pub script : NoScript a b
-  pub image_fault : WrittenAt (wanted plan [] []) a b e
-  pub text_first : NoImage a b ⊎ PutsAll (wanted plan [] []) a b
+abbrev pub MakeEnds : RamPlan → Outside → Outside → End → Type 0
+MakeEnds plan a b e = OfMaking (λ d. CanEnd plan d) (λ d w. Ended w a b d) (λ d w. WrittenAt w a b d)
+    (wanted plan [] []) a b e
 
-pub record ShowEnds (plan : RamPlan) (a b : Outside) (e : End) : Type 0 where
-  pub can : CanEnd plan e
-  pub whole : Ended (wanted plan [] []) a b e
-  pub script : NoScript a b
-  pub image : NoImage a b
+abbrev pub ShowEnds : RamPlan → Outside → Outside → End → Type 0
+ShowEnds plan a b e = OfShowing (λ d. CanEnd plan d) (λ d w. Ended w a b d) (wanted plan [] []) a b e
 
 -- ---- a script on the block store
 
@@ -193,17 +171,16 @@ pub record BlkEnds (layout : BlkLayout) (a b : Outside) (e : End) : Type 0 where
 
 -- ---- any words
 
+abbrev pub ClassEnds : Class → RamPlan → Outside → Outside → End → Type 0
+ClassEnds RunsScript plan a b e = RunEnds plan a b e
+ClassEnds ReadsImage plan a b e = RamReadEnds plan a b e
+ClassEnds ReadsDump plan a b e = RamReadEnds plan a b e
+ClassEnds WritesImage plan a b e = RamImageEnds plan a b e
+ClassEnds MakesImage plan a b e = MakeEnds plan a b e
+ClassEnds ShowsText plan a b e = ShowEnds plan a b e
+
 abbrev pub RamEnds : RamCommand → RamPlan → Outside → Outside → End → Type 0
-RamEnds RunScript plan a b e = RunEnds plan a b e
-RamEnds ListRecords plan a b e = RamReadEnds plan a b e
-RamEnds (ExtractRecord name) plan a b e = RamReadEnds plan a b e
-RamEnds (EraseRecord name) plan a b e = RamImageEnds plan a b e
-RamEnds ShowLayout plan a b e = ShowEnds plan a b e
-RamEnds BlankImage plan a b e = MakeEnds plan a b e
-RamEnds (MakeImage n) plan a b e = MakeEnds plan a b e
-RamEnds RunShared plan a b e = RunEnds plan a b e
-RamEnds FindRings plan a b e = RamReadEnds plan a b e
-RamEnds (ReadRing at name) plan a b e = RamReadEnds plan a b e
+RamEnds command plan a b e = ClassEnds (class_of command) plan a b e
 
 abbrev pub PlanEnds : Plan → Outside → Outside → End → Type 0
 PlanEnds (OfRam plan) a b e = RamEnds plan.command plan a b e
@@ -227,17 +204,11 @@ FailsAsked old new (Err ImageFault) = Rose old new
 FailsAsked old new e = ⊤
 
 -- how often the image was asked to be written: a command that only reads never asks
-abbrev pub CommandAsks : RamCommand → ℕ → ℕ → End → Type 0
-CommandAsks RunScript old new e = KeptAt old new e
-CommandAsks ListRecords old new e = new ≡ old
-CommandAsks (ExtractRecord name) old new e = new ≡ old
-CommandAsks (EraseRecord name) old new e = KeptAt old new e
-CommandAsks ShowLayout old new e = new ≡ old
-CommandAsks BlankImage old new e = KeptAt old new e × FailsAsked old new e
-CommandAsks (MakeImage n) old new e = KeptAt old new e × FailsAsked old new e
-CommandAsks RunShared old new e = KeptAt old new e
-CommandAsks FindRings old new e = new ≡ old
-CommandAsks (ReadRing at name) old new e = new ≡ old
+abbrev pub ClassAsks : Class → ℕ → ℕ → End → Type 0
+ClassAsks RunsScript old new e = KeptAt old new e
+ClassAsks WritesImage old new e = KeptAt old new e
+ClassAsks MakesImage old new e = KeptAt old new e × FailsAsked old new e
+ClassAsks other old new e = new ≡ old
 
 -- a script on the block store asks as its lines are done, and not before
 abbrev pub LinesAsk : ℕ → ℕ → End → Type 0
@@ -249,9 +220,9 @@ LinesAsk old new (Err (Refused n cause)) = ⊤
 LinesAsk old new (Err s) = new ≡ old
 
 abbrev pub Asks : Result Plan Stop → ℕ → ℕ → End → Type 0
-Asks (Ok (OfRam plan)) old new e = CommandAsks plan.command old new e
+Asks (Ok (OfRam plan)) old new e = ClassAsks (class_of plan.command) old new e
 Asks (Ok (OfBlk layout)) old new e = LinesAsk old new e
-Asks (Ok (OfMove plan)) old new e = KeptAt old new e
+Asks (Ok (OfMove plan)) old new e = ClassAsks WritesImage old new e
 Asks (Err s) old new e = new ≡ old
 
 -- all that holds once the work is done, before the last line: no count of faults falls, a fault has its cause and no

@@ -2,9 +2,9 @@
 use Rattle.std.specs.Prelude.{◌≡◌, ◌⊎◌, ℕ, ◌≤◌, List, Option, Ok, Err}
 use Rattle.std.specs.Io.KnownBytes.{Appends}
 use Rattle.outside.specs.Outside.{Rose, AppendsFront}
-use Rattle.tool_spec.specs.Ends.{End, status_of, last_line}
-use Rattle.tool_spec.specs.declared.Stop.{Stop}
-use Rattle.tool_spec.specs.declared.Stop.TheVariants.{SinkFault}
+use Rattle.command_spec.specs.Ends.{End, status_of, last_line}
+use Rattle.command_spec.specs.declared.Stop.{Stop}
+use Rattle.command_spec.specs.declared.Stop.TheVariants.{SinkFault}
 
 -- the last line was put, or the sink failed
 pub record LastPut (s : Stop) (old new : Option (List ℕ)) (before now : ℕ) (status : ℕ) : Type 0 where

@@ -2,4 +2,3 @@ pub mod Words
 pub mod Ends
 pub mod Stages
 pub mod Ended
-pub mod Playing

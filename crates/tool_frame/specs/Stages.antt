@@ -1,15 +1,10 @@
 -- Why a stage of a run stops
-use Rattle.std.specs.Prelude.{◌≡◌, ◌≢◌, ℕ, ◌<◌, List, length, ⊤, Option, IfSome, Result, Ok, Err}
+use Rattle.std.specs.Prelude.{◌≡◌, ℕ, ◌<◌, List, length, ⊤, Option, IfSome, Result, Err}
 use Rattle.outside.specs.Outside.{Rose}
 use Rattle.grammar_spec.specs.declared.line.Line.{Line}
-use Rattle.tool_spec.specs.Commands.{script_limit}
-use Rattle.tool_spec.specs.declared.Stop.{Stop}
-use Rattle.tool_spec.specs.declared.Stop.TheVariants.{Memory, ScriptFault, ImageFault, TooLong, Short, BadLine}
-
--- a count is as before, unless the stage stops for this fault
-abbrev pub KeptUnless : {T : Type 0} → Stop → Result T Stop → ℕ → ℕ → Type 0
-KeptUnless fault (Ok done) before now = now ≡ before
-KeptUnless fault (Err stop) before now = stop ≢ fault → now ≡ before
+use Rattle.command_spec.specs.Commands.{script_limit}
+use Rattle.command_spec.specs.declared.Stop.{Stop}
+use Rattle.command_spec.specs.declared.Stop.TheVariants.{Memory, ScriptFault, ImageFault, TooLong, Short, BadLine}
 
 -- reading a script
 abbrev pub ScriptStop : Stop → Option (List ℕ) → ℕ → ℕ → Type 0

@@ -6,37 +6,37 @@ use Rattle.blk_spec.specs.Layout.{IsLayout}
 use Rattle.zone_params.specs.declared.types.Layout.{Layout}
 use Rattle.zone_params.specs.Laid.{params_of, zones_of}
 use Rattle.grammar_spec.specs.Fields.{Text}
-use Rattle.tool_spec.specs.Commands.{RamCommand, RunScript, ListRecords, ExtractRecord, EraseRecord, ShowLayout, BlankImage, MakeImage, FindRings, ReadRing, Command, OnRam, RunBlkScript, MoveImage, Asked, RamPlan, Laid, MovePlan, Plan, OfRam, OfBlk, OfMove, RunShared}
-use Rattle.tool_spec.specs.SharedScripts.{lacks_plain_ftrace}
-use Rattle.tool_spec.specs.declared.Stop.{Stop}
-use Rattle.tool_spec.specs.declared.Stop.TheVariants.{Memory, ScriptFault, ImageFault, SinkFault}
+use Rattle.command_spec.specs.Commands.{RamCommand, Run, ListRecords, Extract, Erase, ShowLayout, Blank, Make, SharedRun, Salvage, Rescue, Command, OnRam, BlkRun, Move, Asked, RamPlan, Laid, MovePlan, Plan, OfRam, OfBlk, OfMove}
+use Rattle.script_spec.specs.SharedScripts.{lacks_plain_ftrace}
+use Rattle.command_spec.specs.declared.Stop.{Stop}
+use Rattle.command_spec.specs.declared.Stop.TheVariants.{Memory, ScriptFault, ImageFault, SinkFault}
 use Rattle.tool_frame.specs.declared.words.RamCommand.{RamCommand as ReadRamCommand}
-use Rattle.tool_frame.specs.declared.words.RamCommand.TheVariants.{Run, List as ListCommand, Extract, Erase, Layout as LayoutCommand, Blank, Make, Salvage, Rescue}
+use Rattle.tool_frame.specs.declared.words.RamCommand.TheVariants.{Run as RunRead, ListRecords as ListRead, Extract as ExtractRead, Erase as EraseRead, ShowLayout as LayoutRead, Blank as BlankRead, Make as MakeRead, Salvage as SalvageRead, Rescue as RescueRead}
 use Rattle.tool_frame.specs.declared.asked.Command.{Command as ReadCommand}
-use Rattle.tool_frame.specs.declared.asked.Command.TheVariants.{OnRam as OnRamRead, RunBlk, Move as MoveRead, RunShared as RunSharedRead}
+use Rattle.tool_frame.specs.declared.asked.Command.TheVariants.{OnRam as OnRamRead, BlkRun as BlkRunRead, Move as MoveRead, SharedRun as SharedRunRead}
 use Rattle.tool_frame.specs.declared.asked.Asked.{Asked as ReadAsked}
 use Rattle.tool_frame.specs.declared.words.Plan.{Plan as ReadPlan}
-use Rattle.tool_frame.specs.declared.words.Plan.TheVariants.{Ram, Blk, Move, Share}
+use Rattle.tool_frame.specs.declared.words.Plan.TheVariants.{Ram, Blk, Move as MovePlanRead, Share}
 
 abbrev pub texts : List (String Global) → List Text
 texts words = map string_bytes words
 
 abbrev pub ram_command_seen : ReadRamCommand → RamCommand
-ram_command_seen Run = RunScript
-ram_command_seen ListCommand = ListRecords
-ram_command_seen (Extract name) = ExtractRecord name.now
-ram_command_seen (Erase name) = EraseRecord name.now
-ram_command_seen LayoutCommand = ShowLayout
-ram_command_seen Blank = BlankImage
-ram_command_seen (Make n) = MakeImage n
-ram_command_seen Salvage = FindRings
-ram_command_seen (Rescue at name) = ReadRing at name
+ram_command_seen RunRead = Run
+ram_command_seen ListRead = ListRecords
+ram_command_seen (ExtractRead name) = Extract name.now
+ram_command_seen (EraseRead name) = Erase name.now
+ram_command_seen LayoutRead = ShowLayout
+ram_command_seen BlankRead = Blank
+ram_command_seen (MakeRead n) = Make n
+ram_command_seen SalvageRead = Salvage
+ram_command_seen (RescueRead at name) = Rescue at name
 
 abbrev pub command_seen : ReadCommand → Command
 command_seen (OnRamRead command) = OnRam (ram_command_seen command)
-command_seen RunBlk = RunBlkScript
-command_seen (MoveRead to) = MoveImage (texts to.now)
-command_seen RunSharedRead = OnRam RunShared
+command_seen BlkRunRead = BlkRun
+command_seen (MoveRead to) = Move (texts to.now)
+command_seen SharedRunRead = OnRam SharedRun
 
 abbrev pub asked_seen : ReadAsked → Asked
 asked_seen a = record { command = command_seen a.command; before = a.before; params = texts a.params.now }
@@ -55,8 +55,8 @@ move_for from to = record { from = laid_for from; to = laid_for to }
 abbrev pub plan_seen : ReadPlan → Plan
 plan_seen (Ram command layout) = OfRam (plan_for (ram_command_seen command) layout)
 plan_seen (Blk layout) = OfBlk layout
-plan_seen (Move from to) = OfMove (move_for from to)
-plan_seen (Share booted shared) = OfRam (plan_for RunShared booted)
+plan_seen (MovePlanRead from to) = OfMove (move_for from to)
+plan_seen (Share booted shared) = OfRam (plan_for SharedRun booted)
 
 -- a zone that is shared is there without parity, and both layouts are of the same parameters
 pub record CanShareIn (booted shared : Layout) : Type 0 where
@@ -69,7 +69,7 @@ abbrev pub IsLaid : ReadPlan → Type 0
 IsLaid (Ram command layout) = ⊤
 IsLaid (Share booted shared) = CanShareIn booted shared
 IsLaid (Blk layout) = IsLayout layout
-IsLaid (Move from to) = ⊤
+IsLaid (MovePlanRead from to) = ⊤
 
 -- why no plan was read: the fault of the words, or want of memory where they have none
 abbrev pub PlanStop : Stop → Result Plan Stop → Type 0

@@ -8,11 +8,11 @@ use crate::words::RamCommand;
 pub enum Command<'a> {
     OnRam(RamCommand<'a>),
     /// A script on the block store.
-    RunBlk,
+    BlkRun,
     /// A move to an image of these parameters.
     Move(&'a [String]),
     /// A script on a shared zone.
-    RunShared,
+    SharedRun,
 }
 
 /// A command, how many words stand before its parameters, and these.

@@ -1,13 +1,14 @@
 // The last lines of runs.
 ghost use Rattle.std.specs.Prelude.{◌≡◌, ◌+◌, ◌≤◌, ◌++◌, length, decimal, MatchResult};
 ghost use Rattle.arrayvec.specs.ArrayString.{array_string_len};
-ghost use Rattle.tool_spec.specs.Ends.{cause_text, param_text, last_line, status_of};
+ghost use Rattle.command_spec.specs.Ends.{cause_text, param_text, last_line, status_of, stop_of, end_of};
 ghost use Rattle.tool_frame.specs.Ends.{Finished};
 
 use crate::{Cause, Stop};
 use arrayvec::ArrayString;
 use itoa::Buffer;
 use outside::{Failed, Sink};
+use script_spec::LineStop;
 use zone_params::{LayoutFault, ParamFault};
 
 fn push_number(text: &mut ArrayString<128>, n: u64)
@@ -159,6 +160,28 @@ fn status(stop: Stop) -> u8
         Stop::TooLong => 8,
         Stop::BadLine(_) => 9,
         Stop::Refused { .. } => 10,
+    }
+}
+
+/// The end of a run whose lines stopped.
+pub fn stop_of(stop: LineStop) -> Stop
+    ensures { result ≡ stop_of stop }
+{
+    match stop {
+        LineStop::Memory => Stop::Memory,
+        LineStop::StoreFault => Stop::ImageFault,
+        LineStop::SinkFault => Stop::SinkFault,
+        LineStop::Refused { line, cause } => Stop::Refused { line, cause },
+    }
+}
+
+/// The end of a run that ends with its lines.
+pub fn end_of(end: Result<(), LineStop>) -> Result<(), Stop>
+    ensures { result ≡ end_of end }
+{
+    match end {
+        Ok(()) => Ok(()),
+        Err(stop) => Err(stop_of(stop)),
     }
 }
 

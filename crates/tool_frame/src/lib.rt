@@ -6,7 +6,8 @@ mod ending;
 mod stages;
 mod words;
 
-pub use ending::finish;
+pub use command_spec::Stop;
+pub use ending::{end_of, finish, stop_of};
+pub use script_spec::Cause;
 pub use stages::{check_size, fill, lines, load, load_front, read_script, save};
-pub use tool_spec::{Cause, Stop};
 pub use words::{Plan, RamCommand, read_plan};

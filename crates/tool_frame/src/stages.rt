@@ -4,8 +4,9 @@ ghost use Rattle.std.specs.Io.KnownBytes.{IsAtEnd};
 ghost use Rattle.outside.specs.Outside.{Rose, HasCause, Writes, WritesFront};
 ghost use Rattle.grammar_spec.specs.Lines.{script_of};
 ghost use Rattle.grammar_spec.specs.Printed.{AllHaveFields};
-ghost use Rattle.tool_spec.specs.Commands.{script_limit};
-ghost use Rattle.tool_frame.specs.Stages.{KeptUnless, ScriptStop, SizeStop, FrontStop, LoadStop, ParseStop};
+ghost use Rattle.command_spec.specs.Commands.{script_limit};
+ghost use Rattle.script_spec.specs.Playing.{KeptUnless};
+ghost use Rattle.tool_frame.specs.Stages.{ScriptStop, SizeStop, FrontStop, LoadStop, ParseStop};
 
 use crate::Stop;
 use outside::{Failed, Load, Source, Store};

@@ -1,6 +1,6 @@
 // The words of the command line.
 ghost use Rattle.std.specs.Prelude.{◌≡◌, ◌<◌, position, string_bytes, [], ◌∷◌, MatchResult, MatchOption, None, Some, Ok, IfOk, IfErr};
-ghost use Rattle.tool_spec.specs.Commands.{OnRam, RunBlkScript, MoveImage, is_to, with_to, asked, asked_by, with_name, with_number, with_place, with_first_layout, laid_out, plan_of, ExtractRecord, EraseRecord, RunShared};
+ghost use Rattle.command_spec.specs.Commands.{OnRam, BlkRun, Move, is_to, with_to, asked, asked_by, with_name, with_number, with_place, with_first_layout, laid_out, plan_of, Extract, Erase, SharedRun};
 ghost use Rattle.zone_spec.specs.Layout.{layout_of};
 ghost use Rattle.tool_frame.specs.Words.{asked_seen, plan_seen, ram_command_seen, command_seen, texts, PlanStop, IsLaid, IsNoFault};
 
@@ -16,12 +16,12 @@ use zone_params::{LayoutError, Params, ZoneName, layout, read_words};
 pub enum RamCommand<'a> {
     /// A script on an image.
     Run,
-    List,
+    ListRecords,
     /// The content of the record of this name.
     Extract(&'a str),
     /// The erasure of the record of this name.
     Erase(&'a str),
-    Layout,
+    ShowLayout,
     Blank,
     /// The generated session of this number.
     Make(u32),
@@ -70,8 +70,8 @@ fn split_name(words: &[String]) -> Option<(&str, &[String])>
 }
 
 fn extract(words: &[String]) -> Option<Asked<'_>>
-    ensures { MatchOption result (with_name ExtractRecord (texts words.now) ≡ None)
-        (λ a. with_name ExtractRecord (texts words.now) ≡ Some (asked_seen a)) }
+    ensures { MatchOption result (with_name Extract (texts words.now) ≡ None)
+        (λ a. with_name Extract (texts words.now) ≡ Some (asked_seen a)) }
 {
     let (name, params) = split_name(words)?;
     Some(Asked {
@@ -82,8 +82,8 @@ fn extract(words: &[String]) -> Option<Asked<'_>>
 }
 
 fn erase(words: &[String]) -> Option<Asked<'_>>
-    ensures { MatchOption result (with_name EraseRecord (texts words.now) ≡ None)
-        (λ a. with_name EraseRecord (texts words.now) ≡ Some (asked_seen a)) }
+    ensures { MatchOption result (with_name Erase (texts words.now) ≡ None)
+        (λ a. with_name Erase (texts words.now) ≡ Some (asked_seen a)) }
 {
     let (name, params) = split_name(words)?;
     Some(Asked {
@@ -148,15 +148,15 @@ fn asked_by<'a>(word: &str, words: &'a [String]) -> Option<Asked<'a>>
 {
     match word {
         "run" => Some(plain(Command::OnRam(RamCommand::Run), words)),
-        "list" => Some(plain(Command::OnRam(RamCommand::List), words)),
+        "list" => Some(plain(Command::OnRam(RamCommand::ListRecords), words)),
         "extract" => extract(words),
         "erase" => erase(words),
-        "layout" => Some(plain(Command::OnRam(RamCommand::Layout), words)),
+        "layout" => Some(plain(Command::OnRam(RamCommand::ShowLayout), words)),
         "blank" => Some(plain(Command::OnRam(RamCommand::Blank), words)),
         "make" => make(words),
-        "blk-run" => Some(plain(Command::RunBlk, words)),
+        "blk-run" => Some(plain(Command::BlkRun, words)),
         "move" => move_image(words),
-        "shared-run" => Some(plain(Command::RunShared, words)),
+        "shared-run" => Some(plain(Command::SharedRun, words)),
         "salvage" => Some(plain(Command::OnRam(RamCommand::Salvage), words)),
         "rescue" => rescue(words),
         _ => None,
@@ -198,7 +198,7 @@ fn lay_image<'a>(
 
 // A script on a shared zone of an image of these parameters. That the zone is missing comes before want of memory.
 fn lay_shared<'a>(alloc: Global, before: u32, params: &[String]) -> Result<Plan<'a>, Stop>
-    ensures plan { let wanted = laid_out (OnRam RunShared) before (texts params.now) in
+    ensures plan { let wanted = laid_out (OnRam SharedRun) before (texts params.now) in
         MatchResult result (λ plan. wanted ≡ Ok (plan_seen plan)) (λ stop. PlanStop stop wanted) }
     ensures laid { IfOk result IsLaid }
     ensures stops { IfErr result IsNoFault }
@@ -222,7 +222,7 @@ fn lay_shared<'a>(alloc: Global, before: u32, params: &[String]) -> Result<Plan<
 
 // A script on a block store of these parameters, which stand after so many words.
 fn lay_blk<'a>(before: u32, params: &[String]) -> Result<Plan<'a>, Stop>
-    ensures plan { let wanted = laid_out RunBlkScript before (texts params.now) in
+    ensures plan { let wanted = laid_out BlkRun before (texts params.now) in
         MatchResult result (λ plan. wanted ≡ Ok (plan_seen plan)) (λ stop. PlanStop stop wanted) }
     ensures laid { IfOk result IsLaid }
     ensures stops { IfErr result IsNoFault }
@@ -266,7 +266,7 @@ fn lay_move<'a>(
     to: &[String],
 ) -> Result<Plan<'a>, Stop>
     requires { before < 5 }
-    ensures plan { let wanted = laid_out (MoveImage (texts to.now)) before (texts params.now) in
+    ensures plan { let wanted = laid_out (Move (texts to.now)) before (texts params.now) in
         MatchResult result (λ plan. wanted ≡ Ok (plan_seen plan)) (λ stop. PlanStop stop wanted) }
     ensures laid { IfOk result IsLaid }
     ensures stops { IfErr result IsNoFault }
@@ -298,8 +298,8 @@ pub fn read_plan(alloc: Global, words: &[String]) -> Result<Plan<'_>, Stop>
     };
     match asked.command {
         Command::OnRam(command) => lay_image(alloc, command, asked.before, asked.params),
-        Command::RunBlk => lay_blk(asked.before, asked.params),
-        Command::RunShared => lay_shared(alloc, asked.before, asked.params),
+        Command::BlkRun => lay_blk(asked.before, asked.params),
+        Command::SharedRun => lay_shared(alloc, asked.before, asked.params),
         Command::Move(to) => lay_move(alloc, asked.before, asked.params, to),
     }
 }

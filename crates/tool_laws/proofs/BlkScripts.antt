@@ -14,9 +14,9 @@ use Rattle.blk_laws.proofs.Sessions.{Goes, calls-goes, begun-goes, lists-told}
 use Rattle.blk_laws.proofs.CutSessions.{cut-run}
 use Rattle.zone_spec.specs.declared.ZoneName.{ZoneName}
 use Rattle.grammar_spec.specs.declared.line.Line.{Line}
-use Rattle.grammar_spec.specs.declared.line.Line.TheVariants.{Blank, Write, Dump, BeginWrite, BeginErase, BeginDump, Step, Finish, Stop, Flip, Boot, BootPart, List as ListLine, Extract, Erase, KDump, CutAfter, KMsg, Crash, Reserve, StoreNext}
-use Rattle.tool_spec.specs.BlkScripts.{BlkRan, blk_ran_on, blk_next_line, blk_ran, blk_started, blk_line_done, operation_of, performs_if, done_unless, put_by, ring_for, append_to}
-use Rattle.tool_spec.specs.declared.Cause.{Cause}
+use Rattle.grammar_spec.specs.declared.line.Line.TheVariants.{Blank, Write, Boot, List as ListLine, Extract, Erase, KDump, CutAfter}
+use Rattle.script_spec.specs.BlkScripts.{BlkRan, blk_ran_on, blk_next_line, blk_ran, blk_started, blk_line_done, operation_of, performs_if, done_unless, put_by, ring_for, append_to}
+use Rattle.script_spec.specs.declared.Cause.{Cause}
 use Rattle.tool_laws.specs.BlkScripts.{operation_unless, before, operations_from, script_operations, script_calls, is_no_boot, ScriptsAreSessions, EveryBootListsReading, WholeScriptListsTold, EarlyCutScriptListsBefore}
 
 -- what a script so far is left in by an operation, done or refused
@@ -46,16 +46,7 @@ unfolding blk_line_done operation_of
 by_line layout ran Blank operations = refl
 by_line layout ran (Write zone bytes) operations = by_operation layout ran
     (operation_of ran.session.blk (Write zone bytes)) operations
-by_line layout ran (Dump time packed bytes) operations = by_operation layout ran None operations
-by_line layout ran (BeginWrite zone bytes) operations = by_operation layout ran None operations
-by_line layout ran (BeginErase zone) operations = by_operation layout ran None operations
-by_line layout ran (BeginDump time packed bytes) operations = by_operation layout ran None operations
-by_line layout ran (Step zone k) operations = by_operation layout ran None operations
-by_line layout ran (Finish zone) operations = by_operation layout ran None operations
-by_line layout ran Stop operations = by_operation layout ran None operations
-by_line layout ran (Flip place mask) operations = by_operation layout ran None operations
 by_line layout ran Boot operations = by_operation layout ran (operation_of ran.session.blk Boot) operations
-by_line layout ran (BootPart k) operations = by_operation layout ran None operations
 by_line layout ran ListLine operations = by_operation layout ran (operation_of ran.session.blk ListLine) operations
 by_line layout ran (Extract name) operations = by_operation layout ran (operation_of ran.session.blk (Extract name))
     operations
@@ -65,10 +56,7 @@ by_line layout ran (KDump secs nanos packed reason bytes) operations =
     by_operation layout ran (operation_of ran.session.blk (KDump secs nanos packed reason bytes)) operations
 by_line layout ran (CutAfter k) operations = by_operation layout ran (operation_of ran.session.blk (CutAfter k))
     operations
-by_line layout ran (KMsg bytes) operations = by_operation layout ran None operations
-by_line layout ran (Crash reason time) operations = by_operation layout ran None operations
-by_line layout ran (Reserve bytes) operations = by_operation layout ran None operations
-by_line layout ran (StoreNext ticket k) operations = by_operation layout ran None operations
+by_line layout ran line operations = by_operation layout ran None operations
 
 unless_behind : (layout : BlkLayout) (ran : BlkRan) (cause : Option Cause) (line : Line) (operations : List Operation)
     → session_run layout (blk_ran_on ran cause (blk_line_done layout ran.session line)).session operations
@@ -153,27 +141,14 @@ append_no_load (Some ring) bytes = refl
 line_no_load : (blk : Option BlkState) (line : Line) → is_no_boot line ≡ true
     → IfSome (operation_of blk line) (λ (operation : Operation). is_no_load operation Done ≡ true)
 unfolding operation_of
-line_no_load blk Blank h = tt
 line_no_load blk (Write zone bytes) h = append_no_load (ring_for zone.kind) bytes
-line_no_load blk (Dump time packed bytes) h = tt
-line_no_load blk (BeginWrite zone bytes) h = tt
-line_no_load blk (BeginErase zone) h = tt
-line_no_load blk (BeginDump time packed bytes) h = tt
-line_no_load blk (Step zone k) h = tt
-line_no_load blk (Finish zone) h = tt
-line_no_load blk Stop h = tt
-line_no_load blk (Flip place mask) h = tt
 line_no_load blk Boot h = cc
-line_no_load blk (BootPart k) h = tt
 line_no_load blk ListLine h = refl
 line_no_load blk (Extract name) h = refl
 line_no_load blk (Erase name) h = refl
 line_no_load blk (KDump secs nanos packed reason bytes) h = refl
 line_no_load blk (CutAfter k) h = refl
-line_no_load blk (KMsg bytes) h = tt
-line_no_load blk (Crash reason time) h = tt
-line_no_load blk (Reserve bytes) h = tt
-line_no_load blk (StoreNext ticket k) h = tt
+line_no_load blk line h = tt
 
 unless_no_load : (cause : Option Cause) (blk : Option BlkState) (line : Line) → is_no_boot line ≡ true
     → IfSome (operation_unless cause blk line) (λ (operation : Operation). is_no_load operation Done ≡ true)

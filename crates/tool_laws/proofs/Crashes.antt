@@ -9,7 +9,7 @@ use Rattle.machine_spec.specs.States.{LiveState}
 use Rattle.machine_spec.specs.LiveZones.{Target}
 use Rattle.kmsg_spec.specs.declared.Why.{Why}
 use Rattle.kmsg_spec.specs.Bodies.{bytes_of, last_lines, heading, body}
-use Rattle.tool_spec.specs.Scripts.{Kernel, crash_body, dump_target, room_in, why_of, log_limit}
+use Rattle.script_spec.specs.Scripts.{Kernel, crash_body, dump_target, room_in, why_of, log_limit}
 use Rattle.tool_laws.specs.Crashes.{CrashesAreToldWhole}
 
 size_by : (n : ℕ) (b : Bool) (lines last : List (List ℕ)) → nat_le (length (bytes_of lines)) n ≡ b

@@ -5,3 +5,4 @@ pub mod Steps
 pub mod BlkScripts
 pub mod RamScripts
 pub mod SharedScripts
+pub mod Play

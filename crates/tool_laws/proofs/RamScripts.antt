@@ -12,9 +12,9 @@ use Rattle.machine_spec.specs.Sound.{IsState}
 use Rattle.grammar_spec.specs.declared.line.Line.{Line}
 use Rattle.grammar_spec.specs.declared.line.Line.TheVariants.{Blank, Write, Dump, BeginWrite, BeginErase, BeginDump, Step, Finish, Stop, Flip, Boot, BootPart, List as ListLine, Extract, Erase, KDump, CutAfter, KMsg, Crash, Reserve, StoreNext}
 use Rattle.grammar_spec.specs.Printed.{AllHaveFields}
-use Rattle.tool_spec.specs.Scripts.{Kernel, new_kernel, Done, Ran, ran_on, next_line, started, store_line, beside, crashed, log_limit, line_done, done_or_refused, does, put_by, named, extracts_of, erases_of}
-use Rattle.tool_spec.specs.declared.Cause.{Cause}
-use Rattle.tool_spec.specs.declared.Cause.TheVariants.{TooLong}
+use Rattle.script_spec.specs.Scripts.{Kernel, new_kernel, Done, Ran, ran_on, next_line, started, store_line, beside, crashed, log_limit, line_done, done_or_refused, does, put_by, named, extracts_of, erases_of}
+use Rattle.script_spec.specs.declared.Cause.{Cause}
+use Rattle.script_spec.specs.declared.Cause.TheVariants.{TooLong}
 use Rattle.history_spec.specs.Written.{written_by, written, written_in}
 use Rattle.history_laws.specs.Laws.{TellsWritten}
 use Rattle.history_laws.proofs.Told.{operation_tells, fresh_tells, state_reads_written}

@@ -22,10 +22,10 @@ use Rattle.shared_laws.proofs.Positions.{all_bytes-more, all_bytes-set}
 use Rattle.shared_laws.proofs.Closing.{zone_left, log_left}
 use Rattle.shared_laws.proofs.Laws.{words_of_all_law, log_differs_at_open_calls}
 use Rattle.grammar_spec.specs.declared.line.Line.{Line}
-use Rattle.grammar_spec.specs.declared.line.Line.TheVariants.{Blank, Write, Dump, BeginWrite, BeginErase, BeginDump, Step, Finish, Stop, Flip, Boot, BootPart, List as ListLine, Extract, Erase, KDump, CutAfter, KMsg, Crash, Reserve, StoreNext}
-use Rattle.tool_spec.specs.SharedScripts.{SharedRan, shared_ran, shared_on, next_shared, shared_line, reserves, stores, with_steps}
-use Rattle.tool_spec.specs.declared.Cause.{Cause}
-use Rattle.tool_laws.specs.SharedScripts.{payload_of, log_in, full_log, ReadsShared, SharedScriptsReadFullLog}
+use Rattle.grammar_spec.specs.declared.line.Line.TheVariants.{Blank, Reserve, StoreNext}
+use Rattle.script_spec.specs.SharedScripts.{SharedRan, shared_ran, shared_on, next_shared, shared_line, reserves, stores, with_steps}
+use Rattle.script_spec.specs.declared.Cause.{Cause}
+use Rattle.tool_laws.specs.SharedScripts.{payload_of, log_in, SharedScriptsReadFullLog}
 
 -- ---- what the lines reserve
 
@@ -94,24 +94,7 @@ more_line h g Blank e =
 more_line h g (Reserve payload) e =
     more_reserved h g payload (refusal h.zone (shared_zone h).calls (length payload)) refl e
 more_line h g (StoreNext t k) e = more_stored h g t k (open_call (shared_zone h).calls t) e
-more_line h g (Write zone bytes) e = cc
-more_line h g (Dump time packed bytes) e = cc
-more_line h g (BeginWrite zone bytes) e = cc
-more_line h g (BeginErase zone) e = cc
-more_line h g (BeginDump time packed bytes) e = cc
-more_line h g (Step zone k) e = cc
-more_line h g (Finish zone) e = cc
-more_line h g Stop e = cc
-more_line h g (Flip place mask) e = cc
-more_line h g Boot e = cc
-more_line h g (BootPart k) e = cc
-more_line h g ListLine e = cc
-more_line h g (Extract name) e = cc
-more_line h g (Erase name) e = cc
-more_line h g (KDump secs nanos packed reason bytes) e = cc
-more_line h g (CutAfter limit) e = cc
-more_line h g (KMsg text) e = cc
-more_line h g (Crash reason time) e = cc
+more_line h g line e = cc
 
 -- a refused line ends the script
 stays_refused : (ran : SharedRan) (lines : List Line) (cause : Cause) → ran.refused ≡ Some cause

@@ -16,12 +16,12 @@ use Rattle.machine_spec.specs.Erasures.{saved_logs}
 use Rattle.machine_spec.specs.Operations.{Operation, operated, left_by, EraseRecord, Cause as SessionCause}
 use Rattle.machine_laws.proofs.Operations.{fresh_is_sound, operations_keep_states_sound}
 use Rattle.grammar_spec.specs.declared.line.Line.{Line}
-use Rattle.grammar_spec.specs.declared.line.Line.TheVariants.{Blank, Write, Dump, BeginWrite, BeginErase, BeginDump, Step, Finish, Stop, Flip, Boot, BootPart, List as ListLine, Extract, Erase, KDump, CutAfter, KMsg, Crash, Reserve, StoreNext}
+use Rattle.grammar_spec.specs.declared.line.Line.TheVariants.{Blank, Write, Dump, BeginWrite, BeginDump, Stop, Flip, Boot, List as ListLine, Extract, Erase, KDump, CutAfter, KMsg, Crash, Reserve, StoreNext}
 use Rattle.grammar_spec.specs.Fields.{Text}
 use Rattle.grammar_spec.specs.Printed.{HasFields, AllHaveFields, IsPayload}
-use Rattle.tool_spec.specs.Scripts.{StoreDone, Kernel, new_kernel, Done, Ran, ran, ran_on, next_line, started, store_line, beside, prints, crash_body, crashed, crashes, log_limit, why_of, room_in, dump_target, line_done, does, done_or_refused, named, lists, extracts, extracts_of, erases, erases_of, put_by}
-use Rattle.tool_spec.specs.declared.Cause.{Cause}
-use Rattle.tool_spec.specs.declared.Cause.TheVariants.{TooLong}
+use Rattle.script_spec.specs.Scripts.{StoreDone, Kernel, new_kernel, Done, Ran, ran, ran_on, next_line, started, store_line, beside, prints, crash_body, crashed, crashes, log_limit, why_of, room_in, dump_target, line_done, does, done_or_refused, named, lists, extracts, extracts_of, erases, erases_of, put_by}
+use Rattle.script_spec.specs.declared.Cause.{Cause}
+use Rattle.script_spec.specs.declared.Cause.TheVariants.{TooLong}
 use Rattle.kmsg_spec.specs.Bodies.{last_lines}
 use Rattle.tool_laws.proofs.Kernels.{all_last, body_bytes}
 
@@ -90,15 +90,9 @@ store_sound layout mem session (Dump t packed bytes) d lies state fit h =
     does_sound layout mem session _ d lies state (fit.0, payload_bytes bytes fit.1) h
 store_sound layout mem session (BeginWrite z bytes) d lies state fit h =
     does_sound layout mem session _ d lies state (payload_bytes bytes fit.1) h
-store_sound layout mem session (BeginErase z) d lies state fit h = does_sound layout mem session _ d lies state tt h
 store_sound layout mem session (BeginDump t packed bytes) d lies state fit h =
     does_sound layout mem session _ d lies state (fit.0, payload_bytes bytes fit.1) h
-store_sound layout mem session (Step z k) d lies state fit h = does_sound layout mem session _ d lies state tt h
-store_sound layout mem session (Finish z) d lies state fit h = does_sound layout mem session _ d lies state tt h
-store_sound layout mem session Stop d lies state fit h = does_sound layout mem session _ d lies state tt h
 store_sound layout mem session (Flip place m) d lies state fit h = does_sound layout mem session _ d lies state fit.2 h
-store_sound layout mem session Boot d lies state fit h = does_sound layout mem session _ d lies state tt h
-store_sound layout mem session (BootPart k) d lies state fit h = does_sound layout mem session _ d lies state tt h
 store_sound layout mem session ListLine d lies state fit h = lists_sound layout mem session d state h
 store_sound layout mem session (Extract name) d lies state fit h = extract_sound layout mem session name d state h
 store_sound layout mem session (Erase name) d lies state fit h = erase_sound layout mem session name d lies state h
@@ -108,6 +102,7 @@ store_sound layout mem session (KMsg bytes) d lies state fit h = absurd (cc)
 store_sound layout mem session (Crash reason time) d lies state fit h = absurd (cc)
 store_sound layout mem session (Reserve bytes) d lies state fit h = absurd (cc)
 store_sound layout mem session (StoreNext ticket k) d lies state fit h = absurd (cc)
+store_sound layout mem session line d lies state fit h = does_sound layout mem session _ d lies state tt h
 
 -- ---- all lines
 
@@ -182,40 +177,6 @@ line_sound : (layout : List Zone) (mem : ℕ) (session : Session) (kernel : Kern
     → IsLayout layout mem → IsSound layout mem session kernel → HasFields line
     → line_done layout session kernel line ≡ Ok d → IsSound layout mem d.session d.kernel
 unfolding line_done
-line_sound layout mem session kernel Blank d lies s fit h =
-    beside_sound layout mem lies session kernel kernel Blank d s s.printed fit h
-line_sound layout mem session kernel (Write z bytes) d lies s fit h =
-    beside_sound layout mem lies session kernel kernel (Write z bytes) d s s.printed fit h
-line_sound layout mem session kernel (Dump t packed bytes) d lies s fit h =
-    beside_sound layout mem lies session kernel kernel (Dump t packed bytes) d s s.printed fit h
-line_sound layout mem session kernel (BeginWrite z bytes) d lies s fit h =
-    beside_sound layout mem lies session kernel kernel (BeginWrite z bytes) d s s.printed fit h
-line_sound layout mem session kernel (BeginErase z) d lies s fit h =
-    beside_sound layout mem lies session kernel kernel (BeginErase z) d s s.printed fit h
-line_sound layout mem session kernel (BeginDump t packed bytes) d lies s fit h =
-    beside_sound layout mem lies session kernel kernel (BeginDump t packed bytes) d s s.printed fit h
-line_sound layout mem session kernel (Step z k) d lies s fit h =
-    beside_sound layout mem lies session kernel kernel (Step z k) d s s.printed fit h
-line_sound layout mem session kernel (Finish z) d lies s fit h =
-    beside_sound layout mem lies session kernel kernel (Finish z) d s s.printed fit h
-line_sound layout mem session kernel (Flip place m) d lies s fit h =
-    beside_sound layout mem lies session kernel kernel (Flip place m) d s s.printed fit h
-line_sound layout mem session kernel (BootPart k) d lies s fit h =
-    beside_sound layout mem lies session kernel kernel (BootPart k) d s s.printed fit h
-line_sound layout mem session kernel ListLine d lies s fit h =
-    beside_sound layout mem lies session kernel kernel ListLine d s s.printed fit h
-line_sound layout mem session kernel (Extract name) d lies s fit h =
-    beside_sound layout mem lies session kernel kernel (Extract name) d s s.printed fit h
-line_sound layout mem session kernel (Erase name) d lies s fit h =
-    beside_sound layout mem lies session kernel kernel (Erase name) d s s.printed fit h
-line_sound layout mem session kernel (KDump secs nanos packed reason bytes) d lies s fit h =
-    beside_sound layout mem lies session kernel kernel (KDump secs nanos packed reason bytes) d s s.printed fit h
-line_sound layout mem session kernel (CutAfter k) d lies s fit h =
-    beside_sound layout mem lies session kernel kernel (CutAfter k) d s s.printed fit h
-line_sound layout mem session kernel (Reserve bytes) d lies s fit h =
-    beside_sound layout mem lies session kernel kernel (Reserve bytes) d s s.printed fit h
-line_sound layout mem session kernel (StoreNext ticket k) d lies s fit h =
-    beside_sound layout mem lies session kernel kernel (StoreNext ticket k) d s s.printed fit h
 line_sound layout mem session kernel Boot d lies s fit h =
     beside_sound layout mem lies session kernel new_kernel Boot d s (All-nil IsPayload) fit h
 line_sound layout mem session kernel Stop d lies s fit h =
@@ -224,6 +185,8 @@ line_sound layout mem session kernel (KMsg text) d lies s fit h =
     prints_sound layout mem session kernel text d s (message_bytes text fit) h
 line_sound layout mem session kernel (Crash reason time) d lies s fit h =
     crash_sound layout mem session kernel reason time d lies s (crash_time reason time fit) h
+line_sound layout mem session kernel line d lies s fit h =
+    beside_sound layout mem lies session kernel kernel line d s s.printed fit h
 
 -- and so does a line of a script, done or not
 on_sound : (layout : List Zone) (mem : ℕ) (r : Ran) (c : Option Cause) (next : Result Done Cause)

@@ -11,8 +11,8 @@ use Rattle.blk_spec.specs.Session.{Operation, session_run, begun, Call, done_cal
 use Rattle.blk_laws.specs.Sessions.{untold, told_run, is_whole, ring_read, ring_told, IsEarly}
 use Rattle.grammar_spec.specs.declared.line.Line.{Line}
 use Rattle.grammar_spec.specs.declared.line.Line.TheVariants.{Boot, Write}
-use Rattle.tool_spec.specs.BlkScripts.{BlkRan, blk_next_line, blk_ran, blk_started, operation_of, ring_for}
-use Rattle.tool_spec.specs.declared.Cause.{Cause}
+use Rattle.script_spec.specs.BlkScripts.{BlkRan, blk_next_line, blk_ran, blk_started, operation_of, ring_for}
+use Rattle.script_spec.specs.declared.Cause.{Cause}
 
 -- the operation of a line that is not behind a refused one
 abbrev pub operation_unless : Option Cause → Option BlkState → Line → Option Operation

@@ -6,7 +6,7 @@ use Rattle.zone_spec.specs.Told.{Dump, told_after}
 use Rattle.zone_spec.specs.TimeLines.{line_text}
 use Rattle.machine_spec.specs.States.{LiveState}
 use Rattle.machine_spec.specs.LiveZones.{Target}
-use Rattle.tool_spec.specs.Scripts.{Kernel, dump_target, crash_body}
+use Rattle.script_spec.specs.Scripts.{Kernel, dump_target, crash_body}
 
 -- a crash's body fits in its zone behind the time line: the zone is told both, and nothing of the body is cut off
 abbrev pub CrashesAreToldWhole : Type 0

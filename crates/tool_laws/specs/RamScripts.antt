@@ -14,7 +14,7 @@ use Rattle.machine_spec.specs.Operations.{Operation, Begin as BeginCall, Make as
 use Rattle.grammar_spec.specs.declared.line.Line.{Line}
 use Rattle.grammar_spec.specs.declared.line.Line.TheVariants.{Write, Dump, BeginWrite, BeginErase, BeginDump, Step, Finish, Stop, Flip, Boot, BootPart, Erase, Crash}
 use Rattle.grammar_spec.specs.Printed.{AllHaveFields}
-use Rattle.tool_spec.specs.Scripts.{Kernel, Ran, ran, next_line, started, named, crash_body}
+use Rattle.script_spec.specs.Scripts.{Kernel, Ran, ran, next_line, started, named, crash_body}
 use Rattle.history_spec.specs.Written.{written_in}
 use Rattle.history_laws.specs.Headline.{ReadsWritten}
 

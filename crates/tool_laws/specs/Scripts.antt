@@ -9,8 +9,8 @@ use Rattle.machine_spec.specs.Headline.{EachOffZone}
 use Rattle.machine_laws.specs.Headline.{ReadsAndReports}
 use Rattle.grammar_spec.specs.declared.line.Line.{Line}
 use Rattle.grammar_spec.specs.Printed.{AllHaveFields}
-use Rattle.tool_spec.specs.Scripts.{ran}
-use Rattle.tool_spec.specs.Headline.{ScriptReadsLastWritten}
+use Rattle.script_spec.specs.Scripts.{ran}
+use Rattle.script_spec.specs.Headline.{ScriptReadsLastWritten}
 
 -- every state of a script is sound
 abbrev pub ScriptStatesAreSound : Type 0

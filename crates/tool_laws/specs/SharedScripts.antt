@@ -6,12 +6,12 @@ use Rattle.zone_spec.specs.Reading.{zone_reading, log_places}
 use Rattle.zone_spec.specs.Told.{last_items}
 use Rattle.machine_spec.specs.Zones.{zone_bytes}
 use Rattle.shared_spec.specs.Calls.{open_count}
-use Rattle.shared_spec.specs.Machine.{SharedZone, CanShare}
+use Rattle.shared_spec.specs.Machine.{CanShare}
 use Rattle.shared_spec.specs.Histories.{shared_zone, image_left}
 use Rattle.shared_laws.specs.Laws.{IsOfNoOpenCall}
 use Rattle.grammar_spec.specs.declared.line.Line.{Line}
 use Rattle.grammar_spec.specs.declared.line.Line.TheVariants.{Reserve}
-use Rattle.tool_spec.specs.SharedScripts.{shared_ran}
+use Rattle.script_spec.specs.SharedScripts.{shared_ran}
 
 -- the payload that a line reserves
 abbrev pub payload_of : Line → List ℕ

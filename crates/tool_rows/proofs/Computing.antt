@@ -9,10 +9,10 @@ use Rattle.grammar_spec.specs.Rows.{step_line, flip_line, kdump_line, crash_line
 use Rattle.grammar_spec.specs.Lines.{line_of, lines_from, script_of}
 use Rattle.spec_rows.proofs.Computing.{computing_all}
 use Rattle.kmsg_spec.specs.Bodies.{last_lines}
-use Rattle.tool_spec.specs.Scripts.{store_line, line_done}
-use Rattle.tool_spec.specs.Generated.{draw, draws}
-use Rattle.tool_spec.specs.Commands.{with_to}
-use Rattle.tool_spec.specs.SharedScripts.{with_steps, shared_line}
+use Rattle.script_spec.specs.Scripts.{store_line, line_done}
+use Rattle.script_spec.specs.Generated.{draw, draws}
+use Rattle.command_spec.specs.Commands.{with_to}
+use Rattle.script_spec.specs.SharedScripts.{with_steps, shared_line}
 use Rattle.shared_spec.specs.Calls.{since_oldest_open}
 use Rattle.shared_spec.specs.Machine.{open_calls_from}
 use Rattle.shared_spec.specs.Runs.{shared_after}
@@ -25,7 +25,7 @@ use Rattle.blk_spec.specs.Reading.{saved_ring, listed_dump, dumps_listed, greate
 use Rattle.blk_spec.specs.Names.{dump_content}
 use Rattle.blk_spec.specs.States.{load_writes, names_of, content_of, time_of}
 use Rattle.blk_spec.specs.Session.{cause_of, session_after}
-use Rattle.tool_spec.specs.BlkScripts.{operation_of, blk_line_done}
+use Rattle.script_spec.specs.BlkScripts.{operation_of, blk_line_done}
 
 unfoldable pub computing_tool : ℕ
 unfolding computing_all decode_pairs number_of first_fault value_text given number_below zone_at ring zone payload

@@ -1,7 +1,7 @@
 -- The tool's worked rows: text, status, and bytes that are written
 use Rattle.std.specs.Prelude.{◌≡◌, ℕ, ◌-◌, List, [], ◌∷◌, ◌++◌, length, take, flat_map, codes, replicate, Some, None}
 use Rattle.spec_rows.specs.Ftrace.{entry}
-use Rattle.tool_spec.specs.Generated.{draws}
+use Rattle.script_spec.specs.Generated.{draws}
 use Rattle.tool_rows.specs.Words.{told, written, lone, blk_told}
 
 -- draws below 1000, from 0 on

@@ -4,11 +4,11 @@ use Rattle.std.specs.List.{slice_split}
 use Rattle.blk_spec.specs.declared.BlkLayout.{BlkLayout}
 use Rattle.grammar_spec.specs.Fields.{Text}
 use Rattle.grammar_spec.specs.declared.line.Line.{Line}
-use Rattle.tool_spec.specs.Ends.{End, status_of, last_line}
-use Rattle.tool_spec.specs.Commands.{Plan, OfRam, OfBlk, OfMove, plan_of, Wanted, wanted, wanted_move, script_end}
-use Rattle.tool_spec.specs.BlkScripts.{BlkRan, blk_ran}
-use Rattle.tool_spec.specs.BlkAnswers.{blk_lines}
-use Rattle.tool_spec.specs.declared.Stop.{Stop}
+use Rattle.command_spec.specs.Ends.{End, status_of, last_line}
+use Rattle.command_spec.specs.Commands.{Plan, OfRam, OfBlk, OfMove, plan_of, Wanted, wanted, wanted_move, script_end}
+use Rattle.script_spec.specs.BlkScripts.{BlkRan, blk_ran}
+use Rattle.command_spec.specs.BlkAnswers.{blk_lines}
+use Rattle.command_spec.specs.declared.Stop.{Stop}
 
 -- the words of a line, one space between two
 abbrev pub words : Text → List Text

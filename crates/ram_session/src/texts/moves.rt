@@ -2,7 +2,7 @@
 ghost use Rattle.std.specs.Prelude.{◌≡◌, ◌++◌, if◌then◌else◌, codes, flat_map, IfOk, OnOk};
 ghost use Rattle.zone_params.specs.Laid.{zones_of};
 ghost use Rattle.prz_read.specs.Saving.{saved};
-ghost use Rattle.tool_spec.specs.Texts.{move_text};
+ghost use Rattle.script_spec.specs.Texts.{move_text};
 ghost use Rattle.ram_session.specs.Entries.{told_text};
 
 use super::records::push_named;

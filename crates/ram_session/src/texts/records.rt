@@ -4,7 +4,7 @@ ghost use Rattle.zone_spec.specs.Names.{name_text as name_text_of};
 ghost use Rattle.zone_spec.specs.TimeLines.{six_digits};
 ghost use Rattle.zone_spec.specs.Records.{record_of};
 ghost use Rattle.prz_read.specs.Saving.{saved};
-ghost use Rattle.tool_spec.specs.Texts.{time_text, listing, extract_text};
+ghost use Rattle.script_spec.specs.Texts.{time_text, listing, extract_text};
 ghost use Rattle.ram_session.specs.Entries.{entry_text, IsText};
 
 use arrayvec::ArrayString;

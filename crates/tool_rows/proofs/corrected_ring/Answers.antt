@@ -1,6 +1,6 @@
 use Rattle.std.proofs.Common.{[], ◌∷◌, refl, ap, ◌∙◌}
-use Rattle.tool_spec.specs.Texts.{rings_text}
-use Rattle.tool_spec.specs.Commands.{shows, wanted_ring}
+use Rattle.command_spec.specs.Texts.{rings_text}
+use Rattle.command_spec.specs.Commands.{shows, wanted_ring}
 use Rattle.tool_rows.specs.Words.{shown}
 use Rattle.tool_rows.proofs.Computing.{computing_tool}
 use Rattle.tool_rows.proofs.Corrected.{rings-are, read-is}

@@ -1,7 +1,7 @@
 use Rattle.std.proofs.Common.{◌≡◌}
 use Rattle.std.specs.Prelude.{IfSome}
 use Rattle.blk_spec.specs.Answers.{HasRoom, device}
-use Rattle.tool_frame.specs.Playing.{PutsText}
+use Rattle.script_spec.specs.Playing.{PutsText}
 use Rattle.blk_session.specs.Playing.{seen, Later}
 use Rattle.blk_session.proofs.ScriptLines.{PlaysSoFar}
 use Rattle.blk_session.proofs.playing.play.Given as goal

@@ -3,13 +3,15 @@ use Rattle.std.proofs.Common.{refl, arith, Err}
 use Rattle.tool_frame.proofs.ReadParts.{read_whole}
 use Rattle.tool_frame.proofs.Sizes.{size_load}
 use Rattle.tool_frame.proofs.Script.{load_caused, script_caused, parse_caused}
-use Rattle.tool_frame.proofs.BlkScript.{size_stopped, script_stopped, parse_stopped, play_ended, played_caused, played_asks}
+use Rattle.tool_frame.proofs.BlkScript.{size_stopped, script_stopped, parse_stopped, play_ended, played_caused, played_asks, unless_line}
+use Rattle.command_spec.specs.Ends.{end_of}
+use Rattle.script_spec.specs.declared.LineStop.TheVariants.{StoreFault, SinkFault}
 use Rattle.image_tool.proofs.WorkEnds.{count_same, count_since, none_asked}
 use Rattle.image_tool.proofs.Due.{no_text, ended_put}
 use Rattle.image_tool.proofs.blk_script.run_blk_script.Goals as goal
 
 pub returns-clause-work : goal.returns-clause-work
-returns-clause-work g c = record {
+returns-clause-work g c = rw c.end_of.ensures (record {
   later = record {
     source = omega arith;
     store = omega (arith, c.play.ensures.later.0);
@@ -17,9 +19,10 @@ returns-clause-work g c = record {
   };
   caused = played_caused c.play.result _ _ _ _ _ _ _ _ c.check_size.ensures.later (omega arith) c.play.ensures.caused;
   counts = record {
-    source = count_same _ c.play.result _ _ c.in-Ok-read_script.ensures.counts;
-    store = count_since _ c.play.result _ _ _ c.in-Ok.ensures.counts c.play.ensures.kept_store;
-    sink = c.play.ensures.kept_sink;
+    source = count_same _ (end_of c.play.result) _ _ c.in-Ok-read_script.ensures.counts;
+    store = count_since _ (end_of c.play.result) _ _ _ c.in-Ok.ensures.counts
+        (unless_line StoreFault c.play.result _ _ c.play.ensures.kept_store);
+    sink = unless_line SinkFault c.play.result _ _ c.play.ensures.kept_sink;
   };
   kept = λ w. absurd w;
   asks = played_asks c.play.result _ _ _ _ _ _ c.play.ensures.caused;
@@ -28,7 +31,7 @@ returns-clause-work g c = record {
       (read_whole _ _ c.in-Ok-read_script.text c.in-Ok-read_script.ensures.ok c.in-Ok-read_script.ensures.end)
       (rw c.deref.ensures.value at c.in-Ok-lines.ensures.read) c.check_size.ensures.same c.play.ensures.caused
       (rw c.as_slice.ensures at c.play.ensures.played);
-}
+})
 
 pub returns-in-Err-clause-work : goal.returns-in-Err-clause-work
 returns-in-Err-clause-work g c = record {
@@ -80,7 +83,7 @@ returns-in-Err-lines-clause-work g c = record {
 }
 
 pub returns-clause-put : goal.returns-clause-put
-returns-clause-put g c = ended_put c.play.result _ _ c.play.ensures.put
+returns-clause-put g c = ended_put c.end_of.result _ _ c.play.ensures.put
 
 pub returns-in-Err-clause-put : goal.returns-in-Err-clause-put
 returns-in-Err-clause-put g c = no_text _

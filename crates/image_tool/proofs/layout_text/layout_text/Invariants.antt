@@ -1,5 +1,5 @@
 use Rattle.std.proofs.Common.{◌≡◌, ◌++◌, drop, flat_map}
-use Rattle.tool_spec.specs.Texts.{layout_line, layout_text}
+use Rattle.command_spec.specs.Texts.{layout_line, layout_text}
 use Rattle.zone_params.specs.Laid.{params_of, zones_of}
 use Rattle.image_tool.proofs.layout_text.layout_text.Given as goal
 

@@ -1,7 +1,7 @@
 use Rattle.std.proofs.Common.{[], ◌∙◌, ℕ, ap₂, refl, Err}
 use Rattle.zone_params.specs.Laid.{zones_of}
 use Rattle.prz_read.specs.Saving.{saved}
-use Rattle.tool_spec.specs.Texts.{move_text}
+use Rattle.script_spec.specs.Texts.{move_text}
 use Rattle.tool_frame.specs.Words.{move_for}
 use Rattle.image_tool.proofs.MoveEnds.{move_memory, move_unput, move_saved, move_unsaved}
 use Rattle.image_tool.proofs.Due.{first_put, text_put}

@@ -2,33 +2,36 @@
 use Rattle.std.proofs.Common.{refl, ◌∙◌, arith, Err}
 
 use Rattle.zone_params.specs.Laid.{params_of, zones_of}
-use Rattle.tool_spec.specs.Commands.{RunScript}
+use Rattle.command_spec.specs.Commands.{Run}
 use Rattle.tool_frame.specs.Words.{plan_for}
 use Rattle.tool_frame.proofs.ReadParts.{read_whole}
 use Rattle.tool_frame.proofs.Script.{load_stopped, script_stopped, out_of_memory, parse_stopped, load_caused, script_caused, parse_caused}
+use Rattle.command_spec.specs.Ends.{stop_of}
+use Rattle.tool_frame.proofs.BlkScript.{unless_line}
+use Rattle.script_spec.specs.declared.LineStop.TheVariants.{SinkFault}
 use Rattle.image_tool.proofs.ScriptEnds.{scripted, play_caused, play_stopped, play_saved, play_unsaved}
 use Rattle.image_tool.proofs.WorkEnds.{kept_same}
 use Rattle.image_tool.proofs.Due.{no_text, text_put, lines_put}
 use Rattle.image_tool.proofs.ram_script.run_script.Goals as goal
 
 pub returns-in-Err-play-clause-work : goal.returns-in-Err-play-clause-work
-returns-in-Err-play-clause-work g c = record {
+returns-in-Err-play-clause-work g c = rw c.stop_of.ensures (record {
   later = record { source = omega arith; store = omega arith; sink = omega arith };
-  caused = play_caused _ _ _ _ _ _ _ _ _ _ _ _ (c.in-Err-play.ensures.played _ _ _ c.in-Ok-fresh_store.ensures);
+  caused = play_caused c.in-Err-play.stop _ _ _ _ _ _ _ _ _ _ _ (c.in-Err-play.ensures.played _ _ _ c.in-Ok-fresh_store.ensures);
   counts = record {
     source = λ other. c.in-Ok-read_script.ensures.counts;
     store = λ other. c.in-Ok.ensures.counts;
-    sink = c.in-Err-play.ensures.counts;
+    sink = unless_line SinkFault (Err c.in-Err-play.stop) _ _ c.in-Err-play.ensures.counts;
   };
-  kept = λ w. kept_same (Err c.in-Err-play.stop) _ _ c.in-Ok.ensures.same;
-  asks = kept_same (Err c.in-Err-play.stop) _ _ c.in-Ok.ensures.unwritten;
-  ended = play_stopped (plan_for RunScript c.args.layout) refl _ _ c.in-Ok.bytes.items
+  kept = λ w. kept_same (Err (stop_of c.in-Err-play.stop)) _ _ c.in-Ok.ensures.same;
+  asks = kept_same (Err (stop_of c.in-Err-play.stop)) _ _ c.in-Ok.ensures.unwritten;
+  ended = play_stopped (plan_for Run c.args.layout) refl _ _ c.in-Ok.bytes.items
       (record { read = rw c.mem.ensures at c.in-Ok.ensures.ok.1 })
       c.in-Ok-read_script.text.items
       (read_whole _ _ c.in-Ok-read_script.text c.in-Ok-read_script.ensures.ok c.in-Ok-read_script.ensures.end)
-      c.in-Ok-lines.lines (rw c.deref.ensures.value at c.in-Ok-lines.ensures.read) _ _ _ c.in-Ok.ensures.same
+      c.in-Ok-lines.lines (rw c.deref.ensures.value at c.in-Ok-lines.ensures.read) c.in-Err-play.stop _ _ c.in-Ok.ensures.same
       (c.in-Err-play.ensures.played _ _ _ c.in-Ok-fresh_store.ensures);
-}
+})
 
 pub returns-in-Ok-save-clause-work : goal.returns-in-Ok-save-clause-work
 returns-in-Ok-save-clause-work g c =
@@ -44,7 +47,7 @@ returns-in-Ok-save-clause-work g c =
       };
       kept = λ w. tt;
       asks = tt;
-      ended = play_saved (plan_for RunScript c.args.layout) refl _ _ c.in-Ok.bytes.items
+      ended = play_saved (plan_for Run c.args.layout) refl _ _ c.in-Ok.bytes.items
           (record { read = rw c.mem.ensures at c.in-Ok.ensures.ok.1 })
           c.in-Ok-read_script.text.items
           (read_whole _ _ c.in-Ok-read_script.text c.in-Ok-read_script.ensures.ok c.in-Ok-read_script.ensures.end)
@@ -68,7 +71,7 @@ returns-clause-work g c =
       };
       kept = λ w. tt;
       asks = tt;
-      ended = play_unsaved (plan_for RunScript c.args.layout) refl _ _ c.in-Ok.bytes.items
+      ended = play_unsaved (plan_for Run c.args.layout) refl _ _ c.in-Ok.bytes.items
           (record { read = rw c.mem.ensures at c.in-Ok.ensures.ok.1 })
           c.in-Ok-read_script.text.items
           (read_whole _ _ c.in-Ok-read_script.text c.in-Ok-read_script.ensures.ok c.in-Ok-read_script.ensures.end)
@@ -90,7 +93,7 @@ returns-in-Err-clause-work g c = record {
   };
   kept = λ w. kept_same (Err c.in-Err.stop) _ _ c.in-Err.ensures.same;
   asks = kept_same (Err c.in-Err.stop) _ _ c.in-Err.ensures.unwritten;
-  ended = load_stopped (plan_for RunScript c.args.layout) _ (scripted _ refl) _ _ c.in-Err.stop _ _
+  ended = load_stopped (plan_for Run c.args.layout) _ (scripted _ refl) _ _ c.in-Err.stop _ _
       (record { left = refl; source = refl }) (record { given = refl; holds = c.in-Err.ensures.same })
       (rw c.mem.ensures at c.in-Err.ensures.err);
 }
@@ -107,7 +110,7 @@ returns-in-Err-read_script-clause-work g c = record {
   };
   kept = λ w. kept_same (Err c.in-Err-read_script.stop) _ _ c.in-Ok.ensures.same;
   asks = kept_same (Err c.in-Err-read_script.stop) _ _ c.in-Ok.ensures.unwritten;
-  ended = script_stopped (plan_for RunScript c.args.layout) _ (scripted _ refl) _ _ c.in-Ok.bytes.items
+  ended = script_stopped (plan_for Run c.args.layout) _ (scripted _ refl) _ _ c.in-Ok.bytes.items
       (record { read = rw c.mem.ensures at c.in-Ok.ensures.ok.1 }) c.in-Err-read_script.stop _ _
       (record { given = refl; holds = c.in-Ok.ensures.same }) c.in-Err-read_script.ensures.err;
 }
@@ -123,7 +126,7 @@ returns-in-Err-lines-clause-work g c = record {
   };
   kept = λ w. kept_same (Err c.in-Err-lines.stop) _ _ c.in-Ok.ensures.same;
   asks = kept_same (Err c.in-Err-lines.stop) _ _ c.in-Ok.ensures.unwritten;
-  ended = parse_stopped (plan_for RunScript c.args.layout) _ (scripted _ refl) _ _ c.in-Ok.bytes.items
+  ended = parse_stopped (plan_for Run c.args.layout) _ (scripted _ refl) _ _ c.in-Ok.bytes.items
       (record { read = rw c.mem.ensures at c.in-Ok.ensures.ok.1 })
       c.in-Ok-read_script.text.items
       (read_whole _ _ c.in-Ok-read_script.text c.in-Ok-read_script.ensures.ok c.in-Ok-read_script.ensures.end)
@@ -142,7 +145,7 @@ returns-in-Err-fresh_store-clause-work g c = record {
   };
   kept = λ w. c.in-Ok.ensures.same;
   asks = c.in-Ok.ensures.unwritten;
-  ended = out_of_memory (plan_for RunScript c.args.layout) _ (scripted _ refl) _ _ c.in-Ok.bytes.items
+  ended = out_of_memory (plan_for Run c.args.layout) _ (scripted _ refl) _ _ c.in-Ok.bytes.items
       (record { read = rw c.mem.ensures at c.in-Ok.ensures.ok.1 })
       (record { given = refl; holds = c.in-Ok.ensures.same });
 }

@@ -1,26 +1,26 @@
 use Rattle.std.proofs.Common.{refl}
-use Rattle.tool_spec.specs.Commands.{EraseRecord}
+use Rattle.command_spec.specs.Commands.{Erase}
 use Rattle.image_tool.specs.Plans.{plan_for}
 use Rattle.image_tool.proofs.RecordEnds.{erase_saved, erase_unsaved, erase_stopped}
 use Rattle.image_tool.proofs.records.erase.Goals as goal
 
 pub returns-in-Err-erase-clause-ended : goal.returns-in-Err-erase-clause-ended
 returns-in-Err-erase-clause-ended g c = λ left given f h. erase_stopped
-    (plan_for (EraseRecord c.args.name.now) c.args.layout)
+    (plan_for (Erase c.args.name.now) c.args.layout)
     _ _ _ _ c.args.name.now refl c.in-Ok.ensures.booted c.in-Err-erase.e c.stop_of.result c.stop_of.ensures
     (rw c.as_bytes.ensures.value at c.in-Err-erase.ensures.erased) (record { left = refl; source = refl })
     (record { given = refl; holds = c.in-Ok.ensures.same })
 
 pub returns-in-Ok-save-clause-ended : goal.returns-in-Ok-save-clause-ended
 returns-in-Ok-save-clause-ended g c = λ left given f h. erase_saved
-    (plan_for (EraseRecord c.args.name.now) c.args.layout)
+    (plan_for (Erase c.args.name.now) c.args.layout)
     _ _ _ _ c.args.name.now refl c.in-Ok.ensures.booted _ _ c.into_image.result
     (rw c.as_bytes.ensures.value at c.in-Ok-erase.ensures.erased) c.into_image.ensures refl
     (record { left = refl; source = refl }) (rw (c.as_slice-2.ensures, c.in-Ok.ensures.same)
     at c.in-Ok-save.ensures.bytes)
 
 pub returns-clause-ended : goal.returns-clause-ended
-returns-clause-ended g c = λ left given f h. erase_unsaved (plan_for (EraseRecord c.args.name.now) c.args.layout)
+returns-clause-ended g c = λ left given f h. erase_unsaved (plan_for (Erase c.args.name.now) c.args.layout)
     _ _ _ _ c.args.name.now refl c.in-Ok.ensures.booted _ _ c.into_image.result
     (rw c.as_bytes.ensures.value at c.in-Ok-erase.ensures.erased) c.into_image.ensures refl
     (record { left = refl; source = refl }) (rw (c.as_slice-2.ensures, c.in-Ok.ensures.same)

@@ -1,7 +1,7 @@
 use Rattle.std.proofs.Common.{refl, subst, List, ℕ, Err}
 use Rattle.prz_read.specs.Saving.{saved}
 use Rattle.ram_session.specs.Records.{IsContent}
-use Rattle.tool_spec.specs.Commands.{ExtractRecord}
+use Rattle.command_spec.specs.Commands.{Extract}
 use Rattle.image_tool.specs.Plans.{plan_for}
 use Rattle.image_tool.proofs.RecordEnds.{extract_put, extract_front, extract_stopped}
 use Rattle.image_tool.proofs.Due.{none_put}
@@ -9,20 +9,20 @@ use Rattle.image_tool.proofs.records.extract.Goals as goal
 
 pub returns-in-Err-content_of-clause-ended : goal.returns-in-Err-content_of-clause-ended
 returns-in-Err-content_of-clause-ended g c = λ left f. extract_stopped
-    (plan_for (ExtractRecord c.args.name.now) c.args.layout)
+    (plan_for (Extract c.args.name.now) c.args.layout)
     _ _ _ c.args.name.now refl c.in-Ok.ensures.read c.in-Err-content_of.e c.stop_of.result c.stop_of.ensures
     (subst (λ (text : List ℕ). IsContent (saved c.in-Ok.logs) text (Err c.in-Err-content_of.e))
     c.as_bytes.ensures.value c.in-Err-content_of.ensures) (record { left = refl; source = refl })
     (record { given = refl; holds = c.in-Ok.ensures.same })
 
 pub returns-in-Ok-put-clause-ended : goal.returns-in-Ok-put-clause-ended
-returns-in-Ok-put-clause-ended g c = λ left f. extract_put (plan_for (ExtractRecord c.args.name.now) c.args.layout)
+returns-in-Ok-put-clause-ended g c = λ left f. extract_put (plan_for (Extract c.args.name.now) c.args.layout)
     _ _ _ c.args.name.now refl c.in-Ok.ensures.read c.in-Ok-content_of.content
     (rw c.as_bytes.ensures.value at c.in-Ok-content_of.ensures) c.in-Ok.ensures.same
     (record { left = refl; source = refl }) (rw c.as_slice.ensures at c.in-Ok-put.ensures.bytes)
 
 pub returns-clause-ended : goal.returns-clause-ended
-returns-clause-ended g c = λ left f. extract_front (plan_for (ExtractRecord c.args.name.now) c.args.layout)
+returns-clause-ended g c = λ left f. extract_front (plan_for (Extract c.args.name.now) c.args.layout)
     _ _ _ c.args.name.now refl c.in-Ok.ensures.read c.in-Ok-content_of.content
     (rw c.as_bytes.ensures.value at c.in-Ok-content_of.ensures) c.in-Ok.ensures.same
     (record { left = refl; source = refl }) (rw c.as_slice.ensures at c.in-Err-put.ensures.bytes)

@@ -1,5 +1,5 @@
 use Rattle.std.proofs.Common.{refl, Err}
-use Rattle.tool_spec.specs.Commands.{ListRecords}
+use Rattle.command_spec.specs.Commands.{ListRecords}
 use Rattle.image_tool.specs.Plans.{plan_for}
 use Rattle.image_tool.proofs.RecordEnds.{list_put, list_front}
 use Rattle.image_tool.proofs.Due.{none_put}

@@ -1,5 +1,5 @@
 use Rattle.std.proofs.Common.{◌≡◌, ◌++◌, drop, flat_map}
-use Rattle.tool_spec.specs.Texts.{ring_line, rings_text}
+use Rattle.command_spec.specs.Texts.{ring_line, rings_text}
 use Rattle.image_tool.proofs.salvaging.rings_text.Given as goal
 
 -- the text so far, and then the lines of the rings that are left

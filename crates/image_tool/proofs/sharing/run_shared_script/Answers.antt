@@ -1,6 +1,6 @@
 -- How each stage of a script on a shared zone ends it
 use Rattle.std.proofs.Common.{refl, ◌∙◌, arith, Err}
-use Rattle.tool_spec.specs.Commands.{RunShared}
+use Rattle.command_spec.specs.Commands.{SharedRun}
 use Rattle.tool_frame.specs.Words.{plan_for}
 use Rattle.tool_frame.proofs.ReadParts.{read_whole}
 use Rattle.tool_frame.proofs.Script.{load_stopped, script_stopped, parse_stopped, load_caused, script_caused, parse_caused}
@@ -20,7 +20,7 @@ returns-in-Err-share-clause-work g c = record {
   };
   kept = λ w. kept_same (Err c.in-Err-share.stop) _ _ c.in-Ok.ensures.same;
   asks = kept_same (Err c.in-Err-share.stop) _ _ c.in-Ok.ensures.unwritten;
-  ended = share_ended (plan_for RunShared c.args.booted) refl _ _ c.in-Ok.bytes.items
+  ended = share_ended (plan_for SharedRun c.args.booted) refl _ _ c.in-Ok.bytes.items
       (record { read = rw c.mem.ensures at c.in-Ok.ensures.ok.1 })
       c.in-Ok-read_script.text.items
       (read_whole _ _ c.in-Ok-read_script.text c.in-Ok-read_script.ensures.ok c.in-Ok-read_script.ensures.end)
@@ -39,7 +39,7 @@ returns-in-Err-put-clause-work g c = record {
   };
   kept = λ w. c.in-Ok.ensures.same;
   asks = c.in-Ok.ensures.unwritten;
-  ended = text_unput (plan_for RunShared c.args.booted) refl _ _ c.in-Ok.bytes.items
+  ended = text_unput (plan_for SharedRun c.args.booted) refl _ _ c.in-Ok.bytes.items
       (record { read = rw c.mem.ensures at c.in-Ok.ensures.ok.1 })
       c.in-Ok-read_script.text.items
       (read_whole _ _ c.in-Ok-read_script.text c.in-Ok-read_script.ensures.ok c.in-Ok-read_script.ensures.end)
@@ -59,7 +59,7 @@ returns-in-Ok-save-clause-work g c = record {
   };
   kept = λ w. tt;
   asks = tt;
-  ended = image_saved (plan_for RunShared c.args.booted) refl _ _ c.in-Ok.bytes.items
+  ended = image_saved (plan_for SharedRun c.args.booted) refl _ _ c.in-Ok.bytes.items
       (record { read = rw c.mem.ensures at c.in-Ok.ensures.ok.1 })
       c.in-Ok-read_script.text.items
       (read_whole _ _ c.in-Ok-read_script.text c.in-Ok-read_script.ensures.ok c.in-Ok-read_script.ensures.end)
@@ -80,7 +80,7 @@ returns-clause-work g c = record {
   };
   kept = λ w. tt;
   asks = tt;
-  ended = image_unsaved (plan_for RunShared c.args.booted) refl _ _ c.in-Ok.bytes.items
+  ended = image_unsaved (plan_for SharedRun c.args.booted) refl _ _ c.in-Ok.bytes.items
       (record { read = rw c.mem.ensures at c.in-Ok.ensures.ok.1 })
       c.in-Ok-read_script.text.items
       (read_whole _ _ c.in-Ok-read_script.text c.in-Ok-read_script.ensures.ok c.in-Ok-read_script.ensures.end)
@@ -101,7 +101,7 @@ returns-in-Err-clause-work g c = record {
   };
   kept = λ w. kept_same (Err c.in-Err.stop) _ _ c.in-Err.ensures.same;
   asks = kept_same (Err c.in-Err.stop) _ _ c.in-Err.ensures.unwritten;
-  ended = load_stopped (plan_for RunShared c.args.booted) _ (shared_scripted _ refl) _ _ c.in-Err.stop _ _
+  ended = load_stopped (plan_for SharedRun c.args.booted) _ (shared_scripted _ refl) _ _ c.in-Err.stop _ _
       (record { left = refl; source = refl }) (record { given = refl; holds = c.in-Err.ensures.same })
       (rw c.mem.ensures at c.in-Err.ensures.err);
 }
@@ -118,7 +118,7 @@ returns-in-Err-read_script-clause-work g c = record {
   };
   kept = λ w. kept_same (Err c.in-Err-read_script.stop) _ _ c.in-Ok.ensures.same;
   asks = kept_same (Err c.in-Err-read_script.stop) _ _ c.in-Ok.ensures.unwritten;
-  ended = script_stopped (plan_for RunShared c.args.booted) _ (shared_scripted _ refl) _ _ c.in-Ok.bytes.items
+  ended = script_stopped (plan_for SharedRun c.args.booted) _ (shared_scripted _ refl) _ _ c.in-Ok.bytes.items
       (record { read = rw c.mem.ensures at c.in-Ok.ensures.ok.1 }) c.in-Err-read_script.stop _ _
       (record { given = refl; holds = c.in-Ok.ensures.same }) c.in-Err-read_script.ensures.err;
 }
@@ -134,7 +134,7 @@ returns-in-Err-lines-clause-work g c = record {
   };
   kept = λ w. kept_same (Err c.in-Err-lines.stop) _ _ c.in-Ok.ensures.same;
   asks = kept_same (Err c.in-Err-lines.stop) _ _ c.in-Ok.ensures.unwritten;
-  ended = parse_stopped (plan_for RunShared c.args.booted) _ (shared_scripted _ refl) _ _ c.in-Ok.bytes.items
+  ended = parse_stopped (plan_for SharedRun c.args.booted) _ (shared_scripted _ refl) _ _ c.in-Ok.bytes.items
       (record { read = rw c.mem.ensures at c.in-Ok.ensures.ok.1 })
       c.in-Ok-read_script.text.items
       (read_whole _ _ c.in-Ok-read_script.text c.in-Ok-read_script.ensures.ok c.in-Ok-read_script.ensures.end)

@@ -1,7 +1,7 @@
 use Rattle.std.proofs.Common.{refl, arith}
-use Rattle.tool_spec.specs.Commands.{ShowLayout, BlankImage}
+use Rattle.command_spec.specs.Commands.{ShowLayout as ShowLayoutOf, Blank as BlankOf}
 use Rattle.tool_frame.specs.Words.{plan_for}
-use Rattle.tool_frame.specs.declared.words.RamCommand.TheVariants.{Run, List, Extract, Erase, Layout, Blank, Make, Salvage, Rescue}
+use Rattle.tool_frame.specs.declared.words.RamCommand.TheVariants.{Run, ListRecords, Extract, Erase, ShowLayout, Blank, Make, Salvage, Rescue}
 use Rattle.image_tool.proofs.WorkEnds.{arm_done, kept_same, count_same, layout_shown, blank_left}
 use Rattle.image_tool.proofs.Due.{arm_put, none_put}
 use Rattle.image_tool.proofs.work.do_command.Goals as goal
@@ -9,8 +9,8 @@ use Rattle.image_tool.proofs.work.do_command.Goals as goal
 pub returns-in-Run-clause-work : goal.returns-in-Run-clause-work
 returns-in-Run-clause-work g c = arm_done _ Run c.args.layout _ _ _ c.in-Run.is c.run_script.ensures.work
 
-pub returns-in-List-clause-work : goal.returns-in-List-clause-work
-returns-in-List-clause-work g c = arm_done _ List c.args.layout _ _ _ c.in-List.is (record {
+pub returns-in-ListRecords-clause-work : goal.returns-in-ListRecords-clause-work
+returns-in-ListRecords-clause-work g c = arm_done _ ListRecords c.args.layout _ _ _ c.in-ListRecords.is (record {
   later = record { source = omega arith; store = c.list.ensures.later.0; sink = c.list.ensures.later.1 };
   caused = c.list.ensures.caused _ _;
   counts = record {
@@ -52,8 +52,8 @@ returns-in-Erase-clause-work g c = arm_done _ (Erase c.in-Erase.name) c.args.lay
   ended = c.erase.ensures.ended _ _ _ _;
 })
 
-pub returns-in-Layout-clause-work : goal.returns-in-Layout-clause-work
-returns-in-Layout-clause-work g c = arm_done _ Layout c.args.layout _ _ _ c.in-Layout.is (record {
+pub returns-in-ShowLayout-clause-work : goal.returns-in-ShowLayout-clause-work
+returns-in-ShowLayout-clause-work g c = arm_done _ ShowLayout c.args.layout _ _ _ c.in-ShowLayout.is (record {
   later = record { source = omega arith; store = omega arith; sink = c.show_layout.ensures.later };
   caused = c.show_layout.ensures.caused _ _ _ _;
   counts = record {
@@ -63,7 +63,7 @@ returns-in-Layout-clause-work g c = arm_done _ Layout c.args.layout _ _ _ c.in-L
   };
   kept = λ w. kept_same _ _ _ refl;
   asks = refl;
-  ended = layout_shown (plan_for ShowLayout c.args.layout) _ _ _ refl (record { left = refl; source = refl })
+  ended = layout_shown (plan_for ShowLayoutOf c.args.layout) _ _ _ refl (record { left = refl; source = refl })
       (record { holds = refl; store = refl }) c.show_layout.ensures.can (c.show_layout.ensures.ended _);
 })
 
@@ -78,7 +78,7 @@ returns-in-Blank-clause-work g c = arm_done _ Blank c.args.layout _ _ _ c.in-Bla
   };
   kept = λ w. c.blank.ensures.kept;
   asks = (c.blank.ensures.asks, c.blank.ensures.asked);
-  ended = blank_left (plan_for BlankImage c.args.layout) c.mem.result _ _ _ c.mem.ensures refl
+  ended = blank_left (plan_for BlankOf c.args.layout) c.mem.result _ _ _ c.mem.ensures refl
       (record { left = refl; source = refl }) refl c.blank.ensures.can (c.blank.ensures.ended _)
       c.blank.ensures.written;
 })
@@ -129,8 +129,8 @@ returns-in-Rescue-clause-work g c = arm_done _ (Rescue c.in-Rescue.at c.in-Rescu
 pub returns-in-Run-clause-put : goal.returns-in-Run-clause-put
 returns-in-Run-clause-put g c = arm_put _ Run _ _ _ c.in-Run.is c.run_script.ensures.put
 
-pub returns-in-List-clause-put : goal.returns-in-List-clause-put
-returns-in-List-clause-put g c = arm_put _ List _ _ _ c.in-List.is c.list.ensures.put
+pub returns-in-ListRecords-clause-put : goal.returns-in-ListRecords-clause-put
+returns-in-ListRecords-clause-put g c = arm_put _ ListRecords _ _ _ c.in-ListRecords.is c.list.ensures.put
 
 pub returns-in-Extract-clause-put : goal.returns-in-Extract-clause-put
 returns-in-Extract-clause-put g c = arm_put _ (Extract c.in-Extract.name) _ _ _ c.in-Extract.is c.extract.ensures.put
@@ -138,8 +138,8 @@ returns-in-Extract-clause-put g c = arm_put _ (Extract c.in-Extract.name) _ _ _ 
 pub returns-in-Erase-clause-put : goal.returns-in-Erase-clause-put
 returns-in-Erase-clause-put g c = arm_put _ (Erase c.in-Erase.name) _ _ _ c.in-Erase.is (none_put _ _ _ refl)
 
-pub returns-in-Layout-clause-put : goal.returns-in-Layout-clause-put
-returns-in-Layout-clause-put g c = arm_put _ Layout _ _ _ c.in-Layout.is c.show_layout.ensures.put
+pub returns-in-ShowLayout-clause-put : goal.returns-in-ShowLayout-clause-put
+returns-in-ShowLayout-clause-put g c = arm_put _ ShowLayout _ _ _ c.in-ShowLayout.is c.show_layout.ensures.put
 
 pub returns-in-Blank-clause-put : goal.returns-in-Blank-clause-put
 returns-in-Blank-clause-put g c = arm_put _ Blank _ _ _ c.in-Blank.is (none_put _ _ _ refl)

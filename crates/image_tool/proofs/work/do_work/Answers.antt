@@ -1,5 +1,5 @@
 use Rattle.std.proofs.Common.{refl, arith, Err}
-use Rattle.tool_spec.specs.Commands.{OfMove, plan_of}
+use Rattle.command_spec.specs.Commands.{OfMove, plan_of}
 use Rattle.tool_frame.specs.Words.{texts, move_for}
 use Rattle.image_tool.proofs.WorkEnds.{none_done, plan_done, count_same}
 use Rattle.image_tool.proofs.Due.{plan_put, plan_same}

@@ -1,5 +1,5 @@
 use Rattle.std.proofs.Common.{refl}
-use Rattle.tool_spec.specs.Commands.{asked, plan_of}
+use Rattle.command_spec.specs.Commands.{asked, plan_of}
 use Rattle.tool_frame.specs.Words.{texts}
 use Rattle.tool_frame.proofs.AnyWords.{work_answers}
 use Rattle.image_tool.proofs.Completed.{completes}

@@ -1,6 +1,6 @@
 use Rattle.std.proofs.Common.{fold, Option, None, Some, sym, subst, refl}
 use Rattle.std.proofs.lemmas.Bool.{lt-ltb, le-ltb}
-use Rattle.tool_spec.specs.Generated.{with_cut}
+use Rattle.script_spec.specs.Generated.{with_cut}
 use Rattle.ram_generator.specs.declared.turns.CutAppend.{CutAppend}
 use Rattle.ram_generator.specs.Turns.{cut_of}
 use Rattle.ram_generator.specs.Sessions.{RunsCut}

@@ -1,5 +1,5 @@
 use Rattle.std.proofs.Common.{arith}
-use Rattle.tool_spec.specs.Generated.{drawn_damage}
+use Rattle.script_spec.specs.Generated.{drawn_damage}
 use Rattle.ram_generator.proofs.Each.{flat_next, flat_end}
 use Rattle.ram_generator.proofs.damage.draw_all.Goals as goal
 

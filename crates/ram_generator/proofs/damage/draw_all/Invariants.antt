@@ -1,5 +1,5 @@
 use Rattle.std.proofs.Common.{drop}
-use Rattle.tool_spec.specs.Generated.{draw_each, drawn_damage}
+use Rattle.script_spec.specs.Generated.{draw_each, drawn_damage}
 use Rattle.ram_generator.proofs.Each.{IsFlat}
 use Rattle.ram_generator.proofs.damage.draw_all.Given as goal
 

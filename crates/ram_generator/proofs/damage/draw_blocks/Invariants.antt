@@ -1,5 +1,5 @@
 use Rattle.std.proofs.Common.{◌≤◌}
-use Rattle.tool_spec.specs.Generated.{draw_each, drawn_flips}
+use Rattle.script_spec.specs.Generated.{draw_each, drawn_flips}
 use Rattle.ram_generator.specs.Damage.{blocks_of}
 use Rattle.ram_generator.proofs.Each.{IsAdded}
 use Rattle.ram_generator.proofs.Damaging.{blocks_left}

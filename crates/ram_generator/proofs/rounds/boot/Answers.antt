@@ -1,7 +1,7 @@
 use Rattle.std.proofs.Common.{◌≡◌, ℕ, length, map, count_by, sym, ap, ◌∙◌, subst}
 use Rattle.machine_spec.specs.Report.{ZoneReport}
 use Rattle.ramoops.specs.Reports.{report_seen}
-use Rattle.tool_spec.specs.Generated.{Generated, is_told, is_other}
+use Rattle.script_spec.specs.Generated.{Generated, is_told, is_other}
 use Rattle.ram_generator.specs.declared.counts.Counts.{Counts}
 use Rattle.ram_generator.specs.Counting.{flips_added, verdicts_added}
 use Rattle.ram_generator.specs.Sessions.{RunsIdle}

@@ -4,7 +4,7 @@ use Rattle.std.proofs.lemmas.List.{length-map}
 use Rattle.zone_spec.specs.declared.Zone.{Zone}
 use Rattle.zone_spec.specs.declared.ZoneName.{ZoneName}
 use Rattle.ramoops.specs.Asks.{ask_seen}
-use Rattle.tool_spec.specs.Generated.{Generated, drawn_cut, with_call, with_cut}
+use Rattle.script_spec.specs.Generated.{Generated, drawn_cut, with_call, with_cut}
 use Rattle.ram_generator.specs.Damage.{IsWithin}
 use Rattle.ram_generator.specs.Turns.{cut_of}
 use Rattle.ram_generator.specs.Sessions.{IsForRing, IsCutOfRing, without_ring, IsHalted}

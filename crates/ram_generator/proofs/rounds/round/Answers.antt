@@ -1,7 +1,7 @@
 use Rattle.std.proofs.Common.{ℕ, List, sym, ap, ◌∙◌, subst}
 use Rattle.std.proofs.lemmas.Result.{IfOk-weaker, on_ok_weaker}
 use Rattle.zone_spec.specs.declared.Zone.{Zone}
-use Rattle.tool_spec.specs.Generated.{Generated, drawn_halt}
+use Rattle.script_spec.specs.Generated.{Generated, drawn_halt}
 use Rattle.ram_generator.specs.Sessions.{RunsIdle, IsHalted}
 use Rattle.ram_generator.proofs.Rounding.{round_first}
 use Rattle.ram_generator.proofs.rounds.round.Goals as goal

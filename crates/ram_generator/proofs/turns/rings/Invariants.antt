@@ -1,5 +1,5 @@
 use Rattle.std.proofs.Common.{◌≡◌, take}
-use Rattle.tool_spec.specs.Generated.{rings}
+use Rattle.script_spec.specs.Generated.{rings}
 use Rattle.ram_generator.proofs.turns.rings.Given as goal
 
 abbrev pub invariant-zones : goal.invariant-zones

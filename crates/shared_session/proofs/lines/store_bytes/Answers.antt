@@ -1,6 +1,6 @@
 use Rattle.std.proofs.Common.{ℕ, subst, arith}
 use Rattle.shared_ring.specs.Seen.{IsLeftBy}
-use Rattle.tool_spec.specs.SharedScripts.{with_steps}
+use Rattle.script_spec.specs.SharedScripts.{with_steps}
 use Rattle.shared_session.proofs.Steps.{steps_none, steps_next, steps_done}
 use Rattle.shared_session.proofs.lines.store_bytes.Goals as goal
 

@@ -1,7 +1,7 @@
 use Rattle.std.proofs.Common.{◌≤◌, ◌-◌}
 use Rattle.shared_spec.specs.Histories.{History}
 use Rattle.shared_ring.specs.Seen.{IsLeftBy}
-use Rattle.tool_spec.specs.SharedScripts.{with_steps}
+use Rattle.script_spec.specs.SharedScripts.{with_steps}
 use Rattle.shared_session.proofs.lines.store_bytes.Given as goal
 
 -- so many steps were made

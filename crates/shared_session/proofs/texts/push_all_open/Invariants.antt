@@ -1,5 +1,5 @@
 use Rattle.std.proofs.Common.{◌≡◌, ◌++◌, drop, flat_map}
-use Rattle.tool_spec.specs.SharedScripts.{open_text}
+use Rattle.script_spec.specs.SharedScripts.{open_text}
 use Rattle.shared_session.proofs.texts.push_all_open.Given as goal
 
 -- the text so far, and then the lines of the calls that are left

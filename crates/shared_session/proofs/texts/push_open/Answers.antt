@@ -1,5 +1,5 @@
 use Rattle.std.proofs.Common.{codes, decimal}
-use Rattle.tool_spec.specs.Texts.{newline}
+use Rattle.script_spec.specs.Texts.{newline}
 use Rattle.shared_session.proofs.Pieces.{open-is}
 use Rattle.shared_session.proofs.texts.push_open.Goals as goal
 

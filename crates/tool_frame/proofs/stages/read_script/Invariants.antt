@@ -1,6 +1,6 @@
 use Rattle.std.proofs.Common.{◌≡◌, ◌≤◌, ◌+◌, ◌-◌, vec_len}
 use Rattle.std.specs.Io.KnownBytes.{Consumes}
-use Rattle.tool_spec.specs.Commands.{script_limit}
+use Rattle.command_spec.specs.Commands.{script_limit}
 use Rattle.tool_frame.proofs.stages.read_script.Given as goal
 
 abbrev pub invariant-pieces : goal.invariant-pieces

@@ -1,5 +1,5 @@
 use Rattle.std.proofs.Common.{◌≤◌, ◌-◌}
-use Rattle.tool_spec.specs.Generated.{draws}
+use Rattle.script_spec.specs.Generated.{draws}
 use Rattle.ram_generator.proofs.Drawing.{IsDrawn}
 use Rattle.ram_generator.proofs.draws.Draws.draw_bytes.Given as goal
 

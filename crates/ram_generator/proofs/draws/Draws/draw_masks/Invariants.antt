@@ -1,5 +1,5 @@
 use Rattle.std.proofs.Common.{◌≤◌, ◌-◌}
-use Rattle.tool_spec.specs.Generated.{draws}
+use Rattle.script_spec.specs.Generated.{draws}
 use Rattle.ram_generator.proofs.Drawing.{IsMasked}
 use Rattle.ram_generator.proofs.draws.Draws.draw_masks.Given as goal
 

@@ -1,5 +1,5 @@
 use Rattle.std.proofs.Common.{ℕ, List, ap, sym, ◌∙◌, arith}
-use Rattle.tool_spec.specs.Generated.{CutAppend}
+use Rattle.script_spec.specs.Generated.{CutAppend}
 use Rattle.ram_generator.proofs.Turning.{found_at, cut_none, cut_drawn}
 use Rattle.ram_generator.proofs.turns.Targets.draw_cut.Goals as goal
 

@@ -2,7 +2,7 @@ use Rattle.std.proofs.Common.{ℕ, ◌≤◌, ◌-◌, List, map}
 use Rattle.std.specs.List.{All, range_with_len}
 use Rattle.zone_spec.specs.declared.Zone.{Zone}
 use Rattle.ramoops.specs.Asks.{ask_seen, CanBeAsked}
-use Rattle.tool_spec.specs.Generated.{draw_each, drawn_turn}
+use Rattle.script_spec.specs.Generated.{draw_each, drawn_turn}
 use Rattle.ram_generator.specs.Turns.{AreTargets}
 use Rattle.ram_generator.proofs.Each.{IsJoined}
 use Rattle.ram_generator.proofs.turns.Targets.draw_turns.Given as goal

@@ -1,4 +1,4 @@
-use Rattle.std.proofs.Common.{◌≡◌, ◌<◌, min, length, arith, Some, refl, ap}
+use Rattle.std.proofs.Common.{◌≡◌, ◌<◌, length, arith, Some, refl, ap}
 use Rattle.std.proofs.lemmas.Option.{slice_get_read}
 use Rattle.std.specs.Prelude.{slice_get}
 use Rattle.prz_read.specs.Saving.{saved}

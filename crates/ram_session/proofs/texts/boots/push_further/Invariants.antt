@@ -1,5 +1,5 @@
 use Rattle.std.proofs.Common.{◌≡◌, ◌++◌, drop, flat_map, codes}
-use Rattle.tool_spec.specs.Texts.{run_text}
+use Rattle.script_spec.specs.Texts.{run_text}
 use Rattle.ram_session.proofs.texts.boots.push_further.Given as goal
 
 -- the text so far, and then the runs that are left

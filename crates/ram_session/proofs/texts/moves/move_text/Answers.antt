@@ -1,7 +1,7 @@
 use Rattle.std.proofs.Common.{ℕ, ◌∙◌, ap₂, arith}
 use Rattle.zone_params.specs.Laid.{zones_of}
 use Rattle.prz_read.specs.Saving.{saved}
-use Rattle.tool_spec.specs.Texts.{move_text}
+use Rattle.script_spec.specs.Texts.{move_text}
 use Rattle.ram_session.proofs.MoveTexts.{move-is}
 use Rattle.ram_session.proofs.texts.moves.move_text.Goals as goal
 

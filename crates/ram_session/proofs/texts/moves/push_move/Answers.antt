@@ -1,6 +1,6 @@
 use Rattle.std.proofs.Common.{◌++◌, ◌∙◌, ap, List, ℕ, codes, decimal}
 use Rattle.zone_spec.specs.Names.{name_text}
-use Rattle.tool_spec.specs.Texts.{newline}
+use Rattle.script_spec.specs.Texts.{newline}
 use Rattle.ram_session.proofs.MoveTexts.{told-is}
 use Rattle.ram_session.proofs.texts.moves.push_move.Goals as goal
 

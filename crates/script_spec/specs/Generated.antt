@@ -18,7 +18,7 @@ use Rattle.machine_spec.specs.Off.{fresh}
 use Rattle.machine_spec.specs.Report.{ZoneReport, report}
 use Rattle.machine_spec.specs.Operations.{Operation, Make, Begin, Step, Stop, Flip, Boot, operated, left_by}
 use Rattle.grammar_spec.specs.Fields.{Text}
-use Rattle.tool_spec.specs.Texts.{newline}
+use Rattle.script_spec.specs.Texts.{newline}
 
 -- ---- draws
 

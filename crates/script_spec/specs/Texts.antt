@@ -1,7 +1,5 @@
--- The texts that the tool puts, as bytes; each line ends with a newline
-use Rattle.std.specs.Prelude.{ℕ, Bool, ◌&&◌, ◌==◌, if◌then◌else◌, List, [], ◌∷◌, ◌++◌, length, filter, flat_map, sum_by, zip, codes, decimal, Option, Some, None}
-use Rattle.std.specs.List.{list_all}
-use Rattle.zone_spec.specs.declared.Kind.TheVariants.{Dump, Console, Ftrace, Pmsg}
+-- The texts that lines of scripts put, as bytes; each line ends with a newline
+use Rattle.std.specs.Prelude.{ℕ, Bool, ◌==◌, if◌then◌else◌, List, [], ◌∷◌, ◌++◌, length, take, filter, flat_map, sum_by, zip, codes, decimal, Option, Some, None}
 use Rattle.zone_spec.specs.declared.ZoneName.{ZoneName}
 use Rattle.zone_spec.specs.declared.Zone.{Zone}
 use Rattle.zone_spec.specs.declared.State.{State}
@@ -13,16 +11,13 @@ use Rattle.zone_spec.specs.declared.HeaderSeen.TheVariants.{Pair, Foreign}
 use Rattle.zone_spec.specs.declared.Verdict.{Verdict}
 use Rattle.zone_spec.specs.declared.Verdict.TheVariants.{NothingTold, AsTold, Differs}
 use Rattle.zone_spec.specs.declared.Time.{Time}
-use Rattle.zone_spec.specs.declared.params.Params.{Params}
 use Rattle.zone_spec.specs.declared.Name.{Name}
-use Rattle.zone_spec.specs.Layout.{ecc_of}
 use Rattle.zone_spec.specs.Reading.{ZoneReading}
 use Rattle.zone_spec.specs.TimeLines.{six_digits}
 use Rattle.zone_spec.specs.Names.{name_text}
 use Rattle.zone_spec.specs.Records.{Saved, Listed, listed_of, found}
 use Rattle.zone_spec.specs.Notices.{is_in, content}
 use Rattle.zone_spec.specs.Cut.{CutReport}
-use Rattle.salvage_spec.specs.declared.FoundRing.{FoundRing}
 use Rattle.machine_spec.specs.Report.{ZoneReport}
 use Rattle.machine_spec.specs.Moved.{fits}
 use Rattle.grammar_spec.specs.Fields.{Text}
@@ -31,30 +26,13 @@ use Rattle.grammar_spec.specs.Printed.{zone_text}
 abbrev pub newline : Text
 newline = 10 ∷ []
 
--- ---- a layout
+-- the first k texts end to end
+abbrev pub front : List Text → ℕ → Text
+front texts k = flat_map (λ text. text) (take k texts)
 
--- blocks have 128 bytes, and each kind has the parity that `ecc` asks for
-abbrev pub is_uniform : Params → Bool
-is_uniform p =
-    (p.block == 128) && list_all (λ kind. ecc_of p kind == p.ecc)
-    (Dump ∷ Console ∷ Ftrace ∷ Pmsg ∷ [])
-
--- ` parity R block K`, where parameters are not uniform
-abbrev pub own_parity : Bool → Zone → Text
-own_parity uniform z = if uniform then [] else codes " parity " ++ decimal z.parity ++ codes " block "
-    ++ decimal z.block
-
--- `ZONE at A size S cap C blocks B`
-abbrev pub layout_line : Bool → Zone → Text
-layout_line uniform z =
-    zone_text z.name ++ codes " at " ++ decimal z.at ++ codes " size " ++ decimal z.size
-    ++ codes " cap " ++ decimal z.cap ++ codes " blocks " ++ decimal z.blocks ++ own_parity uniform z ++ newline
-
--- `mem M parity R zones Z`, and a line for each zone
-abbrev pub layout_text : Params → List Zone → Text
-layout_text p zones =
-    codes "mem " ++ decimal p.mem ++ codes " parity " ++ decimal p.ecc
-    ++ codes " zones " ++ decimal (length zones) ++ newline ++ flat_map (λ z. layout_line (is_uniform p) z) zones
+-- all of them
+abbrev pub whole : List Text → Text
+whole texts = flat_map (λ text. text) texts
 
 -- ---- a boot
 
@@ -163,16 +141,3 @@ move_text from to layout zones =
     codes "move " ++ decimal from ++ codes " to " ++ decimal to ++ codes " records "
     ++ decimal (length (listed_of zones)) ++ newline
     ++ flat_map (λ r. move_line (fits layout zones r.name) zones r) (listed_of zones)
-
--- ---- the rings of a dump
-
--- `ring at A shape ZONE start S size Z corrected X`
-abbrev pub ring_line : FoundRing → Text
-ring_line ring =
-    codes "ring at " ++ decimal ring.at ++ codes " shape " ++ zone_text ring.zone
-    ++ codes " start " ++ decimal ring.words.start ++ codes " size " ++ decimal ring.words.size
-    ++ codes " corrected " ++ decimal ring.corrected ++ newline
-
--- `salvage rings N`, and a line for each ring
-abbrev pub rings_text : List FoundRing → Text
-rings_text rings = codes "salvage rings " ++ decimal (length rings) ++ newline ++ flat_map ring_line rings

@@ -1,31 +1,11 @@
-//! The image tool's words: what each command wants, what a script's lines do, how a run ends, and the texts that are
-//! put. Plain types that definitions and code share, and in `specs/` the definitions that contracts cite.
+//! The image tool's commands: the words that name them, what each wants, what a run answers, and how it ends. Plain
+//! types that definitions and code share, and in `specs/` the definitions that contracts cite.
 #![tactic(auto)]
 
 use grammar_spec::ParamFault;
+use script_spec::Cause;
 use std::alloc::AllocError;
 use zone_spec::LayoutFault;
-
-/// Why a line of a script was refused.
-#[derive(Clone, Copy, Debug, PartialEq, Eq)]
-pub enum Cause {
-    IsOff,
-    IsLive,
-    NoZone,
-    Busy,
-    Idle,
-    OutOfImage,
-    NoRecord,
-    NotHere,
-    /// A line of the message log that does not fit in it.
-    TooLong,
-    /// All seats of a shared zone are taken.
-    NoSeat,
-    /// The open appends of a shared zone leave no place for this one.
-    Crowded,
-    /// No ring stands at the place.
-    NoRing,
-}
 
 /// Why a run ends before its work is done.
 #[derive(Clone, Copy, Debug, PartialEq, Eq)]
@@ -50,7 +30,7 @@ pub enum Stop {
 
 impl From<AllocError> for Stop {
     ghost use Rattle.std.specs.Prelude.{◌≡◌};
-    ghost use Rattle.tool_spec.specs.declared.Stop.TheVariants.{Memory};
+    ghost use Rattle.command_spec.specs.declared.Stop.TheVariants.{Memory};
 
     ghost from_gives = { λ _ e. e ≡ Memory };
 

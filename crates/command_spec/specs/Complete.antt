@@ -3,13 +3,13 @@ use Rattle.std.specs.Prelude.{◌≡◌, ◌⊎◌, ⊤, ℕ, List, Some, Result
 use Rattle.blk_spec.specs.declared.BlkLayout.{BlkLayout}
 use Rattle.grammar_spec.specs.Fields.{Text}
 use Rattle.grammar_spec.specs.declared.line.Line.{Line}
-use Rattle.tool_spec.specs.Ends.{End}
-use Rattle.tool_spec.specs.Commands.{RamCommand, RunScript, ShowLayout, BlankImage, MakeImage, RunShared, Plan, OfRam, OfBlk, OfMove, wanted, wanted_move, plan_of}
-use Rattle.tool_spec.specs.BlkScripts.{blk_ran}
-use Rattle.tool_spec.specs.Answers.{Outside, RoseFor}
-use Rattle.tool_spec.specs.BlkAnswers.{blk_lines, blk_end}
-use Rattle.tool_spec.specs.declared.Stop.{Stop}
-use Rattle.tool_spec.specs.declared.Stop.TheVariants.{ScriptFault, ImageFault, SinkFault}
+use Rattle.command_spec.specs.Ends.{End}
+use Rattle.command_spec.specs.Commands.{Class, RunsScript, MakesImage, ShowsText, class_of, Plan, OfRam, OfBlk, OfMove, wanted, wanted_move, plan_of}
+use Rattle.script_spec.specs.BlkScripts.{blk_ran}
+use Rattle.command_spec.specs.Answers.{Outside, RoseFor}
+use Rattle.command_spec.specs.BlkAnswers.{blk_lines, blk_end}
+use Rattle.command_spec.specs.declared.Stop.{Stop}
+use Rattle.command_spec.specs.declared.Stop.TheVariants.{ScriptFault, ImageFault, SinkFault}
 
 -- ---- the end that is wanted
 
@@ -31,16 +31,14 @@ wanted_end words bytes script = plan_end (plan_of words) bytes script
 -- ---- what the outside must tell
 
 -- the image holds these bytes, and these are left of the script, as far as a command reads them
-abbrev pub CommandTells : RamCommand → Outside → List ℕ → List ℕ → Type 0
-CommandTells RunScript a bytes script = (a.holds ≡ Some bytes) × (a.left ≡ Some script)
-CommandTells RunShared a bytes script = (a.holds ≡ Some bytes) × (a.left ≡ Some script)
-CommandTells ShowLayout a bytes script = ⊤
-CommandTells BlankImage a bytes script = ⊤
-CommandTells (MakeImage n) a bytes script = ⊤
-CommandTells other a bytes script = a.holds ≡ Some bytes
+abbrev pub ClassTells : Class → Outside → List ℕ → List ℕ → Type 0
+ClassTells RunsScript a bytes script = (a.holds ≡ Some bytes) × (a.left ≡ Some script)
+ClassTells MakesImage a bytes script = ⊤
+ClassTells ShowsText a bytes script = ⊤
+ClassTells other a bytes script = a.holds ≡ Some bytes
 
 abbrev pub PlanTells : Result Plan Stop → Outside → List ℕ → List ℕ → Type 0
-PlanTells (Ok (OfRam plan)) a bytes script = CommandTells plan.command a bytes script
+PlanTells (Ok (OfRam plan)) a bytes script = ClassTells (class_of plan.command) a bytes script
 PlanTells (Ok (OfBlk layout)) a bytes script = (a.holds ≡ Some bytes) × (a.left ≡ Some script)
 PlanTells (Ok (OfMove plan)) a bytes script = a.holds ≡ Some bytes
 PlanTells (Err stop) a bytes script = ⊤

@@ -23,9 +23,9 @@ use Rattle.kmsg_spec.specs.declared.Why.TheVariants.{Panic, Oops, Emergency, Shu
 use Rattle.grammar_spec.specs.Fields.{Text}
 use Rattle.grammar_spec.specs.declared.line.Line.{Line}
 use Rattle.grammar_spec.specs.declared.line.Line.TheVariants.{Blank, Write, Dump, BeginWrite, BeginErase, BeginDump, Step, Finish, Stop, Flip, Boot, BootPart, List as ListLine, Extract, Erase, KMsg, Crash}
-use Rattle.tool_spec.specs.Texts.{boot_text, part_text, listing, extract_text}
-use Rattle.tool_spec.specs.declared.Cause.{Cause}
-use Rattle.tool_spec.specs.declared.Cause.TheVariants.{IsOff, IsLive, NoZone, Busy, Idle, OutOfImage, NoRecord, NotHere, TooLong}
+use Rattle.script_spec.specs.Texts.{boot_text, part_text, listing, extract_text}
+use Rattle.script_spec.specs.declared.Cause.{Cause}
+use Rattle.script_spec.specs.declared.Cause.TheVariants.{IsOff, IsLive, NoZone, Busy, Idle, OutOfImage, NoRecord, NotHere, TooLong}
 
 -- what a line of the store that was done leaves and puts
 pub record StoreDone : Type 0 where

@@ -18,9 +18,9 @@ use Rattle.blk_spec.specs.Session.{Session, Operation, Load, Append, AppendElsew
 use Rattle.grammar_spec.specs.Fields.{Text}
 use Rattle.grammar_spec.specs.declared.line.Line.{Line}
 use Rattle.grammar_spec.specs.declared.line.Line.TheVariants.{Blank, Write, Boot, List as ListLine, Extract, Erase, KDump, CutAfter}
-use Rattle.tool_spec.specs.Texts.{newline}
-use Rattle.tool_spec.specs.declared.Cause.{Cause}
-use Rattle.tool_spec.specs.declared.Cause.TheVariants.{IsOff, NoZone, NoRecord, NotHere}
+use Rattle.script_spec.specs.Texts.{newline}
+use Rattle.script_spec.specs.declared.Cause.{Cause}
+use Rattle.script_spec.specs.declared.Cause.TheVariants.{IsOff, NoZone, NoRecord, NotHere}
 
 -- ---- texts
 

@@ -1,12 +1,7 @@
 pub mod Texts
 pub mod Ends
-pub mod Scripts
-pub mod SharedScripts
-pub mod Generated
 pub mod Commands
 pub mod Answers
-pub mod Headline
-pub mod BlkScripts
 pub mod BlkAnswers
 pub mod PlanAnswers
 pub mod Complete

@@ -27,37 +27,65 @@ use Rattle.grammar_spec.specs.BlkWords.{first_fault as blk_first_fault, params_o
 use Rattle.grammar_spec.specs.Fields.{Text, number, zone}
 use Rattle.grammar_spec.specs.Lines.{script_of}
 use Rattle.grammar_spec.specs.declared.line.Line.{Line}
-use Rattle.tool_spec.specs.Texts.{layout_text, listing, move_text, rings_text}
-use Rattle.tool_spec.specs.Scripts.{Ran, ran, named}
-use Rattle.tool_spec.specs.SharedScripts.{SharedRan, shared_ran, shared_text, zone_to_share, lacks_plain_ftrace}
+use Rattle.command_spec.specs.Texts.{layout_text, rings_text}
+use Rattle.script_spec.specs.Texts.{listing, move_text}
+use Rattle.script_spec.specs.Scripts.{Ran, ran, named}
+use Rattle.script_spec.specs.SharedScripts.{SharedRan, shared_ran, shared_text, zone_to_share, lacks_plain_ftrace}
 use Rattle.shared_spec.specs.Histories.{shared_zone, image_left}
-use Rattle.tool_spec.specs.Generated.{Generated, generated, summary}
-use Rattle.tool_spec.specs.Ends.{End}
-use Rattle.tool_spec.specs.declared.Cause.{Cause}
-use Rattle.tool_spec.specs.declared.Cause.TheVariants.{NoRecord, NoZone, NoRing}
-use Rattle.tool_spec.specs.declared.Stop.{Stop}
-use Rattle.tool_spec.specs.declared.Stop.TheVariants.{Memory, Usage, Param, Layout as LayoutStop, Short, TooLong, BadLine, Refused, NoSharedZone}
+use Rattle.script_spec.specs.Generated.{Generated, generated, summary}
+use Rattle.command_spec.specs.Ends.{End}
+use Rattle.script_spec.specs.declared.Cause.{Cause}
+use Rattle.script_spec.specs.declared.Cause.TheVariants.{NoRecord, NoZone, NoRing}
+use Rattle.command_spec.specs.declared.Stop.{Stop}
+use Rattle.command_spec.specs.declared.Stop.TheVariants.{Memory, Usage, Param, Layout as LayoutStop, Short, TooLong, BadLine, Refused, NoSharedZone}
 
 -- ---- words
 
 -- a command on an image of the ram store, or on a memory dump that may hold its rings
 pub data RamCommand : Type 0 where
-  RunScript : RamCommand
+  Run : RamCommand
   ListRecords : RamCommand
-  ExtractRecord : (name : Text) → RamCommand
-  EraseRecord : (name : Text) → RamCommand
+  Extract : (name : Text) → RamCommand
+  Erase : (name : Text) → RamCommand
   ShowLayout : RamCommand
-  BlankImage : RamCommand
-  MakeImage : (n : ℕ) → RamCommand
-  RunShared : RamCommand
-  FindRings : RamCommand
-  ReadRing : (at : ℕ) (name : ZoneName) → RamCommand
+  Blank : RamCommand
+  Make : (n : ℕ) → RamCommand
+  SharedRun : RamCommand
+  Salvage : RamCommand
+  Rescue : (at : ℕ) (name : ZoneName) → RamCommand
+
+-- what a command does with the image, which any that writes it writes last
+pub data Class : Type 0 where
+  -- it reads the image and a script, and writes the image
+  RunsScript : Class
+  -- it reads the image
+  ReadsImage : Class
+  -- it reads the front of a file of any length
+  ReadsDump : Class
+  -- it reads the image, and writes it
+  WritesImage : Class
+  -- it reads nothing, and writes the image
+  MakesImage : Class
+  -- it does not look at the image
+  ShowsText : Class
+
+abbrev pub class_of : RamCommand → Class
+class_of Run = RunsScript
+class_of SharedRun = RunsScript
+class_of ListRecords = ReadsImage
+class_of (Extract name) = ReadsImage
+class_of (Erase name) = WritesImage
+class_of ShowLayout = ShowsText
+class_of Blank = MakesImage
+class_of (Make n) = MakesImage
+class_of Salvage = ReadsDump
+class_of (Rescue at name) = ReadsDump
 
 -- what a word names: such a command, a script on the block store, or a move to these parameters
 pub data Command : Type 0 where
   OnRam : (command : RamCommand) → Command
-  RunBlkScript : Command
-  MoveImage : (to : List Text) → Command
+  BlkRun : Command
+  Move : (to : List Text) → Command
 
 -- a command, how many words stand before its parameters, and these
 pub record Asked : Type 0 where
@@ -75,7 +103,7 @@ with_name command (name ∷ words) = Some (record { command = OnRam (command nam
 
 abbrev pub numbered : Option ℕ → List Text → Option Asked
 numbered None words = None
-numbered (Some n) words = Some (record { command = OnRam (MakeImage n); before = 3; params = words })
+numbered (Some n) words = Some (record { command = OnRam (Make n); before = 3; params = words })
 
 -- `make` with N, a decimal number below 2^32
 abbrev pub with_number : List Text → Option Asked
@@ -83,7 +111,7 @@ with_number [] = None
 with_number (n ∷ words) = numbered (number n) words
 
 abbrev pub placed : Option ℕ → Option ZoneName → List Text → Option Asked
-placed (Some at) (Some name) words = Some (record { command = OnRam (ReadRing at name); before = 4; params = words })
+placed (Some at) (Some name) words = Some (record { command = OnRam (Rescue at name); before = 4; params = words })
 placed at name words = None
 
 -- `rescue` with A, a decimal number below 2^32, and a ZONE
@@ -100,7 +128,7 @@ abbrev pub parted : Option ℕ → List Text → Option Asked
 parted None words = None
 parted (Some i) words =
     if is_some (position is_to (drop (i + 1) words)) then None
-    else Some (record { command = MoveImage (drop (i + 1) words); before = 2; params = take i words })
+    else Some (record { command = Move (drop (i + 1) words); before = 2; params = take i words })
 
 unfoldable pub with_to : List Text → Option Asked
 with_to words = parted (position is_to words) words
@@ -108,17 +136,17 @@ with_to words = parted (position is_to words) words
 -- the command that a word names, with the words behind it
 abbrev pub asked_by : Text → List Text → Option Asked
 asked_by word words =
-    if bytes_eq word (codes "run") then plain (OnRam RunScript) words
+    if bytes_eq word (codes "run") then plain (OnRam Run) words
     else if bytes_eq word (codes "list") then plain (OnRam ListRecords) words
-    else if bytes_eq word (codes "extract") then with_name ExtractRecord words
-    else if bytes_eq word (codes "erase") then with_name EraseRecord words
+    else if bytes_eq word (codes "extract") then with_name Extract words
+    else if bytes_eq word (codes "erase") then with_name Erase words
     else if bytes_eq word (codes "layout") then plain (OnRam ShowLayout) words
-    else if bytes_eq word (codes "blank") then plain (OnRam BlankImage) words
+    else if bytes_eq word (codes "blank") then plain (OnRam Blank) words
     else if bytes_eq word (codes "make") then with_number words
-    else if bytes_eq word (codes "blk-run") then plain RunBlkScript words
+    else if bytes_eq word (codes "blk-run") then plain BlkRun words
     else if bytes_eq word (codes "move") then with_to words
-    else if bytes_eq word (codes "shared-run") then plain (OnRam RunShared) words
-    else if bytes_eq word (codes "salvage") then plain (OnRam FindRings) words
+    else if bytes_eq word (codes "shared-run") then plain (OnRam SharedRun) words
+    else if bytes_eq word (codes "salvage") then plain (OnRam Salvage) words
     else if bytes_eq word (codes "rescue") then with_place words
     else None
 
@@ -151,7 +179,7 @@ pub data Plan : Type 0 where
 
 -- a script on a shared zone needs one; this is asked of parameters whose layout has no fault
 abbrev pub lacks_zone : RamCommand → Params → Bool
-lacks_zone RunShared params = lacks_plain_ftrace params
+lacks_zone SharedRun params = lacks_plain_ftrace params
 lacks_zone other params = false
 
 abbrev pub with_layout : RamCommand → Params → Result (List Zone) LayoutFault → Result Plan Stop
@@ -194,9 +222,9 @@ with_first_params second words before (Err fault) = Err (Param fault before)
 abbrev pub laid_out : Command → ℕ → List Text → Result Plan Stop
 laid_out (OnRam command) before params =
     with_params command before (ok_unless (first_fault [] params) (params_of params))
-laid_out RunBlkScript before params =
+laid_out BlkRun before params =
     with_blk_params before (ok_unless (blk_first_fault [] params) (blk_params_of params))
-laid_out (MoveImage to) before params =
+laid_out (Move to) before params =
     with_first_params (before + length params + 1) to before (ok_unless (first_fault [] params) (params_of params))
 
 abbrev pub planned : Option Asked → Result Plan Stop
@@ -322,43 +350,41 @@ wanted_ring (Err RingMemory) = stops Memory
 
 -- what each command wants of an image, or a dump, and a script
 abbrev pub wanted_of : Params → List Zone → List ℕ → List ℕ → RamCommand → Wanted
-wanted_of params layout image script RunScript = wanted_run layout image script
+wanted_of params layout image script Run = wanted_run layout image script
 wanted_of params layout image script ListRecords = shows (listing (saved_logs layout (after_boot layout image)) ∷ [])
-wanted_of params layout image script (ExtractRecord name) =
+wanted_of params layout image script (Extract name) =
     let live = after_boot layout image in wanted_extract layout live (named (saved_logs layout live) name)
-wanted_of params layout image script (EraseRecord name) =
+wanted_of params layout image script (Erase name) =
     let live = after_boot layout image in wanted_erase layout live (named (saved_logs layout live) name)
 wanted_of params layout image script ShowLayout = shows (layout_text params layout ∷ [])
-wanted_of params layout image script BlankImage = leaves (replicate params.mem 0)
-wanted_of params layout image script RunShared = wanted_shared layout image script
-wanted_of params layout image script (MakeImage n) = wanted_make n layout (generated layout params.mem n)
-wanted_of params layout dump script FindRings = shows (rings_text (rings dump layout) ∷ [])
-wanted_of params layout dump script (ReadRing at name) = wanted_ring (read_at dump layout at name)
+wanted_of params layout image script Blank = leaves (replicate params.mem 0)
+wanted_of params layout image script SharedRun = wanted_shared layout image script
+wanted_of params layout image script (Make n) = wanted_make n layout (generated layout params.mem n)
+wanted_of params layout dump script Salvage = shows (rings_text (rings dump layout) ∷ [])
+wanted_of params layout dump script (Rescue at name) = wanted_ring (read_at dump layout at name)
 
--- whether a command reads an image
-abbrev pub reads_image : RamCommand → Bool
-reads_image ShowLayout = false
-reads_image BlankImage = false
-reads_image (MakeImage n) = false
-reads_image FindRings = false
-reads_image (ReadRing at name) = false
-reads_image other = true
+-- whether a command reads an image, of the size of its layout
+abbrev pub reads_image : Class → Bool
+reads_image RunsScript = true
+reads_image ReadsImage = true
+reads_image WritesImage = true
+reads_image other = false
 
 -- the bytes that a dump has at most
 abbrev pub dump_limit : ℕ
 dump_limit = 16777216
 
 -- how many of a store's first bytes a command takes: the image, or a dump, however long that is
-abbrev pub front_of : RamCommand → RamPlan → ℕ
-front_of FindRings plan = dump_limit
-front_of (ReadRing at name) plan = dump_limit
+abbrev pub front_of : Class → RamPlan → ℕ
+front_of ReadsDump plan = dump_limit
 front_of other plan = mem_of plan
 
 -- and the same of a store's bytes and of a script: an image that it reads and that is too short is refused first
 abbrev pub wanted : RamPlan → List ℕ → List ℕ → Wanted
 wanted plan bytes script =
-    if (reads_image plan.command && nat_lt (length bytes) (mem_of plan)) then stops (Short (length bytes) (mem_of plan))
-    else wanted_of plan.params plan.zones (take (front_of plan.command plan) bytes) script plan.command
+    let class = class_of plan.command in
+    if (reads_image class && nat_lt (length bytes) (mem_of plan)) then stops (Short (length bytes) (mem_of plan))
+    else wanted_of plan.params plan.zones (take (front_of class plan) bytes) script plan.command
 
 -- and of those alone, where it reads no script
 abbrev pub wanted_of_image : RamPlan → List ℕ → Wanted

@@ -16,9 +16,9 @@ use Rattle.shared_spec.specs.Histories.{History, shared_zone, and_then}
 use Rattle.grammar_spec.specs.Fields.{Text}
 use Rattle.grammar_spec.specs.declared.line.Line.{Line}
 use Rattle.grammar_spec.specs.declared.line.Line.TheVariants.{Blank, Reserve, StoreNext}
-use Rattle.tool_spec.specs.Texts.{newline}
-use Rattle.tool_spec.specs.declared.Cause.{Cause}
-use Rattle.tool_spec.specs.declared.Cause.TheVariants.{Idle, NotHere, NoSeat, Crowded}
+use Rattle.script_spec.specs.Texts.{newline}
+use Rattle.script_spec.specs.declared.Cause.{Cause}
+use Rattle.script_spec.specs.declared.Cause.TheVariants.{Idle, NotHere, NoSeat, Crowded}
 
 -- ---- the zone
 

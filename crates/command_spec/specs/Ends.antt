@@ -4,15 +4,29 @@ use Rattle.zone_spec.specs.LayoutFaults.{fault_number}
 use Rattle.grammar_spec.specs.declared.faults.ParamFault.{ParamFault}
 use Rattle.grammar_spec.specs.declared.faults.ParamFault.TheVariants.{UnknownKey, Twice, NotANumber}
 use Rattle.grammar_spec.specs.Fields.{Text}
-use Rattle.tool_spec.specs.Texts.{newline}
-use Rattle.tool_spec.specs.declared.Stop.{Stop}
-use Rattle.tool_spec.specs.declared.Stop.TheVariants.{Memory, Usage, Param, Layout, NoSharedZone, Short, ScriptFault, ImageFault, SinkFault, TooLong, BadLine, Refused}
-use Rattle.tool_spec.specs.declared.Cause.{Cause}
-use Rattle.tool_spec.specs.declared.Cause.TheVariants.{IsOff, IsLive, NoZone, Busy, Idle, OutOfImage, NoRecord, NotHere, TooLong as TooLongLine, NoSeat, Crowded, NoRing}
+use Rattle.script_spec.specs.Texts.{newline}
+use Rattle.command_spec.specs.declared.Stop.{Stop}
+use Rattle.command_spec.specs.declared.Stop.TheVariants.{Memory, Usage, Param, Layout, NoSharedZone, Short, ScriptFault, ImageFault, SinkFault, TooLong, BadLine, Refused}
+use Rattle.script_spec.specs.Playing.{LinesEnd}
+use Rattle.script_spec.specs.declared.LineStop.{LineStop}
+use Rattle.script_spec.specs.declared.LineStop.TheVariants.{Memory as MemoryThere, StoreFault as StoreFaultThere, SinkFault as SinkFaultThere, Refused as RefusedThere}
+use Rattle.script_spec.specs.declared.Cause.{Cause}
+use Rattle.script_spec.specs.declared.Cause.TheVariants.{IsOff, IsLive, NoZone, Busy, Idle, OutOfImage, NoRecord, NotHere, TooLong as TooLongLine, NoSeat, Crowded, NoRing}
 
 -- the end of a run: all was done, or why not
 abbrev pub End : Type 0
 End = Result (Unit {0}) Stop
+
+-- lines of a script that stop end its run so
+abbrev pub stop_of : LineStop → Stop
+stop_of MemoryThere = Memory
+stop_of StoreFaultThere = ImageFault
+stop_of SinkFaultThere = SinkFault
+stop_of (RefusedThere n cause) = Refused n cause
+
+abbrev pub end_of : LinesEnd → End
+end_of (Ok u) = Ok tt
+end_of (Err stop) = Err (stop_of stop)
 
 abbrev pub status_of : End → ℕ
 status_of (Ok u) = 0

@@ -3,21 +3,28 @@ use Rattle.std.proofs.Common.{◌≡◌, ℕ, zero, suc, ◌+◌, ◌<◌, ◌�
 use Rattle.std.proofs.lemmas.List.Sums.{fold_more}
 use Rattle.std.proofs.lemmas.List.Folds.{fold_stuck}
 use Rattle.std.proofs.lemmas.Grind.{common_steps}
+use Rattle.std.proofs.Math.Seq.{take-append-add}
 use Rattle.std.specs.List.{fold}
 use Rattle.std.specs.Io.KnownBytes.{Appends}
+use Rattle.std.proofs.KnownBytes.{Appends-nil, Appends-trans}
 use Rattle.outside.specs.Outside.{AppendsFront}
 use Rattle.zone_spec.specs.declared.Zone.{Zone}
 use Rattle.machine_spec.specs.States.{Session}
 use Rattle.grammar_spec.specs.Fields.{Text}
 use Rattle.grammar_spec.specs.declared.line.Line.{Line}
-use Rattle.tool_spec.specs.Scripts.{Kernel, Done, Ran, ran, ran_on, next_line, started, line_done}
-use Rattle.tool_spec.specs.Commands.{script_end}
-use Rattle.tool_spec.specs.Answers.{front, whole}
-use Rattle.tool_spec.specs.declared.Cause.{Cause}
-use Rattle.tool_spec.specs.declared.Stop.TheVariants.{Refused}
-use Rattle.tool_frame.specs.Ended.{PutTexts, PutSome}
-use Rattle.tool_frame.specs.Playing.{Played, PlayedTo}
-use Rattle.tool_frame.proofs.Answered.{appends_on, front_on, nothing_put}
+use Rattle.script_spec.specs.Scripts.{Kernel, Done, Ran, ran, ran_on, next_line, started, line_done}
+use Rattle.script_spec.specs.Texts.{front, whole}
+use Rattle.script_spec.specs.declared.Cause.{Cause}
+use Rattle.script_spec.specs.Playing.{PutTexts, PutSome, Played, PlayedTo, PlayedBefore}
+
+-- text, and then the front of more
+pub front_on : (a b c : Option (List ℕ)) (xs ys : List ℕ) → Appends a b xs → AppendsFront b c ys
+    → AppendsFront a c (xs ++ ys)
+front_on a b c xs ys h k = record {
+  count = length xs + k.count;
+  within = omega (arith, length-append xs ys, k.within);
+  bytes = rw (take-append-add xs ys k.count) (Appends-trans a b c xs (take k.count ys) h k.bytes);
+}
 
 -- ---- texts only grow
 
@@ -122,7 +129,7 @@ pub played_none : (layout : List Zone) (image : List ℕ) (lines : List Line) (g
 played_none layout image lines given = record {
   count = refl;
   kernel_is = refl;
-  so_far = record { state = refl; none = refl; texts = nothing_put given };
+  so_far = record { state = refl; none = refl; texts = Appends-nil given };
 }
 
 -- one line more was done, and its text put
@@ -141,7 +148,7 @@ played_on layout image lines i line session next kernel kernel' text bytes a b c
       so_far = record {
         state = rw e refl;
         none = rw e refl;
-        texts = rw (e, whole_more r.texts text) (appends_on a b c (whole r.texts) text p.so_far.texts (rw same at put));
+        texts = rw (e, whole_more r.texts text) (Appends-trans a b c (whole r.texts) text p.so_far.texts (rw same at put));
       };
     }
 
@@ -168,11 +175,10 @@ stopped_memory layout image lines i session kernel a b p =
 pub stopped_refused : (layout : List Zone) (image : List ℕ) (lines : List Line) (i : ℕ) (line : Line) (cause : Cause)
     (session : Session) (kernel : Kernel) (a b : Option (List ℕ)) → i < length lines → line ≡ get_or lines i line
     → PlayedTo layout image lines i session kernel a b → line_done layout session kernel line ≡ Err cause
-    → (script_end (length (ran layout image lines).texts) (ran layout image lines).refused
-    ≡ Err (Refused (i + 1) cause)) × Appends a b (whole (ran layout image lines).texts)
+    → PlayedBefore layout image lines (i + 1) cause a b
 stopped_refused layout image lines i line cause session kernel a b h is p g =
     let e = refused_at layout image lines i line cause h is p.so_far.none (rw (p.so_far.state, p.kernel_is) g) in
-    rw e (rw p.count refl, p.so_far.texts)
+    record { number = rw (e, p.count) refl; refused = rw e refl; texts = rw e p.so_far.texts }
 
 -- a text was put in part
 pub stopped_put : (layout : List Zone) (image : List ℕ) (lines : List Line) (i : ℕ) (line : Line)

@@ -1,13 +1,14 @@
 -- What a command answers: its status, the text that it put, and what the image then holds
-use Rattle.std.specs.Prelude.{◌≡◌, ◌≢◌, ◌⊎◌, ⊤, ℕ, ◌≤◌, ◌<◌, List, [], ◌++◌, length, take, flat_map, Option, None, Some, Ok, Err}
+use Rattle.std.specs.Prelude.{◌≡◌, ◌≢◌, ◌⊎◌, ⊤, ℕ, ◌≤◌, ◌<◌, List, ◌++◌, length, take, Option, None, Some, Ok, Err}
 use Rattle.std.specs.Io.KnownBytes.{Appends, IsAtEnd}
 use Rattle.outside.specs.Outside.{Rose, AppendsFront, Writes, WritesFront}
 use Rattle.grammar_spec.specs.Fields.{Text}
 use Rattle.grammar_spec.specs.Lines.{script_of}
-use Rattle.tool_spec.specs.Ends.{End, status_of, last_line}
-use Rattle.tool_spec.specs.Commands.{RamPlan, Wanted, wanted, mem_of, script_limit}
-use Rattle.tool_spec.specs.declared.Stop.{Stop}
-use Rattle.tool_spec.specs.declared.Stop.TheVariants.{Memory, Short, ScriptFault, ImageFault, SinkFault, TooLong, BadLine}
+use Rattle.script_spec.specs.Texts.{front, whole}
+use Rattle.command_spec.specs.Ends.{End, status_of, last_line}
+use Rattle.command_spec.specs.Commands.{RamPlan, Wanted, wanted, script_limit}
+use Rattle.command_spec.specs.declared.Stop.{Stop}
+use Rattle.command_spec.specs.declared.Stop.TheVariants.{Memory, Short, ScriptFault, ImageFault, SinkFault, TooLong, BadLine}
 
 -- ---- the outside
 
@@ -77,14 +78,6 @@ pub record NoOtherFault (a b : Outside) (status : ℕ) : Type 0 where
   pub either : (b.source_faults ≡ a.source_faults) ⊎ (b.store_faults ≡ a.store_faults)
 
 -- ---- text and image
-
--- the first k texts end to end
-abbrev pub front : List Text → ℕ → Text
-front texts k = flat_map (λ text. text) (take k texts)
-
--- all of them
-abbrev pub whole : List Text → Text
-whole texts = flat_map (λ text. text) texts
 
 -- some first texts were put, and then a last line
 pub record PutThen (texts : List Text) (old new : Option (List ℕ)) (last : Text) : Type 0 where
@@ -200,34 +193,47 @@ pub record ScriptRead (mem : ℕ) (a b : Outside) (status : ℕ) : Type 0 where
   pub script : IfLeft a (λ script. ScriptAnswers script a b status)
   pub used : ScriptUse a b status
 
--- a command reads a script, and what it wants stands on both the image and the script
-pub record RunAnswers (plan : RamPlan) (a b : Outside) (status : ℕ) : Type 0 where
-  pub whole : IfTold a (λ bytes script. Answers (wanted plan bytes script) a b status)
-  pub read : ScriptRead (mem_of plan) a b status
+-- ---- one form for what is said of a command's work, by how it ends, and of its whole run, by its status
+
+-- it can end so; P holds of what it wants, where that is told, and F where the image failed as it was written
+
+-- a command that reads a script: what it wants stands on both the image and the script
+pub record OfScript {X : Type 0} (C R : X → Type 0) (P F : X → Wanted → Type 0) (plan : RamPlan) (a b : Outside)
+    (x : X) : Type 0 where
+  pub can : C x
+  pub whole : IfTold a (λ bytes script. P x (wanted plan bytes script))
+  pub read : R x
   -- the image failed before the script was read, or as it was written back
-  pub image_fault : status ≡ 6 → NoScript a b
-      ⊎ IfTold a (λ bytes script. SavedInPart (wanted plan bytes script) a b (last_line ImageFault))
+  pub image_fault : NoScript a b ⊎ IfTold a (λ bytes script. F x (wanted plan bytes script))
 
 -- a command that reads the image, of which it wants this, and leaves the script
-pub record ImageAnswers (want : List ℕ → Wanted) (a b : Outside) (status : ℕ) : Type 0 where
-  pub whole : IfHolds a (λ bytes. Answers (want bytes) a b status)
+pub record OfImage {X : Type 0} (C : X → Type 0) (P : X → Wanted → Type 0) (want : List ℕ → Wanted) (a b : Outside)
+    (x : X) : Type 0 where
+  pub can : C x
+  pub whole : IfHolds a (λ bytes. P x (want bytes))
   pub script : NoScript a b
 
 -- the same, and it leaves the image as it is
-pub record ReadAnswers (want : List ℕ → Wanted) (a b : Outside) (status : ℕ) : Type 0 where
-  pub whole : IfHolds a (λ bytes. Answers (want bytes) a b status)
+pub record OfReading {X : Type 0} (C : X → Type 0) (P : X → Wanted → Type 0) (want : List ℕ → Wanted) (a b : Outside)
+    (x : X) : Type 0 where
+  pub can : C x
+  pub whole : IfHolds a (λ bytes. P x (want bytes))
   pub script : NoScript a b
   pub image : b.holds ≡ a.holds
 
 -- a command that reads nothing: it puts its whole text before it touches the image
-pub record MakeAnswers (plan : RamPlan) (a b : Outside) (status : ℕ) : Type 0 where
-  pub whole : Answers (wanted plan [] []) a b status
+pub record OfMaking {X : Type 0} (C : X → Type 0) (P F : X → Wanted → Type 0) (w : Wanted) (a b : Outside)
+    (x : X) : Type 0 where
+  pub can : C x
+  pub whole : P x w
   pub script : NoScript a b
-  pub image_fault : status ≡ 6 → SavedInPart (wanted plan [] []) a b (last_line ImageFault)
-  pub text_first : NoImage a b ⊎ PutsAll (wanted plan [] []) a b
+  pub image_fault : F x w
+  pub text_first : NoImage a b ⊎ PutsAll w a b
 
 -- and does not look at the image
-pub record ShowAnswers (plan : RamPlan) (a b : Outside) (status : ℕ) : Type 0 where
-  pub whole : Answers (wanted plan [] []) a b status
+pub record OfShowing {X : Type 0} (C : X → Type 0) (P : X → Wanted → Type 0) (w : Wanted) (a b : Outside)
+    (x : X) : Type 0 where
+  pub can : C x
+  pub whole : P x w
   pub script : NoScript a b
   pub image : NoImage a b
