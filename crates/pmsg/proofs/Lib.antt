@@ -1,2 +1,3 @@
 pub mod Skips
 pub mod Texts
+pub mod Dates

@@ -17,3 +17,11 @@ pub struct Entry {
     pub start: usize,
     pub end: usize,
 }
+
+/// A date; the months and the days of a month count from 1.
+#[derive(Clone, Copy, Debug, PartialEq, Eq)]
+pub struct Date {
+    pub year: u32,
+    pub month: u32,
+    pub day: u32,
+}
