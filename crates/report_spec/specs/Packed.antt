@@ -8,18 +8,24 @@ use Rattle.zone_spec.specs.declared.Zone.{Zone}
 use Rattle.inflate_spec.specs.declared.Fault.{Fault}
 use Rattle.inflate_spec.specs.declared.Fault.TheVariants.{EndOfInput, ReservedBlock, StoredLength, TooManyCodes, OverSubscribed, Incomplete, NoEndCode, NoPrevious, TooManyLengths, MissingCode, DistanceTooFar}
 use Rattle.inflate_spec.specs.Texts.{Inflates, Breaks, Exceeds}
+use Rattle.pmsg_spec.specs.declared.Entry.{Entry}
+use Rattle.pmsg_spec.specs.Entries.{entries}
+use Rattle.pmsg_spec.specs.Lines.{lines_text}
 use Rattle.report_spec.specs.declared.TextFault.{TextFault}
 use Rattle.report_spec.specs.declared.TextFault.TheVariants.{Broken, TooLong}
 use Rattle.report_spec.specs.declared.Packing.{Packing}
 use Rattle.report_spec.specs.declared.Packing.TheVariants.{Plain, Whole, Part}
 use Rattle.report_spec.specs.Records.{RecordHeld}
 
--- a record's name and content as its file has them, the content with its notice; and whether its bytes were packed
+-- a record's name and content as its file has them, the content with its notice; whether its bytes were packed; and of a
+-- pmsg the entries of Android's log, if it has such, with their lines
 pub record RecordShown : Type 0 where
   pub name : Name
   pub time : Option Time
   pub content : List ℕ
   pub packing : Packing (List ℕ)
+  pub entries : List Entry
+  pub lines : List ℕ
 
 -- ---- words
 
@@ -54,12 +60,38 @@ most_of zones index = most_by (slice_get zones index)
 -- a record as it stands
 abbrev pub as_it_stands : RecordHeld → Packing (List ℕ) → RecordShown
 as_it_stands r packing =
-    record { name = r.name; time = r.time; content = r.content ++ r.notice; packing = packing }
+    record {
+      name = r.name;
+      time = r.time;
+      content = r.content ++ r.notice;
+      packing = packing;
+      entries = [];
+      lines = [];
+    }
+
+-- a pmsg, with its entries and their lines
+abbrev pub as_listed : RecordHeld → RecordShown
+as_listed r =
+    record {
+      name = r.name;
+      time = r.time;
+      content = r.content ++ r.notice;
+      packing = Plain;
+      entries = entries r.content;
+      lines = lines_text r.content (entries r.content);
+    }
 
 -- a dump with its text in place of its bytes
 abbrev pub inflated : RecordHeld → ℕ → List ℕ → ℕ → RecordShown
 inflated r index text taken =
-    record { name = Dump index false; time = r.time; content = text ++ r.notice; packing = Whole taken }
+    record {
+      name = Dump index false;
+      time = r.time;
+      content = text ++ r.notice;
+      packing = Whole taken;
+      entries = [];
+      lines = [];
+    }
 
 -- the bytes stand for the text up to a fault, or up to where it gets too long
 abbrev pub StopsAt : List ℕ → ℕ → TextFault → List ℕ → Type 0
@@ -78,7 +110,7 @@ abbrev pub IsShownBy : List Zone → Name → RecordHeld → RecordShown → Typ
 IsShownBy zones (Dump index true) r shown = IsUnpacked (most_of zones index) index r shown.packing shown
 IsShownBy zones (Dump index false) r shown = shown ≡ as_it_stands r Plain
 IsShownBy zones Console r shown = shown ≡ as_it_stands r Plain
-IsShownBy zones Pmsg r shown = shown ≡ as_it_stands r Plain
+IsShownBy zones Pmsg r shown = shown ≡ as_listed r
 IsShownBy zones Ftrace r shown = shown ≡ as_it_stands r Plain
 
 -- a record of a layout's zones, and how it is shown
@@ -92,11 +124,15 @@ AreShown zones [] (shown ∷ more) = ⊥
 AreShown zones (r ∷ rs) [] = ⊥
 AreShown zones (r ∷ rs) (shown ∷ more) = IsShown zones r shown × AreShown zones rs more
 
--- what people read of a record: its content, or a text up to its fault
 abbrev pub readable_of : Packing (List ℕ) → List ℕ → List ℕ
 readable_of Plain content = content
 readable_of (Whole taken) content = content
 readable_of (Part fault text) content = text
 
+abbrev pub lines_or : List Entry → List ℕ → List ℕ → List ℕ
+lines_or [] lines text = text
+lines_or (entry ∷ entries) lines text = lines
+
+-- what people read of a record: the lines of its entries, else a text up to its fault, else its content
 abbrev pub readable : RecordShown → List ℕ
-readable r = readable_of r.packing r.content
+readable r = lines_or r.entries r.lines (readable_of r.packing r.content)

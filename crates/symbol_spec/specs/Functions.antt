@@ -2,6 +2,7 @@
 -- map, as for the kernel (kernel/kallsyms.c, get_symbol_pos)
 use Rattle.std.specs.Prelude.{ℕ, Bool, true, ◌&&◌, ◌||◌, ◌==◌, nat_lt, nat_le, if◌then◌else◌, List, [], ◌∷◌, Option, Some, None}
 use Rattle.symbol_spec.specs.declared.Symbol.{Symbol}
+use Rattle.symbol_spec.specs.Maps.{symbols_of}
 
 -- whether a function is above another one, or at its address and before it in the map
 abbrev pub is_nearer : Symbol → Symbol → Bool
@@ -19,3 +20,7 @@ nearer_of address s held = if nat_le s.address address && is_nearer_than s held 
 unfoldable pub function_in : List Symbol → ℕ → Option Symbol
 function_in [] address = None
 function_in (s ∷ symbols) address = nearer_of address s (function_in symbols address)
+
+-- by a map
+abbrev pub function_of : List ℕ → ℕ → Option Symbol
+function_of map address = function_in (symbols_of map) address

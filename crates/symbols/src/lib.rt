@@ -2,8 +2,8 @@
 #![tactic(auto)]
 
 mod map;
+mod named;
 mod table;
 
-pub use map::name_at;
+pub use named::Symbols;
 pub use symbol_spec::Symbol;
-pub use table::{Table, symbol_table};
