@@ -8,6 +8,7 @@ use std::alloc::{AllocError, Global};
 use std::fs;
 use std::io::ErrorKind;
 use std::rt::Runtime;
+use symbols::Symbols;
 
 /// Why there is no plan: a want of memory, or what is wrong with the words.
 pub enum NoPlan {
@@ -35,8 +36,8 @@ fn add_line(alloc: Global, words: &mut Vec<String>, line: &[u8]) -> Result<(), N
     }
 }
 
-// The command line that a file holds.
-fn read_line<R: Runtime>(rt: &R, path: &str) -> Result<Vec<u8, R::A>, NoPlan> {
+// What a file holds.
+fn read_file<R: Runtime>(rt: &R, path: &str) -> Result<Vec<u8, R::A>, NoPlan> {
     match fs::read(rt, path) {
         Ok(line) => Ok(line),
         Err(e) if e.kind() == ErrorKind::OutOfMemory => Err(NoPlan::Memory),
@@ -55,7 +56,7 @@ fn add_cmdline<R: Runtime>(
         add_line(alloc, words, text.as_bytes())?;
     }
     if let Some(path) = matches.get_str("cmdline-file") {
-        let line = read_line(rt, path)?;
+        let line = read_file(rt, path)?;
         add_line(alloc, words, &line)?;
     }
     Ok(())
@@ -83,6 +84,13 @@ fn add_params(
     Ok(())
 }
 
+// The plan with the functions of the map in a file.
+fn with_symbols<R: Runtime>(rt: &R, alloc: Global, plan: Plan, path: &str) -> Result<Plan, NoPlan> {
+    let map = read_file(rt, path)?;
+    let map = Vec::from_slice(alloc, &map)?;
+    Ok(plan.with_symbols(Symbols::read(alloc, map)?))
+}
+
 // What is wrong with a word.
 fn told(words: &[String], fault: ParamFault) -> anyhow::Error {
     let (place, what) = match fault {
@@ -101,11 +109,17 @@ pub fn plan<R: Runtime>(rt: &R, alloc: Global, matches: &ArgMatches<'_>) -> Resu
     let mut words = Vec::new(alloc);
     add_cmdline(rt, alloc, &mut words, matches)?;
     add_params(alloc, &mut words, matches)?;
-    Plan::new(alloc, &words, matches.get_flag("mem-as-given")).map_err(|fault| match fault {
-        PlanFault::Memory => NoPlan::Memory,
-        PlanFault::Word(fault) => NoPlan::Words(told(&words, fault)),
-        PlanFault::Layout(fault) => {
-            NoPlan::Words(anyhow!("layout fault {}: {fault}", fault.number()))
+    let plan = match Plan::new(alloc, &words, matches.get_flag("mem-as-given")) {
+        Ok(plan) => plan,
+        Err(PlanFault::Memory) => return Err(NoPlan::Memory),
+        Err(PlanFault::Word(fault)) => return Err(NoPlan::Words(told(&words, fault))),
+        Err(PlanFault::Layout(fault)) => {
+            let number = fault.number();
+            return Err(NoPlan::Words(anyhow!("layout fault {number}: {fault}")));
         }
-    })
+    };
+    match matches.get_str("symbols") {
+        Some(path) => with_symbols(rt, alloc, plan, path),
+        None => Ok(plan),
+    }
 }

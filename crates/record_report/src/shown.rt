@@ -1,9 +1,10 @@
 // The records as they are shown.
 ghost use Rattle.std.specs.Prelude.{◌≡◌, IfOk};
 ghost use Rattle.report_spec.specs.declared.Packing.TheVariants.{Part};
-ghost use Rattle.report_spec.specs.Packed.{most_of, as_it_stands, as_listed, inflated, IsUnpacked, IsShown, AreShown, readable, readable_of};
+ghost use Rattle.report_spec.specs.Packed.{most_of, as_it_stands, as_listed, as_traced, inflated, IsUnpacked, IsShown, AreShown, readable, readable_of};
 ghost use Rattle.report_spec.specs.Newest.{has_entries};
 
+use ftrace_text::trace_text;
 use inflate::{InflateError, Inflated, inflate};
 use outside::Bytes;
 use pmsg::{Entry, entries, shown_lines};
@@ -11,6 +12,7 @@ use pstore_records::HeldRecord;
 use report_spec::{Packing, TextFault};
 use std::alloc::{AllocError, Global};
 use std::marker::Model;
+use symbols::Symbols;
 use zone_spec::{Name, Time, Zone};
 
 /// A record as it is shown: its name and content as its file has them, a dump's time, and how far packed bytes inflate.
@@ -156,32 +158,58 @@ fn unpacked(
     }
 }
 
-fn shown(alloc: Global, zones: &[Zone], held: HeldRecord) -> Result<RecordReport, AllocError>
-    ensures { IfOk result (λ r. IsShown zones.now held r) }
+/// An ftrace log, as the kernel shows it.
+fn as_traced(
+    alloc: Global,
+    symbols: &Symbols,
+    held: HeldRecord,
+) -> Result<RecordReport, AllocError>
+    ensures { IfOk result (λ r. r ≡ as_traced symbols.now held) }
+{
+    let text = trace_text(alloc, held.content(), symbols)?;
+    Ok(RecordReport {
+        name: held.name,
+        time: held.time,
+        content: Bytes::from_vec(text),
+        packing: Packing::Plain,
+        entries: Vec::new(alloc),
+        lines: Bytes::from_vec(Vec::new(alloc)),
+    })
+}
+
+fn shown(
+    alloc: Global,
+    zones: &[Zone],
+    symbols: &Symbols,
+    held: HeldRecord,
+) -> Result<RecordReport, AllocError>
+    ensures { IfOk result (λ r. IsShown zones.now symbols.now held r) }
 {
     match held.name {
         Name::Dump {
             index,
             packed: true,
         } => unpacked(alloc, zones, index, held),
-        Name::Dump { packed: false, .. } | Name::Console | Name::Ftrace => {
+        Name::Dump { packed: false, .. } | Name::Console => {
             Ok(as_it_stands(alloc, held, Packing::Plain))
         }
         Name::Pmsg => as_listed(alloc, held),
+        Name::Ftrace => as_traced(alloc, symbols, held),
     }
 }
 
-/// The records of a layout's zones as they are shown, in order. Takes time linear in their bytes and texts.
+/// The records of a layout's zones as they are shown with the functions of a map, in order. Takes time linear in their bytes and texts.
 pub fn shown_records(
     alloc: Global,
     zones: &[Zone],
+    symbols: &Symbols,
     records: Vec<HeldRecord>,
 ) -> Result<Vec<RecordReport>, AllocError>
-    ensures { IfOk result (λ all. AreShown zones.now records.items all.items) }
+    ensures { IfOk result (λ all. AreShown zones.now symbols.now records.items all.items) }
 {
     let mut all = Vec::with_capacity(alloc, records.len())?;
     for held in records {
-        all.push(shown(alloc, zones, held)?)?;
+        all.push(shown(alloc, zones, symbols, held)?)?;
     }
     Ok(all)
 }

@@ -8,6 +8,7 @@ use Rattle.zone_spec.specs.declared.Zone.{Zone}
 use Rattle.inflate_spec.specs.declared.Fault.{Fault}
 use Rattle.inflate_spec.specs.declared.Fault.TheVariants.{EndOfInput, ReservedBlock, StoredLength, TooManyCodes, OverSubscribed, Incomplete, NoEndCode, NoPrevious, TooManyLengths, MissingCode, DistanceTooFar}
 use Rattle.inflate_spec.specs.Texts.{Inflates, Breaks, Exceeds}
+use Rattle.trace_spec.specs.Lines.{trace_text}
 use Rattle.pmsg_spec.specs.declared.Entry.{Entry}
 use Rattle.pmsg_spec.specs.Entries.{entries}
 use Rattle.pmsg_spec.specs.Lines.{lines_text}
@@ -81,6 +82,18 @@ as_listed r =
       lines = lines_text r.content (entries r.content);
     }
 
+-- an ftrace log by the lines in which the kernel shows its entries, with the functions of a map
+abbrev pub as_traced : List ℕ → RecordHeld → RecordShown
+as_traced names r =
+    record {
+      name = r.name;
+      time = r.time;
+      content = trace_text names r.content;
+      packing = Plain;
+      entries = [];
+      lines = [];
+    }
+
 -- a dump with its text in place of its bytes
 abbrev pub inflated : RecordHeld → ℕ → List ℕ → ℕ → RecordShown
 inflated r index text taken =
@@ -106,23 +119,23 @@ IsUnpacked most index r (Whole taken) shown = (text : List ℕ) × Inflates r.co
 IsUnpacked most index r (Part fault text) shown =
     StopsAt r.content most fault text × (shown ≡ as_it_stands r (Part fault text))
 
-abbrev pub IsShownBy : List Zone → Name → RecordHeld → RecordShown → Type 0
-IsShownBy zones (Dump index true) r shown = IsUnpacked (most_of zones index) index r shown.packing shown
-IsShownBy zones (Dump index false) r shown = shown ≡ as_it_stands r Plain
-IsShownBy zones Console r shown = shown ≡ as_it_stands r Plain
-IsShownBy zones Pmsg r shown = shown ≡ as_listed r
-IsShownBy zones Ftrace r shown = shown ≡ as_it_stands r Plain
+abbrev pub IsShownBy : List Zone → List ℕ → Name → RecordHeld → RecordShown → Type 0
+IsShownBy zones names (Dump index true) r shown = IsUnpacked (most_of zones index) index r shown.packing shown
+IsShownBy zones names (Dump index false) r shown = shown ≡ as_it_stands r Plain
+IsShownBy zones names Console r shown = shown ≡ as_it_stands r Plain
+IsShownBy zones names Pmsg r shown = shown ≡ as_listed r
+IsShownBy zones names Ftrace r shown = shown ≡ as_traced names r
 
--- a record of a layout's zones, and how it is shown
-abbrev pub IsShown : List Zone → RecordHeld → RecordShown → Type 0
-IsShown zones r shown = IsShownBy zones r.name r shown
+-- a record of a layout's zones, and how it is shown with the functions of a map
+abbrev pub IsShown : List Zone → List ℕ → RecordHeld → RecordShown → Type 0
+IsShown zones names r shown = IsShownBy zones names r.name r shown
 
 -- each of these records, in order
-abbrev pub AreShown : List Zone → List RecordHeld → List RecordShown → Type 0
-AreShown zones [] [] = ⊤
-AreShown zones [] (shown ∷ more) = ⊥
-AreShown zones (r ∷ rs) [] = ⊥
-AreShown zones (r ∷ rs) (shown ∷ more) = IsShown zones r shown × AreShown zones rs more
+abbrev pub AreShown : List Zone → List ℕ → List RecordHeld → List RecordShown → Type 0
+AreShown zones names [] [] = ⊤
+AreShown zones names [] (shown ∷ more) = ⊥
+AreShown zones names (r ∷ rs) [] = ⊥
+AreShown zones names (r ∷ rs) (shown ∷ more) = IsShown zones names r shown × AreShown zones names rs more
 
 abbrev pub readable_of : Packing (List ℕ) → List ℕ → List ℕ
 readable_of Plain content = content

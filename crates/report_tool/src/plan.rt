@@ -6,6 +6,7 @@ ghost use Rattle.report_tool.specs.Layouts.{layout_by, memory_by};
 use grammar_spec::ParamFault;
 use kernel_layout::layout_as_given;
 use std::alloc::{AllocError, Global};
+use symbols::Symbols;
 use zone_params::{LayoutError, layout, read_words};
 use zone_spec::{LayoutFault, Params, Zone};
 
@@ -19,13 +20,14 @@ pub enum PlanFault {
     Layout(LayoutFault),
 }
 
-/// How images are read: the parameters, the bytes of an image, and its zones.
+/// How images are read: the parameters, the bytes of an image, its zones, and the functions of the kernel.
 #[derive(Drop)]
 pub struct Plan {
     pub(crate) params: Params,
     pub(crate) is_as_given: bool,
     pub(crate) mem: u32,
     pub(crate) zones: Vec<Zone>,
+    pub(crate) symbols: Symbols,
     ghost laid: { layout_by is_as_given params ≡ Ok zones.items },
     ghost sized: { mem ≡ memory_by is_as_given params },
     ghost tagged: { params.ftrace_sig < 2 ^ 32 },
@@ -44,6 +46,7 @@ impl Plan {
             is_as_given: true,
             mem: params.mem as u32,
             zones,
+            symbols: Symbols::none(alloc),
         })
     }
 
@@ -59,8 +62,36 @@ impl Plan {
                 is_as_given: false,
                 mem,
                 zones,
+                symbols: Symbols::none(alloc),
             }),
             Err(AllocError) => Err(LayoutError::Memory),
+        }
+    }
+
+    /// The bytes of an image.
+    pub fn mem(&self) -> u32
+        ensures { result ≡ self.now.mem }
+    {
+        self.mem
+    }
+
+    /// The same plan with the functions of this map.
+    pub fn with_symbols(self, symbols: Symbols) -> Plan
+        ensures { result ≡ record self { symbols = symbols } }
+    {
+        let Plan {
+            params,
+            is_as_given,
+            mem,
+            zones,
+            symbols: _,
+        } = self;
+        Plan {
+            params,
+            is_as_given,
+            mem,
+            zones,
+            symbols,
         }
     }
 

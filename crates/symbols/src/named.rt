@@ -4,7 +4,7 @@ ghost use Rattle.symbol_spec.specs.Maps.{name_at as name_of};
 ghost use Rattle.symbol_spec.specs.Functions.{function_of};
 
 use crate::map::name_at;
-use crate::table::{Table, symbol_table};
+use crate::table::{Table, no_table, symbol_table};
 use std::alloc::{AllocError, Global};
 use std::marker::Model;
 use symbol_spec::Symbol;
@@ -34,6 +34,16 @@ impl Symbols {
     {
         let table = symbol_table(alloc, &map)?;
         Ok(Symbols { map, table })
+    }
+
+    /// The map without a function.
+    pub fn none(alloc: Global) -> Symbols
+        ensures { result ≡ [] }
+    {
+        Symbols {
+            map: Vec::new(alloc),
+            table: no_table(alloc),
+        }
     }
 
     /// The function that an address is of: the last one at or below it; `None` if all are above it, or the map hides

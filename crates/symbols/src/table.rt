@@ -1,5 +1,5 @@
 // The functions of a map by their addresses.
-ghost use Rattle.std.specs.Prelude.{◌≡◌, ℕ, ◌<◌, ◌≤◌, length, slice_index_or, All, IfOk};
+ghost use Rattle.std.specs.Prelude.{◌≡◌, ℕ, ◌<◌, ◌≤◌, [], length, slice_index_or, All, IfOk};
 ghost use Rattle.symbol_spec.specs.declared.Symbol.{Symbol as SymbolValue};
 ghost use Rattle.std.specs.List.Sorted.{IsNonDecreasingBy, IsPermutation};
 ghost use Rattle.symbol_spec.specs.Maps.{symbols_of};
@@ -74,6 +74,15 @@ pub fn symbol_table(alloc: Global, map: &[u8]) -> Result<Table, AllocError>
     let mut items = symbols(alloc, map)?;
     rank_all(&mut items);
     Ok(Table { items })
+}
+
+/// The table of a map without a function.
+pub fn no_table(alloc: Global) -> Table
+    ensures { result ≡ [] }
+{
+    Table {
+        items: Vec::new(alloc),
+    }
 }
 
 impl Table {
