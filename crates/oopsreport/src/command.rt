@@ -59,13 +59,17 @@ fn with_work<'a>(alloc: Global, command: Command<'a>) -> Result<Command<'a>, All
     let save = Arg::new(alloc, "save").long("save").value_name("DIR").help(
         "Save each record in this folder under its pstore name; no file is overwritten",
     );
+    let symbols = Arg::new(alloc, "symbols")
+        .long("symbols")
+        .value_name("FILE")
+        .help("The System.map of the kernel, or its /proc/kallsyms: names the functions of ftrace");
     let images = Arg::new(alloc, "image")
         .value_name("IMAGE")
         .required(true)
         .action(ArgAction::Append)
         .num_args(1..)
-        .help("A file with the memory of a ramoops region");
-    command.arg(format)?.arg(save)?.arg(images)
+        .help("A file or a device with the memory of a ramoops region; - is standard input");
+    command.arg(format)?.arg(save)?.arg(symbols)?.arg(images)
 }
 
 /// The command, with its help.

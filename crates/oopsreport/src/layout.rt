@@ -9,6 +9,7 @@ use std::alloc::{AllocError, Global};
 use std::fs;
 use std::io::ErrorKind;
 use std::rt::Runtime;
+use symbols::Symbols;
 
 /// Why there is no plan: a want of memory, or what is wrong with the words.
 pub enum NoPlan {
@@ -82,6 +83,13 @@ fn add_params(
         }
     }
     Ok(())
+}
+
+// The plan with the functions of the map in a file.
+fn with_symbols<R: Runtime>(rt: &R, alloc: Global, plan: Plan, path: &str) -> Result<Plan, NoPlan> {
+    let map = read_file(rt, path)?;
+    let map = Vec::from_slice(alloc, &map)?;
+    Ok(plan.with_symbols(Symbols::read(alloc, map)?))
 }
 
 // What is wrong with a word.
@@ -173,19 +181,30 @@ fn tree_plan<R: Runtime>(
     }
 }
 
+// The plan of the words alone.
+fn words_plan(alloc: Global, words: &[String], is_as_given: bool) -> Result<Plan, NoPlan> {
+    match Plan::new(alloc, words, is_as_given) {
+        Ok(plan) => Ok(plan),
+        Err(PlanFault::Memory) => Err(NoPlan::Memory),
+        Err(PlanFault::Word(fault)) => Err(NoPlan::Words(told(words, fault))),
+        Err(PlanFault::Layout(fault)) => {
+            let number = fault.number();
+            Err(NoPlan::Words(anyhow!("layout fault {number}: {fault}")))
+        }
+    }
+}
+
 /// The plan by which the images are read.
 pub fn plan<R: Runtime>(rt: &R, alloc: Global, matches: &ArgMatches<'_>) -> Result<Plan, NoPlan> {
     let mut words = Vec::new(alloc);
     add_cmdline(rt, alloc, &mut words, matches)?;
     add_params(alloc, &mut words, matches)?;
-    if let Some(path) = matches.get_str("dtb") {
-        return tree_plan(rt, alloc, path, matches.get_str("node"), &words);
+    let plan = match matches.get_str("dtb") {
+        Some(path) => tree_plan(rt, alloc, path, matches.get_str("node"), &words)?,
+        None => words_plan(alloc, &words, matches.get_flag("mem-as-given"))?,
+    };
+    match matches.get_str("symbols") {
+        Some(path) => with_symbols(rt, alloc, plan, path),
+        None => Ok(plan),
     }
-    Plan::new(alloc, &words, matches.get_flag("mem-as-given")).map_err(|fault| match fault {
-        PlanFault::Memory => NoPlan::Memory,
-        PlanFault::Word(fault) => NoPlan::Words(told(&words, fault)),
-        PlanFault::Layout(fault) => {
-            NoPlan::Words(anyhow!("layout fault {}: {fault}", fault.number()))
-        }
-    })
 }

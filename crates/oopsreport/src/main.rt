@@ -3,6 +3,7 @@
 
 mod command;
 mod folder;
+mod image;
 mod layout;
 
 use anyhow::{Context, Result, anyhow};
@@ -11,13 +12,14 @@ use clap::error::ErrorKind;
 use command::command;
 use folder::Dir;
 use layout::{NoPlan, plan};
-use outside::{FileLoad, WriterSink};
+use image::Image;
+use outside::WriterSink;
 use report_tool::{Format, Plan, Stop, report, save};
 use std::alloc::{AllocError, Global};
-use std::io::IsTerminal;
+use std::io::{IsTerminal, Read};
 use std::process::ExitCode;
 use std::rt::Runtime;
-use std::{env, fs, io};
+use std::{env, io};
 
 /// The status where an image was not reported or a record was not saved.
 const NOT_DONE: u8 = 1;
@@ -44,18 +46,21 @@ fn told(stop: Stop) -> anyhow::Error {
 }
 
 // One image: its report, and its records saved where a folder is named.
-fn one_image<R: Runtime>(
+fn one_image<R: Runtime, S: Read>(
     rt: &R,
     alloc: Global,
+    input: &mut S,
     plan: &Plan,
     format: Format,
     folder: Option<&str>,
     path: &str,
 ) -> Result<()> {
-    fs::metadata(rt, path)?;
-    let mut image = FileLoad::new(rt, alloc, path)?;
     let mut out = WriterSink::new(io::writer(rt));
-    let report = match report(alloc, plan, format, path, &mut image, &mut out) {
+    let done = match image::open(rt, alloc, input, path, plan.mem())? {
+        Image::File(mut file) => report(alloc, plan, format, path, &mut file, &mut out),
+        Image::Front(mut front) => report(alloc, plan, format, path, &mut front, &mut out),
+    };
+    let report = match done {
         Ok(report) => report,
         Err(stop) => return Err(told(stop)),
     };
@@ -73,9 +78,10 @@ fn one_image<R: Runtime>(
 }
 
 // All images, one after another, and the status. A line that standard error does not take ends nothing.
-fn all_images<R: Runtime>(
+fn all_images<R: Runtime, S: Read>(
     rt: &R,
     alloc: Global,
+    input: &mut S,
     plan: &Plan,
     matches: &ArgMatches<'_>,
     shows_progress: bool,
@@ -88,7 +94,7 @@ fn all_images<R: Runtime>(
             status = NOT_DONE;
         }
         let folder = matches.get_str("save");
-        match one_image(rt, alloc, plan, format(matches), folder, path) {
+        match one_image(rt, alloc, input, plan, format(matches), folder, path) {
             Ok(()) => (),
             Err(e) => {
                 status = NOT_DONE;
@@ -103,7 +109,13 @@ fn all_images<R: Runtime>(
 }
 
 // Reads the words, and does what they ask.
-fn run<R: Runtime>(rt: &R, alloc: Global, words: &[String], shows_progress: bool) -> Result<u8> {
+fn run<R: Runtime, S: Read>(
+    rt: &R,
+    alloc: Global,
+    input: &mut S,
+    words: &[String],
+    shows_progress: bool,
+) -> Result<u8> {
     let matches = match command(alloc)?.try_get_matches_from(words) {
         Ok(matches) => matches,
         Err(error) if error.kind() == ErrorKind::OutOfMemory => return Err(AllocError.into()),
@@ -119,7 +131,14 @@ fn run<R: Runtime>(rt: &R, alloc: Global, words: &[String], shows_progress: bool
         return Ok(WRONG_WORDS);
     }
     match plan(rt, alloc, &matches) {
-        Ok(plan) => Ok(all_images(rt, alloc, &plan, &matches, shows_progress)),
+        Ok(plan) => Ok(all_images(
+            rt,
+            alloc,
+            input,
+            &plan,
+            &matches,
+            shows_progress,
+        )),
         Err(NoPlan::Memory) => Err(AllocError.into()),
         Err(NoPlan::Words(e)) => {
             eprintln!(rt; "error: {e:#}")?;
@@ -131,7 +150,13 @@ fn run<R: Runtime>(rt: &R, alloc: Global, words: &[String], shows_progress: bool
 fn try_run(rt: &HostRuntime) -> Result<u8> {
     let alloc = rt.alloc();
     let words: Vec<String> = env::args(rt)?.collect(alloc)?;
-    run(rt, alloc, &words, rt.stderr().is_terminal())
+    run(
+        rt,
+        alloc,
+        &mut rt.stdin(),
+        &words,
+        rt.stderr().is_terminal(),
+    )
 }
 
 fn main(rt: HostRuntime) -> ExitCode {

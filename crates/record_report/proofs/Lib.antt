@@ -3,3 +3,4 @@ pub mod Each
 pub mod OneWay
 pub mod Later
 pub mod Consoles
+pub mod AndroidLogs

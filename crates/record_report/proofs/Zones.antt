@@ -126,11 +126,11 @@ reads-next zones spans n old new z bytes to ez eb adds = record {
 }
 
 -- all zones and the records
-pub report-is : (zones : List Zone) (image : List ℕ) (spans : List (List ℕ)) (r : Readings)
+pub report-is : (zones : List Zone) (names image : List ℕ) (spans : List (List ℕ)) (r : Readings)
     (records : List RecordShown) → spans ≡ (cut_at zones image).spans → ReadsTo zones spans (length zones) r
-    → AreShown zones (records_held (saved r.logs)) records
-    → IsReport zones image (record { logs = r.logs; parts = r.parts.items; records = records })
-report-is zones image spans r records same to is = record {
+    → AreShown zones names (records_held (saved r.logs)) records
+    → IsReport zones names image (record { logs = r.logs; parts = r.parts.items; records = records })
+report-is zones names image spans r records same to is = record {
   zones_same = to.zones_same;
   readings_len = to.readings_len;
   parts_len = to.parts_len;

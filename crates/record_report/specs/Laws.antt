@@ -1,8 +1,9 @@
 -- The law of what is shown of a record
-use Rattle.std.specs.Prelude.{◌≡◌, List}
+use Rattle.std.specs.Prelude.{◌≡◌, ℕ, List}
 use Rattle.zone_spec.specs.declared.Zone.{Zone}
 use Rattle.report_spec.specs.Records.{RecordHeld}
 use Rattle.report_spec.specs.Packed.{RecordShown, IsShown}
 
 abbrev pub OneShown : Type 0
-OneShown = (zones : List Zone) (r : RecordHeld) (a b : RecordShown) → IsShown zones r a → IsShown zones r b → a ≡ b
+OneShown = (zones : List Zone) (names : List ℕ) (r : RecordHeld) (a b : RecordShown) → IsShown zones names r a
+    → IsShown zones names r b → a ≡ b

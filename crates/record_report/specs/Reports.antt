@@ -37,9 +37,9 @@ pub record ReadsTo (zones : List Zone) (spans : List (List ℕ)) (n : ℕ) (r : 
   pub parts : (i : ℕ) (z : Zone) (bytes : List ℕ) → i < n → slice_get zones i ≡ Some z
       → slice_get spans i ≡ Some bytes → slice_get r.parts.items i ≡ Some (part_states z bytes)
 
--- the report of an image by a layout: each zone's reading, how its parts read, and the records that the readings list,
--- as they are shown
-pub record IsReport (zones : List Zone) (image : List ℕ) (r : ReportHeld) : Type 0 where
+-- the report of an image by a layout, with the functions of a map: each zone's reading, how its parts read, and the
+-- records that the readings list, as they are shown
+pub record IsReport (zones : List Zone) (names image : List ℕ) (r : ReportHeld) : Type 0 where
   pub zones_same : r.logs.zones ≡ zones
   pub readings_len : length r.logs.readings ≡ length zones
   pub parts_len : length r.parts ≡ length zones
@@ -47,4 +47,4 @@ pub record IsReport (zones : List Zone) (image : List ℕ) (r : ReportHeld) : Ty
       → slice_get r.logs.readings i ≡ Some (Some (zone_reading z (zone_bytes z image)))
   pub parts : (i : ℕ) (z : Zone) → slice_get zones i ≡ Some z
       → slice_get r.parts i ≡ Some (part_states z (zone_bytes z image))
-  pub records : AreShown zones (records_held (saved r.logs)) r.records
+  pub records : AreShown zones names (records_held (saved r.logs)) r.records

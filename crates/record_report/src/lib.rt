@@ -10,7 +10,7 @@ mod shown;
 
 pub use deaths::{Told, death_told};
 pub use laws::one_shown;
-pub use newest::{console, newest_dump};
+pub use newest::{android_log, console, newest_dump};
 pub use prz_read::ZoneParts;
 pub use report::{Report, report_of, report_of_zones};
 pub use report_spec::{Packing, PartState, TextFault};

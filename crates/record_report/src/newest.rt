@@ -1,8 +1,8 @@
-// The newest dump and the console among the records.
+// The newest dump, the console and Android's log among the records.
 ghost use Rattle.std.specs.Prelude.{◌≡◌, false, IfSome, IsSome};
 ghost use Rattle.std.specs.Option.{option_copied};
 ghost use Rattle.std.specs.List.{list_any};
-ghost use Rattle.report_spec.specs.Newest.{is_later, later_than, is_newer, newest, is_console, console_of};
+ghost use Rattle.report_spec.specs.Newest.{is_later, later_than, is_newer, newest, is_console, console_of, android_log_of};
 
 use crate::shown::RecordReport;
 use zone_spec::{Name, Time};
@@ -64,6 +64,18 @@ pub fn console(records: &[RecordReport]) -> Option<&RecordReport>
 {
     for entry in records {
         if is_console(entry) {
+            return Some(entry);
+        }
+    }
+    None
+}
+
+/// The record with entries of Android's log.
+pub fn android_log(records: &[RecordReport]) -> Option<&RecordReport>
+    ensures { option_copied result ≡ android_log_of records.now }
+{
+    for entry in records {
+        if entry.has_entries() {
             return Some(entry);
         }
     }

@@ -15,6 +15,7 @@ use prz_region::{Region, Span, Spans};
 use pstore_records::held_records;
 use std::alloc::{AllocError, Global};
 use std::marker::Model;
+use symbols::Symbols;
 use zone_params::types::Layout;
 use zone_spec::Zone;
 
@@ -100,13 +101,18 @@ fn read_zones(alloc: Global, zones: &[Zone], spans: &Spans) -> Result<Readings, 
     Ok(readings)
 }
 
-/// The report of an image by a whole list of zones. Each part is decoded once, and each
+/// The report of an image by a whole list of zones, with the functions of a map. Each part is decoded once, and each
 /// packed dump inflated once. Takes time linear in the image and in the texts, which have at most 64 times its bytes.
-pub fn report_of_zones(alloc: Global, zones: &[Zone], image: Bytes) -> Result<Report, AllocError>
+pub fn report_of_zones(
+    alloc: Global,
+    zones: &[Zone],
+    symbols: &Symbols,
+    image: Bytes,
+) -> Result<Report, AllocError>
     requires whole { IsLayout zones.now (length image) }
     requires few { length zones.now < 2 ^ 32 }
     requires numbered { AreNumbered zones.now }
-    ensures { IfOk result (IsReport zones.now image) }
+    ensures { IfOk result (IsReport zones.now symbols.now image) }
 {
     let spans = match Region::from_bytes(image).cut_zones(zones) {
         Ok(spans) => spans,
@@ -114,7 +120,7 @@ pub fn report_of_zones(alloc: Global, zones: &[Zone], image: Bytes) -> Result<Re
     };
     let Readings { logs, parts } = read_zones(alloc, zones, &spans)?;
     let held = held_records(alloc, &logs)?;
-    let records = shown_records(alloc, zones, held)?;
+    let records = shown_records(alloc, zones, symbols, held)?;
     Ok(Report {
         logs,
         parts,
@@ -122,11 +128,16 @@ pub fn report_of_zones(alloc: Global, zones: &[Zone], image: Bytes) -> Result<Re
     })
 }
 
-/// The report of an image by its layout.
-pub fn report_of(alloc: Global, layout: &Layout, image: Bytes) -> Result<Report, AllocError>
+/// The report of an image by its layout, with the functions of a map.
+pub fn report_of(
+    alloc: Global,
+    layout: &Layout,
+    symbols: &Symbols,
+    image: Bytes,
+) -> Result<Report, AllocError>
     requires { length image ≡ (params_of layout.now).mem }
-    ensures { IfOk result (IsReport (zones_of layout.now) image) }
+    ensures { IfOk result (IsReport (zones_of layout.now) symbols.now image) }
 {
     let _mem = layout.mem();
-    report_of_zones(alloc, layout.zones(), image)
+    report_of_zones(alloc, layout.zones(), symbols, image)
 }

@@ -1,5 +1,5 @@
 -- The data of a report's line, schema 1
-use Rattle.std.specs.Prelude.{◌≡◌, ℕ, ◌-◌, ◌<◌, Bool, true, false, if◌then◌else◌, List, ◌++◌, length, map, take, slice_get, Option, Some, None, option_to_list, replicate, codes}
+use Rattle.std.specs.Prelude.{◌≡◌, ℕ, ◌-◌, ◌<◌, Bool, true, false, if◌then◌else◌, List, [], ◌∷◌, ◌++◌, length, map, take, slice_get, Option, Some, None, option_to_list, replicate, codes}
 use Rattle.std.specs.Str.{is_utf8}
 use Rattle.std.specs.Str.Lossy.{utf8_valid_len}
 use Rattle.json.specs.Lex.{tokens}
@@ -25,6 +25,8 @@ use Rattle.zone_spec.specs.Reading.{ZoneReading}
 use Rattle.zone_spec.specs.Records.{Saved}
 use Rattle.prz_read.specs.Saving.{saved}
 use Rattle.pstore_records.specs.Counts.{corrected_in, bad_in}
+use Rattle.pmsg_spec.specs.declared.Entry.{Entry}
+use Rattle.pmsg_spec.specs.Payloads.{payload, priority_of, tag_of, text_of}
 use Rattle.death_spec.specs.declared.Line.{Line}
 use Rattle.death_spec.specs.declared.Span.{Span}
 use Rattle.death_spec.specs.declared.Death.{Death}
@@ -139,18 +141,53 @@ fault_data Plain = null
 fault_data (Whole taken) = null
 fault_data (Part fault text) = string (fault_words fault)
 
--- a record with what is shown of it as text and in base64
-abbrev pub record_with : List Saved → RecordShown → Data → Data → Data
-record_with zones r text base64 = object (
-    member (codes "bad") (count (bad_in r.name (zones_counted r.name zones))) (
+-- the longest front of bytes that is UTF-8
+abbrev pub front_data : List ℕ → Data
+front_data bytes = string (take (utf8_valid_len bytes) bytes)
+
+-- an entry of Android's log, with this payload
+abbrev pub entry_by : Entry → List ℕ → Data
+entry_by e payload = object (
+    member (codes "log") (count e.log) (
+    member (codes "nanoseconds") (count e.nanos) (
+    member (codes "pid") (count e.pid) (
+    member (codes "priority") (front_data (priority_of payload ∷ [])) (
+    member (codes "seconds") (count e.secs) (
+    member (codes "tag") (front_data (tag_of payload)) (
+    member (codes "text") (front_data (text_of payload)) (
+    member (codes "tid") (count e.tid) (
+    member (codes "uid") (count e.uid) no_members)))))))))
+
+abbrev pub entry_data : List ℕ → Entry → Data
+entry_data bytes e = entry_by e (payload bytes e)
+
+-- null, if there are none
+abbrev pub entries_data : List ℕ → List Entry → Data
+entries_data bytes [] = null
+entries_data bytes (e ∷ es) = array (items_of (map (entry_data bytes) (e ∷ es)))
+
+-- a record of these counts, packing and contents
+abbrev pub record_of : Name → ℕ → ℕ → Bool → Data → Data → Data → Data → Data → Data → Data
+record_of name bad corrected compressed time taken fault entries text base64 = object (
+    member (codes "bad") (count bad) (
     member (codes "base64") base64 (
-    member (codes "compressed") (boolean (is_packed r.packing)) (
-    member (codes "corrected") (count (corrected_in r.name (zones_counted r.name zones))) (
-    member (codes "fault") (fault_data r.packing) (
-    member (codes "name") (string (name_text r.name)) (
-    member (codes "taken") (taken_data r.packing) (
+    member (codes "compressed") (boolean compressed) (
+    member (codes "corrected") (count corrected) (
+    member (codes "entries") entries (
+    member (codes "fault") fault (
+    member (codes "name") (string (name_text name)) (
+    member (codes "taken") taken (
     member (codes "text") text (
-    member (codes "time") (time_data r.time) no_members)))))))))
+    member (codes "time") time no_members))))))))))
+
+-- a record with what is shown of it: entries, text, and base64
+abbrev pub record_by : List Saved → RecordShown → Data → Data → Data → Data
+record_by zones r entries text base64 =
+    record_of r.name (bad_in r.name (zones_counted r.name zones)) (corrected_in r.name (zones_counted r.name zones))
+    (is_packed r.packing) (time_data r.time) (taken_data r.packing) (fault_data r.packing) entries text base64
+
+abbrev pub record_with : List Saved → RecordShown → Data → Data → Data
+record_with zones r text base64 = record_by zones r (entries_data r.content r.entries) text base64
 
 -- the content is text where it is UTF-8, else in base64
 unfoldable pub content_data : List Saved → RecordShown → Data
@@ -181,10 +218,6 @@ pub record AreZones (zones : List Zone) (readings : List (Option ZoneReading)) (
     (values : List Data) : Type 0 where
   pub count_same : length values ≡ n
   pub each : (i : ℕ) (d : Data) → i < n → slice_get values i ≡ Some d → IsZoneAt zones readings parts i d
-
--- the longest front of bytes that is UTF-8
-abbrev pub front_data : List ℕ → Data
-front_data bytes = string (take (utf8_valid_len bytes) bytes)
 
 abbrev pub span_data : List ℕ → Span → Data
 span_data text span = front_data (part text span.start span.end)

@@ -5,11 +5,12 @@ ghost use Rattle.serde_json.specs.Data.{null};
 ghost use Rattle.serde_json.specs.View.{view};
 ghost use Rattle.prz_read.specs.Saving.{saved};
 ghost use Rattle.pstore_records.specs.Counts.{corrected_in, bad_in};
-ghost use Rattle.report_json.specs.Schema.{time_data, taken_data, fault_data, is_packed, record_with, content_data, part_data_of, record_data, zones_counted};
+ghost use Rattle.report_json.specs.Schema.{time_data, taken_data, fault_data, is_packed, record_of, record_by, record_with, content_data, part_data_of, record_data, zones_counted, entry_by, entry_data, entries_data};
 
 use arrayvec::ArrayString;
 use base64::engine::general_purpose::STANDARD;
 use outside::Bytes;
+use pmsg::{Entry, payload, split_payload};
 use prz_read::Logs;
 use pstore_records::{Counts, counts_at, counts_of, name_text};
 use record_report::{Packing, RecordReport};
@@ -72,6 +73,111 @@ fn is_packed(packing: &Packing<Bytes>) -> bool
     }
 }
 
+/// An entry of Android's log. Its texts end before the first byte that is no UTF-8.
+fn entry_value(alloc: Global, entry: &Entry, payload: &[u8]) -> Result<Value, AllocError>
+    ensures { IfOk result (λ v. view v ≡ entry_by entry.now payload.now) }
+{
+    let message = split_payload(payload);
+    let priority = Value::try_from_str(alloc, utf8_front(&[message.priority]))?;
+    let tag = Value::try_from_str(alloc, utf8_front(message.tag))?;
+    let text = Value::try_from_str(alloc, utf8_front(message.text))?;
+    json!(in alloc; {
+        "log": entry.log,
+        "nanoseconds": entry.nanos,
+        "pid": entry.pid,
+        "priority": priority,
+        "seconds": entry.secs,
+        "tag": tag,
+        "text": text,
+        "tid": entry.tid,
+        "uid": entry.uid
+    })
+}
+
+fn entry_values(alloc: Global, bytes: &[u8], entries: &[Entry]) -> Result<Vec<Value>, AllocError>
+    ensures { IfOk result (λ values. map view values.items ≡ map (entry_data bytes.now) entries.now) }
+{
+    let mut values = Vec::with_capacity(alloc, entries.len())?;
+    for entry in entries {
+        values.push(entry_value(alloc, entry, payload(bytes, entry))?)?;
+    }
+    Ok(values)
+}
+
+fn entries_value(alloc: Global, bytes: &[u8], entries: &[Entry]) -> Result<Value, AllocError>
+    ensures { IfOk result (λ v. view v ≡ entries_data bytes.now entries.now) }
+{
+    if entries.is_empty() {
+        return Ok(Value::Null);
+    }
+    let values = entry_values(alloc, bytes, entries)?;
+    Ok(Value::Array(values))
+}
+
+/// What a record counts and holds.
+#[derive(Drop)]
+struct Members {
+    counts: Counts,
+    compressed: bool,
+    time: Value,
+    taken: Value,
+    fault: Value,
+    entries: Value,
+    text: Value,
+    base64: Value,
+}
+
+fn record_of(alloc: Global, name: Name, members: Members) -> Result<Value, AllocError>
+    ensures { IfOk result (λ v. view v ≡ record_of name members.counts.bad members.counts.corrected members.compressed
+        (view members.time) (view members.taken) (view members.fault) (view members.entries) (view members.text)
+        (view members.base64)) }
+{
+    let mut shown = ArrayString::new();
+    name_text(name, &mut shown);
+    json!(in alloc; {
+        "bad": members.counts.bad,
+        "base64": members.base64,
+        "compressed": members.compressed,
+        "corrected": members.counts.corrected,
+        "entries": members.entries,
+        "fault": members.fault,
+        "name": shown.as_str(),
+        "taken": members.taken,
+        "text": members.text,
+        "time": members.time
+    })
+}
+
+/// A record that has these entries, and is shown as this text, or by these bytes in base64.
+fn with_entries(
+    alloc: Global,
+    logs: &Logs,
+    held: &RecordReport,
+    entries: Value,
+    text: Value,
+    base64: Value,
+) -> Result<Value, AllocError>
+    ensures { IfOk result (λ v. view v
+        ≡ record_by (saved logs.now) held.now (view entries) (view text) (view base64)) }
+{
+    let time = time_value(alloc, held.time)?;
+    let fault = fault_value(alloc, &held.packing)?;
+    record_of(
+        alloc,
+        held.name,
+        Members {
+            counts: counts(logs, held.name),
+            compressed: is_packed(&held.packing),
+            time,
+            taken: taken_value(&held.packing),
+            fault,
+            entries,
+            text,
+            base64,
+        },
+    )
+}
+
 /// A record that is shown as this text, or by these bytes in base64.
 fn with_content(
     alloc: Global,
@@ -82,24 +188,8 @@ fn with_content(
 ) -> Result<Value, AllocError>
     ensures { IfOk result (λ v. view v ≡ record_with (saved logs.now) held.now (view text) (view base64)) }
 {
-    let mut name = ArrayString::new();
-    name_text(held.name, &mut name);
-    let time = time_value(alloc, held.time)?;
-    let counts = counts(logs, held.name);
-    let compressed = is_packed(&held.packing);
-    let fault = fault_value(alloc, &held.packing)?;
-    let taken = taken_value(&held.packing);
-    json!(in alloc; {
-        "bad": counts.bad,
-        "base64": base64,
-        "compressed": compressed,
-        "corrected": counts.corrected,
-        "fault": fault,
-        "name": name.as_str(),
-        "taken": taken,
-        "text": text,
-        "time": time
-    })
+    let entries = entries_value(alloc, held.content.as_slice(), &held.entries)?;
+    with_entries(alloc, logs, held, entries, text, base64)
 }
 
 fn null_value() -> Value

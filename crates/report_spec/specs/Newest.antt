@@ -1,7 +1,8 @@
--- The newest dump, and the console
-use Rattle.std.specs.Prelude.{Bool, true, false, ◌&&◌, ◌||◌, ◌==◌, nat_lt, if◌then◌else◌, List, find, Option, Some, None}
+-- The newest dump, the console, and Android's log
+use Rattle.std.specs.Prelude.{Bool, true, false, ◌&&◌, ◌||◌, ◌==◌, nat_lt, if◌then◌else◌, List, [], ◌∷◌, find, Option, Some, None}
 use Rattle.std.specs.Option.{option_and_then}
 use Rattle.std.specs.List.{fold}
+use Rattle.pmsg_spec.specs.declared.Entry.{Entry}
 use Rattle.zone_spec.specs.declared.Name.{Name}
 use Rattle.zone_spec.specs.declared.Name.TheVariants.{Dump, Console, Pmsg, Ftrace}
 use Rattle.zone_spec.specs.declared.Time.{Time}
@@ -36,3 +37,11 @@ is_console Ftrace = false
 
 abbrev pub console_of : List RecordShown → Option RecordShown
 console_of records = find (λ (r : RecordShown). is_console r.name) records
+
+abbrev pub has_entries : List Entry → Bool
+has_entries [] = false
+has_entries (entry ∷ entries) = true
+
+-- the record with entries of Android's log
+abbrev pub android_log_of : List RecordShown → Option RecordShown
+android_log_of records = find (λ (r : RecordShown). has_entries r.entries) records

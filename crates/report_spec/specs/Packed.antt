@@ -8,18 +8,25 @@ use Rattle.zone_spec.specs.declared.Zone.{Zone}
 use Rattle.inflate_spec.specs.declared.Fault.{Fault}
 use Rattle.inflate_spec.specs.declared.Fault.TheVariants.{EndOfInput, ReservedBlock, StoredLength, TooManyCodes, OverSubscribed, Incomplete, NoEndCode, NoPrevious, TooManyLengths, MissingCode, DistanceTooFar}
 use Rattle.inflate_spec.specs.Texts.{Inflates, Breaks, Exceeds}
+use Rattle.trace_spec.specs.Lines.{trace_text}
+use Rattle.pmsg_spec.specs.declared.Entry.{Entry}
+use Rattle.pmsg_spec.specs.Entries.{entries}
+use Rattle.pmsg_spec.specs.Lines.{lines_text}
 use Rattle.report_spec.specs.declared.TextFault.{TextFault}
 use Rattle.report_spec.specs.declared.TextFault.TheVariants.{Broken, TooLong}
 use Rattle.report_spec.specs.declared.Packing.{Packing}
 use Rattle.report_spec.specs.declared.Packing.TheVariants.{Plain, Whole, Part}
 use Rattle.report_spec.specs.Records.{RecordHeld}
 
--- a record's name and content as its file has them, the content with its notice; and whether its bytes were packed
+-- a record's name and content as its file has them, the content with its notice; whether its bytes were packed; and of a
+-- pmsg the entries of Android's log, if it has such, with their lines
 pub record RecordShown : Type 0 where
   pub name : Name
   pub time : Option Time
   pub content : List ℕ
   pub packing : Packing (List ℕ)
+  pub entries : List Entry
+  pub lines : List ℕ
 
 -- ---- words
 
@@ -54,12 +61,50 @@ most_of zones index = most_by (slice_get zones index)
 -- a record as it stands
 abbrev pub as_it_stands : RecordHeld → Packing (List ℕ) → RecordShown
 as_it_stands r packing =
-    record { name = r.name; time = r.time; content = r.content ++ r.notice; packing = packing }
+    record {
+      name = r.name;
+      time = r.time;
+      content = r.content ++ r.notice;
+      packing = packing;
+      entries = [];
+      lines = [];
+    }
+
+-- a pmsg, with its entries and their lines
+abbrev pub as_listed : RecordHeld → RecordShown
+as_listed r =
+    record {
+      name = r.name;
+      time = r.time;
+      content = r.content ++ r.notice;
+      packing = Plain;
+      entries = entries r.content;
+      lines = lines_text r.content (entries r.content);
+    }
+
+-- an ftrace log by the lines in which the kernel shows its entries, with the functions of a map
+abbrev pub as_traced : List ℕ → RecordHeld → RecordShown
+as_traced names r =
+    record {
+      name = r.name;
+      time = r.time;
+      content = trace_text names r.content;
+      packing = Plain;
+      entries = [];
+      lines = [];
+    }
 
 -- a dump with its text in place of its bytes
 abbrev pub inflated : RecordHeld → ℕ → List ℕ → ℕ → RecordShown
 inflated r index text taken =
-    record { name = Dump index false; time = r.time; content = text ++ r.notice; packing = Whole taken }
+    record {
+      name = Dump index false;
+      time = r.time;
+      content = text ++ r.notice;
+      packing = Whole taken;
+      entries = [];
+      lines = [];
+    }
 
 -- the bytes stand for the text up to a fault, or up to where it gets too long
 abbrev pub StopsAt : List ℕ → ℕ → TextFault → List ℕ → Type 0
@@ -74,29 +119,33 @@ IsUnpacked most index r (Whole taken) shown = (text : List ℕ) × Inflates r.co
 IsUnpacked most index r (Part fault text) shown =
     StopsAt r.content most fault text × (shown ≡ as_it_stands r (Part fault text))
 
-abbrev pub IsShownBy : List Zone → Name → RecordHeld → RecordShown → Type 0
-IsShownBy zones (Dump index true) r shown = IsUnpacked (most_of zones index) index r shown.packing shown
-IsShownBy zones (Dump index false) r shown = shown ≡ as_it_stands r Plain
-IsShownBy zones Console r shown = shown ≡ as_it_stands r Plain
-IsShownBy zones Pmsg r shown = shown ≡ as_it_stands r Plain
-IsShownBy zones Ftrace r shown = shown ≡ as_it_stands r Plain
+abbrev pub IsShownBy : List Zone → List ℕ → Name → RecordHeld → RecordShown → Type 0
+IsShownBy zones names (Dump index true) r shown = IsUnpacked (most_of zones index) index r shown.packing shown
+IsShownBy zones names (Dump index false) r shown = shown ≡ as_it_stands r Plain
+IsShownBy zones names Console r shown = shown ≡ as_it_stands r Plain
+IsShownBy zones names Pmsg r shown = shown ≡ as_listed r
+IsShownBy zones names Ftrace r shown = shown ≡ as_traced names r
 
--- a record of a layout's zones, and how it is shown
-abbrev pub IsShown : List Zone → RecordHeld → RecordShown → Type 0
-IsShown zones r shown = IsShownBy zones r.name r shown
+-- a record of a layout's zones, and how it is shown with the functions of a map
+abbrev pub IsShown : List Zone → List ℕ → RecordHeld → RecordShown → Type 0
+IsShown zones names r shown = IsShownBy zones names r.name r shown
 
 -- each of these records, in order
-abbrev pub AreShown : List Zone → List RecordHeld → List RecordShown → Type 0
-AreShown zones [] [] = ⊤
-AreShown zones [] (shown ∷ more) = ⊥
-AreShown zones (r ∷ rs) [] = ⊥
-AreShown zones (r ∷ rs) (shown ∷ more) = IsShown zones r shown × AreShown zones rs more
+abbrev pub AreShown : List Zone → List ℕ → List RecordHeld → List RecordShown → Type 0
+AreShown zones names [] [] = ⊤
+AreShown zones names [] (shown ∷ more) = ⊥
+AreShown zones names (r ∷ rs) [] = ⊥
+AreShown zones names (r ∷ rs) (shown ∷ more) = IsShown zones names r shown × AreShown zones names rs more
 
--- what people read of a record: its content, or a text up to its fault
 abbrev pub readable_of : Packing (List ℕ) → List ℕ → List ℕ
 readable_of Plain content = content
 readable_of (Whole taken) content = content
 readable_of (Part fault text) content = text
 
+abbrev pub lines_or : List Entry → List ℕ → List ℕ → List ℕ
+lines_or [] lines text = text
+lines_or (entry ∷ entries) lines text = lines
+
+-- what people read of a record: the lines of its entries, else a text up to its fault, else its content
 abbrev pub readable : RecordShown → List ℕ
-readable r = readable_of r.packing r.content
+readable r = lines_or r.entries r.lines (readable_of r.packing r.content)

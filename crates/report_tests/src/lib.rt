@@ -6,6 +6,8 @@ mod death_told_tests;
 #[cfg(test)]
 mod packed_dumps;
 #[cfg(test)]
+mod people_read_tests;
+#[cfg(test)]
 mod record_report_tests;
 #[cfg(test)]
 mod report_html_tests;

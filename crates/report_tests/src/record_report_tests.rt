@@ -5,6 +5,7 @@ use outside::Bytes;
 use record_report::*;
 use std::alloc::Global;
 use std::test::Fail;
+use symbols::Symbols;
 use zone_params::{Params, layout};
 use zone_spec::Name;
 
@@ -58,7 +59,7 @@ fn reported(alloc: Global, text: &[u8]) -> Result<Report, Fail> {
     if image.len() != zones.mem() as usize {
         return Err(Fail::from("the image has another size"));
     }
-    Ok(report_of(alloc, &zones, image)?)
+    Ok(report_of(alloc, &zones, &Symbols::none(alloc), image)?)
 }
 
 // A found console zone, its one used block as told or with so many wrong bytes.

@@ -5,6 +5,7 @@ use outside::Bytes;
 use record_report::report_of;
 use report_html::*;
 use std::test::Fail;
+use symbols::Symbols;
 use zone_params::{Params, layout};
 
 #[test]
@@ -55,7 +56,7 @@ fn hostile_record(rt: HostRuntime) -> Result<(), Fail> {
     if image.len() != zones.mem() as usize {
         return Err(Fail::from("the image has another size"));
     }
-    let report = report_of(rt.alloc(), &zones, image)?;
+    let report = report_of(rt.alloc(), &zones, &Symbols::none(rt.alloc()), image)?;
     let page = html(rt.alloc(), b"a<b", zones.zones(), &report)?;
     let text = str::from_utf8(page.as_slice())?;
     assert!(rt; text.contains("<h1>a&lt;b</h1>"));

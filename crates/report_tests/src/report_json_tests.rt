@@ -6,6 +6,7 @@ use record_report::report_of;
 use report_json::*;
 use std::alloc::Global;
 use std::test::Fail;
+use symbols::Symbols;
 use zone_params::{Params, layout};
 
 // The line of an image of one console zone, whose record is this text.
@@ -34,7 +35,7 @@ fn line_of(alloc: Global, text: &[u8]) -> Result<String, Fail> {
     if image.len() != zones.mem() as usize {
         return Err(Fail::from("the image has another size"));
     }
-    let report = report_of(alloc, &zones, image)?;
+    let report = report_of(alloc, &zones, &Symbols::none(alloc), image)?;
     if report.logs().len() as usize != zones.zones().len()
         || report.parts().len() != zones.zones().len()
     {
@@ -50,12 +51,12 @@ fn record_as_text_and_in_base64(rt: HostRuntime) -> Result<(), Fail> {
         "{\"death\":null,\"parameters\":{\"block_size\":128,\"console_size\":4096,\"cpus\":1,\"ecc\":0,\"ecc_console\":0,\
 \"ecc_dump\":0,\"ecc_ftrace\":0,\"ecc_pmsg\":0,\"ftrace_sig\":0,\"ftrace_size\":0,\"mem_size\":4096,\"pmsg_size\":0,\
 \"record_size\":0},\"path\":\"a\\\"b\",\"records\":[{\"bad\":0,\"base64\":null,\"compressed\":false,\
-\"corrected\":0,\"fault\":null,\"name\":\"console-ramoops-0\",\"taken\":null,\"text\":\"abc\",\"time\":null}],\"schema\":1,\"zones\":[{\"bad\":0,\"blocks\":[0,null";
+\"corrected\":0,\"entries\":null,\"fault\":null,\"name\":\"console-ramoops-0\",\"taken\":null,\"text\":\"abc\",\"time\":null}],\"schema\":1,\"zones\":[{\"bad\":0,\"blocks\":[0,null";
     assert!(rt; line.as_str().starts_with(front));
     let raw = line_of(rt.alloc(), &[0xff, 0xfe, 0xfd])?;
     assert!(rt;
         raw.as_str().contains(
-            "\"base64\":\"//79\",\"compressed\":false,\"corrected\":0,\"fault\":null,\"name\":\"console-ramoops-0\",\
+            "\"base64\":\"//79\",\"compressed\":false,\"corrected\":0,\"entries\":null,\"fault\":null,\"name\":\"console-ramoops-0\",\
 \"taken\":null,\"text\":null"
         )
     );
@@ -68,23 +69,23 @@ fn compressed_dumps(rt: HostRuntime) -> Result<(), Fail> {
     for (packed, record) in [
         (
             &WHOLE[..],
-            "{\"bad\":0,\"base64\":null,\"compressed\":true,\"corrected\":0,\"fault\":null,\"name\":\"dmesg-ramoops-0\",\
+            "{\"bad\":0,\"base64\":null,\"compressed\":true,\"corrected\":0,\"entries\":null,\"fault\":null,\"name\":\"dmesg-ramoops-0\",\
 \"taken\":26,\"text\":\"Panic#1 Part1\\nred \\u001b\\\\<b>\\n\",",
         ),
         (
             &DAMAGED,
             "{\"bad\":0,\"base64\":\"AAYA+f8KcmVkIMMH\",\"compressed\":true,\"corrected\":0,\
-\"fault\":\"reserved block type\",\"name\":\"dmesg-ramoops-0.enc.z\",\"taken\":null,\"text\":\"\\nred \",",
+\"entries\":null,\"fault\":\"reserved block type\",\"name\":\"dmesg-ramoops-0.enc.z\",\"taken\":null,\"text\":\"\\nred \",",
         ),
         (
             b"",
-            "{\"bad\":0,\"base64\":\"\",\"compressed\":true,\"corrected\":0,\"fault\":\"end of input\",\
+            "{\"bad\":0,\"base64\":\"\",\"compressed\":true,\"corrected\":0,\"entries\":null,\"fault\":\"end of input\",\
 \"name\":\"dmesg-ramoops-0.enc.z\",\"taken\":null,\"text\":\"\",",
         ),
         // A stored block of one byte that is no UTF-8, the last.
         (
             &[1, 1, 0, 0xfe, 0xff, 0xff],
-            "{\"bad\":0,\"base64\":\"/w==\",\"compressed\":true,\"corrected\":0,\"fault\":null,\
+            "{\"bad\":0,\"base64\":\"/w==\",\"compressed\":true,\"corrected\":0,\"entries\":null,\"fault\":null,\
 \"name\":\"dmesg-ramoops-0\",\"taken\":6,\"text\":null,",
         ),
     ] {

@@ -6,6 +6,7 @@ use record_report::report_of;
 use report_text::text;
 use std::alloc::Global;
 use std::test::Fail;
+use symbols::Symbols;
 use zone_params::{Params, layout};
 
 // A dump of 4096 bytes, and a console.
@@ -61,7 +62,7 @@ fn shown(alloc: Global, line: &[u8]) -> Result<Bytes, Fail> {
     if image.len() != zones.mem() as usize {
         return Err(Fail::from("the image has another size"));
     }
-    let report = report_of(alloc, &zones, image)?;
+    let report = report_of(alloc, &zones, &Symbols::none(alloc), image)?;
     Ok(text(alloc, b"a\x1bb", zones.zones(), &report)?)
 }
 
@@ -79,7 +80,7 @@ fn shown_packed(alloc: Global, packed: &[u8]) -> Result<Bytes, Fail> {
     if image.len() != zones.mem() as usize {
         return Err(Fail::from("the image has another size"));
     }
-    let report = report_of(alloc, &zones, image)?;
+    let report = report_of(alloc, &zones, &Symbols::none(alloc), image)?;
     Ok(text(alloc, b"a", zones.zones(), &report)?)
 }
 
@@ -137,7 +138,7 @@ fn shown_deaths(alloc: Global, logs: [&[u8]; 4]) -> Result<Bytes, Fail> {
     if image.len() != zones.mem() as usize {
         return Err(Fail::from("the image has another size"));
     }
-    let report = report_of(alloc, &zones, image)?;
+    let report = report_of(alloc, &zones, &Symbols::none(alloc), image)?;
     Ok(text(alloc, b"a", zones.zones(), &report)?)
 }
 

@@ -3,6 +3,7 @@ use outside::Bytes;
 use record_report::{Report, report_of};
 use std::alloc::Global;
 use std::test::Fail;
+use symbols::Symbols;
 use zone_params::types::Layout;
 use zone_params::{Params, layout};
 
@@ -81,5 +82,5 @@ pub fn report_on(alloc: Global, logs: [&[u8]; 4]) -> Result<Report, Fail> {
     if image.len() != zones.mem() as usize {
         return Err(Fail::from("the image has another size"));
     }
-    Ok(report_of(alloc, &zones, image)?)
+    Ok(report_of(alloc, &zones, &Symbols::none(alloc), image)?)
 }

@@ -2,7 +2,7 @@
 use Rattle.std.specs.Prelude.{◌≡◌, ℕ, List, [], ◌∷◌, ◌++◌, length, flat_map, codes}
 use Rattle.prz_read.specs.Saving.{SavedLogs, saved}
 use Rattle.report_spec.specs.Packed.{RecordShown}
-use Rattle.report_spec.specs.Newest.{newest, console_of}
+use Rattle.report_spec.specs.Newest.{newest, console_of, android_log_of}
 use Rattle.report_spec.specs.Deaths.{death_told}
 use Rattle.record_report.specs.Reports.{ReportHeld}
 use Rattle.report_text.specs.Pieces.{Part, Words, Count, Bytes, parts_text}
@@ -27,11 +27,12 @@ abbrev pub IsRecordTable : List RecordShown → List Part → Type 0
 IsRecordTable records table = (rows : List Part) × AreRecordRows records rows
     × (table ≡ Words (10 ∷ codes "     bytes  time                            record" ++ 10 ∷ []) ∷ rows)
 
--- the last lines of the newest dump and of the console
+-- the last lines of the newest dump, of the console and of Android's log
 abbrev pub tails : List RecordShown → List Part
 tails records =
     tail_parts (10 ∷ codes "last lines of the newest dump" ++ 10 ∷ []) (newest records)
     ++ tail_parts (10 ∷ codes "last lines of the console" ++ 10 ∷ []) (console_of records)
+    ++ tail_parts (10 ∷ codes "last lines of Android's log" ++ 10 ∷ []) (android_log_of records)
 
 -- the heading, why the machine died, a free line, the tables, and the last lines
 abbrev pub AreParts : List ℕ → ReportHeld → List Part → Type 0

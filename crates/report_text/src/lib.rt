@@ -1,5 +1,5 @@
 //! The text of a report for people at a terminal: why the machine died, the zones, the records with their times as
-//! dates, and the last lines of the newest dump and of the console.
+//! dates, and the last lines of the newest dump, of the console and of Android's log.
 //!
 //! A text is a list of pieces: its own words, numbers, and foreign bytes. Whatever the bytes are, no more than
 //! printable ASCII, tabs and newlines reach the terminal.

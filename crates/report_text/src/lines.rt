@@ -8,7 +8,7 @@ ghost use Rattle.report_text.specs.Whole.{tails};
 use crate::pieces::{Piece, add};
 use crate::visible::is_plain;
 use outside::Bytes;
-use record_report::{Packing, RecordReport, console, newest_dump};
+use record_report::{Packing, RecordReport, android_log, console, newest_dump};
 use std::alloc::AllocError;
 
 const LINES: usize = 10;
@@ -117,7 +117,7 @@ fn add_tail<'a>(
     }
 }
 
-/// Adds the last lines of the newest dump and of the console.
+/// Adds the last lines of the newest dump, of the console and of Android's log.
 pub fn add_tails<'a>(
     pieces: &mut Vec<Piece<'a>>,
     records: &'a [RecordReport],
@@ -129,5 +129,10 @@ pub fn add_tails<'a>(
         "\nlast lines of the newest dump\n",
         newest_dump(records),
     )?;
-    add_tail(pieces, "\nlast lines of the console\n", console(records))
+    add_tail(pieces, "\nlast lines of the console\n", console(records))?;
+    add_tail(
+        pieces,
+        "\nlast lines of Android's log\n",
+        android_log(records),
+    )
 }

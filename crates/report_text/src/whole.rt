@@ -47,7 +47,7 @@ fn all_pieces<'a>(
 }
 
 /// The text of the report of these zones, headed by `title`, such as the image's path: why the machine died, the zones,
-/// the records, and the last lines of the newest dump and of the console. No byte of it but printable ASCII, tabs and
+/// the records, and the last lines of the newest dump, of the console and of Android's log. No byte of it but printable ASCII, tabs and
 /// newlines, whatever the title and the records are.
 pub fn text(
     alloc: Global,

@@ -22,7 +22,7 @@ fn read<M: Load>(alloc: Global, plan: &Plan, image: &mut M) -> Result<Report, St
     ensures later { M.faults image.old ≤ M.faults image.new }
 {
     let bytes = load(alloc, image, plan.mem)?;
-    let report = report_of_zones(alloc, &plan.zones, Bytes::from_vec(bytes))?;
+    let report = report_of_zones(alloc, &plan.zones, &plan.symbols, Bytes::from_vec(bytes))?;
     Ok(report)
 }
 

@@ -6,6 +6,7 @@ ghost use Rattle.report_tool.specs.Layouts.{read_by};
 
 use grammar_spec::ParamFault;
 use std::alloc::{AllocError, Global};
+use symbols::Symbols;
 use zone_params::{DEFAULTS, LayoutError, layout, read_words, read_words_over};
 use zone_spec::{LayoutFault, Params, Zone};
 
@@ -19,12 +20,13 @@ pub enum PlanFault {
     Layout(LayoutFault),
 }
 
-/// How images are read: the parameters, the bytes of an image, and its zones.
+/// How images are read: the parameters, the bytes of an image, its zones, and the functions of the kernel.
 #[derive(Drop)]
 pub struct Plan {
     pub(crate) params: Params,
     pub(crate) mem: u32,
     pub(crate) zones: Vec<Zone>,
+    pub(crate) symbols: Symbols,
     ghost laid: { layout_of params ≡ Ok zones.items },
     ghost sized: { mem ≡ params.mem },
     ghost tagged: { params.ftrace_sig < 2 ^ 32 },
@@ -51,8 +53,38 @@ impl Plan {
         let layout = layout(alloc, &params)?;
         let mem = layout.mem();
         match Vec::from_slice(alloc, layout.zones()) {
-            Ok(zones) => Ok(Plan { params, mem, zones }),
+            Ok(zones) => Ok(Plan {
+                params,
+                mem,
+                zones,
+                symbols: Symbols::none(alloc),
+            }),
             Err(AllocError) => Err(LayoutError::Memory),
+        }
+    }
+
+    /// The bytes of an image.
+    pub fn mem(&self) -> u32
+        ensures { result ≡ self.now.mem }
+    {
+        self.mem
+    }
+
+    /// The same plan with the functions of this map.
+    pub fn with_symbols(self, symbols: Symbols) -> Plan
+        ensures { result ≡ record self { symbols = symbols } }
+    {
+        let Plan {
+            params,
+            mem,
+            zones,
+            symbols: _,
+        } = self;
+        Plan {
+            params,
+            mem,
+            zones,
+            symbols,
         }
     }
 

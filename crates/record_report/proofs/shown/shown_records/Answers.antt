@@ -12,8 +12,8 @@ loop-held-preserved c =
     let held = c.in-Some.held in
     let steps : into_iter_items at.held-iterator ≡ held ∷ into_iter_items c.next.new.self = c.in-Some.ensures.steps.0 in
     record {
-      shown = subst (λ (ss : List RecordShown). AreShown c.args.zones.now (at.yielded ++ held ∷ []) ss)
-          (sym {A = List RecordShown} c.in_ok-push.ensures.items) (shown-more c.args.zones.now at.yielded at.all.items held
+      shown = subst (λ (ss : List RecordShown). AreShown c.args.zones.now c.args.symbols.now (at.yielded ++ held ∷ []) ss)
+          (sym {A = List RecordShown} c.in_ok-push.ensures.items) (shown-more c.args.zones.now c.args.symbols.now at.yielded at.all.items held
           c.in_ok-shown.field-0 at.invariant.shown c.in_ok-shown.ensures);
       left = at.invariant.left ∙ ap (λ (rest : List RecordHeld). at.yielded ++ rest) steps
           ∙ sym (append_assoc at.yielded (held ∷ []) (into_iter_items c.next.new.self));

@@ -6,7 +6,7 @@ use Rattle.record_report.proofs.shown.shown_records.Given as goal
 
 abbrev pub invariant-loop-held : goal.invariant-loop-held
 invariant-loop-held l = record {
-  shown : AreShown l.zones l.yielded l.all.items;
+  shown : AreShown l.zones l.symbols l.yielded l.all.items;
   left : l.fn.records.items ≡ l.yielded ++ into_iter_items l.held-iterator;
   len : into_iter_len l.held-iterator ≡ length (into_iter_items l.held-iterator);
 }

@@ -1,0 +1,9 @@
+use Rattle.std.proofs.Common.{◌≡◌, take, map}
+use Rattle.std.specs.Prelude.{flat_map}
+use Rattle.ftrace_zone.specs.EntryBytes.{entry_bytes}
+use Rattle.trace_spec.specs.Lines.{line_text}
+use Rattle.ftrace_text.proofs.lines.lines_of.Given as goal
+
+abbrev pub invariant-loop-entry : goal.invariant-loop-entry
+invariant-loop-entry l =
+    l.out.items ≡ flat_map (line_text l.symbols) (map entry_bytes (take l.entry-index l.entries))

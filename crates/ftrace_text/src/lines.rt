@@ -1,0 +1,122 @@
+// The lines.
+ghost use Rattle.std.specs.Prelude.{◌≡◌, ◌++◌, ◌/◌, ◌%◌, decimal, map, flat_map, IfOk, OnOk};
+ghost use Rattle.trace_spec.specs.Lines.{bare_text, function_text, offset_text, place_text, head_by, line_by, line_text, trace_text as text_of};
+ghost use Rattle.symbol_spec.specs.Functions.{function_of};
+ghost use Rattle.ftrace_zone.specs.EntryBytes.{entry_bytes};
+
+use crate::hexadecimal::push_hexadecimal;
+use ftrace_zone::{Entry, entries};
+use itoa::Buffer;
+use std::alloc::{AllocError, Global};
+use symbols::Symbols;
+
+fn push(out: &mut Vec<u8>, bytes: &[u8]) -> Result<(), AllocError>
+    ensures { OnOk result (out.new.items ≡ out.old.items ++ bytes.now) }
+{
+    out.extend_from_slice(bytes)
+}
+
+fn push_decimal(out: &mut Vec<u8>, n: u64) -> Result<(), AllocError>
+    ensures { OnOk result (out.new.items ≡ out.old.items ++ decimal n) }
+{
+    let mut digits = Buffer::new();
+    push(out, digits.format(n).as_bytes())
+}
+
+/// Appends the function of an address, or the address.
+#[tactic(auto, unfolding(trace_spec::specs::Lines::function_text))]
+fn push_function(out: &mut Vec<u8>, symbols: &Symbols, address: u64) -> Result<(), AllocError>
+    ensures { OnOk result (out.new.items ≡ out.old.items ++ function_text symbols.now address) }
+{
+    match symbols.function_at(address) {
+        Some(symbol) => push(out, symbols.name(symbol)),
+        None => {
+            push(out, b"0x")?;
+            push_hexadecimal(out, 1, address)
+        }
+    }
+}
+
+fn push_offset(out: &mut Vec<u8>, symbols: &Symbols, address: u64) -> Result<(), AllocError>
+    ensures { OnOk result (out.new.items ≡ out.old.items ++ offset_text address (function_of symbols.now address)) }
+{
+    match symbols.function_at(address) {
+        Some(symbol) => {
+            push(out, b"+0x")?;
+            push_hexadecimal(out, 1, address.saturating_sub(symbol.address))
+        }
+        None => Ok(()),
+    }
+}
+
+#[tactic(auto, unfolding(trace_spec::specs::Lines::place_text))]
+fn push_place(out: &mut Vec<u8>, symbols: &Symbols, address: u64) -> Result<(), AllocError>
+    ensures { OnOk result (out.new.items ≡ out.old.items ++ place_text symbols.now address) }
+{
+    push_function(out, symbols, address)?;
+    push_offset(out, symbols, address)
+}
+
+#[tactic(auto, unfolding(trace_spec::specs::Lines::head_by))]
+fn push_head(
+    out: &mut Vec<u8>,
+    address: u64,
+    parent: u64,
+    processor: u64,
+    time: u64,
+) -> Result<(), AllocError>
+    ensures { OnOk result (out.new.items ≡ out.old.items ++ head_by address parent processor time) }
+{
+    push(out, b"CPU:")?;
+    push_decimal(out, processor)?;
+    push(out, b" ts:")?;
+    push_decimal(out, time)?;
+    push(out, b" ")?;
+    push_hexadecimal(out, 8, address)?;
+    push(out, b"  ")?;
+    push_hexadecimal(out, 8, parent)?;
+    push(out, b"  ")
+}
+
+fn push_words(
+    out: &mut Vec<u8>,
+    symbols: &Symbols,
+    address: u64,
+    parent: u64,
+    word: u64,
+) -> Result<(), AllocError>
+    ensures { OnOk result (out.new.items ≡ out.old.items
+        ++ line_by symbols.now address parent (word % 256) (word / 256)) }
+{
+    push_head(out, address, parent, word % 256, word >> 8)?;
+    push_function(out, symbols, address)?;
+    push(out, b" <- ")?;
+    push_place(out, symbols, parent)?;
+    push(out, b"\n")
+}
+
+fn push_line(out: &mut Vec<u8>, symbols: &Symbols, entry: &Entry) -> Result<(), AllocError>
+    ensures { OnOk result (out.new.items ≡ out.old.items ++ line_text symbols.now (entry_bytes entry.now)) }
+{
+    push_words(out, symbols, entry.addr, entry.parent, entry.word)
+}
+
+fn lines_of(alloc: Global, symbols: &Symbols, entries: &[Entry]) -> Result<Vec<u8>, AllocError>
+    ensures { IfOk result (λ text. text.items ≡ flat_map (line_text symbols.now) (map entry_bytes entries.now)) }
+{
+    let mut out = Vec::new(alloc);
+    for entry in entries {
+        push_line(&mut out, symbols, entry)?;
+    }
+    Ok(out)
+}
+
+/// The lines of the entries of a log, with the functions of a map. An address that is of no function of the map is
+/// shown in its place. Takes time linear in the log.
+#[tactic(auto, unfolding(trace_spec::specs::Lines::trace_text))]
+pub fn trace_text(alloc: Global, log: &[u8], symbols: &Symbols) -> Result<Vec<u8>, AllocError>
+    ensures { IfOk result (λ text. text.items ≡ text_of symbols.now log.now) }
+{
+    let all = entries(alloc, log)?;
+    lines_of(alloc, symbols, all.as_slice())
+}

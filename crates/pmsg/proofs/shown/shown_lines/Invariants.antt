@@ -1,0 +1,6 @@
+use Rattle.std.proofs.Common.{◌≡◌, take}
+use Rattle.pmsg_spec.specs.Lines.{lines_text}
+use Rattle.pmsg.proofs.shown.shown_lines.Given as goal
+
+abbrev pub invariant-loop-entry : goal.invariant-loop-entry
+invariant-loop-entry l = l.out.items ≡ lines_text l.bytes (take l.entry-index l.entries)

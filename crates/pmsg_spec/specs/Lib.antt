@@ -1,0 +1,4 @@
+pub mod Entries
+pub mod Payloads
+pub mod Calendar
+pub mod Lines

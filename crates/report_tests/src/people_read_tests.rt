@@ -1,0 +1,108 @@
+// Android's log and an ftrace log, as people read them.
+use outside::Bytes;
+use record_report::{Report, report_of};
+use report_json::json;
+use report_text::text;
+use std::alloc::Global;
+use std::test::Fail;
+use symbols::Symbols;
+use zone_params::{Params, layout};
+use zone_spec::Name;
+
+// The end of an entry that was overwritten, and two entries.
+const PMSG: &[u8] = b"of an entry\0l4\0\xe8\x03\xd2\x04\0\xd8\x04\x82\x95'i\x945\xe21\x06app\0FATAL EXCEPTION: main\nat run\0l\x1d\0\0\0\x0c\0\x03n\xb2\0\x0c\xbb8@KL\0\x04boot\0done\0";
+
+// The lines that `logcat -v threadtime -v year -v UTC` shows, with one header for an entry.
+const LINES: &str = "\
+last lines of Android's log
+  2025-11-27 00:04:18.836  1234  1240 E app: FATAL EXCEPTION: main
+  \tat run
+  2000-02-29 00:00:00.005    12 45678 I boot: done
+";
+
+const ENTRIES: &str = "\"entries\":[{\"log\":0,\"nanoseconds\":836908436,\"pid\":1234,\"priority\":\"E\",\"seconds\":1764201858,\
+\"tag\":\"app\",\"text\":\"FATAL EXCEPTION: main\\nat run\",\"tid\":1240,\"uid\":1000},{\"log\":3,\"nanoseconds\":5000000,\"pid\":12,\
+\"priority\":\"I\",\"seconds\":951782400,\"tag\":\"boot\",\"text\":\"done\",\"tid\":45678,\"uid\":0}]";
+
+const FTRACE: &[u8] = b"\0\x10\0\x81\xff\xff\xff\xff\x1f \0\x81\xff\xff\xff\xff\0g\x12\0\0\0\0\0\x10\0\0\0\0\0\0\0\0\0\0\0\0\0\0\0\x03h\x12\0\0\0\0\0";
+
+const MAP: &[u8] = b"ffffffff81002000 t run_work\n0000000000000010 D data\n\
+ffffffff81001000 T do_work\t[usbcore]\nffffffff81001000 T alias\n";
+
+// As the kernel prints it (`CPU:%d ts:%llu %08lx  %08lx  %ps <- %pS`), but for the size of the caller.
+const TRACE: &str = "\
+CPU:0 ts:4711 ffffffff81001000  ffffffff8100201f  do_work <- run_work+0x1f
+CPU:3 ts:4712 00000010  00000000  0x10 <- 0x0
+";
+
+fn params(pmsg: u64, ftrace: u64) -> Params {
+    Params {
+        mem: 4096,
+        dump: 0,
+        console: 0,
+        ftrace,
+        pmsg,
+        ecc: 0,
+        cpus: 1,
+        ftrace_sig: 0x601c0,
+        block: 128,
+        ecc_dump: 0,
+        ecc_console: 0,
+        ecc_ftrace: 0,
+        ecc_pmsg: 0,
+    }
+}
+
+// The report of one zone that begins with this signature and holds this log.
+fn reported(alloc: Global, params: &Params, signature: u32, log: &[u8]) -> Result<Report, Fail> {
+    let len = u8::try_from(log.len())?;
+    let mut bytes = Vec::new(alloc);
+    bytes.extend_from_slice(&signature.to_le_bytes())?;
+    bytes.extend_from_slice(&[0, 0, 0, 0, len, 0, 0, 0])?;
+    bytes.extend_from_slice(log)?;
+    bytes.resize(4096, 0)?;
+    let zones = layout(alloc, params)?;
+    let image = Bytes::from_vec(bytes);
+    if image.len() != zones.mem() as usize {
+        return Err(Fail::from("the image has another size"));
+    }
+    let symbols = Symbols::read(alloc, Vec::from_slice(alloc, MAP)?)?;
+    Ok(report_of(alloc, &zones, &symbols, image)?)
+}
+
+#[test]
+fn log_of_android(rt: HostRuntime) -> Result<(), Fail> {
+    let alloc = rt.alloc();
+    let params = params(4096, 0);
+    let zones = layout(alloc, &params)?;
+    let report = reported(alloc, &params, 0x4347_4244, PMSG)?;
+    if report.logs().len() as usize != zones.zones().len()
+        || report.parts().len() != zones.zones().len()
+    {
+        return Err(Fail::from("the report has other zones"));
+    }
+    let text = text(alloc, b"a", zones.zones(), &report)?;
+    assert!(rt; str::from_utf8(text.as_slice())?.ends_with(LINES));
+    let line = json(alloc, "a", &params, zones.zones(), &report)?;
+    assert!(rt; line.as_str().contains(ENTRIES));
+    Ok(())
+}
+
+// Text that is no log of Android's is read as it stands.
+#[test]
+fn other_pmsg(rt: HostRuntime) -> Result<(), Fail> {
+    let report = reported(rt.alloc(), &params(4096, 0), 0x4347_4244, b"lll\x12\0")?;
+    let record = report.records().first().ok_or("no record")?;
+    assert!(rt; record.entries.is_empty());
+    assert_eq!(rt; record.readable(), b"lll\x12\0".as_slice());
+    Ok(())
+}
+
+#[test]
+fn trace_with_functions(rt: HostRuntime) -> Result<(), Fail> {
+    let report = reported(rt.alloc(), &params(0, 4096), 0x4341_4384, FTRACE)?;
+    let record = report.records().first().ok_or("no record")?;
+    assert_eq!(rt; record.name, Name::Ftrace);
+    assert_eq!(rt; str::from_utf8(record.content.as_slice())?, TRACE);
+    Ok(())
+}

@@ -1,0 +1,9 @@
+//! The functions of a kernel's symbol map, and which one an address is of.
+#![tactic(auto)]
+
+mod map;
+mod named;
+mod table;
+
+pub use named::Symbols;
+pub use symbol_spec::Symbol;

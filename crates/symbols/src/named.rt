@@ -1,0 +1,63 @@
+// A map, and its functions by their addresses.
+ghost use Rattle.std.specs.Prelude.{◌≡◌, ℕ, [], IfOk};
+ghost use Rattle.symbol_spec.specs.Maps.{name_at as name_of};
+ghost use Rattle.symbol_spec.specs.Functions.{function_of};
+
+use crate::map::name_at;
+use crate::table::{Table, no_table, symbol_table};
+use std::alloc::{AllocError, Global};
+use std::marker::Model;
+use symbol_spec::Symbol;
+
+/// The functions of a kernel: System.map, or what /proc/kallsyms shows, of which a contract sees the bytes.
+#[derive(Drop)]
+pub struct Symbols {
+    map: Vec<u8>,
+    table: Table,
+}
+
+impl Model for Symbols {
+    ghost use Rattle.std.specs.Prelude.{ℕ, List, ◌≡◌};
+    ghost use Rattle.symbol_spec.specs.Functions.{function_in, function_of};
+
+    ghost Value = { List ℕ };
+
+    ghost view = { λ s. s.map.items };
+
+    ghost invariant = { λ s. (address : ℕ) → function_in s.table address ≡ function_of s.map.items address };
+}
+
+impl Symbols {
+    /// Reads a map, sorted or not. Takes n log n steps.
+    pub fn read(alloc: Global, map: Vec<u8>) -> Result<Symbols, AllocError>
+        ensures { IfOk result (λ symbols. symbols ≡ map.items) }
+    {
+        let table = symbol_table(alloc, &map)?;
+        Ok(Symbols { map, table })
+    }
+
+    /// The map without a function.
+    pub fn none(alloc: Global) -> Symbols
+        ensures { result ≡ [] }
+    {
+        Symbols {
+            map: Vec::new(alloc),
+            table: no_table(alloc),
+        }
+    }
+
+    /// The function that an address is of: the last one at or below it; `None` if all are above it, or the map hides
+    /// its addresses.
+    pub fn function_at(&self, address: u64) -> Option<Symbol>
+        ensures { result ≡ function_of self.now address }
+    {
+        self.table.function_at(address)
+    }
+
+    /// The name of a function of the map.
+    pub fn name(&self, symbol: Symbol) -> &[u8]
+        ensures { result.now ≡ name_of self.now symbol.name }
+    {
+        name_at(&self.map, symbol.name)
+    }
+}
