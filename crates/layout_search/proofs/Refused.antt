@@ -6,9 +6,8 @@ use Rattle.zone_spec.specs.declared.Zone.{Zone}
 use Rattle.zone_spec.specs.declared.params.Params.{Params}
 use Rattle.zone_spec.specs.declared.params.LayoutFault.{LayoutFault}
 use Rattle.zone_spec.specs.declared.params.LayoutFault.TheVariants.{TooLarge, CpusBad, NoRoom}
-use Rattle.zone_spec.specs.Layout.{rounded, parameter_faults, zone_faults, first_fault, ok_unless}
+use Rattle.zone_spec.specs.Layout.{rounded, dump_memory, lacks_room, zones_of, layout_of, parameter_faults, zone_faults, first_fault, ok_unless}
 use Rattle.zone_spec.specs.Numbers.{most_memory}
-use Rattle.report_spec.specs.AsGiven.{layout_as_given, parameter_faults_as_given, zones_as_given, lacks_room_as_given, dump_memory_as_given}
 use Rattle.layout_spec.specs.declared.Candidate.{Candidate}
 use Rattle.layout_spec.specs.Laid.{params_of, has_layout}
 use Rattle.layout_search.specs.Rows.{IsRoomy}
@@ -27,28 +26,28 @@ refuses (row ∷ before) b f behind zones h =
     chosen row.0 row.1 (first_fault (before ++ (b, f) ∷ behind)) zones (refuses before b f behind zones h)
 
 pub too_large : (c : Candidate) → nat_lt most_memory c.mem ≡ true → has_layout c ≡ false
-unfolding layout_as_given
+unfolding layout_of
 too_large c h = refuses (take 2 (parameter_faults (params_of c))) (nat_lt most_memory c.mem) TooLarge
-    (drop 3 (parameter_faults_as_given (params_of c)) ++ zone_faults (zones_as_given (params_of c)))
-    (zones_as_given (params_of c)) h
+    (drop 3 (parameter_faults (params_of c)) ++ zone_faults (zones_of (params_of c)))
+    (zones_of (params_of c)) h
 
 pub cpus_bad : (c : Candidate) → ((c.cpus == 0) || nat_lt 64 c.cpus) ≡ true → has_layout c ≡ false
-unfolding layout_as_given
+unfolding layout_of
 cpus_bad c h = refuses (take 5 (parameter_faults (params_of c))) ((c.cpus == 0) || nat_lt 64 c.cpus) CpusBad
-    (drop 6 (parameter_faults_as_given (params_of c)) ++ zone_faults (zones_as_given (params_of c)))
-    (zones_as_given (params_of c)) h
+    (drop 6 (parameter_faults (params_of c)) ++ zone_faults (zones_of (params_of c)))
+    (zones_of (params_of c)) h
 
-pub no_room : (c : Candidate) → lacks_room_as_given (params_of c) ≡ true → has_layout c ≡ false
-unfolding layout_as_given
-no_room c h = refuses (take 6 (parameter_faults (params_of c))) (lacks_room_as_given (params_of c)) NoRoom
-    (zone_faults (zones_as_given (params_of c))) (zones_as_given (params_of c)) h
+pub no_room : (c : Candidate) → lacks_room (params_of c) ≡ true → has_layout c ≡ false
+unfolding layout_of
+no_room c h = refuses (take 6 (parameter_faults (params_of c))) (lacks_room (params_of c)) NoRoom
+    (zone_faults (zones_of (params_of c))) (zones_of (params_of c)) h
 
-pub roomy : (c : Candidate) → c.mem ≤ 2 ^ 24 → lacks_room_as_given (params_of c) ≡ false → IsRoomy c
+pub roomy : (c : Candidate) → c.mem ≤ 2 ^ 24 → lacks_room (params_of c) ≡ false → IsRoomy c
 roomy c m h =
     let fits : rounded c.console + rounded c.ftrace + rounded c.pmsg ≤ c.mem =
     ltb-false _ _ (or_parts (nat_lt c.mem (rounded c.console + rounded c.ftrace + rounded c.pmsg))
-        (nat_lt 0 (dump_memory_as_given (params_of c))
-        && nat_lt (dump_memory_as_given (params_of c)) (rounded c.dump)) h).0 in record {
+        (nat_lt 0 (dump_memory (params_of c))
+        && nat_lt (dump_memory (params_of c)) (rounded c.dump)) h).0 in record {
       mem = m;
       console = omega arith;
       ftrace = omega arith;

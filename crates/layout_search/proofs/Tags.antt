@@ -13,7 +13,6 @@ use Rattle.zone_spec.specs.declared.params.LayoutFault.{LayoutFault}
 use Rattle.zone_spec.specs.declared.params.LayoutFault.TheVariants.{ZoneTooSmall, EccInvalid}
 use Rattle.zone_spec.specs.Numbers.{header_len}
 use Rattle.zone_spec.specs.Layout.{zone_at, zones_from, first_fault, ok_unless}
-use Rattle.report_spec.specs.AsGiven.{layout_as_given, parameter_faults_as_given}
 use Rattle.layout_spec.specs.declared.Candidate.{Candidate}
 use Rattle.layout_spec.specs.Laid.{params_of, rows_of, zones_of, has_layout}
 
@@ -51,12 +50,12 @@ tight z = nat_le (z.size - header_len) ((z.blocks + 1) * z.parity) || nat_lt z.c
 
 -- whether there is a layout does not depend on the tag
 pub layout_untagged : (c : Candidate) (t : ℕ) → has_layout (record c { tag = t }) ≡ has_layout (record c { tag = 0 })
-unfolding layout_as_given
+unfolding layout_of
 layout_untagged c t =
     let p = params_of (record c { tag = t }) in
     let q = params_of (record c { tag = 0 }) in
     let fault : Bool → Bool → Option LayoutFault = λ a b.
-    first_fault (parameter_faults_as_given q ++ (a, ZoneTooSmall) ∷ (b, EccInvalid) ∷ []) in
+    first_fault (parameter_faults q ++ (a, ZoneTooSmall) ∷ (b, EccInvalid) ∷ []) in
     ok_none (fault (list_any small (zones_of (record c { tag = t }))) (list_any tight (zones_of (record c { tag = t }))))
     (zones_of (record c { tag = t }))
     ∙ ap (λ a. is_none (fault a (list_any tight (zones_of (record c { tag = t })))))

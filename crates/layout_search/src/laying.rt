@@ -3,10 +3,9 @@ ghost use Rattle.std.specs.Prelude.{◌≡◌, IfOk, MatchOption, false};
 ghost use Rattle.layout_spec.specs.Laid.{params_of, has_layout};
 ghost use Rattle.layout_search.specs.Laid.{IsLaid};
 
-use kernel_layout::layout_as_given;
 use layout_spec::Candidate;
 use std::alloc::{AllocError, Global};
-use zone_params::LayoutError;
+use zone_params::{LayoutError, layout};
 use zone_spec::{Params, Zone};
 
 fn params(c: &Candidate) -> Params
@@ -33,8 +32,8 @@ fn params(c: &Candidate) -> Params
 pub fn zones_of(alloc: Global, c: &Candidate) -> Result<Option<Vec<Zone>>, AllocError>
     ensures { IfOk result (λ found. MatchOption found (has_layout c.now ≡ false) (λ zones. IsLaid c.now zones.items)) }
 {
-    match layout_as_given(alloc, &params(c)) {
-        Ok(zones) => Ok(Some(zones)),
+    match layout(alloc, &params(c)) {
+        Ok(layout) => Ok(Some(layout.into_zones())),
         Err(LayoutError::Fault(_)) => Ok(None),
         Err(LayoutError::Memory) => Err(AllocError),
     }

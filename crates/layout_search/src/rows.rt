@@ -1,6 +1,6 @@
 // The rows of a candidate's zones, without its zones.
 ghost use Rattle.std.specs.Prelude.{◌≡◌, ◌≤◌, ℕ, true, false};
-ghost use Rattle.report_spec.specs.AsGiven.{lacks_room_as_given};
+ghost use Rattle.zone_spec.specs.Layout.{lacks_room as lacks};
 ghost use Rattle.layout_spec.specs.Laid.{params_of, has_layout, memory_for_dumps};
 ghost use Rattle.layout_search.specs.Seen.{IsSmallRow};
 ghost use Rattle.layout_search.specs.Rows.{IsRoomy, dump_row_of, console_row_of, ftrace_row_of, pmsg_row_of};
@@ -20,7 +20,7 @@ pub fn dump_memory(c: &Candidate) -> u64
 }
 
 fn lacks_room(c: &Candidate) -> bool
-    ensures { result ≡ lacks_room_as_given (params_of c.now) }
+    ensures { result ≡ lacks (params_of c.now) }
 {
     let console = rounded(c.console);
     let ftrace = rounded(c.ftrace);

@@ -1,9 +1,9 @@
--- The zones of a candidate: the layout of its parameters with the memory size as given
+-- The zones of a candidate: the layout of its parameters
 use Rattle.std.specs.Prelude.{ℕ, Bool, List, is_ok}
 use Rattle.zone_spec.specs.declared.Zone.{Zone}
 use Rattle.zone_spec.specs.declared.params.Params.{Params}
 use Rattle.zone_spec.specs.declared.params.Row.{Row}
-use Rattle.report_spec.specs.AsGiven.{layout_as_given, zones_as_given, rows_as_given, dump_memory_as_given}
+use Rattle.zone_spec.specs.Layout.{layout_of, zones_of as zones_by, rows, dump_memory}
 use Rattle.layout_spec.specs.declared.Candidate.{Candidate}
 
 -- its parameters: one parity for all kinds, and blocks of 128 bytes
@@ -25,14 +25,14 @@ params_of c = record {
 }
 
 abbrev pub rows_of : Candidate → List Row
-rows_of c = rows_as_given (params_of c)
+rows_of c = rows (params_of c)
 
 abbrev pub zones_of : Candidate → List Zone
-zones_of c = zones_as_given (params_of c)
+zones_of c = zones_by (params_of c)
 
 abbrev pub has_layout : Candidate → Bool
-has_layout c = is_ok (layout_as_given (params_of c))
+has_layout c = is_ok (layout_of (params_of c))
 
 -- the memory that the other zones leave to the dump zones
 abbrev pub memory_for_dumps : Candidate → ℕ
-memory_for_dumps c = dump_memory_as_given (params_of c)
+memory_for_dumps c = dump_memory (params_of c)

@@ -5,7 +5,7 @@ ghost use Rattle.zone_params.specs.Layouts.{IsCause};
 ghost use Rattle.report_tool.specs.Layouts.{read_by};
 
 use grammar_spec::ParamFault;
-use std::alloc::{AllocError, Global};
+use std::alloc::Global;
 use symbols::Symbols;
 use zone_params::{DEFAULTS, LayoutError, layout, read_words, read_words_over};
 use zone_spec::{LayoutFault, Params, Zone};
@@ -52,15 +52,12 @@ impl Plan {
     {
         let layout = layout(alloc, &params)?;
         let mem = layout.mem();
-        match Vec::from_slice(alloc, layout.zones()) {
-            Ok(zones) => Ok(Plan {
-                params,
-                mem,
-                zones,
-                symbols: Symbols::none(alloc),
-            }),
-            Err(AllocError) => Err(LayoutError::Memory),
-        }
+        Ok(Plan {
+            params,
+            mem,
+            zones: layout.into_zones(),
+            symbols: Symbols::none(alloc),
+        })
     }
 
     /// The bytes of an image.

@@ -63,6 +63,16 @@ impl Layout {
         &self.zones
     }
 
+    /// The zones alone.
+    pub fn into_zones(self) -> Vec<Zone>
+        ensures value { result.items ≡ zones_of self }
+        ensures layout { layout_of (params_of self) ≡ Ok result.items }
+        ensures laid_out { IsLayout result.items (params_of self).mem }
+    {
+        let Layout { params: _, zones } = self;
+        zones
+    }
+
     /// The place of the zone of this name in the list. Takes the same time in every layout.
     pub fn find(&self, name: ZoneName) -> Option<u32>
         ensures { result ≡ zone_place (zones_of self.now) name }

@@ -83,17 +83,22 @@ zones_from p at (row ∷ rows) =
 abbrev pub zones_of : Params → List Zone
 zones_of p = zones_from p 0 (rows p)
 
+-- whether the zones do not fit the memory: the other zones, or one dump zone in what they leave
+abbrev pub lacks_room : Params → Bool
+lacks_room p =
+    nat_lt p.mem (rounded p.console + rounded p.ftrace + rounded p.pmsg)
+    || (nat_lt 0 (dump_memory p) && nat_lt (dump_memory p) (rounded p.dump))
+
 -- the faults of the parameters, in the order in which they are told
 abbrev pub parameter_faults : Params → List (Bool × LayoutFault)
 parameter_faults p =
-    let others = rounded p.console + rounded p.ftrace + rounded p.pmsg in
     (p.mem == 0, NoMemory)
     ∷ (list_all (λ size. rounded size == 0) (p.dump ∷ p.console ∷ p.ftrace ∷ p.pmsg ∷ []), NoZone)
     ∷ (nat_lt most_memory p.mem, TooLarge)
     ∷ (list_any (nat_lt 127) (p.ecc ∷ p.ecc_dump ∷ p.ecc_console ∷ p.ecc_ftrace ∷ p.ecc_pmsg ∷ []), EccTooLarge)
     ∷ (not (list_any (λ k. p.block == k) (32 ∷ 64 ∷ 128 ∷ [])), BlockBad)
     ∷ ((p.cpus == 0) || nat_lt 64 p.cpus, CpusBad)
-    ∷ (nat_lt p.mem others || (nat_lt 0 (dump_memory p) && nat_lt (dump_memory p) (rounded p.dump)), NoRoom)
+    ∷ (lacks_room p, NoRoom)
     ∷ []
 
 -- and those of the zones, which are told behind them
