@@ -10,6 +10,9 @@ use symbols::Symbols;
 use zone_params::{LayoutError, layout, read_words};
 use zone_spec::{LayoutFault, Params, Zone};
 
+/// How many lines of the newest dump a text has, unless others are asked for.
+const LINES: usize = 10;
+
 /// Why there is no plan.
 #[derive(Clone, Copy, Debug, PartialEq, Eq)]
 pub enum PlanFault {
@@ -20,7 +23,8 @@ pub enum PlanFault {
     Layout(LayoutFault),
 }
 
-/// How images are read: the parameters, the bytes of an image, its zones, and the functions of the kernel.
+/// How images are read: the parameters, the bytes of an image, its zones, the functions of the kernel,
+/// and how many lines of the newest dump a text has.
 #[derive(Drop)]
 pub struct Plan {
     pub(crate) params: Params,
@@ -28,6 +32,7 @@ pub struct Plan {
     pub(crate) mem: u32,
     pub(crate) zones: Vec<Zone>,
     pub(crate) symbols: Symbols,
+    pub(crate) lines: usize,
     ghost laid: { layout_by is_as_given params ≡ Ok zones.items },
     ghost sized: { mem ≡ memory_by is_as_given params },
     ghost tagged: { params.ftrace_sig < 2 ^ 32 },
@@ -47,6 +52,7 @@ impl Plan {
             mem: params.mem as u32,
             zones,
             symbols: Symbols::none(alloc),
+            lines: LINES,
         })
     }
 
@@ -63,6 +69,7 @@ impl Plan {
                 mem,
                 zones,
                 symbols: Symbols::none(alloc),
+                lines: LINES,
             }),
             Err(AllocError) => Err(LayoutError::Memory),
         }
@@ -85,6 +92,7 @@ impl Plan {
             mem,
             zones,
             symbols: _,
+            lines,
         } = self;
         Plan {
             params,
@@ -92,6 +100,29 @@ impl Plan {
             mem,
             zones,
             symbols,
+            lines,
+        }
+    }
+
+    /// The same plan, with at most so many lines of the newest dump in a text; else it has ten.
+    pub fn with_lines(self, lines: usize) -> Plan
+        ensures { result ≡ record self { lines = lines } }
+    {
+        let Plan {
+            params,
+            is_as_given,
+            mem,
+            zones,
+            symbols,
+            lines: _,
+        } = self;
+        Plan {
+            params,
+            is_as_given,
+            mem,
+            zones,
+            symbols,
+            lines,
         }
     }
 
