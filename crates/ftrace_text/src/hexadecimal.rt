@@ -10,11 +10,7 @@ fn digit(n: u64, unit: u64) -> u8
     ensures { result ≡ digit_of n unit }
 {
     let value = (n / unit % 16) as u8;
-    if value < 10 {
-        b'0' + value
-    } else {
-        87 + value
-    }
+    if value < 10 { b'0' + value } else { 87 + value }
 }
 
 /// The sixteen digits of a number.

@@ -63,13 +63,23 @@ fn with_work<'a>(alloc: Global, command: Command<'a>) -> Result<Command<'a>, All
         .long("symbols")
         .value_name("FILE")
         .help("The System.map of the kernel, or its /proc/kallsyms: names the functions of ftrace");
+    let lines = Arg::new(alloc, "lines")
+        .long("lines")
+        .value_name("N")
+        .default_value("10")
+        .help("How many of the newest dump's last lines a text shows");
     let images = Arg::new(alloc, "image")
         .value_name("IMAGE")
         .required(true)
         .action(ArgAction::Append)
         .num_args(1..)
         .help("A file or a device with the memory of a ramoops region; - is standard input");
-    command.arg(format)?.arg(save)?.arg(symbols)?.arg(images)
+    command
+        .arg(format)?
+        .arg(save)?
+        .arg(symbols)?
+        .arg(lines)?
+        .arg(images)
 }
 
 /// The command, with its help.

@@ -92,6 +92,15 @@ fn with_symbols<R: Runtime>(rt: &R, alloc: Global, plan: Plan, path: &str) -> Re
     Ok(plan.with_symbols(Symbols::read(alloc, map)?))
 }
 
+// How many lines of the newest dump are asked for.
+fn line_count(matches: &ArgMatches<'_>) -> Result<usize, NoPlan> {
+    let text = matches.get_str("lines").unwrap_or("10");
+    match text.parse::<u32>() {
+        Ok(lines) => Ok(lines as usize),
+        Err(_) => Err(NoPlan::Words(anyhow!("--lines {text} is no number"))),
+    }
+}
+
 // What is wrong with a word.
 fn told(words: &[String], fault: ParamFault) -> anyhow::Error {
     let (place, what) = match fault {
@@ -203,6 +212,7 @@ pub fn plan<R: Runtime>(rt: &R, alloc: Global, matches: &ArgMatches<'_>) -> Resu
         Some(path) => tree_plan(rt, alloc, path, matches.get_str("node"), &words)?,
         None => words_plan(alloc, &words, matches.get_flag("mem-as-given"))?,
     };
+    let plan = plan.with_lines(line_count(matches)?);
     match matches.get_str("symbols") {
         Some(path) => with_symbols(rt, alloc, plan, path),
         None => Ok(plan),

@@ -11,8 +11,8 @@ use clap::ArgMatches;
 use clap::error::ErrorKind;
 use command::command;
 use folder::Dir;
-use layout::{NoPlan, plan};
 use image::Image;
+use layout::{NoPlan, plan};
 use outside::WriterSink;
 use report_tool::{Format, Plan, Stop, report, save};
 use std::alloc::{AllocError, Global};
@@ -131,14 +131,7 @@ fn run<R: Runtime, S: Read>(
         return Ok(WRONG_WORDS);
     }
     match plan(rt, alloc, &matches) {
-        Ok(plan) => Ok(all_images(
-            rt,
-            alloc,
-            input,
-            &plan,
-            &matches,
-            shows_progress,
-        )),
+        Ok(plan) => Ok(all_images(rt, alloc, input, &plan, &matches, shows_progress)),
         Err(NoPlan::Memory) => Err(AllocError.into()),
         Err(NoPlan::Words(e)) => {
             eprintln!(rt; "error: {e:#}")?;

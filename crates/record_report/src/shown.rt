@@ -1,7 +1,7 @@
 // The records as they are shown.
 ghost use Rattle.std.specs.Prelude.{◌≡◌, IfOk};
 ghost use Rattle.report_spec.specs.declared.Packing.TheVariants.{Part};
-ghost use Rattle.report_spec.specs.Packed.{most_of, as_it_stands, as_listed, as_traced, inflated, IsUnpacked, IsShown, AreShown, readable, readable_of};
+ghost use Rattle.report_spec.specs.Packed.{most_of, as_it_stands, as_listed, as_traced, inflated, IsUnpacked, IsShown, AreShown, readable, readable_of, said, said_of};
 ghost use Rattle.report_spec.specs.Newest.{has_entries};
 
 use ftrace_text::trace_text;
@@ -23,6 +23,8 @@ pub struct RecordReport {
     pub name: Name,
     pub time: Option<Time>,
     pub content: Bytes,
+    /// How many bytes at the content's end are the notice.
+    pub notice: usize,
     pub packing: Packing<Bytes>,
     /// Of a pmsg the entries of Android's log, if it has such; their places are those of the content.
     pub entries: Vec<Entry>,
@@ -35,8 +37,15 @@ impl Model for RecordReport {
 
     ghost Value = { RecordShown };
 
-    ghost view = { λ r. record { name = r.name; time = r.time; content = r.content; packing = r.packing;
-        entries = r.entries.items; lines = r.lines } };
+    ghost view = { λ r. record {
+      name = r.name;
+      time = r.time;
+      content = r.content;
+      notice = r.notice;
+      packing = r.packing;
+      entries = r.entries.items;
+      lines = r.lines;
+    } };
 }
 
 impl RecordReport {
@@ -45,6 +54,18 @@ impl RecordReport {
     {
         match &self.packing {
             Packing::Plain | Packing::Whole { .. } => self.content.as_slice(),
+            Packing::Part { text, .. } => text.as_slice(),
+        }
+    }
+
+    fn text_said(&self) -> &[u8]
+        ensures { result.now ≡ said_of self.now.packing self.now.notice self.now.content }
+    {
+        match &self.packing {
+            Packing::Plain | Packing::Whole { .. } => {
+                let content = self.content.as_slice();
+                &content[..content.len().saturating_sub(self.notice)]
+            }
             Packing::Part { text, .. } => text.as_slice(),
         }
     }
@@ -66,6 +87,17 @@ impl RecordReport {
             self.text()
         }
     }
+
+    /// What people read of it, without the notice.
+    pub fn said(&self) -> &[u8]
+        ensures { result.now ≡ said self.now }
+    {
+        if self.has_entries() {
+            self.lines.as_slice()
+        } else {
+            self.text_said()
+        }
+    }
 }
 
 /// The most bytes of the text of the dump of this number.
@@ -81,10 +113,12 @@ fn most_of(zones: &[Zone], index: u32) -> usize
 fn as_it_stands(alloc: Global, held: HeldRecord, packing: Packing<Bytes>) -> RecordReport
     ensures { result ≡ as_it_stands held packing }
 {
+    let notice = held.notice().len();
     RecordReport {
         name: held.name,
         time: held.time,
         content: held.into_bytes(),
+        notice,
         packing,
         entries: Vec::new(alloc),
         lines: Bytes::from_vec(Vec::new(alloc)),
@@ -97,10 +131,12 @@ fn as_listed(alloc: Global, held: HeldRecord) -> Result<RecordReport, AllocError
 {
     let entries = entries(alloc, held.content())?;
     let lines = shown_lines(alloc, held.content(), &entries)?;
+    let notice = held.notice().len();
     Ok(RecordReport {
         name: held.name,
         time: held.time,
         content: held.into_bytes(),
+        notice,
         packing: Packing::Plain,
         entries,
         lines: Bytes::from_vec(lines),
@@ -126,6 +162,7 @@ fn inflated(
         },
         time: held.time,
         content,
+        notice: held.notice().len(),
         packing: Packing::Whole { taken },
         entries: Vec::new(alloc),
         lines: Bytes::from_vec(Vec::new(alloc)),
@@ -159,11 +196,7 @@ fn unpacked(
 }
 
 /// An ftrace log, as the kernel shows it.
-fn as_traced(
-    alloc: Global,
-    symbols: &Symbols,
-    held: HeldRecord,
-) -> Result<RecordReport, AllocError>
+fn as_traced(alloc: Global, symbols: &Symbols, held: HeldRecord) -> Result<RecordReport, AllocError>
     ensures { IfOk result (λ r. r ≡ as_traced symbols.now held) }
 {
     let text = trace_text(alloc, held.content(), symbols)?;
@@ -171,6 +204,7 @@ fn as_traced(
         name: held.name,
         time: held.time,
         content: Bytes::from_vec(text),
+        notice: 0,
         packing: Packing::Plain,
         entries: Vec::new(alloc),
         lines: Bytes::from_vec(Vec::new(alloc)),

@@ -1,6 +1,6 @@
 -- A record as it is shown: a dump whose time line says compressed has the text that its bytes stand for
 -- (fs/pstore/platform.c, decompress_record)
-use Rattle.std.specs.Prelude.{◌≡◌, ℕ, ◌*◌, ◌≤◌, ⊤, true, false, List, [], ◌∷◌, ◌++◌, length, slice_get, codes, Option, Some, None}
+use Rattle.std.specs.Prelude.{◌≡◌, ℕ, ◌*◌, ◌-◌, ◌≤◌, ⊤, true, false, List, [], ◌∷◌, ◌++◌, length, take, slice_get, codes, Option, Some, None}
 use Rattle.zone_spec.specs.declared.Name.{Name}
 use Rattle.zone_spec.specs.declared.Name.TheVariants.{Dump, Console, Pmsg, Ftrace}
 use Rattle.zone_spec.specs.declared.Time.{Time}
@@ -18,12 +18,13 @@ use Rattle.report_spec.specs.declared.Packing.{Packing}
 use Rattle.report_spec.specs.declared.Packing.TheVariants.{Plain, Whole, Part}
 use Rattle.report_spec.specs.Records.{RecordHeld}
 
--- a record's name and content as its file has them, the content with its notice; whether its bytes were packed; and of a
--- pmsg the entries of Android's log, if it has such, with their lines
+-- a record's name and content as its file has them, the content with its notice, and how many bytes that has; whether
+-- its bytes were packed; and of a pmsg the entries of Android's log, if it has such, with their lines
 pub record RecordShown : Type 0 where
   pub name : Name
   pub time : Option Time
   pub content : List ℕ
+  pub notice : ℕ
   pub packing : Packing (List ℕ)
   pub entries : List Entry
   pub lines : List ℕ
@@ -65,6 +66,7 @@ as_it_stands r packing =
       name = r.name;
       time = r.time;
       content = r.content ++ r.notice;
+      notice = length r.notice;
       packing = packing;
       entries = [];
       lines = [];
@@ -77,6 +79,7 @@ as_listed r =
       name = r.name;
       time = r.time;
       content = r.content ++ r.notice;
+      notice = length r.notice;
       packing = Plain;
       entries = entries r.content;
       lines = lines_text r.content (entries r.content);
@@ -89,6 +92,7 @@ as_traced names r =
       name = r.name;
       time = r.time;
       content = trace_text names r.content;
+      notice = 0;
       packing = Plain;
       entries = [];
       lines = [];
@@ -101,6 +105,7 @@ inflated r index text taken =
       name = Dump index false;
       time = r.time;
       content = text ++ r.notice;
+      notice = length r.notice;
       packing = Whole taken;
       entries = [];
       lines = [];
@@ -149,3 +154,12 @@ lines_or (entry ∷ entries) lines text = lines
 -- what people read of a record: the lines of its entries, else a text up to its fault, else its content
 abbrev pub readable : RecordShown → List ℕ
 readable r = lines_or r.entries r.lines (readable_of r.packing r.content)
+
+-- the same without the notice
+abbrev pub said_of : Packing (List ℕ) → ℕ → List ℕ → List ℕ
+said_of Plain notice content = take (length content - notice) content
+said_of (Whole taken) notice content = take (length content - notice) content
+said_of (Part fault text) notice content = text
+
+abbrev pub said : RecordShown → List ℕ
+said r = lines_or r.entries r.lines (said_of r.packing r.notice r.content)

@@ -10,7 +10,8 @@ use zone_params::{Params, layout};
 use zone_spec::Name;
 
 // The end of an entry that was overwritten, and two entries.
-const PMSG: &[u8] = b"of an entry\0l4\0\xe8\x03\xd2\x04\0\xd8\x04\x82\x95'i\x945\xe21\x06app\0FATAL EXCEPTION: main\nat run\0l\x1d\0\0\0\x0c\0\x03n\xb2\0\x0c\xbb8@KL\0\x04boot\0done\0";
+const PMSG: &[u8] =
+    b"of an entry\0l4\0\xe8\x03\xd2\x04\0\xd8\x04\x82\x95'i\x945\xe21\x06app\0FATAL EXCEPTION: main\nat run\0l\x1d\0\0\0\x0c\0\x03n\xb2\0\x0c\xbb8@KL\0\x04boot\0done\0";
 
 // The lines that `logcat -v threadtime -v year -v UTC` shows, with one header for an entry.
 const LINES: &str = "\
@@ -20,11 +21,13 @@ last lines of Android's log
   2000-02-29 00:00:00.005    12 45678 I boot: done
 ";
 
-const ENTRIES: &str = "\"entries\":[{\"log\":0,\"nanoseconds\":836908436,\"pid\":1234,\"priority\":\"E\",\"seconds\":1764201858,\
+const ENTRIES: &str =
+    "\"entries\":[{\"log\":0,\"nanoseconds\":836908436,\"pid\":1234,\"priority\":\"E\",\"seconds\":1764201858,\
 \"tag\":\"app\",\"text\":\"FATAL EXCEPTION: main\\nat run\",\"tid\":1240,\"uid\":1000},{\"log\":3,\"nanoseconds\":5000000,\"pid\":12,\
 \"priority\":\"I\",\"seconds\":951782400,\"tag\":\"boot\",\"text\":\"done\",\"tid\":45678,\"uid\":0}]";
 
-const FTRACE: &[u8] = b"\0\x10\0\x81\xff\xff\xff\xff\x1f \0\x81\xff\xff\xff\xff\0g\x12\0\0\0\0\0\x10\0\0\0\0\0\0\0\0\0\0\0\0\0\0\0\x03h\x12\0\0\0\0\0";
+const FTRACE: &[u8] =
+    b"\0\x10\0\x81\xff\xff\xff\xff\x1f \0\x81\xff\xff\xff\xff\0g\x12\0\0\0\0\0\x10\0\0\0\0\0\0\0\0\0\0\0\0\0\0\0\x03h\x12\0\0\0\0\0";
 
 const MAP: &[u8] = b"ffffffff81002000 t run_work\n0000000000000010 D data\n\
 ffffffff81001000 T do_work\t[usbcore]\nffffffff81001000 T alias\n";
@@ -81,7 +84,7 @@ fn log_of_android(rt: HostRuntime) -> Result<(), Fail> {
     {
         return Err(Fail::from("the report has other zones"));
     }
-    let text = text(alloc, b"a", zones.zones(), &report)?;
+    let text = text(alloc, b"a", zones.zones(), &report, 10)?;
     assert!(rt; str::from_utf8(text.as_slice())?.ends_with(LINES));
     let line = json(alloc, "a", &params, zones.zones(), &report)?;
     assert!(rt; line.as_str().contains(ENTRIES));

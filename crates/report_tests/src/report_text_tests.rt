@@ -63,7 +63,7 @@ fn shown(alloc: Global, line: &[u8]) -> Result<Bytes, Fail> {
         return Err(Fail::from("the image has another size"));
     }
     let report = report_of(alloc, &zones, &Symbols::none(alloc), image)?;
-    Ok(text(alloc, b"a\x1bb", zones.zones(), &report)?)
+    Ok(text(alloc, b"a\x1bb", zones.zones(), &report, 10)?)
 }
 
 #[test]
@@ -81,7 +81,7 @@ fn shown_packed(alloc: Global, packed: &[u8]) -> Result<Bytes, Fail> {
         return Err(Fail::from("the image has another size"));
     }
     let report = report_of(alloc, &zones, &Symbols::none(alloc), image)?;
-    Ok(text(alloc, b"a", zones.zones(), &report)?)
+    Ok(text(alloc, b"a", zones.zones(), &report, 10)?)
 }
 
 #[test]
@@ -139,7 +139,7 @@ fn shown_deaths(alloc: Global, logs: [&[u8]; 4]) -> Result<Bytes, Fail> {
         return Err(Fail::from("the image has another size"));
     }
     let report = report_of(alloc, &zones, &Symbols::none(alloc), image)?;
-    Ok(text(alloc, b"a", zones.zones(), &report)?)
+    Ok(text(alloc, b"a", zones.zones(), &report, 10)?)
 }
 
 #[test]

@@ -6,10 +6,19 @@ use Rattle.std.proofs.lemmas.List.{drop_more}
 use Rattle.std.proofs.Math.Seq.{drop-length}
 use Rattle.report_text.specs.Tails.{is_empty, breaks, last_lines}
 
-few-lines : (bs : List ℕ) → breaks bs < 10 → last_lines bs ≡ bs
+few-lines : (most : ℕ) (bs : List ℕ) → breaks bs < most → last_lines most bs ≡ bs
 unfolding last_lines
-few-lines [] h = refl
-few-lines (b ∷ bs) h = ap (λ (t : Bool). if t then b ∷ bs else last_lines bs) (lt-ltb (breaks (b ∷ bs)) 10 h)
+few-lines most [] h = refl
+few-lines most (b ∷ bs) h =
+    ap (λ (t : Bool). if t then b ∷ bs else last_lines most bs) (lt-ltb (breaks (b ∷ bs)) most h)
+
+-- no lines at all
+pub no-lines : (bs : List ℕ) → [] ≡ last_lines 0 bs
+unfolding last_lines
+no-lines [] = refl
+no-lines (b ∷ bs) =
+    no-lines bs
+    ∙ sym (ap (λ (t : Bool). if t then b ∷ bs else last_lines 0 bs) (le-ltb (breaks (b ∷ bs)) 0 (omega arith)))
 
 breaks-drop : (k : ℕ) (bs : List ℕ) → breaks (drop k bs) ≤ breaks bs
 unfolding breaks
@@ -17,21 +26,22 @@ breaks-drop zero bs = omega arith
 breaks-drop (suc k) [] = omega arith
 breaks-drop (suc k) (b ∷ bs) = omega (arith, breaks-drop k bs)
 
--- an end that has fewer than ten breaks, where the byte before it makes ten
-pub last-from : (k : ℕ) (bs : List ℕ) → breaks (drop (suc k) bs) < 10 → 10 ≤ breaks (drop k bs)
-    → drop (suc k) bs ≡ last_lines bs
+-- an end that has fewer breaks than wanted, where the byte before it makes the last one
+pub last-from : (most k : ℕ) (bs : List ℕ) → breaks (drop (suc k) bs) < most → most ≤ breaks (drop k bs)
+    → drop (suc k) bs ≡ last_lines most bs
 unfolding last_lines breaks
-last-from zero [] few many = refl
-last-from (suc k) [] few many = refl
-last-from zero (b ∷ bs) few many =
-    sym (ap (λ (t : Bool). if t then b ∷ bs else last_lines bs) (le-ltb (breaks (b ∷ bs)) 10 many) ∙ few-lines bs few)
-last-from (suc k) (b ∷ bs) few many =
-    let all : 10 ≤ breaks (b ∷ bs) = omega (arith, many, breaks-drop (suc k) (b ∷ bs)) in
-    last-from k bs few many
-    ∙ sym (ap (λ (t : Bool). if t then b ∷ bs else last_lines bs) (le-ltb (breaks (b ∷ bs)) 10 all))
+last-from most zero [] few many = refl
+last-from most (suc k) [] few many = refl
+last-from most zero (b ∷ bs) few many =
+    sym (ap (λ (t : Bool). if t then b ∷ bs else last_lines most bs) (le-ltb (breaks (b ∷ bs)) most many)
+    ∙ few-lines most bs few)
+last-from most (suc k) (b ∷ bs) few many =
+    let all : most ≤ breaks (b ∷ bs) = omega (arith, many, breaks-drop (suc k) (b ∷ bs)) in
+    last-from most k bs few many
+    ∙ sym (ap (λ (t : Bool). if t then b ∷ bs else last_lines most bs) (le-ltb (breaks (b ∷ bs)) most all))
 
-pub last-all : (bs : List ℕ) → breaks bs < 10 → bs ≡ last_lines bs
-last-all bs few = sym (few-lines bs few)
+pub last-all : (most : ℕ) (bs : List ℕ) → breaks bs < most → bs ≡ last_lines most bs
+last-all most bs few = sym (few-lines most bs few)
 
 empty-drop : (k : ℕ) (bs : List ℕ) → k < length bs → is_empty (drop k bs) ≡ false
 empty-drop zero [] h = absurd (omega (arith, h))
@@ -91,17 +101,18 @@ none-behind bs = ap breaks (sym (drop-length bs))
 behind : (bs : List ℕ) (i : ℕ) → 0 < i → breaks (drop (i - 1 + 1) bs) ≡ breaks (drop i bs)
 behind bs i h = ap (λ (k : ℕ). breaks (drop k bs)) (let back : i - 1 + 1 ≡ i = omega (arith, h) in back)
 
--- the tenth line begins after this newline
-pub tenth : (bs : List ℕ) (i lines d : ℕ) → 0 < i → lines ≡ breaks (drop i bs) → lines < 10 → lines + 1 ≡ 10
-    → i - 1 + 1 < length bs → get_or bs (i - 1) d ≡ 10 → drop (i - 1 + 1) bs ≡ last_lines bs
-tenth bs i lines d h e few ten within is =
+-- the first of the wanted lines begins after this newline
+pub first-wanted : (most : ℕ) (bs : List ℕ) (i lines d : ℕ) → 0 < i → lines ≡ breaks (drop i bs) → lines < most
+    → lines + 1 ≡ most → i - 1 + 1 < length bs → get_or bs (i - 1) d ≡ 10
+    → drop (i - 1 + 1) bs ≡ last_lines most bs
+first-wanted most bs i lines d h e few all within is =
     let here = break-here bs (i - 1) d within is in
     let next = behind bs i h in
     let same : i - 1 + 1 ≡ suc (i - 1) = omega arith in
     let start : breaks (drop (suc (i - 1)) bs) ≡ breaks (drop (i - 1 + 1) bs) =
     ap (λ (k : ℕ). breaks (drop k bs)) (sym same) in
     ap (λ (k : ℕ). drop k bs) same
-    ∙ last-from (i - 1) bs (omega (arith, start, next, e, few)) (omega (arith, here, next, e, ten))
+    ∙ last-from most (i - 1) bs (omega (arith, start, next, e, few)) (omega (arith, here, next, e, all))
 
 pub line-more : (bs : List ℕ) (i lines d : ℕ) → 0 < i → lines ≡ breaks (drop i bs) → i - 1 + 1 < length bs
     → get_or bs (i - 1) d ≡ 10 → lines + 1 ≡ breaks (drop (i - 1) bs)
@@ -124,9 +135,10 @@ no-line-at-end bs i lines d h within e last =
     let next = behind bs i h in
     omega (arith, here, next, e)
 
--- no place is left, with fewer than ten lines
-pub whole-last : (bs : List ℕ) (i lines : ℕ) → i ≤ 0 → lines ≡ breaks (drop i bs) → lines < 10 → bs ≡ last_lines bs
-whole-last bs i lines h e few =
+-- no place is left, with fewer lines than wanted
+pub whole-last : (most : ℕ) (bs : List ℕ) (i lines : ℕ) → i ≤ 0 → lines ≡ breaks (drop i bs) → lines < most
+    → bs ≡ last_lines most bs
+whole-last most bs i lines h e few =
     let front : i ≡ 0 = omega (arith, h) in
     let same : breaks (drop i bs) ≡ breaks bs = ap (λ (k : ℕ). breaks (drop k bs)) front in
-    last-all bs (omega (arith, e, same, few))
+    last-all most bs (omega (arith, e, same, few))

@@ -3,10 +3,10 @@ use Rattle.std.specs.Prelude.{ℕ, ◌+◌, Bool, true, false, ◌&&◌, not, �
 use Rattle.report_spec.specs.Escaped.{is_plain}
 use Rattle.report_spec.specs.declared.Packing.{Packing}
 use Rattle.report_spec.specs.declared.Packing.TheVariants.{Plain, Whole, Part as PartOfText}
-use Rattle.report_spec.specs.Packed.{RecordShown, fault_words, readable}
+use Rattle.report_spec.specs.Packed.{RecordShown, fault_words, said}
 use Rattle.report_text.specs.Pieces.{Part, Words, Bytes}
 
--- ---- the last ten lines
+-- ---- the last lines
 
 abbrev pub is_empty : List ℕ → Bool
 is_empty [] = true
@@ -17,10 +17,10 @@ unfoldable pub breaks : List ℕ → ℕ
 breaks [] = 0
 breaks (b ∷ bs) = (if (b == 10) && not (is_empty bs) then 1 else 0) + breaks bs
 
--- the longest end of bytes that has at most ten lines
-unfoldable pub last_lines : List ℕ → List ℕ
-last_lines [] = []
-last_lines (b ∷ bs) = if nat_lt (breaks (b ∷ bs)) 10 then b ∷ bs else last_lines bs
+-- the longest end of bytes that has at most so many lines
+unfoldable pub last_lines : ℕ → List ℕ → List ℕ
+last_lines most [] = []
+last_lines most (b ∷ bs) = if nat_lt (breaks (b ∷ bs)) most then b ∷ bs else last_lines most bs
 
 -- ---- rows that fit a terminal
 
@@ -49,8 +49,8 @@ rows_parts rows = flat_map row_parts rows
 
 -- ---- a record's end
 
-abbrev pub tail_rows : List ℕ → List Part
-tail_rows bytes = rows_parts (rows_from [] 0 (last_lines bytes))
+abbrev pub tail_rows : ℕ → List ℕ → List Part
+tail_rows most bytes = rows_parts (rows_from [] 0 (last_lines most bytes))
 
 -- a packed text that goes no further, and why
 abbrev pub break_parts : Packing (List ℕ) → List Part
@@ -59,7 +59,7 @@ break_parts (Whole taken) = []
 break_parts (PartOfText fault text) =
     Words (codes "  (breaks off: ") ∷ Words (fault_words fault) ∷ Words (codes ")" ++ 10 ∷ []) ∷ []
 
--- a heading and the last lines of a record, if there is one
-abbrev pub tail_parts : List ℕ → Option RecordShown → List Part
-tail_parts heading None = []
-tail_parts heading (Some r) = Words heading ∷ tail_rows (readable r) ++ break_parts r.packing
+-- a heading and at most so many last lines of a record, without its notice, if there is one
+abbrev pub tail_parts : List ℕ → ℕ → Option RecordShown → List Part
+tail_parts heading most None = []
+tail_parts heading most (Some r) = Words heading ∷ tail_rows most (said r) ++ break_parts r.packing

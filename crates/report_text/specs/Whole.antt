@@ -27,21 +27,21 @@ abbrev pub IsRecordTable : List RecordShown → List Part → Type 0
 IsRecordTable records table = (rows : List Part) × AreRecordRows records rows
     × (table ≡ Words (10 ∷ codes "     bytes  time                            record" ++ 10 ∷ []) ∷ rows)
 
--- the last lines of the newest dump, of the console and of Android's log
-abbrev pub tails : List RecordShown → List Part
-tails records =
-    tail_parts (10 ∷ codes "last lines of the newest dump" ++ 10 ∷ []) (newest records)
-    ++ tail_parts (10 ∷ codes "last lines of the console" ++ 10 ∷ []) (console_of records)
-    ++ tail_parts (10 ∷ codes "last lines of Android's log" ++ 10 ∷ []) (android_log_of records)
+-- at most so many last lines of the newest dump, and ten of the console and of Android's log
+abbrev pub tails : ℕ → List RecordShown → List Part
+tails most records =
+    tail_parts (10 ∷ codes "last lines of the newest dump" ++ 10 ∷ []) most (newest records)
+    ++ tail_parts (10 ∷ codes "last lines of the console" ++ 10 ∷ []) 10 (console_of records)
+    ++ tail_parts (10 ∷ codes "last lines of Android's log" ++ 10 ∷ []) 10 (android_log_of records)
 
 -- the heading, why the machine died, a free line, the tables, and the last lines
-abbrev pub AreParts : List ℕ → ReportHeld → List Part → Type 0
-AreParts title r parts = (died table : List Part) × IsDied (death_told r.records) died
+abbrev pub AreParts : List ℕ → ℕ → ReportHeld → List Part → Type 0
+AreParts title most r parts = (died table : List Part) × IsDied (death_told r.records) died
     × IsRecordTable r.records table
-    × (parts ≡ heading_parts title r ++ died ++ Words (10 ∷ []) ∷ [] ++ zone_table r.logs ++ table ++ tails r.records)
+    × (parts ≡ heading_parts title r ++ died ++ Words (10 ∷ []) ∷ [] ++ zone_table r.logs ++ table ++ tails most r.records)
 
--- the text under this title
-pub record IsTextOf (title : List ℕ) (report : ReportHeld) (text : List ℕ) : Type 0 where
+-- the text under this title, with at most so many lines of the newest dump
+pub record IsTextOf (title : List ℕ) (most : ℕ) (report : ReportHeld) (text : List ℕ) : Type 0 where
   pub parts : List Part
-  pub are : AreParts title report parts
+  pub are : AreParts title most report parts
   pub text_is : text ≡ parts_text parts

@@ -11,20 +11,24 @@ use outside::Bytes;
 use record_report::{Packing, RecordReport, android_log, console, newest_dump};
 use std::alloc::AllocError;
 
+/// How many lines of the console and of Android's log are shown.
 const LINES: usize = 10;
 
 const COLUMNS: usize = 76;
 
-/// Where the last lines begin.
-fn tail_start(bytes: &[u8]) -> usize
+/// Where at most so many last lines begin.
+fn tail_start(bytes: &[u8], most: usize) -> usize
     ensures within { result ≤ length bytes.now }
-    ensures last { drop result bytes.now ≡ last_lines bytes.now }
+    ensures last { drop result bytes.now ≡ last_lines most bytes.now }
 {
+    if most == 0 {
+        return bytes.len();
+    }
     let mut lines = 0;
     for i in (0..bytes.len()).rev() {
         if bytes[i] == b'\n' && i + 1 < bytes.len() {
             lines += 1;
-            if lines == LINES {
+            if lines == most {
                 return i + 1;
             }
         }
@@ -97,42 +101,52 @@ fn add_break(pieces: &mut Vec<Piece<'_>>, packing: &Packing<Bytes>) -> Result<()
     }
 }
 
-/// Adds a heading and the last lines of a record, if there is one. A packed text that breaks off ends with the reason.
+/// Adds a heading and at most so many last lines of a record, if there is one. A packed text that breaks off ends with
+/// the reason.
 fn add_tail<'a>(
     pieces: &mut Vec<Piece<'a>>,
     heading: &'static str,
+    most: usize,
     entry: Option<&'a RecordReport>,
 ) -> Result<(), AllocError>
     ensures { OnOk result (parts pieces.new.items
-        ≡ parts pieces.old.items ++ tail_parts heading.entry.now (option_copied entry.entry)) }
+        ≡ parts pieces.old.items ++ tail_parts heading.entry.now most (option_copied entry.entry)) }
 {
     match entry {
         Some(entry) => {
             add(pieces, &[Piece::Own(heading)])?;
-            let bytes = entry.readable();
-            add_rows(pieces, &bytes[tail_start(bytes)..])?;
+            let bytes = entry.said();
+            add_rows(pieces, &bytes[tail_start(bytes, most)..])?;
             add_break(pieces, &entry.packing)
         }
         None => Ok(()),
     }
 }
 
-/// Adds the last lines of the newest dump, of the console and of Android's log.
+/// Adds at most so many last lines of the newest dump, and the last lines of the console and of Android's log.
 pub fn add_tails<'a>(
     pieces: &mut Vec<Piece<'a>>,
+    most: usize,
     records: &'a [RecordReport],
 ) -> Result<(), AllocError>
-    ensures { OnOk result (parts pieces.new.items ≡ parts pieces.old.items ++ tails records.entry.now) }
+    ensures { OnOk result (parts pieces.new.items ≡ parts pieces.old.items ++ tails most records.entry.now) }
 {
     add_tail(
         pieces,
         "\nlast lines of the newest dump\n",
+        most,
         newest_dump(records),
     )?;
-    add_tail(pieces, "\nlast lines of the console\n", console(records))?;
+    add_tail(
+        pieces,
+        "\nlast lines of the console\n",
+        LINES,
+        console(records),
+    )?;
     add_tail(
         pieces,
         "\nlast lines of Android's log\n",
+        LINES,
         android_log(records),
     )
 }

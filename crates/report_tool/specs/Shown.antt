@@ -17,8 +17,8 @@ pub record IsOf (plan : Plan) (report : ReportHeld) : Type 0 where
   pub parts_len : length report.parts ≡ length plan.zones.items
 
 -- a text for a terminal, each byte of which is visible
-pub record IsVisibleText (path : List ℕ) (report : ReportHeld) (text : List ℕ) : Type 0 where
-  pub is_text : IsTextOf path report text
+pub record IsVisibleText (path : List ℕ) (plan : Plan) (report : ReportHeld) (text : List ℕ) : Type 0 where
+  pub is_text : IsTextOf path plan.lines report text
   pub visible : list_all is_visible text ≡ true
 
 -- a line of JSON, and a newline
@@ -28,6 +28,6 @@ pub record IsJsonLine (path : List ℕ) (plan : Plan) (report : ReportHeld) (tex
   pub text_is : text ≡ line ++ 10 ∷ []
 
 abbrev pub Shows : Format → List ℕ → Plan → ReportHeld → List ℕ → Type 0
-Shows Text path plan report text = IsVisibleText path report text
+Shows Text path plan report text = IsVisibleText path plan report text
 Shows Json path plan report text = IsJsonLine path plan report text
 Shows Html path plan report text = text ≡ page_of path plan.zones.items report

@@ -10,6 +10,9 @@ use symbols::Symbols;
 use zone_params::{DEFAULTS, LayoutError, layout, read_words, read_words_over};
 use zone_spec::{LayoutFault, Params, Zone};
 
+/// How many lines of the newest dump a text has, unless others are asked for.
+const LINES: usize = 10;
+
 /// Why there is no plan.
 #[derive(Clone, Copy, Debug, PartialEq, Eq)]
 pub enum PlanFault {
@@ -20,15 +23,22 @@ pub enum PlanFault {
     Layout(LayoutFault),
 }
 
-/// How images are read: the parameters, the bytes of an image, its zones, and the functions of the kernel.
+/// How images are read: the parameters, the bytes of an image, its zones, the functions of the kernel,
+/// and how many lines of the newest dump a text has.
 #[derive(Drop)]
 pub struct Plan {
     pub(crate) params: Params,
     pub(crate) mem: u32,
     pub(crate) zones: Vec<Zone>,
     pub(crate) symbols: Symbols,
+<<<<<<< HEAD
     ghost laid: { layout_of params ≡ Ok zones.items },
     ghost sized: { mem ≡ params.mem },
+=======
+    pub(crate) lines: usize,
+    ghost laid: { layout_by is_as_given params ≡ Ok zones.items },
+    ghost sized: { mem ≡ memory_by is_as_given params },
+>>>>>>> h_records
     ghost tagged: { params.ftrace_sig < 2 ^ 32 },
 }
 
@@ -46,6 +56,7 @@ fn read(words: &[String], is_as_given: bool) -> Result<Params, ParamFault>
 impl Plan {
     ghost use Rattle.report_tool.specs.Plans.{IsLaid, IsPlan, IsPlanFault};
 
+<<<<<<< HEAD
     // The plan of these parameters.
     pub(crate) fn of_params(alloc: Global, params: Params) -> Result<Plan, LayoutError>
         ensures { MatchResult result (IsLaid params) (IsCause (layout_of params)) }
@@ -58,6 +69,40 @@ impl Plan {
             zones: layout.into_zones(),
             symbols: Symbols::none(alloc),
         })
+=======
+    // The plan of a layout that takes the memory size as it is given.
+    fn as_given(alloc: Global, params: Params) -> Result<Plan, LayoutError>
+        ensures { MatchResult result (IsLaid true params) (IsCause (layout_by true params)) }
+    {
+        let zones = layout_as_given(alloc, &params)?;
+        Ok(Plan {
+            params,
+            is_as_given: true,
+            mem: params.mem as u32,
+            zones,
+            symbols: Symbols::none(alloc),
+            lines: LINES,
+        })
+    }
+
+    // The plan of a layout that rounds the memory size.
+    fn rounded(alloc: Global, params: Params) -> Result<Plan, LayoutError>
+        ensures { MatchResult result (IsLaid false params) (IsCause (layout_by false params)) }
+    {
+        let layout = layout(alloc, &params)?;
+        let mem = layout.mem();
+        match Vec::from_slice(alloc, layout.zones()) {
+            Ok(zones) => Ok(Plan {
+                params,
+                is_as_given: false,
+                mem,
+                zones,
+                symbols: Symbols::none(alloc),
+                lines: LINES,
+            }),
+            Err(AllocError) => Err(LayoutError::Memory),
+        }
+>>>>>>> h_records
     }
 
     /// The bytes of an image.
@@ -76,12 +121,36 @@ impl Plan {
             mem,
             zones,
             symbols: _,
+            lines,
         } = self;
         Plan {
             params,
             mem,
             zones,
             symbols,
+            lines,
+        }
+    }
+
+    /// The same plan, with at most so many lines of the newest dump in a text; else it has ten.
+    pub fn with_lines(self, lines: usize) -> Plan
+        ensures { result ≡ record self { lines = lines } }
+    {
+        let Plan {
+            params,
+            is_as_given,
+            mem,
+            zones,
+            symbols,
+            lines: _,
+        } = self;
+        Plan {
+            params,
+            is_as_given,
+            mem,
+            zones,
+            symbols,
+            lines,
         }
     }
 

@@ -43,7 +43,7 @@ pub fn shown(
 {
     match format {
         Format::Text => {
-            let bytes = text(alloc, path.as_bytes(), &plan.zones, report)?;
+            let bytes = text(alloc, path.as_bytes(), &plan.zones, report, plan.lines)?;
             Ok(bytes.into_vec())
         }
         Format::Json => json_line(alloc, plan, path, report),

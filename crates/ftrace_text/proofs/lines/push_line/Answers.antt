@@ -6,6 +6,6 @@ use Rattle.ftrace_text.proofs.lines.push_line.Goals as goal
 pub returns : goal.returns
 returns c =
     on_ok_weaker c.push_words.result
-        (λ e. e ∙ ap (λ more. c.args.out.now.items ++ more)
-        (line_of_entry c.args.symbols.now c.args.entry.now (omega arith) (omega arith) (omega arith)))
-        c.push_words.ensures
+    (λ e. e ∙ ap (λ more. c.args.out.now.items ++ more)
+    (line_of_entry c.args.symbols.now c.args.entry.now (omega arith) (omega arith) (omega arith)))
+    c.push_words.ensures

@@ -16,7 +16,7 @@ years-preserved c =
       left = omega (arith, c.years.invariant.left, c.years.invariant.from, same, least, long);
       date = c.years.invariant.date
           ∙ year_more (days - (year - 1970)) (days - (year + 1 - 1970)) year left
-              (omega (arith, c.years.invariant.left, c.years.invariant.from, least, long)) long
+          (omega (arith, c.years.invariant.left, c.years.invariant.from, least, long)) long
           ∙ ap (λ n. in_years (days - (year + 1 - 1970)) (year + 1) (left - n)) (sym same);
     }
 
@@ -25,4 +25,4 @@ returns c =
     c.in_year.ensures
     ∙ sym (c.years.invariant.date
     ∙ year_found (c.args.days - (c.years.year - 1970)) c.years.year c.years.left
-        (omega (arith, c.year_len.ensures.len, c.years-test.false)))
+    (omega (arith, c.year_len.ensures.len, c.years-test.false)))

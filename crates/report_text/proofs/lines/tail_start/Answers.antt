@@ -1,6 +1,8 @@
 -- The lines after each place are counted
-use Rattle.std.proofs.Common.{arith}
-use Rattle.report_text.proofs.Tailed.{none-behind, tenth, line-more, no-line, no-line-at-end, whole-last}
+use Rattle.std.proofs.Common.{ap, sym, ◌∙◌, arith}
+use Rattle.std.proofs.Math.Seq.{drop-length}
+use Rattle.report_text.specs.Tails.{last_lines}
+use Rattle.report_text.proofs.Tailed.{none-behind, no-lines, first-wanted, line-more, no-line, no-line-at-end, whole-last}
 use Rattle.report_text.proofs.lines.tail_start.Goals as goal
 use Rattle.report_text.proofs.lines.tail_start.Goals.{else-bytes-i-eq10-via-then-bytes-i-eq10+else-i-bytes, else-bytes-i-eq10-via-else-bytes-i-eq10}
 
@@ -11,10 +13,10 @@ loop-i-init c = record {
   few = omega arith;
 }
 
-pub returns-then-lines-eq-LINES-clause-last : goal.returns-then-lines-eq-LINES-clause-last
-returns-then-lines-eq-LINES-clause-last c =
-    tenth c.args.bytes.now c.loop-i.i c.loop-i.lines 0 c.loop-i-test.true c.loop-i.invariant.lines
-    c.loop-i.invariant.few c.if-lines-eq-LINES.true c.if-i-bytes.true c.if-bytes-i-eq10.true
+pub returns-then-lines-most-clause-last : goal.returns-then-lines-most-clause-last
+returns-then-lines-most-clause-last c =
+    first-wanted c.args.most c.args.bytes.now c.loop-i.i c.loop-i.lines 0 c.loop-i-test.true c.loop-i.invariant.lines
+    c.loop-i.invariant.few c.if-lines-most.true c.if-i-bytes.true c.if-bytes-i-eq10.true
 
 pub loop-i-preserved-then-i-bytes : goal.loop-i-preserved-then-i-bytes
 loop-i-preserved-then-i-bytes c = record {
@@ -40,5 +42,10 @@ loop-i-preserved c = record {
 
 pub returns-clause-last : goal.returns-clause-last
 returns-clause-last c =
-    whole-last c.args.bytes.now c.loop-i.i c.loop-i.lines c.loop-i-test.false c.loop-i.invariant.lines
+    whole-last c.args.most c.args.bytes.now c.loop-i.i c.loop-i.lines c.loop-i-test.false c.loop-i.invariant.lines
     c.loop-i.invariant.few
+
+pub returns-then-most-eq0-clause-last : goal.returns-then-most-eq0-clause-last
+returns-then-most-eq0-clause-last c =
+    drop-length c.args.bytes.now ∙ no-lines c.args.bytes.now
+    ∙ ap (λ most. last_lines most c.args.bytes.now) (sym c.if-most-eq0.true)

@@ -7,5 +7,5 @@ abbrev pub invariant-loop-i : goal.invariant-loop-i
 invariant-loop-i l = record {
   within : l.i ≤ length l.bytes;
   lines : l.lines ≡ breaks (drop l.i l.bytes);
-  few : l.lines < 10;
+  few : l.lines < l.most;
 }
