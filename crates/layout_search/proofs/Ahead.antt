@@ -412,3 +412,10 @@ pub pmsg_next : (known : Known) (len : ℕ) (c : Candidate) (n : ℕ) → with_f
     → is_one_of n (known_or known.pmsg (sizes len)) ≡ true → is_shape known len (record c { pmsg = n }) ≡ true
 unfolding with_mem with_dump with_console with_ftrace
 pmsg_next known len c n so_far member = ap (λ b. b && is_one_of n (known_or known.pmsg (sizes len))) so_far ∙ member
+
+-- the first zone alone has too many faults with the marks
+pub bad_first : (known : Known) (image : List ℕ) (aim : Aim) (c : Candidate) (s : Progress)
+    → ((t : ℕ) → aim.limit < faults image (zones_of (record c { tag = t }))) → TagsSettled known image aim c s
+bad_first known image aim c s far = record {
+  all = λ t d. record { settled = λ work family few other. absurd (omega (arith, far t, few)) };
+}

@@ -1,5 +1,5 @@
 -- The faults of a layout are at least what is seen of its zones' places
-use Rattle.std.proofs.Common.{◌≡◌, ℕ, ◌+◌, ◌-◌, ◌*◌, ◌<◌, ◌≤◌, Bool, true, false, not, ◌&&◌, if◌then◌else◌, List, [], ◌∷◌, ◌++◌, map, refl, sym, ap, ◌∙◌, arith, true≢false}
+use Rattle.std.proofs.Common.{◌≡◌, ℕ, suc, ◌+◌, ◌-◌, ◌*◌, ◌<◌, ◌≤◌, Bool, true, false, not, ◌&&◌, if◌then◌else◌, List, [], ◌∷◌, ◌++◌, map, refl, sym, ap, subst, ◌∙◌, arith, true≢false}
 use Rattle.std.specs.Prelude.{count_by, sum_by}
 use Rattle.std.specs.List.{range_with_len}
 use Rattle.std.proofs.lemmas.List.Sums.{sum_by-append, sum_by-cons}
@@ -142,3 +142,30 @@ few_four image a b c d = omega (
   sum_by-cons (λ (row : Row). row.count) c (d ∷ []),
   sum_by-cons (λ (row : Row). row.count) d [],
 )
+
+-- ---- the first zone
+
+first_of : (image : List ℕ) (p : Params) (row : Row) (n : ℕ) (rest : List Zone)
+    → fits image (zone_at p row.kind row.size 0 (0 + 0 * row.size)) ≡ false
+    → 1 ≤ misses image (map (λ i. zone_at p row.kind row.size i (0 + i * row.size)) (range_with_len 0 (suc n)) ++ rest)
+first_of image p row n rest h =
+    let g : ℕ → Zone = λ i. zone_at p row.kind row.size i (0 + i * row.size) in
+    let m : Zone → ℕ = λ z. one_if (not (fits image z)) in
+    omega (
+      arith,
+      sum_by-cons m (g 0) (map g (range_with_len 1 n) ++ rest),
+      ap (λ b. one_if (not b)) h,
+    )
+
+-- a first zone that does not fit is a fault more than the marks that are too many
+pub first_counts : (image : List ℕ) (p : Params) (a b c d : Row) → 0 < a.count
+    → fits image (zone_at p a.kind a.size 0 (0 + 0 * a.size)) ≡ false
+    → 1 + (marks image - (a.count + b.count + c.count + d.count)) ≤ faults image (zones_from p 0 (a ∷ b ∷ c ∷ d ∷ []))
+unfolding zones_from
+first_counts image p a b c d some h =
+    let next : a.count ≡ suc (a.count - 1) = omega (arith, some) in
+    let rest = zones_from p (0 + a.count * a.size) (b ∷ c ∷ d ∷ []) in
+    let one : 1 ≤ misses image (map (λ i. zone_at p a.kind a.size i (0 + i * a.size)) (range_with_len 0 a.count) ++ rest) =
+    subst (λ n. 1 ≤ misses image (map (λ i. zone_at p a.kind a.size i (0 + i * a.size)) (range_with_len 0 n) ++ rest))
+    (sym next) (first_of image p a (a.count - 1) rest h) in
+    omega (arith, one, marked_le image p 0 (a ∷ b ∷ c ∷ d ∷ []), few_four image a b c d)

@@ -45,8 +45,8 @@ fn with(counts: &Counts, look: Look, size: u32) -> Counts
     }
 }
 
-/// The counts over the zones, or `None` if more than `most` do not fit.
-pub fn count_zones(image: &[u8], zones: &[Zone], most: u64) -> Option<Counts>
+/// The counts over the zones, or `None` if more than `most` do not fit. `looked` grows by the headers that were looked at.
+pub fn count_zones(image: &[u8], zones: &[Zone], most: u64, looked: &mut u64) -> Option<Counts>
     requires inside { (i : ℕ) (z : ZoneValue) → slice_get zones.now i ≡ Some z → IsInside image.now z }
     requires few { length zones.now < 2 ^ 32 }
     ensures { MatchOption result (most < misses image.now zones.now) (λ counts. AreCounts image.now zones.now counts × AreBelow (2 ^ 62) counts) }
@@ -56,6 +56,7 @@ pub fn count_zones(image: &[u8], zones: &[Zone], most: u64) -> Option<Counts>
         if counts.misses > most {
             return None;
         }
+        *looked = looked.saturating_add(1);
         counts = with(&counts, look_at(image, zone), zone.size);
     }
     Some(counts)

@@ -8,7 +8,8 @@ use std::alloc::{AllocError, Global};
 use zone_params::{LayoutError, layout};
 use zone_spec::{Params, Zone};
 
-fn params(c: &Candidate) -> Params
+/// The candidate's parameters.
+pub fn params(c: &Candidate) -> Params
     ensures { result ≡ params_of c.now }
 {
     Params {

@@ -7,6 +7,7 @@ mod lists;
 mod looking;
 mod marks;
 mod order;
+mod peeking;
 mod progress;
 mod rows;
 mod searching;

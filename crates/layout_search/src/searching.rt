@@ -18,8 +18,9 @@ use crate::sweeping::sweep;
 use layout_spec::{Candidate, Known, Tally};
 use std::alloc::{AllocError, Global};
 
-// How much work a search may do: a place looked at costs about 1, a header without parity 8, one with parity 256.
-const WORK: u64 = 1 << 28;
+// How much work a search may do: laying out a zone costs 64, a header without parity 4, one with
+// parity 512.
+const WORK: u64 = 1 << 30;
 
 // More faults than this are not told apart.
 const LAST: u64 = 1 << 61;

@@ -46,6 +46,7 @@ fn judge(
     c: &Candidate,
     zones: &[Zone],
     best: Option<Best>,
+    looked: &mut u64,
 ) -> Option<Best>
     requires laid { IsLaid c.now zones.now }
     requires aim { IsAim image.now aim.now }
@@ -61,7 +62,7 @@ fn judge(
     if fewest > aim.limit {
         return best;
     }
-    let Some(counts) = count_zones(image, zones, aim.limit - fewest) else {
+    let Some(counts) = count_zones(image, zones, aim.limit - fewest, looked) else {
         return best;
     };
     let tally = tally(image, aim.marks, c, zones, &counts);
@@ -83,10 +84,13 @@ fn is_left_out(besides: &Option<Candidate>, c: &Candidate) -> bool
     }
 }
 
-// What a candidate's zones cost: with parity each header may have to be decoded.
-fn price(c: &Candidate, zones: usize) -> u64 {
-    let each = if c.parity == 0 { 8 } else { 256 };
-    (zones as u64).saturating_mul(each)
+// What a candidate costs that has so many zones, of which so many headers were looked at: with parity each may be
+// decoded.
+fn price(c: &Candidate, zones: usize, looked: u64) -> u64 {
+    let each = if c.parity == 0 { 4 } else { 512 };
+    (zones as u64)
+        .saturating_mul(64)
+        .saturating_add(looked.saturating_mul(each))
 }
 
 /// Tries one candidate.
@@ -112,8 +116,9 @@ pub fn try_candidate(
     let Some(zones) = zones_of(alloc, c)? else {
         return Ok(());
     };
-    let best = judge(image, aim, c, &zones, state.best);
-    let work = state.work.saturating_sub(price(c, zones.len()));
+    let mut looked = 0;
+    let best = judge(image, aim, c, &zones, state.best, &mut looked);
+    let work = state.work.saturating_sub(price(c, zones.len(), looked));
     *state = Progress { best, work };
     Ok(())
 }

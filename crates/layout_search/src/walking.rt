@@ -1,10 +1,13 @@
 // A shape tried with each number of processors and each parity.
-ghost use Rattle.std.specs.Prelude.{◌≡◌, ◌≤◌, ◌&&◌, ◌||◌, ◌==◌, nat_lt, nat_le, true, length, OnOk};
-ghost use Rattle.layout_spec.specs.Family.{is_shape, is_told_once, cpus_for, is_one_of, known_or as known_or_all, parities as all_parities, processors};
+ghost use Rattle.std.specs.Prelude.{◌≡◌, ◌≤◌, ◌&&◌, ◌||◌, ◌==◌, nat_lt, nat_le, true, length, ℕ, ◌<◌, OnOk, IfOk};
+ghost use Rattle.layout_spec.specs.Family.{is_chosen, is_shape, is_told_once, cpus_for, is_one_of, known_or as known_or_all, parities as all_parities, processors};
 ghost use Rattle.layout_search.specs.Rows.{IsRoomy};
 ghost use Rattle.layout_search.specs.Placed.{is_placed, is_ready};
-ghost use Rattle.layout_search.specs.Tried.{IsAim, IsSound, Advances, ParitiesSettled, CpusSettled};
+ghost use Rattle.layout_search.specs.Tried.{IsAim, IsSound, Advances, TagsSettled, ParitiesSettled, CpusSettled};
+ghost use Rattle.layout_spec.specs.Laid.{zones_of};
+ghost use Rattle.layout_spec.specs.Order.{faults};
 
+use crate::peeking::first_fits;
 use crate::progress::{Aim, Progress};
 use crate::rows::{console_row, dump_memory, dump_row, ftrace_row, has_room, pmsg_row};
 use crate::seeing::{may_begin, may_fit};
@@ -20,6 +23,53 @@ pub fn spend(state: &mut Progress, work: u64)
     state.work = state.work.saturating_sub(work);
 }
 
+/// Whether the first dump zone does not fit, and this alone makes too many faults.
+fn first_misses(alloc: Global, image: &[u8], aim: &Aim, c: &Candidate) -> Result<bool, AllocError>
+    requires aim { IsAim image.now aim.now }
+    requires roomy { IsRoomy c.now }
+    requires some { 1 ≤ c.now.cpus }
+    requires few { c.now.cpus ≤ 64 }
+    ensures { IfOk result (λ misses. misses ≡ true
+        → (t : ℕ) → aim.now.limit < faults image.now (zones_of (record c.now { tag = t }))) }
+{
+    let dumps = dump_row(c);
+    let others = console_row(c).count + ftrace_row(c).count + pmsg_row(c).count;
+    if dumps.count == 0 || dumps.size > image.len() as u64 {
+        return Ok(false);
+    }
+    if aim.marks.saturating_sub(dumps.count + others) < aim.limit {
+        return Ok(false);
+    }
+    let fits = first_fits(alloc, image, c, dumps.size)?;
+    Ok(!fits)
+}
+
+/// Tries a candidate with each tag, if its first zone allows few enough faults.
+fn try_parity(
+    alloc: Global,
+    image: &[u8],
+    known: &Known,
+    aim: &Aim,
+    c: &Candidate,
+    state: &mut Progress,
+) -> Result<(), AllocError>
+    requires aim { IsAim image.now aim.now }
+    requires within { c.now.mem ≤ length image.now }
+    requires roomy { IsRoomy c.now }
+    requires some { 1 ≤ c.now.cpus }
+    requires few { c.now.cpus ≤ 64 }
+    requires chosen { is_chosen known.now (length image.now) c.now ≡ true }
+    requires sound { IsSound known.now image.now aim.now.besides state.old.best }
+    ensures advances { OnOk result (Advances state.old state.new) }
+    ensures settled { OnOk result (TagsSettled known.now image.now aim.now c.now state.new) }
+    ensures sound { OnOk result (IsSound known.now image.now aim.now.besides state.new.best) }
+{
+    if first_misses(alloc, image, aim, c)? {
+        return Ok(());
+    }
+    try_tags(alloc, image, known, aim, c, state)
+}
+
 /// Tries a candidate with each parity.
 fn try_parities(
     alloc: Global,
@@ -32,6 +82,9 @@ fn try_parities(
 ) -> Result<(), AllocError>
     requires aim { IsAim image.now aim.now }
     requires within { c.now.mem ≤ length image.now }
+    requires roomy { IsRoomy c.now }
+    requires some { 1 ≤ c.now.cpus }
+    requires few { c.now.cpus ≤ 64 }
     requires ready { is_ready known.now (length image.now) c.now ≡ true }
     requires parities { parities.now ≡ known_or_all known.now.parity all_parities }
     requires sound { IsSound known.now image.now aim.now.besides state.old.best }
@@ -47,7 +100,7 @@ fn try_parities(
             parity: parities[k],
             ..*c
         };
-        try_tags(alloc, image, known, aim, &candidate, state)?;
+        try_parity(alloc, image, known, aim, &candidate, state)?;
     }
     Ok(())
 }
@@ -114,7 +167,7 @@ fn try_cpus(
     ensures sound { OnOk result (IsSound known.now image.now aim.now.besides state.new.best) }
 {
     for k in 0..cpus.len() {
-        spend(state, 64);
+        spend(state, 8);
         if state.work == 0 {
             return Ok(());
         }

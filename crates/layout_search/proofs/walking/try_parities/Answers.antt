@@ -5,8 +5,8 @@ use Rattle.layout_search.proofs.Ahead.{chosen_of, parities_done}
 use Rattle.std.specs.Prelude.{length}
 use Rattle.layout_search.proofs.walking.try_parities.Goals as goal
 
-pub try_tags-requires-clause-chosen : goal.try_tags-requires-clause-chosen
-try_tags-requires-clause-chosen c =
+pub try_parity-requires-clause-chosen : goal.try_parity-requires-clause-chosen
+try_parity-requires-clause-chosen c =
     let r = get_or c.args.parities.now c.loop-k.k 0 in
     chosen_of c.args.known.now (length c.args.image.now) c.args.c.now r c.requires.ready
     (subst (λ xs. is_one_of r xs ≡ true) c.requires.parities (member_at c.args.parities.now c.loop-k.k c.loop-k-test.true))

@@ -1,0 +1,77 @@
+// The first zone of a candidate, before all are laid out.
+ghost use Rattle.std.specs.Prelude.{◌≡◌, ◌+◌, ◌*◌, ◌<◌, ◌≤◌, ◌^◌, ℕ, true, false, length, IfOk, Some, slice_get};
+ghost use Rattle.zone_spec.specs.declared.Zone.{Zone as ZoneValue};
+ghost use Rattle.layout_search.specs.Looks.{IsInside};
+ghost use Rattle.zone_spec.specs.declared.Kind.TheVariants.{Dump};
+ghost use Rattle.zone_spec.specs.Layout.{zone_at};
+ghost use Rattle.layout_spec.specs.Laid.{params_of};
+ghost use Rattle.layout_spec.specs.Marks.{fits};
+
+use crate::laying::{params, zones_of};
+use crate::looking::look_at;
+use layout_spec::Candidate;
+use std::alloc::{AllocError, Global};
+use zone_params::rows::parity;
+use zone_spec::{Kind, Zone, ZoneName};
+
+// The first dump zone, if the dump zones have this size.
+fn first_zone(c: &Candidate, size: u64) -> Zone
+    requires parity { c.now.parity ≤ 127 }
+    requires size { size ≤ 2 ^ 24 }
+    ensures { result ≡ zone_at (params_of c.now) Dump size 0 (0 + 0 * size) }
+{
+    let parity = parity(&params(c), Kind::Dump);
+    let part = 128 + parity;
+    let blocks = (size.saturating_sub(12).saturating_sub(parity) + part - 1) / part;
+    let cap = size
+        .saturating_sub(12)
+        .saturating_sub((blocks + 1) * parity);
+    Zone {
+        name: ZoneName {
+            kind: Kind::Dump,
+            index: 0,
+        },
+        at: 0,
+        size: size as u32,
+        cap: cap as u32,
+        blocks: blocks as u32,
+        parity: parity as u32,
+        sig: 0x43474244,
+        block: 128,
+    }
+}
+
+/// Whether the first of the dump zones of this size fits. If that is not easily told, it is said to.
+pub fn first_fits(alloc: Global, image: &[u8], c: &Candidate, size: u64) -> Result<bool, AllocError>
+    requires size { size ≤ 2 ^ 24 }
+    requires within { size ≤ length image.now }
+    ensures { IfOk result (λ found. found ≡ false
+        → fits image.now (zone_at (params_of c.now) Dump size 0 (0 + 0 * size)) ≡ false) }
+{
+    if c.parity > 127 {
+        return Ok(true);
+    }
+    let alone = Candidate {
+        mem: size,
+        dump: size,
+        console: 0,
+        ftrace: 0,
+        pmsg: 0,
+        ..*c
+    };
+    let Some(zones) = zones_of(alloc, &alone)? else {
+        return Ok(true);
+    };
+    Ok(is_first_or_unlike(image, &zones, &first_zone(c, size)))
+}
+
+// Whether the zone fits, if it is the only one.
+fn is_first_or_unlike(image: &[u8], zones: &[Zone], zone: &Zone) -> bool
+    requires { (i : ℕ) (z : ZoneValue) → slice_get zones.now i ≡ Some z → IsInside image.now z }
+    ensures { result ≡ false → fits image.now zone.now ≡ false }
+{
+    if zones.len() == 1 && zones[0] == *zone {
+        return look_at(image, &zones[0]).fits;
+    }
+    true
+}
