@@ -31,14 +31,9 @@ pub struct Plan {
     pub(crate) mem: u32,
     pub(crate) zones: Vec<Zone>,
     pub(crate) symbols: Symbols,
-<<<<<<< HEAD
+    pub(crate) lines: usize,
     ghost laid: { layout_of params ≡ Ok zones.items },
     ghost sized: { mem ≡ params.mem },
-=======
-    pub(crate) lines: usize,
-    ghost laid: { layout_by is_as_given params ≡ Ok zones.items },
-    ghost sized: { mem ≡ memory_by is_as_given params },
->>>>>>> h_records
     ghost tagged: { params.ftrace_sig < 2 ^ 32 },
 }
 
@@ -56,7 +51,6 @@ fn read(words: &[String], is_as_given: bool) -> Result<Params, ParamFault>
 impl Plan {
     ghost use Rattle.report_tool.specs.Plans.{IsLaid, IsPlan, IsPlanFault};
 
-<<<<<<< HEAD
     // The plan of these parameters.
     pub(crate) fn of_params(alloc: Global, params: Params) -> Result<Plan, LayoutError>
         ensures { MatchResult result (IsLaid params) (IsCause (layout_of params)) }
@@ -68,41 +62,8 @@ impl Plan {
             mem,
             zones: layout.into_zones(),
             symbols: Symbols::none(alloc),
-        })
-=======
-    // The plan of a layout that takes the memory size as it is given.
-    fn as_given(alloc: Global, params: Params) -> Result<Plan, LayoutError>
-        ensures { MatchResult result (IsLaid true params) (IsCause (layout_by true params)) }
-    {
-        let zones = layout_as_given(alloc, &params)?;
-        Ok(Plan {
-            params,
-            is_as_given: true,
-            mem: params.mem as u32,
-            zones,
-            symbols: Symbols::none(alloc),
             lines: LINES,
         })
-    }
-
-    // The plan of a layout that rounds the memory size.
-    fn rounded(alloc: Global, params: Params) -> Result<Plan, LayoutError>
-        ensures { MatchResult result (IsLaid false params) (IsCause (layout_by false params)) }
-    {
-        let layout = layout(alloc, &params)?;
-        let mem = layout.mem();
-        match Vec::from_slice(alloc, layout.zones()) {
-            Ok(zones) => Ok(Plan {
-                params,
-                is_as_given: false,
-                mem,
-                zones,
-                symbols: Symbols::none(alloc),
-                lines: LINES,
-            }),
-            Err(AllocError) => Err(LayoutError::Memory),
-        }
->>>>>>> h_records
     }
 
     /// The bytes of an image.
@@ -138,7 +99,6 @@ impl Plan {
     {
         let Plan {
             params,
-            is_as_given,
             mem,
             zones,
             symbols,
@@ -146,7 +106,6 @@ impl Plan {
         } = self;
         Plan {
             params,
-            is_as_given,
             mem,
             zones,
             symbols,
