@@ -17,5 +17,6 @@ mod tagging;
 mod trying;
 mod walking;
 
+pub use laying::params;
 pub use layout_spec::{Candidate, Known, Tally};
 pub use searching::{Found, search};

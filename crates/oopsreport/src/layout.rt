@@ -1,15 +1,16 @@
-// The plan that the words of the command line ask for.
+// How the words of the command line ask for images to be read.
 use anyhow::anyhow;
 use clap::ArgMatches;
 use dtb::{Fault, ramoops_nodes};
 use grammar_spec::ParamFault;
-use report_tool::{Plan, PlanFault, TreeFault};
+use report_tool::{Candidate, Found, Known, Plan, PlanFault, TreeFault, known};
 use report_words::{LineFault, add_layout_words, add_tag, ftrace_tag};
 use std::alloc::{AllocError, Global};
 use std::fs;
 use std::io::ErrorKind;
 use std::rt::Runtime;
 use symbols::Symbols;
+use zone_params::{DEFAULTS, given, read_words_over};
 
 /// Why there is no plan: a want of memory, or what is wrong with the words.
 pub enum NoPlan {
@@ -85,11 +86,16 @@ fn add_params(
     Ok(())
 }
 
-// The plan with the functions of the map in a file.
-fn with_symbols<R: Runtime>(rt: &R, alloc: Global, plan: Plan, path: &str) -> Result<Plan, NoPlan> {
-    let map = read_file(rt, path)?;
-    let map = Vec::from_slice(alloc, &map)?;
-    Ok(plan.with_symbols(Symbols::read(alloc, map)?))
+// The map in a file, if one is named.
+fn read_map<R: Runtime>(
+    rt: &R,
+    alloc: Global,
+    matches: &ArgMatches<'_>,
+) -> Result<Option<Vec<u8>>, NoPlan> {
+    match matches.get_str("symbols") {
+        Some(path) => Ok(Some(Vec::from_slice(alloc, &read_file(rt, path)?)?)),
+        None => Ok(None),
+    }
 }
 
 // How many lines of the newest dump are asked for.
@@ -203,18 +209,96 @@ fn words_plan(alloc: Global, words: &[String], is_as_given: bool) -> Result<Plan
     }
 }
 
-/// The plan by which the images are read.
-pub fn plan<R: Runtime>(rt: &R, alloc: Global, matches: &ArgMatches<'_>) -> Result<Plan, NoPlan> {
+// What the words say of a layout that is looked for. Of the family that is looked through are blocks of 128 bytes and one
+// parity.
+fn sought(words: &[String]) -> Result<Layouts, NoPlan> {
+    if let Err(fault) = read_words_over(words, &DEFAULTS) {
+        return Err(NoPlan::Words(told(words, fault)));
+    }
+    for key in ["block_size", "ecc_dump", "ecc_console", "ecc_ftrace", "ecc_pmsg"] {
+        if given(words, key).is_some() {
+            return Err(NoPlan::Words(anyhow!(
+                "{key} needs mem_size: a layout with it is not looked for"
+            )));
+        }
+    }
+    Ok(Layouts::Sought(known(words)))
+}
+
+/// How the images are laid out.
+#[derive(Drop)]
+pub enum Layouts {
+    /// All alike.
+    Given(Plan),
+    /// Each by its own bytes, which must agree with what is known.
+    Sought(Known),
+}
+
+/// How the images are read.
+#[derive(Drop)]
+pub struct Asked {
+    pub layouts: Layouts,
+    lines: usize,
+    map: Option<Vec<u8>>,
+}
+
+impl Asked {
+    // A plan with the lines and the map that are asked for.
+    fn dressed(&self, alloc: Global, plan: Plan) -> Result<Plan, AllocError> {
+        let plan = plan.with_lines(self.lines);
+        match &self.map {
+            Some(map) => Ok(plan.with_symbols(Symbols::read(alloc, Vec::from_slice(alloc, map)?)?)),
+            None => Ok(plan),
+        }
+    }
+
+    /// The plan of a layout that was found.
+    pub fn plan_of(&self, alloc: Global, found: &Found) -> Result<Plan, AllocError> {
+        match Plan::of_candidate(alloc, &found.candidate) {
+            Ok(plan) => self.dressed(alloc, plan),
+            Err(_) => Err(AllocError),
+        }
+    }
+}
+
+/// How the images are to be read.
+pub fn asked<R: Runtime>(rt: &R, alloc: Global, matches: &ArgMatches<'_>) -> Result<Asked, NoPlan> {
     let mut words = Vec::new(alloc);
     add_cmdline(rt, alloc, &mut words, matches)?;
     add_params(alloc, &mut words, matches)?;
-    let plan = match matches.get_str("dtb") {
-        Some(path) => tree_plan(rt, alloc, path, matches.get_str("node"), &words)?,
-        None => words_plan(alloc, &words, matches.get_flag("mem-as-given"))?,
+    let layouts = match matches.get_str("dtb") {
+        Some(path) => Layouts::Given(tree_plan(rt, alloc, path, matches.get_str("node"), &words)?),
+        None if given(&words, "mem_size").is_none() => sought(&words)?,
+        None => Layouts::Given(words_plan(alloc, &words, matches.get_flag("mem-as-given"))?),
     };
-    let plan = plan.with_lines(line_count(matches)?);
-    match matches.get_str("symbols") {
-        Some(path) => with_symbols(rt, alloc, plan, path),
-        None => Ok(plan),
+    let mut asked = Asked {
+        layouts: Layouts::Sought(Known::default()),
+        lines: line_count(matches)?,
+        map: read_map(rt, alloc, matches)?,
+    };
+    asked.layouts = match layouts {
+        Layouts::Given(plan) => Layouts::Given(asked.dressed(alloc, plan)?),
+        sought => sought,
+    };
+    Ok(asked)
+}
+
+/// The words of a layout that was found in an image of so many bytes.
+pub fn found_words(alloc: Global, c: &Candidate, size: u64) -> Result<String, AllocError> {
+    let mut text = String::new(alloc);
+    if c.mem != size {
+        text.push_str(&format!(in alloc; "mem_size={} ", c.mem)?)?;
     }
+    text.push_str(&format!(in alloc;
+        "record_size={} console_size={} ftrace_size={} pmsg_size={} ecc={}",
+        c.dump,
+        c.console,
+        c.ftrace,
+        c.pmsg,
+        c.parity
+    )?)?;
+    if c.ftrace != 0 {
+        text.push_str(&format!(in alloc; " cpus={} ftrace_sig={:#x}", c.cpus, c.tag)?)?;
+    }
+    Ok(text)
 }

@@ -6,15 +6,16 @@ mod folder;
 mod image;
 mod layout;
 
-use anyhow::{Context, Result, anyhow};
+use anyhow::{Context, Result, anyhow, bail};
 use clap::ArgMatches;
 use clap::error::ErrorKind;
 use command::command;
 use folder::Dir;
 use image::Image;
-use layout::{NoPlan, plan};
-use outside::WriterSink;
-use report_tool::{Format, Plan, Stop, report, save};
+use layout::{Asked, Layouts, NoPlan, asked, found_words};
+use outside::{Load, WriterSink};
+use record_report::Report;
+use report_tool::{Format, Known, Plan, Stop, find, report, save};
 use std::alloc::{AllocError, Global};
 use std::io::{IsTerminal, Read};
 use std::process::ExitCode;
@@ -45,24 +46,90 @@ fn told(stop: Stop) -> anyhow::Error {
     }
 }
 
+// A layout is looked for in the front of an image that is no file.
+const MOST: u32 = 16_777_216;
+
+// The plan of the layout that an image shows, and a line that says which it is, where a text is asked for.
+fn found_plan<R: Runtime, M: Load>(
+    rt: &R,
+    alloc: Global,
+    asked: &Asked,
+    known: &Known,
+    format: Format,
+    path: &str,
+    image: &mut M,
+) -> Result<Plan> {
+    let Ok(size) = image.size() else {
+        bail!("it could not be read");
+    };
+    let found = match find(alloc, image, known) {
+        Ok(Some(found)) => found,
+        Ok(None) => bail!("no layout was found; give it by --param, --cmdline or --dtb"),
+        Err(stop) => return Err(told(stop)),
+    };
+    let words = found_words(alloc, &found.candidate, size)?;
+    if !found.taken {
+        let t = found.tally;
+        bail!(
+            "no layout explains it; give it by --param, --cmdline or --dtb. The best has {} of {} zones, and {} faults: {words}",
+            t.fits,
+            t.zones,
+            t.faults
+        );
+    }
+    if format == Format::Text {
+        println!(rt; "{path}: {size} bytes; layout found: {words}")?;
+        if let Some(rival) = &found.rival {
+            let words = found_words(alloc, rival, size)?;
+            println!(rt; "another layout explains as much: {words}")?;
+        }
+        if !found.whole {
+            println!(rt; "not all layouts were tried")?;
+        }
+    }
+    Ok(asked.plan_of(alloc, &found)?)
+}
+
+// The report of an image.
+fn report_image<R: Runtime, M: Load>(
+    rt: &R,
+    alloc: Global,
+    asked: &Asked,
+    format: Format,
+    path: &str,
+    image: &mut M,
+) -> Result<Report> {
+    let mut out = WriterSink::new(io::writer(rt));
+    let done = match &asked.layouts {
+        Layouts::Given(plan) => report(alloc, plan, format, path, image, &mut out),
+        Layouts::Sought(known) => {
+            let plan = found_plan(rt, alloc, asked, known, format, path, image)?;
+            report(alloc, &plan, format, path, image, &mut out)
+        }
+    };
+    match done {
+        Ok(report) => Ok(report),
+        Err(stop) => Err(told(stop)),
+    }
+}
+
 // One image: its report, and its records saved where a folder is named.
 fn one_image<R: Runtime, S: Read>(
     rt: &R,
     alloc: Global,
     input: &mut S,
-    plan: &Plan,
+    asked: &Asked,
     format: Format,
     folder: Option<&str>,
     path: &str,
 ) -> Result<()> {
-    let mut out = WriterSink::new(io::writer(rt));
-    let done = match image::open(rt, alloc, input, path, plan.mem())? {
-        Image::File(mut file) => report(alloc, plan, format, path, &mut file, &mut out),
-        Image::Front(mut front) => report(alloc, plan, format, path, &mut front, &mut out),
+    let most = match &asked.layouts {
+        Layouts::Given(plan) => plan.mem(),
+        Layouts::Sought(_) => MOST,
     };
-    let report = match done {
-        Ok(report) => report,
-        Err(stop) => return Err(told(stop)),
+    let report = match image::open(rt, alloc, input, path, most)? {
+        Image::File(mut file) => report_image(rt, alloc, asked, format, path, &mut file)?,
+        Image::Front(mut front) => report_image(rt, alloc, asked, format, path, &mut front)?,
     };
     let Some(folder) = folder else {
         return Ok(());
@@ -82,7 +149,7 @@ fn all_images<R: Runtime, S: Read>(
     rt: &R,
     alloc: Global,
     input: &mut S,
-    plan: &Plan,
+    asked: &Asked,
     matches: &ArgMatches<'_>,
     shows_progress: bool,
 ) -> u8 {
@@ -94,7 +161,7 @@ fn all_images<R: Runtime, S: Read>(
             status = NOT_DONE;
         }
         let folder = matches.get_str("save");
-        match one_image(rt, alloc, input, plan, format(matches), folder, path) {
+        match one_image(rt, alloc, input, asked, format(matches), folder, path) {
             Ok(()) => (),
             Err(e) => {
                 status = NOT_DONE;
@@ -130,8 +197,8 @@ fn run<R: Runtime, S: Read>(
         error.print(rt)?;
         return Ok(WRONG_WORDS);
     }
-    match plan(rt, alloc, &matches) {
-        Ok(plan) => Ok(all_images(rt, alloc, input, &plan, &matches, shows_progress)),
+    match asked(rt, alloc, &matches) {
+        Ok(asked) => Ok(all_images(rt, alloc, input, &asked, &matches, shows_progress)),
         Err(NoPlan::Memory) => Err(AllocError.into()),
         Err(NoPlan::Words(e)) => {
             eprintln!(rt; "error: {e:#}")?;

@@ -1,5 +1,5 @@
 -- The plan by which images are read, and why there is none
-use Rattle.std.specs.Prelude.{◌≡◌, Bool, List, Ok, Err}
+use Rattle.std.specs.Prelude.{◌≡◌, Bool, List, [], Ok, Err}
 use Rattle.std.specs.declared.string.String.{String}
 use Rattle.std.specs.declared.alloc.Global.{Global}
 use Rattle.std.specs.Result.{IsOk}
@@ -11,11 +11,13 @@ use Rattle.report_tool.specs.declared.plan.Plan.{Plan}
 use Rattle.report_tool.specs.declared.plan.PlanFault.{PlanFault}
 use Rattle.report_tool.specs.declared.plan.PlanFault.TheVariants.{Memory, Word, Layout}
 
--- a plan of these parameters
+-- a plan of these parameters, without a map of functions, and with ten last lines
 pub record IsLaid (p : Params) (plan : Plan) : Type 0 where
   pub params_same : plan.params ≡ p
   pub mem_is : plan.mem ≡ p.mem
   pub zones_are : layout_of p ≡ Ok plan.zones.items
+  pub symbols_none : plan.symbols ≡ []
+  pub lines_ten : plan.lines ≡ 10
 
 -- a plan of these words
 pub record IsPlan (words : List (String Global)) (is_as_given : Bool) (plan : Plan) : Type 0 where

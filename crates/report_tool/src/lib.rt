@@ -4,13 +4,16 @@
 //! Nothing here writes an image: what holds it has no call to write.
 #![tactic(auto)]
 
+mod finding;
 mod images;
 mod plan;
 mod saving;
 mod showing;
 mod tree;
 
+pub use finding::{find, known};
 pub use images::report;
+pub use layout_search::{Candidate, Found, Known};
 pub use plan::{Plan, PlanFault};
 pub use saving::{Folder, save};
 pub use showing::Format;

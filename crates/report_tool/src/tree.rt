@@ -3,7 +3,7 @@ ghost use Rattle.std.specs.Prelude.{◌≡◌, ◌&&◌, codes, find, is_none, m
 ghost use Rattle.std.specs.Str.{bytes_eq};
 ghost use Rattle.std.specs.Option.{option_copied};
 ghost use Rattle.grammar_spec.specs.Words.{texts};
-ghost use Rattle.grammar_spec.specs.ZoneWords.{given};
+ghost use Rattle.grammar_spec.specs.ZoneWords.{given as given_by};
 ghost use Rattle.dtb_spec.specs.Ramoops.{nodes_of};
 ghost use Rattle.dtb.specs.Told.{shown};
 ghost use Rattle.report_tool.specs.Trees.{numbers_found, only_numbers, numbers_meant, params_said, wants_cpus, params_over, params_in, IsTreePlan, IsTreeFault};
@@ -12,7 +12,7 @@ use crate::Plan;
 use dtb::{DtbError, Fault, Node, Numbers, ramoops_nodes};
 use grammar_spec::ParamFault;
 use std::alloc::Global;
-use zone_params::{LayoutError, is_given, read_words_over};
+use zone_params::{LayoutError, given, read_words_over};
 use zone_spec::{LayoutFault, Params};
 
 /// Why a device tree gives no plan.
@@ -97,9 +97,9 @@ fn wants_cpus(n: &Numbers) -> bool
 
 // Whether the number of processors is wanted and not given.
 fn lacks_cpus(words: &[String], n: &Numbers) -> bool
-    ensures { result ≡ (wants_cpus n.now && is_none (given (texts words.now) (codes "cpus"))) }
+    ensures { result ≡ (wants_cpus n.now && is_none (given_by (texts words.now) (codes "cpus"))) }
 {
-    wants_cpus(n) && !is_given(words, "cpus")
+    wants_cpus(n) && given(words, "cpus").is_none()
 }
 
 // The parameters of a node and of words, which count more.

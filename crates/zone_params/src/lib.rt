@@ -13,5 +13,5 @@ pub use faults::LayoutError;
 pub use finding::{Found, find};
 pub use grammar_spec::ParamFault;
 pub use laying::{layout, list_zones};
-pub use params::{DEFAULTS, is_given, read_words, read_words_over};
+pub use params::{DEFAULTS, given, parity_given, read_words, read_words_over};
 pub use zone_spec::{Kind, LayoutFault, Params, Zone, ZoneName};

@@ -1,5 +1,5 @@
 // Parameters read from words.
-ghost use Rattle.std.specs.Prelude.{◌≡◌, ℕ, codes, is_some, unwrap_or};
+ghost use Rattle.std.specs.Prelude.{◌≡◌, ℕ, codes, unwrap_or};
 ghost use Rattle.std.specs.Option.{option_map};
 ghost use Rattle.grammar_spec.specs.Words.{texts};
 ghost use Rattle.grammar_spec.specs.ZoneWords.{given, parity_of, parity_given, memory_of, params_by, read_by, read_of};
@@ -66,10 +66,7 @@ fn parity_bytes(ecc: u32) -> u64
 fn parity(words: &[String], key: &str, absent: u64) -> u64
     ensures { result ≡ unwrap_or (parity_given (texts words.now) key.now) absent }
 {
-    match KEYS.given(words, key) {
-        Some(ecc) => parity_bytes(ecc),
-        None => absent,
-    }
+    parity_given(words, key).unwrap_or(absent)
 }
 
 // The image's bytes as the project reads a `mem_size`.
@@ -141,9 +138,19 @@ pub fn read_words_over(words: &[String], absent: &Params) -> Result<Params, Para
     }
 }
 
-/// Whether the words give this key, with a number.
-pub fn is_given(words: &[String], key: &str) -> bool
-    ensures { result ≡ is_some (given (texts words.now) key.now) }
+/// The number that the words give this key.
+pub fn given(words: &[String], key: &str) -> Option<u32>
+    ensures { result ≡ given (texts words.now) key.now }
 {
-    KEYS.given(words, key).is_some()
+    KEYS.given(words, key)
+}
+
+/// The parity bytes that the words give this key.
+pub fn parity_given(words: &[String], key: &str) -> Option<u64>
+    ensures { result ≡ parity_given (texts words.now) key.now }
+{
+    match KEYS.given(words, key) {
+        Some(ecc) => Some(parity_bytes(ecc)),
+        None => None,
+    }
 }

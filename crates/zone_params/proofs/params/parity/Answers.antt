@@ -1,12 +1,5 @@
-use Rattle.std.proofs.Common.{◌∙◌, ap, sym, unwrap_or}
-use Rattle.std.specs.Option.{option_map}
-use Rattle.grammar_spec.specs.ZoneWords.{parity_of}
+use Rattle.std.proofs.Common.{◌∙◌, ap, unwrap_or}
 use Rattle.zone_params.proofs.params.parity.Goals as goal
 
-pub returns-in-Some : goal.returns-in-Some
-returns-in-Some c = c.parity_bytes.ensures
-    ∙ ap (λ found. unwrap_or (option_map parity_of found) c.args.absent) (sym c.in-Some.is ∙ c.given.ensures)
-
-pub returns-in-None : goal.returns-in-None
-returns-in-None c = ap (λ found. unwrap_or (option_map parity_of found) c.args.absent)
-    (sym c.in-None.is ∙ c.given.ensures)
+pub returns : goal.returns
+returns c = c.unwrap_or.ensures ∙ ap (λ found. unwrap_or found c.args.absent) c.parity_given.ensures

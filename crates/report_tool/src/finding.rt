@@ -1,0 +1,69 @@
+// The layout of an image, looked for where no word gives it.
+ghost use Rattle.std.specs.Prelude.{◌≡◌, ◌≤◌, IfOk, IfErr, IfSome, MatchResult, take};
+ghost use Rattle.zone_spec.specs.Layout.{layout_of};
+ghost use Rattle.zone_spec.specs.Numbers.{most_memory};
+ghost use Rattle.zone_params.specs.Layouts.{IsCause};
+ghost use Rattle.layout_spec.specs.Laid.{params_of};
+ghost use Rattle.layout_search.specs.Answers.{IsAnswer};
+ghost use Rattle.command_spec.specs.declared.Stop.TheVariants.{ImageFault};
+ghost use Rattle.script_spec.specs.Playing.{KeptUnless};
+ghost use Rattle.tool_frame.specs.Stages.{FrontStop};
+ghost use Rattle.grammar_spec.specs.Words.{texts};
+ghost use Rattle.grammar_spec.specs.ZoneWords.{given as given_by};
+ghost use Rattle.report_tool.specs.Finding.{known_by};
+ghost use Rattle.report_tool.specs.Plans.{IsLaid};
+
+use crate::{Plan, Stop};
+use layout_search::{Candidate, Found, Known, params, search};
+use outside::Load;
+use std::alloc::Global;
+use tool_frame::load_front;
+use zone_params::{LayoutError, given, parity_given};
+
+/// A layout has at most so many bytes.
+const MOST: u32 = 16_777_216;
+
+fn size(words: &[String], key: &str) -> Option<u64>
+    ensures { result ≡ given_by (texts words.now) key.now }
+{
+    given(words, key).map(u64::from)
+}
+
+/// What these words say of a layout whose memory is looked for.
+pub fn known(words: &[String]) -> Known
+    ensures { result ≡ known_by words.now }
+{
+    Known {
+        mem: None,
+        dump: size(words, "record_size"),
+        console: size(words, "console_size"),
+        ftrace: size(words, "ftrace_size"),
+        pmsg: size(words, "pmsg_size"),
+        parity: parity_given(words, "ecc"),
+        cpus: size(words, "cpus"),
+        tag: given(words, "ftrace_sig"),
+    }
+}
+
+/// The layout that the image's first 16 MiB show, of those that agree with what is known.
+pub fn find<M: Load>(alloc: Global, image: &mut M, known: &Known) -> Result<Option<Found>, Stop>
+    ensures found { IfOk result (λ found. IfSome (M.holds image.old) (λ bs. IfSome found
+        (IsAnswer known.now (take most_memory bs)))) }
+    ensures err { IfErr result (λ s. FrontStop s (M.faults image.old) (M.faults image.new)) }
+    ensures same { M.holds image.new ≡ M.holds image.old }
+    ensures counts { KeptUnless ImageFault result (M.faults image.old) (M.faults image.new) }
+    ensures later { M.faults image.old ≤ M.faults image.new }
+{
+    let bytes = load_front(alloc, image, MOST)?;
+    let found = search(alloc, &bytes, known)?;
+    Ok(found)
+}
+
+impl Plan {
+    /// The plan of a layout that was found.
+    pub fn of_candidate(alloc: Global, candidate: &Candidate) -> Result<Plan, LayoutError>
+        ensures { MatchResult result (IsLaid (params_of candidate.now)) (IsCause (layout_of (params_of candidate.now))) }
+    {
+        Plan::of_params(alloc, params(candidate))
+    }
+}
