@@ -1,3 +1,5 @@
+-- The laws of the block store, lowest first: zones and rings, appends, cuts, then whole sessions.
+-- The crate's functions and zone_blk cite them.
 pub mod Zones
 pub mod Standing
 pub mod Rings

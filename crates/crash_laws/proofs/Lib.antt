@@ -1,3 +1,5 @@
+-- What keeps a crash told: calls, ftrace entries, stops and boots that are cut, then whole
+-- scripts. The crate's functions cite them.
 mod Items
 mod Calls
 mod Entries

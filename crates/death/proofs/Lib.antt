@@ -1,3 +1,5 @@
+-- Lemmas on lines, levels, marks, reports and traces of a crash log. The functions of death cite
+-- them.
 mod Ends
 mod Places
 mod Levels

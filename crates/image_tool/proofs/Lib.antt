@@ -1,3 +1,5 @@
+-- How each command ends: records, scripts, moves, shared zones and dumps, then the work of a plan
+-- and the run. `run` and the commands cite them.
 pub mod Alike
 pub mod Shown
 pub mod Booted

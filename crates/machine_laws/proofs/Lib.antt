@@ -1,3 +1,5 @@
+-- The laws of the machine, lowest first: zones, live and off states, operations, cut boots, then
+-- what every boot reads. ramoops and the laws above cite them.
 pub mod Lists
 pub mod Zones
 pub mod TimeLines

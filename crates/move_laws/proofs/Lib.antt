@@ -1,3 +1,5 @@
+-- What a move carries over: moved images, the order of records, layouts. The crate's functions and
+-- ramoops cite them.
 pub mod Codes
 pub mod Blank
 pub mod Filled

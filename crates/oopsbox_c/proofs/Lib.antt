@@ -1,3 +1,5 @@
+-- Lemmas on images, stored rows, calls begun and run, for the calls of C. The crate's functions
+-- cite them.
 pub mod Decoded
 pub mod Images
 pub mod Ran

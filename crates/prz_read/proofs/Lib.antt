@@ -1,3 +1,5 @@
+-- Lemmas on a zone's reading, piece by piece, and on the stores of a boot. The crate's functions
+-- cite them.
 pub mod Images
 pub mod Fronts
 pub mod States

@@ -1,3 +1,5 @@
+-- Lemmas on pieces of one allocation, cutting and joining, and on stores into a span. The
+-- functions of `Spans` and `Region` cite them.
 pub mod Names
 pub mod Rows
 pub mod Shells

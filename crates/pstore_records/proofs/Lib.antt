@@ -1,3 +1,5 @@
+-- Lemmas on records: listed, named, found, merged, moved, and their contents. The crate's
+-- functions cite them.
 pub mod Steps
 pub mod Additive
 pub mod Lengths

@@ -1,3 +1,5 @@
+-- Lemmas on draws, turns, damage and rounds of a generated session. The crate's functions cite
+-- them.
 pub mod Drawing
 pub mod Each
 pub mod Turning

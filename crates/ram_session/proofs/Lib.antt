@@ -1,3 +1,4 @@
+-- Lemmas on a script's lines on the machine, and on their texts. The crate's functions cite them.
 pub mod Steps
 pub mod Makes
 pub mod OffLines

@@ -1,3 +1,5 @@
+-- What a machine stands for, and that each call keeps it: stores, flights, stops, boots, cut
+-- boots, rebuilt stores. The crate's functions cite them.
 pub mod Lists
 pub mod Prefixes
 pub mod Listed

@@ -1,3 +1,5 @@
+-- Lemmas on escaped text, runs of blocks, and the pieces of a page. The crate's functions cite
+-- them.
 pub mod Foreign
 pub mod Covered
 pub mod Texts

@@ -1,3 +1,5 @@
+-- Lemmas on rows, cuts and pieces of a text, and that each byte is visible. The crate's functions
+-- cite them.
 mod Cuts
 pub mod Deaths
 pub mod Shown

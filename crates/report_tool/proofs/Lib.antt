@@ -1,1 +1,2 @@
+-- The lemma on a whole report. `report` cites it.
 mod Whole

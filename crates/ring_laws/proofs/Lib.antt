@@ -1,3 +1,5 @@
+-- The laws of one zone, lowest first: images, ring bytes, parts, calls, boots. The laws above and
+-- the code of a zone cite them.
 pub mod Images
 pub mod RingBytes
 pub mod AppendLaw

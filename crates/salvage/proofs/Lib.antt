@@ -1,3 +1,5 @@
+-- Lemmas on amended headers, rings of shapes, and the list of all rings. The functions of `Scan`
+-- cite them.
 pub mod Amends
 pub mod Rings
 pub mod Probed

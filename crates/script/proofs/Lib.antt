@@ -1,3 +1,5 @@
+-- Lemmas on fields, digits and lines, read and printed, and the round trip. The crate's functions
+-- cite them.
 pub mod Back
 pub mod Counts
 pub mod Cuts

@@ -1,3 +1,5 @@
+-- Lemmas on seats, tickets and stores, and what a shared zone stands for. The functions of
+-- `Shared` cite them.
 pub mod SeatLists
 pub mod Tickets
 pub mod Regions

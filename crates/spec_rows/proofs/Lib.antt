@@ -1,3 +1,5 @@
+-- What lets the checker compute a row: words with their parity, values and readings. The rows cite
+-- them.
 pub mod Computing
 pub mod Values
 pub mod Given

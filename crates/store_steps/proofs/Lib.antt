@@ -1,3 +1,5 @@
+-- Lemmas on the order of a call's stores: phases, counts, places, and what is handed out. The
+-- functions of `Steps` cite them.
 pub mod Left
 pub mod Entering
 pub mod Parts

@@ -1,3 +1,5 @@
+-- Lemmas on the words, the pieces of image and script, and how a run answers. The crate's
+-- functions and image_tool cite them.
 pub mod Consumed
 pub mod Pieces
 pub mod Parted

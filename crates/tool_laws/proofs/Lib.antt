@@ -1,3 +1,5 @@
+-- That scripts are sessions, and what holds of their crashes, steps and shared zones. The crate's
+-- functions and image_tool cite them.
 mod Crashes
 mod Kernels
 pub mod Sound

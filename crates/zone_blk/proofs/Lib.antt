@@ -1,3 +1,4 @@
+-- Lemmas on writes, readings and contents of the block store. The functions of `Blk` cite them.
 pub mod Effects
 pub mod Sequences
 pub mod Turns

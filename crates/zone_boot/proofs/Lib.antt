@@ -1,3 +1,5 @@
+-- Lemmas on a zone read where it lies, and on what is left of a boot's stores. The crate's
+-- functions cite them.
 pub mod Rows
 pub mod Blocks
 pub mod Logs

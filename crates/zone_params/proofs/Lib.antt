@@ -1,3 +1,5 @@
+-- Lemmas on sizes, rows, and zones that lie side by side with names that differ. The functions of
+-- `Layout` cite them.
 pub mod Rounding
 pub mod Faultless
 pub mod LaidOut

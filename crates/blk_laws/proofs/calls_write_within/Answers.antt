@@ -1,3 +1,4 @@
+-- An append, a dump and an erasure write within their own zone alone. By `Apart`.
 use Rattle.blk_laws.proofs.Apart.{append-within, dump-within, header-within}
 use Rattle.blk_laws.proofs.calls_write_within.Goals as goal
 

@@ -1,3 +1,5 @@
+-- An append to a ring that was not full, cut among its data bytes before its first header, leaves
+-- what the ring stood for. By `Standing`.
 use Rattle.blk_laws.proofs.Standing.{cut-append}
 use Rattle.blk_laws.proofs.cut_append_lists_before.Goals as goal
 

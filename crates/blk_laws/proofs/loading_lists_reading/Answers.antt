@@ -1,3 +1,5 @@
+-- Every loading lists the reading of the store's bytes, whatever was done before it. By
+-- `Standing`.
 use Rattle.blk_laws.proofs.Standing.{loading}
 use Rattle.blk_laws.proofs.loading_lists_reading.Goals as goal
 

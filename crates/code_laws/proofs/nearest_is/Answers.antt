@@ -1,3 +1,4 @@
+-- The nearest codeword is near, is the only one, and is there if one is near. By `Laws`.
 use Rattle.code_laws.proofs.Laws.{nearest_is as law}
 use Rattle.code_laws.proofs.nearest_is.Goals as goal
 

@@ -1,3 +1,5 @@
+-- A digit more makes the number one digit longer, and one too many makes it none. For
+-- `leading_number`.
 use Rattle.std.proofs.Common.{◌≡◌, ◌<◌, length, get_or, false, sym, ◌∙◌, arith}
 use Rattle.std.specs.Char.{is_ascii_digit}
 use Rattle.dump_records.proofs.Digits.{IsRead-more, number_at-read, number_at-long, room}

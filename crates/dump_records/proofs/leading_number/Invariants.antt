@@ -1,3 +1,5 @@
+-- The number is that of the first `len` digits, at most the limit. For the loop of
+-- `leading_number`.
 use Rattle.std.proofs.Common.{length, ◌-◌, ◌≤◌}
 use Rattle.dump_records.proofs.Digits.{IsRead}
 use Rattle.dump_records.proofs.leading_number.Given as goal

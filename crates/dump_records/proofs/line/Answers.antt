@@ -1,3 +1,5 @@
+-- Six digits of the microseconds stand after the leading 1, and the pieces fit in 36 bytes. For
+-- `line`.
 use Rattle.std.proofs.Common.{◌≡◌, ◌≤◌, ◌+◌, length, ap, arith, refl}
 use Rattle.std.proofs.lemmas.Fmt.{decimal_nonempty}
 use Rattle.dump_records.proofs.Decimals.{secs-short, micros-short}

@@ -1,3 +1,4 @@
+-- A time line reads back as itself, and is short. By `Lines`.
 use Rattle.dump_records.proofs.Lines.{read_back, short}
 use Rattle.dump_records.proofs.lines_read_back.Goals as goal
 

@@ -1,3 +1,4 @@
+-- The 24 bytes at the place are the next group. For the loop of `entries`.
 use Rattle.std.proofs.Common.{◌%◌, length}
 use Rattle.ftrace_zone.proofs.Groups.{groups-more}
 use Rattle.ftrace_zone.proofs.entries.Goals as goal

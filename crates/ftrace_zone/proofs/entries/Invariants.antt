@@ -1,3 +1,4 @@
+-- The entries are those of the first groups. For the loop of `entries`.
 use Rattle.std.proofs.Common.{◌≡◌, drop, map}
 use Rattle.zone_spec.specs.Ftrace.{groups}
 use Rattle.ftrace_zone.specs.EntryBytes.{entry_bytes}

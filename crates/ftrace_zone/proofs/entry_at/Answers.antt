@@ -1,3 +1,4 @@
+-- Three words of eight bytes are the 24 bytes of the entry. For `entry_at`.
 use Rattle.ftrace_zone.proofs.Words.{entry_bytes-words}
 use Rattle.ftrace_zone.proofs.entry_at.Goals as goal
 

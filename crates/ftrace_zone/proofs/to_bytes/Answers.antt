@@ -1,3 +1,4 @@
+-- One entry's three words more lengthen the bytes. For the loop of `to_bytes`.
 use Rattle.ftrace_zone.proofs.Words.{bytes-more}
 use Rattle.ftrace_zone.proofs.to_bytes.Goals as goal
 

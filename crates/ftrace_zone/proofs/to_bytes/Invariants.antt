@@ -1,3 +1,4 @@
+-- The bytes are those of the entries so far. For the loop of `to_bytes`.
 use Rattle.std.proofs.Common.{◌≡◌, take, flat_map}
 use Rattle.ftrace_zone.specs.EntryBytes.{entry_bytes}
 use Rattle.ftrace_zone.proofs.to_bytes.Given as goal

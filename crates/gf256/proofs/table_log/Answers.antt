@@ -1,3 +1,5 @@
+-- The entry of 0 points where the powers are zeros, that of any other number at its logarithm. For
+-- `table_log`.
 use Rattle.gf256.proofs.Tables.{log_below, log_some, product_is}
 use Rattle.gf256.proofs.table_log.Goals as goal
 

@@ -1,3 +1,4 @@
+-- Values that begin as zero end as those of the word alone. For `rising_values`.
 use Rattle.std.proofs.Common.{ℕ, ◌+◌, List, length, get_or, ap, ◌∙◌, arith}
 use Rattle.std.proofs.lemmas.List.{get_or-replicate}
 use Rattle.code_spec.specs.Field.{gf_pow}

@@ -1,3 +1,5 @@
+-- A newline in the front, in the back or in neither is the first of both joined. For
+-- `newline_from`.
 use Rattle.std.proofs.Common.{ℕ, List, Option, Some, None, take, ◌+◌, ◌-◌, ◌≤◌, ◌++◌, length, drop, arith, subst, sym, ◌≡◌}
 use Rattle.std.proofs.lemmas.List.{length-append, length-drop, take_rest}
 use Rattle.memchr.specs.Find.{IsFirst, Nowhere}

@@ -1,3 +1,4 @@
+-- A name is listed exactly when a record is found by it. By `Listed`.
 use Rattle.machine_laws.proofs.Listed.{listed_is_found as law}
 use Rattle.machine_laws.proofs.listed_is_found.Goals as goal
 

@@ -1,3 +1,4 @@
+-- The logs that a boot finds are of bytes, and of one at least. By `Saved`.
 use Rattle.move_laws.proofs.Saved.{boots_have_bytes as law}
 use Rattle.move_laws.proofs.boots_have_bytes.Goals as goal
 

@@ -1,3 +1,4 @@
+-- A moved image makes a sound state. By `Moved`.
 use Rattle.move_laws.proofs.Moved.{moved_image_is_sound as law}
 use Rattle.move_laws.proofs.moved_image_is_sound.Goals as goal
 

@@ -1,3 +1,5 @@
+-- After damage each zone of a moved image that is within bounds reads the log that was found of
+-- it, or nothing. By `Moved`.
 use Rattle.move_laws.proofs.Moved.{moved_zones_read as law}
 use Rattle.move_laws.proofs.moved_zones_read.Goals as goal
 

@@ -1,3 +1,5 @@
+-- The two blocks and their parity are the parts of the zone, so the answers tell whether they are
+-- codewords. For `are_codewords`.
 use Rattle.std.proofs.Common.{◌+◌, arith}
 use Rattle.zone_spec.specs.Parts.{Block}
 use Rattle.prz_ecc.proofs.Readings.{IsPart, is_part, codeword_is}

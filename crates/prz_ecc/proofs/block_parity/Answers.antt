@@ -1,3 +1,4 @@
+-- The bytes that are encoded are those of block `b`. For `block_parity`.
 use Rattle.std.proofs.Common.{List, ℕ, ap, ◌∙◌}
 use Rattle.code_spec.specs.Code.{parity_of}
 use Rattle.zone_spec.specs.Parts.{Block}

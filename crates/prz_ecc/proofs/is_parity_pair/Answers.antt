@@ -1,3 +1,4 @@
+-- Without parity any two lists of bytes are codewords. For `is_parity_pair`.
 use Rattle.std.proofs.Common.{refl}
 use Rattle.prz_ecc.proofs.Readings.{codeword-none, none_is}
 use Rattle.prz_ecc.proofs.is_parity_pair.Goals as goal

@@ -1,3 +1,4 @@
+-- The parity of no bytes asked for is empty. For `parity`.
 use Rattle.std.proofs.Common.{sym, ◌∙◌, arith}
 use Rattle.prz_ecc.proofs.Readings.{parity_of-none}
 use Rattle.prz_ecc.proofs.parity.Goals as goal

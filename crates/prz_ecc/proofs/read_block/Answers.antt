@@ -1,3 +1,5 @@
+-- What was decoded is block `b` with its parity, so bytes, counts and places that differ are those
+-- of its reading. For `read_block`.
 use Rattle.std.proofs.Common.{◌∙◌, arith}
 use Rattle.zone_spec.specs.Parts.{Block}
 use Rattle.prz_ecc.proofs.Readings.{IsPart, is_part, answer_is, fixes_are, data_is, counts_are}

@@ -1,3 +1,5 @@
+-- What was decoded is the header with its parity, so words, counts and places that differ are
+-- those of its reading. For `read_header`.
 use Rattle.std.proofs.Common.{List, ℕ, ap, ◌∙◌, arith}
 use Rattle.zone_spec.specs.Parts.{Header, words_in}
 use Rattle.prz_ecc.proofs.Readings.{IsPart, is_part, answer_is, fixes_are, data_is, counts_are}

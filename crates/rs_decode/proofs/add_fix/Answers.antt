@@ -1,3 +1,4 @@
+-- A mask of 0 adds nothing; any other adds its product with each power. For `add_fix`.
 use Rattle.std.proofs.Common.{ℕ, get_or, ap, ◌∙◌}
 use Rattle.code_spec.specs.Field.{gf_add, gf_mul, gf_pow}
 use Rattle.code_laws.proofs.Ring.{add_no_multiple}

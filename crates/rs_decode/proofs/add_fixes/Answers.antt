@@ -1,3 +1,5 @@
+-- One fix more adds its terms, and in the end the values are those of the fixed word. For
+-- `add_fixes`.
 use Rattle.std.proofs.Common.{◌≡◌, ◌+◌, ◌-◌, ◌<◌, ◌≤◌, ℕ, suc, refl, ap, ◌∙◌, arith, List, ◌∷◌, drop, drop-cons, length, get_or}
 use Rattle.std.proofs.lemmas.Grind.{common_steps}
 use Rattle.std.proofs.lemmas.List.{drop_all}

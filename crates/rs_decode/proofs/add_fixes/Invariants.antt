@@ -1,3 +1,5 @@
+-- The values, with the terms of the fixes that are left, are those of the word with all fixes. For
+-- the loop of `add_fixes`.
 use Rattle.std.proofs.Common.{◌≡◌, ◌<◌, ℕ, get_or, length, drop}
 use Rattle.code_spec.specs.Field.{gf_add, gf_pow}
 use Rattle.rs_decode.specs.Fixes.{AllInside, fix_sum}

@@ -1,3 +1,5 @@
+-- A factor of 0 adds nothing; any other is a power of 2, whose multiple is added. For
+-- `add_shifted`.
 use Rattle.std.proofs.Common.{ℕ, ◌+◌, get_or, ap, ◌∙◌}
 use Rattle.code_spec.specs.Field.{gf_add, gf_mul, gf_pow}
 use Rattle.code_laws.proofs.Ring.{mul_comm, add_no_multiple}

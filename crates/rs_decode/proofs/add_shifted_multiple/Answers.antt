@@ -1,3 +1,5 @@
+-- Under the leading zeros of `other` nothing is added; the rest is, 16 symbols at once. For
+-- `add_shifted_multiple`.
 use Rattle.std.proofs.Common.{◌+◌, get_or, inl, inr, refl, ◌∙◌, arith}
 use Rattle.std.proofs.lemmas.Bool.{cases_lt}
 use Rattle.std.proofs.lemmas.List.{get_or_past}

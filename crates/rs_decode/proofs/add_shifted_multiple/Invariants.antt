@@ -1,3 +1,5 @@
+-- The symbols below `i` have their multiple added, the rest stands as before. For the loop of
+-- `add_shifted_multiple`.
 use Rattle.std.proofs.Common.{◌≡◌, ◌<◌, ◌≤◌, ◌+◌, ℕ, get_or}
 use Rattle.code_spec.specs.Field.{gf_add, gf_mul, gf_pow}
 use Rattle.rs_decode.proofs.add_shifted_multiple.Given as goal

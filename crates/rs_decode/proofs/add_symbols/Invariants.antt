@@ -1,3 +1,4 @@
+-- The symbols below `i` are sums, the rest stands as before. For the loop of `add_symbols`.
 use Rattle.std.proofs.Common.{◌≡◌, ◌<◌, ◌≤◌, ℕ, get_or}
 use Rattle.code_spec.specs.Field.{gf_add}
 use Rattle.rs_decode.proofs.add_symbols.Given as goal

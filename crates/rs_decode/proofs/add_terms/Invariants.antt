@@ -1,3 +1,5 @@
+-- The values below `k` have their term added, and `term` is the logarithm of the next. For the
+-- loop of `add_terms`.
 use Rattle.std.proofs.Common.{◌≡◌, ◌<◌, ◌≤◌, ℕ, get_or}
 use Rattle.code_spec.specs.Field.{gf_add, gf_mul, gf_pow}
 use Rattle.rs_decode.proofs.add_terms.Given as goal

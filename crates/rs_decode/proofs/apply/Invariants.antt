@@ -1,3 +1,5 @@
+-- The fixes that are left, applied to the word so far, give the fixed word. For the loop of
+-- `apply`.
 use Rattle.std.proofs.Common.{◌≡◌, drop}
 use Rattle.rs_decode.specs.Fixes.{applied}
 use Rattle.rs_decode.proofs.apply.Given as goal

@@ -1,3 +1,5 @@
+-- A locator with no constant has no such fixes; else Chien's places and Forney's masks are the
+-- only ones. For `candidate`.
 use Rattle.std.proofs.Common.{◌≡◌, ℕ, ◌≤◌, ◌+◌, ◌-◌, List, length, take, arith, sym, ap, ◌∙◌, subst₂, refl, length-take}
 use Rattle.code_spec.specs.Field.{gf_mul}
 use Rattle.code_laws.proofs.Ring.{zero_mul}

@@ -1,3 +1,5 @@
+-- A near codeword is damage that the candidate answers, so no candidate is no codeword, and a
+-- mended word is the near one. For `corrected`.
 use Rattle.std.proofs.Common.{◌≡◌, ℕ, ◌+◌, ◌/◌, ◌≤◌, ◌<◌, Bool, IsTrue, ◌↔◌, List, ◌++◌, length, get_or, take, length-append, arith, sym, ap, ◌∙◌, subst}
 use Rattle.rs_encode.proofs.Steps.{symbols_each}
 use Rattle.code_spec.specs.Field.{gf_pow}

@@ -1,3 +1,4 @@
+-- Within half the parity the nearest codeword is the one that is decoded. For `decode_by`.
 use Rattle.std.proofs.Common.{ℕ, List, ◌≡◌, ◌++◌, ◌/◌, length, take, unwrap_or, ap, refl, ◌∙◌, Option}
 use Rattle.rs_decode.specs.Decoding.{decoded_by, fixes_by}
 use Rattle.rs_decode.proofs.Decoding.{within_half}

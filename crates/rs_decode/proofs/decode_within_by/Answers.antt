@@ -1,3 +1,5 @@
+-- A codeword is clean, a mended word fixed and any other bad, with bytes and fixes as defined. For
+-- `decode_within_by`.
 use Rattle.std.proofs.Common.{ℕ, List, length, refl, sym, ap, ◌∙◌, ◌++◌}
 use Rattle.code_spec.specs.Code.{nearest}
 use Rattle.decoder_laws.specs.Damage.{IsWithin}

@@ -1,3 +1,5 @@
+-- Rest and factor of each row keep their equation at each step, and at the end solve the key
+-- equation. For `euclid`.
 use Rattle.std.proofs.Common.{◌≡◌, ℕ, ◌+◌, ◌-◌, List, length, drop, refl, ap, ◌∙◌, arith}
 use Rattle.decoder_laws.specs.Polynomials.{poly}
 use Rattle.rs_decode.proofs.Rows.{rows_start, rows_step, rows_end}

@@ -1,3 +1,4 @@
+-- The two rows are those of Euclid's algorithm on the syndromes. For the loop of `euclid`.
 use Rattle.std.proofs.Common.{◌+◌, ◌-◌}
 use Rattle.decoder_laws.specs.Polynomials.{poly}
 use Rattle.rs_decode.specs.Rows.{IsRows}

@@ -1,3 +1,4 @@
+-- The values are those of the evaluator at the reciprocals of the locators. For `evaluated`.
 use Rattle.std.proofs.Common.{ℕ, ap, ◌∙◌, arith, length-take}
 use Rattle.code_spec.specs.Field.{gf_pow}
 use Rattle.code_spec.specs.Code.{value_of}

@@ -1,3 +1,4 @@
+-- What is left is the sum of the parity at hand and the message's own. For `excess`.
 use Rattle.std.proofs.Common.{◌≡◌, ℕ, List, length, get_or, sym, ap, ◌∙◌, arith}
 use Rattle.code_spec.specs.Field.{gf_add}
 use Rattle.code_spec.specs.Code.{parity_of}

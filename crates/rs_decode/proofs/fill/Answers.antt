@@ -1,3 +1,4 @@
+-- One place more has its mask, and each place is the word's own. For the loop of `fill`.
 use Rattle.std.proofs.Common.{ℕ, List, get_or, take, arith, sym, ap, ◌∙◌, subst₂, length-take}
 use Rattle.std.proofs.lemmas.List.{take_more}
 use Rattle.code_spec.specs.Field.{gf_mul}

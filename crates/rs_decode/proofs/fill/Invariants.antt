@@ -1,3 +1,4 @@
+-- The first `k` places have their masks. For the loop of `fill`.
 use Rattle.std.proofs.Common.{◌≡◌, length, take}
 use Rattle.rs_decode.specs.Fixes.{AreFixes}
 use Rattle.rs_decode.proofs.fill.Given as goal

@@ -1,3 +1,4 @@
+-- Forney's mask times its scale and gaps is the evaluator's value. For `fix_of`.
 use Rattle.std.proofs.Common.{◌≡◌, ℕ, ◌<◌, sym, ap, ap₂, ◌∙◌}
 use Rattle.code_spec.specs.Field.{gf_mul}
 use Rattle.code_laws.proofs.Ring.{mul_one, mul_assoc, mul_comm}

@@ -1,3 +1,5 @@
+-- The excess is zero exactly for a codeword, and its values are the word's syndromes. For
+-- `has_excess`.
 use Rattle.std.proofs.Common.{◌∙◌, arith}
 use Rattle.rs_encode.proofs.Steps.{symbols_each}
 use Rattle.decoder_laws.proofs.Nearest.{no_excess, codeword_excess, excess_value}

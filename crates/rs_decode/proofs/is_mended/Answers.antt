@@ -1,3 +1,5 @@
+-- The values with the fixes added are all zero exactly when the fixed word is a codeword. For
+-- `is_mended`.
 use Rattle.std.proofs.Common.{◌≡◌, ℕ, ◌<◌, ◌+◌, List, ◌++◌, length, get_or, length-append, arith, ap, ◌∙◌}
 use Rattle.code_spec.specs.Field.{gf_add, gf_pow}
 use Rattle.code_spec.specs.Code.{value_of}

@@ -1,3 +1,4 @@
+-- The last symbol is the polynomial's constant. For `last`.
 use Rattle.decoder_laws.proofs.Polynomials.{poly-last}
 use Rattle.rs_decode.proofs.last.Goals as goal
 

@@ -1,3 +1,4 @@
+-- The symbols before `i` are zeros. For the loop of `leading`.
 use Rattle.decoder_laws.specs.Polynomials.{LeadingZeros}
 use Rattle.rs_decode.proofs.leading.Given as goal
 

@@ -1,3 +1,4 @@
+-- Two locators that differ have a gap that is not 0, so it has a logarithm. For `log_gap`.
 use Rattle.std.proofs.Common.{sym, ap, ◌∙◌}
 use Rattle.code_spec.specs.Field.{gf_add}
 use Rattle.decoder_laws.proofs.Forney.{gap_some}

@@ -1,3 +1,4 @@
+-- The sum of two logarithms, less 255 if it is more, is that of the product. For `log_product`.
 use Rattle.std.proofs.Common.{◌+◌, ◌-◌, arith}
 use Rattle.decoder_laws.proofs.Powers.{pow_wrapped}
 use Rattle.code_laws.proofs.Ring.{pow_add}

@@ -1,3 +1,5 @@
+-- A place where the locator is zero is one root more, any other none; a block of 64 places has its
+-- values at hand. For `own_roots`.
 use Rattle.std.proofs.Common.{◌≡◌, ℕ, ◌+◌, ◌-◌, ◌*◌, ◌/◌, ◌%◌, ◌<◌, ◌≢◌, List, ◌++◌, ◌∷◌, [], length, get_or, arith, sym, ap, ◌∙◌, suc}
 use Rattle.code_spec.specs.Field.{gf_pow}
 use Rattle.code_spec.specs.Code.{value_of}

@@ -1,3 +1,5 @@
+-- The roots so far, and those of the places left, are the roots; the block's values stand ready.
+-- For the loop of `own_roots`.
 use Rattle.std.proofs.Common.{◌≡◌, ◌≢◌, ◌≤◌, ◌<◌, ◌+◌, ◌-◌, ◌*◌, ◌/◌, ◌%◌, ◌++◌, ℕ, length, get_or, take}
 use Rattle.code_spec.specs.Field.{gf_pow}
 use Rattle.code_spec.specs.Code.{value_of}

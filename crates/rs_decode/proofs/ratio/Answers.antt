@@ -1,3 +1,5 @@
+-- The power's own locator is passed over, and each other one adds the logarithm of its gap. For
+-- `ratio`.
 use Rattle.std.proofs.Common.{◌≡◌, ◌≢◌, ℕ, ◌<◌, ◌≤◌, ◌+◌, ◌-◌, List, get_or, drop, length, arith, sym, ap, ap₂, ◌∙◌}
 use Rattle.std.proofs.lemmas.List.{drop_more, drop_all}
 use Rattle.code_spec.specs.Field.{gf_add, gf_mul, gf_pow}

@@ -1,3 +1,5 @@
+-- The product so far, with the gaps of the locators left, is the whole ratio, and its logarithm
+-- fits. For the loop of `ratio`.
 use Rattle.std.proofs.Common.{◌≡◌, ◌≤◌, ◌*◌, drop}
 use Rattle.code_spec.specs.Field.{gf_mul, gf_pow}
 use Rattle.decoder_laws.specs.Forney.{gap_ratio}

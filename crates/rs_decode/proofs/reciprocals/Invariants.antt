@@ -1,3 +1,4 @@
+-- The logarithms below `k` are those of the reciprocals. For the loop of `reciprocals`.
 use Rattle.std.proofs.Common.{◌≡◌, ◌<◌, ◌-◌, ℕ, get_or}
 use Rattle.rs_decode.proofs.reciprocals.Given as goal
 

@@ -1,3 +1,5 @@
+-- One coefficient of the quotient more clears the leading symbol and keeps the room of the factor.
+-- For the loop of `reduce`.
 use Rattle.std.proofs.Common.{ℕ, ◌+◌, ◌-◌, ◌<◌, List, length, ap, ◌∙◌, subst, arith}
 use Rattle.code_spec.specs.Field.{gf_mul}
 use Rattle.decoder_laws.specs.Series.{scale, shift, one}

@@ -1,3 +1,5 @@
+-- The old row is reduced by a multiple of the new one, with `k` leading zeros and its room kept.
+-- For the loop of `reduce`.
 use Rattle.std.proofs.Common.{◌+◌, ◌-◌, length}
 use Rattle.decoder_laws.specs.Polynomials.{poly, LeadingZeros}
 use Rattle.decoder_laws.specs.Euclid.{IsStep}

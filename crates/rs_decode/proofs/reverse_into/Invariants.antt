@@ -1,3 +1,4 @@
+-- The first `i` symbols of the reversed word stand after 16 zeros. For the loop of `reverse_into`.
 use Rattle.std.proofs.Common.{◌≡◌, ◌<◌, ◌-◌, ◌+◌, ℕ, length, get_or}
 use Rattle.rs_decode.proofs.reverse_into.Given as goal
 

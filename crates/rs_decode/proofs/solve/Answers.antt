@@ -1,3 +1,5 @@
+-- The rows begin with zeros, a power and the syndromes reversed, as Euclid's algorithm wants them;
+-- what it gives solves the key equation. For `solve`.
 use Rattle.std.proofs.Common.{◌≡◌, ℕ, ◌+◌, List, reverse, sym, ap, ◌∙◌, subst, arith, length-take, drop}
 use Rattle.decoder_laws.specs.Polynomials.{poly, LeadingZeros}
 use Rattle.decoder_laws.specs.Series.{Bytes}

@@ -1,3 +1,4 @@
+-- The symbols from `start` to `i` are taken. For the loop of `tail`.
 use Rattle.std.proofs.Common.{◌≡◌, ◌-◌, take, drop}
 use Rattle.rs_decode.proofs.tail.Given as goal
 

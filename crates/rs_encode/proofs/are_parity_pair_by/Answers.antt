@@ -1,3 +1,5 @@
+-- The lanes of each message hold its parity exactly when it is a codeword with it. For
+-- `are_parity_pair_by`.
 use Rattle.std.proofs.Common.{ℕ, List, ◌∷◌, [], length, refl, arith}
 use Rattle.rs_encode.specs.Lanes.{IsTable}
 use Rattle.rs_encode.proofs.Steps.{lanes_codeword, codeword_lanes, table_lent}

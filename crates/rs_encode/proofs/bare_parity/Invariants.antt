@@ -1,3 +1,5 @@
+-- The symbols so far with the rest are a codeword, and the rest is bytes. For the loop of
+-- `bare_parity`.
 use Rattle.std.proofs.Common.{◌≡◌, ◌<◌, ℕ, ◌++◌, length, take, get_or}
 use Rattle.code_spec.specs.Code.{IsCodeword}
 use Rattle.rs_encode.proofs.bare_parity.Given as goal

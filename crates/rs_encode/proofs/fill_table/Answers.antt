@@ -1,3 +1,4 @@
+-- The table begins as zeros. For `fill_table`.
 use Rattle.std.proofs.Common.{ℕ, List, length, get_or, ap, ◌∙◌}
 use Rattle.list_laws.proofs.Elements.{get_or-replicate_default}
 use Rattle.rs_encode.proofs.fill_table.Goals as goal

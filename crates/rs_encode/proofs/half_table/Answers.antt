@@ -1,3 +1,4 @@
+-- Two columns more, for low and high halves of bytes, leave those before them. For `half_table`.
 use Rattle.std.proofs.Common.{◌+◌, ◌*◌, ℕ, List, drop, ◌∙◌, subst, arith, below_more}
 use Rattle.rs_encode.specs.Lanes.{IsColumn}
 use Rattle.std.proofs.lemmas.List.{take_rest}

@@ -1,3 +1,5 @@
+-- The lanes of the rest hold the parity exactly when message and parity are a codeword. For
+-- `has_parity`.
 use Rattle.std.proofs.Common.{ℕ, List, ◌∷◌, [], length, refl, arith}
 use Rattle.rs_encode.proofs.Steps.{lanes_codeword, codeword_lanes}
 use Rattle.rs_encode.proofs.has_parity.Goals as goal

@@ -1,3 +1,4 @@
+-- All values of the word are zero exactly when it is a codeword. For `has_roots`.
 use Rattle.std.proofs.Common.{◌≡◌, ℕ, List, ◌++◌, length, length-take, sym, ◌∙◌, arith}
 use Rattle.code_laws.proofs.Parity.{roots_of, codeword_of}
 use Rattle.code_laws.proofs.Symbols.{HasRoots}

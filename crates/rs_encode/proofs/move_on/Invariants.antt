@@ -1,3 +1,4 @@
+-- The symbols below `k` are moved on, the rest stands as before. For the loop of `move_on`.
 use Rattle.std.proofs.Common.{◌≡◌, ◌<◌, ◌≤◌, ◌+◌, ℕ, get_or, length}
 use Rattle.rs_encode.proofs.move_on.Given as goal
 

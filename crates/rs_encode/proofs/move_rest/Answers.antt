@@ -1,3 +1,4 @@
+-- The moved rest has the multiple of the generator added. For `move_rest`.
 use Rattle.std.proofs.Common.{◌≡◌, ◌<◌, ℕ, ◌+◌, length, get_or, ap, ◌∙◌, arith}
 use Rattle.code_spec.specs.Field.{gf_add, gf_mul}
 use Rattle.rs_encode.proofs.move_rest.Goals as goal

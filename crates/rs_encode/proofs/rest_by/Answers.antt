@@ -1,3 +1,4 @@
+-- One symbol more makes the lanes the rest of the message so far. For the loop of `rest_by`.
 use Rattle.std.proofs.Common.{ℕ, List, ◌∷◌, [], get_or, take, refl, sym, subst, arith}
 use Rattle.rs_encode.specs.Lanes.{IsRest}
 use Rattle.std.proofs.lemmas.List.{take_all, take_more}

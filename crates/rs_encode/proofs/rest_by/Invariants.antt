@@ -1,3 +1,4 @@
+-- The lanes are the rest of the first symbols. For the loop of `rest_by`.
 use Rattle.std.proofs.Common.{◌≡◌, ◌+◌, ◌*◌, ◌^◌, ◌≤◌, ◌<◌, ℕ, length, get_or, take}
 use Rattle.rs_encode.specs.Lanes.{IsRest, IsTable}
 use Rattle.rs_encode.proofs.rest_by.Given as goal

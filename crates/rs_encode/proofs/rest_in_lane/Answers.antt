@@ -1,3 +1,4 @@
+-- One symbol more makes the lane the rest of the message so far. For the loop of `rest_in_lane`.
 use Rattle.std.proofs.Common.{◌∷◌, [], ℕ, List, subst, arith}
 use Rattle.std.proofs.lemmas.List.{take_all}
 use Rattle.list_laws.proofs.Elements.{get_or-replicate_default}

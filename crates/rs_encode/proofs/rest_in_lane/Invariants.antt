@@ -1,3 +1,4 @@
+-- The lane is the rest of the first symbols. For the loop of `rest_in_lane`.
 use Rattle.std.proofs.Common.{◌∷◌, [], ◌≤◌, ℕ, take}
 use Rattle.rs_encode.specs.Lanes.{IsRest, IsTable}
 use Rattle.rs_encode.proofs.rest_in_lane.Given as goal

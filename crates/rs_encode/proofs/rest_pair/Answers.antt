@@ -1,3 +1,5 @@
+-- One symbol more of each message makes the two lanes their rests so far. For the loop of
+-- `rest_pair`.
 use Rattle.std.proofs.Common.{◌∷◌, [], ℕ, List, subst, arith}
 use Rattle.std.proofs.lemmas.List.{take_all}
 use Rattle.list_laws.proofs.Elements.{get_or-replicate_default}

@@ -1,3 +1,4 @@
+-- Each lane is the rest of its message's first symbols. For the loop of `rest_pair`.
 use Rattle.std.proofs.Common.{◌∷◌, [], ◌≤◌, ℕ, take}
 use Rattle.rs_encode.specs.Lanes.{IsRest, IsTable}
 use Rattle.rs_encode.proofs.rest_pair.Given as goal

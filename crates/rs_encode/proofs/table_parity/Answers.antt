@@ -1,3 +1,4 @@
+-- The bytes of the lanes are the message's rest, which is its parity. For `table_parity`.
 use Rattle.std.proofs.Common.{ℕ, ◌∷◌, [], length, arith}
 use Rattle.rs_encode.proofs.Steps.{parity_from}
 use Rattle.rs_encode.proofs.table_parity.Goals as goal

@@ -1,3 +1,5 @@
+-- A worked dump: a ring without parity two bytes after the dump's beginning is listed there alone,
+-- and once for two zones of one shape. The checker computes it.
 use Rattle.std.proofs.Common.{refl}
 use Rattle.code_spec.specs.Code.{nearest, is_codeword, distance}
 use Rattle.zone_spec.specs.Parts.{part_word, part_bytes}

@@ -1,3 +1,5 @@
+-- A script on the ram store is the session of its lines' operations, up to the first refused line.
+-- By `RamScripts`.
 use Rattle.tool_laws.proofs.RamScripts.{ram_scripts_are_sessions as law}
 use Rattle.tool_laws.proofs.ram_scripts_are_sessions.Goals as goal
 

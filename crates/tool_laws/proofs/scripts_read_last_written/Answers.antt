@@ -1,3 +1,5 @@
+-- At each boot of a script idle zones within bounds read the last bytes that were written, and cut
+-- zones differ in reported parts alone. By `Sound`.
 use Rattle.machine_laws.proofs.LastWritten.{state_reads, sound_state_reads_last_written}
 use Rattle.tool_laws.proofs.Sound.{states_sound}
 use Rattle.tool_laws.proofs.scripts_read_last_written.Goals as goal

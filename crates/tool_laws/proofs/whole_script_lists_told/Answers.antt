@@ -1,3 +1,5 @@
+-- If no byte was dropped since the last boot, the next one lists of each ring the last bytes that
+-- the script told it. By `BlkScripts`.
 use Rattle.tool_laws.proofs.BlkScripts.{script_lists}
 use Rattle.tool_laws.proofs.whole_script_lists_told.Goals as goal
 

@@ -1,3 +1,5 @@
+-- The row `corrected_ring`: a ring of a dump whose header and log are corrected. Computed with
+-- `Corrected`.
 use Rattle.std.proofs.Common.{[], ◌∷◌, refl, ap, ◌∙◌}
 use Rattle.command_spec.specs.Texts.{rings_text}
 use Rattle.command_spec.specs.Commands.{shows, wanted_ring}

@@ -1,3 +1,5 @@
+-- The row `worked_faults`: words, parameters, layouts and images that are refused. The checker
+-- computes it.
 use Rattle.std.proofs.Common.{refl}
 use Rattle.tool_rows.proofs.Computing.{computing_tool}
 use Rattle.tool_rows.proofs.worked_faults.Goals as goal

@@ -1,3 +1,4 @@
+-- The row `worked_refusals`: lines that are bad or refused. The checker computes it.
 use Rattle.std.proofs.Common.{refl}
 use Rattle.tool_rows.proofs.Computing.{computing_tool}
 use Rattle.tool_rows.proofs.worked_refusals.Goals as goal

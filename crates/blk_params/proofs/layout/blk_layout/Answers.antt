@@ -1,3 +1,5 @@
+-- The first fault that is found is the definition's; with none there is the layout. For
+-- `blk_layout`.
 use Rattle.std.proofs.Common.{◌∙◌, sym}
 use Rattle.blk_params.proofs.LayoutLaws.{faulted, faultless}
 use Rattle.blk_params.proofs.layout.blk_layout.Goals as goal

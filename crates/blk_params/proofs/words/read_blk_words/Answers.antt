@@ -1,3 +1,4 @@
+-- A faulty word gives its fault, and else the parameters are read. For `read_blk_words`.
 use Rattle.std.proofs.Common.{◌∙◌, ap, sym, Ok}
 use Rattle.grammar_spec.specs.Words.{ok_unless, texts}
 use Rattle.grammar_spec.specs.BlkWords.{params_of}

@@ -1,3 +1,4 @@
+-- A size is what the words give, or the default. For `size`.
 use Rattle.std.proofs.Common.{◌∙◌, ap, unwrap_or}
 use Rattle.blk_params.proofs.words.size.Goals as goal
 

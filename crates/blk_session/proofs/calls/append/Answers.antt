@@ -1,3 +1,5 @@
+-- An append to a ring, done or failed, is that operation of a session, and a fault of the store
+-- counts once. For `append`.
 use Rattle.std.proofs.Common.{Err, ap}
 use Rattle.blk_spec.specs.States.{append_refusal, append_of, appended}
 use Rattle.blk_spec.specs.Session.{Append}

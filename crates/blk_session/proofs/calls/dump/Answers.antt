@@ -1,3 +1,5 @@
+-- A dump, done or failed, is that operation of a session, and a fault of the store counts once.
+-- For `dump`.
 use Rattle.std.proofs.Common.{Err, ap}
 use Rattle.blk_spec.specs.States.{dump_refusal, dump_of, dump_pieces_of, dumped}
 use Rattle.blk_spec.specs.Session.{Dump as DumpNow}

@@ -1,3 +1,5 @@
+-- A name that a record can have is erased by the session's operation; any other is refused. For
+-- `erase`.
 use Rattle.std.proofs.Common.{Some, ◌∙◌, sym}
 use Rattle.blk_spec.specs.Session.{Erase as EraseRecord}
 use Rattle.grammar_spec.specs.declared.line.Line.TheVariants.{Erase}

@@ -1,3 +1,5 @@
+-- An erasure, done or failed, is that operation of a session, and a fault of the store counts
+-- once. For `erase_named`.
 use Rattle.std.proofs.Common.{Some, Err, ap}
 use Rattle.blk_spec.specs.States.{erase_refusal, erase_of, erased}
 use Rattle.blk_spec.specs.Session.{Erase as EraseRecord}

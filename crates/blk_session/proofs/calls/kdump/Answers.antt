@@ -1,3 +1,4 @@
+-- A line `kdump` is a dump with the reason of its number. For `kdump`.
 use Rattle.std.proofs.Common.{Some}
 use Rattle.blk_spec.specs.Session.{Dump as DumpNow}
 use Rattle.grammar_spec.specs.declared.line.Line.TheVariants.{KDump}

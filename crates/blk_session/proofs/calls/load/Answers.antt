@@ -1,3 +1,4 @@
+-- A loading, done or failed, is a line `boot`, whatever was loaded before. For `load`.
 use Rattle.std.proofs.Common.{Err, subst, sym, ap}
 use Rattle.grammar_spec.specs.declared.line.Line.TheVariants.{Boot}
 use Rattle.blk_spec.specs.Answers.{Device, device}

@@ -1,3 +1,4 @@
+-- A line `write` to a ring is an append, and one to another zone is refused. For `write`.
 use Rattle.std.proofs.Common.{Some, ◌∙◌, sym}
 use Rattle.blk_spec.specs.Session.{Append}
 use Rattle.grammar_spec.specs.declared.line.Line.TheVariants.{Write}

@@ -1,3 +1,5 @@
+-- The seconds and nanoseconds of a line `kdump` are in range, and a line that sets a cut is done.
+-- For `do_call`.
 use Rattle.std.proofs.Common.{[], Some, sym, subst}
 use Rattle.grammar_spec.specs.Printed.{HasFields}
 use Rattle.grammar_spec.specs.declared.line.Line.{Line}

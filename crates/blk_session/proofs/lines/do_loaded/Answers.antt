@@ -1,3 +1,5 @@
+-- On a loaded store a shown, an empty and a `boot` line are done as defined; lines of other
+-- scripts are refused. For `do_loaded`.
 use Rattle.std.proofs.Common.{Some, subst, arith}
 use Rattle.blk_spec.specs.declared.BlkLayout.{BlkLayout}
 use Rattle.blk_session.specs.Lines.{LineDone}

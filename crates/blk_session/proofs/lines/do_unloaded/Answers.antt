@@ -1,3 +1,4 @@
+-- On a store that isn't loaded only empty lines and `boot` are done. For `do_unloaded`.
 use Rattle.std.proofs.Common.{None, Some, arith}
 use Rattle.blk_session.proofs.OtherLines.{blank_line, boot_line, elsewhere, is_elsewhere}
 use Rattle.blk_spec.specs.Answers.{Device, device}

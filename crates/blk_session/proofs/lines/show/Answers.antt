@@ -1,3 +1,4 @@
+-- A line `list` or `extract` prints what is listed and leaves the store as it is. For `show`.
 use Rattle.std.proofs.Common.{Some, sym, subst}
 use Rattle.std.specs.Prelude.{MatchResult}
 use Rattle.grammar_spec.specs.declared.line.Line.{Line}

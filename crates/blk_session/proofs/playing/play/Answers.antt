@@ -1,3 +1,5 @@
+-- A line refused, or with its text unprinted, ends the script as defined; a done one goes on, and
+-- after the last all is done. For `play`.
 use Rattle.std.proofs.Common.{◌∙◌, ◌+◌, arith}
 use Rattle.blk_spec.specs.Answers.{device}
 use Rattle.blk_session.specs.Playing.{Seen, seen}

@@ -1,3 +1,5 @@
+-- The first lines are done and their texts are printed, with no fault, and the store has its size.
+-- For the loop of `play`.
 use Rattle.std.proofs.Common.{◌≡◌}
 use Rattle.std.specs.Prelude.{IfSome}
 use Rattle.blk_spec.specs.Answers.{HasRoom, device}

@@ -1,3 +1,5 @@
+-- The text so far, and the lines of the records that are left, are the text of all records. For
+-- the loop of `push_entries`.
 use Rattle.std.proofs.Common.{◌≡◌, ◌++◌, drop, flat_map}
 use Rattle.blk_session.specs.Texts.{entry_text}
 use Rattle.blk_session.proofs.texts.push_entries.Given as goal

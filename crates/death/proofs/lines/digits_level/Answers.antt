@@ -1,3 +1,4 @@
+-- One digit more goes into the level, which is kept modulo 8. For the loop of `digits_level`.
 use Rattle.std.proofs.Common.{◌+◌, ◌*◌, ◌%◌, drop, ap, sym, ◌∙◌, arith}
 use Rattle.death_spec.specs.Lines.{digits_level}
 use Rattle.death.proofs.Levels.{digit_more, digits_past}

@@ -1,3 +1,4 @@
+-- The level is that of the digits so far. For the loop of `digits_level`.
 use Rattle.std.proofs.Common.{◌≡◌, ◌<◌, ◌-◌, length, drop}
 use Rattle.death_spec.specs.Lines.{digits_level}
 use Rattle.death.proofs.lines.digits_level.Given as goal

@@ -1,3 +1,5 @@
+-- Past the end there is no line; else the line read is the first of those from here, and the rest
+-- begins at its `next`. For `next_line`.
 use Rattle.std.proofs.Common.{◌≡◌, ◌+◌, ◌∷◌, take, drop, ap, sym, ◌∙◌, arith}
 use Rattle.std.proofs.lemmas.List.{length-take-le}
 use Rattle.death_spec.specs.declared.Class.TheVariants.{Line}

@@ -1,3 +1,4 @@
+-- The words of the mark of a panic are those of the definition. For `front_len`.
 use Rattle.std.proofs.Common.{◌∙◌, sym, ap}
 use Rattle.death_spec.specs.Marks.{front_len}
 use Rattle.death.proofs.marks.front_len.Goals as goal

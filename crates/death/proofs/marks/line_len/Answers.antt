@@ -1,3 +1,4 @@
+-- A line ends at its newline, or with the text. For `line_len`.
 use Rattle.death.proofs.Ends.{ended, unended}
 use Rattle.death.proofs.marks.line_len.Goals as goal
 

@@ -1,3 +1,4 @@
+-- A mark that stands here decides; else it stands one byte further, or nowhere. For `place_of`.
 use Rattle.std.proofs.Common.{◌∙◌, sym, ap, arith}
 use Rattle.death_spec.specs.Marks.{begins}
 use Rattle.death.proofs.Places.{here, behind, past}

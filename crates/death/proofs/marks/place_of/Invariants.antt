@@ -1,3 +1,4 @@
+-- No mark stands at a place below `at`. For the loop of `place_of`.
 use Rattle.std.proofs.Common.{◌≡◌, ◌≤◌, ◌-◌, ◌+◌, length, drop}
 use Rattle.death_spec.specs.Marks.{place_of}
 use Rattle.death.proofs.marks.place_of.Given as goal

@@ -1,3 +1,4 @@
+-- The first bytes are all of the class. For the loop of `run`.
 use Rattle.std.proofs.Common.{◌≡◌, ◌≤◌, ◌-◌, ◌+◌, length, drop}
 use Rattle.death_spec.specs.Marks.{run}
 use Rattle.death.proofs.marks.run.Given as goal

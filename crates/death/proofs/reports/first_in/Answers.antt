@@ -1,3 +1,5 @@
+-- A line that ends the report, or that has the mark, decides; any other leaves it to the rest. For
+-- `first_in`.
 use Rattle.std.proofs.Common.{ap, sym, ◌∙◌}
 use Rattle.death_spec.specs.Lines.{lines_from}
 use Rattle.death_spec.specs.Reports.{first_of}

@@ -1,3 +1,4 @@
+-- The first line of the report with the mark is among those from here. For the loop of `first_in`.
 use Rattle.std.proofs.Common.{◌≡◌, ◌-◌, ◌+◌, length}
 use Rattle.death_spec.specs.Lines.{lines_from}
 use Rattle.death_spec.specs.Reports.{first_of, report}

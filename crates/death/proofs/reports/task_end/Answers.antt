@@ -1,3 +1,4 @@
+-- Behind the words no mark of the kernel stands, so the task ends there. For `task_end`.
 use Rattle.std.proofs.Common.{◌≡◌, drop, ap, sym, ◌∙◌, arith}
 use Rattle.death_spec.specs.declared.Mark.TheVariants.{Kernel}
 use Rattle.death_spec.specs.Marks.{place_of}

@@ -1,3 +1,4 @@
+-- A line with the mark is the last so far, any other leaves it. For `last_in`.
 use Rattle.std.proofs.Common.{◌∙◌, sym, ap}
 use Rattle.std.specs.Option.{option_or}
 use Rattle.death_spec.specs.Lines.{lines_from}

@@ -1,3 +1,5 @@
+-- The last line with the mark is among those from here, or is the one so far. For the loop of
+-- `last_in`.
 use Rattle.std.proofs.Common.{◌≡◌, ◌-◌, ◌+◌, length}
 use Rattle.std.specs.Option.{option_or}
 use Rattle.death_spec.specs.Lines.{lines_from}

@@ -1,3 +1,4 @@
+-- A line that opens a report is the last so far, any other leaves it. For `last_oops`.
 use Rattle.std.proofs.Common.{ap, sym, ◌∙◌}
 use Rattle.std.specs.Option.{option_or}
 use Rattle.death_spec.specs.Lines.{lines_from}

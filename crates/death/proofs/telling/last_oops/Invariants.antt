@@ -1,3 +1,5 @@
+-- The last line that opens a report is among those from here, or is the one so far. For the loop
+-- of `last_oops`.
 use Rattle.std.proofs.Common.{◌≡◌, ◌-◌, ◌+◌, length}
 use Rattle.std.specs.Option.{option_or}
 use Rattle.death_spec.specs.Lines.{lines_from}

@@ -1,3 +1,5 @@
+-- The entry below that of `panic` is its caller; any other entry leaves it to the rest. For
+-- `caller_of_panic`.
 use Rattle.std.proofs.Common.{ap, sym, ◌∙◌}
 use Rattle.death_spec.specs.Traces.{entries, caller_of_panic}
 use Rattle.death.proofs.Traced.{panic_yes, panic_no, panic_none}

@@ -1,3 +1,4 @@
+-- The caller is among the entries from here. For the loop of `caller_of_panic`.
 use Rattle.std.proofs.Common.{◌≡◌, ◌-◌, ◌+◌, length}
 use Rattle.death_spec.specs.Traces.{entries, caller_of_panic}
 use Rattle.death.proofs.traces.caller_of_panic.Given as goal

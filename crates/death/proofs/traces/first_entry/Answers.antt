@@ -1,3 +1,5 @@
+-- A line with an entry is the first, one outside the trace ends it, and any other is passed. For
+-- `first_entry`.
 use Rattle.std.proofs.Common.{◌≡◌, ◌∷◌, [], ap, sym, ◌∙◌, arith}
 use Rattle.death_spec.specs.Traces.{is_entry, is_of_trace, entries, first}
 use Rattle.death.proofs.Traced.{entry_yes, entry_no, entry_end, entry_past}

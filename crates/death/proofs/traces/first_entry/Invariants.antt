@@ -1,3 +1,4 @@
+-- The entries from here are all of them. For the loop of `first_entry`.
 use Rattle.std.proofs.Common.{◌≡◌, ◌≤◌, ◌-◌, ◌+◌, length}
 use Rattle.death_spec.specs.Traces.{entries}
 use Rattle.death.proofs.traces.first_entry.Given as goal

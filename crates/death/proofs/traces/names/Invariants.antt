@@ -1,3 +1,4 @@
+-- The names so far, and those of the entries from here, are the names. For the loop of `names`.
 use Rattle.std.proofs.Common.{◌≡◌, ◌-◌, ◌+◌, ◌++◌, length, map}
 use Rattle.death_spec.specs.Traces.{entries, name_in}
 use Rattle.death.proofs.traces.names.Given as goal

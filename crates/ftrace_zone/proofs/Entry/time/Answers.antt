@@ -1,3 +1,4 @@
+-- The time is the third word without its low byte. For `Entry::time`.
 use Rattle.std.proofs.Common.{arith}
 use Rattle.ftrace_zone.proofs.Words.{entry_time-bytes}
 use Rattle.ftrace_zone.proofs.Entry.time.Goals as goal

@@ -1,3 +1,5 @@
+-- The text so far, and the lines of the zones that are left, are the layout's text. For the loop
+-- of `layout_text`.
 use Rattle.std.proofs.Common.{◌≡◌, ◌++◌, drop, flat_map}
 use Rattle.command_spec.specs.Texts.{layout_line, layout_text}
 use Rattle.zone_params.specs.Laid.{params_of, zones_of}

@@ -1,3 +1,5 @@
+-- `make` ends as wanted when the summary can't be printed, and when the image is written whole, or
+-- a front of it. `MakeEnds` has the cases.
 use Rattle.std.proofs.Common.{refl}
 use Rattle.command_spec.specs.Commands.{Make}
 use Rattle.image_tool.specs.Plans.{plan_for}

@@ -1,3 +1,5 @@
+-- `move_image` ends as wanted at each return: no memory, text not printed, image written whole, or
+-- a front of it. `MoveEnds` has the cases.
 use Rattle.std.proofs.Common.{[], ◌∙◌, ℕ, ap₂, refl, Err}
 use Rattle.zone_params.specs.Laid.{zones_of}
 use Rattle.prz_read.specs.Saving.{saved}

@@ -1,3 +1,5 @@
+-- `erase` ends as wanted when the record is refused, and when the image is written back whole, or
+-- a front of it. `RecordEnds` has the cases.
 use Rattle.std.proofs.Common.{refl}
 use Rattle.command_spec.specs.Commands.{Erase}
 use Rattle.image_tool.specs.Plans.{plan_for}

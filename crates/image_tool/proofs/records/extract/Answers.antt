@@ -1,3 +1,5 @@
+-- `extract` ends as wanted when the name is refused, and when the content is printed whole, or a
+-- front of it. Before that nothing is printed.
 use Rattle.std.proofs.Common.{refl, subst, List, ℕ, Err}
 use Rattle.prz_read.specs.Saving.{saved}
 use Rattle.ram_session.specs.Records.{IsContent}

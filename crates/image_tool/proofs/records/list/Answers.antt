@@ -1,3 +1,5 @@
+-- `list` ends as wanted when the listing is printed whole, or a front of it. An image that can't
+-- be read leaves the output as it was.
 use Rattle.std.proofs.Common.{refl, Err}
 use Rattle.command_spec.specs.Commands.{ListRecords}
 use Rattle.image_tool.specs.Plans.{plan_for}

@@ -1,3 +1,4 @@
+-- The logs that `read_logs` gives are those that a boot of the image would save.
 use Rattle.image_tool.proofs.Booted.{saved_from_read}
 use Rattle.image_tool.proofs.records.read_logs.Goals as goal
 

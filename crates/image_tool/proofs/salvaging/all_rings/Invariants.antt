@@ -1,3 +1,5 @@
+-- The rings found so far, and those that the scan still has, are the rings of the dump. For the
+-- loop of `all_rings`.
 use Rattle.std.proofs.Common.{◌≡◌, ◌++◌, length}
 use Rattle.image_tool.proofs.salvaging.all_rings.Given as goal
 

@@ -1,3 +1,5 @@
+-- The text so far, and the lines of the rings that are left, are the text of all rings. For the
+-- loop of `rings_text`.
 use Rattle.std.proofs.Common.{◌≡◌, ◌++◌, drop, flat_map}
 use Rattle.command_spec.specs.Texts.{ring_line, rings_text}
 use Rattle.image_tool.proofs.salvaging.rings_text.Given as goal

@@ -1,3 +1,4 @@
+-- The machine and the logs that `boot_store` gives are those of a boot of the image that was read.
 use Rattle.image_tool.proofs.Booted.{booted_from}
 use Rattle.image_tool.proofs.stores.boot_store.Goals as goal
 

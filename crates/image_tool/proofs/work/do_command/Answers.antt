@@ -1,3 +1,5 @@
+-- Each arm of `do_command` has done its command's work, and printed no more than that. `WorkEnds`
+-- turns what an arm promises into it.
 use Rattle.std.proofs.Common.{refl, arith}
 use Rattle.command_spec.specs.Commands.{ShowLayout as ShowLayoutOf, Blank as BlankOf}
 use Rattle.tool_frame.specs.Words.{plan_for}

@@ -1,3 +1,5 @@
+-- `do_work` has done what the words ask for: nothing for a refused plan, and a move's work for
+-- `move`. The other plans need no answer.
 use Rattle.std.proofs.Common.{refl, arith, Err}
 use Rattle.command_spec.specs.Commands.{OfMove, plan_of}
 use Rattle.tool_frame.specs.Words.{texts, move_for}

@@ -1,3 +1,5 @@
+-- From the work of a plan, and the last line after it, follows all that `run` promises of status,
+-- text, image and boots.
 use Rattle.std.proofs.Common.{refl}
 use Rattle.command_spec.specs.Commands.{asked, plan_of}
 use Rattle.tool_frame.specs.Words.{texts}

@@ -1,3 +1,4 @@
+-- The lines that stay are the last ones that leave room for so many bytes. For `make_room`.
 use Rattle.std.proofs.Common.{◌≡◌, ℕ, ◌-◌, ◌<◌, ◌≤◌, List, length, drop, subst, ap, sym, ◌∙◌, arith}
 use Rattle.circular_buffer.specs.Buffer.{Buffer, buffer, keep_last}
 use Rattle.kmsg_spec.specs.Bodies.{bytes_of, last_lines}

@@ -1,3 +1,4 @@
+-- An empty log keeps no lines. For `KLog::new`.
 use Rattle.std.proofs.Common.{ap, sym, ◌∙◌}
 use Rattle.std.proofs.lemmas.List.Elements.{All-nil}
 use Rattle.kmsg_spec.specs.Bodies.{bytes_of}

@@ -1,3 +1,5 @@
+-- What was gathered is handed out next, of data alone: at most four stores, not past `until`, and
+-- the flight stays one of its call. For the loop of `take_data`.
 use Rattle.std.proofs.Common.{◌≡◌, ◌-◌, ◌≤◌, List, ℕ}
 use Rattle.store_steps.specs.Flying.{Flying, flying}
 use Rattle.store_steps.specs.Machine.{IsKept}

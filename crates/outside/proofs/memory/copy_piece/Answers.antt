@@ -1,3 +1,4 @@
+-- The bytes copied are the front of what is left. For `copy_piece`.
 use Rattle.std.proofs.Common.{arith, ◌≡◌, take, drop, length, ◌-◌}
 use Rattle.std.proofs.lemmas.Grind.{common_steps}
 use Rattle.outside.proofs.Taken.{rest_taken}

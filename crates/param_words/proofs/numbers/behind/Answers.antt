@@ -1,3 +1,4 @@
+-- What stands after the front, if the text begins with it. For `behind`.
 use Rattle.param_words.proofs.Texts.{behind_front}
 use Rattle.param_words.proofs.numbers.behind.Goals as goal
 

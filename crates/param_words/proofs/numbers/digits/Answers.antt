@@ -1,3 +1,4 @@
+-- Digits of the base parse as their number, and a sign is none. For `digits`.
 use Rattle.std.proofs.Common.{◌∙◌, arith}
 use Rattle.std.proofs.lemmas.Str.Pattern.{starts_char}
 use Rattle.param_words.proofs.Texts.{parsed_digits, not_decided}

@@ -1,3 +1,4 @@
+-- `0x` reads hexadecimal digits, `0` octal ones, and any other front decimal ones. For `number`.
 use Rattle.std.proofs.Common.{◌∙◌, sym}
 use Rattle.param_words.proofs.Texts.{number_hex, number_octal, number_decimal, short_zero, no_zero}
 use Rattle.param_words.proofs.numbers.number.Goals as goal

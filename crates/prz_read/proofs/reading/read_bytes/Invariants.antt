@@ -1,3 +1,5 @@
+-- The front is the reading of the blocks so far, and states are wanted as asked. For the loop of
+-- `read_bytes`.
 use Rattle.std.proofs.Common.{◌≡◌}
 use Rattle.prz_read.specs.Fronts.{ReadsTo}
 use Rattle.prz_read.proofs.reading.read_bytes.Given as goal

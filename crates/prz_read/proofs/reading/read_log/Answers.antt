@@ -1,3 +1,5 @@
+-- The bytes read, turned by the start word, are the log; the start lies among them. For
+-- `read_log`.
 use Rattle.std.proofs.Common.{List, ℕ, ◌++◌, drop, take, length, ap, ◌∙◌, arith}
 use Rattle.prz_read.proofs.Fronts.{log-turned, bytes_read-length}
 use Rattle.prz_read.proofs.reading.read_log.Goals as goal

@@ -1,3 +1,5 @@
+-- The corrections and then the erasure are the boot's stores, of which the first `limit` are made.
+-- For `settle_by`.
 use Rattle.std.proofs.Common.{◌≡◌, ◌-◌, ◌++◌, [], if◌then◌else◌, List, ℕ, length, take, min, ap, sym, ◌∙◌, subst, arith, refl}
 use Rattle.zone_spec.specs.Parts.{AreBytes}
 use Rattle.zone_spec.specs.Stores.{Store, after_stores}

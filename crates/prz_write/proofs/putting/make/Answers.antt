@@ -1,3 +1,5 @@
+-- A word, a run of line or payload, parity or nothing: the span has these bytes put in. For
+-- `make`.
 use Rattle.std.proofs.Common.{◌≡◌, ℕ, List, [], sym, ap, ◌∙◌, take, drop}
 use Rattle.std.proofs.lemmas.List.{set-get_or}
 use Rattle.zone_spec.specs.Stores.{after_stores}

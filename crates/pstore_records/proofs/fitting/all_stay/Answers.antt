@@ -1,3 +1,4 @@
+-- One answer more is that of the next zone, and in the end of all. For `all_stay`.
 use Rattle.std.proofs.Common.{◌<◌, length, map, ap, ◌∙◌, arith}
 use Rattle.std.proofs.lemmas.List.{take_all}
 use Rattle.zone_spec.specs.Records.{Saved}

@@ -1,3 +1,4 @@
+-- The answers are those of the first `i` zones. For the loop of `all_stay`.
 use Rattle.std.proofs.Common.{◌≡◌, map, take}
 use Rattle.zone_params.specs.Laid.{zones_of}
 use Rattle.zone_spec.specs.Records.{Saved}

@@ -1,3 +1,4 @@
+-- A zone that doesn't fit decides; one that does leaves it to the rest. For `fits`.
 use Rattle.std.proofs.Common.{◌<◌, Bool, true, ◌&&◌, List, length, arith, sym, ap, ◌∙◌}
 use Rattle.std.proofs.lemmas.List.{take_all}
 use Rattle.zone_spec.specs.Records.{Saved}

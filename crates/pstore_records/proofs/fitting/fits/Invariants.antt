@@ -1,3 +1,4 @@
+-- The record fits as far as the first `i` zones go. For the loop of `fits`.
 use Rattle.std.proofs.Common.{◌≡◌, true, take}
 use Rattle.zone_params.specs.Laid.{zones_of}
 use Rattle.machine_spec.specs.Moved.{fits}

@@ -1,3 +1,5 @@
+-- One log more is forgotten or kept, and in the end those left are the ones that fit. For
+-- `forget_unfit`.
 use Rattle.std.proofs.Common.{◌≡◌, ◌<◌, length, arith, ◌∙◌}
 use Rattle.zone_spec.specs.Records.{Saved}
 use Rattle.zone_params.specs.Laid.{zones_of}

@@ -1,3 +1,5 @@
+-- If the numbers of the dump zones rise a dump is that of its own zone alone, so one zone tells
+-- whether it stays. For `stays`.
 use Rattle.std.proofs.Common.{◌≡◌, ◌&&◌, Bool, sym, ap, ◌∙◌, Some}
 use Rattle.std.specs.Option.{option_map}
 use Rattle.zone_spec.specs.declared.ZoneName.{ZoneName}

@@ -1,3 +1,4 @@
+-- The entries of one log more are merged; in the end those of all are. For `merged_entries`.
 use Rattle.std.proofs.Common.{◌≡◌, ◌++◌, ◌∷◌, [], ◌+◌, ◌<◌, ℕ, List, Option, length, take, map, arith, ap, sym, ◌∙◌}
 use Rattle.std.specs.Prelude.{option_to_list, fold, flat_map}
 use Rattle.std.specs.Option.{option_copied}

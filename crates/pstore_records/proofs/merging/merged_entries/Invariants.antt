@@ -1,3 +1,4 @@
+-- The entries are those of the first `i` zones, merged. For the loop of `merged_entries`.
 use Rattle.std.proofs.Common.{◌≡◌, [], take, map}
 use Rattle.std.specs.Prelude.{fold}
 use Rattle.zone_spec.specs.declared.Kind.TheVariants.{Ftrace}

@@ -1,3 +1,5 @@
+-- One log more adds the length of its whole entries, and a merge has the sum of all. For
+-- `merged_len`.
 use Rattle.std.proofs.Common.{◌≡◌, ◌+◌, ◌^◌, ◌<◌, ◌≤◌, ℕ, List, Option, length, take, arith, ap, sym, ◌∙◌}
 use Rattle.std.specs.Prelude.{option_to_list, sum_by}
 use Rattle.std.specs.Option.{option_copied}

@@ -1,3 +1,4 @@
+-- The length is the sum of the first `i` zones, and small. For the loop of `merged_len`.
 use Rattle.std.proofs.Common.{◌≡◌, ◌*◌, ◌≤◌, ◌^◌, take}
 use Rattle.std.specs.Prelude.{sum_by}
 use Rattle.zone_spec.specs.declared.Kind.TheVariants.{Ftrace}

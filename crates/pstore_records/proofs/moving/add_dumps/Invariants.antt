@@ -1,3 +1,4 @@
+-- The moves are those of the dumps of the first `i` zones. For the loop of `add_dumps`.
 use Rattle.std.proofs.Common.{◌≡◌, ◌++◌, take}
 use Rattle.prz_read.specs.Saving.{saved}
 use Rattle.zone_params.specs.Laid.{zones_of}

@@ -1,3 +1,4 @@
+-- The moves are those of the first `i` zones of this kind. For the loop of `add_plain`.
 use Rattle.std.proofs.Common.{◌≡◌, ◌++◌, take}
 use Rattle.prz_read.specs.Saving.{saved}
 use Rattle.zone_params.specs.Laid.{zones_of}

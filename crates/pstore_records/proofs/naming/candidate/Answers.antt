@@ -1,3 +1,4 @@
+-- A text with none of the names' fronts is no name of a record. For `candidate`.
 use Rattle.std.proofs.Common.{sym, ◌∙◌}
 use Rattle.pstore_records.proofs.Finding.{nameless}
 use Rattle.pstore_records.proofs.naming.candidate.Goals as goal

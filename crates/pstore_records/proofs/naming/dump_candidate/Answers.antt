@@ -1,3 +1,5 @@
+-- What stands after `dmesg-ramoops-` is a number, with or without the ending of a compressed dump.
+-- For `dump_candidate`.
 use Rattle.std.proofs.Common.{Some, ap, ◌∙◌, sym, Bool}
 use Rattle.zone_spec.specs.declared.Name.TheVariants.{Dump}
 use Rattle.pstore_records.proofs.Finding.{split-some, split-none}

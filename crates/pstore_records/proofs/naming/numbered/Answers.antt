@@ -1,3 +1,4 @@
+-- A decimal number below 2^32 parses as itself, so its dump is the only one. For `numbered`.
 use Rattle.std.proofs.Common.{◌≡◌, Ok, arith}
 use Rattle.std.proofs.lemmas.Fmt.{parse-decimal}
 use Rattle.pstore_records.proofs.naming.numbered.Goals as goal

@@ -1,3 +1,5 @@
+-- The notice has the digits of both numbers and fixed words, or is the one of no errors. For
+-- `counts_len`.
 use Rattle.std.proofs.Common.{◌+◌, ◌<◌, arith}
 use Rattle.pstore_records.proofs.Texts.{errors_length}
 use Rattle.pstore_records.proofs.notices.counts_len.Goals as goal

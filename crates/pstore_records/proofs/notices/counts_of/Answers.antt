@@ -1,3 +1,4 @@
+-- One zone more adds what it counts. For the loop of `counts_of`.
 use Rattle.std.proofs.Common.{◌+◌, ◌<◌, ◌||◌, ℕ, Bool, length, arith}
 use Rattle.prz_read.specs.Saving.{saved}
 use Rattle.pstore_records.specs.Counts.{has_parity, corrected_in, bad_in}

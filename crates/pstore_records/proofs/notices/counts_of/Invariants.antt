@@ -1,3 +1,4 @@
+-- The counts are those of the first `i` zones, and small. For the loop of `counts_of`.
 use Rattle.std.proofs.Common.{◌≡◌, ◌*◌, ◌≤◌, ◌^◌, take}
 use Rattle.prz_read.specs.Saving.{saved}
 use Rattle.pstore_records.specs.Counts.{has_parity, corrected_in, bad_in}

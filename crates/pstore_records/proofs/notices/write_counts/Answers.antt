@@ -1,3 +1,4 @@
+-- The pieces written in turn are the notice's text. For `write_counts`.
 use Rattle.std.proofs.Common.{◌+◌, ◌<◌, ◌++◌, List, ℕ, ap, ◌∙◌, arith}
 use Rattle.std.specs.Prelude.{codes}
 use Rattle.pstore_records.proofs.Texts.{written}

@@ -1,3 +1,4 @@
+-- The content with the notice appended is that of the listed record. For `content`.
 use Rattle.std.proofs.Common.{◌≡◌, ◌++◌, ℕ, List, Some, sym, ap, ◌∙◌}
 use Rattle.prz_read.specs.Saving.{saved}
 use Rattle.zone_spec.specs.Notices.{notice}

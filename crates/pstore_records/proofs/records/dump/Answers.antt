@@ -1,3 +1,5 @@
+-- A zone without the dump is passed over, the first one with it is found, and at the end there is
+-- none. For `dump`.
 use Rattle.std.proofs.Common.{◌≡◌, ◌++◌, ◌∷◌, [], ◌+◌, ◌<◌, ℕ, Bool, true, false, List, Option, Some, None, length, take, drop, arith, ap, sym, ◌∙◌, refl}
 use Rattle.std.specs.Prelude.{is_some, slice_get}
 use Rattle.std.proofs.lemmas.List.{take_all}

@@ -1,3 +1,4 @@
+-- None of the first `i` zones has the dump. For the loop of `dump`.
 use Rattle.std.proofs.Common.{◌≡◌, [], take}
 use Rattle.prz_read.specs.Saving.{saved}
 use Rattle.pstore_records.proofs.Named.{dumps_named}

@@ -1,3 +1,4 @@
+-- The first console log and the first pmsg log are the records of these names. For `find_record`.
 use Rattle.std.proofs.Common.{sym, ◌∙◌}
 use Rattle.prz_read.specs.Saving.{saved}
 use Rattle.pstore_records.proofs.Given.{console-parts, pmsg-parts}

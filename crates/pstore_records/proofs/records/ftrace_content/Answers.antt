@@ -1,3 +1,4 @@
+-- No found ftrace zone is no record; else its content is the merged entries. For `ftrace_content`.
 use Rattle.std.proofs.Common.{sym}
 use Rattle.prz_read.specs.Saving.{saved}
 use Rattle.pstore_records.proofs.Given.{ftrace-none, ftrace-content, ftrace-listed}

@@ -1,3 +1,5 @@
+-- No found ftrace zone is no record; else its length is that of the merged entries. For
+-- `ftrace_len`.
 use Rattle.std.proofs.Common.{sym, ap, length}
 use Rattle.std.specs.Option.{option_map}
 use Rattle.zone_spec.specs.Records.{Listed}

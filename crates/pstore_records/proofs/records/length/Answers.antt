@@ -1,3 +1,4 @@
+-- The content's length and the notice's are the length of the listed record. For `length`.
 use Rattle.std.proofs.Common.{◌≡◌, ◌+◌, ℕ, Some, length, ap, ◌∙◌}
 use Rattle.prz_read.specs.Saving.{saved}
 use Rattle.zone_spec.specs.Notices.{notice}

@@ -1,3 +1,4 @@
+-- A name that one zone alone doesn't make has no time. For `time`.
 use Rattle.std.proofs.Common.{sym, ap, ◌∙◌}
 use Rattle.prz_read.specs.Saving.{saved}
 use Rattle.pstore_records.specs.Contents.{parts_in}

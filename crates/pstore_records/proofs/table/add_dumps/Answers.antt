@@ -1,3 +1,5 @@
+-- One zone more adds its dump's entry if it has one, and in the end all are there. For
+-- `add_dumps`.
 use Rattle.std.proofs.Common.{◌≡◌, ◌++◌, ◌<◌, ◌∙◌, length, arith}
 use Rattle.std.specs.Prelude.{option_to_list}
 use Rattle.std.proofs.lemmas.Grind.{common_steps}

@@ -1,3 +1,4 @@
+-- The entries are those of the dumps of the first `i` zones. For the loop of `add_dumps`.
 use Rattle.std.proofs.Common.{◌≡◌, ◌++◌, take}
 use Rattle.prz_read.specs.Saving.{saved}
 use Rattle.pstore_records.proofs.Tabled.{dump_entries}

@@ -1,3 +1,4 @@
+-- One zone more of the kind adds its record's entry if it has one. For `add_plain`.
 use Rattle.std.proofs.Common.{◌≡◌, ◌++◌, ◌<◌, length, arith}
 use Rattle.std.specs.Prelude.{option_to_list}
 use Rattle.std.proofs.lemmas.Grind.{common_steps}

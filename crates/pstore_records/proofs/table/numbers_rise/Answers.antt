@@ -1,3 +1,5 @@
+-- A dump zone whose number is too low decides; any other raises the least number. For
+-- `numbers_rise`.
 use Rattle.std.proofs.Common.{◌<◌, length, sym, ◌∙◌, arith}
 use Rattle.prz_read.specs.Saving.{saved}
 use Rattle.pstore_records.proofs.Alone.{rise-fails, rise-more, rise-passes, rise-ends}

@@ -1,3 +1,5 @@
+-- The numbers rise exactly when those of the zones left do from the least on. For the loop of
+-- `numbers_rise`.
 use Rattle.std.proofs.Common.{◌≡◌, drop}
 use Rattle.prz_read.specs.Saving.{saved}
 use Rattle.pstore_records.specs.Tables.{numbers_rise}

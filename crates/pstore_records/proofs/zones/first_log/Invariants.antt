@@ -1,3 +1,4 @@
+-- None of the first `i` zones gives a log of this kind. For the loop of `first_log`.
 use Rattle.std.proofs.Common.{◌≡◌, [], take}
 use Rattle.zone_spec.specs.Records.{logs_of}
 use Rattle.prz_read.specs.Saving.{saved}

@@ -1,3 +1,4 @@
+-- The number is that of the zone's flight, and 0 if the layout lacks the zone. For `left`.
 use Rattle.ram_generator.proofs.Making.{left_there, left_nowhere}
 use Rattle.ram_generator.proofs.calls.left.Goals as goal
 

@@ -1,3 +1,4 @@
+-- A call made in an idle store is counted with its stores. For `make_call`.
 use Rattle.ramoops.specs.Asks.{ask_seen}
 use Rattle.ram_generator.proofs.Making.{call_counted}
 use Rattle.ram_generator.proofs.calls.make_call.Goals as goal

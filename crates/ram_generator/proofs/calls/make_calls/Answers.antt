@@ -1,3 +1,4 @@
+-- One call more is made and counted, and the counts stay small. For the loop of `make_calls`.
 use Rattle.std.proofs.Common.{◌≡◌, ◌-◌, ◌≤◌, suc, List, ◌∷◌, length, map, arith}
 use Rattle.std.specs.List.{All, AllByRecursion}
 use Rattle.std_alloc.specs.Vec.Iter.{into_iter_items}

@@ -1,3 +1,5 @@
+-- The calls so far, and those that are left, are made and counted as the session's. For the loop
+-- of `make_calls`.
 use Rattle.std.proofs.Common.{◌≤◌, ◌-◌, length, map}
 use Rattle.std.specs.List.{All, AllByRecursion}
 use Rattle.std_alloc.specs.Vec.Iter.{into_iter_items}

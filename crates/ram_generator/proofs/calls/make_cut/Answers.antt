@@ -1,3 +1,5 @@
+-- No append leaves the session as it is; one that is cut has its first stores made, and one with
+-- no store left is whole. For `make_cut`.
 use Rattle.std.proofs.Common.{fold, Option, None, Some, sym, subst, refl}
 use Rattle.std.proofs.lemmas.Bool.{lt-ltb, le-ltb}
 use Rattle.script_spec.specs.Generated.{with_cut}

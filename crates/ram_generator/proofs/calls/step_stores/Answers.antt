@@ -1,3 +1,5 @@
+-- Stores made in the zone's flight are the session's steps; without a flight nothing changes. For
+-- `step_stores`.
 use Rattle.ram_generator.proofs.Making.{stepped_on, not_stepped}
 use Rattle.ram_generator.proofs.calls.step_stores.Goals as goal
 

@@ -1,3 +1,4 @@
+-- The flips of one zone more join those drawn so far. For `draw_all`.
 use Rattle.std.proofs.Common.{arith}
 use Rattle.script_spec.specs.Generated.{drawn_damage}
 use Rattle.ram_generator.proofs.Each.{flat_next, flat_end}

@@ -1,3 +1,5 @@
+-- The flips so far, and those of the zones that are left, are all that are drawn. For the loop of
+-- `draw_all`.
 use Rattle.std.proofs.Common.{drop}
 use Rattle.script_spec.specs.Generated.{draw_each, drawn_damage}
 use Rattle.ram_generator.proofs.Each.{IsFlat}

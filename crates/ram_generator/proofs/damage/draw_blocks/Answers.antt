@@ -1,3 +1,4 @@
+-- The flips of one block more join those drawn so far. For `draw_blocks`.
 use Rattle.std.proofs.Common.{◌≡◌, ◌*◌, ◌-◌, ap, arith}
 use Rattle.zone_spec.specs.Parts.{Block, part_len}
 use Rattle.ram_generator.proofs.Damaging.{blocks_start, block_more, blocks_all}

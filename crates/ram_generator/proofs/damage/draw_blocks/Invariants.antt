@@ -1,3 +1,5 @@
+-- The flips so far, and those of the blocks that are left, are the zone's. For the loop of
+-- `draw_blocks`.
 use Rattle.std.proofs.Common.{◌≤◌}
 use Rattle.script_spec.specs.Generated.{draw_each, drawn_flips}
 use Rattle.ram_generator.specs.Damage.{blocks_of}

@@ -1,3 +1,5 @@
+-- The number, the place and the masks are drawn in this order, for a part of this length. For
+-- `draw_flips`.
 use Rattle.ram_generator.proofs.Damaging.{flips_drawn, flips_number}
 use Rattle.ram_generator.proofs.damage.draw_flips.Goals as goal
 

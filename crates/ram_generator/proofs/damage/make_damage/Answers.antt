@@ -1,3 +1,4 @@
+-- One flip more is made, and in the end all are. For `make_damage`.
 use Rattle.std.proofs.Common.{refl, arith}
 use Rattle.ram_generator.proofs.Flips.{flips_start, flips_more, flips_end}
 use Rattle.ram_generator.proofs.damage.make_damage.Goals as goal

@@ -1,3 +1,4 @@
+-- The first flips are made. For the loop of `make_damage`.
 use Rattle.ram_generator.proofs.Flips.{AreUnderWay}
 use Rattle.ram_generator.proofs.damage.make_damage.Given as goal
 

@@ -1,3 +1,4 @@
+-- A flip within the image is made, one beyond it changes nothing. For `make_flip`.
 use Rattle.ram_generator.proofs.Flips.{flip_made, flip_refused}
 use Rattle.ram_generator.proofs.damage.make_flip.Goals as goal
 

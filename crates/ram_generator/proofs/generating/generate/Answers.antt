@@ -1,3 +1,5 @@
+-- The machine goes the eight rounds of the session of n, so its image and its counts are those of
+-- the definition. For `generate`.
 use Rattle.std.proofs.Common.{◌≡◌, ℕ, List, length, replicate, sym, ap, ◌∙◌, subst}
 use Rattle.std.proofs.lemmas.List.{length-replicate}
 use Rattle.zone_spec.specs.declared.Zone.{Zone}

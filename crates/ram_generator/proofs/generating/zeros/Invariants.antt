@@ -1,3 +1,4 @@
+-- The first bytes are zeros. For the loop of `zeros`.
 use Rattle.std.proofs.Common.{◌≡◌, ◌≤◌, replicate}
 use Rattle.ram_generator.proofs.generating.zeros.Given as goal
 

@@ -1,3 +1,4 @@
+-- The flips are drawn and made, and the boot is the session's. For `boot`.
 use Rattle.std.proofs.Common.{◌≡◌, ℕ, length, map, count_by, sym, ap, ◌∙◌, subst}
 use Rattle.machine_spec.specs.Report.{ZoneReport}
 use Rattle.ramoops.specs.Reports.{report_seen}

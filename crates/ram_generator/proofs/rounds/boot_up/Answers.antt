@@ -1,3 +1,4 @@
+-- A booted machine stands for the booted state, with its reports. For `boot_up`.
 use Rattle.std.proofs.Common.{map}
 use Rattle.ramoops.specs.Reports.{report_seen}
 use Rattle.ram_generator.proofs.Rounding.{is_up}

@@ -1,3 +1,5 @@
+-- The turns, the cut append and the stop are the session's, and name rings of the layout. For
+-- `halt`.
 use Rattle.std.proofs.Common.{ℕ, List, length, map, fold, sym, ap, ◌∙◌, subst, arith}
 use Rattle.std.specs.List.{All, AllByRecursion, range_with_len}
 use Rattle.std.proofs.lemmas.List.{length-map}

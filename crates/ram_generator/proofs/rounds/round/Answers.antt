@@ -1,3 +1,4 @@
+-- A round is its halt and its boot. For `round`.
 use Rattle.std.proofs.Common.{ℕ, List, sym, ap, ◌∙◌, subst}
 use Rattle.std.proofs.lemmas.Result.{IfOk-weaker, on_ok_weaker}
 use Rattle.zone_spec.specs.declared.Zone.{Zone}

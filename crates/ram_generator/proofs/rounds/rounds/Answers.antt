@@ -1,3 +1,4 @@
+-- One round more is the session's next, and the counts stay small. For `rounds`.
 use Rattle.std.proofs.Common.{◌+◌, ◌*◌, arith}
 use Rattle.ram_generator.proofs.Calling.{below_grown}
 use Rattle.ram_generator.proofs.Rounding.{rounds_more, rounds_end}

@@ -1,3 +1,4 @@
+-- The rounds so far are made, with at most 27 calls each. For the loop of `rounds`.
 use Rattle.std.proofs.Common.{◌≤◌, ◌*◌}
 use Rattle.ram_generator.specs.Counting.{AreBelow}
 use Rattle.ram_generator.proofs.Rounding.{MakesRounds}

@@ -1,3 +1,4 @@
+-- The names are those of the rings among the zones so far. For the loop of `rings`.
 use Rattle.std.proofs.Common.{◌≡◌, take}
 use Rattle.script_spec.specs.Generated.{rings}
 use Rattle.ram_generator.proofs.turns.rings.Given as goal

@@ -1,3 +1,5 @@
+-- What `Live::finish` leaves or refuses holds of each state that the machine stands for. For
+-- `finish`.
 use Rattle.ram_session.proofs.calls.finish.Goals as goal
 
 pub returns-in-Ok-clause-finished : goal.returns-in-Ok-clause-finished

@@ -1,3 +1,4 @@
+-- What `Live::make` leaves or refuses holds of each state that the machine stands for. For `make`.
 use Rattle.std.proofs.Common.{Err, ap, sym, ◌∙◌}
 use Rattle.zone_spec.specs.declared.Refusal.{Refusal}
 use Rattle.ram_session.proofs.calls.make.Goals as goal

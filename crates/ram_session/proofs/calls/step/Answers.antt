@@ -1,3 +1,5 @@
+-- What `Live::advance` leaves or refuses holds of each state that the machine stands for. For
+-- `step`.
 use Rattle.ram_session.proofs.calls.step.Goals as goal
 
 pub returns-in-Ok-clause-stepped : goal.returns-in-Ok-clause-stepped

@@ -1,3 +1,5 @@
+-- A record with a flight in one of its zones is busy; else its zones are erased and its logs
+-- forgotten. For `erase`.
 use Rattle.std.proofs.Common.{sym, ◌∙◌}
 use Rattle.ram_session.proofs.EraseLines.{busy, erased_named}
 use Rattle.ram_session.proofs.erasing.erase.Goals as goal

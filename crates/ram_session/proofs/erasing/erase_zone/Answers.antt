@@ -1,3 +1,5 @@
+-- A place without a zone, a zone of another record and a zone of this one: each is erased or left
+-- as defined. For `erase_zone`.
 use Rattle.ram_session.proofs.ErasedZones.{nowhere, elsewhere, answered_there}
 use Rattle.ram_session.proofs.erasing.erase_zone.Goals as goal
 

@@ -1,3 +1,4 @@
+-- One zone more is passed, and in the end all of the record are erased. For `erase_zones`.
 use Rattle.std.proofs.Common.{ap, length, arith}
 use Rattle.zone_spec.specs.declared.Zone.{Zone}
 use Rattle.ram_session.proofs.ErasedZones.{erases_none, erases_next, erases_all}

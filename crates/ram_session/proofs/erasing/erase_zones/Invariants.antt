@@ -1,3 +1,5 @@
+-- The zones that were passed are erased if they belong to the record. For the loop of
+-- `erase_zones`.
 use Rattle.ram_session.proofs.ErasedZones.{ErasesTo}
 use Rattle.ram_session.proofs.erasing.erase_zones.Given as goal
 

@@ -1,3 +1,5 @@
+-- No zone, a zone of another record, and one with or without a flight: each answers as defined.
+-- For `flies_at`.
 use Rattle.std.proofs.Common.{false}
 use Rattle.ram_session.proofs.ErasedZones.{none_there, not_flying, flying_told, flying_nowhere}
 use Rattle.ram_session.proofs.erasing.flies_at.Goals as goal

@@ -1,3 +1,5 @@
+-- A zone with a flight decides; with none in any zone no flight stands in the record. For
+-- `flies_in_record`.
 use Rattle.std.proofs.Common.{ap, length, arith}
 use Rattle.zone_spec.specs.declared.Zone.{Zone}
 use Rattle.ram_session.proofs.ErasedZones.{none_yet, none_next, flies_there, none_flies}

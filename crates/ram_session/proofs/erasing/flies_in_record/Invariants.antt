@@ -1,3 +1,4 @@
+-- No flight stands in the record's zones that were passed. For the loop of `flies_in_record`.
 use Rattle.ram_session.proofs.ErasedZones.{NoneFlies}
 use Rattle.ram_session.proofs.erasing.flies_in_record.Given as goal
 

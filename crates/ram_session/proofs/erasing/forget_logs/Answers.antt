@@ -1,3 +1,4 @@
+-- One log more is forgotten or kept, and in the end the record's are forgotten. For `forget_logs`.
 use Rattle.std.proofs.Common.{arith}
 use Rattle.ram_session.proofs.EraseLines.{forgets_none, forgets_stay, forgets_next, forgets_all}
 use Rattle.ram_session.proofs.erasing.forget_logs.Goals as goal

@@ -1,3 +1,5 @@
+-- The logs that were passed are forgotten if their zones belong to the record. For the loop of
+-- `forget_logs`.
 use Rattle.ram_session.proofs.EraseLines.{ForgetsTo}
 use Rattle.ram_session.proofs.erasing.forget_logs.Given as goal
 

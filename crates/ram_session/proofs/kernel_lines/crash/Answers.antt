@@ -1,3 +1,5 @@
+-- A dump with the body that the log makes is the crash's line; a refused one is refused as that
+-- line. For `crash`.
 use Rattle.std.proofs.Common.{refl}
 use Rattle.ram_session.proofs.KernelLines.{told_body, crash_done, crash_fails}
 use Rattle.ram_session.proofs.kernel_lines.crash.Goals as goal

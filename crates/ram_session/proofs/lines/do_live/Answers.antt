@@ -1,3 +1,5 @@
+-- Lines of the kernel and of the store, done or refused, are lines of the live machine. For
+-- `do_live`.
 use Rattle.std.proofs.Common.{subst, sym}
 use Rattle.grammar_spec.specs.declared.line.Line.{Line}
 use Rattle.ram_session.specs.Machines.{MachineFails}

@@ -1,3 +1,4 @@
+-- A refused flip is refused by the machine that is off. For `do_off`.
 use Rattle.std.proofs.Common.{subst, sym}
 use Rattle.grammar_spec.specs.declared.line.Line.{Line}
 use Rattle.grammar_spec.specs.declared.line.Line.TheVariants.{Flip}

@@ -1,3 +1,4 @@
+-- A dump begun or refused is the line `begin dump`. For `begin_dump`.
 use Rattle.ram_session.proofs.LiveLines.{begin_dump_done, begin_dump_refused}
 use Rattle.ram_session.proofs.live_lines.begin_dump.Goals as goal
 

@@ -1,3 +1,4 @@
+-- A refused erasure is the line `begin erase` refused. For `begin_erase`.
 use Rattle.ram_session.proofs.LiveLines.{begin_erase_refused}
 use Rattle.ram_session.proofs.live_lines.begin_erase.Goals as goal
 

@@ -1,3 +1,4 @@
+-- An append begun or refused is the line `begin write`. For `begin_write`.
 use Rattle.ram_session.proofs.LiveLines.{begin_write_done, begin_write_refused}
 use Rattle.ram_session.proofs.live_lines.begin_write.Goals as goal
 

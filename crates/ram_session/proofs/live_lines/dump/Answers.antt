@@ -1,3 +1,4 @@
+-- A dump made or refused is the line `dump`. For `dump`.
 use Rattle.ram_session.proofs.LiveLines.{dump_done, dump_refused}
 use Rattle.ram_session.proofs.live_lines.dump.Goals as goal
 

@@ -1,3 +1,4 @@
+-- A refused finish is the line `finish` refused. For `finish`.
 use Rattle.ram_session.proofs.LiveLines.{finish_refused}
 use Rattle.ram_session.proofs.live_lines.finish.Goals as goal
 

@@ -1,3 +1,4 @@
+-- A refused step is the line `step` refused. For `step`.
 use Rattle.ram_session.proofs.LiveLines.{step_refused}
 use Rattle.ram_session.proofs.live_lines.step.Goals as goal
 

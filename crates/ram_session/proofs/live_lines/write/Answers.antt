@@ -1,3 +1,4 @@
+-- An append made or refused is the line `write`. For `write`.
 use Rattle.ram_session.proofs.LiveLines.{write_done, write_refused}
 use Rattle.ram_session.proofs.live_lines.write.Goals as goal
 

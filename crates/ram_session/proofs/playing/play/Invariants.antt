@@ -1,3 +1,5 @@
+-- As many lines are done as were taken, with their texts printed and no fault. For the loop of
+-- `play`.
 use Rattle.std.proofs.Common.{◌≡◌, ◌≤◌, length}
 use Rattle.ram_session.specs.Machines.{crashes_of}
 use Rattle.ram_session.proofs.ScriptLines.{PlaysSoFar}

@@ -1,3 +1,5 @@
+-- A line whose text can't be printed is done all the same, and the output has a front of the text.
+-- For `play_line`.
 use Rattle.ram_session.proofs.playing.play_line.Goals as goal
 
 pub returns-in-Err-clause-played : goal.returns-in-Err-clause-played

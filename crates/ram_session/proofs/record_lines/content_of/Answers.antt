@@ -1,3 +1,5 @@
+-- The content that is found, or that there is none, is that of the record of this name. For
+-- `content_of`.
 use Rattle.std.proofs.Common.{refl, sym, ◌∙◌}
 use Rattle.prz_read.specs.Saving.{saved}
 use Rattle.ram_session.proofs.RecordLines.{given_content, given_none}

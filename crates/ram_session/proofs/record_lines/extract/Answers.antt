@@ -1,3 +1,4 @@
+-- The text of a record is the line `extract`; a name that no record has is refused. For `extract`.
 use Rattle.std.proofs.Common.{sym, ◌∙◌}
 use Rattle.prz_read.specs.Saving.{saved}
 use Rattle.ram_session.proofs.RecordLines.{extract_done, extract_refused, given_none, none_is}

@@ -1,3 +1,4 @@
+-- A boot stopped after so many stores is the line `boot K`. For `boot_part`.
 use Rattle.ram_session.proofs.StateLines.{part_done}
 use Rattle.ram_session.proofs.state_lines.boot_part.Goals as goal
 

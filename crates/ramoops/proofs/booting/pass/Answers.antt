@@ -1,3 +1,4 @@
+-- The zone that is passed was read, and its reading is that of its span. For `pass`.
 use Rattle.std.proofs.Common.{◌≡◌, ℕ, sym, ap, ◌∙◌, Some, None, arith}
 use Rattle.std.specs.Option.{option_copied}
 use Rattle.list_laws.proofs.Gets.{slice_get-zip_second}

@@ -1,3 +1,5 @@
+-- Each zone lies in its span, so one more can be read; the machine is then prepared to one zone
+-- further. For `prepare`.
 use Rattle.std.proofs.Common.{◌<◌, List, length, get_or, slice_get, ap, ◌∙◌, subst}
 use Rattle.std.specs.Option.{option_copied}
 use Rattle.zone_spec.specs.declared.Zone.{Zone}

@@ -1,3 +1,4 @@
+-- Logs, reports and told lists of the first `i` zones are taken. For the loop of `prepare`.
 use Rattle.std.proofs.Common.{length}
 use Rattle.zone_params.specs.Laid.{zones_of}
 use Rattle.ramoops.specs.OffSeen.{known_all}

@@ -1,3 +1,5 @@
+-- Each zone lies in its span; its log more makes the logs of one zone further, and in the end of
+-- all. For `read_logs`.
 use Rattle.std.proofs.Common.{◌≡◌, ℕ, List, get_or, slice_get, length, ap, subst, ◌∙◌, arith}
 use Rattle.zone_spec.specs.declared.Zone.{Zone}
 use Rattle.zone_params.specs.Laid.{zones_of}

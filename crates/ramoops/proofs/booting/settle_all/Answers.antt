@@ -1,3 +1,4 @@
+-- The boot stores of one zone more settle the spans one zone further. For `settle_all`.
 use Rattle.std.proofs.Common.{List, slice_get, ap, ◌∙◌, arith, rules}
 use Rattle.zone_spec.specs.declared.Zone.{Zone}
 use Rattle.zone_params.specs.Laid.{zones_of}

@@ -1,3 +1,5 @@
+-- One zone more is passed with what is left of the limit, and in the end spans and notes are those
+-- of a boot cut there. For `settle_part`.
 use Rattle.std.proofs.Common.{◌≡◌, ◌≤◌, ℕ, List, length, slice_get, true, sym, ap, ◌∙◌, subst, arith, rules}
 use Rattle.zone_spec.specs.declared.Zone.{Zone}
 use Rattle.zone_params.specs.Laid.{zones_of}

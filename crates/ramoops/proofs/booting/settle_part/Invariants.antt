@@ -1,3 +1,5 @@
+-- The first `i` zones are passed as the limit allows, each with its note, and there is room for
+-- the rest. For the loop of `settle_part`.
 use Rattle.std.proofs.Common.{◌≤◌, length}
 use Rattle.std.specs.Vec.{vec_capacity}
 use Rattle.zone_params.specs.Laid.{zones_of}

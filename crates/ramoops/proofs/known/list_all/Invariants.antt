@@ -1,3 +1,5 @@
+-- Known of all zones is what was at the start, and there is room for the rest. For the loop of
+-- `list_all`.
 use Rattle.std.proofs.Common.{◌≡◌, ◌≤◌, ◌-◌, length}
 use Rattle.std.specs.Vec.{vec_capacity}
 use Rattle.ramoops.specs.OffSeen.{known_all}

@@ -1,3 +1,5 @@
+-- From the last zone down, each zone's knowledge becomes what the boot left; in the end all is.
+-- For `pass_all`.
 use Rattle.std.proofs.Common.{refl, sym, ◌∙◌, arith, inl, inr, true≢false}
 use Rattle.std.proofs.lemmas.Bool.{cases_lt}
 use Rattle.std.specs.Vec.{vec_len}

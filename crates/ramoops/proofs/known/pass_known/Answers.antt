@@ -1,3 +1,4 @@
+-- With all zones listed there is one entry for each that was passed. For `pass_known`.
 use Rattle.std.proofs.Common.{◌≡◌, ℕ, List, length, sym, ap, ◌∙◌, subst}
 use Rattle.std.proofs.lemmas.List.{with_items_is}
 use Rattle.std_alloc.specs.Vec.{with_items}

@@ -1,3 +1,5 @@
+-- What is known so far, and what a stop tells of the zones left, is that of all zones, for which
+-- there is room. For the loop of `stop_all`.
 use Rattle.std.proofs.Common.{◌≡◌, ◌≤◌, ◌+◌, ◌++◌, length, map}
 use Rattle.std.specs.Vec.{vec_capacity}
 use Rattle.std_alloc.specs.Vec.Iter.{into_iter_items}

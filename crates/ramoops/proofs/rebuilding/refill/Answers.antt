@@ -1,3 +1,5 @@
+-- A forgotten log and one whose zone the layout lacks refill nothing; any other refills the zone
+-- of its name. For `refill`.
 use Rattle.std.proofs.Common.{◌≡◌, ℕ, List, [], ◌∷◌, Option, Some, Bor, ap, sym, ◌∙◌, subst}
 use Rattle.std.specs.Option.{option_map, option_copied}
 use Rattle.std.specs.Prelude.{slice_get, option_to_list}

@@ -1,3 +1,4 @@
+-- One log more refills one zone more, and in the end all. For `refill_all`.
 use Rattle.std.proofs.Common.{arith, subst, List}
 use Rattle.std.proofs.lemmas.List.{take_all}
 use Rattle.zone_spec.specs.Records.{Saved}

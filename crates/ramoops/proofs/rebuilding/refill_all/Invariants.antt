@@ -1,3 +1,4 @@
+-- The zones of the first `i` logs are refilled. For the loop of `refill_all`.
 use Rattle.std.proofs.Common.{take}
 use Rattle.prz_read.specs.Saving.{saved}
 use Rattle.ramoops.specs.Refilling.{RefillsAll}

@@ -1,3 +1,4 @@
+-- If the second list has ended nothing more is common. For the loop of `common_prefix`.
 use Rattle.std.proofs.Common.{◌≡◌, [], drop, nat_eq, ap, ◌∙◌, arith}
 use Rattle.std.specs.List.{common_prefix_len}
 use Rattle.std.proofs.lemmas.List.{drop_all}

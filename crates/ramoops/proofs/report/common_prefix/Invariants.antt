@@ -1,3 +1,4 @@
+-- The first `n` bytes are common to both lists. For the loop of `common_prefix`.
 use Rattle.std.proofs.Common.{◌≡◌, ◌≤◌, ◌+◌, ◌-◌, length, drop, nat_eq}
 use Rattle.std.specs.List.{common_prefix_len}
 use Rattle.ramoops.proofs.report.common_prefix.Given as goal

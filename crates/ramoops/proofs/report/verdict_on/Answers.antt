@@ -1,3 +1,5 @@
+-- A told list that is the log is as told; else the verdict has both lengths and the first place
+-- that differs. For `verdict_on`.
 use Rattle.std.proofs.Common.{◌≡◌, ℕ, List, length, nat_eq, sym, ap, ◌∙◌, arith, Some}
 use Rattle.std.proofs.lemmas.List.Sums.{common_prefix_len-le}
 use Rattle.zone_spec.specs.declared.Verdict.TheVariants.{Differs}

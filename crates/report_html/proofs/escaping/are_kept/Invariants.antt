@@ -1,3 +1,4 @@
+-- If all bytes so far are kept, they are their own escaping. For the loop of `are_kept`.
 use Rattle.std.proofs.Common.{◌≡◌, true, take}
 use Rattle.std.specs.Prelude.{flat_map}
 use Rattle.report_spec.specs.Escaped.{escaped_byte}

@@ -1,3 +1,4 @@
+-- The bytes appended one after another are the escaped ones. For `push_each`.
 use Rattle.std.proofs.Common.{◌++◌, ◌∙◌, List, ℕ, ap, sym, arith}
 use Rattle.std.specs.Prelude.{flat_map}
 use Rattle.std.proofs.lemmas.List.Concat.{flat_map-append}

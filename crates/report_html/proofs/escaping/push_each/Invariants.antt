@@ -1,3 +1,4 @@
+-- The escaped bytes so far are appended. For the loop of `push_each`.
 use Rattle.std.proofs.Common.{◌≡◌, ◌++◌, take}
 use Rattle.std.specs.Prelude.{flat_map}
 use Rattle.report_spec.specs.Escaped.{escaped_byte}

@@ -1,3 +1,4 @@
+-- The escaped bytes of the runs so far are appended. For the loop of `push_escaped`.
 use Rattle.std.proofs.Common.{◌≡◌, ◌≤◌, ◌-◌, ◌++◌, take, length}
 use Rattle.std.specs.Prelude.{flat_map}
 use Rattle.report_spec.specs.Escaped.{escaped_byte}

@@ -1,3 +1,5 @@
+-- The runs of the blocks cover them in order, none is empty, and each block reads as its run does.
+-- By `Covered`.
 use Rattle.report_html.proofs.Covered.{cover, states}
 use Rattle.report_html.proofs.laws.runs_cover_the_blocks.Goals as goal
 

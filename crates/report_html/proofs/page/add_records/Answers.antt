@@ -1,3 +1,4 @@
+-- One record more adds its parts, and all records hold bytes. For `add_records`.
 use Rattle.std.proofs.Common.{arith}
 use Rattle.std.proofs.lemmas.Grind.{common_steps}
 use Rattle.report_html.proofs.Foreign.{held_next, held_all}

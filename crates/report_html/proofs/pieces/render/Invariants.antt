@@ -1,3 +1,4 @@
+-- The text is that of the pieces so far. For the loop of `render`.
 use Rattle.std.proofs.Common.{◌≡◌, take}
 use Rattle.std.specs.Prelude.{flat_map}
 use Rattle.report_html.specs.Pieces.{piece_text}

@@ -1,3 +1,4 @@
+-- The values are those of the spans so far. For the loop of `span_values`.
 use Rattle.std.proofs.Common.{◌≡◌, map, take}
 use Rattle.serde_json.specs.View.{view}
 use Rattle.report_json.specs.Schema.{span_data}

@@ -1,3 +1,4 @@
+-- The values are those of the records so far. For the loop of `record_values`.
 use Rattle.std.proofs.Common.{◌≡◌, map, take}
 use Rattle.serde_json.specs.View.{view}
 use Rattle.prz_read.specs.Saving.{saved}

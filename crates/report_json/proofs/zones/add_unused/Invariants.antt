@@ -1,3 +1,4 @@
+-- As many unused blocks are added as were counted. For the loop of `add_unused`.
 use Rattle.std.proofs.Common.{◌≡◌, ◌++◌, map}
 use Rattle.std.specs.Prelude.{replicate}
 use Rattle.serde_json.specs.View.{view}

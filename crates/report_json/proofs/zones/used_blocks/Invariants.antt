@@ -1,3 +1,4 @@
+-- The values are those of the states so far. For the loop of `used_blocks`.
 use Rattle.std.proofs.Common.{◌≡◌, map, take}
 use Rattle.serde_json.specs.View.{view}
 use Rattle.report_json.specs.Schema.{part_data}

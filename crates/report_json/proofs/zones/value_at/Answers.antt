@@ -1,3 +1,4 @@
+-- A zone with its reading and its parts at one place has the value of all three. For `value_at`.
 use Rattle.std.proofs.Common.{◌≡◌, ◌∙◌, ℕ, length, get_or, Option, Some, None, refl, sym, ap, arith}
 use Rattle.std.proofs.lemmas.Option.{slice_get-get_or, slice_get_read}
 use Rattle.prz_region.proofs.Cutting.{no_zone}

@@ -1,3 +1,4 @@
+-- One zone's value more makes the list one zone longer. For the loop of `zone_values`.
 use Rattle.std.proofs.Common.{◌∙◌, ◌∷◌, [], ap, map}
 use Rattle.std.proofs.lemmas.List.{map-append}
 use Rattle.serde_json.specs.View.{view}

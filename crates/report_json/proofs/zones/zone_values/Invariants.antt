@@ -1,3 +1,4 @@
+-- The values are those of the first `i` zones. For the loop of `zone_values`.
 use Rattle.std.proofs.Common.{map}
 use Rattle.serde_json.specs.View.{view}
 use Rattle.report_json.specs.Schema.{AreZones}

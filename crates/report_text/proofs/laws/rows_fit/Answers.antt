@@ -1,3 +1,4 @@
+-- No row takes more than 76 columns. By `Cuts`.
 use Rattle.std.proofs.Common.{[], refl, arith}
 use Rattle.report_text.proofs.Cuts.{narrow}
 use Rattle.report_text.proofs.laws.rows_fit.Goals as goal

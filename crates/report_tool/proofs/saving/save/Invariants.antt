@@ -1,3 +1,4 @@
+-- The files of the records so far are made, with no fault. For the loop of `save`.
 use Rattle.std.proofs.Common.{◌≡◌, take}
 use Rattle.report_tool.specs.Saved.{Makes, files_of}
 use Rattle.report_tool.proofs.saving.save.Given as goal

@@ -1,3 +1,4 @@
+-- The loop of `numbers_at`: no node that was passed over has the path.
 use Rattle.std.proofs.Common.{◌≡◌, drop, find, map}
 use Rattle.std.specs.Str.{bytes_eq}
 use Rattle.dtb.specs.Told.{shown}

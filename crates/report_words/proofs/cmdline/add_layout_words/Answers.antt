@@ -1,3 +1,5 @@
+-- A word of the layout is added, a wrong one is the fault, and any other is passed. For
+-- `add_layout_words`.
 use Rattle.std.proofs.Common.{rules, ap, sym, ◌∙◌, ◌≡◌, bytes_eq, codes, false, subst, List, ℕ}
 use Rattle.grammar_spec.specs.Words.{texts}
 use Rattle.report_words.specs.Cmdline.{underscored, IsWordFault, IsLineFault}

@@ -1,3 +1,5 @@
+-- The words of the line so far are added, and the rest is what follows. For the loop of
+-- `add_layout_words`.
 use Rattle.std.proofs.Common.{length}
 use Rattle.grammar_spec.specs.Words.{texts}
 use Rattle.report_words.proofs.Adding.{Added}

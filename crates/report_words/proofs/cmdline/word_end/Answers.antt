@@ -1,3 +1,5 @@
+-- White space outside quotes ends the word, a quote turns it, and any other byte belongs to it.
+-- For `word_end`.
 use Rattle.std.proofs.Common.{◌≡◌, List, length, take, drop, ℕ, ◌==◌, cond, ◌∷◌, [], ◌+◌, false, arith, sym, ◌∙◌, subst, Bool}
 use Rattle.report_words.specs.Cmdline.{words_from}
 use Rattle.report_words.proofs.Lines.{fronted, none_read, more_read, ended_within, ended_behind, within_quotes, not_white, turns, stays}

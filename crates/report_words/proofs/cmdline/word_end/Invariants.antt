@@ -1,3 +1,4 @@
+-- The bytes so far are the front of the first word. For the loop of `word_end`.
 use Rattle.std.proofs.Common.{◌≡◌, ◌≤◌, ◌-◌, false, length, take, drop}
 use Rattle.report_words.specs.Cmdline.{words_from}
 use Rattle.report_words.proofs.Lines.{fronted}

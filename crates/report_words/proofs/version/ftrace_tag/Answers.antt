@@ -1,3 +1,4 @@
+-- A text without a point is no version; one with or without a patch has its tag. For `ftrace_tag`.
 use Rattle.std.proofs.Common.{◌∙◌}
 use Rattle.report_words.proofs.Tags.{no_point, with_patch, without_patch}
 use Rattle.report_words.proofs.version.ftrace_tag.Goals as goal

@@ -1,3 +1,4 @@
+-- The parts are those before and after the first point. For `split_at_point`.
 use Rattle.std.proofs.Common.{arith}
 use Rattle.report_words.proofs.Splits.{split_once_is}
 use Rattle.report_words.proofs.version.split_at_point.Goals as goal

@@ -1,3 +1,4 @@
+-- One known byte more is put in and counted if it differs. For `amend`.
 use Rattle.std.proofs.Common.{arith}
 use Rattle.salvage.proofs.Amends.{next, whole, counted}
 use Rattle.salvage.proofs.header.amend.Goals as goal

@@ -1,3 +1,5 @@
+-- The known bytes below `i` are put in, and the count is how many differed. For the loop of
+-- `amend`.
 use Rattle.salvage.proofs.Amends.{Amending}
 use Rattle.salvage.proofs.header.amend.Given as goal
 

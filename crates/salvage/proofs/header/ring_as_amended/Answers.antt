@@ -1,3 +1,5 @@
+-- Amended bytes that are no ring's words, that are no codeword, and that are one: each answers as
+-- the ring near the word. For `ring_as_amended`.
 use Rattle.std.proofs.Common.{◌≡◌, ◌++◌, ◌∙◌, length, sym, ap, true, false, ℕ}
 use Rattle.std.proofs.lemmas.Bool.{false_from_ne_true}
 use Rattle.code_spec.specs.Code.{is_codeword}

@@ -1,3 +1,5 @@
+-- Too many amends and a header of zeros are no ring; as many as can be corrected ask for a
+-- codeword, and fewer are decoded. For `ring_by`.
 use Rattle.std.proofs.Common.{ℕ, ◌-◌, ◌/◌, List, length, arith, refl, ap}
 use Rattle.salvage.proofs.Probed.{probe_is, probe_many, probe_near, zeros_none}
 use Rattle.salvage.proofs.header.ring_by.Goals as goal

@@ -1,3 +1,4 @@
+-- A clean, a fixed and a bad word each give the near codeword's ring, or none. For `ring_within`.
 use Rattle.std.proofs.Common.{ℕ, ◌+◌, ◌≤◌, List, length, ◌++◌, refl, arith}
 use Rattle.code_spec.specs.Code.{nearest}
 use Rattle.salvage.proofs.Probed.{near_bad, near_clean, near_fixed, fixed_few}

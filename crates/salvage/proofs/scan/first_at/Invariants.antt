@@ -1,3 +1,4 @@
+-- None of the shapes passed has a ring at the place. For the loop of `first_at`.
 use Rattle.std.proofs.Common.{◌≡◌, ◌*◌, drop}
 use Rattle.std.specs.Prelude.{filter_map}
 use Rattle.salvage_spec.specs.Rings.{ring_at}

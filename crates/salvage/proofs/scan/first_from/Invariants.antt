@@ -1,3 +1,4 @@
+-- No ring stands at the places passed. For the loop of `first_from`.
 use Rattle.std.proofs.Common.{◌≡◌}
 use Rattle.salvage.specs.Scans.{rings_from}
 use Rattle.salvage.proofs.scan.first_from.Given as goal

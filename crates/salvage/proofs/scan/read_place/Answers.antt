@@ -1,3 +1,4 @@
+-- The bytes copied from the dump are the zone's size, and read as the zone. For `read_place`.
 use Rattle.std.proofs.Common.{◌≡◌, ℕ, List, length, ap, ◌∙◌, subst}
 use Rattle.std.specs.Prelude.{IfOk}
 use Rattle.zone_spec.specs.Reading.{zone_reading}

@@ -1,3 +1,5 @@
+-- The shapes so far, and those of the zones left that are unlike them, are all shapes. For the
+-- loop of `shapes_of`.
 use Rattle.std.proofs.Common.{◌≡◌, ◌++◌, drop}
 use Rattle.salvage_spec.specs.Rings.{shapes}
 use Rattle.salvage.proofs.Gathered.{unlike}

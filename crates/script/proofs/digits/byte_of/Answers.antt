@@ -1,3 +1,4 @@
+-- Two hexadecimal digits are a byte, and with one that is none there is none. For `byte_of`.
 use Rattle.script.proofs.HexDigits.{pair_of, no_pair}
 use Rattle.script.proofs.digits.byte_of.Goals as goal
 

@@ -1,3 +1,5 @@
+-- One pair of digits more is one byte more; a pair that is no byte leaves the text without bytes.
+-- For `decode_into`.
 use Rattle.std.proofs.Common.{arith, ◌*◌}
 use Rattle.hex.proofs.Pairs.{decode_start, decode_step, decode_done}
 use Rattle.script.proofs.HexDigits.{no_bytes}

@@ -1,3 +1,5 @@
+-- The bytes so far, and those of the pairs that are left, are the text's. For the loop of
+-- `decode_into`.
 use Rattle.std.proofs.Common.{◌≡◌, ◌*◌, take, drop}
 use Rattle.hex.specs.Hex.{decode_pairs}
 use Rattle.hex.proofs.Pairs.{prepend}

@@ -1,3 +1,5 @@
+-- A text that is no decimal, has a leading zero or is too large is no number; any other is. For
+-- `number_below`.
 use Rattle.std.proofs.Common.{sym, ◌∙◌, arith}
 use Rattle.std.proofs.lemmas.Slice.Eq.{bytes_eq-Decides}
 use Rattle.script.proofs.Numbers.{number_below-no_decimal, number_below-decimal, number_below-other}

@@ -1,3 +1,4 @@
+-- A text of UTF-8 parses as it does, any other is no number. For `parsed`.
 use Rattle.script.proofs.Numbers.{not_text, parsed_is}
 use Rattle.script.proofs.fields.parsed.Goals as goal
 

@@ -1,3 +1,4 @@
+-- A printed script reads as the lines that it was printed from. For `print`.
 use Rattle.std.proofs.Common.{ap, ◌∙◌}
 use Rattle.std.proofs.lemmas.List.{take_all}
 use Rattle.grammar_spec.specs.Lines.{script_of}

@@ -1,3 +1,4 @@
+-- The text is that of the lines so far. For the loop of `print`.
 use Rattle.std.proofs.Common.{◌≡◌, take}
 use Rattle.grammar_spec.specs.Printed.{script_text}
 use Rattle.script.proofs.printing.print.Given as goal

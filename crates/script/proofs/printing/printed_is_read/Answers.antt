@@ -1,3 +1,4 @@
+-- What is printed is read as those lines and no others. By `Round`.
 use Rattle.script.proofs.Round.{printed_read}
 use Rattle.script.proofs.printing.printed_is_read.Goals as goal
 

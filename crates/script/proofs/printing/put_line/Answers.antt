@@ -1,3 +1,4 @@
+-- Word, tail and newline, put in turn, are the line's text. For `put_line`.
 use Rattle.std.proofs.Common.{◌≡◌, List, ℕ, [], ◌∷◌, ap, ◌∙◌, ◌++◌, append_assoc}
 use Rattle.script.specs.Writing.{word_text, tail_text}
 use Rattle.script.proofs.Joined.{word_and_tail}

@@ -1,3 +1,5 @@
+-- One line more is read, a bad one is the fault, and a last line without newline is bad. For
+-- `parse`.
 use Rattle.std.proofs.Common.{sym, ap, ◌+◌, ◌∙◌, Ok, Err}
 use Rattle.script.proofs.Loop.{at_start, one_more, fault_of_line, at_end, open_end}
 use Rattle.script.proofs.Inside.{read_fields}

@@ -1,3 +1,4 @@
+-- The lines so far are read, and the rest is what follows them. For the loop of `parse`.
 use Rattle.std.proofs.Common.{length}
 use Rattle.script.proofs.Loop.{IsReadSoFar}
 use Rattle.script.proofs.reading.parse.Given as goal

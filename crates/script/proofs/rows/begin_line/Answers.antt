@@ -1,3 +1,4 @@
+-- A line `begin` has a word after it, or is bad. For `begin_line`.
 use Rattle.std.proofs.Common.{◌==◌, ap, ◌∙◌}
 use Rattle.grammar_spec.specs.Rows.{begin_line}
 use Rattle.script.proofs.Cuts.{some_part}

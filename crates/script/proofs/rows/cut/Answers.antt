@@ -1,3 +1,4 @@
+-- A text with the mark is parted there, one without is one part. For `cut`.
 use Rattle.script.proofs.Cuts.{cut_at, cut_nowhere}
 use Rattle.script.proofs.rows.cut.Goals as goal
 

@@ -1,3 +1,4 @@
+-- Five fields are four of which the last has two. For `five`.
 use Rattle.script.proofs.Counts.{five_of_four}
 use Rattle.script.proofs.rows.five.Goals as goal
 

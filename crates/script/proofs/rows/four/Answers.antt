@@ -1,3 +1,4 @@
+-- Four fields are a pair and a pair. For `four`.
 use Rattle.script.proofs.Counts.{four_of_two}
 use Rattle.script.proofs.rows.four.Goals as goal
 

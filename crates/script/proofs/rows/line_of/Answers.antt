@@ -1,3 +1,4 @@
+-- A line that is not blank is read by its word and the fields after it. For `line_of`.
 use Rattle.std.proofs.Common.{◌==◌, sym, ◌∙◌}
 use Rattle.script.proofs.Cuts.{some_part}
 use Rattle.script.proofs.Counts.{line_of_more}

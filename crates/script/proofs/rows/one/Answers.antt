@@ -1,3 +1,4 @@
+-- More than one field is not one. For `one`.
 use Rattle.std.proofs.Common.{◌==◌, ap, ◌∙◌}
 use Rattle.grammar_spec.specs.Groups.{one}
 use Rattle.script.proofs.Cuts.{some_part}

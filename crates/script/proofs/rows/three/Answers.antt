@@ -1,3 +1,4 @@
+-- Three fields are two of which the last has two. For `three`.
 use Rattle.script.proofs.Counts.{three_of_two}
 use Rattle.script.proofs.rows.three.Goals as goal
 

@@ -1,3 +1,4 @@
+-- The zone of the name is valid and lies in the image, so its words can be read. For `can_open`.
 use Rattle.std.proofs.Common.{◌≡◌, ℕ, ◌+◌, ◌≤◌, List, length, get_or, sym, ap, ◌∙◌, subst, Some}
 use Rattle.std.specs.Prelude.{slice_get, IsTrue, ◌↔◌}
 use Rattle.zone_spec.specs.declared.Kind.TheVariants.{Dump}

@@ -1,3 +1,4 @@
+-- The oldest seat's first place lies in the ring. For `held`.
 use Rattle.std.proofs.Common.{arith}
 use Rattle.shared_ring.specs.Seats.{IsSeat}
 use Rattle.shared_ring.proofs.SeatLists.{is_seat}

@@ -1,3 +1,4 @@
+-- Blank lines, `reserve`, `store` and lines of other scripts each go as defined. For `do_line`.
 use Rattle.shared_session.proofs.Done.{blank_done, some_bytes, reserve_done, store_done, other_line}
 use Rattle.shared_session.proofs.lines.do_line.Goals as goal
 

@@ -1,3 +1,4 @@
+-- A payload reserved is the line's operation. For `reserve`.
 use Rattle.std.proofs.Common.{length}
 use Rattle.shared_spec.specs.Machine.{refusal}
 use Rattle.shared_spec.specs.Histories.{shared_zone}

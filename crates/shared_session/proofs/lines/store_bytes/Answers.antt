@@ -1,3 +1,4 @@
+-- One byte more is one step more; a call that is done ends the line. For `store_bytes`.
 use Rattle.std.proofs.Common.{ℕ, subst, arith}
 use Rattle.shared_ring.specs.Seen.{IsLeftBy}
 use Rattle.script_spec.specs.SharedScripts.{with_steps}

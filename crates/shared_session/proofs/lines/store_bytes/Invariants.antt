@@ -1,3 +1,4 @@
+-- So many steps of the call are made. For the loop of `store_bytes`.
 use Rattle.std.proofs.Common.{◌≤◌, ◌-◌}
 use Rattle.shared_spec.specs.Histories.{History}
 use Rattle.shared_ring.specs.Seen.{IsLeftBy}

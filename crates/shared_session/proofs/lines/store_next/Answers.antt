@@ -1,3 +1,4 @@
+-- The bytes stored for an open ticket are the line's operation. For `store_next`.
 use Rattle.std.proofs.Common.{sym, ◌∙◌}
 use Rattle.shared_spec.specs.Calls.{open_call}
 use Rattle.shared_spec.specs.Histories.{shared_zone}

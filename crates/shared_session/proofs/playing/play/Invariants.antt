@@ -1,3 +1,4 @@
+-- As many lines are done as were taken. For the loop of `play`.
 use Rattle.std.proofs.Common.{◌≡◌, length}
 use Rattle.shared_session.proofs.Played.{PlaysSoFar}
 use Rattle.shared_session.proofs.playing.play.Given as goal

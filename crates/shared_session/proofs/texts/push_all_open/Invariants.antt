@@ -1,3 +1,5 @@
+-- The text so far, and the lines of the calls that are left, are the text of all open calls. For
+-- the loop of `push_all_open`.
 use Rattle.std.proofs.Common.{◌≡◌, ◌++◌, drop, flat_map}
 use Rattle.script_spec.specs.SharedScripts.{open_text}
 use Rattle.shared_session.proofs.texts.push_all_open.Given as goal

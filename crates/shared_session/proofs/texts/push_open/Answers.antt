@@ -1,3 +1,4 @@
+-- The pieces pushed in turn are the line of an open call. For `push_open`.
 use Rattle.std.proofs.Common.{codes, decimal}
 use Rattle.script_spec.specs.Texts.{newline}
 use Rattle.shared_session.proofs.Pieces.{open-is}

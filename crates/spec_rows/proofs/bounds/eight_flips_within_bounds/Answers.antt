@@ -1,3 +1,5 @@
+-- The row `eight_flips_within_bounds`: damage of half the parity is within bounds. Computed with
+-- `Given` and `SixteenParityBytes`.
 use Rattle.std.proofs.Common.{replicate, refl, sym, subst, arith, inl}
 use Rattle.zone_spec.specs.Parts.{Block, part_word}
 use Rattle.zone_spec.specs.Damage.{IsWithinBounds}

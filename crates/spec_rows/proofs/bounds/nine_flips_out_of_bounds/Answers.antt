@@ -1,3 +1,5 @@
+-- The row `nine_flips_out_of_bounds`: damage of more than half the parity is out of bounds.
+-- Computed with `Given` and `SixteenParityBytes`.
 use Rattle.std.proofs.Common.{◌≡◌, ◌++◌, ◌≤◌, ℕ, List, [], replicate, refl, sym, ap, ◌∙◌, subst, arith, inl, inr, slice_index, Some, unwrap_or}
 use Rattle.code_spec.specs.Code.{distance, nearest}
 use Rattle.zone_spec.specs.Parts.{Block, part_word}

@@ -1,3 +1,4 @@
+-- The row `nearest_of_odd`: words with one and with three parity bytes. Computed with `Given`.
 use Rattle.std.proofs.Common.{refl, [], ◌∷◌}
 use Rattle.spec_rows.proofs.Computing.{computing}
 use Rattle.spec_rows.proofs.Given.{given_nearest, given_none}

@@ -1,3 +1,4 @@
+-- The row `nearest_of_two`: words with two parity bytes. Computed with `Given` and `LeftAway`.
 use Rattle.std.proofs.Common.{refl, [], ◌∷◌}
 use Rattle.spec_rows.proofs.Computing.{computing}
 use Rattle.spec_rows.proofs.Given.{given_nearest, given_none}

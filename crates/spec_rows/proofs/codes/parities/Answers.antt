@@ -1,3 +1,4 @@
+-- The row `parities`: parities of short messages. Computed with `Given`.
 use Rattle.std.proofs.Common.{refl, [], ◌∷◌, replicate}
 use Rattle.spec_rows.proofs.Computing.{computing}
 use Rattle.spec_rows.proofs.Given.{given_parity}

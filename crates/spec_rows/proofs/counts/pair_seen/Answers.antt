@@ -1,3 +1,4 @@
+-- The row `pair_seen`: which pair a header reads. The checker computes it.
 use Rattle.std.proofs.Common.{refl}
 use Rattle.spec_rows.proofs.Computing.{computing_all}
 use Rattle.spec_rows.proofs.counts.pair_seen.Goals as goal

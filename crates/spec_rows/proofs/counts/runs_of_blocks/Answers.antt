@@ -1,3 +1,4 @@
+-- The row `runs_of_blocks`: numbers of blocks as runs. The checker computes it.
 use Rattle.std.proofs.Common.{refl}
 use Rattle.spec_rows.proofs.Computing.{computing_all}
 use Rattle.spec_rows.proofs.counts.runs_of_blocks.Goals as goal

@@ -1,3 +1,5 @@
+-- The row `start_at_cap`: what may begin on a ring whose start is its capacity. The checker
+-- computes it.
 use Rattle.std.proofs.Common.{arith}
 use Rattle.spec_rows.proofs.counts.start_at_cap.Goals as goal
 

@@ -1,3 +1,4 @@
+-- The row `stores_of_append`: how many stores an append makes. The checker computes it.
 use Rattle.std.proofs.Common.{refl}
 use Rattle.spec_rows.proofs.Computing.{computing_all}
 use Rattle.spec_rows.proofs.counts.stores_of_append.Goals as goal

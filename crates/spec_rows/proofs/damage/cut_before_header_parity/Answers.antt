@@ -1,3 +1,5 @@
+-- The row `cut_before_header_parity`: an append with parity, cut before the header's parity.
+-- Computed with `SixteenParityBytes`.
 use Rattle.std.specs.Prelude.{Some}
 use Rattle.std.proofs.Common.{ℕ, List, refl, ap, ap₂, ◌∙◌}
 use Rattle.zone_spec.specs.Reading.{ZoneReading, zone_reading}

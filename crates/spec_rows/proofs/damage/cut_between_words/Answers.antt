@@ -1,3 +1,5 @@
+-- The row `cut_between_words`: an append with two parity bytes, cut after its words. Computed with
+-- `TwoParityBytes`.
 use Rattle.std.specs.Prelude.{Some}
 use Rattle.std.proofs.Common.{ℕ, List, refl, ap, ap₂, ◌∙◌}
 use Rattle.zone_spec.specs.Reading.{ZoneReading, zone_reading}

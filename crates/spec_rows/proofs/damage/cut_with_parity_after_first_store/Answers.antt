@@ -1,3 +1,5 @@
+-- The row `cut_with_parity_after_first_store`: an append with parity, cut after its first store.
+-- Computed with `SixteenParityBytes`.
 use Rattle.std.specs.Prelude.{Some}
 use Rattle.std.proofs.Common.{ℕ, List, refl, ap, ap₂, ◌∙◌}
 use Rattle.zone_spec.specs.Reading.{ZoneReading, zone_reading}

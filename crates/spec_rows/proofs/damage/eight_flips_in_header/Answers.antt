@@ -1,3 +1,5 @@
+-- The row `eight_flips_in_header`: eight flips in a header are corrected. Computed with
+-- `SixteenParityBytes`.
 use Rattle.std.specs.Prelude.{replicate, Some, None}
 use Rattle.std.proofs.Common.{ap, ◌∙◌}
 use Rattle.zone_spec.specs.Reading.{zone_reading}

@@ -1,3 +1,5 @@
+-- The row `foreign_header`: a cut header that reads as another zone's. Computed with
+-- `TwoParityBytes`.
 use Rattle.std.specs.Prelude.{replicate, Some}
 use Rattle.std.proofs.Common.{refl, ap, ◌∙◌}
 use Rattle.zone_spec.specs.Reading.{ZoneReading, zone_reading}

@@ -1,3 +1,5 @@
+-- The row `nine_flips_in_block`: nine flips in a block that no codeword is near to: it reads as it
+-- stands. Computed with `SixteenParityBytes`.
 use Rattle.std.specs.Prelude.{replicate, Some, None}
 use Rattle.std.proofs.Common.{ap, ◌∙◌}
 use Rattle.zone_spec.specs.Reading.{zone_reading}

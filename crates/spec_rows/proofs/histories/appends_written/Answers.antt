@@ -1,3 +1,4 @@
+-- The row `appends_written`: appends made, begun, finished and cut. The checker computes it.
 use Rattle.std.proofs.Common.{refl}
 use Rattle.spec_rows.proofs.Computing.{computing_all}
 use Rattle.history_spec.specs.Written.{written}

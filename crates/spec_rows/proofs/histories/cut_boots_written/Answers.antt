@@ -1,3 +1,4 @@
+-- The row `cut_boots_written`: two boots that are cut. The checker computes it.
 use Rattle.std.proofs.Common.{refl}
 use Rattle.spec_rows.proofs.Computing.{computing_all}
 use Rattle.history_spec.specs.Written.{written}

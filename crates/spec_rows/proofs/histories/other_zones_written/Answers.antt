@@ -1,3 +1,5 @@
+-- The row `other_zones_written`: calls in other zones, a dump onto a dump, and an erasure. The
+-- checker computes it.
 use Rattle.std.proofs.Common.{refl}
 use Rattle.spec_rows.proofs.Computing.{computing_all}
 use Rattle.history_spec.specs.Written.{written}

@@ -1,3 +1,5 @@
+-- The row `boot_of_foreign_header`: the stores of a boot in a zone that reads as another zone's.
+-- Computed with `TwoParityBytes`.
 use Rattle.std.proofs.Common.{ap, ◌∙◌}
 use Rattle.zone_spec.specs.Boot.{boot_stores}
 use Rattle.spec_rows.specs.Zones.{console_of_two}

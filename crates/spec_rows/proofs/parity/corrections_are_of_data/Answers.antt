@@ -1,3 +1,5 @@
+-- The row `corrections_are_of_data`: what a boot corrects in a block. Computed with
+-- `TwoParityBytes`.
 use Rattle.std.proofs.Common.{[], ◌∷◌, ap, ◌∙◌}
 use Rattle.zone_spec.specs.Reading.{zone_reading}
 use Rattle.zone_spec.specs.Boot.{boot_fixes}

@@ -1,3 +1,5 @@
+-- The row `cut_of_foreign_header`: the cut that a boot of another zone's header leaves after the
+-- signature. Computed with `TwoParityBytes`.
 use Rattle.std.proofs.Common.{◌≡◌, ◌-◌, List, [], ◌∷◌, length, sum_by, refl, ap, ◌∙◌}
 use Rattle.zone_spec.specs.Parts.{Header, part_word}
 use Rattle.zone_spec.specs.Stores.{Store, after_stores}

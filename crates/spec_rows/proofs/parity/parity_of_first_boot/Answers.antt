@@ -1,3 +1,5 @@
+-- The row `parity_of_first_boot`: the header's parity after a first boot. Computed with
+-- `TwoParityBytes`.
 use Rattle.std.proofs.Common.{refl, ap, ◌∙◌, slice_range}
 use Rattle.spec_rows.proofs.Computing.{computing}
 use Rattle.spec_rows.proofs.TwoParityBytes.{booted-is}

@@ -1,3 +1,5 @@
+-- The row `parity_of_first_record`: the parity of block and header after a first record. Computed
+-- with `TwoParityBytes`.
 use Rattle.std.proofs.Common.{refl, ap, ◌∙◌, slice_range}
 use Rattle.spec_rows.proofs.Computing.{computing}
 use Rattle.spec_rows.proofs.TwoParityBytes.{three-is}

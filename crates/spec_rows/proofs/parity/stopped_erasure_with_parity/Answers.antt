@@ -1,3 +1,5 @@
+-- The row `stopped_erasure_with_parity`: a boot with parity, cut within the erasure of a console.
+-- Computed with `SixteenParityBytes`.
 use Rattle.std.specs.Prelude.{Some}
 use Rattle.std.proofs.Common.{◌≡◌, ℕ, List, [], take, refl, ap, ap₂, ◌∙◌}
 use Rattle.zone_spec.specs.Parts.{Header, part_word}

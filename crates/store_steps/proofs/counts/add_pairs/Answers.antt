@@ -1,3 +1,5 @@
+-- The pairs of an append, an erasure and a dump are those before each of its stages, with the last
+-- one. For `add_pairs`.
 use Rattle.std.proofs.Common.{arith, ℕ, ◌≡◌, ◌++◌, ◌∷◌, [], List, sym, ap, ◌∙◌, length, refl, append-nil}
 use Rattle.zone_spec.specs.declared.Pair.{Pair}
 use Rattle.zone_spec.specs.Told.{Append, Erase, Dump}

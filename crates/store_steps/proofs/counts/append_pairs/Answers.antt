@@ -1,3 +1,4 @@
+-- A full ring keeps its size word, so its append has a pair less. For `append_pairs`.
 use Rattle.std.proofs.Common.{arith, ◌≡◌, ◌≢◌, ◌<◌, ◌++◌, ◌∷◌, [], ap, ◌∙◌}
 use Rattle.std.proofs.lemmas.Grind.{common_steps}
 use Rattle.store_steps.proofs.PairLists.{appends_full, appends_ne}

@@ -1,3 +1,5 @@
+-- No bytes touch no block; an append's two runs, a dump's one and an erasure's none are the
+-- touched blocks. For `call_runs`.
 use Rattle.std.proofs.Common.{arith, ℕ, ◌≡◌, ◌+◌, ◌-◌, ◌/◌, ◌<◌, List, sym, ap, ◌∙◌, length, filter, subst}
 use Rattle.std.proofs.lemmas.Grind.{common_steps}
 use Rattle.std.specs.List.{range_with_len}

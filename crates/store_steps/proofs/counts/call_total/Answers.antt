@@ -1,3 +1,4 @@
+-- The stages of an append and of a dump count as the call does. For `call_total`.
 use Rattle.std.proofs.Common.{arith, ◌≡◌, ◌+◌, ◌++◌, sym, ap, ◌∙◌, length}
 use Rattle.std.proofs.lemmas.List.Sums.{sum_by-append}
 use Rattle.std.specs.List.{sum_by}

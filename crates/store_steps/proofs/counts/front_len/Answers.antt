@@ -1,3 +1,4 @@
+-- A dump's body is cut to the room after its line; other calls have none. For `front_len`.
 use Rattle.std.proofs.Common.{refl, arith, ◌-◌, length, length-take}
 use Rattle.store_steps.specs.Calls.{front_of}
 use Rattle.store_steps.proofs.counts.front_len.Goals as goal

@@ -1,3 +1,4 @@
+-- An append stores its last bytes that fit; other calls store none. For `last_len`.
 use Rattle.std.proofs.Common.{refl, arith, ◌-◌, length, length-drop}
 use Rattle.store_steps.specs.Calls.{last_of}
 use Rattle.store_steps.proofs.counts.last_len.Goals as goal

@@ -1,3 +1,4 @@
+-- A dump has its line; other calls have none. For `line_len`.
 use Rattle.std.proofs.Common.{refl}
 use Rattle.store_steps.specs.Calls.{line_of}
 use Rattle.store_steps.proofs.counts.line_len.Goals as goal

@@ -1,3 +1,4 @@
+-- An erasure and a dump can be made on any ring. For `is_open`.
 use Rattle.std.proofs.Common.{refl}
 use Rattle.store_steps.proofs.steps.is_open.Goals as goal
 

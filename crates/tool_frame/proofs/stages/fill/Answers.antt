@@ -1,3 +1,5 @@
+-- Zeros that are written in pieces join to a longer front of zeros. A failed piece leaves a
+-- shorter front, and the image was asked to be written.
 use Rattle.std.proofs.Common.{[], arith, refl, replicate, ℕ, ◌∙◌, inl, inr}
 use Rattle.std.proofs.lemmas.List.{length-replicate}
 use Rattle.tool_frame.proofs.Pieces.{written_reach, zeros_short, zeros_next, written_none, asked_on}

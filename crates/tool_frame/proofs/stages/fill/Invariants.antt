@@ -1,3 +1,5 @@
+-- The first `at` bytes of the image are zeros that were written, no fault came, and a write was
+-- asked for or none was needed. For the loop of `fill`.
 use Rattle.std.proofs.Common.{◌≡◌, ◌⊎◌, ◌≤◌, ◌-◌, replicate}
 use Rattle.outside.specs.Outside.{Rose, Writes}
 use Rattle.tool_frame.proofs.stages.fill.Given as goal

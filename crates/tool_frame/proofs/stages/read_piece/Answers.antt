@@ -1,3 +1,5 @@
+-- `read_piece` lengthens the front of the buffer that agrees with the image by the bytes that it
+-- reads.
 use Rattle.std.proofs.Common.{◌≡◌, ◌+◌, ◌-◌, ◌∙◌, arith, length, take, drop}
 use Rattle.std.proofs.lemmas.Grind.{common_steps}
 use Rattle.tool_frame.proofs.Pieces.{read_into}

@@ -1,3 +1,5 @@
+-- The first `at` bytes of the buffer are those of the image, which is as before. For the loop of
+-- `read_pieces`.
 use Rattle.std.proofs.Common.{◌≡◌, ◌≤◌, ◌-◌, vec_len, take, IfSome}
 use Rattle.tool_frame.proofs.stages.read_pieces.Given as goal
 

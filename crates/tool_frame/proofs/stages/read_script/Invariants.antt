@@ -1,3 +1,5 @@
+-- The bytes so far are what the source gave, at most the limit, with no fault. For the loop of
+-- `read_script`.
 use Rattle.std.proofs.Common.{◌≡◌, ◌≤◌, ◌+◌, ◌-◌, vec_len}
 use Rattle.std.specs.Io.KnownBytes.{Consumes}
 use Rattle.command_spec.specs.Commands.{script_limit}

@@ -1,3 +1,5 @@
+-- A piece that is written lengthens the front of the image that is written, and a failed piece was
+-- asked for. For `save`.
 use Rattle.std.proofs.Common.{arith, ◌∙◌, inr}
 use Rattle.std.proofs.lemmas.Grind.{common_steps}
 use Rattle.tool_frame.proofs.Pieces.{written_next, asked_on}

@@ -1,3 +1,5 @@
+-- The first `at` bytes of the image are written, no fault came, and a write was asked for or none
+-- was needed. For the loop of `save`.
 use Rattle.std.proofs.Common.{◌≡◌, ◌⊎◌, ◌≤◌, ◌-◌, length, take}
 use Rattle.outside.specs.Outside.{Rose, Writes}
 use Rattle.tool_frame.proofs.stages.save.Given as goal

@@ -1,3 +1,5 @@
+-- The number of the word where the second parameters begin fits a `u32`: words without a fault are
+-- few. For `lay_move`.
 use Rattle.std.proofs.Common.{arith}
 use Rattle.tool_frame.proofs.FewWords.{few_words}
 use Rattle.tool_frame.proofs.words.lay_move.Goals as goal

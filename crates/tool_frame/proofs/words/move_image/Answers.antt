@@ -1,3 +1,5 @@
+-- A move has exactly one word `to`: none gives none, a second one gives none, and one parts the
+-- words. For `move_image`.
 use Rattle.std.proofs.Common.{◌+◌, ◌∙◌, sym, ap, is_some, Some, true, false}
 use Rattle.tool_frame.proofs.Parted.{no_to, one_to, rest_is}
 use Rattle.tool_frame.proofs.words.move_image.Goals as goal

@@ -1,3 +1,5 @@
+-- An empty append makes no write and keeps the words; any other makes the definition's writes and
+-- answers the words after them. For `append_ring`.
 use Rattle.std.proofs.Common.{◌∙◌, ◌≡◌, sym, ap, subst, List, ℕ, length}
 use Rattle.zone_spec.specs.Told.{last_items}
 use Rattle.blk_spec.specs.Layout.{capacity}

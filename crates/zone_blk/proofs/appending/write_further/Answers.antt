@@ -1,3 +1,4 @@
+-- If the last header says all there is, `write_further` makes no write.
 use Rattle.blk_spec.specs.Answers.{device}
 use Rattle.zone_blk.proofs.Turns.{makes-unless}
 use Rattle.zone_blk.proofs.appending.write_further.Goals as goal

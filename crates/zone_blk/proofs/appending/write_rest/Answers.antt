@@ -1,3 +1,4 @@
+-- If nothing goes on from place 0, `write_rest` makes no write.
 use Rattle.std.proofs.Common.{◌∙◌, sym, length, nat_lt}
 use Rattle.blk_spec.specs.Answers.{device}
 use Rattle.zone_blk.proofs.Turns.{makes-unless, not-some}

@@ -1,3 +1,5 @@
+-- A zone of no bytes needs no write; clearing any other leaves the store its size. For
+-- `clear_ring`.
 use Rattle.std.proofs.Common.{◌≡◌, sym, subst, List, eq-eqb, [], ◌∷◌}
 use Rattle.std.proofs.lemmas.Bool.{cond-true}
 use Rattle.blk_spec.specs.Writes.{Write}

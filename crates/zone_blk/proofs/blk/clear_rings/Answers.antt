@@ -1,3 +1,5 @@
+-- The empty headers of pmsg and console are the writes of a loading; if one fails those before it
+-- are made. For `clear_rings`.
 use Rattle.std.proofs.Common.{refl}
 use Rattle.blk_spec.specs.declared.BlkRing.TheVariants.{Console}
 use Rattle.blk_spec.specs.Layout.{ring_zone}

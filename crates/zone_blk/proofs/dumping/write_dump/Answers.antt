@@ -1,3 +1,5 @@
+-- What `write_dump` writes, piece by piece, is a dump's one write with the front of the body that
+-- fits.
 use Rattle.std.proofs.Common.{◌≡◌, ◌∙◌, ◌+◌, ◌-◌, ap, take, length, min, arith}
 use Rattle.std.proofs.lemmas.List.{take_min}
 use Rattle.blk_spec.specs.Dumps.{body_kept}

@@ -1,3 +1,5 @@
+-- A text with the dumps' front reads as a dump's name; a text that has no name of a record gives
+-- none. For `blk_find`.
 use Rattle.std.proofs.Common.{codes}
 use Rattle.zone_blk.proofs.Texts.{dump-name, prefixed, no-name}
 use Rattle.zone_blk.proofs.names.blk_find.Goals as goal

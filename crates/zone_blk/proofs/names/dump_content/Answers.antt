@@ -1,3 +1,5 @@
+-- The content of a compressed dump is its body; any other has its heading in front. For
+-- `dump_content`.
 use Rattle.std.proofs.Common.{◌≡◌, ◌∙◌, ◌++◌, sym, ap, List, ℕ, true, false}
 use Rattle.std.proofs.lemmas.Result.{IfOk-weaker}
 use Rattle.blk_spec.specs.Reading.{BlkDump}

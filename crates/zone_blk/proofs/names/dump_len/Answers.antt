@@ -1,3 +1,4 @@
+-- The length of a dump's content, compressed or with its heading. For `dump_len`.
 use Rattle.std.proofs.Common.{◌≡◌, ◌∙◌, sym, ap, length, true, false}
 use Rattle.blk_spec.specs.Reading.{BlkDump}
 use Rattle.zone_blk.proofs.Contents.{packed-length, plain-length}

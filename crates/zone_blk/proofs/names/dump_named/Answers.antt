@@ -1,3 +1,5 @@
+-- What stands after the dumps' front is a number, with or without the ending of a compressed dump.
+-- For `dump_named`.
 use Rattle.zone_blk.proofs.Texts.{packed-name, plain-name, stripped}
 use Rattle.zone_blk.proofs.names.dump_named.Goals as goal
 

@@ -1,3 +1,5 @@
+-- The dump at hand is the first of the name, or the search goes on, or ends with none. For the
+-- loop of `find_dump`.
 use Rattle.std.proofs.Common.{◌≡◌, ◌∙◌, sym, ap, true, false}
 use Rattle.blk_spec.specs.declared.BlkName.{BlkName}
 use Rattle.blk_spec.specs.Reading.{BlkDump}

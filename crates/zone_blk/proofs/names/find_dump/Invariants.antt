@@ -1,3 +1,4 @@
+-- No dump that was passed over has the name. For the loop of `find_dump`.
 use Rattle.std.proofs.Common.{◌≡◌, drop}
 use Rattle.std.specs.List.{find}
 use Rattle.blk_spec.specs.Reading.{BlkDump}

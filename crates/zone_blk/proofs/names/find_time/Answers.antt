@@ -1,3 +1,5 @@
+-- The dump at hand is the first of the number, or the search goes on, or ends with none. For the
+-- loop of `find_time`.
 use Rattle.std.proofs.Common.{◌≡◌, ◌≢◌, ◌==◌, ◌∙◌, sym, ap, false, eq-eqb, arith, Some}
 use Rattle.std.specs.Option.{option_map}
 use Rattle.std.proofs.lemmas.Bool.Decides.{nat_tests}

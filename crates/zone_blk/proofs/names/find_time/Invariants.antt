@@ -1,3 +1,4 @@
+-- No dump that was passed over has the number. For the loop of `find_time`.
 use Rattle.std.proofs.Common.{◌≡◌, ◌==◌, drop}
 use Rattle.std.specs.List.{find}
 use Rattle.blk_spec.specs.Reading.{BlkDump}

@@ -1,3 +1,4 @@
+-- `retain` keeps the dumps of other names, in their order. For `forget_dump`.
 use Rattle.std.proofs.Common.{not, rules}
 use Rattle.std.proofs.lemmas.Fn.{filter_same}
 use Rattle.blk_spec.specs.Reading.{BlkDump}

@@ -1,3 +1,5 @@
+-- A text that doesn't parse, or that a number doesn't print as, is no number of a dump. For
+-- `whole_number`.
 use Rattle.zone_blk.proofs.Texts.{no-decimal, other-decimal}
 use Rattle.zone_blk.proofs.names.whole_number.Goals as goal
 

@@ -1,3 +1,5 @@
+-- A dump of the reason raises the greatest counter, any other leaves it. For the loop of
+-- `greatest_counter`.
 use Rattle.std.proofs.Common.{◌≡◌, ap, arith}
 use Rattle.blk_spec.specs.Reading.{BlkDump}
 use Rattle.zone_blk.proofs.Readings.{greatest-begin, greatest-taken, greatest-passed, greatest-end}

@@ -1,3 +1,5 @@
+-- The greatest counter so far, and the dumps that are left, give that of all. For the loop of
+-- `greatest_counter`.
 use Rattle.std.proofs.Common.{◌≡◌, drop}
 use Rattle.zone_blk.proofs.Readings.{greatest-from}
 use Rattle.blk_spec.specs.Reading.{greatest_counter}

@@ -1,3 +1,5 @@
+-- A zone that lists no dump gives none; else headers and body read so are its dump. For
+-- `read_dump`.
 use Rattle.std.proofs.Common.{◌∙◌, ◌≡◌, ◌-◌, take, drop, List, ℕ, Option, IfSome, subst, sym}
 use Rattle.blk_spec.specs.Reading.{zone_bytes}
 use Rattle.zone_blk.proofs.Fronts.{none-listed, dump-listed}

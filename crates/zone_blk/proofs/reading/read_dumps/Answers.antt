@@ -1,3 +1,5 @@
+-- One zone's dump more keeps the list that of the zones so far, and at the end it is that of all
+-- zones. For `read_dumps`.
 use Rattle.std.proofs.Common.{◌∙◌, subst, sym, arith}
 use Rattle.blk_spec.specs.Answers.{HasRoom}
 use Rattle.zone_blk.proofs.Readings.{told-more, told-all, dump-told, inside-more}

@@ -1,3 +1,5 @@
+-- The dumps are those of the zones passed over, each inside its zone, and the store is unwritten.
+-- For the loop of `read_dumps`.
 use Rattle.std.proofs.Common.{◌≡◌, IfSome}
 use Rattle.std.specs.List.{All}
 use Rattle.blk_spec.specs.Answers.{HasRoom}

@@ -1,3 +1,5 @@
+-- A zone too small for a header, or with no log, has saved nothing; else the log that is read is
+-- the saved one. For `read_ring`.
 use Rattle.std.proofs.Common.{◌∙◌, ◌≡◌, drop, List, ℕ, Option, IfSome, subst, sym}
 use Rattle.blk_spec.specs.Reading.{zone_bytes, ring_log}
 use Rattle.zone_blk.proofs.Fronts.{small-saved, none-saved, log-saved}

@@ -1,3 +1,5 @@
+-- No byte left to pass is no write, and the bytes passed on are one write, whole or cut. For
+-- `write`.
 use Rattle.std.proofs.Common.{arith}
 use Rattle.blk_spec.specs.Answers.{device}
 use Rattle.zone_blk.proofs.Sequences.{makes-none, ends-one}

@@ -1,3 +1,4 @@
+-- The twelve bytes that `write_header` writes are the header's one write.
 use Rattle.std.proofs.Common.{◌∷◌, [], ◌≡◌}
 use Rattle.blk_spec.specs.Rings.{header_write}
 use Rattle.zone_blk.specs.Outcomes.{one_write}

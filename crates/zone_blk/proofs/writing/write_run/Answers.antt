@@ -1,3 +1,5 @@
+-- The data and then the header are written in turn; if the data fails no header is. For
+-- `write_run`.
 use Rattle.std.proofs.Common.{◌∷◌, [], ◌+◌}
 use Rattle.blk_spec.specs.Rings.{header_write}
 use Rattle.blk_spec.specs.Answers.{device}

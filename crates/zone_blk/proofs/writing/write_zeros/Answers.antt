@@ -1,3 +1,5 @@
+-- Zeros written in pieces make the zeros' writes up to the zone's end; a failed piece leaves those
+-- before it. For `write_zeros`.
 use Rattle.std.proofs.Common.{◌≡◌, ◌∙◌, arith, ◌+◌, ◌-◌, min, replicate, subst, List, ℕ}
 use Rattle.std.proofs.lemmas.List.{take-replicate}
 use Rattle.blk_spec.specs.Answers.{Device, device, Makes, FailsWithin}

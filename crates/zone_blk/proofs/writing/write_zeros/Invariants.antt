@@ -1,3 +1,4 @@
+-- The zeros up to `at` are written and the store has its size. For the loop of `write_zeros`.
 use Rattle.std.proofs.Common.{◌≡◌, ◌≤◌, ◌-◌}
 use Rattle.blk_spec.specs.Answers.{HasRoom, device}
 use Rattle.zone_blk.proofs.Sequences.{ZerosMade}

@@ -1,3 +1,4 @@
+-- The bytes copied are those of one block from `place` on, one at least. For `copy_piece`.
 use Rattle.std.proofs.Common.{◌≡◌, ℕ, List, ◌+◌, ◌-◌, ◌%◌, ◌++◌, length, take, drop, sym, ap, ◌∙◌, arith, length-drop}
 use Rattle.zone_boot.proofs.Rows.{put-is}
 use Rattle.zone_boot.proofs.Blocks.{piece-long, piece-is}

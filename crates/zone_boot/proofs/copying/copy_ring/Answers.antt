@@ -1,3 +1,5 @@
+-- The two runs of a ring, from its start and from place 0, are the log's bytes from `from` on. For
+-- `copy_ring`.
 use Rattle.std.proofs.Common.{◌≡◌, ℕ, List, ◌+◌, ◌-◌, ◌++◌, drop, ap₂, ◌∙◌, arith}
 use Rattle.zone_boot.specs.Reads.{bytes_at}
 use Rattle.zone_boot.proofs.Rows.{put-then}

@@ -1,3 +1,4 @@
+-- A piece more lengthens what is copied by the bytes that follow. For the loop of `copy_run`.
 use Rattle.std.proofs.Common.{ℕ, List, ◌+◌, ◌++◌, take, drop, refl, ap, ◌∙◌, arith}
 use Rattle.zone_boot.specs.Reads.{bytes_at}
 use Rattle.zone_boot.proofs.Rows.{put-none, put-then}

@@ -1,3 +1,5 @@
+-- The first `done` bytes of the run stand in `out`, and the rest of `out` is as before. For the
+-- loop of `copy_run`.
 use Rattle.std.proofs.Common.{◌≡◌, ◌≤◌, ◌+◌, ◌-◌, ◌++◌, take, drop}
 use Rattle.zone_boot.specs.Reads.{bytes_at}
 use Rattle.zone_boot.proofs.copying.copy_run.Given as goal

@@ -1,3 +1,4 @@
+-- The first 36 bytes of a log tell whether it begins with a time line. For `begins_with_line`.
 use Rattle.std.proofs.Common.{Option, refl, ap, ◌∙◌}
 use Rattle.std.specs.Option.{is_some}
 use Rattle.zone_spec.specs.declared.TimeLine.{TimeLine}

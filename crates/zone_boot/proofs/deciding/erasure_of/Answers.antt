@@ -1,3 +1,5 @@
+-- A found zone is kept or erased, an empty one kept, an invalid one erased, an unsigned one signed
+-- and erased. For `erasure_of`.
 use Rattle.zone_spec.specs.declared.State.TheVariants.{Unsigned, Empty, Invalid}
 use Rattle.zone_boot.proofs.Starting.{erasure-in, erasure-found}
 use Rattle.zone_boot.proofs.deciding.erasure_of.Goals as goal

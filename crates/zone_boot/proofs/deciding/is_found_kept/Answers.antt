@@ -1,3 +1,4 @@
+-- An ftrace zone is kept exactly when an append can be made on its ring. For `is_found_kept`.
 use Rattle.std.proofs.Common.{not, ◌&&◌, ◌||◌, ◌==◌, sym, ap, ◌∙◌}
 use Rattle.zone_spec.specs.declared.Words.{Words}
 use Rattle.zone_spec.specs.declared.Kind.{Kind}

@@ -1,3 +1,4 @@
+-- A byte that differs is one store more of the run. For the loop of `first_agreement`.
 use Rattle.zone_boot.proofs.Fixing.{agree-none, agree-next}
 use Rattle.zone_boot.proofs.handing.first_agreement.Goals as goal
 

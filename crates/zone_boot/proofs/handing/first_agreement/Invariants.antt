@@ -1,3 +1,4 @@
+-- The bytes from `from` to `i` all differ, so each is a store. For the loop of `first_agreement`.
 use Rattle.std.proofs.Common.{◌≡◌, ◌+◌, ◌++◌, ℕ, drop, slice_range}
 use Rattle.zone_spec.specs.Stores.{byte_stores}
 use Rattle.zone_spec.specs.Boot.{fix_stores}

@@ -1,3 +1,4 @@
+-- A byte that agrees needs no store. For the loop of `first_difference`.
 use Rattle.std.proofs.Common.{◌≡◌, ℕ, ◌+◌, drop, ap, ◌∙◌, arith}
 use Rattle.zone_spec.specs.Boot.{fix_stores}
 use Rattle.zone_boot.proofs.Fixing.{fix-same}

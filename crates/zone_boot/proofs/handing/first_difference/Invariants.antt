@@ -1,3 +1,4 @@
+-- The bytes from `from` to `i` agree and need no store. For the loop of `first_difference`.
 use Rattle.std.proofs.Common.{◌≡◌, ◌+◌, ℕ, drop}
 use Rattle.zone_spec.specs.Boot.{fix_stores}
 use Rattle.zone_boot.proofs.handing.first_difference.Given as goal

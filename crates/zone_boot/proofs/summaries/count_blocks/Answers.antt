@@ -1,3 +1,4 @@
+-- One block more adds its corrected bytes and whether it is bad. For the loop of `count_blocks`.
 use Rattle.std.proofs.Common.{ℕ, ◌+◌, sym, ap₂, ◌∙◌, arith}
 use Rattle.list_laws.proofs.Ranges.{sum_by-range_more}
 use Rattle.zone_spec.specs.Parts.{Block}

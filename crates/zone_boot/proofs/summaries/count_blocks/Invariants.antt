@@ -1,3 +1,4 @@
+-- The counts are the sums over the blocks so far, and small. For the loop of `count_blocks`.
 use Rattle.std.proofs.Common.{◌≡◌, ◌≤◌, ◌*◌}
 use Rattle.std.specs.List.{range_with_len, sum_by}
 use Rattle.zone_spec.specs.Parts.{Block}

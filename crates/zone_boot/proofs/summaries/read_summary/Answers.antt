@@ -1,3 +1,5 @@
+-- A found zone counts header and blocks, any other the header alone, as its reading does. For
+-- `read_summary`.
 use Rattle.std.proofs.Common.{sym, ◌∙◌}
 use Rattle.zone_boot.proofs.Summing.{summary-found, summary-other}
 use Rattle.zone_boot.proofs.summaries.read_summary.Goals as goal

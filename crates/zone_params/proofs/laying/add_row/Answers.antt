@@ -1,3 +1,4 @@
+-- One zone more is the row's next. For the loop of `add_row`.
 use Rattle.std.proofs.Common.{◌+◌, ◌*◌}
 use Rattle.zone_spec.specs.Layout.{zone_at}
 use Rattle.zone_params.proofs.LaidOut.{one_more}

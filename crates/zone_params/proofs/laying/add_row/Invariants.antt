@@ -1,3 +1,4 @@
+-- The zones so far are those before and the row's first. For the loop of `add_row`.
 use Rattle.std.proofs.Common.{◌≡◌, ◌+◌, ◌*◌, ◌++◌, map}
 use Rattle.std.specs.List.{range_with_len}
 use Rattle.zone_spec.specs.Layout.{zone_at}

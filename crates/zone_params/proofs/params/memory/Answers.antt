@@ -1,3 +1,4 @@
+-- The memory is the rounded `mem_size`, or what stands without one. For `memory`.
 use Rattle.std.proofs.Common.{◌∙◌, ap, sym, unwrap_or}
 use Rattle.std.specs.Option.{option_map}
 use Rattle.grammar_spec.specs.ZoneWords.{memory_of}

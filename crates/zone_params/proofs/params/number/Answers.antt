@@ -1,3 +1,4 @@
+-- A number is that of its key, or what stands without one. For `number`.
 use Rattle.std.proofs.Common.{◌∙◌, ap, sym, unwrap_or}
 use Rattle.zone_params.proofs.params.number.Goals as goal
 

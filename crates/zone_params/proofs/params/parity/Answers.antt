@@ -1,3 +1,4 @@
+-- The parity bytes are those of a key, or what stands without one. For `parity`.
 use Rattle.std.proofs.Common.{◌∙◌, ap, unwrap_or}
 use Rattle.zone_params.proofs.params.parity.Goals as goal
 

@@ -1,3 +1,4 @@
+-- The parity bytes of a key are read from its number. For `parity_given`.
 use Rattle.std.proofs.Common.{◌∙◌, Some, ap, sym}
 use Rattle.std.specs.Option.{option_map}
 use Rattle.grammar_spec.specs.ZoneWords.{parity_of}

@@ -1,3 +1,4 @@
+-- A faulty word gives its fault, and else the parameters are read, with the memory as given. For `read_words_over`.
 use Rattle.std.proofs.Common.{◌≡◌, ◌∙◌, ℕ, Option, Some, None, ap, sym, Ok, codes, unwrap_or, refl}
 use Rattle.std.specs.Option.{option_map}
 use Rattle.grammar_spec.specs.Words.{ok_unless, texts}

@@ -1,3 +1,4 @@
+-- No fault that was passed over holds. For the loop of `first`.
 use Rattle.std.proofs.Common.{◌≡◌, drop}
 use Rattle.zone_spec.specs.Layout.{first_fault}
 use Rattle.zone_params.proofs.rows.first.Given as goal

@@ -1,3 +1,4 @@
+-- A row whose zone is too small decides, one that has room or no zone is passed. For `has_tight`.
 use Rattle.std.proofs.Common.{◌∙◌, ◌&&◌, nat_lt, sym, ap}
 use Rattle.std.proofs.lemmas.Bool.{and_from, and_left, and_right, lt-ltb, le-ltb}
 use Rattle.zone_spec.specs.declared.Kind.TheVariants.{Dump}

@@ -1,3 +1,4 @@
+-- The rows passed over leave room. For the loop of `has_tight`.
 use Rattle.std.proofs.Common.{◌≡◌, ◌&&◌, nat_lt, drop}
 use Rattle.std.specs.List.{list_any}
 use Rattle.zone_spec.specs.declared.params.Row.{Row}

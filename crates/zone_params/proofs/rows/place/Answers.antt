@@ -1,3 +1,4 @@
+-- A row that has the name gives the place, and any other adds its count. For `place`.
 use Rattle.std.proofs.Common.{◌≡◌, ◌+◌, ◌&&◌, true, get_or, sym, ◌∙◌, arith}
 use Rattle.zone_spec.specs.declared.Kind.TheVariants.{Dump}
 use Rattle.zone_spec.specs.declared.params.Row.{Row}

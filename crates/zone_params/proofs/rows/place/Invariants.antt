@@ -1,3 +1,4 @@
+-- The zones of the rows so far are counted, and none has the name. For the loop of `place`.
 use Rattle.std.proofs.Common.{◌≡◌, ◌+◌, drop}
 use Rattle.std.specs.List.{sum_by}
 use Rattle.zone_spec.specs.declared.params.Row.{Row}

@@ -1,3 +1,4 @@
+-- 0 is rounded to 0, any other size to the power of two of its logarithm. For `rounded`.
 use Rattle.std.proofs.Common.{◌∙◌, sym, ap}
 use Rattle.std.proofs.lemmas.Nat.{one_shl}
 use Rattle.zone_spec.specs.Layout.{rounded}

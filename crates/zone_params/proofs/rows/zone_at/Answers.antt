@@ -1,3 +1,4 @@
+-- The parity of a kind without fault is small, so the zone's numbers fit. For `zone_at`.
 use Rattle.std.proofs.Common.{arith}
 use Rattle.zone_params.proofs.Faultless.{faultless, parity_within}
 use Rattle.zone_params.proofs.rows.zone_at.Goals as goal

@@ -1,3 +1,5 @@
+-- Without a fault of the parameters the zones' sizes are small, and the first fault of the rows is
+-- that of all zones. For `zone_fault`.
 use Rattle.std.proofs.Common.{◌∙◌, Bool, List, Some, None, if◌then◌else◌, ap, ◌&&◌, nat_lt}
 use Rattle.std.specs.List.{list_any}
 use Rattle.zone_spec.specs.declared.Zone.{Zone}

@@ -1,3 +1,4 @@
+-- The zones of a layout are valid. For the test's `zone_of`.
 use Rattle.std.proofs.Common.{arith}
 use Rattle.std.proofs.lemmas.Option.{slice_get-get_or}
 use Rattle.zone_tests.proofs.prz_ecc_tests.zone_of.Goals as goal

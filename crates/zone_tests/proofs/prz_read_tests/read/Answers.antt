@@ -1,3 +1,4 @@
+-- The zones of a layout are valid, so one can be read. For the test's `read`.
 use Rattle.std.proofs.lemmas.Option.{slice_get-get_or}
 use Rattle.zone_tests.proofs.prz_read_tests.read.Goals as goal
 

@@ -1,3 +1,5 @@
+-- The zones of a layout are valid, so one can be read with its parts. For the test's
+-- `read_with_parts`.
 use Rattle.std.proofs.lemmas.Option.{slice_get-get_or}
 use Rattle.zone_tests.proofs.prz_read_tests.read_with_parts.Goals as goal
 

@@ -1,3 +1,4 @@
+-- The zones of a layout are valid, so one can be read and settled. For the test's `settled`.
 use Rattle.std.proofs.lemmas.Option.{slice_get-get_or}
 use Rattle.zone_tests.proofs.prz_read_tests.settled.Goals as goal
 

@@ -1,3 +1,4 @@
+-- The flight's zone keeps its 4096 bytes. For the loop of the test's `steps`.
 use Rattle.std.proofs.Common.{◌≡◌}
 use Rattle.zone_tests.proofs.prz_write_tests.steps.Given as goal
 

@@ -1,3 +1,4 @@
+-- Both flights keep their zones' 4096 bytes. For the loop of the test `two_appends_interleave`.
 use Rattle.std.proofs.Common.{◌≡◌}
 use Rattle.zone_tests.proofs.prz_write_tests.two_appends_interleave.Given as goal
 

@@ -1,3 +1,4 @@
+-- What was handed out leaves a kept call on the same zone. For the test's `plays`.
 use Rattle.std.proofs.Common.{◌≡◌, ◌∙◌}
 use Rattle.zone_tests.proofs.store_steps_tests.plays.Goals as goal
 

@@ -1,3 +1,4 @@
+-- The call is kept, and its zone is the one it began with. For the loop of the test's `plays`.
 use Rattle.std.proofs.Common.{◌≡◌}
 use Rattle.store_steps.specs.Flying.{flying}
 use Rattle.store_steps.specs.Machine.{IsKept}

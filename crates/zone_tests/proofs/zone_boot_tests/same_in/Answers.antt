@@ -1,3 +1,4 @@
+-- The zones of a layout are valid, so one can be booted both ways. For the test's `same_in`.
 use Rattle.std.proofs.lemmas.Option.{slice_get-get_or}
 use Rattle.zone_tests.proofs.zone_boot_tests.same_in.Goals as goal
 

@@ -1,3 +1,4 @@
+-- A name is among the keys exactly when one of them has its bytes. For `contains`.
 use Rattle.std.proofs.Common.{◌∙◌, bytes_eq}
 use Rattle.param_words.proofs.WordLaws.{any_seen}
 use Rattle.param_words.proofs.words.Keys.contains.Goals as goal

@@ -1,3 +1,5 @@
+-- A word at fault decides, and one without fault gives a key of its own, so the words are few. For
+-- `first_fault`.
 use Rattle.std.proofs.Common.{◌∙◌, ap, sym, take, List, ℕ, arith}
 use Rattle.param_words.specs.Keys.{table_of}
 use Rattle.grammar_spec.specs.Words.{word_fault, texts}

@@ -1,3 +1,5 @@
+-- The words passed over have no fault, and each gives a key of its own. For the loop of
+-- `first_fault`.
 use Rattle.std.proofs.Common.{◌≡◌, ◌≤◌, take, drop, []}
 use Rattle.param_words.specs.Keys.{table_of}
 use Rattle.grammar_spec.specs.Words.{first_fault, texts}

@@ -1,3 +1,4 @@
+-- A word that gives the key has its number, and without one there is none. For `given`.
 use Rattle.std.proofs.Common.{◌∙◌}
 use Rattle.param_words.specs.Keys.{table_of}
 use Rattle.grammar_spec.specs.Words.{texts}

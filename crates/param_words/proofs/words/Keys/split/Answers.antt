@@ -1,3 +1,4 @@
+-- A word without `=` is no key and value. For `split`.
 use Rattle.param_words.proofs.WordLaws.{no_split}
 use Rattle.param_words.proofs.words.Keys.split.Goals as goal
 

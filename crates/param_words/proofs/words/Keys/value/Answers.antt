@@ -1,3 +1,5 @@
+-- A word that gives the key has the value, any other is passed, and at the end there is none. For
+-- `value`.
 use Rattle.std.proofs.Common.{◌≡◌, ◌∙◌, ◌==◌, false, sym}
 use Rattle.std.specs.List.{list_any}
 use Rattle.param_words.specs.Keys.{table_of}

@@ -1,3 +1,4 @@
+-- The words passed over don't give the key. For the loop of `value`.
 use Rattle.std.proofs.Common.{◌≡◌, drop}
 use Rattle.param_words.specs.Keys.{table_of}
 use Rattle.grammar_spec.specs.Words.{value_text, texts}

@@ -1,3 +1,5 @@
+-- A bare word, a key given twice, a value that is no number, and none of these: each is the word's
+-- fault or none. For `word_fault`.
 use Rattle.std.proofs.Common.{◌∙◌, sym, ap, not}
 use Rattle.param_words.specs.Keys.{table_of}
 use Rattle.grammar_spec.specs.Words.{texts}

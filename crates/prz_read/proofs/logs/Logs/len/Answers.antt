@@ -1,3 +1,4 @@
+-- There are as many saved zones as readings. For `Logs::len`.
 use Rattle.std.proofs.Common.{length, ap, sym, ◌∙◌}
 use Rattle.prz_read.specs.Saving.{SavedLogs, saved}
 use Rattle.prz_read.proofs.Saves.{zip-length}

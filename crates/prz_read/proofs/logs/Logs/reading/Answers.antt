@@ -1,3 +1,4 @@
+-- The reading of zone `i` stands beside the zone in what was saved. For `Logs::reading`.
 use Rattle.std.proofs.Common.{◌≡◌, Option, Some, ap, sym, subst, length, arith, ◌∙◌}
 use Rattle.std.specs.Prelude.{slice_get}
 use Rattle.std.specs.Option.{option_map}

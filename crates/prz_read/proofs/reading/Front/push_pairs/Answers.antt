@@ -1,3 +1,5 @@
+-- Two whole blocks lie below the size, so both can be tested and read; the front is then two
+-- blocks longer. For the loop of `push_pairs`.
 use Rattle.std.proofs.Common.{arith, ◌∙◌}
 use Rattle.ring_laws.proofs.PartsLaw.{block_some}
 use Rattle.prz_read.proofs.Pushing.{pair-room, next-pair}

@@ -1,3 +1,5 @@
+-- The front is the reading of the pairs so far, and states are wanted as before. For the loop of
+-- `push_pairs`.
 use Rattle.std.proofs.Common.{◌≡◌, ◌*◌}
 use Rattle.prz_read.specs.Fronts.{ReadsTo}
 use Rattle.prz_read.proofs.reading.Front.push_pairs.Given as goal

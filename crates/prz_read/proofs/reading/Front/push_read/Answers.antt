@@ -1,3 +1,5 @@
+-- The front with block `b` as it reads is the reading of the blocks up to it, with its counts. For
+-- `push_read`.
 use Rattle.std.proofs.Common.{◌≡◌, ℕ, List, ◌++◌, length, take, refl, sym, ap, ap₂, ◌∙◌, arith, length-take-le}
 use Rattle.zone_spec.specs.Parts.{Block}
 use Rattle.zone_spec.specs.PartReadings.{part_reading}

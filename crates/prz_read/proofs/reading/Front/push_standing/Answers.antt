@@ -1,3 +1,5 @@
+-- A codeword reads as it stands, with no count, so the front may take its bytes. For
+-- `push_standing`.
 use Rattle.std.proofs.Common.{ℕ, List, ◌+◌, ◌*◌, ◌++◌, slice_range, refl, ap, ap₂, ◌∙◌, arith}
 use Rattle.zone_spec.specs.Parts.{Block}
 use Rattle.zone_spec.specs.PartReadings.{part_reading}

@@ -1,3 +1,5 @@
+-- The corrections of the first `j` bytes are made or passed over. For the loop of
+-- `Tally::correct`.
 use Rattle.std.proofs.Common.{◌+◌, take, length, slice_range}
 use Rattle.zone_spec.specs.Boot.{fix_stores}
 use Rattle.prz_region.specs.CutRegion.{span}

@@ -1,3 +1,4 @@
+-- A byte that stands already needs no store; one that differs is one store. For `correct_byte`.
 use Rattle.std.proofs.Common.{List, ℕ, sym, ◌∙◌, ap, slice_index}
 use Rattle.prz_read.proofs.Storing.{makes-none, makes-same, fix-equal, fix-differs, span-is}
 use Rattle.prz_read.proofs.settling.Tally.correct_byte.Goals as goal

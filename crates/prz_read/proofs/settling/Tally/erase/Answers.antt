@@ -1,3 +1,5 @@
+-- Signature, two words of zero and the header's parity, in this order, are the stores of an
+-- erasure. For `Tally::erase`.
 use Rattle.std.proofs.Common.{◌≡◌, List, ℕ, length, ap, ◌∙◌, subst, arith, add-mul}
 use Rattle.zone_spec.specs.Parts.{AreBytes, Header, part_parity_at}
 use Rattle.zone_spec.specs.Stores.{byte_stores}

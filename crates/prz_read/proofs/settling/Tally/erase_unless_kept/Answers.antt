@@ -1,3 +1,4 @@
+-- A zone that is kept has no stores of an erasure. For `erase_unless_kept`.
 use Rattle.std.proofs.Common.{sym, ◌∙◌}
 use Rattle.prz_read.proofs.Storing.{makes-none, makes-same}
 use Rattle.prz_read.proofs.Erasures.{kept-none}

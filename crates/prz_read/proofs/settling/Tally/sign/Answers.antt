@@ -1,3 +1,4 @@
+-- An unsigned zone has one store more, its signature; any other has none. For `Tally::sign`.
 use Rattle.std.proofs.Common.{arith}
 use Rattle.prz_read.proofs.Storing.{makes-none, makes-same}
 use Rattle.prz_read.proofs.Erasures.{signing-own, signing-none}

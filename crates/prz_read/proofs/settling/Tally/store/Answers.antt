@@ -1,3 +1,4 @@
+-- A store before the limit is made and counted, one after it only counted. For `Tally::store`.
 use Rattle.std.proofs.Common.{[], ◌∷◌, refl, arith}
 use Rattle.std.proofs.lemmas.Bool.Decides.{nat_tests}
 use Rattle.zone_spec.specs.Stores.{byte_stores, put}

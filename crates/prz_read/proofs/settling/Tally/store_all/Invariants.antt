@@ -1,3 +1,4 @@
+-- The first `j` bytes are stored or passed over. For the loop of `store_all`.
 use Rattle.std.proofs.Common.{take}
 use Rattle.zone_spec.specs.Stores.{byte_stores}
 use Rattle.prz_read.specs.Making.{Makes}

@@ -1,3 +1,4 @@
+-- A word before the limit is stored and counted, after it only counted. For `Tally::store_word`.
 use Rattle.std.proofs.Common.{refl, arith, w32}
 use Rattle.std.specs.Int.{to_le_bytes}
 use Rattle.std.proofs.lemmas.Bool.Decides.{nat_tests}

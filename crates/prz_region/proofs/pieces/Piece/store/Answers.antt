@@ -1,3 +1,5 @@
+-- The bytes of a piece after one store are the old ones with the new put in at `at`, and are
+-- bytes. For `Piece::store`.
 use Rattle.std.proofs.Common.{◌≡◌, ℕ, ◌+◌, ◌<◌, take, drop, ◌++◌, ap, sym, subst, ◌∙◌, arith}
 use Rattle.core.specs.Mem.Slots.{slots_items}
 use Rattle.zone_spec.specs.Parts.{AreBytes}

@@ -1,3 +1,5 @@
+-- Each byte that is stored lies in the piece, and after the last all are put in. For
+-- `Piece::store_bytes`.
 use Rattle.std.proofs.Common.{ℕ, ◌+◌, List, [], ◌∷◌, drop, length, get_or, lit<, sym, ap, ◌∙◌, arith}
 use Rattle.core.specs.Mem.Slots.{slots_counts}
 use Rattle.zone_spec.specs.Stores.{put}

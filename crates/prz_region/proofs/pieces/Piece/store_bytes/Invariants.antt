@@ -1,3 +1,5 @@
+-- The bytes so far are put in, the piece has its place and length, and a store is counted for
+-- each. For the loop of `store_bytes`.
 use Rattle.std.proofs.Common.{◌≡◌, ◌+◌, drop, length}
 use Rattle.zone_spec.specs.Stores.{put}
 use Rattle.prz_region.specs.Chain.{piece_bytes, SamePlace}

@@ -1,3 +1,5 @@
+-- The last piece lies right before the rest, so the two can be glued to one. For the loop of
+-- `join`.
 use Rattle.std.proofs.Common.{◌≡◌, ℕ, ◌*◌, List, [], ◌∷◌, ◌++◌, sym, ap, subst, ◌∙◌, arith}
 use denote.RawPtr.{Ptr, ◌+ₚ◌}
 use Rattle.std.specs.List.{concat}

@@ -1,3 +1,5 @@
+-- The pieces that are left and the rest lie in one allocation, with the region's bytes end to end.
+-- For the loop of `join`.
 use Rattle.std.proofs.Common.{◌≡◌, ◌++◌, vec_len}
 use Rattle.std.specs.List.{concat}
 use Rattle.std.specs.Vec.{vec_ptr}

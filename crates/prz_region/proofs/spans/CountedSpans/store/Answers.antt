@@ -1,3 +1,4 @@
+-- A store of one byte lies in its span and sets that byte alone. For `store`.
 use Rattle.std.proofs.Common.{List, ℕ, ap, lit<, ◌∙◌, arith}
 use Rattle.prz_region.specs.CutRegion.{span, stored}
 use Rattle.prz_region.proofs.Stores.{AreBytes-one, put-one}

@@ -1,3 +1,4 @@
+-- The four bytes of a word are bytes and lie in the span. For `store_word`.
 use Rattle.std.proofs.Common.{lit<, subst, sym}
 use Rattle.zone_spec.specs.Parts.{AreBytes}
 use Rattle.prz_region.proofs.Stores.{AreBytes-word}

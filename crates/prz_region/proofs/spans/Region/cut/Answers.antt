@@ -1,3 +1,4 @@
+-- The zones of a layout lie side by side, as `cut_zones` wants them. For `cut`.
 use Rattle.prz_region.proofs.spans.Region.cut.Goals as goal
 
 pub cut_zones-requires-clause-side_by_side : goal.cut_zones-requires-clause-side_by_side

@@ -1,3 +1,5 @@
+-- The piece that is split off is the next zone's, and the rest begins where it ends. For the loop
+-- of `cut_zones`.
 use Rattle.std.proofs.Common.{◌≡◌, ℕ, ◌<◌, ◌≤◌, List, [], ◌∷◌, ◌++◌, length, take, drop, map, sym, ap, subst, ◌∙◌, arith}
 use Rattle.std.proofs.lemmas.List.{map-append}
 use Rattle.core.specs.Mem.Slots.{slots_len, slots_ptr, slots_items, slots_counts}

@@ -1,3 +1,5 @@
+-- The pieces so far are the bytes of the zones passed over, and the rest is what lies after them.
+-- For the loop of `cut_zones`.
 use Rattle.std.proofs.Common.{◌≡◌, length, take, drop, map, vec_len, vec_capacity}
 use Rattle.std.specs.Prelude.{◌+◌, slice_range}
 use Rattle.std.specs.Vec.{vec_ptr}

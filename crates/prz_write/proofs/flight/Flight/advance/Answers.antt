@@ -1,3 +1,5 @@
+-- A flight that stands for a zone's bytes before still does after its stores. For
+-- `Flight::advance`.
 use Rattle.std.proofs.Common.{sym, subst}
 use Rattle.prz_region.specs.CutRegion.{span}
 use Rattle.store_steps.specs.Machine.{StandsFor}

@@ -1,3 +1,5 @@
+-- After so many stores the zone's bytes are the image before with just these, and after all the
+-- call has no more. For `Flight::made`.
 use Rattle.std.proofs.Common.{◌≡◌, ap, sym, ◌∙◌, subst}
 use Rattle.store_steps.specs.Flying.{Flying}
 use Rattle.store_steps.specs.Machine.{IsKept}

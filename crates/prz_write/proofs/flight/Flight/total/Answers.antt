@@ -1,3 +1,4 @@
+-- The number is that of the call's stores. For `Flight::total`.
 use Rattle.std.proofs.Common.{ap, ◌∙◌}
 use Rattle.store_steps.specs.Flying.{Flying}
 use Rattle.store_steps.specs.Counts.{total_of}

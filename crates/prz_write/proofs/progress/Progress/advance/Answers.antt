@@ -1,3 +1,5 @@
+-- One run of stores more changes the one span, and what is left of the count goes down. For the
+-- loop of `Progress::advance`.
 use Rattle.std.proofs.Common.{length, ap, ◌∙◌, sym, subst, arith}
 use Rattle.prz_region.specs.CutRegion.{CutRegion, span, with_span}
 use Rattle.prz_region.proofs.Cuts.{with_span-again, spans-length}

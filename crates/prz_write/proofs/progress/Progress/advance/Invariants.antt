@@ -1,3 +1,5 @@
+-- The stores so far are of the same call, in one span, and the flight stands for its bytes. For
+-- the loop of `Progress::advance`.
 use Rattle.std.proofs.Common.{◌≡◌, ℕ, ◌+◌, ◌<◌, List, length}
 use Rattle.prz_region.specs.CutRegion.{span, with_span}
 use Rattle.rs_encode.specs.Lanes.{IsLent}

@@ -1,3 +1,5 @@
+-- What is handed out and made takes the flight on: it stands for the span's new bytes, which keep
+-- their length. For `make_next`.
 use Rattle.std.proofs.Common.{◌≡◌, List, ℕ, length, sym, ap, ◌∙◌, subst, arith}
 use Rattle.std.proofs.lemmas.Grind.{common_steps}
 use Rattle.ring_laws.proofs.Images.{length-after_stores}

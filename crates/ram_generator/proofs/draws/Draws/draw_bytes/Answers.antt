@@ -1,3 +1,4 @@
+-- One byte more is the next draw. For `draw_bytes`.
 use Rattle.std.proofs.Common.{◌∙◌, arith}
 use Rattle.ram_generator.proofs.Drawing.{drawn_more, drawn_all}
 use Rattle.ram_generator.proofs.draws.Draws.draw_bytes.Goals as goal

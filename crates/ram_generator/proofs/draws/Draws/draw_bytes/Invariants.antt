@@ -1,3 +1,4 @@
+-- The bytes so far, and those that are left, are the draws. For the loop of `draw_bytes`.
 use Rattle.std.proofs.Common.{◌≤◌, ◌-◌}
 use Rattle.script_spec.specs.Generated.{draws}
 use Rattle.ram_generator.proofs.Drawing.{IsDrawn}

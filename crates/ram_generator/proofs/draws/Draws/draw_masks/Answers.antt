@@ -1,3 +1,4 @@
+-- One mask more is the next draw, for the next place. For `draw_masks`.
 use Rattle.std.proofs.Common.{arith}
 use Rattle.ram_generator.proofs.Drawing.{masked_more, masked_all}
 use Rattle.ram_generator.proofs.draws.Draws.draw_masks.Goals as goal

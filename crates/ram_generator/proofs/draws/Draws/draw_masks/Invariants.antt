@@ -1,3 +1,4 @@
+-- The masks so far, and those that are left, are the draws. For the loop of `draw_masks`.
 use Rattle.std.proofs.Common.{◌≤◌, ◌-◌}
 use Rattle.script_spec.specs.Generated.{draws}
 use Rattle.ram_generator.proofs.Drawing.{IsMasked}

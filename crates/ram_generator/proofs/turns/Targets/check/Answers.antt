@@ -1,3 +1,4 @@
+-- The zones of a layout are few and lie within 32 bits. For `check`.
 use Rattle.std.proofs.Common.{arith}
 use Rattle.ram_generator.proofs.Fits.{zones_few, zones_fit}
 use Rattle.ram_generator.proofs.turns.Targets.check.Goals as goal

@@ -1,3 +1,5 @@
+-- With no ring no append is cut; else ring, bytes and number of stores are drawn in this order.
+-- For `draw_cut`.
 use Rattle.std.proofs.Common.{ℕ, List, ap, sym, ◌∙◌, arith}
 use Rattle.script_spec.specs.Generated.{CutAppend}
 use Rattle.ram_generator.proofs.Turning.{found_at, cut_none, cut_drawn}

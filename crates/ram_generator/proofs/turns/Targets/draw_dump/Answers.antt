@@ -1,3 +1,5 @@
+-- With no dump zone a turn draws the same and asks nothing; else it asks the dump. For
+-- `draw_dump`.
 use Rattle.std.proofs.Common.{ℕ, List, ap, sym}
 use Rattle.machine_spec.specs.LiveCalls.{Ask}
 use Rattle.ram_generator.proofs.Turning.{dump_there, dump_nowhere, dump_number}

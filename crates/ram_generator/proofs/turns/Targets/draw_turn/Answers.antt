@@ -1,3 +1,5 @@
+-- A number below that of the rings asks an append to that ring, the next one a dump. For
+-- `draw_turn`.
 use Rattle.std.proofs.Common.{ℕ, List, length, slice_get, ap, sym, ◌∙◌, rules, arith}
 use Rattle.zone_spec.specs.declared.Zone.{Zone}
 use Rattle.zone_spec.specs.declared.ZoneName.{ZoneName}

@@ -1,3 +1,4 @@
+-- The call of one turn more joins those drawn so far. For `draw_turns`.
 use Rattle.std.proofs.Common.{arith}
 use Rattle.ram_generator.proofs.Turning.{turns_more, turns_all}
 use Rattle.ram_generator.proofs.turns.Targets.draw_turns.Goals as goal

@@ -1,3 +1,5 @@
+-- The calls so far, and those of the turns that are left, are the round's. For the loop of
+-- `draw_turns`.
 use Rattle.std.proofs.Common.{ℕ, ◌≤◌, ◌-◌, List, map}
 use Rattle.std.specs.List.{All, range_with_len}
 use Rattle.zone_spec.specs.declared.Zone.{Zone}

@@ -1,3 +1,4 @@
+-- There are no more rings than zones. For `new`.
 use Rattle.std.proofs.Common.{length, ap, arith}
 use Rattle.zone_spec.specs.declared.ZoneName.{ZoneName}
 use Rattle.ram_generator.proofs.Fits.{rings_few}

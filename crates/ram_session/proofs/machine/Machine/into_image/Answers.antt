@@ -1,3 +1,4 @@
+-- The image of a live machine is that of the state it stands for. For `into_image`.
 use Rattle.std.proofs.Common.{subst, sym}
 use Rattle.ram_session.proofs.Images.{IsImageOf, live_image}
 use Rattle.ram_session.specs.declared.machine.Machine.{Machine}

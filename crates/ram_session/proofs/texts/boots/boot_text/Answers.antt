@@ -1,3 +1,5 @@
+-- The lines of one zone more, with its report, lengthen the text, and in the end all are there.
+-- For `boot_text`.
 use Rattle.std.proofs.Common.{◌≡◌, ◌<◌, length, arith, Some, refl, ap}
 use Rattle.std.proofs.lemmas.Option.{slice_get_read}
 use Rattle.std.specs.Prelude.{slice_get}

@@ -1,3 +1,4 @@
+-- The text has the lines of the first `i` zones. For the loop of `boot_text`.
 use Rattle.std.proofs.Common.{◌≡◌, take}
 use Rattle.prz_read.specs.Saving.{saved}
 use Rattle.ram_session.proofs.Sides.{sides, lines_of}

@@ -1,3 +1,4 @@
+-- The text so far, and the runs that are left, are all runs. For the loop of `push_further`.
 use Rattle.std.proofs.Common.{◌≡◌, ◌++◌, drop, flat_map, codes}
 use Rattle.script_spec.specs.Texts.{run_text}
 use Rattle.ram_session.proofs.texts.boots.push_further.Given as goal

@@ -1,3 +1,4 @@
+-- The pieces pushed in turn are the text of a move. For `move_text`.
 use Rattle.std.proofs.Common.{ℕ, ◌∙◌, ap₂, arith}
 use Rattle.zone_params.specs.Laid.{zones_of}
 use Rattle.prz_read.specs.Saving.{saved}

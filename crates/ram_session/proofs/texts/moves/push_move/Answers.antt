@@ -1,3 +1,4 @@
+-- The pieces pushed in turn are the line of one record's move. For `push_move`.
 use Rattle.std.proofs.Common.{◌++◌, ◌∙◌, ap, List, ℕ, codes, decimal}
 use Rattle.zone_spec.specs.Names.{name_text}
 use Rattle.script_spec.specs.Texts.{newline}

@@ -1,3 +1,5 @@
+-- The text so far, and the lines of the records that are left, are all of them. For the loop of
+-- `push_moves`.
 use Rattle.std.proofs.Common.{◌≡◌, ◌++◌, drop, flat_map}
 use Rattle.ram_session.specs.Entries.{told_text}
 use Rattle.ram_session.proofs.texts.moves.push_moves.Given as goal

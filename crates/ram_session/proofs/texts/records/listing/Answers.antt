@@ -1,3 +1,4 @@
+-- The number and the lines of the records are the listing. For `listing`.
 use Rattle.std.proofs.Common.{◌∙◌, arith}
 use Rattle.prz_read.specs.Saving.{saved}
 use Rattle.ram_session.proofs.Listings.{listing-is}

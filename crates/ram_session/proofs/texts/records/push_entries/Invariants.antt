@@ -1,3 +1,5 @@
+-- The text so far, and the lines of the records that are left, are all of them. For the loop of
+-- `push_entries`.
 use Rattle.std.proofs.Common.{◌≡◌, ◌++◌, drop, flat_map}
 use Rattle.ram_session.specs.Entries.{entry_text}
 use Rattle.ram_session.proofs.texts.records.push_entries.Given as goal

@@ -1,3 +1,5 @@
+-- A blank zone is then told the log; one that is not blank stays as it is. For `add_log`, with
+-- which a move refills zones.
 use Rattle.std.proofs.Common.{◌<◌, length, List, sym, subst}
 use Rattle.zone_spec.specs.declared.Zone.{Zone}
 use Rattle.ramoops.specs.Refilling.{SaysBlank}

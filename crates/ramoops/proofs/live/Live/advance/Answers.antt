@@ -1,3 +1,5 @@
+-- `count` stores of the zone's flight take the state on as the session's steps; with no flight the
+-- call is idle. For `Live::advance`.
 use Rattle.std.proofs.Common.{is_some, sym, ap, ◌∙◌}
 use Rattle.machine_spec.specs.ZoneCalls.{stepped}
 use Rattle.ramoops.proofs.Stepped.{goes_leaves, goes_idle}

@@ -1,3 +1,4 @@
+-- A call with a flight in its way is refused as busy. For `begin_at`.
 use Rattle.std.proofs.Common.{sym, ◌∙◌}
 use Rattle.ramoops.specs.Asks.{ask_seen}
 use Rattle.ramoops.proofs.Running.{begun_busy}

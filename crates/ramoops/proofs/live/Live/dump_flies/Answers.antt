@@ -1,3 +1,4 @@
+-- A flight stands in a dump zone exactly when more than none are counted. For `dump_flies`.
 use Rattle.std.proofs.Common.{nat_lt, ap, ◌∙◌}
 use Rattle.zone_params.specs.Laid.{zones_of}
 use Rattle.ramoops.specs.LiveSeen.{LiveSeen}

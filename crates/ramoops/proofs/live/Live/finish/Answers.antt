@@ -1,3 +1,5 @@
+-- All stores of the zone's flight take the state on as a session's finish; with no flight the call
+-- is idle. For `Live::finish`.
 use Rattle.std.proofs.Common.{is_some, sym, ap, ◌∙◌}
 use Rattle.machine_spec.specs.ZoneCalls.{finished}
 use Rattle.ramoops.proofs.Stepped.{goes_leaves, goes_idle}

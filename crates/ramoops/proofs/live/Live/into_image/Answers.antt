@@ -1,3 +1,4 @@
+-- The spans joined are the image of the live state. For `Live::into_image`.
 use Rattle.std.proofs.Common.{sym, ◌∙◌, subst}
 use Rattle.ramoops.specs.LiveSeen.{LiveSeen, StandsLive}
 use Rattle.ramoops.proofs.Stopping.{image_left}

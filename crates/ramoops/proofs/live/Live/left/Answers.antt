@@ -1,3 +1,5 @@
+-- The stores left of the flight at hand are those of the state that the machine stands for. For
+-- `Live::left`.
 use Rattle.std.proofs.Common.{sym, ◌∙◌}
 use Rattle.machine_spec.specs.ZoneCalls.{stores_left}
 use Rattle.ramoops.proofs.Stepped.{target_shows, left_here}

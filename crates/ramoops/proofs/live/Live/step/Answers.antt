@@ -1,3 +1,5 @@
+-- One store of the flight is the session's step, and done exactly when no flight is left; with no
+-- flight it is idle. For `Live::step`.
 use Rattle.std.proofs.Common.{Some, true, false, is_some, sym, ap, ◌∙◌, true≢false, refl}
 use Rattle.machine_spec.specs.ZoneCalls.{stepped}
 use Rattle.ramoops.specs.Storing.{is_next}

@@ -1,3 +1,5 @@
+-- The zone's flight can store, and the stores change that zone, the cursor and the count of flying
+-- dumps alone. For `Live::store`.
 use Rattle.std.proofs.Common.{◌≡◌, ◌+◌, ◌≤◌, Option, is_some, slice_get, sym, subst, ap, ◌∙◌}
 use Rattle.ramoops.specs.LiveSeen.{LiveSeen}
 use Rattle.zone_params.specs.Laid.{zones_of}

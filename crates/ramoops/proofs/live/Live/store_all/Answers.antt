@@ -1,3 +1,4 @@
+-- As many stores as are left finish the flight. For `store_all`.
 use Rattle.ramoops.proofs.Finishing.{finishes}
 use Rattle.ramoops.proofs.live.Live.store_all.Goals as goal
 

@@ -1,3 +1,5 @@
+-- The first `limit` stores are made and the zones known as a cut boot leaves them. On a refusal
+-- the machine is as it was.
 use Rattle.std.proofs.Common.{◌-◌, List, length, sym, ap, ◌∙◌, subst, arith}
 use Rattle.ramoops.specs.OffSeen.{OffSeen, known_all}
 use Rattle.ramoops.specs.Booted.{BootedInPart}

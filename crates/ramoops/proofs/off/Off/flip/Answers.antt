@@ -1,3 +1,5 @@
+-- A flipped byte keeps the image's size and a resting machine, which then stands for the flipped
+-- state. For `Off::flip`.
 use Rattle.std.proofs.Common.{ℕ, List, length, sym, ap, ◌∙◌, subst, arith}
 use Rattle.std.specs.Prelude.{slice_index, slice_set, bit_xor}
 use Rattle.std.proofs.lemmas.List.{length-set}

@@ -1,3 +1,4 @@
+-- An image of which nothing is known stands for the fresh state, and rests. For `Off::fresh`.
 use Rattle.std.proofs.Common.{ℕ, List, ap, length, subst, arith}
 use Rattle.zone_spec.specs.declared.Zone.{Zone}
 

@@ -1,3 +1,4 @@
+-- The logs are those that a boot saves, and the machine comes back as it was. For `Off::logs`.
 use Rattle.std.proofs.Common.{length, ap, ◌∙◌}
 use Rattle.ramoops.proofs.Boots.{open_fits, open_whole, open_closed, open_rests, logs_saved}
 use Rattle.ramoops.proofs.off.Off.logs.Goals as goal

@@ -1,3 +1,4 @@
+-- The layout's zones are valid, so they have shapes, and all rings are left. For `Scan::new`.
 use Rattle.std.proofs.Common.{List, ap, ◌∙◌}
 use Rattle.zone_params.specs.Laid.{zones_of}
 use Rattle.zone_spec.specs.declared.Zone.{Zone}

@@ -1,3 +1,5 @@
+-- A place with no room for the zone has no ring; else the bytes there are header and parity. For
+-- `Shape::ring_at`.
 use Rattle.std.proofs.Common.{◌≡◌, ℕ, ◌+◌, List, ◌++◌, ◌∙◌, refl, ap, sym}
 use Rattle.std.specs.Prelude.{slice_range}
 use Rattle.zone_spec.specs.declared.Zone.{Zone}

@@ -1,3 +1,4 @@
+-- A shape without parity has its ring exactly when the words are one's. For `Shape::ring_in`.
 use Rattle.std.proofs.Common.{◌≡◌, ◌++◌, ◌∙◌, ap}
 use Rattle.zone_spec.specs.declared.Zone.{Zone}
 use Rattle.salvage_spec.specs.Rings.{ring_in}

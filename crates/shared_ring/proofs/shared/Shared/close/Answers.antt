@@ -1,3 +1,5 @@
+-- The joined image is what the history leaves; with no call open the zone reads the full log. For
+-- `Shared::close`.
 use Rattle.std.proofs.Common.{◌++◌, ap, ◌∙◌}
 use Rattle.std.specs.List.{concat}
 use Rattle.zone_spec.specs.Reading.{zone_reading}

@@ -1,3 +1,4 @@
+-- A ticket is open exactly when a seat has it. For `Shared::is_open`.
 use Rattle.std.proofs.Common.{is_some, ap, ◌∙◌}
 use Rattle.std.specs.Prelude.{position}
 use Rattle.shared_ring.specs.Seats.{is_of}

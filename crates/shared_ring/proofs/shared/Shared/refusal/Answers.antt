@@ -1,3 +1,5 @@
+-- No seat left, a payload that crowds, and neither: each is the history's refusal. For
+-- `Shared::refusal`.
 use Rattle.std.proofs.Common.{◌≡◌, length, arith, ap, ◌∙◌, Some}
 use Rattle.zone_spec.specs.declared.Words.{Words}
 use Rattle.machine_spec.specs.Zones.{zone_bytes}

@@ -1,3 +1,4 @@
+-- A reservation made or refused is the history's operation. For `Shared::reserve`.
 use Rattle.std.proofs.Common.{sym, ap, ◌∙◌, subst}
 use Rattle.shared_spec.specs.Machine.{refusal}
 use Rattle.shared_spec.specs.Runs.{Reserve}

@@ -1,3 +1,4 @@
+-- A payload seated keeps the zone whole: words, seats and held bytes agree. For `Shared::seat`.
 use Rattle.std.proofs.Common.{◌≡◌, ℕ, ◌+◌, ◌%◌, min, List, [], ◌∷◌, ◌++◌, length, arith, sym, ap, ap₂, ◌∙◌, subst, w32}
 use Rattle.std.specs.Int.{to_le_bytes}
 use Rattle.zone_spec.specs.declared.Words.{Words}

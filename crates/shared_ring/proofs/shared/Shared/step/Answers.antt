@@ -1,3 +1,5 @@
+-- A byte stored for an open ticket is the history's step, and for any other ticket nothing is. For
+-- `Shared::step`.
 use Rattle.std.proofs.Common.{◌≡◌, sym, ap, ◌∙◌, subst, Some, None}
 use Rattle.std.specs.Prelude.{position}
 use Rattle.shared_spec.specs.Runs.{StoreNext}

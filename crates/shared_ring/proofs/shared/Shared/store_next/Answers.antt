@@ -1,3 +1,5 @@
+-- The byte stored is the seat's next, at its next place, and the zone stays whole. For
+-- `store_next`.
 use Rattle.std.proofs.Common.{◌≡◌, ℕ, ◌+◌, ◌%◌, List, length, set, arith, sym, ap, ap₂, ◌∙◌, subst, Some}
 use Rattle.std.specs.Prelude.{slice_get, slice_index}
 use Rattle.prz_region.proofs.Stores.{put-one}

@@ -1,3 +1,5 @@
+-- A call begun stands at its first place with no store made, is kept, and stands for the bytes at
+-- hand. For `Steps::begin`.
 use Rattle.std.proofs.Common.{arith, ◌≡◌, ◌≤◌, length, refl, sym, ap, subst}
 use Rattle.zone_spec.specs.declared.Words.{Words}
 use Rattle.zone_spec.specs.declared.Zone.{Zone}

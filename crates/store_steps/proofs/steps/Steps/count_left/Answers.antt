@@ -1,3 +1,5 @@
+-- The stores left in this phase, after it and in later legs sum to what is left of the call. For
+-- `count_left`.
 use Rattle.std.proofs.Common.{◌≡◌, sym, ap, ◌∙◌, arith}
 use Rattle.store_steps.specs.Flying.{Flying, flying}
 use Rattle.store_steps.specs.Machine.{behind}

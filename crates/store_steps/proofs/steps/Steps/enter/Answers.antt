@@ -1,3 +1,4 @@
+-- From each finished phase the next one is entered as the order of stores says. For `enter`.
 use Rattle.std.proofs.Common.{arith, ◌+◌, ◌<◌, refl, sym, subst}
 use Rattle.std.proofs.lemmas.List.{nil_from_length}
 use Rattle.store_steps.specs.declared.place.Phase.TheVariants.{Start, First, Second}

@@ -1,3 +1,4 @@
+-- After a dump's line comes its body, or the end if no byte of it fits. For `enter_body`.
 use Rattle.std.proofs.Common.{◌≡◌, ℕ, ◌<◌, length, sym, ◌∙◌, subst, arith}
 use Rattle.store_steps.specs.Calls.{front_of, line_of}
 use Rattle.store_steps.specs.Flying.{Flying, flying, at_place}

@@ -1,3 +1,4 @@
+-- After the header's parity comes the next leg that has bytes, or the end. For `enter_next_leg`.
 use Rattle.std.proofs.Common.{◌<◌, length, sym, ap, subst, arith}
 use Rattle.store_steps.specs.Calls.{line_of, later_stages}
 use Rattle.store_steps.specs.Flying.{Flying, flying}

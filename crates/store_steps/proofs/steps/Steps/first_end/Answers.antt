@@ -1,3 +1,4 @@
+-- The first run ends within the zone's blocks. For `first_end`.
 use Rattle.std.proofs.Common.{◌+◌, ◌≤◌, sym, subst, arith}
 use Rattle.store_steps.proofs.Storing.{end_in}
 use Rattle.store_steps.proofs.steps.Steps.first_end.Goals as goal

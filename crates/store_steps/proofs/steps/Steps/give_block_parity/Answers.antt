@@ -1,3 +1,5 @@
+-- The bytes handed out are the block's parity from the next number on, and lie in the zone. For
+-- `give_block_parity`.
 use Rattle.std.proofs.Common.{ℕ, ◌+◌, sym, ap, ◌∙◌, take, drop, length, arith}
 use Rattle.code_spec.specs.Code.{parity_of}
 use Rattle.zone_spec.specs.declared.Zone.{Zone}

@@ -1,3 +1,5 @@
+-- A run's bytes are those of the payload at its place; phases of parity have none here. For
+-- `give_data`.
 use Rattle.std.proofs.Common.{◌+◌, ap, ◌∙◌, sym, subst, take, drop}
 use Rattle.zone_spec.specs.Stores.{byte_stores}
 use Rattle.store_steps.specs.declared.place.Phase.TheVariants.{First, Second}

@@ -1,3 +1,4 @@
+-- The bytes handed out are the header's parity from the next number on. For `give_header_parity`.
 use Rattle.std.proofs.Common.{ℕ, ◌+◌, sym, ap, ◌∙◌, take, drop, length, arith}
 use Rattle.code_spec.specs.Code.{parity_of}
 use Rattle.zone_spec.specs.declared.Zone.{Zone}

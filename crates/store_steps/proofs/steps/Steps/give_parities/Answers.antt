@@ -1,3 +1,5 @@
+-- Each phase of parity hands out its part's bytes; phases of words and data have none here. For
+-- `give_parities`.
 use Rattle.std.proofs.Common.{subst}
 use Rattle.store_steps.specs.Machine.{IsParity}
 use Rattle.store_steps.proofs.steps.Steps.give_parities.Goals as goal

@@ -1,3 +1,5 @@
+-- The bytes of a leg are those of the line, the payload or the body from `from` on, inside the
+-- lent bytes. For `give_payload`.
 use Rattle.std.proofs.Common.{◌≡◌, ℕ, ◌+◌, ◌≤◌, length, sym, ap, ◌∙◌, subst, take, drop, arith}
 use Rattle.zone_spec.specs.Stores.{byte_stores}
 use Rattle.zone_spec.specs.Told.{Call}

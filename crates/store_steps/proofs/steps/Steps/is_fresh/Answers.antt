@@ -1,3 +1,4 @@
+-- A state that passes as fresh is a call before its first store, and is kept. For `is_fresh`.
 use Rattle.std.proofs.Common.{arith}
 use Rattle.store_steps.specs.Flying.{flying}
 use Rattle.store_steps.proofs.Handing.{line_short}

@@ -1,3 +1,4 @@
+-- If what is left and made sum to the call's total, the state is one of that call. For `is_kept`.
 use Rattle.std.proofs.Common.{◌≡◌, ◌-◌, ◌≤◌, arith}
 use Rattle.std.proofs.lemmas.Grind.{common_steps}
 use Rattle.store_steps.proofs.steps.Steps.is_kept.Goals as goal

@@ -1,3 +1,4 @@
+-- The numbers of a phase that passes lie in the zone and in the call's bytes. For `is_sound`.
 use Rattle.std.proofs.Common.{◌≤◌, ◌<◌, length, arith}
 use Rattle.std.proofs.lemmas.Grind.{common_steps}
 use Rattle.store_steps.specs.Calls.{line_of}

@@ -1,3 +1,5 @@
+-- Past `count` stores of the phase the state is kept and stands for the bytes after them. For
+-- `move_on`.
 use Rattle.std.proofs.Common.{ℕ, refl, arith}
 use Rattle.zone_spec.specs.Stores.{after_stores}
 use Rattle.store_steps.specs.Flying.{Flying, flying}

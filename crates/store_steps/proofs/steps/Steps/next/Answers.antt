@@ -1,3 +1,4 @@
+-- `next` hands out what `next_parity` or `next_data` does, and stands for the same bytes.
 use Rattle.std.proofs.Common.{refl, arith}
 use Rattle.store_steps.proofs.steps.Steps.next.Goals as goal
 

@@ -1,3 +1,5 @@
+-- At the end nothing is handed out; before it the next word or run is, the same on every image,
+-- and never nothing. For `next_data`.
 use Rattle.std.proofs.Common.{◌≡◌, ℕ, [], length, sym, ap, ◌∙◌, subst, take, drop, arith}
 use Rattle.zone_spec.specs.Parts.{AreBytes}
 use Rattle.zone_spec.specs.Stores.{after_stores}

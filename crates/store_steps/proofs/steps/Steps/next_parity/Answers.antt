@@ -1,3 +1,5 @@
+-- What is handed out is the next parity, the same on every image with this header and data, and
+-- never nothing. For `next_parity`.
 use Rattle.std.proofs.Common.{◌≡◌, ℕ, ◌<◌, length, sym, ap, ◌∙◌, subst, take, drop, arith}
 use Rattle.zone_spec.specs.Parts.{AreBytes}
 use Rattle.zone_spec.specs.Stores.{after_stores}

@@ -1,3 +1,4 @@
+-- The second run ends within the zone's blocks. For `second_end`.
 use Rattle.std.proofs.Common.{◌≤◌, sym, subst, arith}
 use Rattle.store_steps.proofs.Storing.{end_in}
 use Rattle.store_steps.proofs.steps.Steps.second_end.Goals as goal

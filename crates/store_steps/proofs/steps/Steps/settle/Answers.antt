@@ -1,3 +1,5 @@
+-- Entering a phase with no store left changes neither what is left nor the call. For the loop of
+-- `settle`.
 use Rattle.std.proofs.Common.{◌∙◌}
 use Rattle.store_steps.proofs.steps.Steps.settle.Goals as goal
 

@@ -1,3 +1,5 @@
+-- The phases entered so far had no store: what is left and the call are as before. For the loop of
+-- `settle`.
 use Rattle.std.proofs.Common.{◌≡◌, ℕ, List}
 use Rattle.zone_spec.specs.Parts.{AreBytes}
 use Rattle.store_steps.specs.Flying.{flying, IsSameCall}

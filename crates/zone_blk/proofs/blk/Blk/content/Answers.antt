@@ -1,3 +1,5 @@
+-- The content of a dump, the console and pmsg is that of the first listed record of the name. For
+-- `content`.
 use Rattle.std.proofs.Common.{◌∙◌, sym, ap, subst, List, ℕ, Option}
 use Rattle.std.specs.List.{find}
 use Rattle.std.specs.Option.{option_map}

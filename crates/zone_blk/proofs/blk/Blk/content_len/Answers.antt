@@ -1,3 +1,5 @@
+-- The length of a dump's content, of the console's and of pmsg's is that of the listed record. For
+-- `content_len`.
 use Rattle.std.proofs.Common.{◌∙◌, sym, ap, length, List}
 use Rattle.std.specs.List.{find}
 use Rattle.std.specs.Option.{option_map}

@@ -1,3 +1,5 @@
+-- A dump, done or failed, leaves the store its size, so the next call has its room. For
+-- `Blk::dump`.
 use Rattle.zone_blk.proofs.Clearing.{room-makes, room-fails}
 use Rattle.zone_blk.proofs.blk.Blk.dump.Goals as goal
 

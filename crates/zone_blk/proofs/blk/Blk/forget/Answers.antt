@@ -1,3 +1,5 @@
+-- With a record left away the store's state keeps its invariant: the dumps that stay still lie in
+-- their zones. For `forget`.
 use Rattle.std.proofs.Common.{subst, sym, List}
 use Rattle.std.specs.List.{All}
 use Rattle.std.proofs.lemmas.List.Elements.{All-filter}

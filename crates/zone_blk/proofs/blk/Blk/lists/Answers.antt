@@ -1,3 +1,4 @@
+-- `lists` answers whether a dump, the console or pmsg is among the listed records.
 use Rattle.std.proofs.Common.{◌∙◌, sym, ap, List, is_some}
 use Rattle.std.specs.List.{find}
 use Rattle.blk_spec.specs.declared.BlkName.{BlkName}

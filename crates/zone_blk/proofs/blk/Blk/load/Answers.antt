@@ -1,3 +1,5 @@
+-- A loading that is refused, that clears both rings, or that fails at it answers as defined, and
+-- leaves the store its size. For `Blk::load`.
 use Rattle.std.proofs.Common.{◌≡◌, ◌∙◌, sym, ap, subst, ℕ, inr}
 use Rattle.blk_spec.specs.Answers.{HasRoom, Device, device, further}
 use Rattle.blk_spec.specs.Writes.{store_after}

@@ -1,3 +1,4 @@
+-- The names are those of the dumps, then the console's and pmsg's if there is one. For `names`.
 use Rattle.std.proofs.Common.{◌∙◌, ◌++◌, ap, map, List}
 use Rattle.blk_spec.specs.declared.BlkName.{BlkName}
 use Rattle.blk_spec.specs.declared.BlkName.TheVariants.{Console, Pmsg}

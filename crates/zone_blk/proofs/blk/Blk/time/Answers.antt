@@ -1,3 +1,4 @@
+-- The time is that of the first listed dump of this number. For `time`.
 use Rattle.std.proofs.Common.{◌∙◌, ◌==◌, ap, List}
 use Rattle.std.specs.List.{find}
 use Rattle.std.specs.Option.{option_map}

@@ -1,3 +1,4 @@
+-- A listed name has a zone inside the store that is large enough for a header. For `zone_named`.
 use Rattle.std.proofs.Common.{◌≡◌, ◌∙◌, sym, ap, true, arith, subst, is_some, inl, inr}
 use Rattle.std.specs.List.{All}
 use Rattle.blk_spec.specs.declared.BlkName.{BlkName}

@@ -1,3 +1,5 @@
+-- A boot begun has all stores of a boot left, with header, state, blocks and erasure as they read.
+-- For `Boot::begin`.
 use Rattle.std.proofs.Common.{[], refl, sym}
 use Rattle.zone_boot.proofs.Leaving.{after-none}
 use Rattle.zone_boot.proofs.Starting.{starts}

@@ -1,3 +1,4 @@
+-- A kept, an erased and an unsigned zone each have their stages left. For `enter_erasure`.
 use Rattle.std.proofs.Common.{refl, sym, ap}
 use Rattle.zone_boot.specs.declared.boots.Phase.TheVariants.{Signature, Start, Finished}
 use Rattle.zone_boot.specs.Left.{stages_of}

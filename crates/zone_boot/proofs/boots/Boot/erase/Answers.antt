@@ -1,3 +1,5 @@
+-- Signature, start word and size word are handed out in turn, each the next of what is left; at
+-- the end nothing is. For `Boot::erase`.
 use Rattle.std.proofs.Common.{◌≤◌, ℕ, List, [], refl, sym, ap, ◌∙◌, subst, arith}
 use Rattle.zone_spec.specs.Stores.{word_store}
 use Rattle.zone_boot.specs.declared.boots.Phase.{Phase}

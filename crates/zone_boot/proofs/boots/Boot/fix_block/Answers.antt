@@ -1,3 +1,5 @@
+-- The run handed out is the next of the block's corrections; if none differs the block has none
+-- left. For `fix_block`.
 use Rattle.std.proofs.Common.{◌≡◌, ◌≤◌, ◌+◌, ◌*◌, ◌<◌, ◌++◌, ℕ, List, [], length, false, true, refl, sym, ap, ap₂, ◌∙◌, subst, arith}
 use Rattle.zone_spec.specs.Parts.{AreBytes, Block, part_at}
 use Rattle.zone_spec.specs.Stores.{Store}

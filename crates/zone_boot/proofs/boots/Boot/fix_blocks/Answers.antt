@@ -1,3 +1,4 @@
+-- A block without a correction changes nothing that is left. For the loop of `fix_blocks`.
 use Rattle.std.proofs.Common.{◌≡◌, [], ◌∙◌}
 use Rattle.zone_boot.specs.Handed.{handed}
 use Rattle.zone_boot.proofs.Ending.{gives-none, gives-made}

@@ -1,3 +1,5 @@
+-- The stores left are those of the start: no block passed over had a correction. For the loop of
+-- `fix_blocks`.
 use Rattle.std.proofs.Common.{◌≡◌, ◌-◌}
 use Rattle.zone_boot.specs.declared.boots.Phase.TheVariants.{Blocks}
 use Rattle.zone_boot.specs.Booting.{left_of, IsKept}

@@ -1,3 +1,5 @@
+-- The run handed out is the next of the header's corrections; if none differs the blocks follow.
+-- For `fix_header`.
 use Rattle.std.proofs.Common.{◌≡◌, ◌≤◌, ◌+◌, ◌<◌, ◌++◌, ℕ, List, [], length, false, true, refl, sym, ap, ap₂, ◌∙◌, subst, arith}
 use Rattle.zone_spec.specs.Parts.{AreBytes, Header}
 use Rattle.zone_spec.specs.Stores.{Store}

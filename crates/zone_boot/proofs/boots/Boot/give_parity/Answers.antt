@@ -1,3 +1,5 @@
+-- The header's parity is handed out as the last stores; without parity there are none. For
+-- `give_parity`.
 use Rattle.std.proofs.Common.{◌≡◌, ◌≤◌, ◌+◌, ◌*◌, ℕ, length, refl, ap, ◌∙◌, subst, arith}
 use Rattle.ring_laws.proofs.StoreCounts.{length-byte_stores}
 use Rattle.code_spec.specs.Code.{parity_of}

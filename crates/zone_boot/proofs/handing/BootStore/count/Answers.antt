@@ -1,3 +1,4 @@
+-- A run of bytes is as many stores as bytes. For `BootStore::count`.
 use Rattle.std.proofs.Common.{length, sym, ap, ◌∙◌}
 use Rattle.ring_laws.proofs.StoreCounts.{length-byte_stores}
 use Rattle.zone_boot.specs.declared.handing.Given.{Given}

@@ -1,3 +1,4 @@
+-- A run is no store exactly when it has no bytes. For `BootStore::is_empty`.
 use Rattle.std.proofs.Common.{sym, ap, ◌∙◌}
 use Rattle.zone_boot.specs.declared.handing.Given.{Given}
 use Rattle.zone_boot.specs.Handed.{handed_by}

@@ -1,3 +1,5 @@
+-- The bytes between the first difference and the next agreement are the run, and are some if any
+-- differ. For `set_run`.
 use Rattle.std.proofs.Common.{◌≡◌, ◌≤◌, ℕ, ◌+◌, ◌-◌, length, drop, slice_range, inl, inr, sym, ap, ◌∙◌, arith, length-take, length-drop}
 use Rattle.std.proofs.lemmas.Bool.{cases_lt}
 use Rattle.ring_laws.proofs.StoreCounts.{length-byte_stores}

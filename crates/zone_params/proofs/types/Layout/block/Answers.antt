@@ -1,3 +1,4 @@
+-- A layout's block size fits. For `Layout::block`.
 use Rattle.std.proofs.Common.{arith}
 use Rattle.zone_params.proofs.WholeLayout.{layout_block_small}
 use Rattle.zone_params.proofs.types.Layout.block.Goals as goal

@@ -1,3 +1,5 @@
+-- The zones of a layout are few, and the place among its rows is the one among its zones. For
+-- `Layout::find`.
 use Rattle.zone_params.proofs.WholeLayout.{no_fault}
 use Rattle.zone_params.proofs.RowPlaces.{rows_few, place_in_layout}
 use Rattle.zone_params.proofs.types.Layout.find.Goals as goal

@@ -1,3 +1,4 @@
+-- A layout's memory fits 32 bits. For `Layout::mem`.
 use Rattle.std.proofs.Common.{arith}
 use Rattle.zone_params.proofs.WholeLayout.{layout_mem_small}
 use Rattle.zone_params.proofs.types.Layout.mem.Goals as goal

@@ -1,3 +1,4 @@
+-- A layout's parity fits. For `Layout::parity`.
 use Rattle.std.proofs.Common.{arith}
 use Rattle.zone_params.proofs.WholeLayout.{layout_parity_small}
 use Rattle.zone_params.proofs.types.Layout.parity.Goals as goal

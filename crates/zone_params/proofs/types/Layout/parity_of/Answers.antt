@@ -1,3 +1,4 @@
+-- The parity of each kind of a layout fits. For `Layout::parity_of`.
 use Rattle.std.proofs.Common.{arith}
 use Rattle.zone_params.proofs.WholeLayout.{layout_kind_small}
 use Rattle.zone_params.proofs.types.Layout.parity_of.Goals as goal

@@ -1,3 +1,4 @@
+-- The zones of a layout lie side by side, and their names differ. For `Layout::zones`.
 use Rattle.zone_params.proofs.NamesDiffer.{names_differ}
 use Rattle.zone_params.proofs.WholeLayout.{whole_layout}
 use Rattle.zone_params.proofs.types.Layout.zones.Goals as goal
