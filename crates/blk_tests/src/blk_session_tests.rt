@@ -6,10 +6,10 @@ ghost use Rattle.blk_spec.specs.Answers.{HasRoom};
 use blk_session::play;
 use outside::{Bytes, Calls, MemSink, MemStore};
 use script::parse;
+use script_spec::{Cause, LineStop};
 use std::alloc::{AllocError, Global};
 use std::process::Abort;
 use std::test::Fail;
-use script_spec::{Cause, LineStop};
 use zone_blk::BlkLayout;
 
 const LAYOUT: BlkLayout = BlkLayout {

@@ -2,9 +2,9 @@
 use outside::Bytes;
 use prz_read::{Logs, Reading, State, Words};
 use ram_session::{LineError, content_of, listing};
+use script_spec::Cause;
 use std::alloc::{AllocError, Global};
 use std::test::Fail;
-use script_spec::Cause;
 use zone_params::types::Layout;
 use zone_params::{Params, layout};
 

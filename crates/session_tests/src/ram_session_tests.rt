@@ -7,9 +7,9 @@ use prz_read::Logs;
 use ram_session::{LineError, Machine, begin, content_of, finish, make, play, step};
 use ramoops::{Ask, Live, Refusal};
 use script::parse;
+use script_spec::{Cause, LineStop};
 use std::process::Abort;
 use std::test::Fail;
-use script_spec::{Cause, LineStop};
 use zone_spec::{Kind, ZoneName};
 
 const ONE: &str = "mem_size=4096 record_size=0 ftrace_size=0 pmsg_size=0";
