@@ -3,7 +3,6 @@ use Rattle.std.specs.Prelude.{◌≡◌, ⊤, false, ℕ, length, List, [], ◌�
 use Rattle.std.specs.Global.{Vec}
 use Rattle.zone_spec.specs.declared.params.Params.{Params}
 use Rattle.zone_spec.specs.declared.Zone.{Zone}
-
 use Rattle.machine_spec.specs.Stop.{stopped}
 use Rattle.shared_spec.specs.Histories.{CanOpen}
 use Rattle.script_spec.specs.SharedScripts.{shared_name, lacks_plain_ftrace}

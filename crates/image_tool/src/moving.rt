@@ -1,6 +1,5 @@
 // The move of an image to other parameters.
 ghost use Rattle.std.specs.Prelude.{◌≡◌, ◌≤◌, ℕ, List, Option, IfOk};
-
 ghost use Rattle.zone_params.specs.Laid.{params_of, zones_of};
 ghost use Rattle.machine_spec.specs.Moved.{fitting, moved as moved_state};
 ghost use Rattle.prz_read.specs.Saving.{saved};

@@ -1,6 +1,5 @@
 // The records of an image: all of them listed, and one extracted or erased.
 ghost use Rattle.std.specs.Prelude.{◌≡◌, ◌≤◌, ℕ, List, Option, IfOk, IfErr};
-
 ghost use Rattle.zone_params.specs.Laid.{params_of, zones_of};
 ghost use Rattle.command_spec.specs.Commands.{ListRecords, Extract, Erase};
 ghost use Rattle.command_spec.specs.Answers.{outside};

@@ -1,6 +1,5 @@
 // A script on a shared zone.
 ghost use Rattle.std.specs.Prelude.{◌≡◌, ◌<◌, ◌^◌, vec_len, length, Ok, IfOk};
-
 ghost use Rattle.zone_params.specs.Laid.{params_of, zones_of};
 ghost use Rattle.grammar_spec.specs.Printed.{AllHaveFields};
 ghost use Rattle.command_spec.specs.Commands.{SharedRun, OfRam, wanted_shared_lines};

@@ -1,6 +1,5 @@
 // The store of an image.
 ghost use Rattle.std.specs.Prelude.{◌≡◌, ◌≤◌, vec_len, IfOk, IfErr};
-
 ghost use Rattle.zone_params.specs.Laid.{params_of, zones_of};
 ghost use Rattle.ram_session.specs.Playing.{StandsFresh};
 ghost use Rattle.script_spec.specs.Playing.{KeptUnless};

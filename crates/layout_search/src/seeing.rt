@@ -85,7 +85,15 @@ pub fn may_begin(image: &[u8], marks: u64, limit: u64, dumps: Row, console: Row,
 }
 
 /// Whether zones of these four rows can have at most `limit` faults.
-pub fn may_fit(image: &[u8], marks: u64, limit: u64, dumps: Row, console: Row, ftrace: Row, pmsg: Row) -> bool
+pub fn may_fit(
+    image: &[u8],
+    marks: u64,
+    limit: u64,
+    dumps: Row,
+    console: Row,
+    ftrace: Row,
+    pmsg: Row,
+) -> bool
     requires marks { marks ≡ marks_of image.now }
     requires few { marks < 2 ^ 63 }
     requires limit { limit < 2 ^ 62 }

@@ -7,7 +7,6 @@ use Rattle.zone_spec.specs.declared.Kind.TheVariants.{Dump, Console, Ftrace, Pms
 use Rattle.zone_spec.specs.declared.State.{State}
 use Rattle.zone_spec.specs.declared.State.TheVariants.{Unsigned, Empty, Invalid, Found}
 use Rattle.zone_spec.specs.declared.params.Params.{Params}
-
 use Rattle.zone_spec.specs.Reading.{ZoneReading}
 use Rattle.zone_spec.specs.Zones.{IsValidZone}
 use Rattle.oopsbox_c.specs.declared.places.ZonePlace.{ZonePlace}

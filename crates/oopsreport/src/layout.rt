@@ -215,7 +215,13 @@ fn sought(words: &[String]) -> Result<Layouts, NoPlan> {
     if let Err(fault) = read_words_over(words, &DEFAULTS) {
         return Err(NoPlan::Words(told(words, fault)));
     }
-    for key in ["block_size", "ecc_dump", "ecc_console", "ecc_ftrace", "ecc_pmsg"] {
+    for key in [
+        "block_size",
+        "ecc_dump",
+        "ecc_console",
+        "ecc_ftrace",
+        "ecc_pmsg",
+    ] {
         if given(words, key).is_some() {
             return Err(NoPlan::Words(anyhow!(
                 "{key} needs mem_size: a layout with it is not looked for"
@@ -291,11 +297,7 @@ pub fn found_words(alloc: Global, c: &Candidate, size: u64) -> Result<String, Al
     }
     text.push_str(&format!(in alloc;
         "record_size={} console_size={} ftrace_size={} pmsg_size={} ecc={}",
-        c.dump,
-        c.console,
-        c.ftrace,
-        c.pmsg,
-        c.parity
+        c.dump, c.console, c.ftrace, c.pmsg, c.parity
     )?)?;
     if c.ftrace != 0 {
         text.push_str(&format!(in alloc; " cpus={} ftrace_sig={:#x}", c.cpus, c.tag)?)?;

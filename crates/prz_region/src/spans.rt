@@ -132,7 +132,6 @@ impl Model for CountedSpans {
 impl Region {
     ghost use Rattle.zone_params.specs.Laid.{params_of, zones_of};
     ghost use Rattle.zone_spec.specs.Layouts.{zones_end};
-
     ghost use Rattle.prz_region.specs.CutRegion.{cut_at};
     ghost use Rattle.prz_region.specs.Chain.{AreSideBySide};
 

@@ -1,7 +1,6 @@
 // The whole session of a number.
 ghost use Rattle.std.specs.Prelude.{◌≡◌, ◌++◌, List, length, replicate, decimal, IfOk, OnOk};
 ghost use Rattle.zone_spec.specs.declared.Zone.{Zone};
-
 ghost use Rattle.machine_spec.specs.States.{Session};
 ghost use Rattle.machine_spec.specs.Stop.{session_image};
 ghost use Rattle.zone_params.specs.Laid.{params_of, zones_of};

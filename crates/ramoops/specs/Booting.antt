@@ -9,7 +9,6 @@ use Rattle.zone_spec.specs.Boot.{boot_stores, told_by_boot}
 use Rattle.prz_read.specs.Saving.{SavedLogs}
 use Rattle.prz_region.specs.CutRegion.{CutRegion, span, cut_at}
 use Rattle.zone_spec.specs.Parts.{AreBytes}
-
 use Rattle.zone_spec.specs.Layouts.{IsLayout}
 use Rattle.zone_params.specs.Laid.{params_of, zones_of}
 use Rattle.ramoops.specs.OffSeen.{OffSeen, known_all}

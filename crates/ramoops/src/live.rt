@@ -51,7 +51,6 @@ pub struct Live {
 }
 
 impl Model for Live {
-
     ghost use Rattle.zone_params.specs.Laid.{params_of, zones_of};
     ghost use Rattle.ramoops.specs.LiveSeen.{LiveSeen};
 

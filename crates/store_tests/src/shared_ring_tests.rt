@@ -1,7 +1,6 @@
 // What no clause says: that the calls find memory, worked cases, and three calls in four orders, stopped after every
 // step.
 ghost use Rattle.std.specs.Prelude.{◌≡◌, length, IfOk};
-
 ghost use Rattle.zone_params.specs.Laid.{params_of};
 
 use outside::Bytes;

@@ -170,7 +170,9 @@ fn memory_is_rounded_or_as_given(rt: HostRuntime) -> Result<(), Fail> {
 fn one_is_sixteen(rt: HostRuntime) -> Result<(), Fail> {
     let words = words_of(rt.alloc(), "ecc=1 ecc_dump=2 ecc_pmsg=1")?;
     let p = read_words(&words).map_err(|_| "no parameters")?;
-    assert!(rt; (p.ecc, p.ecc_dump, p.ecc_console, p.ecc_ftrace, p.ecc_pmsg) == (16, 2, 16, 16, 16));
+    assert!(rt;
+        (p.ecc, p.ecc_dump, p.ecc_console, p.ecc_ftrace, p.ecc_pmsg) == (16, 2, 16, 16, 16)
+    );
     let words = words_of(rt.alloc(), "ecc=2 ecc_dump=1")?;
     let p = read_words(&words).map_err(|_| "no parameters")?;
     assert!(rt; (p.ecc, p.ecc_dump, p.ecc_pmsg) == (2, 16, 2));

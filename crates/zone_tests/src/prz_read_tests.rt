@@ -607,7 +607,16 @@ fn eight_flips_are_stored_and_parity_is_not(rt: HostRuntime) -> Result<(), Fail>
         stores.push(byte(12_usize.wrapping_add(k), *b))?;
     }
     stores.extend_from_slice(erasure(alloc, true)?.as_slice())?;
-    assert!(rt; boots_with(alloc, &four(16), 2, flipped.as_slice(), 7, stores.as_slice())?);
+    assert!(rt;
+        boots_with(
+            alloc,
+            &four(16),
+            2,
+            flipped.as_slice(),
+            7,
+            stores.as_slice()
+        )?
+    );
     Ok(())
 }
 

@@ -1,6 +1,5 @@
 -- The lines on the zone that was opened
 use Rattle.std.proofs.Common.{ap, sym, subst, ◌∙◌}
-
 use Rattle.zone_spec.specs.declared.params.Params.{Params}
 use Rattle.zone_params.specs.Laid.{zones_of}
 use Rattle.shared_session.specs.Left.{Plays}

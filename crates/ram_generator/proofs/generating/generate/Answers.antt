@@ -3,7 +3,6 @@
 use Rattle.std.proofs.Common.{◌≡◌, ℕ, List, length, replicate, sym, ap, ◌∙◌, subst}
 use Rattle.std.proofs.lemmas.List.{length-replicate}
 use Rattle.zone_spec.specs.declared.Zone.{Zone}
-
 use Rattle.zone_spec.specs.Layouts.{IsLayout}
 use Rattle.machine_spec.specs.Off.{fresh}
 use Rattle.ramoops.specs.OffSeen.{StandsOff}

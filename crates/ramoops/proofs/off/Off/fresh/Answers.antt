@@ -1,7 +1,6 @@
 -- An image of which nothing is known stands for the fresh state, and rests. For `Off::fresh`.
 use Rattle.std.proofs.Common.{ℕ, List, ap, length, subst, arith}
 use Rattle.zone_spec.specs.declared.Zone.{Zone}
-
 use Rattle.zone_spec.specs.Layouts.{IsLayout}
 use Rattle.zone_params.specs.Laid.{params_of, zones_of}
 use Rattle.ramoops.specs.declared.known.KnownZone.{KnownZone}

@@ -1,7 +1,6 @@
 -- A blank store after a boot, the appends and a stop is the moved state, and the laws of the move speak of it
 use Rattle.std.proofs.Common.{◌≡◌, ℕ, List, replicate, ap, ◌∙◌, subst}
 use Rattle.zone_spec.specs.declared.Zone.{Zone}
-
 use Rattle.zone_spec.specs.Layouts.{IsLayout}
 use Rattle.zone_spec.specs.Records.{Saved}
 use Rattle.zone_params.specs.Laid.{params_of, zones_of}

@@ -3,7 +3,6 @@ use Rattle.std.proofs.Common.{◌≡◌, ℕ, List, [], get_or, sym, ap, ap₂, 
 use Rattle.std.specs.Prelude.{slice_get}
 use Rattle.zone_spec.specs.declared.Zone.{Zone}
 use Rattle.zone_spec.specs.Layouts.{IsLayout}
-
 use Rattle.zone_params.specs.Laid.{params_of, zones_of}
 use Rattle.prz_region.specs.CutRegion.{CutRegion, CountedRegion, cut_at}
 use Rattle.shared_ring.specs.declared.seats.Seat.{Seat}
