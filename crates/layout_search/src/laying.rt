@@ -9,7 +9,6 @@ use zone_params::{LayoutError, layout};
 use zone_spec::{Params, Zone};
 
 /// The candidate's parameters.
-pub /// The parameters of a candidate.
 pub fn params(c: &Candidate) -> Params
     ensures { result ≡ params_of c.now }
 {

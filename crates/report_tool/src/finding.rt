@@ -26,7 +26,10 @@ const MOST: u32 = 16_777_216;
 fn size(words: &[String], key: &str) -> Option<u64>
     ensures { result ≡ given_by (texts words.now) key.now }
 {
-    given(words, key).map(u64::from)
+    match given(words, key) {
+        Some(number) => Some(u64::from(number)),
+        None => None,
+    }
 }
 
 /// What these words say of a layout whose memory is looked for.
