@@ -12,7 +12,7 @@ use Rattle.zone_spec.specs.declared.params.Row.{Row}
 use Rattle.zone_spec.specs.declared.params.LayoutFault.{LayoutFault}
 use Rattle.zone_spec.specs.declared.params.LayoutFault.TheVariants.{ZoneTooSmall, EccInvalid}
 use Rattle.zone_spec.specs.Numbers.{header_len}
-use Rattle.zone_spec.specs.Layout.{zone_at, zones_from, first_fault, ok_unless}
+use Rattle.zone_spec.specs.Layout.{zone_at, zones_from, parameter_faults, first_fault, ok_unless, layout_of}
 use Rattle.layout_spec.specs.declared.Candidate.{Candidate}
 use Rattle.layout_spec.specs.Laid.{params_of, rows_of, zones_of, has_layout}
 
