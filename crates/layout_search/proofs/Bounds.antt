@@ -46,9 +46,9 @@ misses_far image p at (row ∷ rows) =
     omega (
       arith,
       sum_by-append (λ z. one_if (not (fits image z))) (map g (range_with_len 0 row.count))
-      (zones_from p (row_end row at) rows),
+          (zones_from p (row_end row at) rows),
       sum_le (λ i. one_if (not (seems_to_begin row.kind image (at + i * row.size)))) (λ z. one_if (not (fits image z))) g
-      (λ i. far_misses image (g i)) 0 row.count,
+          (λ i. far_misses image (g i)) 0 row.count,
       misses_far image p (row_end row at) rows,
     )
 
@@ -61,9 +61,9 @@ marked_le image p at (row ∷ rows) =
     omega (
       arith,
       sum_by-append (λ (z : Zone). one_if (is_mark image z.at)) (map g (range_with_len 0 row.count))
-      (zones_from p (row_end row at) rows),
+          (zones_from p (row_end row at) rows),
       sum_ge (λ i. one_if (is_mark image (at + i * row.size))) (λ (z : Zone). one_if (is_mark image z.at)) g
-      (λ i. omega arith) 0 row.count,
+          (λ i. omega arith) 0 row.count,
       marked_le image p (row_end row at) rows,
     )
 

@@ -47,8 +47,8 @@ pub roomy : (c : Candidate) → c.mem ≤ 2 ^ 24 → lacks_room_as_given (params
 roomy c m h =
     let fits : rounded c.console + rounded c.ftrace + rounded c.pmsg ≤ c.mem =
     ltb-false _ _ (or_parts (nat_lt c.mem (rounded c.console + rounded c.ftrace + rounded c.pmsg))
-        (nat_lt 0 (dump_memory_as_given (params_of c))
-        && nat_lt (dump_memory_as_given (params_of c)) (rounded c.dump)) h).0 in record {
+    (nat_lt 0 (dump_memory_as_given (params_of c))
+    && nat_lt (dump_memory_as_given (params_of c)) (rounded c.dump)) h).0 in record {
       mem = m;
       console = omega arith;
       ftrace = omega arith;

@@ -150,8 +150,13 @@ fn candidate_of(best: &Option<Best>) -> Option<Candidate>
 }
 
 fn answer(best: &Best, rival: Option<Candidate>, whole: bool) -> Found
-    ensures { result ≡ record { candidate = best.now.candidate; tally = best.now.tally;
-        taken = is_taken best.now.tally; rival = rival; whole = whole } }
+    ensures { result ≡ record {
+      candidate = best.now.candidate;
+      tally = best.now.tally;
+      taken = is_taken best.now.tally;
+      rival = rival;
+      whole = whole;
+    } }
 {
     Found {
         candidate: best.candidate,

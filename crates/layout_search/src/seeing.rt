@@ -85,7 +85,15 @@ pub fn may_begin(image: &[u8], marks: u64, limit: u64, dumps: Row, console: Row,
 }
 
 /// Whether zones of these four rows can have at most `limit` faults.
-pub fn may_fit(image: &[u8], marks: u64, limit: u64, dumps: Row, console: Row, ftrace: Row, pmsg: Row) -> bool
+pub fn may_fit(
+    image: &[u8],
+    marks: u64,
+    limit: u64,
+    dumps: Row,
+    console: Row,
+    ftrace: Row,
+    pmsg: Row,
+) -> bool
     requires marks { marks ≡ marks_of image.now }
     requires few { marks < 2 ^ 63 }
     requires limit { limit < 2 ^ 62 }
@@ -99,18 +107,19 @@ pub fn may_fit(image: &[u8], marks: u64, limit: u64, dumps: Row, console: Row, f
     if marks > limit + dumps.count + console.count + ftrace.count + pmsg.count {
         return false;
     }
-    let Some(one) = see(image, dumps, 0, limit, NOTHING) else {
-        return false;
-    };
+    // the few zones at the end first: they are tried with each number of processors
     let second = end_of(dumps, 0);
-    let Some(two) = see(image, console, second, limit, one) else {
-        return false;
-    };
     let third = end_of(console, second);
-    let Some(three) = see(image, ftrace, third, limit, two) else {
+    let Some(one) = see(image, ftrace, third, limit, NOTHING) else {
         return false;
     };
-    let Some(four) = see(image, pmsg, end_of(ftrace, third), limit, three) else {
+    let Some(two) = see(image, pmsg, end_of(ftrace, third), limit, one) else {
+        return false;
+    };
+    let Some(three) = see(image, dumps, 0, limit, two) else {
+        return false;
+    };
+    let Some(four) = see(image, console, second, limit, three) else {
         return false;
     };
     if marks + four.far > limit + four.marked {

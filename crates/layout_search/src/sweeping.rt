@@ -34,7 +34,10 @@ fn try_pmsgs(
         if state.work == 0 {
             return Ok(());
         }
-        let candidate = Candidate { pmsg: list[k], ..*c };
+        let candidate = Candidate {
+            pmsg: list[k],
+            ..*c
+        };
         try_shape(
             alloc,
             image,
@@ -73,7 +76,10 @@ fn try_ftraces(
         if state.work == 0 {
             return Ok(());
         }
-        let candidate = Candidate { ftrace: list[k], ..*c };
+        let candidate = Candidate {
+            ftrace: list[k],
+            ..*c
+        };
         try_pmsgs(alloc, image, known, lists, aim, &candidate, state)?;
     }
     Ok(())
@@ -103,7 +109,10 @@ fn try_consoles(
         if state.work == 0 {
             return Ok(());
         }
-        let candidate = Candidate { console: list[k], ..*c };
+        let candidate = Candidate {
+            console: list[k],
+            ..*c
+        };
         try_ftraces(alloc, image, known, lists, aim, &candidate, state)?;
     }
     Ok(())
@@ -133,7 +142,10 @@ fn try_dumps(
         if state.work == 0 {
             return Ok(());
         }
-        let candidate = Candidate { dump: list[k], ..*c };
+        let candidate = Candidate {
+            dump: list[k],
+            ..*c
+        };
         try_consoles(alloc, image, known, lists, aim, &candidate, state)?;
     }
     Ok(())

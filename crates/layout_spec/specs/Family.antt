@@ -63,7 +63,7 @@ abbrev pub tags_for : Known → List ℕ → Candidate → List ℕ
 tags_for known image c =
     if c.ftrace == 0 then 0 ∷ []
     else known_or known.tag
-        (0x20000 ∷ map (tag_read image) (filter (is_tagged image) (zones_of (record c { tag = 0 }))))
+    (0x20000 ∷ map (tag_read image) (filter (is_tagged image) (zones_of (record c { tag = 0 }))))
 
 -- nothing is said twice: without dump zones the memory makes no difference, and dump zones need memory
 abbrev pub is_told_once : Known → ℕ → Candidate → Bool

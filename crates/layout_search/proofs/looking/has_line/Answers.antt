@@ -23,5 +23,5 @@ returns c =
     let last : c.loop-i.i ≡ min 40 c.args.words.now.size = omega arith in
     c.is_some.ensures ∙ ap is_some c.read_line.ensures
     ∙ ap has_line (c.as_slice.ensures.value ∙ c.loop-i.invariant.bytes
-        ∙ ap (λ n. map (λ i. slice_index c.args.image.now (c.args.zone.now.at + 12 + log_place c.args.words.now i))
-        (range_with_len 0 n)) last)
+    ∙ ap (λ n. map (λ i. slice_index c.args.image.now (c.args.zone.now.at + 12 + log_place c.args.words.now i))
+    (range_with_len 0 n)) last)

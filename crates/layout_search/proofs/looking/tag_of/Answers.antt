@@ -25,12 +25,11 @@ returns-in_default c =
 pub returns-then-is_tag : goal.returns-then-is_tag
 unfolding is_tagged
 returns-then-is_tag c =
-    let same = ap (λ (w : Words). bit_xor 0x43474244 w.sig) c.in-Some.ensures.words in
-    (
+    let same = ap (λ (w : Words). bit_xor 0x43474244 w.sig) c.in-Some.ensures.words in (
       ap (λ b. b && is_readable c.args.image.now c.args.zone.now
-      && is_tag (tag_read c.args.image.now c.args.zone.now)) (sym c.is_ftrace.ensures ∙ c.if-not-is_ftrace.false)
-      ∙ ap (λ b. b && is_tag (tag_read c.args.image.now c.args.zone.now)) c.in-Some.ensures.readable
-      ∙ ap is_tag (sym same) ∙ sym c.is_tag.ensures ∙ c.if-is_tag.true,
+          && is_tag (tag_read c.args.image.now c.args.zone.now)) (sym c.is_ftrace.ensures ∙ c.if-not-is_ftrace.false)
+          ∙ ap (λ b. b && is_tag (tag_read c.args.image.now c.args.zone.now)) c.in-Some.ensures.readable
+          ∙ ap is_tag (sym same) ∙ sym c.is_tag.ensures ∙ c.if-is_tag.true,
       same,
     )
 
