@@ -53,7 +53,10 @@ fn parity_is_found(rt: HostRuntime) -> Result<(), Fail> {
     let found = search(rt.alloc(), &image, &Known::default())?.ok_or("none")?;
     let layout = found.candidate;
     assert_eq!(rt; (layout.mem, layout.dump, layout.ftrace), (2048, 512, 0));
-    assert_eq!(rt; (layout.console, layout.pmsg, layout.parity), (512, 512, 16));
+    assert_eq!(rt;
+        (layout.console, layout.pmsg, layout.parity),
+        (512, 512, 16)
+    );
     assert!(rt; found.taken && found.whole);
     Ok(())
 }
