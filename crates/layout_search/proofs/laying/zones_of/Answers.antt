@@ -1,8 +1,8 @@
-use Rattle.std.proofs.Common.{◌≡◌, ◌^◌, ◌≤◌, Ok, Err, subst}
+use Rattle.std.proofs.Common.{◌≡◌, ◌^◌, ◌≤◌, Ok, subst}
 use Rattle.zone_spec.specs.declared.params.Params.{Params}
 use Rattle.zone_spec.specs.Layouts.{IsLayout}
 use Rattle.report_spec.specs.AsGiven.{layout_as_given}
-use Rattle.layout_search.proofs.LaidOut.{laid, faulty}
+use Rattle.layout_search.proofs.LaidOut.{laid}
 use Rattle.layout_search.proofs.laying.zones_of.Goals as goal
 
 pub returns-in-Ok : goal.returns-in-Ok

@@ -1,6 +1,5 @@
-use Rattle.std.proofs.Common.{◌≡◌, ◌+◌, [], ◌∷◌, ap, refl, arith}
-use Rattle.layout_spec.specs.Marks.{marks}
-use Rattle.layout_search.specs.Seen.{far_in, marked_in, row_end}
+use Rattle.std.proofs.Common.{[], ◌∷◌, refl, arith}
+use Rattle.layout_search.specs.Seen.{row_end}
 use Rattle.layout_search.proofs.Bounds.{faults_by_rows, far_four, marked_four, few_four}
 use Rattle.layout_search.proofs.seeing.may_fit.Goals as goal
 
