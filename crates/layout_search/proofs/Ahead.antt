@@ -1,5 +1,5 @@
 -- The best so far
-use Rattle.std.proofs.Common.{◌≡◌, ℕ, ◌+◌, ◌<◌, ◌≤◌, Bool, true, false, ◌&&◌, ◌||◌, ◌==◌, nat_lt, if◌then◌else◌, List, [], ◌∷◌, length, get_or, Option, Some, None, refl, sym, ap, ◌∙◌, subst, arith, true≢false}
+use Rattle.std.proofs.Common.{◌≡◌, ℕ, ◌+◌, ◌<◌, ◌≤◌, Bool, true, false, ◌&&◌, ◌||◌, ◌==◌, nat_lt, if◌then◌else◌, List, [], ◌∷◌, length, get_or, Option, Some, None, sym, ap, ◌∙◌, subst, arith, true≢false}
 use Rattle.std.specs.Prelude.{nat_le, sum_by}
 use Rattle.std.proofs.lemmas.Bool.{and_parts, or_parts, false_from_ne_true, ltb-false, le-leb, lt-leb}
 use Rattle.layout_spec.specs.declared.Candidate.{Candidate}
@@ -7,7 +7,7 @@ use Rattle.layout_spec.specs.declared.Known.{Known}
 use Rattle.layout_spec.specs.Laid.{params_of, zones_of, has_layout}
 use Rattle.layout_spec.specs.Order.{is_before, faults}
 use Rattle.layout_spec.specs.Family.{is_of_family, is_chosen, is_one_of, tags_for, known_or, parities, cpus_for, sizes, memories, is_shape, is_told_once}
-use Rattle.layout_search.specs.Tried.{IsAim, Advances, IsSettled, TagsSettled, ParitiesSettled, CpusSettled, PmsgsSettled, FtracesSettled, ConsolesSettled, DumpsSettled, MemsSettled, is_ahead}
+use Rattle.layout_search.specs.Tried.{Advances, IsSettled, TagsSettled, ParitiesSettled, CpusSettled, PmsgsSettled, FtracesSettled, ConsolesSettled, DumpsSettled, MemsSettled, is_ahead}
 use Rattle.layout_search.specs.Placed.{is_placed, is_ready, with_mem, with_dump, with_console, with_ftrace}
 use Rattle.layout_search.specs.Rows.{dump_row_of, console_row_of, ftrace_row_of, pmsg_row_of}
 use Rattle.layout_search.proofs.Refused.{cpus_bad}

@@ -1,5 +1,5 @@
 -- The faults of a layout are at least what is seen of its zones' places
-use Rattle.std.proofs.Common.{◌≡◌, ℕ, suc, ◌+◌, ◌-◌, ◌*◌, ◌<◌, ◌≤◌, Bool, true, false, not, ◌&&◌, if◌then◌else◌, List, [], ◌∷◌, ◌++◌, map, refl, sym, ap, subst, ◌∙◌, arith, true≢false}
+use Rattle.std.proofs.Common.{◌≡◌, ℕ, suc, ◌+◌, ◌-◌, ◌*◌, ◌<◌, ◌≤◌, Bool, true, false, not, ◌&&◌, if◌then◌else◌, List, [], ◌∷◌, ◌++◌, map, sym, ap, subst, ◌∙◌, arith}
 use Rattle.std.specs.Prelude.{count_by, sum_by}
 use Rattle.std.specs.List.{range_with_len}
 use Rattle.std.proofs.lemmas.List.Sums.{sum_by-append, sum_by-cons}
@@ -8,7 +8,7 @@ use Rattle.zone_spec.specs.declared.params.Params.{Params}
 use Rattle.zone_spec.specs.declared.params.Row.{Row}
 use Rattle.zone_spec.specs.Layout.{zone_at, zones_from}
 use Rattle.layout_spec.specs.Marks.{fits, is_mark, marks, seems_to_begin}
-use Rattle.layout_spec.specs.Order.{misses, strays, faults}
+use Rattle.layout_spec.specs.Order.{misses, faults}
 use Rattle.layout_search.specs.Seen.{far_in, marked_in, row_end}
 use Rattle.layout_search.proofs.Ranges.{sum_le, sum_ge, count_range}
 

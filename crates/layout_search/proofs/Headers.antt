@@ -1,6 +1,6 @@
 -- What the header of a zone says, by the tests that it passes
-use Rattle.std.proofs.Common.{◌≡◌, ℕ, ◌+◌, ◌≤◌, Bool, true, false, not, ◌&&◌, ◌||◌, if◌then◌else◌, ◌==◌, nat_lt, List, refl, sym, ap, ◌∙◌, arith}
-use Rattle.std.proofs.lemmas.Bool.{or_parts, and_parts, ltb-false}
+use Rattle.std.proofs.Common.{◌≡◌, ℕ, ◌≤◌, Bool, true, false, not, ◌&&◌, ◌||◌, if◌then◌else◌, ◌==◌, nat_lt, List, refl, sym, ap, ◌∙◌}
+use Rattle.std.proofs.lemmas.Bool.{or_parts, ltb-false}
 use Rattle.zone_spec.specs.declared.Zone.{Zone}
 use Rattle.zone_spec.specs.declared.Words.{Words}
 use Rattle.zone_spec.specs.declared.State.{State}
@@ -8,7 +8,6 @@ use Rattle.zone_spec.specs.declared.State.TheVariants.{Unsigned, Empty, Invalid,
 use Rattle.zone_spec.specs.Reading.{state_of}
 use Rattle.zone_spec.specs.TimeLines.{has_line}
 use Rattle.layout_spec.specs.Marks.{is_mark, fits, has_log, is_odd, is_readable, header_of, words_of, state_in, is_ring_or_empty, is_found, is_odd_log, log_front}
-use Rattle.layout_spec.specs.Order.{corrected_in}
 use Rattle.layout_search.specs.Looks.{IsLook, IsHeader}
 use Rattle.layout_search.specs.declared.looking.Header.{Header}
 

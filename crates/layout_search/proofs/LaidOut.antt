@@ -1,5 +1,5 @@
 -- A candidate's zones are those of its layout
-use Rattle.std.proofs.Common.{◌≡◌, ℕ, ◌^◌, ◌≤◌, ◌<◌, true, false, List, length, Option, Some, None, Ok, Err, refl, sym, ap, ◌∙◌}
+use Rattle.std.proofs.Common.{◌≡◌, ◌^◌, ◌≤◌, ◌<◌, false, List, length, Option, Some, None, Ok, Err, ap}
 use Rattle.std.specs.Prelude.{is_ok}
 use Rattle.zone_spec.specs.declared.Zone.{Zone}
 use Rattle.zone_spec.specs.declared.params.LayoutFault.{LayoutFault}

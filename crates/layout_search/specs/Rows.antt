@@ -1,5 +1,5 @@
 -- The rows of a candidate, and what refuses it before its zones are looked at
-use Rattle.std.specs.Prelude.{◌≡◌, ℕ, ◌^◌, ◌≤◌, ◌/◌, if◌then◌else◌, ◌==◌}
+use Rattle.std.specs.Prelude.{ℕ, ◌^◌, ◌≤◌, ◌/◌, if◌then◌else◌, ◌==◌}
 use Rattle.zone_spec.specs.declared.Kind.TheVariants.{Dump, Console, Ftrace, Pmsg}
 use Rattle.zone_spec.specs.declared.params.Row.{Row}
 use Rattle.zone_spec.specs.Layout.{rounded, even, one_row}

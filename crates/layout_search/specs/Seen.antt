@@ -1,5 +1,5 @@
 -- What is seen of the places of zones, without reading a header
-use Rattle.std.specs.Prelude.{◌≡◌, ℕ, ◌+◌, ◌*◌, ◌^◌, ◌<◌, ◌≤◌, not, List, count_by}
+use Rattle.std.specs.Prelude.{◌≡◌, ℕ, ◌+◌, ◌*◌, ◌^◌, ◌≤◌, not, List, count_by}
 use Rattle.std.specs.List.{range_with_len}
 use Rattle.zone_spec.specs.declared.params.Row.{Row}
 use Rattle.layout_spec.specs.Marks.{is_mark, seems_to_begin}

@@ -49,7 +49,8 @@ fn with(counts: &Counts, look: Look, size: u32) -> Counts
 pub fn count_zones(image: &[u8], zones: &[Zone], most: u64, looked: &mut u64) -> Option<Counts>
     requires inside { (i : ℕ) (z : ZoneValue) → slice_get zones.now i ≡ Some z → IsInside image.now z }
     requires few { length zones.now < 2 ^ 32 }
-    ensures { MatchOption result (most < misses image.now zones.now) (λ counts. AreCounts image.now zones.now counts × AreBelow (2 ^ 62) counts) }
+    ensures { MatchOption result (most < misses image.now zones.now)
+        (λ counts. AreCounts image.now zones.now counts × AreBelow (2 ^ 62) counts) }
 {
     let mut counts = Counts::default();
     for zone in zones {

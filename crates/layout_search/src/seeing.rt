@@ -25,8 +25,15 @@ fn bit(b: bool) -> u64
 }
 
 /// What is seen of a row's zones, the first at this place, added to what was seen; `None` if more than `most` seem to
-/// begin nowhere.
-fn see(image: &[u8], row: Row, start: u64, most: u64, before: Seen) -> Option<Seen>
+/// begin nowhere. `looked` grows by the places that were looked at.
+fn see(
+    image: &[u8],
+    row: Row,
+    start: u64,
+    most: u64,
+    before: Seen,
+    looked: &mut u64,
+) -> Option<Seen>
     requires row { IsSmallRow row }
     requires start { start < 2 ^ 60 }
     requires far { before.far < 2 ^ 60 }
@@ -38,6 +45,7 @@ fn see(image: &[u8], row: Row, start: u64, most: u64, before: Seen) -> Option<Se
         if seen.far > most {
             return None;
         }
+        *looked = looked.saturating_add(1);
         let at = (start + i * row.size) as usize;
         seen = Seen {
             far: seen.far + bit(!seems_to_begin(row.kind, image, at)),
@@ -59,7 +67,15 @@ fn end_of(row: Row, start: u64) -> u64
 const NOTHING: Seen = Seen { far: 0, marked: 0 };
 
 /// Whether zones of these two rows, and at most `more` behind them, can have at most `limit` faults.
-pub fn may_begin(image: &[u8], marks: u64, limit: u64, dumps: Row, console: Row, more: u64) -> bool
+pub fn may_begin(
+    image: &[u8],
+    marks: u64,
+    limit: u64,
+    dumps: Row,
+    console: Row,
+    more: u64,
+    looked: &mut u64,
+) -> bool
     requires marks { marks ≡ marks_of image.now }
     requires few { marks < 2 ^ 63 }
     requires limit { limit < 2 ^ 62 }
@@ -72,10 +88,10 @@ pub fn may_begin(image: &[u8], marks: u64, limit: u64, dumps: Row, console: Row,
     if marks > limit + dumps.count + console.count + more {
         return false;
     }
-    let Some(first) = see(image, dumps, 0, limit, NOTHING) else {
+    let Some(first) = see(image, dumps, 0, limit, NOTHING, looked) else {
         return false;
     };
-    let Some(both) = see(image, console, end_of(dumps, 0), limit, first) else {
+    let Some(both) = see(image, console, end_of(dumps, 0), limit, first, looked) else {
         return false;
     };
     if marks + both.far > limit + both.marked + more {
@@ -93,6 +109,7 @@ pub fn may_fit(
     console: Row,
     ftrace: Row,
     pmsg: Row,
+    looked: &mut u64,
 ) -> bool
     requires marks { marks ≡ marks_of image.now }
     requires few { marks < 2 ^ 63 }
@@ -107,18 +124,19 @@ pub fn may_fit(
     if marks > limit + dumps.count + console.count + ftrace.count + pmsg.count {
         return false;
     }
-    let Some(one) = see(image, dumps, 0, limit, NOTHING) else {
-        return false;
-    };
+    // the few zones at the end first: they are tried with each number of processors
     let second = end_of(dumps, 0);
-    let Some(two) = see(image, console, second, limit, one) else {
-        return false;
-    };
     let third = end_of(console, second);
-    let Some(three) = see(image, ftrace, third, limit, two) else {
+    let Some(one) = see(image, ftrace, third, limit, NOTHING, looked) else {
         return false;
     };
-    let Some(four) = see(image, pmsg, end_of(ftrace, third), limit, three) else {
+    let Some(two) = see(image, pmsg, end_of(ftrace, third), limit, one, looked) else {
+        return false;
+    };
+    let Some(three) = see(image, dumps, 0, limit, two, looked) else {
+        return false;
+    };
+    let Some(four) = see(image, console, second, limit, three, looked) else {
         return false;
     };
     if marks + four.far > limit + four.marked {

@@ -138,10 +138,23 @@ fn try_processors(
     let console = console_row(c);
     let ftrace = ftrace_row(c);
     let pmsg = pmsg_row(c);
-    if !may_fit(image, aim.marks, aim.limit, dumps, console, ftrace, pmsg) {
+    let mut looked = 0;
+    if !may_fit(
+        image,
+        aim.marks,
+        aim.limit,
+        dumps,
+        console,
+        ftrace,
+        pmsg,
+        &mut looked,
+    ) {
+        spend(state, looked);
         return Ok(());
     }
-    try_parities(alloc, image, known, parities, aim, c, state)
+    spend(state, looked);
+    try_parities(alloc, image, known, parities, aim, c, state)?;
+    Ok(())
 }
 
 /// Tries a candidate with each number of processors and each parity.
@@ -219,12 +232,24 @@ pub fn try_shape(
     if !has_room(c) {
         return Ok(());
     }
-    if !may_begin(image, aim.marks, aim.limit, dump_row(c), console_row(c), 65) {
+    let mut looked = 0;
+    if !may_begin(
+        image,
+        aim.marks,
+        aim.limit,
+        dump_row(c),
+        console_row(c),
+        65,
+        &mut looked,
+    ) {
+        spend(state, looked);
         return Ok(());
     }
+    spend(state, looked);
     if c.ftrace == 0 {
-        try_cpus(alloc, image, known, &[1], parities, aim, c, state)
-    } else {
-        try_cpus(alloc, image, known, cpus, parities, aim, c, state)
+        try_cpus(alloc, image, known, &[1], parities, aim, c, state)?;
+        return Ok(());
     }
+    try_cpus(alloc, image, known, cpus, parities, aim, c, state)?;
+    Ok(())
 }

@@ -3,6 +3,7 @@ use anyhow::anyhow;
 use clap::ArgMatches;
 use dtb::{Fault, ramoops_nodes};
 use grammar_spec::ParamFault;
+use layout_search::params;
 use report_tool::{Candidate, Found, Known, Plan, PlanFault, TreeFault, known};
 use report_words::{LineFault, add_layout_words, add_tag, ftrace_tag};
 use std::alloc::{AllocError, Global};
@@ -10,7 +11,7 @@ use std::fs;
 use std::io::ErrorKind;
 use std::rt::Runtime;
 use symbols::Symbols;
-use zone_params::{DEFAULTS, given, read_words_over};
+use zone_params::{DEFAULTS, LayoutError, given, layout, read_words_over};
 
 /// Why there is no plan: a want of memory, or what is wrong with the words.
 pub enum NoPlan {
@@ -287,6 +288,20 @@ pub fn asked<R: Runtime>(rt: &R, alloc: Global, matches: &ArgMatches<'_>) -> Res
         sought => sought,
     };
     Ok(asked)
+}
+
+/// Whether the zones of two layouts lie in the same places, so that only their kinds differ.
+pub fn are_alike(alloc: Global, one: &Candidate, other: &Candidate) -> Result<bool, AllocError> {
+    match (layout(alloc, &params(one)), layout(alloc, &params(other))) {
+        (Ok(one), Ok(other)) => Ok(one.zones().len() == other.zones().len()
+            && one
+                .zones()
+                .iter()
+                .zip(other.zones())
+                .all(|(a, b)| (a.at, a.size) == (b.at, b.size))),
+        (Err(LayoutError::Memory), _) | (_, Err(LayoutError::Memory)) => Err(AllocError),
+        _ => Ok(false),
+    }
 }
 
 /// The words of a layout that was found in an image of so many bytes.

@@ -12,7 +12,7 @@ use clap::error::ErrorKind;
 use command::command;
 use folder::Dir;
 use image::Image;
-use layout::{Asked, Layouts, NoPlan, asked, found_words};
+use layout::{Asked, Layouts, NoPlan, are_alike, asked, found_words};
 use outside::{Load, WriterSink};
 use record_report::Report;
 use report_tool::{Format, Known, Plan, Stop, find, report, save};
@@ -81,7 +81,11 @@ fn found_plan<R: Runtime, M: Load>(
         println!(rt; "{path}: {size} bytes; layout found: {words}")?;
         if let Some(rival) = &found.rival {
             let words = found_words(alloc, rival, size)?;
-            println!(rt; "another layout explains as much: {words}")?;
+            let what = match are_alike(alloc, &found.candidate, rival)? {
+                true => "kinds are taken for likely; the same zones could be",
+                false => "another layout explains as much",
+            };
+            println!(rt; "{what}: {words}")?;
         }
         if !found.whole {
             println!(rt; "not all layouts were tried")?;

@@ -1,12 +1,11 @@
-use Rattle.std.proofs.Common.{◌≡◌, ◌+◌, ◌*◌, ◌^◌, ◌<◌, ◌≤◌, ℕ, List, length, take, get_or, sym, subst, ap, ◌∙◌, arith}
+use Rattle.std.proofs.Common.{◌+◌, List, take, sym, subst, arith}
 use Rattle.std.proofs.lemmas.Option.{slice_get-get_or}
 use Rattle.std.proofs.lemmas.List.{take_all}
 use Rattle.std.proofs.lemmas.List.Sums.{sum_by-take-le}
 use Rattle.std.specs.Prelude.{not, if◌then◌else◌}
 use Rattle.zone_spec.specs.declared.Zone.{Zone}
 use Rattle.layout_spec.specs.Marks.{fits}
-use Rattle.layout_search.specs.Looks.{IsInside}
-use Rattle.layout_search.specs.Counted.{AreCounts, AreAtMost, AreBelow}
+use Rattle.layout_search.specs.Counted.{AreCounts}
 use Rattle.layout_search.specs.declared.counting.Counts.{Counts}
 use Rattle.layout_search.proofs.Sums.{counts_more, below}
 use Rattle.layout_search.proofs.counting.count_zones.Goals as goal

@@ -1,4 +1,4 @@
-use Rattle.std.proofs.Common.{◌≡◌, ◌∙◌, ◌+◌, [], ◌∷◌, ◌++◌, append_assoc, sym, ap}
+use Rattle.std.proofs.Common.{◌∙◌, ◌+◌, [], ◌∷◌, ◌++◌, append_assoc, sym, ap}
 use Rattle.std.specs.List.{range_with_len}
 use Rattle.layout_search.proofs.Ranges.{range_more}
 use Rattle.layout_search.proofs.lists.count_up.Goals as goal

@@ -1,4 +1,4 @@
-use Rattle.std.proofs.Common.{◌≡◌, ◌∙◌, ◌∷◌, ap}
+use Rattle.std.proofs.Common.{◌∙◌, ◌∷◌, ap}
 use Rattle.std.specs.Prelude.{filter, nat_le}
 use Rattle.layout_spec.specs.Family.{known_or, powers}
 use Rattle.layout_search.proofs.lists.make_lists.Goals as goal

@@ -1,8 +1,8 @@
-use Rattle.std.proofs.Common.{◌≡◌, ◌+◌, ◌∙◌, ap, length, arith, map}
-use Rattle.std.specs.Prelude.{ℕ, List, Option, slice_index, min, is_some}
+use Rattle.std.proofs.Common.{◌≡◌, ◌+◌, ◌∙◌, ap, arith, map}
+use Rattle.std.specs.Prelude.{ℕ, slice_index, min, is_some}
 use Rattle.std.specs.List.{range_with_len}
 use Rattle.std.proofs.lemmas.List.FromFn.{map-range_with_len_more}
-use Rattle.zone_spec.specs.TimeLines.{read_line, has_line}
+use Rattle.zone_spec.specs.TimeLines.{has_line}
 use Rattle.layout_spec.specs.Marks.{log_place, log_front}
 use Rattle.layout_search.proofs.looking.has_line.Goals as goal
 

@@ -1,7 +1,7 @@
-use Rattle.std.proofs.Common.{◌≡◌, ◌∙◌, ◌==◌, true, false, sym, subst}
+use Rattle.std.proofs.Common.{◌∙◌, sym, subst}
 use Rattle.layout_search.specs.Looks.{IsLook}
 use Rattle.layout_search.specs.declared.looking.Look.{Look}
-use Rattle.layout_search.proofs.Headers.{misfit, unreadable, foreign, invalid, fresh, ring, ring_start, ring_size}
+use Rattle.layout_search.proofs.Headers.{misfit, unreadable, foreign, invalid, fresh, ring}
 use Rattle.layout_search.proofs.looking.look_at.Goals as goal
 
 pub returns-in_default : goal.returns-in_default

@@ -1,4 +1,4 @@
-use Rattle.std.proofs.Common.{◌≡◌, ◌∙◌, false, drop, List, [], ℕ, sym, ap, arith}
+use Rattle.std.proofs.Common.{◌∙◌, drop, sym, ap, arith}
 use Rattle.std.proofs.Math.ListN.{drop_of_length-le}
 use Rattle.layout_spec.specs.Order.{is_before}
 use Rattle.layout_search.proofs.Keys.{front_same, front_differs, none_before}

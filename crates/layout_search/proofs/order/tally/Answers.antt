@@ -1,4 +1,4 @@
-use Rattle.std.proofs.Common.{◌≡◌, ◌∙◌, ◌+◌, ◌-◌, ℕ, ap, length}
+use Rattle.std.proofs.Common.{◌∙◌, ◌+◌, ◌-◌, ℕ, ap, length}
 use Rattle.layout_spec.specs.declared.Tally.{Tally}
 use Rattle.layout_search.proofs.Sums.{tally_is}
 use Rattle.layout_search.proofs.order.tally.Goals as goal

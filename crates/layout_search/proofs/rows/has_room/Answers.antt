@@ -1,6 +1,5 @@
-use Rattle.std.proofs.Common.{◌≡◌, ◌∙◌, ◌<◌, true, sym, ap, arith}
+use Rattle.std.proofs.Common.{◌∙◌, sym}
 use Rattle.std.proofs.lemmas.Bool.{lt-ltb}
-use Rattle.layout_spec.specs.declared.Candidate.{Candidate}
 use Rattle.layout_search.proofs.Refused.{too_large, no_room}
 use Rattle.layout_search.proofs.rows.has_room.Goals as goal
 

@@ -1,4 +1,3 @@
-use Rattle.std.proofs.Common.{◌≡◌, ◌≢◌, Some}
 use Rattle.layout_search.proofs.searching.find_rival.Goals as goal
 
 pub returns-clause-settled : goal.returns-clause-settled

@@ -1,4 +1,4 @@
-use Rattle.std.proofs.Common.{◌≡◌, ◌<◌, ℕ, Option, sym, subst, arith}
+use Rattle.std.proofs.Common.{◌<◌, Option, sym, subst, arith}
 use Rattle.std.specs.Prelude.{nat_lt}
 use Rattle.std.proofs.lemmas.Bool.{ltb-true}
 use Rattle.layout_spec.specs.declared.Candidate.{Candidate}

@@ -1,7 +1,6 @@
-use Rattle.std.proofs.Common.{◌≡◌, ◌+◌, [], ◌∷◌, ap, refl, arith}
-use Rattle.layout_spec.specs.Marks.{marks}
-use Rattle.layout_search.specs.Seen.{far_in, marked_in, row_end}
-use Rattle.layout_search.proofs.Bounds.{faults_by_rows, far_two, marked_two, far_four, marked_four, few_two, few_four}
+use Rattle.std.proofs.Common.{◌∷◌, refl, arith}
+use Rattle.layout_search.specs.Seen.{row_end}
+use Rattle.layout_search.proofs.Bounds.{faults_by_rows, far_two, marked_two, few_two}
 use Rattle.layout_search.proofs.seeing.may_begin.Goals as goal
 
 pub returns-then-marks-limit : goal.returns-then-marks-limit

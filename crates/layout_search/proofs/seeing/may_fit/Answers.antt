@@ -1,7 +1,6 @@
-use Rattle.std.proofs.Common.{◌≡◌, ◌+◌, [], ◌∷◌, ap, refl, arith}
-use Rattle.layout_spec.specs.Marks.{marks}
-use Rattle.layout_search.specs.Seen.{far_in, marked_in, row_end}
-use Rattle.layout_search.proofs.Bounds.{faults_by_rows, far_two, marked_two, far_four, marked_four, few_two, few_four}
+use Rattle.std.proofs.Common.{[], ◌∷◌, refl, arith}
+use Rattle.layout_search.specs.Seen.{row_end}
+use Rattle.layout_search.proofs.Bounds.{faults_by_rows, far_four, marked_four, few_four}
 use Rattle.layout_search.proofs.seeing.may_fit.Goals as goal
 
 pub returns-then-marks-limit : goal.returns-then-marks-limit
@@ -18,8 +17,8 @@ returns-in_default c = λ h p. omega (
   c.requires.marks,
   faults_by_rows c.args.image.now p (c.args.dumps ∷ c.args.console ∷ c.args.ftrace ∷ c.args.pmsg ∷ []),
   c.in_default.ensures,
-  far_four c.args.image.now c.args.dumps c.args.console c.args.ftrace c.args.pmsg (row_end c.args.dumps 0) (row_end c.args.console (row_end c.args.dumps 0)) (row_end c.args.ftrace (row_end c.args.console (row_end c.args.dumps 0))) refl refl refl,
-  marked_four c.args.image.now c.args.dumps c.args.console c.args.ftrace c.args.pmsg (row_end c.args.dumps 0) (row_end c.args.console (row_end c.args.dumps 0)) (row_end c.args.ftrace (row_end c.args.console (row_end c.args.dumps 0))) refl refl refl,
+  far_four c.args.image.now c.args.dumps c.args.console c.args.ftrace c.args.pmsg c.end_of-second.result c.end_of-third.result (row_end c.args.ftrace c.end_of-third.result) c.end_of-second.ensures.value c.end_of-third.ensures.value refl,
+  marked_four c.args.image.now c.args.dumps c.args.console c.args.ftrace c.args.pmsg c.end_of-second.result c.end_of-third.result (row_end c.args.ftrace c.end_of-third.result) c.end_of-second.ensures.value c.end_of-third.ensures.value refl,
 )
 
 pub returns-in_default-see : goal.returns-in_default-see
@@ -29,8 +28,8 @@ returns-in_default-see c = λ h p. omega (
   faults_by_rows c.args.image.now p (c.args.dumps ∷ c.args.console ∷ c.args.ftrace ∷ c.args.pmsg ∷ []),
   c.in-Some.ensures.far,
   c.in_default-see.ensures,
-  far_four c.args.image.now c.args.dumps c.args.console c.args.ftrace c.args.pmsg c.end_of-second.result (row_end c.args.console c.end_of-second.result) (row_end c.args.ftrace (row_end c.args.console c.end_of-second.result)) c.end_of-second.ensures.value refl refl,
-  marked_four c.args.image.now c.args.dumps c.args.console c.args.ftrace c.args.pmsg c.end_of-second.result (row_end c.args.console c.end_of-second.result) (row_end c.args.ftrace (row_end c.args.console c.end_of-second.result)) c.end_of-second.ensures.value refl refl,
+  far_four c.args.image.now c.args.dumps c.args.console c.args.ftrace c.args.pmsg c.end_of-second.result c.end_of-third.result c.end_of.result c.end_of-second.ensures.value c.end_of-third.ensures.value c.end_of.ensures.value,
+  marked_four c.args.image.now c.args.dumps c.args.console c.args.ftrace c.args.pmsg c.end_of-second.result c.end_of-third.result c.end_of.result c.end_of-second.ensures.value c.end_of-third.ensures.value c.end_of.ensures.value,
 )
 
 pub returns-in_default-see-2 : goal.returns-in_default-see-2
@@ -41,8 +40,8 @@ returns-in_default-see-2 c = λ h p. omega (
   c.in-Some.ensures.far,
   c.in-Some-see.ensures.far,
   c.in_default-see-2.ensures,
-  far_four c.args.image.now c.args.dumps c.args.console c.args.ftrace c.args.pmsg c.end_of-second.result c.end_of-third.result (row_end c.args.ftrace c.end_of-third.result) c.end_of-second.ensures.value c.end_of-third.ensures.value refl,
-  marked_four c.args.image.now c.args.dumps c.args.console c.args.ftrace c.args.pmsg c.end_of-second.result c.end_of-third.result (row_end c.args.ftrace c.end_of-third.result) c.end_of-second.ensures.value c.end_of-third.ensures.value refl,
+  far_four c.args.image.now c.args.dumps c.args.console c.args.ftrace c.args.pmsg c.end_of-second.result c.end_of-third.result c.end_of.result c.end_of-second.ensures.value c.end_of-third.ensures.value c.end_of.ensures.value,
+  marked_four c.args.image.now c.args.dumps c.args.console c.args.ftrace c.args.pmsg c.end_of-second.result c.end_of-third.result c.end_of.result c.end_of-second.ensures.value c.end_of-third.ensures.value c.end_of.ensures.value,
 )
 
 pub returns-in_default-see-3 : goal.returns-in_default-see-3

@@ -1,9 +1,9 @@
 use Rattle.std.proofs.Common.{◌≡◌, ◌+◌, ◌*◌, ◌∙◌, ap, arith}
-use Rattle.std.specs.Prelude.{ℕ, not, MatchOption, count_by}
+use Rattle.std.specs.Prelude.{ℕ, not, count_by}
 use Rattle.std.specs.List.{range_with_len}
 use Rattle.layout_spec.specs.Marks.{is_mark, seems_to_begin}
 use Rattle.layout_search.specs.Seen.{far_in, marked_in}
-use Rattle.layout_search.proofs.Ranges.{count_more, count_front, count_range, product}
+use Rattle.layout_search.proofs.Ranges.{count_more, count_front, product}
 use Rattle.layout_search.proofs.seeing.see.Goals as goal
 
 pub overflow_mul-at : goal.overflow_mul-at

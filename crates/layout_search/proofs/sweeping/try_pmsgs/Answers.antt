@@ -1,4 +1,4 @@
-use Rattle.std.proofs.Common.{◌≡◌, ◌∙◌, ◌<◌, true, get_or, below_more, subst, arith}
+use Rattle.std.proofs.Common.{◌≡◌, ◌∙◌, true, get_or, below_more, subst, arith}
 use Rattle.std.specs.Prelude.{length}
 use Rattle.layout_spec.specs.Family.{is_one_of}
 use Rattle.layout_search.proofs.Members.{member_at}

@@ -1,5 +1,4 @@
-use Rattle.std.proofs.Common.{◌≡◌, ◌∙◌, ◌<◌, ℕ, true, get_or, below_more, sym, subst, arith, ap, length}
-use Rattle.layout_spec.specs.declared.Candidate.{Candidate}
+use Rattle.std.proofs.Common.{◌≡◌, ◌∙◌, true, get_or, below_more, subst, arith}
 use Rattle.layout_spec.specs.Family.{is_one_of, tags_for}
 use Rattle.layout_search.specs.Tried.{IsSettled}
 use Rattle.layout_search.proofs.Tags.{layout_untagged}

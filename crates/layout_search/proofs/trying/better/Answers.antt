@@ -1,4 +1,4 @@
-use Rattle.std.proofs.Common.{◌≡◌, ◌∙◌, true, false, List, ℕ, Option, sym}
+use Rattle.std.proofs.Common.{◌∙◌, sym}
 use Rattle.layout_search.proofs.Ahead.{replaced}
 use Rattle.layout_search.proofs.Keys.{not_before_self}
 use Rattle.layout_search.proofs.trying.better.Goals as goal

@@ -1,4 +1,3 @@
-use Rattle.std.proofs.Common.{◌≡◌}
 use Rattle.layout_search.proofs.Ahead.{no_layout}
 use Rattle.layout_search.proofs.trying.try_candidate.Goals as goal
 

@@ -1,8 +1,8 @@
-use Rattle.std.proofs.Common.{◌≡◌, ◌+◌, ◌*◌, ◌-◌, ◌<◌, ◌≤◌, [], ◌∷◌, true, false, refl, ap, subst, arith}
+use Rattle.std.proofs.Common.{◌≡◌, ◌+◌, ◌*◌, ◌-◌, ◌<◌, ◌≤◌, true, false, refl, ap, subst, arith}
 use Rattle.std.specs.Prelude.{ℕ, Bool, not}
 use Rattle.zone_spec.specs.declared.Kind.TheVariants.{Dump}
 use Rattle.zone_spec.specs.declared.params.Row.{Row}
-use Rattle.zone_spec.specs.Layout.{zone_at, zones_from}
+use Rattle.zone_spec.specs.Layout.{zone_at}
 use Rattle.layout_spec.specs.declared.Candidate.{Candidate}
 use Rattle.layout_spec.specs.Laid.{params_of, zones_of}
 use Rattle.layout_spec.specs.Marks.{fits, marks}

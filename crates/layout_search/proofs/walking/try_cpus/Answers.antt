@@ -1,4 +1,4 @@
-use Rattle.std.proofs.Common.{◌≡◌, ◌<◌, true, get_or, sym, subst, arith}
+use Rattle.std.proofs.Common.{◌≡◌, true, get_or, subst, arith}
 use Rattle.layout_spec.specs.Family.{is_one_of}
 use Rattle.layout_search.proofs.Members.{member_at}
 use Rattle.layout_search.proofs.Ahead.{ready_of, cpus_done}

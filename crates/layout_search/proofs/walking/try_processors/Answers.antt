@@ -1,4 +1,4 @@
-use Rattle.std.proofs.Common.{◌≡◌, ◌∙◌, ◌<◌, [], ◌∷◌, sym, subst, arith}
+use Rattle.std.proofs.Common.{◌∙◌, ◌<◌, [], ◌∷◌, sym, subst}
 use Rattle.zone_spec.specs.declared.params.Params.{Params}
 use Rattle.zone_spec.specs.declared.params.Row.{Row}
 use Rattle.zone_spec.specs.Layout.{zones_from}
@@ -15,7 +15,7 @@ pub returns-then-not-may_fit-clause-settled : goal.returns-then-not-may_fit-clau
 returns-then-not-may_fit-clause-settled c =
     let image = c.args.image.now in
     let limit = c.args.aim.now.limit in
-    bad_rows c.args.known.now image c.args.aim.now c.args.c.now c.args.state.now
+    bad_rows c.args.known.now image c.args.aim.now c.args.c.now _
     (subst (λ (row : Row). (p : Params) → limit < faults image (zones_from p 0 (dump_row_of c.args.c.now
     ∷ console_row_of c.args.c.now ∷ ftrace_row_of c.args.c.now ∷ row ∷ []))) c.pmsg_row-pmsg.ensures.value
     (subst (λ (row : Row). (p : Params) → limit < faults image (zones_from p 0 (dump_row_of c.args.c.now

@@ -1,4 +1,4 @@
-use Rattle.std.proofs.Common.{◌≡◌, ◌∙◌, ◌<◌, ◌≤◌, ◌∷◌, List, true, false, length, sym, subst, arith}
+use Rattle.std.proofs.Common.{◌∙◌, ◌<◌, ◌≤◌, ◌∷◌, List, length, sym, subst, arith}
 use Rattle.std.specs.Prelude.{sum_by}
 use Rattle.zone_spec.specs.declared.params.Params.{Params}
 use Rattle.zone_spec.specs.declared.params.Row.{Row}
@@ -24,7 +24,7 @@ pub returns-then-not-may_begin-clause-settled : goal.returns-then-not-may_begin-
 returns-then-not-may_begin-clause-settled c =
     let image = c.args.image.now in
     let limit = c.args.aim.now.limit in
-    bad_begin c.args.known.now image c.args.aim.now c.args.c.now c.args.state.now
+    bad_begin c.args.known.now image c.args.aim.now c.args.c.now _
     (subst (λ (row : Row). (p : Params) (rest : List Row) → sum_by (λ (row : Row). row.count) rest ≤ 65
     → limit < faults image (zones_from p 0 (dump_row_of c.args.c.now ∷ row ∷ rest))) c.console_row.ensures.value
     (subst (λ (row : Row). (p : Params) (rest : List Row) → sum_by (λ (row : Row). row.count) rest ≤ 65
@@ -35,6 +35,6 @@ pub try_cpus-requires-clause-placed : goal.try_cpus-requires-clause-placed
 try_cpus-requires-clause-placed c = placed_of c.args.known.now (length c.args.image.now) c.args.c.now c.requires.shape
     (sym c.is_told.ensures ∙ c.if-not-is_told.false) (omega arith)
 
-pub try_cpus-requires-else-c-eq0-clause-placed : goal.try_cpus-requires-else-c-eq0-clause-placed
-try_cpus-requires-else-c-eq0-clause-placed c = placed_of c.args.known.now (length c.args.image.now) c.args.c.now
+pub try_cpus-requires-2-clause-placed : goal.try_cpus-requires-2-clause-placed
+try_cpus-requires-2-clause-placed c = placed_of c.args.known.now (length c.args.image.now) c.args.c.now
     c.requires.shape (sym c.is_told.ensures ∙ c.if-not-is_told.false) (omega arith)

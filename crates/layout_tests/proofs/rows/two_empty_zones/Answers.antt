@@ -1,0 +1,7 @@
+use Rattle.std.proofs.Common.{refl}
+use Rattle.layout_tests.proofs.Computing.{computing}
+use Rattle.layout_tests.proofs.rows.two_empty_zones.Goals as goal
+
+pub returns : goal.returns
+unfolding computing
+returns c = (refl, refl, refl, refl, refl, refl, refl)

@@ -1,0 +1,51 @@
+-- Two worked rows: a region of 512 bytes with two empty zones without parity, and layouts that lose against theirs
+use Rattle.std.specs.Prelude.{◌≡◌, ℕ, true, List, [], ◌∷◌, ◌++◌, codes, map, replicate}
+use Rattle.layout_spec.specs.declared.Candidate.{Candidate}
+use Rattle.layout_spec.specs.Laid.{zones_of, has_layout}
+use Rattle.layout_spec.specs.Marks.{fits, marks}
+use Rattle.layout_spec.specs.Order.{faults, tally_of, key, is_before}
+use Rattle.layout_spec.specs.Taken.{is_taken}
+
+-- an empty header and zeros, twice
+abbrev pub empty_zone : List ℕ
+empty_zone = codes "DBGC" ++ replicate 252 0
+
+abbrev pub two_empty : List ℕ
+two_empty = empty_zone ++ empty_zone
+
+abbrev pub layout : ℕ → ℕ → ℕ → Candidate
+layout dump console pmsg = record {
+  mem = 512;
+  dump = dump;
+  console = console;
+  ftrace = 0;
+  pmsg = pmsg;
+  parity = 0;
+  cpus = 1;
+  tag = 0;
+}
+
+-- a console and a pmsg: both fit, no mark is left. Two dump zones, whose kinds nothing tells apart from these, come
+-- behind it, and one console of all the memory behind both: it leaves a mark
+abbrev pub TwoEmptyZones : Type 0
+TwoEmptyZones =
+    (marks two_empty ≡ 2)
+    × (map (fits two_empty) (zones_of (layout 0 256 256)) ≡ true ∷ true ∷ [])
+    × (has_layout (layout 0 256 256) ≡ true)
+    × (is_before (key two_empty (layout 0 256 256)) (key two_empty (layout 256 0 0)) ≡ true)
+    × (is_before (key two_empty (layout 256 0 0)) (key two_empty (layout 0 512 0)) ≡ true)
+    × (faults two_empty (zones_of (layout 0 512 0)) ≡ 1)
+    × (is_taken (tally_of two_empty (layout 0 256 256)) ≡ true)
+
+-- the second header has lost a byte of its signature: it still is a mark, but fits no zone without parity. The two zones
+-- are still taken, since one fits; with dump zones the other way round there are as many faults
+abbrev pub one_damaged : List ℕ
+one_damaged = empty_zone ++ 0 ∷ codes "BGC" ++ replicate 252 0
+
+abbrev pub OneDamagedHeader : Type 0
+OneDamagedHeader =
+    (marks one_damaged ≡ 2)
+    × (faults one_damaged (zones_of (layout 0 256 256)) ≡ 1)
+    × (faults one_damaged (zones_of (layout 0 512 0)) ≡ 1)
+    × (is_before (key one_damaged (layout 0 256 256)) (key one_damaged (layout 0 512 0)) ≡ true)
+    × (is_taken (tally_of one_damaged (layout 0 256 256)) ≡ true)

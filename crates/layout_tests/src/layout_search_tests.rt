@@ -1,0 +1,97 @@
+// Layouts found from the bytes of small images.
+use layout_search::{Known, search};
+use std::alloc::{AllocError, Global};
+use std::test::Fail;
+
+// The 16 parity bytes of a header with nothing in its ring, as Linux wrote them.
+const FRESH_PARITY: [u8; 16] = [
+    170, 37, 213, 33, 50, 226, 53, 58, 56, 85, 25, 192, 43, 203, 173, 95,
+];
+
+/// Adds a zone of this size with nothing in its ring, and these bytes at its end.
+fn add_zone(image: &mut Vec<u8>, size: usize, end: &[u8]) -> Result<(), AllocError> {
+    image.extend_from_slice(b"DBGC")?;
+    for _ in 0..size.saturating_sub(end.len()).saturating_sub(4) {
+        image.push(0)?;
+    }
+    image.extend_from_slice(end)
+}
+
+fn zones(alloc: Global, count: usize, size: usize, end: &[u8]) -> Result<Vec<u8>, AllocError> {
+    let mut image = Vec::new(alloc);
+    for _ in 0..count {
+        add_zone(&mut image, size, end)?;
+    }
+    Ok(image)
+}
+
+fn filled(alloc: Global, len: usize, text: &[u8]) -> Result<Vec<u8>, AllocError> {
+    let mut image = Vec::new(alloc);
+    for _ in 0..len {
+        image.extend_from_slice(text)?;
+    }
+    Ok(image)
+}
+
+// Two zones without parity are a console and a pmsg. Two dump zones explain as much, and this is told.
+#[test]
+fn two_empty_zones(rt: HostRuntime) -> Result<(), Fail> {
+    let image = zones(rt.alloc(), 2, 256, &[])?;
+    let found = search(rt.alloc(), &image, &Known::default())?.ok_or("none")?;
+    let layout = found.candidate;
+    assert_eq!(rt; (layout.mem, layout.dump, layout.ftrace), (512, 0, 0));
+    assert_eq!(rt; (layout.console, layout.pmsg, layout.parity), (256, 256, 0));
+    assert_eq!(rt; (found.tally.faults, found.tally.fits), (0, 2));
+    assert!(rt; found.taken && found.whole && found.rival.is_some());
+    Ok(())
+}
+
+// Four zones of 512 bytes with 16 parity bytes: two dump zones, a console and a pmsg.
+#[test]
+fn parity_is_found(rt: HostRuntime) -> Result<(), Fail> {
+    let image = zones(rt.alloc(), 4, 512, &FRESH_PARITY)?;
+    let found = search(rt.alloc(), &image, &Known::default())?.ok_or("none")?;
+    let layout = found.candidate;
+    assert_eq!(rt; (layout.mem, layout.dump, layout.ftrace), (2048, 512, 0));
+    assert_eq!(rt;
+        (layout.console, layout.pmsg, layout.parity),
+        (512, 512, 16)
+    );
+    assert!(rt; found.taken && found.whole);
+    Ok(())
+}
+
+// What is known is kept: without a pmsg there is one dump zone more.
+#[test]
+fn known_words_are_kept(rt: HostRuntime) -> Result<(), Fail> {
+    let image = zones(rt.alloc(), 4, 512, &FRESH_PARITY)?;
+    let known = Known {
+        pmsg: Some(0),
+        ..Known::default()
+    };
+    let found = search(rt.alloc(), &image, &known)?.ok_or("none")?;
+    let layout = found.candidate;
+    assert_eq!(rt; (layout.dump, layout.console, layout.pmsg), (512, 512, 0));
+    assert_eq!(rt; layout.parity, 16);
+    Ok(())
+}
+
+// Nothing is a header, or text is full of the signature: no layout is taken.
+#[test]
+fn what_no_one_can_read_is_refused(rt: HostRuntime) -> Result<(), Fail> {
+    let zeros = filled(rt.alloc(), 2048, &[0])?;
+    let found = search(rt.alloc(), &zeros, &Known::default())?.ok_or("none")?;
+    assert!(rt; !found.taken);
+    let text = filled(rt.alloc(), 512, b"DBGC")?;
+    let found = search(rt.alloc(), &text, &Known::default())?.ok_or("none")?;
+    assert!(rt; !found.taken);
+    Ok(())
+}
+
+// A file that is too short for any zone has no layout.
+#[test]
+fn a_short_file_has_none(rt: HostRuntime) -> Result<(), Fail> {
+    let short = zones(rt.alloc(), 1, 128, &[])?;
+    assert!(rt; search(rt.alloc(), &short, &Known::default())?.is_none());
+    Ok(())
+}
