@@ -1,3 +1,5 @@
+-- The laws of the decoder, lowest first: power series, words, the key equation, Euclid, Chien,
+-- Forney, damage. The crate's functions and rs_decode cite them.
 pub mod Series
 pub mod Horner
 pub mod Polynomials

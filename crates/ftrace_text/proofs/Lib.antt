@@ -1,1 +1,3 @@
+-- The lemmas on the line of an entry: its words are those of its bytes. `push_line` and `lines_of`
+-- cite them.
 pub mod Entries

@@ -1,3 +1,5 @@
+-- Lemmas on zones and their headers, on the order of keys, on what refuses a candidate, and on the
+-- best so far. The functions of layout_search cite them.
 pub mod Ranges
 pub mod Headers
 pub mod Sums

@@ -293,12 +293,14 @@ pub fn asked<R: Runtime>(rt: &R, alloc: Global, matches: &ArgMatches<'_>) -> Res
 /// Whether the zones of two layouts lie in the same places, so that only their kinds differ.
 pub fn are_alike(alloc: Global, one: &Candidate, other: &Candidate) -> Result<bool, AllocError> {
     match (layout(alloc, &params(one)), layout(alloc, &params(other))) {
-        (Ok(one), Ok(other)) => Ok(one.zones().len() == other.zones().len()
-            && one
-                .zones()
-                .iter()
-                .zip(other.zones())
-                .all(|(a, b)| (a.at, a.size) == (b.at, b.size))),
+        (Ok(one), Ok(other)) => Ok(
+            one.zones().len() == other.zones().len()
+                && one
+                    .zones()
+                    .iter()
+                    .zip(other.zones())
+                    .all(|(a, b)| (a.at, a.size) == (b.at, b.size)),
+        ),
         (Err(LayoutError::Memory), _) | (_, Err(LayoutError::Memory)) => Err(AllocError),
         _ => Ok(false),
     }

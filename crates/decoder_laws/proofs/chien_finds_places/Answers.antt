@@ -1,3 +1,5 @@
+-- The powers at whose reciprocals the found locator is zero are those of the damaged places. By
+-- `Chien`.
 use Rattle.decoder_laws.proofs.Chien.{roots_of_places, found_roots}
 use Rattle.decoder_laws.proofs.chien_finds_places.Goals as goal
 

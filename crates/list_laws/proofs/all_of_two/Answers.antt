@@ -1,3 +1,5 @@
+-- What a test tells of all elements of two lists it tells of all of both end to end. By
+-- `Elements`.
 use Rattle.std.proofs.Common.{◌≡◌, true}
 use Rattle.list_laws.proofs.Elements.{AllByRecursion-append}
 use Rattle.list_laws.proofs.all_of_two.Goals as goal

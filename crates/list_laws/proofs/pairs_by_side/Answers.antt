@@ -1,3 +1,4 @@
+-- A pair at a place of two lists side by side holds the element of each list there. By `Gets`.
 use Rattle.list_laws.proofs.Gets.{slice_get-zip_parts}
 use Rattle.list_laws.proofs.pairs_by_side.Goals as goal
 

@@ -1,3 +1,4 @@
+-- The zeros at the front are the `len` so far and those that follow. For the loop of `zeros`.
 use Rattle.std.proofs.Common.{◌≡◌, ◌==◌, ◌≤◌, ◌-◌, ◌+◌, length, drop}
 use Rattle.std.specs.List.{prefix_len}
 use Rattle.ftrace_text.proofs.hexadecimal.zeros.Given as goal

@@ -1,3 +1,4 @@
+-- The text is the lines of the entries so far. For the loop of `lines_of`.
 use Rattle.std.proofs.Common.{◌≡◌, take, map}
 use Rattle.std.specs.Prelude.{flat_map}
 use Rattle.ftrace_zone.specs.EntryBytes.{entry_bytes}

@@ -1,3 +1,4 @@
+-- The line made of an entry's three words is the line of its bytes. For `push_line`.
 use Rattle.std.proofs.Common.{ap, ◌++◌, ◌∙◌, arith}
 use Rattle.std.proofs.lemmas.Result.{on_ok_weaker}
 use Rattle.ftrace_text.proofs.Entries.{line_of_entry}

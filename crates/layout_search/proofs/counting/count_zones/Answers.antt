@@ -1,3 +1,5 @@
+-- One zone more is added to each count, and the counts stay small. If too many of the first zones
+-- do not fit, too many of all do not. For `count_zones`.
 use Rattle.std.proofs.Common.{◌+◌, List, take, sym, subst, arith}
 use Rattle.std.proofs.lemmas.Option.{slice_get-get_or}
 use Rattle.std.proofs.lemmas.List.{take_all}

@@ -1,3 +1,5 @@
+-- The counts are those of the zones so far, and none is more than so many zones can make. For the
+-- loop of `count_zones`.
 use Rattle.std.proofs.Common.{take}
 use Rattle.layout_search.specs.Counted.{AreCounts, AreAtMost}
 use Rattle.layout_search.proofs.counting.count_zones.Given as goal

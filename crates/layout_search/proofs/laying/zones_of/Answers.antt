@@ -15,7 +15,7 @@ returns-in-Ok c =
     let same : params_in c.in-Ok.layout ≡ params_of c.args.c.now = c.in-Ok.ensures.0 ∙ c.params.ensures in
     let zones : List Zone = c.into_zones.result.items in
     let e : layout_of (params_of c.args.c.now) ≡ Ok zones = subst (λ (p : Params). layout_of p ≡ Ok zones) same
-        c.into_zones.ensures.layout in
+    c.into_zones.ensures.layout in
     laid c.args.c.now zones e
     (subst (λ (p : Params). IsLayout zones p.mem) same c.into_zones.ensures.laid_out)
     (layout_mem_small (params_of c.args.c.now) zones e) (layout_short (params_of c.args.c.now) zones e)

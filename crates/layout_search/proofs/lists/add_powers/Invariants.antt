@@ -1,3 +1,4 @@
+-- Of the powers so far those that are small enough are added. For the loop of `add_powers`.
 use Rattle.std.proofs.Common.{◌≡◌, ◌++◌, take}
 use Rattle.std.specs.Prelude.{filter, nat_le}
 use Rattle.layout_search.proofs.lists.add_powers.Given as goal

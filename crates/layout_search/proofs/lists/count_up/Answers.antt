@@ -1,3 +1,4 @@
+-- One number more is the next of the row. For `count_up`.
 use Rattle.std.proofs.Common.{◌∙◌, ◌+◌, [], ◌∷◌, ◌++◌, append_assoc, sym, ap}
 use Rattle.std.specs.List.{range_with_len}
 use Rattle.layout_search.proofs.Ranges.{range_more}

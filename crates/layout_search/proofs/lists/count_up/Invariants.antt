@@ -1,3 +1,4 @@
+-- The first `i` numbers of the row are added. For the loop of `count_up`.
 use Rattle.std.proofs.Common.{◌≡◌, ◌++◌}
 use Rattle.std.specs.List.{range_with_len}
 use Rattle.layout_search.proofs.lists.count_up.Given as goal

@@ -1,3 +1,5 @@
+-- The list of each word is its known value alone, or else all values of the family. For
+-- `make_lists`.
 use Rattle.std.proofs.Common.{◌∙◌, ◌∷◌, ap}
 use Rattle.std.specs.Prelude.{filter, nat_le}
 use Rattle.layout_spec.specs.Family.{known_or, powers}

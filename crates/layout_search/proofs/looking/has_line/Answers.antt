@@ -1,3 +1,5 @@
+-- The bytes that are gathered are the front of the log, at most 40, in which the line is sought.
+-- For `has_line`.
 use Rattle.std.proofs.Common.{◌≡◌, ◌+◌, ◌∙◌, ap, arith, map}
 use Rattle.std.specs.Prelude.{ℕ, slice_index, min, is_some}
 use Rattle.std.specs.List.{range_with_len}

@@ -1,3 +1,4 @@
+-- The bytes gathered are the first `i` of the log. For the loop of `has_line`.
 use Rattle.std.proofs.Common.{◌≡◌, ◌+◌, length, map}
 use Rattle.std.specs.Prelude.{slice_index}
 use Rattle.std.specs.List.{range_with_len}

@@ -1,3 +1,5 @@
+-- What is seen of a zone whose header is unreadable, foreign, empty, invalid, or that of a ring.
+-- For `look_at`.
 use Rattle.std.proofs.Common.{◌∙◌, sym, subst}
 use Rattle.layout_search.specs.Looks.{IsLook}
 use Rattle.layout_search.specs.declared.looking.Look.{Look}

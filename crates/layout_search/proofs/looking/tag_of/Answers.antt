@@ -1,3 +1,5 @@
+-- A zone has a tag exactly when it is an ftrace zone, its header can be read, and the number there
+-- is a tag. For `tag_of`.
 use Rattle.std.proofs.Common.{◌≡◌, ◌∙◌, ◌&&◌, true, false, sym, ap, refl}
 use Rattle.std.specs.Prelude.{Bool, bit_xor}
 use Rattle.zone_spec.specs.declared.Words.{Words}

@@ -1,3 +1,4 @@
+-- One place more adds one to the count if a mark stands there. For `count_marks`.
 use Rattle.std.proofs.Common.{◌≡◌, ◌*◌, ◌-◌, ◌/◌, ◌∙◌, ap, length, arith}
 use Rattle.std.specs.Prelude.{count_by}
 use Rattle.std.specs.List.{range_with_len}

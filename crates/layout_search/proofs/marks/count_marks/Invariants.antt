@@ -1,3 +1,4 @@
+-- The count is that of the marks at the first `i` even places. For the loop of `count_marks`.
 use Rattle.std.proofs.Common.{◌≡◌, ◌*◌, ◌≤◌}
 use Rattle.std.specs.Prelude.{count_by}
 use Rattle.std.specs.List.{range_with_len}

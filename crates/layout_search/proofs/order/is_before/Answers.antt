@@ -1,3 +1,5 @@
+-- The first numbers that differ decide between two keys; with none that differ neither is before.
+-- For `is_before`.
 use Rattle.std.proofs.Common.{◌∙◌, drop, sym, ap, arith}
 use Rattle.std.proofs.Math.ListN.{drop_of_length-le}
 use Rattle.layout_spec.specs.Order.{is_before}

@@ -1,3 +1,4 @@
+-- The numbers from `i` on decide between the two keys. For the loop of `is_before`.
 use Rattle.std.proofs.Common.{◌≡◌, drop}
 use Rattle.layout_spec.specs.Order.{is_before}
 use Rattle.layout_search.proofs.order.is_before.Given as goal

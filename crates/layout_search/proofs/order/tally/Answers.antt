@@ -1,3 +1,5 @@
+-- The counts over a candidate's zones, with the marks at which no zone begins and the bytes behind
+-- the zones, make its tally. For `tally`.
 use Rattle.std.proofs.Common.{◌∙◌, ◌+◌, ◌-◌, ℕ, ap, length}
 use Rattle.layout_spec.specs.declared.Tally.{Tally}
 use Rattle.layout_search.proofs.Sums.{tally_is}

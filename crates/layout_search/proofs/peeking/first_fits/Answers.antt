@@ -1,3 +1,5 @@
+-- The zones of the layout that is one dump zone lie in the image, so they can be looked at. For
+-- `first_fits`.
 use Rattle.std.proofs.Common.{◌≡◌, List, ℕ, Some, sym, subst}
 use Rattle.std.specs.Prelude.{slice_get}
 use Rattle.zone_spec.specs.declared.Zone.{Zone}

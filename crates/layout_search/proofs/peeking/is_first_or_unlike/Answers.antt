@@ -1,3 +1,4 @@
+-- The only zone of the list lies in the image, so it can be looked at. For `is_first_or_unlike`.
 use Rattle.std.proofs.Common.{arith}
 use Rattle.std.proofs.lemmas.Option.{slice_get-get_or}
 use Rattle.layout_search.proofs.peeking.is_first_or_unlike.Goals as goal

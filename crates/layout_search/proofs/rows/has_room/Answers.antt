@@ -1,3 +1,5 @@
+-- With too large a memory, or sizes that do not fit it, there is no layout, whatever the
+-- processors, the parity and the tag. For `has_room`.
 use Rattle.std.proofs.Common.{◌∙◌, sym}
 use Rattle.std.proofs.lemmas.Bool.{lt-ltb}
 use Rattle.layout_search.proofs.Refused.{too_large, no_room}

@@ -1,3 +1,5 @@
+-- If the best has no more faults than the limit of the sweep, no layout of the family is before
+-- it. For `find_first`.
 use Rattle.std.proofs.Common.{refl}
 use Rattle.layout_search.proofs.Answered.{done}
 use Rattle.layout_search.proofs.searching.find_first.Goals as goal

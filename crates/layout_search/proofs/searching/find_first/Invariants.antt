@@ -1,3 +1,5 @@
+-- The best so far is of the family, with its own tally and key, and the limit is at most 2^61. For
+-- the loop of `find_first`.
 use Rattle.std.proofs.Common.{◌^◌, ◌≤◌, None}
 use Rattle.layout_search.specs.Tried.{IsSound}
 use Rattle.layout_search.proofs.searching.find_first.Given as goal

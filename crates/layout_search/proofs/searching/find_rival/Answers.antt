@@ -1,3 +1,5 @@
+-- The sweep settles each layout of the family with as few faults, other than the best. For
+-- `find_rival`.
 use Rattle.layout_search.proofs.searching.find_rival.Goals as goal
 
 pub returns-clause-settled : goal.returns-clause-settled

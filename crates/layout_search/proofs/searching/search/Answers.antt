@@ -1,3 +1,5 @@
+-- The layout that was found first and the rival that the second sweep leaves are an answer. For
+-- `search`.
 use Rattle.std.proofs.Common.{◌<◌, Option, sym, subst, arith}
 use Rattle.std.specs.Prelude.{nat_lt}
 use Rattle.std.proofs.lemmas.Bool.{ltb-true}

@@ -1,3 +1,5 @@
+-- With too many marks, or too many places that begin no zone, each layout with these two rows in
+-- front has more faults than the limit. For `may_begin`.
 use Rattle.std.proofs.Common.{◌∷◌, refl, arith}
 use Rattle.layout_search.specs.Seen.{row_end}
 use Rattle.layout_search.proofs.Bounds.{faults_by_rows, far_two, marked_two, few_two}

@@ -1,3 +1,5 @@
+-- One place more is added to what was seen, and no place overflows. If too many of the first
+-- places begin no zone, too many of all do not. For `see`.
 use Rattle.std.proofs.Common.{◌≡◌, ◌+◌, ◌*◌, ◌∙◌, ap, arith}
 use Rattle.std.specs.Prelude.{ℕ, not, count_by}
 use Rattle.std.specs.List.{range_with_len}

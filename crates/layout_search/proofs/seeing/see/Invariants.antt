@@ -1,3 +1,4 @@
+-- What is seen is what was seen before and of the row's first `i` places. For the loop of `see`.
 use Rattle.std.proofs.Common.{◌≡◌, ◌+◌, ◌*◌, ◌≤◌}
 use Rattle.std.specs.Prelude.{not, count_by}
 use Rattle.std.specs.List.{range_with_len}

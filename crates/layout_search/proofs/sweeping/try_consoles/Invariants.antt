@@ -1,3 +1,5 @@
+-- The candidates with the console sizes so far are settled, and the best so far is sound. For the
+-- loop of `try_consoles`.
 use Rattle.std.proofs.Common.{◌<◌, ℕ, get_or}
 use Rattle.layout_search.specs.Tried.{IsSound, Advances, FtracesSettled}
 use Rattle.layout_search.proofs.sweeping.try_consoles.Given as goal

@@ -1,3 +1,5 @@
+-- The candidates with the dump sizes so far are settled, and the best so far is sound. For the
+-- loop of `try_dumps`.
 use Rattle.std.proofs.Common.{◌<◌, ℕ, get_or}
 use Rattle.layout_search.specs.Tried.{IsSound, Advances, ConsolesSettled}
 use Rattle.layout_search.proofs.sweeping.try_dumps.Given as goal

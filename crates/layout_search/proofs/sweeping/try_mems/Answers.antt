@@ -1,3 +1,5 @@
+-- Each memory size of the list is of the family. One more settles its candidates and leaves the
+-- others settled. For `try_mems`.
 use Rattle.std.proofs.Common.{◌≡◌, ◌∙◌, true, get_or, below_more, subst, arith}
 use Rattle.std.specs.Prelude.{length}
 use Rattle.layout_spec.specs.Family.{is_one_of}

@@ -1,3 +1,5 @@
+-- The candidates with the pmsg sizes so far are settled, and the best so far is sound. For the
+-- loop of `try_pmsgs`.
 use Rattle.std.proofs.Common.{◌<◌, ℕ, get_or}
 use Rattle.layout_search.specs.Tried.{IsSound, Advances, CpusSettled}
 use Rattle.layout_search.proofs.sweeping.try_pmsgs.Given as goal

@@ -1,3 +1,4 @@
+-- Each zone of the list lies in the image, so its tag can be read. For `read_tags`.
 use Rattle.std.proofs.lemmas.Option.{slice_get-get_or}
 use Rattle.layout_search.proofs.tagging.read_tags.Goals as goal
 

@@ -1,3 +1,4 @@
+-- The tags of the zones so far are added. For the loop of `read_tags`.
 use Rattle.std.proofs.Common.{◌≡◌, ◌++◌, map, take}
 use Rattle.std.specs.Prelude.{filter}
 use Rattle.layout_spec.specs.Family.{is_tagged, tag_read}

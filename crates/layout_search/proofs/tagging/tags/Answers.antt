@@ -1,3 +1,4 @@
+-- The zones of the layout without a tag lie in the image, so their tags can be read. For `tags`.
 use Rattle.std.proofs.Common.{◌≡◌, List, ℕ, Some, sym, subst}
 use Rattle.std.specs.Prelude.{slice_get}
 use Rattle.zone_spec.specs.declared.Zone.{Zone}

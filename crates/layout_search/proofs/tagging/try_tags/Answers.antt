@@ -1,3 +1,5 @@
+-- Without a layout each tag is settled. Else each tag of the list is of the family, and one more
+-- is settled and leaves the others so. For `try_tags`.
 use Rattle.std.proofs.Common.{◌≡◌, ◌∙◌, true, get_or, below_more, subst, arith}
 use Rattle.layout_spec.specs.Family.{is_one_of, tags_for}
 use Rattle.layout_search.specs.Tried.{IsSettled}

@@ -1,3 +1,5 @@
+-- The candidates with the tags so far are settled, and the best so far is sound. For the loop of
+-- `try_tags`.
 use Rattle.std.proofs.Common.{◌<◌, ℕ, get_or}
 use Rattle.layout_search.specs.Tried.{IsSound, Advances, IsSettled}
 use Rattle.layout_search.proofs.tagging.try_tags.Given as goal

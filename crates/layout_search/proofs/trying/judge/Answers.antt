@@ -1,3 +1,5 @@
+-- The candidate's zones lie in the image, and the tally and the key made of their counts are its
+-- own. For `judge`.
 use Rattle.std.proofs.Common.{◌∙◌, ap}
 use Rattle.layout_spec.specs.declared.Tally.{Tally}
 use Rattle.layout_spec.specs.Order.{key_by}

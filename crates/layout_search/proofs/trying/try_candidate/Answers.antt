@@ -1,3 +1,5 @@
+-- A candidate without a layout is settled. One that has a layout is judged if it is not left out,
+-- and the best stays sound. For `try_candidate`.
 use Rattle.layout_search.proofs.Ahead.{no_layout}
 use Rattle.layout_search.proofs.trying.try_candidate.Goals as goal
 

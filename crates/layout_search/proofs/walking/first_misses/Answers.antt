@@ -1,3 +1,5 @@
+-- If the first dump zone does not fit, and the marks are so many more than the zones, there are
+-- more faults than the limit, whatever the tag. For `first_misses`.
 use Rattle.std.proofs.Common.{◌≡◌, ◌+◌, ◌*◌, ◌-◌, ◌<◌, ◌≤◌, true, false, refl, ap, subst, arith}
 use Rattle.std.specs.Prelude.{ℕ, Bool, not}
 use Rattle.zone_spec.specs.declared.Kind.TheVariants.{Dump}

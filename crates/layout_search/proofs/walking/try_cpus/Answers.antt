@@ -1,3 +1,5 @@
+-- Each number of processors in the list is of the family, and after the last one all are settled.
+-- For `try_cpus`.
 use Rattle.std.proofs.Common.{◌≡◌, true, get_or, subst, arith}
 use Rattle.layout_spec.specs.Family.{is_one_of}
 use Rattle.layout_search.proofs.Members.{member_at}

@@ -1,3 +1,5 @@
+-- The candidates with the numbers of processors so far are settled, and the best so far is sound.
+-- For the loop of `try_cpus`.
 use Rattle.std.proofs.Common.{◌<◌, ℕ, get_or}
 use Rattle.layout_search.specs.Tried.{IsSound, Advances, ParitiesSettled}
 use Rattle.layout_search.proofs.walking.try_cpus.Given as goal

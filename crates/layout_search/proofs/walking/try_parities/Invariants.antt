@@ -1,3 +1,5 @@
+-- The candidates with the parities so far are settled, and the best so far is sound. For the loop
+-- of `try_parities`.
 use Rattle.std.proofs.Common.{◌<◌, ℕ, get_or}
 use Rattle.layout_search.specs.Tried.{IsSound, Advances, TagsSettled}
 use Rattle.layout_search.proofs.walking.try_parities.Given as goal

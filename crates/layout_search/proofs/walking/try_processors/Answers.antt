@@ -1,3 +1,5 @@
+-- With no processors or more than 64, or with rows that make too many faults, each parity is
+-- settled. For `try_processors`.
 use Rattle.std.proofs.Common.{◌∙◌, ◌<◌, [], ◌∷◌, sym, subst}
 use Rattle.zone_spec.specs.declared.params.Params.{Params}
 use Rattle.zone_spec.specs.declared.params.Row.{Row}

@@ -1,3 +1,5 @@
+-- A shape that can be said another way, is larger than the file, has no room or makes too many
+-- faults is settled. Any other has its sizes placed. For `try_shape`.
 use Rattle.std.proofs.Common.{◌∙◌, ◌<◌, ◌≤◌, ◌∷◌, List, length, sym, subst, arith}
 use Rattle.std.specs.Prelude.{sum_by}
 use Rattle.zone_spec.specs.declared.params.Params.{Params}

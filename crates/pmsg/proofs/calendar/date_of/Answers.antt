@@ -1,3 +1,5 @@
+-- Each step takes a whole year off the days, and the year at which it stops has the day. For
+-- `date_of`.
 use Rattle.std.proofs.Common.{◌≡◌, ℕ, ◌+◌, ◌-◌, ◌≤◌, ◌<◌, ap, sym, ◌∙◌, arith}
 use Rattle.pmsg_spec.specs.Calendar.{year_len, in_years}
 use Rattle.pmsg.proofs.Dates.{year_more, year_found}

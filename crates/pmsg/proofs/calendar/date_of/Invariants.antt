@@ -1,3 +1,4 @@
+-- The days left, counted from this year on, give the same date. For the loop of `date_of`.
 use Rattle.std.proofs.Common.{◌≡◌, ◌<◌, ◌≤◌, ◌-◌, ◌+◌}
 use Rattle.pmsg_spec.specs.Calendar.{in_years}
 use Rattle.pmsg.proofs.calendar.date_of.Given as goal

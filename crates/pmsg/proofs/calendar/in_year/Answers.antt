@@ -1,3 +1,5 @@
+-- Each step takes a whole month off the days, and the month at which it stops, at the latest
+-- December, has the day. For `in_year`.
 use Rattle.std.proofs.Common.{◌≡◌, ℕ, ◌+◌, ◌-◌, ◌≤◌, ◌<◌, ap, sym, ◌∙◌, arith}
 use Rattle.pmsg_spec.specs.Calendar.{month_len, in_year}
 use Rattle.pmsg.proofs.Dates.{month_more, month_last, month_found}

@@ -1,3 +1,4 @@
+-- The days left, counted from this month on, give the same date. For the loop of `in_year`.
 use Rattle.std.proofs.Common.{◌≡◌, ◌<◌, ◌≤◌, ◌-◌, ◌+◌}
 use Rattle.pmsg_spec.specs.Calendar.{in_year}
 use Rattle.pmsg.proofs.calendar.in_year.Given as goal

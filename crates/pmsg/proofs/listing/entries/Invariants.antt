@@ -1,3 +1,5 @@
+-- The entries are those so far and those from `at` on, from which whole entries follow up to the
+-- end. For the loop of `entries`.
 use Rattle.std.proofs.Common.{◌≡◌, ◌≤◌, ◌-◌, ◌++◌, length, drop, true}
 use Rattle.pmsg_spec.specs.Entries.{are_entries, entries, listed}
 use Rattle.pmsg.proofs.listing.entries.Given as goal

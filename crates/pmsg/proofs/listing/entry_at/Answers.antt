@@ -1,3 +1,5 @@
+-- A whole entry has at least 18 bytes, all of them there, so each of its fields can be read. For
+-- `entry_at`.
 use Rattle.std.proofs.Common.{arith}
 use Rattle.pmsg.proofs.Skips.{Fits, fits}
 use Rattle.pmsg.proofs.listing.entry_at.Goals as goal

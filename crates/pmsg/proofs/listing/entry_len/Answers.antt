@@ -1,3 +1,4 @@
+-- The length of a whole entry is at least 18 and within the bytes. For `entry_len`.
 use Rattle.std.proofs.Common.{arith}
 use Rattle.pmsg.proofs.Skips.{Fits, fits}
 use Rattle.pmsg.proofs.listing.entry_len.Goals as goal

@@ -1,3 +1,5 @@
+-- If a whole entry stands at the place, entries follow from there exactly when they do from its
+-- end. If none stands there, they do not. For `follow_from`.
 use Rattle.std.proofs.Common.{◌≡◌, ◌+◌, ◌<◌, Bool, true, false, List, ℕ, ◌∙◌, sym, ap, length, drop, arith, length-drop}
 use Rattle.pmsg_spec.specs.Entries.{is_entry, entry_len, are_entries}
 use Rattle.pmsg.proofs.Skips.{Fits, fits, follow_here, follow_no}

@@ -1,3 +1,5 @@
+-- One place further back it is known too whether entries follow from there; if so, they begin
+-- there. For `start_of`.
 use Rattle.std.proofs.Common.{◌≡◌, ℕ, ◌+◌, ◌-◌, ◌<◌, ◌≤◌, ◌≢◌, Bool, true, false, List, length, drop, get_or, set, ◌∙◌, sym, ap, arith, inl, inr, subst, get_or-set_other, get_or-set_same}
 use Rattle.std.proofs.lemmas.Bool.{cases_lt}
 use Rattle.std.proofs.Math.ListN.{length-set, replicate}

@@ -1,3 +1,5 @@
+-- For each place from `at` on it is known whether entries follow, and the first from which they do
+-- is `start`. For the loop of `start_of`.
 use Rattle.std.proofs.Common.{◌≡◌, ◌≤◌, ◌+◌, length, drop, true}
 use Rattle.pmsg_spec.specs.Entries.{are_entries, entries_from, listed}
 use Rattle.pmsg.specs.Follow.{FollowFrom}

@@ -1,3 +1,5 @@
+-- The bytes before the first zero, or all of them if there is none, are the text. For
+-- `until_zero`.
 use Rattle.pmsg.proofs.Texts.{before_place, no_place}
 use Rattle.pmsg.proofs.payloads.until_zero.Goals as goal
 

@@ -1,3 +1,4 @@
+-- The bytes so far are appended, with a tab after each newline. For the loop of `push_tabbed`.
 use Rattle.std.proofs.Common.{◌≡◌, ◌++◌, take}
 use Rattle.pmsg_spec.specs.Lines.{tabbed}
 use Rattle.pmsg.proofs.shown.push_tabbed.Given as goal

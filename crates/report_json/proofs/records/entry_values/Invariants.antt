@@ -1,3 +1,4 @@
+-- The values are those of the entries so far. For the loop of `entry_values`.
 use Rattle.std.proofs.Common.{◌≡◌, map, take}
 use Rattle.serde_json.specs.View.{view}
 use Rattle.report_json.specs.Schema.{entry_data}

@@ -1,3 +1,5 @@
+-- One byte more adds the function of the line that begins there, if one does; past the end there
+-- is none. For `all_symbols`.
 use Rattle.std.proofs.Common.{◌≡◌, ℕ, ◌+◌, ◌==◌, ◌++◌, List, length, drop, get_or, ap, sym, ◌∙◌, arith}
 use Rattle.std.proofs.lemmas.List.{append_assoc, append-nil}
 use Rattle.symbol_spec.specs.declared.Symbol.{Symbol}

@@ -1,3 +1,5 @@
+-- The functions of the map are those so far and those from `at` on, and each name so far stands at
+-- a place below 2^63. For the loop of `all_symbols`.
 use Rattle.std.proofs.Common.{◌≡◌, ◌≤◌, ◌-◌, ◌+◌, ◌++◌, true, length, drop}
 use Rattle.symbol_spec.specs.Maps.{symbols_from}
 use Rattle.std.specs.List.{All}

@@ -1,3 +1,4 @@
+-- The digits at the front are the `len` so far and those that follow. For the loop of `digits`.
 use Rattle.std.proofs.Common.{◌≡◌, ◌≤◌, ◌-◌, ◌+◌, length, drop}
 use Rattle.symbol_spec.specs.Maps.{digits}
 use Rattle.symbols.proofs.map.digits.Given as goal

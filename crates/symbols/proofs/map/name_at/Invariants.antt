@@ -1,3 +1,4 @@
+-- The bytes of the name are the `len` so far and those that follow. For the loop of `name_at`.
 use Rattle.std.proofs.Common.{◌≡◌, ◌≤◌, ◌-◌, ◌+◌, length, drop}
 use Rattle.std.specs.List.{prefix_len}
 use Rattle.symbol_spec.specs.Maps.{is_of_name}

@@ -1,3 +1,5 @@
+-- One digit more is read into the number, and after the last one the number is whole. For
+-- `number`.
 use Rattle.std.proofs.Common.{ap, sym, ◌∙◌, arith, drop, ◌+◌}
 use Rattle.symbol_spec.specs.Maps.{number_after}
 use Rattle.symbols.proofs.Steps.{number_more, number_end}

@@ -1,3 +1,5 @@
+-- The number so far, with the digits from `at` on read into it, is the whole number. For the loop
+-- of `number`.
 use Rattle.std.proofs.Common.{◌≡◌, ◌≤◌, ◌-◌, ◌+◌, length, drop}
 use Rattle.symbol_spec.specs.Maps.{number_after}
 use Rattle.symbols.proofs.map.number.Given as goal

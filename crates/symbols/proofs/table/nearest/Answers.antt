@@ -1,3 +1,5 @@
+-- The last of the functions at or below an address is the one that the address is of; with none
+-- below there is none. For `nearest`.
 use Rattle.std.proofs.Common.{ℕ, ◌-◌, List, get_or, arith}
 use Rattle.std.proofs.lemmas.List.{get_or_default}
 use Rattle.symbol_spec.specs.declared.Symbol.{Symbol}

@@ -1,3 +1,4 @@
+-- After the sort the ranks do not fall. For `rank_all`.
 use Rattle.std.proofs.Common.{rules}
 use Rattle.std.proofs.lemmas.List.Sorted.{IsNonDecreasingBy-from_sort_by_key}
 use Rattle.symbols.specs.Ranks.{rank}

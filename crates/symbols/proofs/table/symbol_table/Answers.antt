@@ -1,3 +1,5 @@
+-- The sorted functions are the map's in another order, and any order gives each address the same
+-- function. For `symbol_table`.
 use Rattle.std.proofs.Common.{ap, ◌∙◌}
 use Rattle.std.proofs.lemmas.List.Sorted.{All-permutation}
 use Rattle.symbol_spec.specs.Functions.{function_in}
