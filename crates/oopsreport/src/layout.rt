@@ -269,7 +269,11 @@ impl Asked {
 }
 
 /// How the images are to be read.
-pub fn asked<R: Runtime>(rt: &R, alloc: Global, matches: &ArgMatches<'_>) -> Result<Asked, NoPlan> {
+pub fn asked_by<R: Runtime>(
+    rt: &R,
+    alloc: Global,
+    matches: &ArgMatches<'_>,
+) -> Result<Asked, NoPlan> {
     let mut words = Vec::new(alloc);
     add_cmdline(rt, alloc, &mut words, matches)?;
     add_params(alloc, &mut words, matches)?;

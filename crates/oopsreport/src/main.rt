@@ -12,7 +12,7 @@ use clap::error::ErrorKind;
 use command::command;
 use folder::Dir;
 use image::Image;
-use layout::{Asked, Layouts, NoPlan, are_alike, asked, found_words};
+use layout::{Asked, Layouts, NoPlan, are_alike, asked_by, found_words};
 use outside::{Load, WriterSink};
 use record_report::Report;
 use report_tool::{Format, Known, Plan, Stop, find, report, save};
@@ -201,7 +201,7 @@ fn run<R: Runtime, S: Read>(
         error.print(rt)?;
         return Ok(WRONG_WORDS);
     }
-    match asked(rt, alloc, &matches) {
+    match asked_by(rt, alloc, &matches) {
         Ok(asked) => Ok(all_images(rt, alloc, input, &asked, &matches, shows_progress)),
         Err(NoPlan::Memory) => Err(AllocError.into()),
         Err(NoPlan::Words(e)) => {
