@@ -68,6 +68,12 @@ fn with_work<'a>(alloc: Global, command: Command<'a>) -> Result<Command<'a>, All
         .value_name("N")
         .default_value("10")
         .help("How many of the newest dump's last lines a text shows");
+    let color = Arg::new(alloc, "color")
+        .long("color")
+        .value_name("WHEN")
+        .value_parser(["auto", "always", "never"].as_slice())
+        .default_value("auto")
+        .help("Whether a text has colours; auto is on a terminal, unless NO_COLOR is set");
     let images = Arg::new(alloc, "image")
         .value_name("IMAGE")
         .required(true)
@@ -79,6 +85,7 @@ fn with_work<'a>(alloc: Global, command: Command<'a>) -> Result<Command<'a>, All
         .arg(save)?
         .arg(symbols)?
         .arg(lines)?
+        .arg(color)?
         .arg(images)
 }
 

@@ -7,9 +7,9 @@ use layout_search::params;
 use report_tool::{Candidate, Found, Known, Plan, PlanFault, TreeFault, known};
 use report_words::{LineFault, add_layout_words, add_tag, ftrace_tag};
 use std::alloc::{AllocError, Global};
-use std::fs;
 use std::io::ErrorKind;
 use std::rt::Runtime;
+use std::{env, fs};
 use symbols::Symbols;
 use zone_params::{DEFAULTS, LayoutError, given, layout, read_words_over};
 
@@ -245,6 +245,7 @@ pub enum Layouts {
 #[derive(Drop)]
 pub struct Asked {
     pub layouts: Layouts,
+    pub is_coloured: bool,
     lines: usize,
     map: Option<Vec<u8>>,
 }
@@ -268,11 +269,24 @@ impl Asked {
     }
 }
 
+// Whether a text has colours: as the words say, else on a terminal, unless NO_COLOR is set (no-color.org).
+fn is_coloured<R: Runtime>(rt: &R, matches: &ArgMatches<'_>, is_terminal: bool) -> bool {
+    match matches.get_str("color") {
+        Some("always") => true,
+        Some("never") => false,
+        _ => match env::var(rt, "NO_COLOR") {
+            Ok(value) => is_terminal && value.is_empty(),
+            Err(_) => is_terminal,
+        },
+    }
+}
+
 /// How the images are to be read.
 pub fn asked_by<R: Runtime>(
     rt: &R,
     alloc: Global,
     matches: &ArgMatches<'_>,
+    is_terminal: bool,
 ) -> Result<Asked, NoPlan> {
     let mut words = Vec::new(alloc);
     add_cmdline(rt, alloc, &mut words, matches)?;
@@ -284,6 +298,7 @@ pub fn asked_by<R: Runtime>(
     };
     let mut asked = Asked {
         layouts: Layouts::Sought(Known::default()),
+        is_coloured: is_coloured(rt, matches, is_terminal),
         lines: line_count(matches)?,
         map: read_map(rt, alloc, matches)?,
     };

@@ -1,6 +1,7 @@
 //! `oopsreport`: what images of ramoops regions hold, as text, as lines of JSON or as a page. Images are only read.
 #![tactic(auto)]
 
+mod colour;
 mod command;
 mod folder;
 mod image;
@@ -9,6 +10,7 @@ mod layout;
 use anyhow::{Context, Result, anyhow, bail};
 use clap::ArgMatches;
 use clap::error::ErrorKind;
+use colour::ColourSink;
 use command::command;
 use folder::Dir;
 use image::Image;
@@ -94,6 +96,29 @@ fn found_plan<R: Runtime, M: Load>(
     Ok(asked.plan_of(alloc, &found)?)
 }
 
+// The report of an image by a plan.
+fn report_by<R: Runtime, M: Load>(
+    rt: &R,
+    alloc: Global,
+    plan: &Plan,
+    asked: &Asked,
+    format: Format,
+    path: &str,
+    image: &mut M,
+) -> Result<Report> {
+    let mut out = WriterSink::new(io::writer(rt));
+    let done = if asked.is_coloured && format == Format::Text {
+        let mut out = ColourSink::new(alloc, out);
+        report(alloc, plan, format, path, image, &mut out)
+    } else {
+        report(alloc, plan, format, path, image, &mut out)
+    };
+    match done {
+        Ok(report) => Ok(report),
+        Err(stop) => Err(told(stop)),
+    }
+}
+
 // The report of an image.
 fn report_image<R: Runtime, M: Load>(
     rt: &R,
@@ -103,17 +128,12 @@ fn report_image<R: Runtime, M: Load>(
     path: &str,
     image: &mut M,
 ) -> Result<Report> {
-    let mut out = WriterSink::new(io::writer(rt));
-    let done = match &asked.layouts {
-        Layouts::Given(plan) => report(alloc, plan, format, path, image, &mut out),
+    match &asked.layouts {
+        Layouts::Given(plan) => report_by(rt, alloc, plan, asked, format, path, image),
         Layouts::Sought(known) => {
             let plan = found_plan(rt, alloc, asked, known, format, path, image)?;
-            report(alloc, &plan, format, path, image, &mut out)
+            report_by(rt, alloc, &plan, asked, format, path, image)
         }
-    };
-    match done {
-        Ok(report) => Ok(report),
-        Err(stop) => Err(told(stop)),
     }
 }
 
@@ -179,13 +199,20 @@ fn all_images<R: Runtime, S: Read>(
     status
 }
 
+// Which of the two outputs is a terminal.
+#[derive(Clone, Copy)]
+struct Terminal {
+    is_output: bool,
+    is_errors: bool,
+}
+
 // Reads the words, and does what they ask.
 fn run<R: Runtime, S: Read>(
     rt: &R,
     alloc: Global,
     input: &mut S,
     words: &[String],
-    shows_progress: bool,
+    terminal: Terminal,
 ) -> Result<u8> {
     let matches = match command(alloc)?.try_get_matches_from(words) {
         Ok(matches) => matches,
@@ -201,8 +228,8 @@ fn run<R: Runtime, S: Read>(
         error.print(rt)?;
         return Ok(WRONG_WORDS);
     }
-    match asked_by(rt, alloc, &matches) {
-        Ok(asked) => Ok(all_images(rt, alloc, input, &asked, &matches, shows_progress)),
+    match asked_by(rt, alloc, &matches, terminal.is_output) {
+        Ok(asked) => Ok(all_images(rt, alloc, input, &asked, &matches, terminal.is_errors)),
         Err(NoPlan::Memory) => Err(AllocError.into()),
         Err(NoPlan::Words(e)) => {
             eprintln!(rt; "error: {e:#}")?;
@@ -214,13 +241,11 @@ fn run<R: Runtime, S: Read>(
 fn try_run(rt: &HostRuntime) -> Result<u8> {
     let alloc = rt.alloc();
     let words: Vec<String> = env::args(rt)?.collect(alloc)?;
-    run(
-        rt,
-        alloc,
-        &mut rt.stdin(),
-        &words,
-        rt.stderr().is_terminal(),
-    )
+    let terminal = Terminal {
+        is_output: rt.stdout().is_terminal(),
+        is_errors: rt.stderr().is_terminal(),
+    };
+    run(rt, alloc, &mut rt.stdin(), &words, terminal)
 }
 
 fn main(rt: HostRuntime) -> ExitCode {
