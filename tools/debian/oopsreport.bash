@@ -8,14 +8,15 @@ _oopsreport()
         --param)
             mapfile -t COMPREPLY < <(compgen -W "$keys" -- "$word")
             compopt -o nospace ;;
+        --color) mapfile -t COMPREPLY < <(compgen -W "auto always never" -- "$word") ;;
         --format) mapfile -t COMPREPLY < <(compgen -W "text json html" -- "$word") ;;
-        --cmdline | --kernel | --node) COMPREPLY=() ;;
+        --cmdline | --kernel | --node | --lines) COMPREPLY=() ;;
         --save)
             mapfile -t COMPREPLY < <(compgen -d -- "$word")
             compopt -o filenames ;;
         *)
             if [[ $word == -* ]]; then
-                mapfile -t COMPREPLY < <(compgen -W "--param --cmdline --cmdline-file --kernel --dtb --node --mem-as-given --format
+                mapfile -t COMPREPLY < <(compgen -W "--param --cmdline --cmdline-file --kernel --dtb --node --mem-as-given --symbols --lines --color --format
                     --save --help --version" -- "$word")
             else
                 mapfile -t COMPREPLY < <(compgen -f -- "$word")
