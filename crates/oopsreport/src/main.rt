@@ -51,7 +51,17 @@ fn told(stop: Stop) -> anyhow::Error {
 // A layout is looked for in the front of an image that is no file.
 const MOST: u32 = 16_777_216;
 
-// The plan of the layout that an image shows, and a line that says which it is, where a text is asked for.
+// A line about the layout: above a text, and else to standard error, so that no layout is taken in silence.
+fn tell<R: Runtime>(rt: &R, format: Format, line: &str) -> Result<()> {
+    if format == Format::Text {
+        println!(rt; "{line}")?;
+    } else {
+        eprintln!(rt; "{line}")?;
+    }
+    Ok(())
+}
+
+// The plan of the layout that an image shows, which is told.
 fn found_plan<R: Runtime, M: Load>(
     rt: &R,
     alloc: Global,
@@ -70,28 +80,29 @@ fn found_plan<R: Runtime, M: Load>(
         Err(stop) => return Err(told(stop)),
     };
     let words = found_words(alloc, &found.candidate, size)?;
-    if !found.taken {
+    if !found.taken || !found.whole {
         let t = found.tally;
+        let searched = match found.whole {
+            true => "",
+            false => " (not all layouts were tried)",
+        };
         bail!(
-            "no layout explains it; give it by --param, --cmdline or --dtb. The best has {} of {} zones, and {} faults: {words}",
+            "no layout explains it{searched}; give it by --param, --cmdline or --dtb. The best has {} of {} zones, and {} faults: {words}",
             t.fits,
             t.zones,
             t.faults
         );
     }
-    if format == Format::Text {
-        println!(rt; "{path}: {size} bytes; layout found: {words}")?;
-        if let Some(rival) = &found.rival {
-            let words = found_words(alloc, rival, size)?;
-            let what = match are_alike(alloc, &found.candidate, rival)? {
-                true => "kinds are taken for likely; the same zones could be",
-                false => "another layout explains as much",
-            };
-            println!(rt; "{what}: {words}")?;
-        }
-        if !found.whole {
-            println!(rt; "not all layouts were tried")?;
-        }
+    let line = format!(in alloc; "{path}: {size} bytes; layout found: {words}")?;
+    tell(rt, format, &line)?;
+    if let Some(rival) = &found.rival {
+        let words = found_words(alloc, rival, size)?;
+        let what = match are_alike(alloc, &found.candidate, rival)? {
+            true => "kinds are taken for likely; the same zones could be",
+            false => "another layout explains as much",
+        };
+        let line = format!(in alloc; "{what}: {words}")?;
+        tell(rt, format, &line)?;
     }
     Ok(asked.plan_of(alloc, &found)?)
 }
