@@ -82,16 +82,14 @@ fn found_plan<R: Runtime, M: Load>(
     let words = found_words(alloc, &found.candidate, size)?;
     if !found.taken || !found.whole {
         let t = found.tally;
-        let searched = match found.whole {
-            true => "",
-            false => " (not all layouts were tried)",
-        };
-        bail!(
-            "no layout explains it{searched}; give it by --param, --cmdline or --dtb. The best has {} of {} zones, and {} faults: {words}",
-            t.fits,
-            t.zones,
-            t.faults
-        );
+        eprintln!(rt;
+            "oopsreport: {path}: the best layout has {} of {} zones, and {} faults: {words}",
+            t.fits, t.zones, t.faults
+        )?;
+        match found.whole {
+            true => bail!("no layout explains it; give it by --param, --cmdline or --dtb"),
+            false => bail!("not all layouts were tried; give it by --param, --cmdline or --dtb"),
+        }
     }
     let line = format!(in alloc; "{path}: {size} bytes; layout found: {words}")?;
     tell(rt, format, &line)?;
