@@ -153,33 +153,18 @@ fn paths(alloc: Global, tree: &[u8]) -> Result<String, AllocError> {
 }
 
 // Why a device tree gives no plan.
-fn no_plan(
-    alloc: Global,
-    path: &str,
-    tree: &[u8],
-    words: &[String],
-    fault: TreeFault,
-) -> Result<NoPlan, AllocError> {
-    Ok(NoPlan::Words(match fault {
-        TreeFault::Memory => return Ok(NoPlan::Memory),
+fn no_plan(path: &str, words: &[String], fault: TreeFault) -> NoPlan {
+    NoPlan::Words(match fault {
+        TreeFault::Memory => return NoPlan::Memory,
         TreeFault::Tree(fault) => anyhow!("{path}: {}", told_tree(fault)),
-        TreeFault::NoNode => {
-            let paths = paths(alloc, tree)?;
-            match paths.is_empty() {
-                true => anyhow!("{path}: no ramoops node is in it"),
-                false => anyhow!("{path}: no such ramoops node; there are:{paths}"),
-            }
-        }
-        TreeFault::Several => {
-            let paths = paths(alloc, tree)?;
-            anyhow!("{path}: several ramoops nodes, choose one by --node:{paths}")
-        }
+        TreeFault::NoNode => anyhow!("{path}: no such ramoops node"),
+        TreeFault::Several => anyhow!("{path}: several ramoops nodes; choose one by --node"),
         TreeFault::Word(fault) => told(words, fault),
-        TreeFault::NoCpus => anyhow!(
-            "{path}: the node has an ftrace zone for each processor; say how many by --param cpus=N"
-        ),
+        TreeFault::NoCpus => {
+            anyhow!("{path}: give --param cpus=N: there is an ftrace zone for each processor")
+        }
         TreeFault::Layout(fault) => anyhow!("{path}: layout fault {}: {fault}", fault.number()),
-    }))
+    })
 }
 
 // The plan of the device tree in a file.
@@ -193,7 +178,13 @@ fn tree_plan<R: Runtime>(
     let tree = read_file(rt, path)?;
     match Plan::of_tree(alloc, &tree, node, words) {
         Ok(plan) => Ok(plan),
-        Err(fault) => Err(no_plan(alloc, path, &tree, words, fault)?),
+        Err(fault) => {
+            if matches!(fault, TreeFault::NoNode | TreeFault::Several) {
+                let paths = paths(alloc, &tree)?;
+                let _told = eprintln!(rt; "{path}: ramoops nodes:{paths}");
+            }
+            Err(no_plan(path, words, fault))
+        }
     }
 }
 
@@ -212,7 +203,10 @@ fn words_plan(alloc: Global, words: &[String], is_as_given: bool) -> Result<Plan
 
 // What the words say of a layout that is looked for. Of the family that is looked through are blocks of 128 bytes and one
 // parity.
-fn sought(words: &[String]) -> Result<Layouts, NoPlan> {
+fn sought(words: &[String], is_as_given: bool) -> Result<Layouts, NoPlan> {
+    if is_as_given {
+        return Err(NoPlan::Words(anyhow!("--mem-as-given needs mem_size")));
+    }
     if let Err(fault) = read_words_over(words, &DEFAULTS) {
         return Err(NoPlan::Words(told(words, fault)));
     }
@@ -293,7 +287,9 @@ pub fn asked_by<R: Runtime>(
     add_params(alloc, &mut words, matches)?;
     let layouts = match matches.get_str("dtb") {
         Some(path) => Layouts::Given(tree_plan(rt, alloc, path, matches.get_str("node"), &words)?),
-        None if given(&words, "mem_size").is_none() => sought(&words)?,
+        None if given(&words, "mem_size").is_none() => {
+            sought(&words, matches.get_flag("mem-as-given"))?
+        }
         None => Layouts::Given(words_plan(alloc, &words, matches.get_flag("mem-as-given"))?),
     };
     let mut asked = Asked {

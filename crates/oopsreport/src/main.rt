@@ -91,7 +91,10 @@ fn found_plan<R: Runtime, M: Load>(
             false => bail!("not all layouts were tried; give it by --param, --cmdline or --dtb"),
         }
     }
-    let line = format!(in alloc; "{path}: {size} bytes; layout found: {words}")?;
+    let line = match found.tally.faults {
+        0 => format!(in alloc; "{path}: {size} bytes; layout found: {words}")?,
+        n => format!(in alloc; "{path}: {size} bytes; layout found, but for {n} places: {words}")?,
+    };
     tell(rt, format, &line)?;
     if let Some(rival) = &found.rival {
         let words = found_words(alloc, rival, size)?;
