@@ -83,7 +83,7 @@ fn found_plan<R: Runtime, M: Load>(
     if !found.taken || !found.whole {
         let t = found.tally;
         eprintln!(rt;
-            "oopsreport: {path}: the best layout has {} of {} zones, and {} faults: {words}",
+            "oopsreport: {path}: best layout: {words} ({} of {} zones fit, faults: {})",
             t.fits, t.zones, t.faults
         )?;
         match found.whole {
