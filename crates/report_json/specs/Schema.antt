@@ -1,4 +1,4 @@
--- The data of a report's line, schema 1
+-- The data of a report's line, schema 2
 use Rattle.std.specs.Prelude.{◌≡◌, ℕ, ◌-◌, ◌<◌, Bool, true, false, if◌then◌else◌, List, [], ◌∷◌, ◌++◌, length, map, take, slice_get, Option, Some, None, option_to_list, replicate, codes}
 use Rattle.std.specs.Str.{is_utf8}
 use Rattle.std.specs.Str.Lossy.{utf8_valid_len}
@@ -264,7 +264,7 @@ line_with death path parameters records zones = object (
     member (codes "parameters") parameters (
     member (codes "path") (string path) (
     member (codes "records") records (
-    member (codes "schema") (count 1) (
+    member (codes "schema") (count 2) (
     member (codes "zones") zones no_members))))))
 
 abbrev pub line_data : List RecordShown → List ℕ → Params → List Data → List Data → Data

@@ -51,7 +51,7 @@ fn record_as_text_and_in_base64(rt: HostRuntime) -> Result<(), Fail> {
         "{\"death\":null,\"parameters\":{\"block_size\":128,\"console_size\":4096,\"cpus\":1,\"ecc\":0,\"ecc_console\":0,\
 \"ecc_dump\":0,\"ecc_ftrace\":0,\"ecc_pmsg\":0,\"ftrace_sig\":0,\"ftrace_size\":0,\"mem_size\":4096,\"pmsg_size\":0,\
 \"record_size\":0},\"path\":\"a\\\"b\",\"records\":[{\"bad\":0,\"base64\":null,\"compressed\":false,\
-\"corrected\":0,\"entries\":null,\"fault\":null,\"name\":\"console-ramoops-0\",\"taken\":null,\"text\":\"abc\",\"time\":null}],\"schema\":1,\"zones\":[{\"bad\":0,\"blocks\":[0,null";
+\"corrected\":0,\"entries\":null,\"fault\":null,\"name\":\"console-ramoops-0\",\"taken\":null,\"text\":\"abc\",\"time\":null}],\"schema\":2,\"zones\":[{\"bad\":0,\"blocks\":[0,null";
     assert!(rt; line.as_str().starts_with(front));
     let raw = line_of(rt.alloc(), &[0xff, 0xfe, 0xfd])?;
     assert!(rt;
