@@ -56,21 +56,44 @@ fn params(pmsg: u64, ftrace: u64) -> Params {
     }
 }
 
-// The report of one zone that begins with this signature and holds this log.
-fn reported(alloc: Global, params: &Params, signature: u32, log: &[u8]) -> Result<Report, Fail> {
+// The image of one zone that begins with this signature and holds this log.
+fn image_of(alloc: Global, signature: u32, log: &[u8]) -> Result<Vec<u8>, Fail> {
     let len = u8::try_from(log.len())?;
     let mut bytes = Vec::new(alloc);
     bytes.extend_from_slice(&signature.to_le_bytes())?;
     bytes.extend_from_slice(&[0, 0, 0, 0, len, 0, 0, 0])?;
     bytes.extend_from_slice(log)?;
     bytes.resize(4096, 0)?;
+    Ok(bytes)
+}
+
+// The report of that image.
+fn reported(alloc: Global, params: &Params, signature: u32, log: &[u8]) -> Result<Report, Fail> {
+    let image = Bytes::from_vec(image_of(alloc, signature, log)?);
     let zones = layout(alloc, params)?;
-    let image = Bytes::from_vec(bytes);
     if image.len() != zones.mem() as usize {
         return Err(Fail::from("the image has another size"));
     }
     let symbols = Symbols::read(alloc, Vec::from_slice(alloc, MAP)?)?;
     Ok(report_of(alloc, &zones, &symbols, image)?)
+}
+
+// The text of its report.
+fn shown(alloc: Global, params: &Params, log: &[u8]) -> Result<Bytes, Fail> {
+    let image = Bytes::from_vec(image_of(alloc, 0x4347_4244, log)?);
+    let zones = layout(alloc, params)?;
+    if image.len() != zones.mem() as usize {
+        return Err(Fail::from("the image has another size"));
+    }
+    let report = report_of(alloc, &zones, &Symbols::none(alloc), image)?;
+    Ok(text(alloc, b"a", zones.zones(), &report, 10)?)
+}
+
+#[test]
+fn lines_of_android(rt: HostRuntime) -> Result<(), Fail> {
+    let text = shown(rt.alloc(), &params(4096, 0), PMSG)?;
+    assert!(rt; str::from_utf8(text.as_slice())?.ends_with(LINES));
+    Ok(())
 }
 
 #[test]
@@ -84,8 +107,6 @@ fn log_of_android(rt: HostRuntime) -> Result<(), Fail> {
     {
         return Err(Fail::from("the report has other zones"));
     }
-    let text = text(alloc, b"a", zones.zones(), &report, 10)?;
-    assert!(rt; str::from_utf8(text.as_slice())?.ends_with(LINES));
     let line = json(alloc, "a", &params, zones.zones(), &report)?;
     assert!(rt; line.as_str().contains(ENTRIES));
     Ok(())
