@@ -7,8 +7,8 @@ ghost use Rattle.blk_session.specs.Texts.{entry_text};
 use arrayvec::ArrayString;
 use itoa::Buffer;
 use outside::Bytes;
+use script::pieces::{extracted, push_number, push_padded, push_record, push_seconds};
 use std::alloc::{AllocError, Global};
-use text_pieces::{extracted, push_number, push_padded, push_record, push_seconds};
 use zone_blk::{Blk, BlkFault, BlkName, BlkTime};
 
 /// Writes the text of a name, such as `dmesg-pstore_blk-3.enc.z`, in at most 33 bytes. Takes no memory.

@@ -2,8 +2,8 @@
 #![tactic(auto)]
 
 #[cfg(test)]
-mod blk_params_tests;
-#[cfg(test)]
 mod blk_session_tests;
+#[cfg(test)]
+mod params_tests;
 #[cfg(test)]
 mod zone_blk_tests;

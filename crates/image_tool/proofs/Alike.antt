@@ -7,7 +7,7 @@ use Rattle.zone_spec.specs.declared.params.Params.{Params}
 use Rattle.zone_spec.specs.declared.params.Row.{Row}
 use Rattle.zone_spec.specs.Layout.{even, dump_memory, dump_count, rows, zone_at, zones_from, layout_of}
 use Rattle.zone_spec.specs.Records.{is_of}
-use Rattle.zone_params.proofs.WholeLayout.{no_fault}
+use Rattle.ramoops_layout.proofs.WholeLayout.{no_fault}
 use Rattle.ram_session.specs.Kernels.{DumpsAlike}
 
 -- a dump zone has this capacity

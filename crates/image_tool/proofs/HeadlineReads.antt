@@ -30,7 +30,7 @@ use Rattle.grammar_spec.specs.BlkWords.{first_fault as blk_first_fault, params_o
 use Rattle.blk_spec.specs.declared.BlkLayout.{BlkLayout}
 use Rattle.blk_spec.specs.Layout.{layout_of as blk_layout_of}
 use Rattle.grammar_spec.specs.declared.faults.ParamFault.{ParamFault}
-use Rattle.zone_params.proofs.WholeLayout.{whole_layout}
+use Rattle.ramoops_layout.proofs.WholeLayout.{whole_layout}
 use Rattle.prz_region.proofs.Chains.{AreBytes-take}
 use Rattle.prz_read.proofs.Saves.{zip-at, zip-length}
 use Rattle.ramoops.proofs.Lists.{get-of-map}

@@ -10,7 +10,7 @@ use Rattle.zone_spec.specs.Layout.{layout_of, zones_of}
 use Rattle.zone_spec.specs.Layouts.{IsLayout}
 use Rattle.zone_spec.specs.Parts.{AreBytes}
 use Rattle.zone_spec.specs.Records.{Saved, Listed, listed_of}
-use Rattle.zone_params.proofs.WholeLayout.{whole_layout, no_fault}
+use Rattle.ramoops_layout.proofs.WholeLayout.{whole_layout, no_fault}
 use Rattle.prz_region.proofs.Chains.{AreBytes-take}
 use Rattle.machine_spec.specs.Zones.{zone_bytes}
 use Rattle.machine_spec.specs.States.{OffZone, OffState}

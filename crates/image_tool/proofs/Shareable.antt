@@ -16,10 +16,10 @@ use Rattle.zone_spec.specs.Layouts.{IsLayout, is_zone, zone_place}
 use Rattle.zone_spec.specs.Parts.{AreBytes, standing_words}
 use Rattle.zone_spec.specs.Ring.{IsRingForm, IsOpen, IsOpenUnlessDump}
 use Rattle.zone_spec.specs.Records.{is_of}
-use Rattle.zone_params.proofs.WholeLayout.{no_fault, all_count, length_zones}
-use Rattle.zone_params.proofs.Faultless.{faultless}
-use Rattle.zone_params.proofs.Rounding.{rounded_pos}
-use Rattle.zone_params.proofs.RowPlaces.{rows_place, place_in_rows}
+use Rattle.ramoops_layout.proofs.WholeLayout.{no_fault, all_count, length_zones}
+use Rattle.ramoops_layout.proofs.Faultless.{faultless}
+use Rattle.ramoops_layout.proofs.Rounding.{rounded_pos}
+use Rattle.ramoops_layout.proofs.RowPlaces.{rows_place, place_in_rows}
 use Rattle.machine_spec.specs.Zones.{zone_bytes}
 use Rattle.machine_spec.specs.States.{LiveState, Off as OffOf, Live as LiveOf}
 use Rattle.machine_spec.specs.Off.{fresh}

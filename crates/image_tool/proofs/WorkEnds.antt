@@ -11,7 +11,7 @@ use Rattle.command_spec.specs.declared.Stop.{Stop}
 use Rattle.command_spec.specs.declared.Stop.TheVariants.{Memory, ScriptFault, ImageFault, SinkFault, Refused}
 use Rattle.tool_frame.specs.Words.{PlanStop, IsNoFault, plan_for, ram_command_seen}
 use Rattle.tool_frame.specs.declared.words.RamCommand.{RamCommand as ReadRamCommand}
-use Rattle.zone_params.specs.declared.types.Layout.{Layout as ReadLayout}
+use Rattle.ramoops_layout.specs.declared.types.Layout.{Layout as ReadLayout}
 use Rattle.script_spec.specs.Playing.{KeptUnless}
 use Rattle.tool_frame.specs.Ended.{EndedAt, Ended, CausedAt, KeptAt, WrittenAt, RamEnds, Nothing, LinesAsk, Asks, WorkDone, ClassAsks}
 use Rattle.tool_frame.proofs.AnyWords.{plan_stopped}

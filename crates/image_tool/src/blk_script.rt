@@ -6,11 +6,11 @@ ghost use Rattle.command_spec.specs.Answers.{outside};
 ghost use Rattle.tool_frame.specs.Ended.{WorkDone};
 ghost use Rattle.image_tool.specs.Due.{PutsLines};
 
-use blk_params::BlkLayout;
 use blk_session::play;
 use outside::{Sink, Source, Store};
 use std::alloc::Global;
 use tool_frame::{Stop, check_size, end_of, lines, read_script};
+use zone_blk::BlkLayout;
 
 /// Does a script on the block store, which is written as the lines are done.
 pub fn run_blk_script<S: Source, M: Store, O: Sink>(

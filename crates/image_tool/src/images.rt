@@ -8,14 +8,14 @@ ghost use Rattle.command_spec.specs.Commands.{ShowLayout, Blank, shows, leaves};
 ghost use Rattle.command_spec.specs.PlanAnswers.{ram_statuses, IsAmong};
 ghost use Rattle.script_spec.specs.Playing.{KeptUnless};
 ghost use Rattle.tool_frame.specs.Ended.{EndedAt, CausedAt, KeptAt, FailsAsked};
-ghost use Rattle.zone_params.specs.Laid.{params_of, zones_of};
+ghost use Rattle.ramoops_layout.specs.Laid.{params_of, zones_of};
 ghost use Rattle.image_tool.specs.Due.{PutsNone};
 
 use crate::layout_text::layout_text;
 use outside::{Failed, Sink, Store};
+use ramoops_layout::types::Layout;
 use std::alloc::{AllocError, Global};
 use tool_frame::{Stop, fill};
-use zone_params::types::Layout;
 
 /// Puts a layout.
 #[tactic(auto, using(crate::proofs::Shown::put_all, crate::proofs::Shown::put_none, crate::proofs::Shown::put_front))]

@@ -2,11 +2,11 @@
 ghost use Rattle.std.specs.Prelude.{◌≡◌, ◌++◌, ◌==◌, ◌&&◌, codes, decimal, OnOk, IfOk, length};
 ghost use Rattle.script_spec.specs.Texts.{newline};
 ghost use Rattle.command_spec.specs.Texts.{is_uniform, layout_line, layout_text, own_parity};
-ghost use Rattle.zone_params.specs.Laid.{params_of, zones_of};
+ghost use Rattle.ramoops_layout.specs.Laid.{params_of, zones_of};
 
+use ramoops_layout::types::Layout;
+use script::pieces::{push_number, push_zone};
 use std::alloc::{AllocError, Global};
-use text_pieces::{push_number, push_zone};
-use zone_params::types::Layout;
 use zone_spec::{Kind, Zone};
 
 fn push_parity(text: &mut Vec<u8>, zone: &Zone, uniform: bool) -> Result<(), AllocError>

@@ -9,9 +9,9 @@ ghost use Rattle.image_tool.specs.Due.{PutsFirst};
 
 use outside::{Failed, Sink, Store};
 use ram_generator::generate;
+use ramoops_layout::types::Layout;
 use std::alloc::{AllocError, Global};
 use tool_frame::{Stop, save};
-use zone_params::types::Layout;
 
 /// Puts the summary of the session of n, and writes the image that it leaves.
 pub fn make<M: Store, O: Sink>(

@@ -1,6 +1,6 @@
 // The move of an image to other parameters.
 ghost use Rattle.std.specs.Prelude.{◌≡◌, ◌≤◌, ℕ, List, Option, IfOk};
-ghost use Rattle.zone_params.specs.Laid.{params_of, zones_of};
+ghost use Rattle.ramoops_layout.specs.Laid.{params_of, zones_of};
 ghost use Rattle.machine_spec.specs.Moved.{fitting, moved as moved_state};
 ghost use Rattle.prz_read.specs.Saving.{saved};
 ghost use Rattle.command_spec.specs.Commands.{OfMove, wanted_move};
@@ -17,9 +17,9 @@ use prz_read::Logs;
 use pstore_records::forget_unfit;
 use ram_session::move_text;
 use ramoops::Off;
+use ramoops_layout::types::Layout;
 use std::alloc::{AllocError, Global};
 use tool_frame::{Stop, save};
-use zone_params::types::Layout;
 
 // The image of this layout with the logs of the records that fit.
 fn moved(alloc: Global, layout: Layout, mut logs: Logs) -> Result<Off, AllocError>

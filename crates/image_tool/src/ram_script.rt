@@ -9,9 +9,9 @@ ghost use Rattle.image_tool.specs.Due.{PutsLines};
 use crate::stores::fresh_store;
 use outside::{Failed, Sink, Source, Store};
 use ram_session::play;
+use ramoops_layout::types::Layout;
 use std::alloc::{AllocError, Global};
 use tool_frame::{Stop, lines, load, read_script, save, stop_of};
-use zone_params::types::Layout;
 
 /// Does a script on an image, and writes that back.
 pub fn run_script<S: Source, M: Store, O: Sink>(

@@ -1,6 +1,6 @@
 // The records of an image: all of them listed, and one extracted or erased.
 ghost use Rattle.std.specs.Prelude.{◌≡◌, ◌≤◌, ℕ, List, Option, IfOk, IfErr};
-ghost use Rattle.zone_params.specs.Laid.{params_of, zones_of};
+ghost use Rattle.ramoops_layout.specs.Laid.{params_of, zones_of};
 ghost use Rattle.command_spec.specs.Commands.{ListRecords, Extract, Erase};
 ghost use Rattle.command_spec.specs.Answers.{outside};
 ghost use Rattle.tool_frame.specs.Ended.{CausedAt, KeptAt, RamReadEnds, RamImageEnds};
@@ -14,9 +14,9 @@ use crate::stores::{boot_store, fresh_store};
 use outside::{Failed, Load, Sink, Store};
 use prz_read::Logs;
 use ram_session::{LineError, content_of, listing};
+use ramoops_layout::types::Layout;
 use std::alloc::{AllocError, Global};
 use tool_frame::{Stop, load, save};
-use zone_params::types::Layout;
 
 // The line that a command's refusal names: the one after the boot.
 const LINE: u32 = 2;

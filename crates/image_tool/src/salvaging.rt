@@ -1,6 +1,6 @@
 // The rings of a memory dump: all of them listed, and one read.
 ghost use Rattle.std.specs.Prelude.{◌≡◌, ◌≤◌, ◌++◌, ℕ, List, Option, OnOk, IfOk, IfErr};
-ghost use Rattle.zone_params.specs.Laid.{zones_of};
+ghost use Rattle.ramoops_layout.specs.Laid.{zones_of};
 ghost use Rattle.command_spec.specs.Texts.{ring_line, rings_text};
 ghost use Rattle.command_spec.specs.Commands.{Salvage, Rescue};
 ghost use Rattle.command_spec.specs.Answers.{outside};
@@ -12,11 +12,11 @@ ghost use Rattle.image_tool.specs.Due.{PutsNone};
 ghost use Rattle.image_tool.specs.Dumps.{ScansFrom, ring_stop as stop_for};
 
 use outside::{Bytes, Failed, Load, Sink};
+use ramoops_layout::types::Layout;
 use salvage::{FoundRing, RingFault, Scan};
+use script::pieces::{push_number, push_zone};
 use std::alloc::{AllocError, Global};
-use text_pieces::{push_number, push_zone};
 use tool_frame::{Cause, Stop, load_front};
-use zone_params::types::Layout;
 use zone_spec::ZoneName;
 
 // The bytes that a dump has at most.

@@ -1,6 +1,6 @@
 // A script on a shared zone.
 ghost use Rattle.std.specs.Prelude.{◌≡◌, ◌<◌, ◌^◌, vec_len, length, Ok, IfOk};
-ghost use Rattle.zone_params.specs.Laid.{params_of, zones_of};
+ghost use Rattle.ramoops_layout.specs.Laid.{params_of, zones_of};
 ghost use Rattle.grammar_spec.specs.Printed.{AllHaveFields};
 ghost use Rattle.command_spec.specs.Commands.{SharedRun, OfRam, wanted_shared_lines};
 ghost use Rattle.command_spec.specs.Answers.{outside};
@@ -11,13 +11,13 @@ ghost use Rattle.image_tool.specs.Due.{PutsFirst};
 
 use crate::stores::fresh_store;
 use outside::{Bytes, Failed, Sink, Source, Store};
+use ramoops_layout::types::Layout;
+use ramoops_layout::{Kind, ZoneName};
 use script::Lines;
 use shared_ring::Shared;
 use shared_session::{play, shared_text};
 use std::alloc::{AllocError, Global};
 use tool_frame::{Stop, lines, load, read_script, save, stop_of};
-use zone_params::types::Layout;
-use zone_params::{Kind, ZoneName};
 
 const FTRACE: ZoneName = ZoneName {
     kind: Kind::Ftrace,

@@ -1,6 +1,6 @@
 // The store of an image.
 ghost use Rattle.std.specs.Prelude.{◌≡◌, ◌≤◌, vec_len, IfOk, IfErr};
-ghost use Rattle.zone_params.specs.Laid.{params_of, zones_of};
+ghost use Rattle.ramoops_layout.specs.Laid.{params_of, zones_of};
 ghost use Rattle.ram_session.specs.Playing.{StandsFresh};
 ghost use Rattle.script_spec.specs.Playing.{KeptUnless};
 ghost use Rattle.tool_frame.specs.Stages.{LoadStop};
@@ -9,9 +9,9 @@ ghost use Rattle.image_tool.specs.Stores.{BootedFrom};
 use outside::{Bytes, Load};
 use prz_read::Logs;
 use ramoops::{Live, Off};
+use ramoops_layout::types::Layout;
 use std::alloc::{AllocError, Global};
 use tool_frame::{Stop, load};
-use zone_params::types::Layout;
 
 /// The store of an image of which nothing is known.
 #[tactic(auto, using(crate::proofs::Alike::dumps_alike))]

@@ -18,9 +18,9 @@ use crate::salvaging::{rescue, salvage};
 use crate::sharing::run_shared_script;
 use crash_laws::later_boot_lists_crash;
 use outside::{Sink, Source, Store};
+use ramoops_layout::types::Layout;
 use std::alloc::Global;
 use tool_frame::{Plan, RamCommand, Stop, finish, read_plan};
-use zone_params::types::Layout;
 
 // Does a command on an image of this layout, but for the last line.
 fn do_command<S: Source, M: Store, O: Sink>(

@@ -4,8 +4,8 @@ ghost use Rattle.layout_spec.specs.Laid.{params_of, has_layout};
 ghost use Rattle.layout_search.specs.Laid.{IsLaid};
 
 use layout_spec::Candidate;
+use ramoops_layout::{LayoutError, layout};
 use std::alloc::{AllocError, Global};
-use zone_params::{LayoutError, layout};
 use zone_spec::{Params, Zone};
 
 /// The candidate's parameters.

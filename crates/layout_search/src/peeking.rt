@@ -10,8 +10,8 @@ ghost use Rattle.layout_spec.specs.Marks.{fits};
 use crate::laying::{params, zones_of};
 use crate::looking::look_at;
 use layout_spec::Candidate;
+use ramoops_layout::rows::parity;
 use std::alloc::{AllocError, Global};
-use zone_params::rows::parity;
 use zone_spec::{Kind, Zone, ZoneName};
 
 // The first dump zone, if the dump zones have this size.

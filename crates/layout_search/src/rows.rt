@@ -6,7 +6,7 @@ ghost use Rattle.layout_search.specs.Seen.{IsSmallRow};
 ghost use Rattle.layout_search.specs.Rows.{IsRoomy, dump_row_of, console_row_of, ftrace_row_of, pmsg_row_of};
 
 use layout_spec::Candidate;
-use zone_params::rows::{MOST_MEMORY, rounded};
+use ramoops_layout::rows::{MOST_MEMORY, rounded};
 use zone_spec::{Kind, Row};
 
 /// The memory that the other zones leave to the dump zones.

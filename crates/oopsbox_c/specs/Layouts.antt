@@ -6,8 +6,8 @@ use Rattle.zone_spec.specs.declared.params.Params.{Params}
 use Rattle.zone_spec.specs.declared.params.LayoutFault.{LayoutFault}
 use Rattle.zone_spec.specs.Layout.{layout_of}
 use Rattle.zone_spec.specs.LayoutFaults.{fault_number}
-use Rattle.zone_params.specs.declared.finding.Found.{Found as FoundZone}
-use Rattle.zone_params.specs.Found.{zone_named}
+use Rattle.ramoops_layout.specs.declared.finding.Found.{Found as FoundZone}
+use Rattle.ramoops_layout.specs.Found.{zone_named}
 use Rattle.oopsbox_c.specs.Places.{name_in, place_of, layout_answer, fault_answer}
 use Rattle.oopsbox_c.specs.declared.ends.End.{End}
 use Rattle.oopsbox_c.specs.declared.ends.End.TheVariants.{Done, Fault, Argument}

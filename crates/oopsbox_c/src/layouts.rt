@@ -5,7 +5,7 @@ ghost use Rattle.oopsbox_c.specs.Layouts.{params_in, FoundEnds, ZoneAtEnds};
 
 use crate::End;
 use crate::places::{LayoutAnswer, ZonePlace, kind_in, place_of};
-use zone_params::{Found, find};
+use ramoops_layout::{Found, find};
 use zone_spec::{Params, ZoneName};
 
 /// The parameters of a layout, in bytes, as those of [`Params`]. `unused` is not read.

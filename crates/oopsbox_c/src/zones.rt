@@ -2,7 +2,7 @@
 ghost use Rattle.std.specs.Prelude.{◌≡◌, ◌+◌, ◌≤◌, length, MatchResult, IfOk};
 ghost use Rattle.zone_spec.specs.Zones.{IsValidZone};
 ghost use Rattle.zone_spec.specs.Reading.{zone_reading};
-ghost use Rattle.zone_params.specs.Laid.{params_of, zones_of};
+ghost use Rattle.ramoops_layout.specs.Laid.{params_of, zones_of};
 ghost use Rattle.machine_spec.specs.Zones.{zone_bytes};
 ghost use Rattle.oopsbox_c.specs.Zones.{fault_word, PlacesOf, IsLaid, IsNoLayout, TellsLayout, TellsFault, LayoutEnds, TellsReading, ReadsZone, ZoneEnds};
 
@@ -11,9 +11,9 @@ use crate::places::{LayoutAnswer, ZoneAnswer, ZonePlace, place_of, state_number}
 use crate::words::{WordsFault, fill, read_words_of};
 use prz_read::{Reading, read_zone};
 use prz_region::Probe;
+use ramoops_layout::types::Layout;
+use ramoops_layout::{LayoutError, ParamFault, layout, read_words};
 use std::alloc::{AllocError, Global};
-use zone_params::types::Layout;
-use zone_params::{LayoutError, ParamFault, layout, read_words};
 use zone_spec::{LayoutFault, Zone};
 
 /// Why a text has no layout.

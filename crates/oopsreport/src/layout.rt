@@ -4,14 +4,16 @@ use clap::ArgMatches;
 use dtb::{Fault, ramoops_nodes};
 use grammar_spec::ParamFault;
 use layout_search::params;
-use report_tool::{Candidate, Found, Known, Plan, PlanFault, TreeFault, known};
-use report_words::{LineFault, add_layout_words, add_tag, ftrace_tag};
+use ramoops_layout::{DEFAULTS, LayoutError, given, layout, read_words_over};
+use report_tool::{
+    Candidate, Found, Known, LineFault, Plan, PlanFault, TreeFault, add_layout_words, add_tag,
+    ftrace_tag, known,
+};
 use std::alloc::{AllocError, Global};
 use std::io::ErrorKind;
 use std::rt::Runtime;
 use std::{env, fs};
 use symbols::Symbols;
-use zone_params::{DEFAULTS, LayoutError, given, layout, read_words_over};
 
 /// Why there is no plan: a want of memory, or what is wrong with the words.
 pub enum NoPlan {

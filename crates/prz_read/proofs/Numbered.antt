@@ -10,7 +10,7 @@ use Rattle.zone_spec.specs.declared.Zone.{Zone}
 use Rattle.zone_spec.specs.declared.params.Params.{Params}
 use Rattle.zone_spec.specs.declared.params.Row.{Row}
 use Rattle.zone_spec.specs.Layout.{rows, zone_at, zones_from, layout_of}
-use Rattle.zone_params.proofs.WholeLayout.{no_fault}
+use Rattle.ramoops_layout.proofs.WholeLayout.{no_fault}
 
 abbrev Below : ℕ → Zone → Type 0
 Below m z = z.name.index < m

@@ -1,14 +1,14 @@
 // The readings that a boot saves.
 ghost use Rattle.std.specs.Prelude.{◌≡◌, ◌<◌, ◌^◌, ◌++◌, ◌∷◌, [], length, slice_get, slice_set, Some, None, IfOk};
 ghost use Rattle.std.specs.Option.{option_map, option_copied};
-ghost use Rattle.zone_params.specs.Laid.{zones_of};
+ghost use Rattle.ramoops_layout.specs.Laid.{zones_of};
 ghost use Rattle.zone_spec.specs.Records.{Saved};
 ghost use Rattle.prz_read.specs.Saving.{saved};
 
 use crate::Reading;
 use std::alloc::{AllocError, Global};
 use std::marker::Model;
-use zone_params::types::Layout;
+use ramoops_layout::types::Layout;
 use zone_spec::{Zone, ZoneName};
 
 /// The saved readings of a layout's zones, in the zones' order: a reading, or none where it was forgotten.

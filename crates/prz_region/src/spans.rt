@@ -14,7 +14,7 @@ use core::slots::Slots;
 use outside::Bytes;
 use std::alloc::{AllocError, Global};
 use std::marker::Model;
-use zone_params::types::Layout;
+use ramoops_layout::types::Layout;
 use zone_spec::Zone;
 
 /// A zone's bytes in a region's block, as they are lent for reading.
@@ -130,7 +130,7 @@ impl Model for CountedSpans {
 }
 
 impl Region {
-    ghost use Rattle.zone_params.specs.Laid.{params_of, zones_of};
+    ghost use Rattle.ramoops_layout.specs.Laid.{params_of, zones_of};
     ghost use Rattle.zone_spec.specs.Layouts.{zones_end};
     ghost use Rattle.prz_region.specs.CutRegion.{cut_at};
     ghost use Rattle.prz_region.specs.Chain.{AreSideBySide};

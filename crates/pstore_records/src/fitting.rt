@@ -1,7 +1,7 @@
 // Which of the saved logs fit another layout.
 ghost use Rattle.std.specs.Prelude.{◌≡◌, ◌<◌, [], ◌∷◌, length, map, slice_get, Some, IfOk, OnOk, OnErr};
 ghost use Rattle.zone_spec.specs.Records.{Saved};
-ghost use Rattle.zone_params.specs.Laid.{zones_of};
+ghost use Rattle.ramoops_layout.specs.Laid.{zones_of};
 ghost use Rattle.machine_spec.specs.Moved.{takes, fits, fitting, record_name};
 ghost use Rattle.prz_read.specs.Saving.{saved};
 ghost use Rattle.pstore_records.specs.Tables.{numbers_rise, zones_counted};
@@ -13,7 +13,7 @@ use crate::zones::{found_at, is_kind};
 use dump_records::read_line;
 use prz_read::Logs;
 use std::alloc::{AllocError, Global};
-use zone_params::types::Layout;
+use ramoops_layout::types::Layout;
 use zone_spec::{Kind, Name, ZoneName};
 
 /// Whether the layout has room for the log of zone `i`, if that zone was found and is not forgotten.

@@ -1,7 +1,7 @@
 // The listed records as a move to another layout tells of them.
 ghost use Rattle.std.specs.Prelude.{◌≡◌, ◌<◌, [], ◌∷◌, ◌++◌, length, map, slice_get, Some, option_to_list, IfOk, OnOk};
 ghost use Rattle.zone_spec.specs.Records.{Saved, dumps_of, plain, ftrace_of, logs_of, listed_of};
-ghost use Rattle.zone_params.specs.Laid.{zones_of};
+ghost use Rattle.ramoops_layout.specs.Laid.{zones_of};
 ghost use Rattle.machine_spec.specs.Moved.{fits};
 ghost use Rattle.prz_read.specs.Saving.{saved};
 ghost use Rattle.pstore_records.specs.Counts.{corrected_in, bad_in};
@@ -15,7 +15,7 @@ use crate::table::{dump_counts, numbers_rise};
 use crate::zones::{dump_in, first_log, log_at};
 use prz_read::Logs;
 use std::alloc::{AllocError, Global};
-use zone_params::types::Layout;
+use ramoops_layout::types::Layout;
 use zone_spec::{Kind, Name};
 
 /// What is told of a record: its name, the length in bytes of its content without a notice, what its zones count, and

@@ -3,7 +3,7 @@ use Rattle.std.proofs.Common.{◌≡◌, ℕ, zero, suc, ◌+◌, ◌-◌, ◌<�
 use Rattle.std.specs.List.{range_with_len}
 use Rattle.std.proofs.lemmas.List.{append_assoc, append-nil}
 use Rattle.std.proofs.lemmas.Grind.{flat_map-append}
-use Rattle.zone_params.proofs.LaidOut.{drop_next}
+use Rattle.ramoops_layout.proofs.LaidOut.{drop_next}
 use Rattle.script_spec.specs.Generated.{Drawn, draw_each, joined}
 
 -- what is drawn, end to end, is these and then the rest

@@ -2,7 +2,7 @@
 use Rattle.std.proofs.Common.{◌≡◌, ℕ, zero, suc, ◌+◌, ◌<◌, ◌≤◌, true, false, nat_lt, List, [], ◌∷◌, length, drop, get_or, fold, refl, sym, ap, ◌∙◌, arith, slice_index, bit_xor}
 use Rattle.std.proofs.lemmas.Bool.{lt-ltb, le-ltb}
 use Rattle.std.proofs.lemmas.List.{length-set}
-use Rattle.zone_params.proofs.LaidOut.{drop_next}
+use Rattle.ramoops_layout.proofs.LaidOut.{drop_next}
 use Rattle.zone_spec.specs.declared.Zone.{Zone}
 use Rattle.machine_spec.specs.States.{OffState, Off}
 use Rattle.machine_spec.specs.Off.{flipped}

@@ -3,7 +3,7 @@ ghost use Rattle.std.specs.Prelude.{◌≡◌, ◌++◌, List, length, replicate
 ghost use Rattle.zone_spec.specs.declared.Zone.{Zone};
 ghost use Rattle.machine_spec.specs.States.{Session};
 ghost use Rattle.machine_spec.specs.Stop.{session_image};
-ghost use Rattle.zone_params.specs.Laid.{params_of, zones_of};
+ghost use Rattle.ramoops_layout.specs.Laid.{params_of, zones_of};
 ghost use Rattle.script_spec.specs.Generated.{generated, summary as summary_of};
 ghost use Rattle.ram_generator.specs.Counting.{counted, counts_text};
 
@@ -14,7 +14,7 @@ use itoa::Buffer;
 use outside::Bytes;
 use ramoops::Off;
 use std::alloc::{AllocError, Global};
-use zone_params::types::Layout;
+use ramoops_layout::types::Layout;
 
 fn zeros(alloc: Global, count: u32) -> Result<Bytes, AllocError>
     ensures { IfOk result (λ bytes. bytes ≡ replicate count 0) }

@@ -5,7 +5,7 @@ ghost use Rattle.zone_spec.specs.Records.{is_of};
 ghost use Rattle.zone_spec.specs.declared.Kind.TheVariants.{Dump as DumpKind};
 ghost use Rattle.ramoops.specs.Asks.{ask_seen, CanBeAsked};
 ghost use Rattle.script_spec.specs.Generated.{rings as rings_in, draw_each, joined, drawn_dump, drawn_turn, drawn_cut};
-ghost use Rattle.zone_params.specs.Laid.{zones_of};
+ghost use Rattle.ramoops_layout.specs.Laid.{zones_of};
 ghost use Rattle.ram_generator.specs.Damage.{IsWithin};
 ghost use Rattle.ram_generator.specs.Turns.{turn_of, TurnCanBeAsked, cut_of, AreTargets};
 
@@ -13,7 +13,7 @@ use crate::Draws;
 use outside::Bytes;
 use ramoops::Ask;
 use std::alloc::{AllocError, Global};
-use zone_params::types::Layout;
+use ramoops_layout::types::Layout;
 use zone_spec::{Kind, Time, Zone, ZoneName};
 
 /// The zones that calls are drawn for: the rings, and whether there are dump zones.

@@ -38,7 +38,7 @@ use Rattle.ramoops.specs.OffSeen.{OffSeen, shown_cut, known_all, StandsForKnown,
 use Rattle.ramoops.specs.LiveSeen.{LiveSeen, StandsForZone, StandsLive}
 use Rattle.ramoops.specs.Running.{IsHeld, IsRunning}
 use Rattle.ramoops.specs.Reports.{report_seen, report_cut, report_zone}
-use Rattle.zone_params.specs.Laid.{params_of, zones_of}
+use Rattle.ramoops_layout.specs.Laid.{params_of, zones_of}
 use Rattle.ramoops.specs.declared.off.OpenOff.{OpenOff}
 use Rattle.ramoops.specs.declared.booting.Prepared.{Prepared}
 use Rattle.ramoops.specs.Booting.{SpansFit, held_after, PreparesTo, AreLogs, SettlesTo, IsOpen, seen_off}

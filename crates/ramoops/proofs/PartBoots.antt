@@ -44,7 +44,7 @@ use Rattle.ramoops.specs.declared.zones.HeldZone.{HeldZone}
 use Rattle.ramoops.specs.declared.known.KnownZone.{KnownZone}
 use Rattle.ramoops.specs.SeenCut.{cut_of_erasure}
 use Rattle.ramoops.specs.OffSeen.{OffSeen, shown_cut, known_all, StandsForKnown, StandsOff}
-use Rattle.zone_params.specs.Laid.{params_of, zones_of}
+use Rattle.ramoops_layout.specs.Laid.{params_of, zones_of}
 use Rattle.ramoops.specs.declared.off.OpenOff.{OpenOff}
 use Rattle.ramoops.specs.declared.booting.Prepared.{Prepared}
 use Rattle.ramoops.specs.Booting.{held_after, PreparesTo, IsOpen}

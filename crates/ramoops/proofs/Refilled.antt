@@ -16,7 +16,7 @@ use Rattle.zone_spec.specs.declared.Kind.{Kind}
 use Rattle.zone_spec.specs.Reading.{ZoneReading}
 use Rattle.zone_spec.specs.Records.{Saved, is_of, found}
 use Rattle.zone_spec.specs.Layouts.{is_zone, zone_place}
-use Rattle.zone_params.specs.Laid.{NamesDiffer}
+use Rattle.ramoops_layout.specs.Laid.{NamesDiffer}
 use Rattle.machine_spec.specs.States.{Flight, LiveZone, LiveState}
 use Rattle.machine_spec.specs.LiveZones.{flies_dump, with_zone}
 use Rattle.machine_spec.specs.Moved.{is_blank, with_log, found_of, refilled}

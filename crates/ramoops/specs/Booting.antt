@@ -10,7 +10,7 @@ use Rattle.prz_read.specs.Saving.{SavedLogs}
 use Rattle.prz_region.specs.CutRegion.{CutRegion, span, cut_at}
 use Rattle.zone_spec.specs.Parts.{AreBytes}
 use Rattle.zone_spec.specs.Layouts.{IsLayout}
-use Rattle.zone_params.specs.Laid.{params_of, zones_of}
+use Rattle.ramoops_layout.specs.Laid.{params_of, zones_of}
 use Rattle.ramoops.specs.OffSeen.{OffSeen, known_all}
 use Rattle.ramoops.specs.Resting.{IsResting}
 use Rattle.ramoops.specs.LiveSeen.{LiveSeen}

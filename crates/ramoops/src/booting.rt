@@ -4,7 +4,7 @@ ghost use Rattle.zone_spec.specs.Zones.{IsValidZone};
 ghost use Rattle.zone_spec.specs.Reading.{zone_reading};
 ghost use Rattle.zone_spec.specs.Stores.{after_stores};
 ghost use Rattle.zone_spec.specs.Boot.{keeps as keeps_zone, boot_stores, boot_fixes};
-ghost use Rattle.zone_params.specs.Laid.{zones_of};
+ghost use Rattle.ramoops_layout.specs.Laid.{zones_of};
 ghost use Rattle.prz_region.specs.CutRegion.{span, with_span};
 ghost use Rattle.circular_buffer.specs.Buffer.{buffer};
 ghost use Rattle.ramoops.specs.OffSeen.{known_all};
@@ -20,7 +20,7 @@ use crate::zones::HeldZone;
 use prz_read::{Logs, Reading, Settled, keeps, read_zone, read_zone_by, settle, settle_by};
 use prz_region::{Span, Spans};
 use std::alloc::{AllocError, Global};
-use zone_params::types::Layout;
+use ramoops_layout::types::Layout;
 use zone_spec::{Words, Zone};
 
 /// All that a boot reads and takes before its first store: the logs, the reports, the told lists of the zones, and

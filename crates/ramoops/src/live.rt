@@ -1,7 +1,7 @@
 // The machine while it is live.
 ghost use Rattle.std.specs.Prelude.{◌≡◌, ◌<◌, ℕ, true, false, List, [], map, ◌≤◌, ◌^◌, Some, None, length, slice_get, is_some, ◌||◌, ◌+◌, Ok, Err, IfOk, IfErr, IfSome, OnOk, OnErr, ◌↔◌};
 ghost use Rattle.zone_spec.specs.Layouts.{zone_place};
-ghost use Rattle.zone_params.specs.Laid.{zones_of, NamesDiffer};
+ghost use Rattle.ramoops_layout.specs.Laid.{zones_of, NamesDiffer};
 ghost use Rattle.machine_spec.specs.States.{LiveState};
 ghost use Rattle.machine_spec.specs.LiveCalls.{asked_name, begin as begins, step as steps, finish as finishes, make as makes};
 ghost use Rattle.ramoops.specs.Asks.{ask_seen, CanBeAsked};
@@ -32,7 +32,7 @@ use prz_region::Spans;
 use prz_write::Step;
 use std::alloc::Global;
 use std::marker::Model;
-use zone_params::types::Layout;
+use ramoops_layout::types::Layout;
 use zone_spec::{CallKind, Kind, Refusal, Zone, ZoneName};
 
 /// A live store: calls are begun in its zones, and made one store at a time in any order.
@@ -51,7 +51,7 @@ pub struct Live {
 }
 
 impl Model for Live {
-    ghost use Rattle.zone_params.specs.Laid.{params_of, zones_of};
+    ghost use Rattle.ramoops_layout.specs.Laid.{params_of, zones_of};
     ghost use Rattle.ramoops.specs.LiveSeen.{LiveSeen};
 
     ghost Value = { LiveSeen };

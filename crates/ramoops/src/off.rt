@@ -2,7 +2,7 @@
 ghost use Rattle.std.specs.Prelude.{◌≡◌, ◌≤◌, ◌<◌, ◌^◌, ◌++◌, ℕ, List, [], length, map, IfOk, IfErr, OnOk, OnErr, IsOk};
 ghost use Rattle.zone_spec.specs.declared.Zone.{Zone as AZone};
 ghost use Rattle.zone_spec.specs.Layout.{rounded};
-ghost use Rattle.zone_params.specs.Laid.{params_of, zones_of};
+ghost use Rattle.ramoops_layout.specs.Laid.{params_of, zones_of};
 ghost use Rattle.machine_spec.specs.States.{OffState};
 ghost use Rattle.machine_spec.specs.Off.{fresh as fresh_state, flipped};
 ghost use Rattle.machine_spec.specs.Boot.{booted};
@@ -28,7 +28,7 @@ use prz_read::Logs;
 use prz_region::{Region, Spans};
 use std::alloc::{AllocError, Global};
 use std::marker::Model;
-use zone_params::types::Layout;
+use ramoops_layout::types::Layout;
 use zone_spec::Refusal;
 
 /// A store that is off: its image can be damaged, and booted.
@@ -44,7 +44,7 @@ pub struct Off {
 impl Model for Off {
     ghost use Rattle.std.specs.Prelude.{◌≡◌, ◌≤◌, length};
     ghost use Rattle.zone_spec.specs.Layout.{rounded};
-    ghost use Rattle.zone_params.specs.Laid.{params_of, zones_of};
+    ghost use Rattle.ramoops_layout.specs.Laid.{params_of, zones_of};
     ghost use Rattle.ramoops.specs.OffSeen.{OffSeen, known_all};
     ghost use Rattle.ramoops.specs.Resting.{IsResting};
 

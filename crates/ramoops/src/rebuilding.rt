@@ -4,7 +4,7 @@ ghost use Rattle.zone_spec.specs.Records.{Saved, found};
 ghost use Rattle.zone_spec.specs.Reading.{ZoneReading};
 ghost use Rattle.std.specs.Option.{option_copied};
 ghost use Rattle.zone_spec.specs.Told.{Append};
-ghost use Rattle.zone_params.specs.Laid.{params_of, zones_of};
+ghost use Rattle.ramoops_layout.specs.Laid.{params_of, zones_of};
 ghost use Rattle.machine_spec.specs.ZoneCalls.{begun};
 ghost use Rattle.machine_spec.specs.Moved.{with_log, moved};
 ghost use Rattle.move_laws.specs.Moves.{LogsFit};
@@ -25,7 +25,7 @@ use outside::Bytes;
 use prz_read::{Logs, Reading};
 use prz_write::Call;
 use std::alloc::{AllocError, Global};
-use zone_params::types::Layout;
+use ramoops_layout::types::Layout;
 use zone_spec::State;
 
 // So many zero bytes.

@@ -10,7 +10,7 @@ use Rattle.std.specs.List.{list_any}
 use Rattle.std.proofs.lemmas.List.Sums.{fold_more}
 use Rattle.std.proofs.lemmas.Bool.Decides.{nat_tests}
 use Rattle.zone_spec.specs.declared.Time.{Time}
-use Rattle.zone_params.proofs.Faultless.{or_clear}
+use Rattle.ramoops_layout.proofs.Faultless.{or_clear}
 use Rattle.report_spec.specs.Packed.{RecordShown}
 use Rattle.report_spec.specs.Newest.{is_later, later_than, is_newer, newer_of, newest}
 

@@ -3,7 +3,7 @@ ghost use Rattle.std.specs.Prelude.{◌≡◌, ◌<◌, ◌^◌, ℕ, Some, leng
 ghost use Rattle.zone_spec.specs.declared.Zone.{Zone as ZoneValue};
 ghost use Rattle.zone_spec.specs.Zones.{IsValidZone};
 ghost use Rattle.zone_spec.specs.Layouts.{IsLayout};
-ghost use Rattle.zone_params.specs.Laid.{params_of, zones_of};
+ghost use Rattle.ramoops_layout.specs.Laid.{params_of, zones_of};
 ghost use Rattle.prz_read.specs.Saving.{AreNumbered};
 ghost use Rattle.record_report.specs.Reports.{SpansFit, ReadsTo, IsReport};
 
@@ -15,7 +15,7 @@ use pstore_records::held_records;
 use std::alloc::{AllocError, Global};
 use std::marker::Model;
 use symbols::Symbols;
-use zone_params::types::Layout;
+use ramoops_layout::types::Layout;
 use zone_spec::Zone;
 
 /// What an image holds.

@@ -4,8 +4,8 @@ use record_report::{Report, report_of};
 use std::alloc::Global;
 use std::test::Fail;
 use symbols::Symbols;
-use zone_params::types::Layout;
-use zone_params::{Params, layout};
+use ramoops_layout::types::Layout;
+use ramoops_layout::{Params, layout};
 
 /// What zlib makes of the text `Panic#1 Part1`, a newline, `red `, an escape, `\\<b>` and a newline.
 pub const WHOLE: [u8; 26] = [

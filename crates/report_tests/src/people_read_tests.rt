@@ -6,7 +6,7 @@ use report_text::text;
 use std::alloc::Global;
 use std::test::Fail;
 use symbols::Symbols;
-use zone_params::{Params, layout};
+use ramoops_layout::{Params, layout};
 use zone_spec::Name;
 
 // The end of an entry that was overwritten, and two entries.

@@ -6,7 +6,7 @@ use record_report::*;
 use std::alloc::Global;
 use std::test::Fail;
 use symbols::Symbols;
-use zone_params::{Params, layout};
+use ramoops_layout::{Params, layout};
 use zone_spec::Name;
 
 const HEADER_OF_3: [u8; 12] = [0x44, 0x42, 0x47, 0x43, 3, 0, 0, 0, 3, 0, 0, 0];

@@ -6,7 +6,7 @@ use record_report::report_of;
 use report_html::*;
 use std::test::Fail;
 use symbols::Symbols;
-use zone_params::{Params, layout};
+use ramoops_layout::{Params, layout};
 
 #[test]
 fn escaped_rows(rt: HostRuntime) -> Result<(), Fail> {

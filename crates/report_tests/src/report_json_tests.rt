@@ -7,7 +7,7 @@ use report_json::*;
 use std::alloc::Global;
 use std::test::Fail;
 use symbols::Symbols;
-use zone_params::{Params, layout};
+use ramoops_layout::{Params, layout};
 
 // The line of an image of one console zone, whose record is this text.
 fn line_of(alloc: Global, text: &[u8]) -> Result<String, Fail> {

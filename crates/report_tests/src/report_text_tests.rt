@@ -7,7 +7,7 @@ use report_text::text;
 use std::alloc::Global;
 use std::test::Fail;
 use symbols::Symbols;
-use zone_params::{Params, layout};
+use ramoops_layout::{Params, layout};
 
 // A dump of 4096 bytes, and a console.
 const PARAMS: Params = Params {

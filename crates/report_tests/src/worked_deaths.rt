@@ -4,8 +4,8 @@ use record_report::{Report, report_of};
 use std::alloc::Global;
 use std::test::Fail;
 use symbols::Symbols;
-use zone_params::types::Layout;
-use zone_params::{Params, layout};
+use ramoops_layout::types::Layout;
+use ramoops_layout::{Params, layout};
 
 /// Lines of a dump that a real kernel made after an oops. It names a place in the code, which is of that oops.
 pub const PANIC: &[u8] = b"====1795736654.688627-D\nPanic#8 Part1\n\

@@ -4,7 +4,7 @@ use Rattle.zone_spec.specs.declared.Zone.{Zone}
 use Rattle.zone_spec.specs.declared.params.Params.{Params}
 use Rattle.zone_spec.specs.Layouts.{IsLayout}
 use Rattle.zone_spec.specs.Layout.{layout_of}
-use Rattle.zone_params.proofs.WholeLayout.{whole_layout, layout_mem_small}
+use Rattle.ramoops_layout.proofs.WholeLayout.{whole_layout, layout_mem_small}
 use Rattle.prz_read.specs.Saving.{AreNumbered}
 use Rattle.prz_read.proofs.Saves.{layout-few}
 use Rattle.prz_read.proofs.Numbered.{numbers-small}

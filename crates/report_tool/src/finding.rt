@@ -2,7 +2,7 @@
 ghost use Rattle.std.specs.Prelude.{◌≡◌, ◌≤◌, IfOk, IfErr, IfSome, MatchResult, take};
 ghost use Rattle.zone_spec.specs.Layout.{layout_of};
 ghost use Rattle.zone_spec.specs.Numbers.{most_memory};
-ghost use Rattle.zone_params.specs.Layouts.{IsCause};
+ghost use Rattle.ramoops_layout.specs.Layouts.{IsCause};
 ghost use Rattle.layout_spec.specs.Laid.{params_of};
 ghost use Rattle.layout_search.specs.Answers.{IsAnswer};
 ghost use Rattle.command_spec.specs.declared.Stop.TheVariants.{ImageFault};
@@ -16,9 +16,9 @@ ghost use Rattle.report_tool.specs.Plans.{IsLaid};
 use crate::{Plan, Stop};
 use layout_search::{Candidate, Found, Known, params, search};
 use outside::Load;
+use ramoops_layout::{LayoutError, given, parity_given};
 use std::alloc::Global;
 use tool_frame::load_front;
-use zone_params::{LayoutError, given, parity_given};
 
 /// A layout has at most so many bytes.
 const MOST: u32 = 16_777_216;

@@ -1,13 +1,13 @@
 // How images are read.
 ghost use Rattle.std.specs.Prelude.{◌≡◌, ◌<◌, ◌^◌, Ok, MatchResult};
 ghost use Rattle.zone_spec.specs.Layout.{layout_of};
-ghost use Rattle.zone_params.specs.Layouts.{IsCause};
+ghost use Rattle.ramoops_layout.specs.Layouts.{IsCause};
 ghost use Rattle.report_tool.specs.Layouts.{read_by};
 
 use grammar_spec::ParamFault;
+use ramoops_layout::{DEFAULTS, LayoutError, layout, read_words, read_words_over};
 use std::alloc::Global;
 use symbols::Symbols;
-use zone_params::{DEFAULTS, LayoutError, layout, read_words, read_words_over};
 use zone_spec::{LayoutFault, Params, Zone};
 
 /// How many lines of the newest dump a text has, unless others are asked for.
@@ -113,7 +113,7 @@ impl Plan {
         }
     }
 
-    /// The plan of these words (`key=value`, as `zone_params::read_words` reads them). `is_as_given` takes a memory
+    /// The plan of these words (`key=value`, as `ramoops_layout::read_words` reads them). `is_as_given` takes a memory
     /// size that is no power of two as it is, as the kernel does; else it is rounded down.
     pub fn new(alloc: Global, words: &[String], is_as_given: bool) -> Result<Plan, PlanFault>
         ensures { MatchResult result (IsPlan words.now is_as_given) (IsPlanFault words.now is_as_given) }

@@ -11,8 +11,8 @@ ghost use Rattle.report_tool.specs.Trees.{numbers_found, only_numbers, numbers_m
 use crate::Plan;
 use dtb::{DtbError, Fault, Node, Numbers, ramoops_nodes};
 use grammar_spec::ParamFault;
+use ramoops_layout::{LayoutError, given, read_words_over};
 use std::alloc::Global;
-use zone_params::{LayoutError, given, read_words_over};
 use zone_spec::{LayoutFault, Params};
 
 /// Why a device tree gives no plan.

@@ -1,6 +1,6 @@
 // The scan of a dump.
 ghost use Rattle.std.specs.Prelude.{◌≡◌, ◌+◌, ◌*◌, ◌/◌, ◌≤◌, ◌<◌, ◌^◌, ◌∷◌, [], length, drop, filter_map, slice_get, Some, None, Ok, IfOk, is_some, ◌==◌, ◌&&◌, ◌%◌, MatchOption, MatchResult, IfSome};
-ghost use Rattle.zone_params.specs.Laid.{zones_of};
+ghost use Rattle.ramoops_layout.specs.Laid.{zones_of};
 ghost use Rattle.zone_spec.specs.Zones.{IsValidZone};
 ghost use Rattle.zone_spec.specs.Reading.{zone_reading};
 ghost use Rattle.salvage_spec.specs.Rings.{bytes_at, ring_at, rings, read_at};
@@ -13,7 +13,7 @@ use prz_region::Probe;
 use salvage_spec::{FoundRing, RingFault};
 use std::alloc::{AllocError, Global};
 use std::marker::Model;
-use zone_params::types::Layout;
+use ramoops_layout::types::Layout;
 use zone_spec::{Zone, ZoneName};
 
 /// A scan of a dump for the rings of a layout's shapes: the rings that are left to be listed.
@@ -29,7 +29,7 @@ pub struct Scan {
 }
 
 impl Model for Scan {
-    ghost use Rattle.zone_params.specs.Laid.{zones_of};
+    ghost use Rattle.ramoops_layout.specs.Laid.{zones_of};
     ghost use Rattle.salvage.specs.Scans.{Scanned, IsScan, rings_from};
 
     ghost Value = { Scanned };

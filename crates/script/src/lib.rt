@@ -4,6 +4,7 @@
 mod digits;
 mod fields;
 mod lines;
+pub mod pieces;
 mod printing;
 mod reading;
 mod rows;

@@ -5,8 +5,8 @@ use ram_session::{LineError, content_of, listing};
 use script_spec::Cause;
 use std::alloc::{AllocError, Global};
 use std::test::Fail;
-use zone_params::types::Layout;
-use zone_params::{Params, layout};
+use ramoops_layout::types::Layout;
+use ramoops_layout::{Params, layout};
 
 fn params(mem: u64, dump: u64, pmsg: u64, ecc: u64) -> Params {
     Params {

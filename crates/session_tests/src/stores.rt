@@ -5,8 +5,8 @@ use outside::Bytes;
 use ramoops::Off;
 use std::alloc::{AllocError, Global};
 use std::test::Fail;
-use zone_params::types::Layout;
-use zone_params::{layout, read_words};
+use ramoops_layout::types::Layout;
+use ramoops_layout::{layout, read_words};
 
 fn words(alloc: Global, line: &str) -> Result<Vec<String>, AllocError> {
     let mut words = Vec::new(alloc);

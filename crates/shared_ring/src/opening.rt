@@ -6,12 +6,12 @@ ghost use Rattle.zone_spec.specs.Zones.{IsValidZone};
 ghost use Rattle.zone_spec.specs.Parts.{standing_words};
 ghost use Rattle.machine_spec.specs.Zones.{zone_bytes};
 ghost use Rattle.shared_spec.specs.Machine.{CanShare};
-ghost use Rattle.zone_params.specs.Laid.{params_of, zones_of};
+ghost use Rattle.ramoops_layout.specs.Laid.{params_of, zones_of};
 ghost use Rattle.shared_spec.specs.Histories.{CanOpen};
 ghost use Rattle.shared_ring.specs.Seats.{IsOpenRing};
 
 use outside::Bytes;
-use zone_params::types::Layout;
+use ramoops_layout::types::Layout;
 use zone_spec::{Words, Zone, ZoneName};
 
 fn word(four: &[u8]) -> u32

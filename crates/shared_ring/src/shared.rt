@@ -5,7 +5,7 @@ ghost use Rattle.std.proofs.Common.{w32};
 ghost use Rattle.zone_spec.specs.Stores.{put};
 ghost use Rattle.prz_region.specs.CutRegion.{span, with_span};
 ghost use Rattle.zone_spec.specs.Parts.{standing_words};
-ghost use Rattle.zone_params.specs.Laid.{params_of, zones_of};
+ghost use Rattle.ramoops_layout.specs.Laid.{params_of, zones_of};
 ghost use Rattle.zone_spec.specs.Reading.{zone_reading};
 ghost use Rattle.machine_spec.specs.Zones.{zone_bytes};
 ghost use Rattle.shared_spec.specs.Calls.{open_count, open_call};
@@ -23,7 +23,7 @@ use prz_region::{CountedSpans, Region, RingWords};
 use shared_spec::{Next, NoCall, OpenCall, SharedRefusal};
 use std::alloc::AllocError;
 use std::marker::Model;
-use zone_params::types::Layout;
+use ramoops_layout::types::Layout;
 use zone_spec::{Words, Zone, ZoneName};
 
 /// How many calls can be open.

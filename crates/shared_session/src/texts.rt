@@ -4,9 +4,9 @@ ghost use Rattle.shared_spec.specs.Histories.{History, shared_zone};
 ghost use Rattle.shared_ring.specs.Seen.{IsLeftBy};
 ghost use Rattle.script_spec.specs.SharedScripts.{open_text, shared_text};
 
+use script::pieces::push_number;
 use shared_ring::{OpenCall, Shared};
 use std::alloc::{AllocError, Global};
-use text_pieces::push_number;
 
 fn push_open(text: &mut Vec<u8>, call: &OpenCall) -> Result<(), AllocError>
     ensures { OnOk result (text.new.items ≡ text.old.items ++ open_text call.now) }

@@ -5,8 +5,8 @@ use prz_read::{Logs, Reading, State, Words};
 use pstore_records::*;
 use std::alloc::{AllocError, Global};
 use std::test::Fail;
-use zone_params::types::Layout;
-use zone_params::{Params, layout};
+use ramoops_layout::types::Layout;
+use ramoops_layout::{Params, layout};
 
 fn params(dump: u64, console: u64, ftrace: u64, pmsg: u64, ecc: u64) -> Params {
     Params {

@@ -8,7 +8,7 @@ use prz_read::Logs;
 use ramoops::*;
 use std::process::Abort;
 use std::test::Fail;
-use zone_params::layout;
+use ramoops_layout::layout;
 use zone_spec::{Kind, Params, Time, ZoneName};
 
 const CONSOLE: ZoneName = ZoneName {

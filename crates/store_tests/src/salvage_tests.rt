@@ -3,7 +3,7 @@ use salvage::*;
 use std::alloc::{AllocError, Global};
 use std::process::Abort;
 use std::test::Fail;
-use zone_params::{Params, layout};
+use ramoops_layout::{Params, layout};
 use zone_spec::{Kind, Words, ZoneName};
 
 // Parameters with these sizes of dump, console and pmsg zones and this parity.

@@ -1,15 +1,15 @@
 // What no clause says: that the calls find memory, worked cases, and three calls in four orders, stopped after every
 // step.
 ghost use Rattle.std.specs.Prelude.{◌≡◌, length, IfOk};
-ghost use Rattle.zone_params.specs.Laid.{params_of};
+ghost use Rattle.ramoops_layout.specs.Laid.{params_of};
 
 use outside::Bytes;
 use shared_ring::{Next, OpenCall, Shared, SharedRefusal, can_open};
 use std::alloc::{AllocError, Global};
 use std::process::Abort;
 use std::test::Fail;
-use zone_params::types::Layout;
-use zone_params::{Params, layout};
+use ramoops_layout::types::Layout;
+use ramoops_layout::{Params, layout};
 use zone_spec::{Kind, ZoneName};
 
 const FTRACE: ZoneName = ZoneName {

@@ -6,8 +6,8 @@ use Rattle.grammar_spec.specs.declared.faults.ParamFault.{ParamFault}
 use Rattle.grammar_spec.specs.Words.{KeyTable, has_key, word_fault, first_fault, either, texts, ok_unless}
 use Rattle.grammar_spec.specs.ZoneWords.{keys, read_of, params_of}
 use Rattle.zone_spec.specs.declared.params.Params.{Params}
-use Rattle.param_words.proofs.WordLaws.{Words}
-use Rattle.param_words.proofs.Apart.{passing, keys_in, apart, next_fault}
+use Rattle.ramoops_layout.proofs.WordLaws.{Words}
+use Rattle.ramoops_layout.proofs.Apart.{passing, keys_in, apart, next_fault}
 
 item : (words : Words) (i : ℕ) → i < length words → (w : String Global) × (w ≡ get_or words i w)
 item [] i h = absurd (omega (arith, h))

@@ -3,8 +3,8 @@ use Rattle.std.specs.Prelude.{◌≡◌, ⊤, false, List, map, string_bytes, Re
 use Rattle.std.specs.declared.string.String.{String}
 use Rattle.std.specs.declared.alloc.Global.{Global}
 use Rattle.blk_spec.specs.Layout.{IsLayout}
-use Rattle.zone_params.specs.declared.types.Layout.{Layout}
-use Rattle.zone_params.specs.Laid.{params_of, zones_of}
+use Rattle.ramoops_layout.specs.declared.types.Layout.{Layout}
+use Rattle.ramoops_layout.specs.Laid.{params_of, zones_of}
 use Rattle.grammar_spec.specs.Fields.{Text}
 use Rattle.command_spec.specs.Commands.{RamCommand, Run, ListRecords, Extract, Erase, ShowLayout, Blank, Make, SharedRun, Salvage, Rescue, Command, OnRam, BlkRun, Move, Asked, RamPlan, Laid, MovePlan, Plan, OfRam, OfBlk, OfMove}
 use Rattle.script_spec.specs.SharedScripts.{lacks_plain_ftrace}

@@ -8,8 +8,8 @@ use crate::{Cause, Stop};
 use arrayvec::ArrayString;
 use itoa::Buffer;
 use outside::{Failed, Sink};
+use ramoops_layout::{LayoutFault, ParamFault};
 use script_spec::LineStop;
-use zone_params::{LayoutFault, ParamFault};
 
 fn push_number(text: &mut ArrayString<128>, n: u64)
     requires { array_string_len text.old + 20 ≤ 128 }

@@ -6,10 +6,10 @@ ghost use Rattle.tool_frame.specs.Words.{asked_seen, plan_seen, ram_command_seen
 
 use crate::Stop;
 use crate::asked::{Asked, Command};
-use blk_params::{BlkLayout, blk_layout, read_blk_words};
+use ramoops_layout::types::Layout;
+use ramoops_layout::{LayoutError, Params, ZoneName, layout, read_words};
 use std::alloc::Global;
-use zone_params::types::Layout;
-use zone_params::{LayoutError, Params, ZoneName, layout, read_words};
+use zone_blk::{BlkLayout, blk_layout, read_blk_words};
 
 /// A command on an image of the ram store, or on a memory dump that may hold its rings.
 #[derive(Clone, Copy, Debug, PartialEq, Eq)]

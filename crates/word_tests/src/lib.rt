@@ -2,12 +2,12 @@
 #![tactic(auto)]
 
 #[cfg(test)]
+mod cmdline_tests;
+#[cfg(test)]
+mod keys_tests;
+#[cfg(test)]
 mod outside_tests;
 #[cfg(test)]
-mod param_words_tests;
-#[cfg(test)]
-mod report_words_tests;
+mod params_tests;
 #[cfg(test)]
 mod script_tests;
-#[cfg(test)]
-mod zone_params_tests;

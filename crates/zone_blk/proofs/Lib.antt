@@ -10,3 +10,4 @@ pub mod Clearing
 pub mod Contents
 pub mod DumpWrite
 pub mod Called
+pub mod LayoutLaws

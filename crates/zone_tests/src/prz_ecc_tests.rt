@@ -8,8 +8,8 @@ use prz_ecc::{
     Coder, Decoded, Fix, are_codewords, block_parity, header_parity, read_block, read_header,
 };
 use std::test::Fail;
-use zone_params::types::Layout;
-use zone_params::{Params, layout};
+use ramoops_layout::types::Layout;
+use ramoops_layout::{Params, layout};
 use zone_spec::Zone;
 
 const PARAMS: Params = Params {

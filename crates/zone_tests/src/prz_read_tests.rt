@@ -6,8 +6,8 @@ use report_spec::PartState;
 use std::alloc::{AllocError, Global};
 use std::process::Abort;
 use std::test::Fail;
-use zone_params::types::Layout;
-use zone_params::{Params, layout};
+use ramoops_layout::types::Layout;
+use ramoops_layout::{Params, layout};
 use zone_spec::{Kind, Zone, ZoneName};
 
 const SIGNATURE: [u8; 4] = [0x44, 0x42, 0x47, 0x43];

@@ -11,8 +11,8 @@ use prz_region::Spans;
 use std::process::Abort;
 use std::test::Fail;
 use zone_boot::{Boot, BootStore, Given, copy_log, read_summary};
-use zone_params::Params;
-use zone_params::types::Layout;
+use ramoops_layout::Params;
+use ramoops_layout::types::Layout;
 use zone_spec::Zone;
 
 fn assert_summary(rt: &impl Abort, table: &[u128], image: &[u8], zone: &Zone, reading: &Reading)

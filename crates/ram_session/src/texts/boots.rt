@@ -9,8 +9,8 @@ ghost use Rattle.script_spec.specs.Texts.{newline, state_text, verdict_text, boo
 
 use prz_read::{Logs, Reading, State};
 use ramoops::{CallKind, Cut, HeaderSeen, Report, Verdict, ZoneReport};
+use script::pieces::{push_number, push_zone};
 use std::alloc::{AllocError, Global};
-use text_pieces::{push_number, push_zone};
 use zone_spec::ZoneName;
 
 fn state_word(state: State) -> &'static str

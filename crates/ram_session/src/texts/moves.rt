@@ -1,6 +1,6 @@
 // What a move tells of each record.
 ghost use Rattle.std.specs.Prelude.{◌≡◌, ◌++◌, if◌then◌else◌, codes, flat_map, IfOk, OnOk};
-ghost use Rattle.zone_params.specs.Laid.{zones_of};
+ghost use Rattle.ramoops_layout.specs.Laid.{zones_of};
 ghost use Rattle.prz_read.specs.Saving.{saved};
 ghost use Rattle.script_spec.specs.Texts.{move_text};
 ghost use Rattle.ram_session.specs.Entries.{told_text};
@@ -8,9 +8,9 @@ ghost use Rattle.ram_session.specs.Entries.{told_text};
 use super::records::push_named;
 use prz_read::Logs;
 use pstore_records::{Move, moves};
+use ramoops_layout::types::Layout;
+use script::pieces::push_number;
 use std::alloc::{AllocError, Global};
-use text_pieces::push_number;
-use zone_params::types::Layout;
 
 // What becomes of a record that fits, or does not.
 fn fate(fits: bool) -> &'static str

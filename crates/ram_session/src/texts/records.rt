@@ -10,8 +10,8 @@ ghost use Rattle.ram_session.specs.Entries.{entry_text, IsText};
 use arrayvec::ArrayString;
 use prz_read::Logs;
 use pstore_records::{ContentFault, Entry, Name, Time, content, listed, name_text};
+use script::pieces::{extracted, push_number, push_padded, push_record, push_seconds};
 use std::alloc::{AllocError, Global};
-use text_pieces::{extracted, push_number, push_padded, push_record, push_seconds};
 
 // Six digits, or more where the number needs them.
 fn push_micros(text: &mut Vec<u8>, micros: u32) -> Result<(), AllocError>

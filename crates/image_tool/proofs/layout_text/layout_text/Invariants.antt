@@ -2,7 +2,7 @@
 -- of `layout_text`.
 use Rattle.std.proofs.Common.{◌≡◌, ◌++◌, drop, flat_map}
 use Rattle.command_spec.specs.Texts.{layout_line, layout_text}
-use Rattle.zone_params.specs.Laid.{params_of, zones_of}
+use Rattle.ramoops_layout.specs.Laid.{params_of, zones_of}
 use Rattle.image_tool.proofs.layout_text.layout_text.Given as goal
 
 -- the text so far, and then the lines of the zones that are left

@@ -1,7 +1,7 @@
 -- `move_image` ends as wanted at each return: no memory, text not printed, image written whole, or
 -- a front of it. `MoveEnds` has the cases.
 use Rattle.std.proofs.Common.{[], ◌∙◌, ℕ, ap₂, refl, Err}
-use Rattle.zone_params.specs.Laid.{zones_of}
+use Rattle.ramoops_layout.specs.Laid.{zones_of}
 use Rattle.prz_read.specs.Saving.{saved}
 use Rattle.script_spec.specs.Texts.{move_text}
 use Rattle.tool_frame.specs.Words.{move_for}

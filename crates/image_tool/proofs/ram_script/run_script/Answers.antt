@@ -1,6 +1,6 @@
 -- How each stage of a script on an image ends it
 use Rattle.std.proofs.Common.{refl, ◌∙◌, arith, Err}
-use Rattle.zone_params.specs.Laid.{params_of, zones_of}
+use Rattle.ramoops_layout.specs.Laid.{params_of, zones_of}
 use Rattle.command_spec.specs.Commands.{Run}
 use Rattle.tool_frame.specs.Words.{plan_for}
 use Rattle.tool_frame.proofs.ReadParts.{read_whole}

@@ -1,6 +1,6 @@
 -- A scan of the front of a store
 use Rattle.std.proofs.Common.{ap, ◌∙◌, List, ℕ}
-use Rattle.zone_params.specs.Laid.{zones_of}
+use Rattle.ramoops_layout.specs.Laid.{zones_of}
 use Rattle.salvage_spec.specs.Rings.{rings}
 use Rattle.salvage.specs.Scans.{Scanned}
 use Rattle.image_tool.proofs.salvaging.read_dump.Goals as goal

@@ -1,7 +1,7 @@
 -- The bytes that `booted_image` gives are the image after one boot of a machine of which nothing
 -- is known, and have its size.
 use Rattle.std.proofs.Common.{refl}
-use Rattle.zone_params.specs.Laid.{params_of, zones_of}
+use Rattle.ramoops_layout.specs.Laid.{params_of, zones_of}
 use Rattle.machine_spec.specs.Off.{fresh}
 use Rattle.machine_spec.specs.Boot.{booted}
 use Rattle.image_tool.proofs.Shareable.{is_booted, is_booted_size}

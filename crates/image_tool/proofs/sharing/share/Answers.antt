@@ -1,7 +1,7 @@
 -- The lines on the zone that was opened
 use Rattle.std.proofs.Common.{ap, sym, subst, ◌∙◌}
 use Rattle.zone_spec.specs.declared.params.Params.{Params}
-use Rattle.zone_params.specs.Laid.{zones_of}
+use Rattle.ramoops_layout.specs.Laid.{zones_of}
 use Rattle.shared_session.specs.Left.{Plays}
 use Rattle.image_tool.proofs.Shareable.{share_done, share_stopped, opens_in, zone_in_both, opened_by}
 use Rattle.image_tool.proofs.sharing.share.Goals as goal

@@ -4,8 +4,8 @@ use Rattle.zone_spec.specs.declared.Zone.{Zone}
 use Rattle.zone_spec.specs.declared.params.Params.{Params}
 use Rattle.zone_spec.specs.Layouts.{IsLayout}
 use Rattle.zone_spec.specs.Layout.{layout_of}
-use Rattle.zone_params.specs.Laid.{params_of as params_in}
-use Rattle.zone_params.proofs.WholeLayout.{layout_mem_small, layout_short}
+use Rattle.ramoops_layout.specs.Laid.{params_of as params_in}
+use Rattle.ramoops_layout.proofs.WholeLayout.{layout_mem_small, layout_short}
 use Rattle.layout_spec.specs.Laid.{params_of}
 use Rattle.layout_search.proofs.LaidOut.{laid, faulty}
 use Rattle.layout_search.proofs.laying.zones_of.Goals as goal

@@ -1,6 +1,6 @@
 -- The answers are those of the first `i` zones. For the loop of `all_stay`.
 use Rattle.std.proofs.Common.{◌≡◌, map, take}
-use Rattle.zone_params.specs.Laid.{zones_of}
+use Rattle.ramoops_layout.specs.Laid.{zones_of}
 use Rattle.zone_spec.specs.Records.{Saved}
 use Rattle.prz_read.specs.Saving.{saved}
 use Rattle.pstore_records.specs.Moves.{stays}

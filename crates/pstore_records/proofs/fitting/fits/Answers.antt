@@ -2,7 +2,7 @@
 use Rattle.std.proofs.Common.{◌<◌, Bool, true, ◌&&◌, List, length, arith, sym, ap, ◌∙◌}
 use Rattle.std.proofs.lemmas.List.{take_all}
 use Rattle.zone_spec.specs.Records.{Saved}
-use Rattle.zone_params.specs.Laid.{zones_of}
+use Rattle.ramoops_layout.specs.Laid.{zones_of}
 use Rattle.machine_spec.specs.Moved.{fits}
 use Rattle.prz_read.specs.Saving.{saved}
 use Rattle.pstore_records.proofs.Moved.{fits-append, fits-all}

@@ -2,7 +2,7 @@
 -- `forget_unfit`.
 use Rattle.std.proofs.Common.{◌≡◌, ◌<◌, length, arith, ◌∙◌}
 use Rattle.zone_spec.specs.Records.{Saved}
-use Rattle.zone_params.specs.Laid.{zones_of}
+use Rattle.ramoops_layout.specs.Laid.{zones_of}
 use Rattle.prz_read.specs.Saving.{saved}
 use Rattle.pstore_records.specs.Moves.{stays}
 use Rattle.pstore_records.proofs.Steps.{item-at}

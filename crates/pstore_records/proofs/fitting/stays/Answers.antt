@@ -5,7 +5,7 @@ use Rattle.std.specs.Option.{option_map}
 use Rattle.zone_spec.specs.declared.ZoneName.{ZoneName}
 use Rattle.zone_spec.specs.declared.Kind.TheVariants.{Dump}
 use Rattle.zone_spec.specs.Records.{Saved, is_of}
-use Rattle.zone_params.specs.Laid.{zones_of}
+use Rattle.ramoops_layout.specs.Laid.{zones_of}
 use Rattle.prz_read.specs.Saving.{saved}
 use Rattle.pstore_records.proofs.Forgetting.{counted-stays}
 use Rattle.pstore_records.proofs.fitting.stays.Goals as goal

@@ -1,7 +1,7 @@
 -- The moves are those of the dumps of the first `i` zones. For the loop of `add_dumps`.
 use Rattle.std.proofs.Common.{◌≡◌, ◌++◌, take}
 use Rattle.prz_read.specs.Saving.{saved}
-use Rattle.zone_params.specs.Laid.{zones_of}
+use Rattle.ramoops_layout.specs.Laid.{zones_of}
 use Rattle.pstore_records.proofs.Moved.{dump_moves}
 use Rattle.pstore_records.proofs.moving.add_dumps.Given as goal
 

@@ -3,7 +3,7 @@ use Rattle.std.proofs.Common.{◌≡◌, ◌++◌, ◌<◌, length, arith}
 use Rattle.std.specs.Prelude.{option_to_list}
 use Rattle.std.proofs.lemmas.Grind.{common_steps}
 use Rattle.prz_read.specs.Saving.{saved}
-use Rattle.zone_params.specs.Laid.{zones_of}
+use Rattle.ramoops_layout.specs.Laid.{zones_of}
 use Rattle.pstore_records.proofs.Moved.{plain_moves, plain_moves-append}
 use Rattle.pstore_records.proofs.Steps.{collected-more, collected-all}
 use Rattle.pstore_records.proofs.moving.add_plain.Goals as goal

@@ -6,7 +6,7 @@ use Rattle.zone_spec.specs.declared.Zone.{Zone}
 use Rattle.zone_spec.specs.Layouts.{IsLayout}
 use Rattle.machine_spec.specs.Off.{fresh}
 use Rattle.ramoops.specs.OffSeen.{StandsOff}
-use Rattle.zone_params.specs.Laid.{params_of, zones_of}
+use Rattle.ramoops_layout.specs.Laid.{params_of, zones_of}
 use Rattle.script_spec.specs.Generated.{generated}
 use Rattle.ram_generator.specs.Sessions.{RunsIdle}
 use Rattle.ram_generator.proofs.WholeSession.{all_runs, image_left, text_left}

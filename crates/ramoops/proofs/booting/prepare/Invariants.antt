@@ -1,6 +1,6 @@
 -- Logs, reports and told lists of the first `i` zones are taken. For the loop of `prepare`.
 use Rattle.std.proofs.Common.{length}
-use Rattle.zone_params.specs.Laid.{zones_of}
+use Rattle.ramoops_layout.specs.Laid.{zones_of}
 use Rattle.ramoops.specs.OffSeen.{known_all}
 use Rattle.ramoops.specs.Booting.{PreparesTo}
 use Rattle.ramoops.proofs.booting.prepare.Given as goal

@@ -2,7 +2,7 @@
 -- all. For `read_logs`.
 use Rattle.std.proofs.Common.{◌≡◌, ℕ, List, get_or, slice_get, length, ap, subst, ◌∙◌, arith}
 use Rattle.zone_spec.specs.declared.Zone.{Zone}
-use Rattle.zone_params.specs.Laid.{zones_of}
+use Rattle.ramoops_layout.specs.Laid.{zones_of}
 use Rattle.prz_region.proofs.Cutting.{no_zone}
 use Rattle.ramoops.proofs.Preparing.{LogsTo, span_at, logs_none, logs_next, logs_whole}
 use Rattle.ramoops.proofs.booting.read_logs.Goals as goal

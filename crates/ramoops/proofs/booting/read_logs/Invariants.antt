@@ -1,5 +1,5 @@
 -- The logs are those of the first `i` zones. For the loop of `read_logs`.
-use Rattle.zone_params.specs.Laid.{zones_of}
+use Rattle.ramoops_layout.specs.Laid.{zones_of}
 use Rattle.ramoops.proofs.Preparing.{LogsTo}
 use Rattle.ramoops.proofs.booting.read_logs.Given as goal
 

@@ -1,7 +1,7 @@
 -- The boot stores of one zone more settle the spans one zone further. For `settle_all`.
 use Rattle.std.proofs.Common.{List, slice_get, ap, ◌∙◌, arith, rules}
 use Rattle.zone_spec.specs.declared.Zone.{Zone}
-use Rattle.zone_params.specs.Laid.{zones_of}
+use Rattle.ramoops_layout.specs.Laid.{zones_of}
 use Rattle.ramoops.proofs.Settling.{settles_next, next_zone, zone_is}
 use Rattle.ramoops.proofs.booting.settle_all.Goals as goal
 

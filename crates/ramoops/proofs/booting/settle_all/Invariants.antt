@@ -1,6 +1,6 @@
 -- The first `i` spans have their boot stores, the others stand as before. For the loop of
 -- `settle_all`.
-use Rattle.zone_params.specs.Laid.{zones_of}
+use Rattle.ramoops_layout.specs.Laid.{zones_of}
 use Rattle.ramoops.specs.Booting.{SettlesTo}
 use Rattle.ramoops.proofs.booting.settle_all.Given as goal
 

@@ -2,7 +2,7 @@
 -- of a boot cut there. For `settle_part`.
 use Rattle.std.proofs.Common.{◌≡◌, ◌≤◌, ℕ, List, length, slice_get, true, sym, ap, ◌∙◌, subst, arith, rules}
 use Rattle.zone_spec.specs.declared.Zone.{Zone}
-use Rattle.zone_params.specs.Laid.{zones_of}
+use Rattle.ramoops_layout.specs.Laid.{zones_of}
 use Rattle.ramoops.specs.declared.booting.Passed.{Passed}
 use Rattle.ramoops.specs.Parting.{PartsTo}
 use Rattle.ramoops.proofs.Settling.{next_zone, zone_is}

@@ -2,7 +2,7 @@
 -- the rest. For the loop of `settle_part`.
 use Rattle.std.proofs.Common.{◌≤◌, length}
 use Rattle.std.specs.Vec.{vec_capacity}
-use Rattle.zone_params.specs.Laid.{zones_of}
+use Rattle.ramoops_layout.specs.Laid.{zones_of}
 use Rattle.ramoops.specs.Parting.{PartsTo}
 use Rattle.ramoops.proofs.booting.settle_part.Given as goal
 

@@ -5,7 +5,7 @@ use Rattle.std.specs.Option.{option_map, option_copied}
 use Rattle.std.specs.Prelude.{slice_get, option_to_list}
 use Rattle.zone_spec.specs.declared.ZoneName.{ZoneName}
 use Rattle.zone_spec.specs.Records.{Saved}
-use Rattle.zone_params.specs.Laid.{NamesDiffer}
+use Rattle.ramoops_layout.specs.Laid.{NamesDiffer}
 use Rattle.ramoops.proofs.Refilled.{refills_none, refills_nowhere, refills_next}
 use Rattle.ramoops.proofs.rebuilding.refill.Goals as goal
 

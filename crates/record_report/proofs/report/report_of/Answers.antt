@@ -1,6 +1,6 @@
 -- A layout's zones are whole, few and numbered
 use Rattle.std.proofs.Common.{◌≡◌, sym, ap, subst, length, arith}
-use Rattle.zone_params.specs.Laid.{zones_of}
+use Rattle.ramoops_layout.specs.Laid.{zones_of}
 use Rattle.zone_spec.specs.Layouts.{IsLayout}
 use Rattle.prz_read.specs.Saving.{AreNumbered}
 use Rattle.prz_read.proofs.Saves.{layout-few}

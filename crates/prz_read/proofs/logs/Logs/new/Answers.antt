@@ -1,6 +1,6 @@
 -- A layout has few zones, and their numbers have 32 bits
 use Rattle.std.proofs.Common.{◌≡◌, ap, subst, length, arith, sym}
-use Rattle.zone_params.specs.Laid.{zones_of}
+use Rattle.ramoops_layout.specs.Laid.{zones_of}
 use Rattle.prz_read.specs.Saving.{AreNumbered}
 use Rattle.prz_read.proofs.Saves.{layout-few}
 use Rattle.prz_read.proofs.Numbered.{numbers-small}

@@ -1,6 +1,6 @@
 -- The pieces pushed in turn are the text of a move. For `move_text`.
 use Rattle.std.proofs.Common.{ℕ, ◌∙◌, ap₂, arith}
-use Rattle.zone_params.specs.Laid.{zones_of}
+use Rattle.ramoops_layout.specs.Laid.{zones_of}
 use Rattle.prz_read.specs.Saving.{saved}
 use Rattle.script_spec.specs.Texts.{move_text}
 use Rattle.ram_session.proofs.MoveTexts.{move-is}

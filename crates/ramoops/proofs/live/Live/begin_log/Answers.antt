@@ -1,6 +1,6 @@
 -- A log that is begun in a blank zone
 use Rattle.std.proofs.Common.{◌≡◌, ◌+◌, None, Some, get_or, set, slice_get, refl, arith}
-use Rattle.zone_params.specs.Laid.{zones_of}
+use Rattle.ramoops_layout.specs.Laid.{zones_of}
 use Rattle.prz_region.specs.CutRegion.{span}
 use Rattle.prz_region.proofs.Cutting.{no_zone}
 use Rattle.ramoops.specs.Places.{dump_flights}

@@ -1,6 +1,6 @@
 -- A flight stands in a dump zone exactly when more than none are counted. For `dump_flies`.
 use Rattle.std.proofs.Common.{nat_lt, ap, ◌∙◌}
-use Rattle.zone_params.specs.Laid.{zones_of}
+use Rattle.ramoops_layout.specs.Laid.{zones_of}
 use Rattle.ramoops.specs.LiveSeen.{LiveSeen}
 use Rattle.ramoops.specs.Places.{dump_flies}
 use Rattle.ramoops.proofs.DumpFlights.{some_flies}

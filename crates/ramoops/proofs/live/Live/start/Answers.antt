@@ -1,7 +1,7 @@
 -- A call that is begun in a free zone
 use Rattle.std.proofs.Common.{◌≡◌, ◌+◌, None, Some, get_or, set, slice_get, sym, subst, arith}
 use Rattle.zone_spec.specs.Calls.{CanBegin}
-use Rattle.zone_params.specs.Laid.{zones_of}
+use Rattle.ramoops_layout.specs.Laid.{zones_of}
 use Rattle.prz_region.specs.CutRegion.{span}
 use Rattle.prz_region.proofs.Cutting.{no_zone}
 use Rattle.ramoops.specs.Asks.{ask_seen}

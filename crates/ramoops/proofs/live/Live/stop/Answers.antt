@@ -1,7 +1,7 @@
 -- The machine that is off stands for the stopped state: joined image, told lists, and each flight
 -- as a cut. For `Live::stop`.
 use Rattle.std.proofs.Common.{◌≡◌, List, length, map, sym, ◌∙◌, subst, arith}
-use Rattle.zone_params.specs.Laid.{zones_of}
+use Rattle.ramoops_layout.specs.Laid.{zones_of}
 use Rattle.ramoops.specs.declared.known.KnownZone.{KnownZone}
 use Rattle.ramoops.specs.OffSeen.{known_all}
 use Rattle.ramoops.specs.Stopped.{stop_zone}

@@ -2,7 +2,7 @@
 -- dumps alone. For `Live::store`.
 use Rattle.std.proofs.Common.{◌≡◌, ◌+◌, ◌≤◌, Option, is_some, slice_get, sym, subst, ap, ◌∙◌}
 use Rattle.ramoops.specs.LiveSeen.{LiveSeen}
-use Rattle.zone_params.specs.Laid.{zones_of}
+use Rattle.ramoops_layout.specs.Laid.{zones_of}
 use Rattle.ramoops.specs.declared.zones.Stored.{Stored}
 use Rattle.ramoops.specs.Places.{dump_flight, flies_at}
 use Rattle.ramoops.specs.Storing.{is_next}

@@ -1,7 +1,7 @@
 -- The spans fit, each zone is read and settled, and the live machine stands for the booted state.
 -- On a refusal the machine is as it was.
 use Rattle.std.proofs.Common.{List, length, map, sym, ap, ◌∙◌, subst}
-use Rattle.zone_params.specs.Laid.{params_of, zones_of}
+use Rattle.ramoops_layout.specs.Laid.{params_of, zones_of}
 use Rattle.prz_read.specs.Saving.{saved}
 use Rattle.ramoops.specs.declared.report.ZoneReport.{ZoneReport}
 use Rattle.ramoops.specs.Reports.{report_seen}

@@ -3,7 +3,7 @@
 use Rattle.std.proofs.Common.{ℕ, List, length, sym, ap, ◌∙◌, subst, arith}
 use Rattle.std.specs.Prelude.{slice_index, slice_set, bit_xor}
 use Rattle.std.proofs.lemmas.List.{length-set}
-use Rattle.zone_params.specs.Laid.{params_of, zones_of}
+use Rattle.ramoops_layout.specs.Laid.{params_of, zones_of}
 use Rattle.ramoops.specs.OffSeen.{OffSeen, known_all, StandsOff}
 use Rattle.ramoops.proofs.Resting.{flipped_stands, flipped_rests}
 use Rattle.ramoops.proofs.off.Off.flip.Goals as goal

@@ -2,7 +2,7 @@
 use Rattle.std.proofs.Common.{ℕ, List, ap, length, subst, arith}
 use Rattle.zone_spec.specs.declared.Zone.{Zone}
 use Rattle.zone_spec.specs.Layouts.{IsLayout}
-use Rattle.zone_params.specs.Laid.{params_of, zones_of}
+use Rattle.ramoops_layout.specs.Laid.{params_of, zones_of}
 use Rattle.ramoops.specs.declared.known.KnownZone.{KnownZone}
 use Rattle.ramoops.specs.OffSeen.{known_all}
 use Rattle.ramoops.proofs.Listed.{all_len, none_listed}

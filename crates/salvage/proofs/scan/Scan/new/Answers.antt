@@ -1,6 +1,6 @@
 -- The layout's zones are valid, so they have shapes, and all rings are left. For `Scan::new`.
 use Rattle.std.proofs.Common.{List, ap, ◌∙◌}
-use Rattle.zone_params.specs.Laid.{zones_of}
+use Rattle.ramoops_layout.specs.Laid.{zones_of}
 use Rattle.zone_spec.specs.declared.Zone.{Zone}
 use Rattle.salvage_spec.specs.declared.FoundRing.{FoundRing}
 use Rattle.salvage_spec.specs.Rings.{shapes}

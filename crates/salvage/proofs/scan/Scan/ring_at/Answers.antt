@@ -1,7 +1,7 @@
 -- A place with no ring of the zone's shape is refused; one with a ring reads as the zone. For
 -- `Scan::ring_at`.
 use Rattle.std.proofs.Common.{refl}
-use Rattle.zone_params.specs.Laid.{zones_of}
+use Rattle.ramoops_layout.specs.Laid.{zones_of}
 use Rattle.salvage.proofs.Asked.{asked, named_valid, inside, read_ok, read_err, is_ok}
 use Rattle.salvage.proofs.scan.Scan.ring_at.Goals as goal
 

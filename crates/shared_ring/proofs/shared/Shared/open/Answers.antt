@@ -3,7 +3,7 @@ use Rattle.std.proofs.Common.{◌≡◌, ℕ, List, [], get_or, sym, ap, ap₂, 
 use Rattle.std.specs.Prelude.{slice_get}
 use Rattle.zone_spec.specs.declared.Zone.{Zone}
 use Rattle.zone_spec.specs.Layouts.{IsLayout}
-use Rattle.zone_params.specs.Laid.{params_of, zones_of}
+use Rattle.ramoops_layout.specs.Laid.{params_of, zones_of}
 use Rattle.prz_region.specs.CutRegion.{CutRegion, CountedRegion, cut_at}
 use Rattle.shared_ring.specs.declared.seats.Seat.{Seat}
 use Rattle.shared_ring.specs.Seen.{SharedSeen, IsWhole, IsLeftBy}

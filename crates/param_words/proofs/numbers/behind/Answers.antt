@@ -1,6 +1,0 @@
--- What stands after the front, if the text begins with it. For `behind`.
-use Rattle.param_words.proofs.Texts.{behind_front}
-use Rattle.param_words.proofs.numbers.behind.Goals as goal
-
-pub returns : goal.returns
-returns c = behind_front c.args.front.now c.args.text.now c.strip_prefix.result c.strip_prefix.ensures.cases

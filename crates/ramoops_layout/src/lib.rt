@@ -1,0 +1,21 @@
+//! The parameters of a store, read from words, and the layout of its zones.
+#![tactic(auto)]
+
+mod faults;
+mod finding;
+pub mod laws;
+mod laying;
+mod numbers;
+mod params;
+pub mod rows;
+pub mod types;
+mod words;
+
+pub use faults::LayoutError;
+pub use finding::{Found, find};
+pub use grammar_spec::ParamFault;
+pub use laying::{layout, list_zones};
+pub use numbers::number;
+pub use params::{DEFAULTS, given, parity_given, read_words, read_words_over};
+pub use words::Keys;
+pub use zone_spec::{Kind, LayoutFault, Params, Zone, ZoneName};

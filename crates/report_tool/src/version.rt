@@ -1,0 +1,75 @@
+// The ftrace tag of a kernel's version.
+ghost use Rattle.std.specs.Prelude.{◌≡◌, ◌==◌, [], ◌∷◌, ◌++◌, codes, decimal, OnOk};
+ghost use Rattle.std.specs.List.{before_first};
+ghost use Rattle.std.specs.Option.{option_map};
+ghost use Rattle.grammar_spec.specs.Numbers.{number_of};
+ghost use Rattle.grammar_spec.specs.Words.{texts};
+ghost use Rattle.report_tool.specs.Version.{version_code, code_of, split_at, release_of, tag_of};
+
+use ramoops_layout::number;
+use std::alloc::{AllocError, Global};
+
+// `LINUX_VERSION_CODE`: a patch level above 255 counts as 255.
+fn version_code(major: u32, minor: u32, patch: u32) -> Option<u32>
+    ensures { result ≡ version_code major minor patch }
+{
+    if major < 256 && minor < 256 {
+        Some(major * 65536 + minor * 256 + patch.min(255))
+    } else {
+        None
+    }
+}
+
+fn code_of(major: &str, minor: &str, patch: &str) -> Option<u32>
+    ensures { result ≡ code_of (number_of major.now) (number_of minor.now) (number_of patch.now) }
+{
+    version_code(number(major)?, number(minor)?, number(patch)?)
+}
+
+// What stands before the first point and behind it.
+fn split_at_point(text: &str) -> Option<(&str, &str)>
+    ensures { option_map (λ parts. (parts.0.now, parts.1.now)) result ≡ split_at 46 text.now }
+{
+    text.split_once('.')
+}
+
+// What stands before the first `+`, or all of the text.
+fn before_plus(text: &str) -> &str
+    ensures { result.now ≡ before_first (λ c. c == 43) text.now }
+{
+    match text.split_once('+') {
+        Some((front, _)) => front,
+        None => text,
+    }
+}
+
+// The version without what its builder added.
+fn release(version: &str) -> &str
+    ensures { result.now ≡ release_of version.now }
+{
+    match version.split_once('-') {
+        Some((release, _)) => before_plus(release),
+        None => before_plus(version),
+    }
+}
+
+/// The tag of the ftrace zones that a kernel of this version writes (`fs/pstore/ram.c`, `ramoops_probe`:
+/// `LINUX_VERSION_CODE`), or `None` where the text is no version. A version is `X.Y` or `X.Y.Z`, as `uname -r` prints
+/// it; what stands behind the first `-` or `+` is the builder's. X and Y are below 256.
+pub fn ftrace_tag(version: &str) -> Option<u32>
+    ensures { result ≡ tag_of version.now }
+{
+    let (major, rest) = split_at_point(release(version))?;
+    match split_at_point(rest) {
+        Some((minor, patch)) => code_of(major, minor, patch),
+        None => code_of(major, rest, "0"),
+    }
+}
+
+/// Adds the word that gives the ftrace zones this tag.
+pub fn add_tag(alloc: Global, words: &mut Vec<String>, tag: u32) -> Result<(), AllocError>
+    ensures { OnOk result (texts words.new.items ≡ texts words.old.items ++ (codes "ftrace_sig=" ++ decimal tag) ∷ []) }
+{
+    words.push(format!(in alloc; "ftrace_sig={tag}")?)?;
+    Ok(())
+}

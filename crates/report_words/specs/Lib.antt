@@ -1,2 +1,0 @@
-pub mod Cmdline
-pub mod Version

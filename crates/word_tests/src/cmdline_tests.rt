@@ -1,0 +1,129 @@
+// Worked command lines and versions.
+use report_tool::*;
+use std::alloc::Global;
+use std::test::Fail;
+
+fn shown(alloc: Global, line: &[u8]) -> Result<String, LineFault> {
+    let mut words = Vec::new(alloc);
+    add_layout_words(alloc, &mut words, line)?;
+    Ok(format!(in alloc; "{words:?}")?)
+}
+
+#[test]
+fn words_of_the_layout(rt: HostRuntime) -> Result<(), Fail> {
+    let mut words = Vec::new(rt.alloc());
+    let line =
+        b"BOOT_IMAGE=/vmlinuz ro ramoops.mem_address=0x8f000000 ramoops.mem_size=0x100000  ramoops.ecc=1 \
+ramoops.dump_oops=1 ramoops.mem_type ramoops.max_reason=2 quiet xramoops.ecc=2 ramoops.console_size=0x4000";
+    assert_eq!(rt; add_layout_words(rt.alloc(), &mut words, line), Ok(()));
+    add_tag(rt.alloc(), &mut words, 393408)?;
+    let shown = format!(in rt.alloc(); "{words:?}")?;
+    assert_eq!(rt;
+        shown.as_str(),
+        "[\"ramoops.mem_size=0x100000\", \"ramoops.ecc=1\", \"ramoops.console_size=0x4000\", \"ftrace_sig=393408\"]"
+    );
+    Ok(())
+}
+
+// Each line, and what the kernel's `next_arg` makes of it, printed as a list of strings.
+#[test]
+fn lines_as_the_kernel_reads_them(rt: HostRuntime) {
+    for (line, wanted) in [
+        (b"".as_slice(), "[]"),
+        (b" \t\x0b\x0c\r\n ".as_slice(), "[]"),
+        (
+            b"quiet\tramoops.ecc=1\nramoops.cpus=2\n".as_slice(),
+            "[\"ramoops.ecc=1\", \"ramoops.cpus=2\"]",
+        ),
+        (b"quiet\xa0ramoops.ecc=1".as_slice(), "[\"ramoops.ecc=1\"]"),
+        (
+            b"\"ramoops.ecc=1\" \"ramoops.cpus=\"2\"\"".as_slice(),
+            "[\"ramoops.ecc=1\", \"ramoops.cpus=2\\\"\"]",
+        ),
+        (
+            b"ramoops.mem_size=\"0x100000\"".as_slice(),
+            "[\"ramoops.mem_size=0x100000\"]",
+        ),
+        (
+            b"ramoops.mem_size=\"\"".as_slice(),
+            "[\"ramoops.mem_size=\"]",
+        ),
+        (
+            b"ramoops.mem_size=0x1\"0\"".as_slice(),
+            "[\"ramoops.mem_size=0x1\\\"0\\\"\"]",
+        ),
+        (
+            b"a=\"b ramoops.ecc=2\" ramoops.ecc=1".as_slice(),
+            "[\"ramoops.ecc=1\"]",
+        ),
+        (
+            b"a=b\"c ramoops.ecc=2\"d ramoops.ecc=1".as_slice(),
+            "[\"ramoops.ecc=1\"]",
+        ),
+        (
+            b"ramoops.mem-size=1-2 ramoops.max-reason=2".as_slice(),
+            "[\"ramoops.mem_size=1-2\"]",
+        ),
+        (
+            b"ramoops.ecc=1 -- ramoops.cpus=2".as_slice(),
+            "[\"ramoops.ecc=1\"]",
+        ),
+        (
+            b"ramoops.ecc=1 \"--\" ramoops.cpus=2".as_slice(),
+            "[\"ramoops.ecc=1\"]",
+        ),
+        (
+            b"ramoops.ecc=1 --x ramoops.cpus=2".as_slice(),
+            "[\"ramoops.ecc=1\", \"ramoops.cpus=2\"]",
+        ),
+        (
+            b"ramoops.mem_name=\"\xff\" ramoops.ecc=1".as_slice(),
+            "[\"ramoops.ecc=1\"]",
+        ),
+    ] {
+        let words = shown(rt.alloc(), line);
+        match words {
+            Ok(text) => assert_eq!(rt; text.as_str(), wanted),
+            Err(fault) => panic!(rt; "{fault:?}"),
+        }
+    }
+}
+
+#[test]
+fn lines_that_are_refused(rt: HostRuntime) {
+    for (line, fault) in [
+        (b"ramoops.ecc=\"1".as_slice(), LineFault::OpenQuote),
+        (b"quiet \"ramoops.ecc=1".as_slice(), LineFault::OpenQuote),
+        (b"ramoops.ecc=1 quiet\"".as_slice(), LineFault::OpenQuote),
+        (b"ramoops.ecc=\xff".as_slice(), LineFault::NoText),
+        (b"ramoops.ecc=1\xc2\xa0ro".as_slice(), LineFault::NoText),
+    ] {
+        assert_eq!(rt; shown(rt.alloc(), line).err(), Some(fault));
+    }
+}
+
+#[test]
+fn tags_of_versions(rt: HostRuntime) {
+    for (version, tag) in [
+        ("6.1.192", Some(0x0601c0)),
+        ("6.1", Some(0x060100)),
+        ("6.1.0-25-amd64", Some(0x060100)),
+        ("6.12.0+", Some(0x060c00)),
+        ("6.12.7+-dirty", Some(0x060c07)),
+        ("6.12-rc1+", Some(0x060c00)),
+        ("+6.1", None),
+        ("5.10.250", Some(0x050afa)),
+        ("4.19.325", Some(0x0413ff)),
+        ("255.255.255", Some(0xffffff)),
+        ("256.1.1", None),
+        ("6.256", None),
+        ("6", None),
+        ("", None),
+        ("6.x", None),
+        ("6.1.", None),
+        ("6.1.2.3", None),
+        ("-6.1", None),
+    ] {
+        assert_eq!(rt; ftrace_tag(version), tag, "of {version}");
+    }
+}

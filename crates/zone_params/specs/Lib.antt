@@ -1,4 +1,0 @@
-pub mod Layouts
-pub mod Laid
-pub mod Rows
-pub mod Found
