@@ -6,9 +6,9 @@ ghost use Rattle.zone_spec.specs.Records.{Saved};
 ghost use Rattle.prz_read.specs.Saving.{saved};
 
 use crate::Reading;
+use ramoops_layout::types::Layout;
 use std::alloc::{AllocError, Global};
 use std::marker::Model;
-use ramoops_layout::types::Layout;
 use zone_spec::{Zone, ZoneName};
 
 /// The saved readings of a layout's zones, in the zones' order: a reading, or none where it was forgotten.

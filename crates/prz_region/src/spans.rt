@@ -12,9 +12,9 @@ use crate::block::{Shell, Stores, as_spans, based, close, glue, lend, open, spli
 use crate::pieces::Piece;
 use core::slots::Slots;
 use outside::Bytes;
+use ramoops_layout::types::Layout;
 use std::alloc::{AllocError, Global};
 use std::marker::Model;
-use ramoops_layout::types::Layout;
 use zone_spec::Zone;
 
 /// A zone's bytes in a region's block, as they are lent for reading.

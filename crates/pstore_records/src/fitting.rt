@@ -12,8 +12,8 @@ use crate::table::numbers_rise;
 use crate::zones::{found_at, is_kind};
 use dump_records::read_line;
 use prz_read::Logs;
-use std::alloc::{AllocError, Global};
 use ramoops_layout::types::Layout;
+use std::alloc::{AllocError, Global};
 use zone_spec::{Kind, Name, ZoneName};
 
 /// Whether the layout has room for the log of zone `i`, if that zone was found and is not forgotten.

@@ -14,8 +14,8 @@ use crate::notices::{Counts, counts_of};
 use crate::table::{dump_counts, numbers_rise};
 use crate::zones::{dump_in, first_log, log_at};
 use prz_read::Logs;
-use std::alloc::{AllocError, Global};
 use ramoops_layout::types::Layout;
+use std::alloc::{AllocError, Global};
 use zone_spec::{Kind, Name};
 
 /// What is told of a record: its name, the length in bytes of its content without a notice, what its zones count, and

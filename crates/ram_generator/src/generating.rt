@@ -13,8 +13,8 @@ use crate::{Draws, Targets};
 use itoa::Buffer;
 use outside::Bytes;
 use ramoops::Off;
-use std::alloc::{AllocError, Global};
 use ramoops_layout::types::Layout;
+use std::alloc::{AllocError, Global};
 
 fn zeros(alloc: Global, count: u32) -> Result<Bytes, AllocError>
     ensures { IfOk result (λ bytes. bytes ≡ replicate count 0) }

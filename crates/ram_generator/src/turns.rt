@@ -12,8 +12,8 @@ ghost use Rattle.ram_generator.specs.Turns.{turn_of, TurnCanBeAsked, cut_of, Are
 use crate::Draws;
 use outside::Bytes;
 use ramoops::Ask;
-use std::alloc::{AllocError, Global};
 use ramoops_layout::types::Layout;
+use std::alloc::{AllocError, Global};
 use zone_spec::{Kind, Time, Zone, ZoneName};
 
 /// The zones that calls are drawn for: the rings, and whether there are dump zones.

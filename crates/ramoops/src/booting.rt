@@ -19,8 +19,8 @@ use crate::report::{ZoneReport, report_of};
 use crate::zones::HeldZone;
 use prz_read::{Logs, Reading, Settled, keeps, read_zone, read_zone_by, settle, settle_by};
 use prz_region::{Span, Spans};
-use std::alloc::{AllocError, Global};
 use ramoops_layout::types::Layout;
+use std::alloc::{AllocError, Global};
 use zone_spec::{Words, Zone};
 
 /// All that a boot reads and takes before its first store: the logs, the reports, the told lists of the zones, and

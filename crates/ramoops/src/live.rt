@@ -30,9 +30,9 @@ use dump_records::Cursor;
 use outside::Bytes;
 use prz_region::Spans;
 use prz_write::Step;
+use ramoops_layout::types::Layout;
 use std::alloc::Global;
 use std::marker::Model;
-use ramoops_layout::types::Layout;
 use zone_spec::{CallKind, Kind, Refusal, Zone, ZoneName};
 
 /// A live store: calls are begun in its zones, and made one store at a time in any order.

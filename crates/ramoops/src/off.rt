@@ -26,9 +26,9 @@ use crate::{Live, Report};
 use outside::Bytes;
 use prz_read::Logs;
 use prz_region::{Region, Spans};
+use ramoops_layout::types::Layout;
 use std::alloc::{AllocError, Global};
 use std::marker::Model;
-use ramoops_layout::types::Layout;
 use zone_spec::Refusal;
 
 /// A store that is off: its image can be damaged, and booted.

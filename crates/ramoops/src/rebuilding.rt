@@ -24,8 +24,8 @@ use move_laws::{
 use outside::Bytes;
 use prz_read::{Logs, Reading};
 use prz_write::Call;
-use std::alloc::{AllocError, Global};
 use ramoops_layout::types::Layout;
+use std::alloc::{AllocError, Global};
 use zone_spec::State;
 
 // So many zero bytes.

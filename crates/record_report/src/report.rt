@@ -12,10 +12,10 @@ use outside::Bytes;
 use prz_read::{Logs, ZoneParts, read_parts};
 use prz_region::{Region, Span, Spans};
 use pstore_records::held_records;
+use ramoops_layout::types::Layout;
 use std::alloc::{AllocError, Global};
 use std::marker::Model;
 use symbols::Symbols;
-use ramoops_layout::types::Layout;
 use zone_spec::Zone;
 
 /// What an image holds.

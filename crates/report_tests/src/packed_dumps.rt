@@ -1,11 +1,11 @@
 // Images of one compressed dump, for the tests of each crate.
 use outside::Bytes;
+use ramoops_layout::types::Layout;
+use ramoops_layout::{Params, layout};
 use record_report::{Report, report_of};
 use std::alloc::Global;
 use std::test::Fail;
 use symbols::Symbols;
-use ramoops_layout::types::Layout;
-use ramoops_layout::{Params, layout};
 
 /// What zlib makes of the text `Panic#1 Part1`, a newline, `red `, an escape, `\\<b>` and a newline.
 pub const WHOLE: [u8; 26] = [

@@ -1,12 +1,12 @@
 // Android's log and an ftrace log, as people read them.
 use outside::Bytes;
+use ramoops_layout::{Params, layout};
 use record_report::{Report, report_of};
 use report_json::json;
 use report_text::text;
 use std::alloc::Global;
 use std::test::Fail;
 use symbols::Symbols;
-use ramoops_layout::{Params, layout};
 use zone_spec::Name;
 
 // The end of an entry that was overwritten, and two entries.

@@ -2,11 +2,11 @@
 use crate::packed_dumps::{DAMAGED, TEXT, WHOLE, report_on};
 use inflate_spec::Fault;
 use outside::Bytes;
+use ramoops_layout::{Params, layout};
 use record_report::*;
 use std::alloc::Global;
 use std::test::Fail;
 use symbols::Symbols;
-use ramoops_layout::{Params, layout};
 use zone_spec::Name;
 
 const HEADER_OF_3: [u8; 12] = [0x44, 0x42, 0x47, 0x43, 3, 0, 0, 0, 3, 0, 0, 0];

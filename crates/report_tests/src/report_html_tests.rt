@@ -2,11 +2,11 @@
 use crate::packed_dumps::{DAMAGED, WHOLE, report_on, zones_of};
 use crate::worked_deaths::{self, CONSOLE, NAMED, NONE};
 use outside::Bytes;
+use ramoops_layout::{Params, layout};
 use record_report::report_of;
 use report_html::*;
 use std::test::Fail;
 use symbols::Symbols;
-use ramoops_layout::{Params, layout};
 
 #[test]
 fn escaped_rows(rt: HostRuntime) -> Result<(), Fail> {

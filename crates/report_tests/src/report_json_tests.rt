@@ -2,12 +2,12 @@
 use crate::packed_dumps::{DAMAGED, PARAMS, WHOLE, report_on, zones_of};
 use crate::worked_deaths::{self, CONSOLE, FATAL, NAMED, NONE, PANIC};
 use outside::Bytes;
+use ramoops_layout::{Params, layout};
 use record_report::report_of;
 use report_json::*;
 use std::alloc::Global;
 use std::test::Fail;
 use symbols::Symbols;
-use ramoops_layout::{Params, layout};
 
 // The line of an image of one console zone, whose record is this text.
 fn line_of(alloc: Global, text: &[u8]) -> Result<String, Fail> {

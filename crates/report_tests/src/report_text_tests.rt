@@ -2,12 +2,12 @@
 use crate::packed_dumps::{DAMAGED, WHOLE, image_of, zones_of};
 use crate::worked_deaths::{self, CONSOLE, NAMED, NONE, OOPS, PANIC};
 use outside::Bytes;
+use ramoops_layout::{Params, layout};
 use record_report::report_of;
 use report_text::text;
 use std::alloc::Global;
 use std::test::Fail;
 use symbols::Symbols;
-use ramoops_layout::{Params, layout};
 
 // A dump of 4096 bytes, and a console.
 const PARAMS: Params = Params {

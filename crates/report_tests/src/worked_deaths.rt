@@ -1,11 +1,11 @@
 // Images of three dumps and a console, for the tests of why a machine died.
 use outside::Bytes;
+use ramoops_layout::types::Layout;
+use ramoops_layout::{Params, layout};
 use record_report::{Report, report_of};
 use std::alloc::Global;
 use std::test::Fail;
 use symbols::Symbols;
-use ramoops_layout::types::Layout;
-use ramoops_layout::{Params, layout};
 
 /// Lines of a dump that a real kernel made after an oops. It names a place in the code, which is of that oops.
 pub const PANIC: &[u8] = b"====1795736654.688627-D\nPanic#8 Part1\n\

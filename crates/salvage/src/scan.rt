@@ -10,10 +10,10 @@ use crate::shape::{Shape, shapes_of};
 use outside::Bytes;
 use prz_read::{Reading, read_zone};
 use prz_region::Probe;
+use ramoops_layout::types::Layout;
 use salvage_spec::{FoundRing, RingFault};
 use std::alloc::{AllocError, Global};
 use std::marker::Model;
-use ramoops_layout::types::Layout;
 use zone_spec::{Zone, ZoneName};
 
 /// A scan of a dump for the rings of a layout's shapes: the rings that are left to be listed.

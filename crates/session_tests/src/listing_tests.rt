@@ -2,11 +2,11 @@
 use outside::Bytes;
 use prz_read::{Logs, Reading, State, Words};
 use ram_session::{LineError, content_of, listing};
+use ramoops_layout::types::Layout;
+use ramoops_layout::{Params, layout};
 use script_spec::Cause;
 use std::alloc::{AllocError, Global};
 use std::test::Fail;
-use ramoops_layout::types::Layout;
-use ramoops_layout::{Params, layout};
 
 fn params(mem: u64, dump: u64, pmsg: u64, ecc: u64) -> Params {
     Params {

@@ -3,10 +3,10 @@ ghost use Rattle.std.specs.Prelude.{◌≡◌, length, IfOk};
 
 use outside::Bytes;
 use ramoops::Off;
-use std::alloc::{AllocError, Global};
-use std::test::Fail;
 use ramoops_layout::types::Layout;
 use ramoops_layout::{layout, read_words};
+use std::alloc::{AllocError, Global};
+use std::test::Fail;
 
 fn words(alloc: Global, line: &str) -> Result<Vec<String>, AllocError> {
     let mut words = Vec::new(alloc);

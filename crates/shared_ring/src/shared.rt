@@ -20,10 +20,10 @@ use crate::seats::{Seat, count_stored, find, held, next_byte, show};
 use arrayvec::ArrayVec;
 use outside::Bytes;
 use prz_region::{CountedSpans, Region, RingWords};
+use ramoops_layout::types::Layout;
 use shared_spec::{Next, NoCall, OpenCall, SharedRefusal};
 use std::alloc::AllocError;
 use std::marker::Model;
-use ramoops_layout::types::Layout;
 use zone_spec::{Words, Zone, ZoneName};
 
 /// How many calls can be open.

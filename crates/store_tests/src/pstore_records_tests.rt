@@ -3,10 +3,10 @@ use arrayvec::ArrayString;
 use outside::Bytes;
 use prz_read::{Logs, Reading, State, Words};
 use pstore_records::*;
-use std::alloc::{AllocError, Global};
-use std::test::Fail;
 use ramoops_layout::types::Layout;
 use ramoops_layout::{Params, layout};
+use std::alloc::{AllocError, Global};
+use std::test::Fail;
 
 fn params(dump: u64, console: u64, ftrace: u64, pmsg: u64, ecc: u64) -> Params {
     Params {

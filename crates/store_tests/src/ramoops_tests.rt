@@ -6,9 +6,9 @@ use arrayvec::ArrayVec;
 use outside::Bytes;
 use prz_read::Logs;
 use ramoops::*;
+use ramoops_layout::layout;
 use std::process::Abort;
 use std::test::Fail;
-use ramoops_layout::layout;
 use zone_spec::{Kind, Params, Time, ZoneName};
 
 const CONSOLE: ZoneName = ZoneName {

@@ -1,9 +1,9 @@
 use outside::Bytes;
+use ramoops_layout::{Params, layout};
 use salvage::*;
 use std::alloc::{AllocError, Global};
 use std::process::Abort;
 use std::test::Fail;
-use ramoops_layout::{Params, layout};
 use zone_spec::{Kind, Words, ZoneName};
 
 // Parameters with these sizes of dump, console and pmsg zones and this parity.

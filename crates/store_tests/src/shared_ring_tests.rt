@@ -4,12 +4,12 @@ ghost use Rattle.std.specs.Prelude.{◌≡◌, length, IfOk};
 ghost use Rattle.ramoops_layout.specs.Laid.{params_of};
 
 use outside::Bytes;
+use ramoops_layout::types::Layout;
+use ramoops_layout::{Params, layout};
 use shared_ring::{Next, OpenCall, Shared, SharedRefusal, can_open};
 use std::alloc::{AllocError, Global};
 use std::process::Abort;
 use std::test::Fail;
-use ramoops_layout::types::Layout;
-use ramoops_layout::{Params, layout};
 use zone_spec::{Kind, ZoneName};
 
 const FTRACE: ZoneName = ZoneName {

@@ -7,9 +7,9 @@ use arrayvec::ArrayVec;
 use prz_ecc::{
     Coder, Decoded, Fix, are_codewords, block_parity, header_parity, read_block, read_header,
 };
-use std::test::Fail;
 use ramoops_layout::types::Layout;
 use ramoops_layout::{Params, layout};
+use std::test::Fail;
 use zone_spec::Zone;
 
 const PARAMS: Params = Params {

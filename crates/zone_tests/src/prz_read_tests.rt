@@ -2,12 +2,12 @@
 use outside::Bytes;
 use prz_read::*;
 use prz_region::{Region, Spans};
+use ramoops_layout::types::Layout;
+use ramoops_layout::{Params, layout};
 use report_spec::PartState;
 use std::alloc::{AllocError, Global};
 use std::process::Abort;
 use std::test::Fail;
-use ramoops_layout::types::Layout;
-use ramoops_layout::{Params, layout};
 use zone_spec::{Kind, Zone, ZoneName};
 
 const SIGNATURE: [u8; 4] = [0x44, 0x42, 0x47, 0x43];

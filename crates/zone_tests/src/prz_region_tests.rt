@@ -3,8 +3,8 @@ ghost use Rattle.prz_region.specs.CutRegion.{span};
 
 use outside::Bytes;
 use prz_region::{Probe, Region, RingWords, Spans};
-use std::test::Fail;
 use ramoops_layout::{Params, layout};
+use std::test::Fail;
 use zone_spec::{Kind, Words, Zone, ZoneName};
 
 fn zone(index: u32, at: u32, size: u32) -> Zone

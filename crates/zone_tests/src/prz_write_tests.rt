@@ -6,8 +6,8 @@ use arrayvec::ArrayString;
 use outside::Bytes;
 use prz_region::{Region, RingWords, Spans};
 use prz_write::{Call, CallKind, Flight, Line36, Step};
-use std::process::Abort;
 use ramoops_layout::layout;
+use std::process::Abort;
 use zone_spec::{Kind, Params, Words, Zone, ZoneName};
 
 const SIG: u32 = 0x4347_4244;

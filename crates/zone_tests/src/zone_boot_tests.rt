@@ -8,11 +8,11 @@ use crate::prz_read_tests::{
 use prz_ecc::Coder;
 use prz_read::Reading;
 use prz_region::Spans;
+use ramoops_layout::Params;
+use ramoops_layout::types::Layout;
 use std::process::Abort;
 use std::test::Fail;
 use zone_boot::{Boot, BootStore, Given, copy_log, read_summary};
-use ramoops_layout::Params;
-use ramoops_layout::types::Layout;
 use zone_spec::Zone;
 
 fn assert_summary(rt: &impl Abort, table: &[u128], image: &[u8], zone: &Zone, reading: &Reading)
