@@ -8,8 +8,8 @@ A bag of images becomes a bag of rows, one of each image. Each row is made where
     >>> for count, died in oopsbox_fleet.deaths(rows):
     ...     print(count, died)
 
-An image that cannot be reported is a row with its fault, and the others go on. If a worker dies, the engine has its part
-of the bag reported again by another one. A row is made of the image alone, so the rows are the same.
+An image that cannot be reported is a row with its fault, and the others go on. If a worker dies, the engine has its
+part of the bag reported again by another one. A row is made of the image alone, so the rows are the same.
 
 As a program it reads paths, one a line, and prints each row as a line of JSON:
 
@@ -31,8 +31,8 @@ __all__ = ["Death", "Row", "deaths", "row", "rows"]
 #: What one image tells. `path` is its name. `died` is the line that tells why the machine died, `reason` why the kernel
 #: made that record ("Panic", "Oops", ..), and `time` when, in seconds since 1970. `functions` has the function that the
 #: record names, and then those of its call trace, the innermost first. `zones_bad` counts the zones with parts that
-#: parity could not correct, and `corrected` the bytes that it did. What the image does not tell is None. `fault` is None,
-#: or why the image was not reported.
+#: parity could not correct, and `corrected` the bytes that it did. What the image does not tell is None. `fault` is
+#: None, or why the image was not reported.
 Row = namedtuple("Row", "path died reason time functions zones_bad corrected fault")
 Death = namedtuple("Death", "count died")
 
@@ -64,9 +64,9 @@ def _told(path, report):
 
 
 def row(image, words=""):
-    """The row of an image: a path, its bytes, or both as (path, bytes). Words are parameters, as oopsbox.report has them.
+    """The row of an image: a path, its bytes, or both as (path, bytes). It raises nothing.
 
-    Of a file the first 16 MiB are read, which are all that a region can have. It raises nothing.
+    Words are parameters, as oopsbox.report has them. Of a file the first 16 MiB are read: no region has more.
     """
     path, content = image if isinstance(image, tuple) else (image, None)
     if content is None and not isinstance(path, (str, os.PathLike)):
@@ -103,14 +103,14 @@ def main(arguments):
     """Reads paths and prints rows, or deaths. The exit status is 0, also if images were not reported."""
     parser = argparse.ArgumentParser(prog="oopsbox_fleet", description="reports the images whose paths it reads")
     parser.add_argument("--scheduler", help="address of a Dask scheduler; without it this machine's processors work")
-    parser.add_argument("--words", default="", help="parameters, as 'mem_size=16384 ecc=1'; without them they are found")
+    parser.add_argument("--words", default="", help="parameters, as 'mem_size=16384 ecc=1'; by default they are found")
     parser.add_argument("--deaths", action="store_true", help="print how many died of what, in place of the rows")
     options = parser.parse_args(arguments)
     import dask.bag
     if options.scheduler:
         from distributed import Client
         Client(options.scheduler)
-    paths = sys.stdin.read().splitlines()
+    paths = [os.fsdecode(path) for path in sys.stdin.buffer.read().split(b"\n") if path]
     told = rows(dask.bag.from_sequence(paths, partition_size=_PART), options.words) if paths else []
     if options.deaths:
         for count, died in deaths(told):

@@ -1,8 +1,8 @@
 """Makes the images of a fleet for tools/fleet-check.   tools/fleet/images.py FOLDER IMAGES
 
-FOLDER gets files of 1,000 images one after the other, each of SIZE bytes but for those that are cut short; a file has its
-images' lengths in FILE.lengths. Ten machines of each file are made by `make N`, die of one of the messages below, and give
-a hundred images each, every one damaged in its own way. A number decides everything.
+FOLDER gets files of 1,000 images one after the other, each of SIZE bytes but for those that are cut short; a file has
+its images' lengths in FILE.lengths. Ten machines of each file are made by `make N`, die of one of the messages below,
+and give a hundred images each, every one damaged in its own way. A number decides everything.
 """
 import array
 import concurrent.futures
@@ -16,16 +16,18 @@ SIZE = 16384
 WORDS = "mem_size=16384 ftrace_size=0 ecc=1"
 IN_A_FILE, MACHINES = 1000, 10
 DAY, FIRST = 86400, 1764201600
-TRACE = ["CPU: 1 PID: 42 Comm: app Not tainted 6.1.0 #1", "RIP: 0010:do_work+0x1f/0x40", "Call Trace:", " run_work+0x1f/0x80",
-         " kthread+0xd7/0x100"]
+TRACE = ["CPU: 1 PID: 42 Comm: app Not tainted 6.1.0 #1", "RIP: 0010:do_work+0x1f/0x40", "Call Trace:",
+         " run_work+0x1f/0x80", " kthread+0xd7/0x100"]
 DEATHS = [
     ("Panic", ["Kernel panic - not syncing: sysrq triggered crash"]),
     ("Panic", ["BUG: kernel NULL pointer dereference, address: 0000000000000010", *TRACE,
                "Kernel panic - not syncing: Fatal exception"]),
     ("Panic", ["Kernel panic - not syncing: Out of memory: system-wide panic_on_oom is enabled"]),
     ("Oops", ["Unable to handle kernel paging request at virtual address ffff800012345678", *TRACE]),
-    ("Panic", ["watchdog: BUG: soft lockup - CPU#1 stuck for 22s! [app:42]", "Kernel panic - not syncing: softlockup: hung tasks"]),
-    ("Oops", ["general protection fault, probably for non-canonical address 0xdead000000000100: 0000 [#1] SMP", *TRACE]),
+    ("Panic", ["watchdog: BUG: soft lockup - CPU#1 stuck for 22s! [app:42]",
+               "Kernel panic - not syncing: softlockup: hung tasks"]),
+    ("Oops", ["general protection fault, probably for non-canonical address 0xdead000000000100: 0000 [#1] SMP",
+              *TRACE]),
     ("Panic", ["Kernel panic - not syncing: VFS: Unable to mount root fs on unknown-block(0,0)"]),
     ("Shutdown", ["reboot: Restarting system"]),
 ]
