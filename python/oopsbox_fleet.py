@@ -38,7 +38,6 @@ Death = namedtuple("Death", "count died")
 
 NOT_TOLD, NOT_REPORTED = "(no record tells why)", "(not reported)"
 _MOST = 1 << 24
-_PART = 1000
 
 
 def _reason(text):
@@ -111,7 +110,7 @@ def main(arguments):
         from distributed import Client
         Client(options.scheduler)
     paths = [os.fsdecode(path) for path in sys.stdin.buffer.read().split(b"\n") if path]
-    told = rows(dask.bag.from_sequence(paths, partition_size=_PART), options.words) if paths else []
+    told = rows(dask.bag.from_sequence(paths), options.words) if paths else []
     if options.deaths:
         for count, died in deaths(told):
             print(count, died, sep="\t")

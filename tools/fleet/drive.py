@@ -8,6 +8,10 @@ tools/fleet/drive.py sent SCHEDULER COUNT FOLDER ROWS
                       the same with the images sent to the workers from here
 tools/fleet/drive.py days ROWS ANSWER
                       compares the deaths of each day, as a database answers them, with those of the rows
+tools/fleet/drive.py files FOLDER TO
+                      makes a file of each image of the first thousand, and prints their paths, and one that is missing
+tools/fleet/drive.py paths ONE ROWS
+                      compares the rows of these paths with the first of all
 
 ROWS gets the rows as lines of JSON, and ROWS.deaths the table of them.
 """
@@ -49,6 +53,8 @@ def kill_one(client, parts, process):
         time.sleep(0.01)
     holders = client.who_has(parts)
     os.kill(process, signal.SIGKILL)
+    if all(part.done() for part in parts):
+        sys.exit("drive: all was reported before a worker was killed")
     end = time.monotonic() + WAIT
     while len(client.scheduler_info()["workers"]) > 2:
         if time.monotonic() > end:
@@ -106,10 +112,31 @@ def days(rows, answer):
         sys.exit("drive: the database counts otherwise")
 
 
+def files(folder, to):
+    """A file of each image of a file."""
+    for i, (_, content) in enumerate(read_file(os.path.join(folder, "0000"))):
+        path = os.path.join(to, "%03d" % i)
+        with open(path, "wb") as file:
+            file.write(content)
+        print(path)
+    print(os.path.join(to, "missing"))
+
+
+def paths(one, rows):
+    """Whether the rows of files are those of the same bytes, and that of no file has a fault."""
+    *seen, missing = lines_of(rows)
+    wanted = lines_of(one)[:len(seen)]
+    for row in seen + wanted:
+        del row["path"]
+    if len(seen) != 1000 or seen != wanted or not missing["fault"]:
+        sys.exit("drive: the rows of paths differ")
+    print("paths: %d rows as before, and a missing file is a row: %s" % (len(seen), missing["fault"].split(":")[0]))
+
+
 def main(way, *arguments):
     """What it took, as a line."""
-    if way == "days":
-        return days(*arguments)
+    if way in ("days", "files", "paths"):
+        return {"days": days, "files": files, "paths": paths}[way](*arguments)
     count, seconds = one(*arguments) if way == "one" else dask_run(way, *arguments)
     print("%s: %d images, %.1f s, %d a second" % (way, count, seconds, count / seconds))
 
