@@ -1,11 +1,15 @@
 -- A word that a block's sums do not tell to have at most one error there has two at least. For `errs_twice` and
 -- `Sieve::is_far`.
-use Rattle.std.proofs.Common.{◌≡◌, ◌≢◌, ℕ, zero, suc, ◌+◌, ◌-◌, ◌<◌, ◌≤◌, ◌==◌, ◌⊎◌, inl, inr, if◌then◌else◌, Bool, true, false, List, [], ◌∷◌, ◌++◌, length, take, drop, get_or, IsTrue, not, nat_eq, refl, sym, ap, ap₂, ◌∙◌, subst, arith, Option, Some, None, unwrap_or, length-drop}
-use Rattle.std.specs.Prelude.{slice_range}
+use Rattle.std.proofs.Common.{◌≡◌, ◌≢◌, ℕ, zero, suc, ◌+◌, ◌-◌, ◌<◌, ◌≤◌, ◌==◌, ◌⊎◌, inl, inr, if◌then◌else◌, Bool, true, false, List, [], ◌∷◌, ◌++◌, length, take, drop, get_or, IsTrue, not, nat_eq, refl, sym, ap, ap₂, ◌∙◌, subst, arith, Option, Some, None, unwrap_or, length-drop, length-append}
+use Rattle.std.specs.Prelude.{slice_range, All}
+use Rattle.std.proofs.lemmas.List.Elements.{All-get_or}
 use Rattle.std.proofs.lemmas.Bool.{cases_eq, cases_lt, eq-eqb, ne_eqb}
 use Rattle.std.proofs.lemmas.List.{drop-drop, drop_more, drop_all}
 use Rattle.code_spec.specs.Field.{gf_add, gf_mul, gf_pow}
-use Rattle.code_spec.specs.Code.{value_of, distance}
+use Rattle.code_spec.specs.Code.{value_of, distance, parity_of}
+use Rattle.code_laws.proofs.Laws.{parity_law}
+use Rattle.code_laws.proofs.Parity.{roots_of}
+use Rattle.list_laws.proofs.Elements.{AllByRecursion_from_places}
 use Rattle.code_laws.proofs.Symbols.{HasRoots}
 use Rattle.code_laws.proofs.Words.{value_of-nil, value_of-cons, pow_turn}
 use Rattle.code_laws.proofs.Nearest.{distance_self}
@@ -15,6 +19,7 @@ use Rattle.salvage.specs.declared.sieve.Block.{Block}
 use Rattle.salvage.specs.Sieves.{product, product_1, product_2, none, weight, weighed, IsKnownWord, IsOutside, IsBlock}
 use Rattle.salvage_laws.specs.Known.{put_in}
 use Rattle.salvage.proofs.Amends.{item}
+use Rattle.salvage.proofs.Probed.{put_in-append}
 
 -- the sum of the symbols' sums of two words, each times what the power of its place counts
 unfoldable pub sum_of : (ℕ → ℕ) → List ℕ → List ℕ → ℕ
@@ -308,9 +313,12 @@ one_apart (suc m) (x ∷ w) (y ∷ c) e d = by (cases_eq x y) (λ l. one_apart m
     by (inl s) rest =
         let h = rest (omega (arith, same_head x y w c s, d)) in
         (h.0, h.1, λ H. same_term H x y w c (drop m w) (drop m c) s ∙ h.2 H)
-    by (inr n) rest =
-        (length w, gf_add x y, λ H. alone H x y w c (drop m w) (drop m c)
-        (none_apart m w c (omega arith) (omega (arith, other_head x y w c n, d)) H))
+    by (inr n) rest = (
+      length w,
+      gf_add x y,
+      λ H. alone H x y w c (drop m w) (drop m c)
+          (none_apart m w c (omega arith) (omega (arith, other_head x y w c n, d)) H),
+    )
 
 rank_one : (ms : List ℕ) (p a : ℕ) → gf_mul (gf_mul (product ms p) a) (gf_mul (product_2 ms p) a)
     ≡ gf_mul (gf_mul (product_1 ms p) a) (gf_mul (product_1 ms p) a)
@@ -446,7 +454,7 @@ module _ (ks : List (Option ℕ)) (r : ℕ) (b : Block) (is : IsBlock ks r b) (c
       by (inr h) = h
       by (inl h) =
           let near : distance (drop b.from word) (drop b.from c)
-              ≤ 1 + distance (drop (b.to - b.from) (drop b.from word)) (drop (b.to - b.from) (drop b.from c)) =
+          ≤ 1 + distance (drop (b.to - b.from) (drop b.from word)) (drop (b.to - b.from) (drop b.from c)) =
           omega (arith, h, ap₂ distance (on word) (on c)) in
           let one = one_apart (b.to - b.from) (drop b.from word) (drop b.from c)
           (length-drop b.from word ∙ ap (λ (k : ℕ). k - b.from) e ∙ sym (length-drop b.from c)) near in
@@ -500,3 +508,39 @@ one_block word c count end from to e l h t =
   where
     on : (v : List ℕ) → drop (from - end) (drop end v) ≡ drop from v
     on v = drop-drop (from - end) end v ∙ ap (λ (n : ℕ). drop n v) (omega (arith, l))
+
+-- and of a sieve's blocks
+pub far_more : (ks : List (Option ℕ)) (r i : ℕ) (blocks items : List Block) (b : Block) (word begun base c : List ℕ)
+    (count end : ℕ) → items ≡ blocks → All (IsBlock ks r) blocks → i < length items → begun ≡ base
+    → IsKnownWord ks r base → length word ≡ 12 + r → IsKnownWord ks r c → end ≤ (get_or items i b).from
+    → count + distance (drop end word) (drop end c) ≤ distance word c
+    → ((ks : List (Option ℕ)) (r : ℕ) (c : List ℕ) → length word ≡ 12 + r → IsBlock ks r (get_or items i b)
+    → IsKnownWord ks r begun → IsKnownWord ks r c
+    → 2 + distance (drop (get_or items i b).to word) (drop (get_or items i b).to c)
+    ≤ distance (drop (get_or items i b).from word) (drop (get_or items i b).from c))
+    → count + 2 + distance (drop (get_or items i b).to word) (drop (get_or items i b).to c) ≤ distance word c
+far_more ks r i blocks items b word begun base c count end ei each l eb hb lw hc order far errs =
+    one_block word c count end (get_or items i b).from (get_or items i b).to (lw ∙ sym hc.len) order far
+    (errs ks r c lw (All-get_or (IsBlock ks r) items i b l (subst (All (IsBlock ks r)) (sym ei) each))
+    (subst (IsKnownWord ks r) (sym eb) hb) hc)
+
+-- ---- the codeword of the known bytes
+put_in_twice : (ks : List (Option ℕ)) (w : List ℕ) → put_in ks (put_in ks w) ≡ put_in ks w
+unfolding put_in
+put_in_twice [] w = refl
+put_in_twice (k ∷ ks) [] = refl
+put_in_twice (None ∷ ks) (b ∷ w) = ap (λ xs. b ∷ xs) (put_in_twice ks w)
+put_in_twice (Some k ∷ ks) (b ∷ w) = ap (λ xs. k ∷ xs) (put_in_twice ks w)
+
+pub known_word : (ks : List (Option ℕ)) (r : ℕ) (z h p w : List ℕ) → w ≡ h ++ p → p ≡ parity_of r h → h ≡ put_in ks z
+    → length h ≡ 12 → length ks ≡ 12 → r ≤ 127 → ((k : ℕ) → get_or h k 0 < 256) → IsKnownWord ks r w
+known_word ks r z h p w ew ep eh lh lk few bytes =
+    let made = (parity_law r h (parity_of r h) (omega (arith, lh))
+    (refl, AllByRecursion_from_places (λ b. b < 256) h bytes)).0 refl in
+    let same : w ≡ h ++ parity_of r h = ew ∙ ap (λ q. h ++ q) ep in
+    let own : put_in ks h ≡ h = ap (put_in ks) eh ∙ put_in_twice ks z ∙ sym eh in
+    subst (IsKnownWord ks r) (sym same) (record {
+      len = length-append h (parity_of r h) ∙ omega (arith, lh, made.0.0);
+      roots = roots_of r (h ++ parity_of r h) made.1;
+      known = put_in-append ks h (parity_of r h) (omega (arith, lh, lk)) ∙ ap (λ v. v ++ parity_of r h) own;
+    })

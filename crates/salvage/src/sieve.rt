@@ -4,7 +4,7 @@
 // places, of a polynomial that is 0 at the unknown places outside the block. Its degree is so low that the weighted
 // symbols of a codeword add up to 0. So the weighted sum of a word tells of the errors in the block alone, and three
 // such sums tell whether there is at most one.
-ghost use Rattle.std.specs.Prelude.{◌≡◌, ◌+◌, ◌-◌, ◌≤◌, ◌<◌, ◌↔◌, ℕ, ◌++◌, length, drop, slice_index_or, List, true, false, IsTrue, Option, None, All, IfSome};
+ghost use Rattle.std.specs.Prelude.{◌≡◌, ◌+◌, ◌-◌, ◌≤◌, ◌<◌, ◌↔◌, ℕ, ◌++◌, length, replicate, drop, slice_index_or, List, true, false, IsTrue, Option, None, All, IfSome};
 ghost use Rattle.code_spec.specs.Field.{gf_add, gf_mul, gf_pow};
 ghost use Rattle.code_spec.specs.Code.{distance};
 ghost use Rattle.salvage_laws.specs.Known.{put_in};
@@ -123,7 +123,8 @@ fn weights_of(others: &[u8], power: usize, count: usize) -> [Weight; 16]
     requires power { power < 139 }
     requires count { count ≤ 16 }
     requires within { count ≤ power + 1 }
-    ensures { (k : ℕ) → k < count → slice_index_or result k none ≡ weight others.now (power - k) }
+    ensures weights { (k : ℕ) → k < count → slice_index_or result k none ≡ weight others.now (power - k) }
+    ensures len { length result ≡ 16 }
 {
     let mut weights = [nothing(); 16];
     for k in 0..count {
@@ -189,19 +190,34 @@ pub fn joined(bytes: &[u8], parity: &[u8]) -> ArrayVec<u8, 139>
     word
 }
 
-/// The codeword of the known bytes, and of zeros where a byte is not known.
-fn base_of(coder: &Parity, known: &[Option<u8>], parity: usize) -> ArrayVec<u8, 139>
-    requires coder { coder.now ≡ parity }
-    requires few { parity ≤ 127 }
-    requires len { length known.now ≡ 12 }
-    ensures { IsKnownWord known.now parity result.items }
+/// A header of the known bytes, and of zeros where a byte is not known.
+fn known_header(known: &[Option<u8>]) -> [u8; 12]
+    requires { length known.now ≡ 12 }
+    ensures { result ≡ put_in known.now (replicate 12 0) }
 {
     let mut header = [0u8; 12];
     amend(known, &mut header);
+    header
+}
+
+/// The codeword of a header of the known bytes.
+fn codeword_of(
+    coder: &Parity,
+    known: &[Option<u8>],
+    header: &[u8],
+    parity: usize,
+) -> ArrayVec<u8, 139>
+    requires coder { coder.now ≡ parity }
+    requires few { parity ≤ 127 }
+    requires len { length known.now ≡ 12 }
+    requires twelve { length header.now ≡ 12 }
+    requires header { header.now ≡ put_in known.now (replicate 12 0) }
+    ensures { IsKnownWord known.now parity result.items }
+{
     let mut buffer = [0u8; 127];
     let symbols = &mut buffer[..parity];
-    coder.parity(&header, symbols);
-    joined(&header, symbols)
+    coder.parity(header, symbols);
+    joined(header, symbols)
 }
 
 /// The sums of the symbols' sums, by the weights.
@@ -258,7 +274,7 @@ impl Sieve {
         Sieve {
             known,
             parity,
-            base: base_of(coder, &known, parity),
+            base: codeword_of(coder, &known, &known_header(&known), parity),
             blocks: blocks_of(&known, parity, width),
         }
     }

@@ -4,4 +4,7 @@ use Rattle.salvage.specs.Sieves.{weight, none}
 use Rattle.salvage.proofs.sieve.weights_of.Given as goal
 
 abbrev pub invariant-loop-k : goal.invariant-loop-k
-invariant-loop-k l = (i : ℕ) → i < l.k → get_or l.weights i none ≡ weight l.others (l.power - i)
+invariant-loop-k l = record {
+  done : (i : ℕ) → i < l.k → get_or l.weights i none ≡ weight l.others (l.power - i);
+  len : length l.weights ≡ 16;
+}
