@@ -1,6 +1,6 @@
 -- A word that a block's sums do not tell to have at most one error there has two at least. For `errs_twice` and
 -- `Sieve::is_far`.
-use Rattle.std.proofs.Common.{◌≡◌, ◌≢◌, ℕ, zero, suc, ◌+◌, ◌-◌, ◌<◌, ◌≤◌, ◌==◌, ◌⊎◌, inl, inr, if◌then◌else◌, Bool, true, false, List, [], ◌∷◌, ◌++◌, length, take, drop, get_or, IsTrue, not, nat_eq, refl, sym, ap, ap₂, ◌∙◌, subst, arith, Option, Some, None, unwrap_or, length-drop, length-append}
+use Rattle.std.proofs.Common.{◌≡◌, ◌≢◌, ℕ, zero, suc, ◌+◌, ◌-◌, ◌<◌, ◌≤◌, ◌⊎◌, inl, inr, if◌then◌else◌, Bool, true, false, List, [], ◌∷◌, ◌++◌, length, take, drop, get_or, IsTrue, not, nat_eq, refl, sym, ap, ap₂, ◌∙◌, subst, arith, Option, Some, None, unwrap_or, length-drop, length-append}
 use Rattle.std.specs.Prelude.{slice_range, All}
 use Rattle.std.proofs.lemmas.List.Elements.{All-get_or}
 use Rattle.std.proofs.lemmas.Bool.{cases_eq, cases_lt, eq-eqb, ne_eqb}
@@ -11,9 +11,8 @@ use Rattle.code_laws.proofs.Laws.{parity_law}
 use Rattle.code_laws.proofs.Parity.{roots_of}
 use Rattle.list_laws.proofs.Elements.{AllByRecursion_from_places}
 use Rattle.code_laws.proofs.Symbols.{HasRoots}
-use Rattle.code_laws.proofs.Words.{value_of-nil, value_of-cons, pow_turn}
-use Rattle.code_laws.proofs.Nearest.{distance_self}
-use Rattle.code_laws.proofs.Ring.{ring, add_self, add_zero, add_assoc, zero_add, mul_zero, zero_mul, mul_one, one_mul, mul_comm, mul_assoc, add_comm, pow_suc, pow_zero, pow_below, mul_below}
+use Rattle.code_laws.proofs.Words.{pow_turn}
+use Rattle.code_laws.proofs.Ring.{ring, add_self, add_zero, add_assoc, zero_add, mul_zero, zero_mul, mul_one, one_mul, mul_comm, mul_assoc, pow_suc, pow_zero, pow_below, mul_below}
 use Rattle.salvage.specs.declared.sieve.Weight.{Weight}
 use Rattle.salvage.specs.declared.sieve.Block.{Block}
 use Rattle.salvage.specs.Sieves.{product, product_1, product_2, none, weight, weighed, IsKnownWord, IsOutside, IsBlock}

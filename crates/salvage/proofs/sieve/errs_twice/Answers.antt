@@ -1,5 +1,5 @@
 -- Sums unlike those of one error mean two errors in the block. For `errs_twice`.
-use Rattle.std.proofs.Common.{◌≡◌, ℕ, List, take, drop, sym, ap, ap₂, ◌∙◌, arith, refl}
+use Rattle.std.proofs.Common.{sym, ap₂, ◌∙◌, refl}
 use Rattle.code_spec.specs.Field.{gf_mul}
 use Rattle.salvage.specs.Sieves.{product, product_1, product_2}
 use Rattle.salvage.specs.declared.sieve.Weight.{Weight}

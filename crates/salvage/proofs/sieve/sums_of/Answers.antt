@@ -1,8 +1,7 @@
 -- One place more is counted in each sum. For `sums_of`.
-use Rattle.std.proofs.Common.{◌≡◌, ℕ, sym, ap, ◌∙◌}
+use Rattle.std.proofs.Common.{◌≡◌, ℕ, ap, ◌∙◌}
 use Rattle.code_spec.specs.Field.{gf_add}
 use Rattle.code_laws.proofs.Ring.{zero_add}
-use Rattle.salvage.specs.Sieves.{weighed}
 use Rattle.salvage.specs.declared.sieve.Weight.{Weight}
 use Rattle.salvage.proofs.Sieving.{weighed_next, weighed_done}
 use Rattle.salvage.proofs.sieve.sums_of.Goals as goal

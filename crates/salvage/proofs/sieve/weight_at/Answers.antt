@@ -1,6 +1,6 @@
 -- The product, and it times the locator once and twice. For `weight_at`.
-use Rattle.std.proofs.Common.{◌≡◌, ℕ, List, ap, ap₂, ◌∙◌}
-use Rattle.code_spec.specs.Field.{gf_mul, gf_pow}
+use Rattle.std.proofs.Common.{◌≡◌, ℕ, List, ap₂, ◌∙◌}
+use Rattle.code_spec.specs.Field.{gf_mul}
 use Rattle.salvage.specs.declared.sieve.Weight.{Weight}
 use Rattle.salvage.specs.Sieves.{product, product_1, product_2, weight}
 use Rattle.salvage.proofs.sieve.weight_at.Goals as goal

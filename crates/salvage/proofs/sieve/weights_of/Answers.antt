@@ -1,6 +1,6 @@
 -- One weight more is that of its power. For `weights_of`.
-use Rattle.std.proofs.Common.{◌≡◌, ◌≢◌, ℕ, ◌<◌, length, arith, sym, ap, ◌∙◌, below_more, get_or-set_same, get_or-set_other, length-set}
-use Rattle.salvage.specs.Sieves.{weight, none}
+use Rattle.std.proofs.Common.{◌≢◌, arith, ◌∙◌, below_more, get_or-set_same, get_or-set_other, length-set}
+use Rattle.salvage.specs.Sieves.{none}
 use Rattle.salvage.proofs.sieve.weights_of.Goals as goal
 
 pub loop-k-preserved : goal.loop-k-preserved

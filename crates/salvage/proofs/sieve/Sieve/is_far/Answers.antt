@@ -1,6 +1,5 @@
 -- Each block has two errors more, until they are too many. For `Sieve::is_far`.
-use Rattle.std.proofs.Common.{◌≡◌, ℕ, ◌+◌, ◌≤◌, List, drop, ap, sym, ◌∙◌, arith, subst}
-use Rattle.code_spec.specs.Code.{distance}
+use Rattle.std.proofs.Common.{◌+◌, ap, sym, ◌∙◌, arith, subst}
 use Rattle.salvage.specs.Sieves.{IsKnownWord, Sifted}
 use Rattle.salvage.proofs.Sieving.{far_more}
 use Rattle.salvage.proofs.sieve.Sieve.is_far.Goals as goal
