@@ -37,8 +37,13 @@ record_parts r =
     ++ time_parts r.time ++ length_parts (length r.content) ++ packing_parts r.packing
     ++ content_parts r.name (readable r)
 
+-- how many there are, and what the number of a line means
 abbrev pub records_opening : ℕ → List Part
-records_opening count = Words (codes "<h2 id=\"records\">Records: ") ∷ Count count ∷ Words (codes "</h2>\n") ∷ []
+records_opening count =
+    Words (codes "<h2 id=\"records\">Records: ") ∷ Count count ∷ Words (codes "</h2>\n<p class=\"note\">"
+    ++ codes "The number before a line is its level: 0 emergency, 1 alert, 2 critical, 3 error, 4 warning, "
+    ++ codes "5 notice, 6 info, 7 debug. One of 8 or more is of user space; its level is the number modulo 8. "
+    ++ codes "The console keeps no levels.</p>\n") ∷ []
 
 -- before the style sheet: no script, and nothing from elsewhere
 abbrev pub head_words : List ℕ
@@ -63,7 +68,8 @@ heading_parts title =
 abbrev pub end_words : List ℕ
 end_words =
     codes "</main>\n<footer>\n<p>Times are UTC. Text of the region is printable ASCII, tabs and newlines; "
-    ++ codes "every other byte, and the backslash, is shown as <span class=\"mono\">\\x</span> and two hexadecimal digits.</p>\n"
+    ++ codes "every other byte, and the backslash, is shown as <span class=\"mono\">\\x</span> "
+    ++ codes "and two hexadecimal digits.</p>\n"
     ++ codes "</footer>\n</body>\n</html>\n"
 
 -- the heading, why the machine died, the records, and the picture of the zones

@@ -26,6 +26,11 @@ const NAVIGATION: &str =
     "</h1>\n<nav aria-label=\"Parts of this page\"><a href=\"#records\">Records</a> \
 <a href=\"#region\">Region</a></nav>\n";
 
+const LEVELS: &str = "</h2>\n<p class=\"note\">\
+The number before a line is its level: 0 emergency, 1 alert, 2 critical, 3 error, 4 warning, \
+5 notice, 6 info, 7 debug. One of 8 or more is of user space; its level is the number modulo 8. \
+The console keeps no levels.</p>\n";
+
 const END: &str =
     "</main>\n<footer>\n<p>Times are UTC. Text of the region is printable ASCII, tabs and newlines; \
 every other byte, and the backslash, is shown as <span class=\"mono\">\\x</span> and two hexadecimal digits.</p>\n\
@@ -129,7 +134,7 @@ fn add_records_opening(pieces: &mut Vec<Piece<'_>>, count: u64) -> Result<(), Al
         &[
             Piece::Own("<h2 id=\"records\">Records: "),
             Piece::Number(count),
-            Piece::Own("</h2>\n"),
+            Piece::Own(LEVELS),
         ],
     )
 }

@@ -3,8 +3,8 @@
 /// The style of a page in both themes, from 360 pixels to print. It names no color by its state alone: a word or a
 /// shape says it too.
 pub const STYLE: &str =
-    ":root{color-scheme:light dark;--bg:#fff;--fg:#1b1f24;--dim:#555c65;--line:#c6ccd3;--code:#f4f6f8;--mark:#ffeeb0;\n\
---link:#0a55c4;--ok:#1979af;--okf:#4094c6;--fix:#8f4c00;--bad:#560012;--off:#7d858f;\n\
+    ":root{color-scheme:light dark;--bg:#fff;--fg:#1b1f24;--dim:#555c65;--line:#c6ccd3;--code:#f4f6f8;\n\
+--mark:#ffeeb0;--link:#0a55c4;--ok:#1979af;--okf:#4094c6;--fix:#8f4c00;--bad:#560012;--off:#7d858f;\n\
 --l0:#8b0000;--l1:#b3123a;--l2:#a8227a;--l3:#b03a00;--l4:#8a6100;--l5:#0a6a8f;--l7:#5f6670}\n\
 @media screen and (prefers-color-scheme:dark){:root{--bg:#13161a;--fg:#e4e7eb;--dim:#a5adb7;--line:#3d454f;\n\
 --code:#1b2026;--mark:#463a0a;--link:#8ab8ff;--ok:#3d93cc;--okf:#3282ba;--fix:#e2a63c;--bad:#ffe6e1;--off:#808a95;\n\
@@ -61,7 +61,6 @@ white-space:pre-wrap;overflow-wrap:anywhere;tab-size:8}\n\
 .log .l4{border-left-color:var(--l4)}\n\
 .log .l5{border-left-color:var(--l5)}\n\
 .log .l7{border-left:.3125rem dotted var(--l7);color:var(--l7)}\n\
-.levels{columns:10rem;column-gap:1rem}\n\
 footer{margin-top:2rem;border-top:1px solid var(--line);color:var(--dim)}\n\
 :target{outline:2px solid var(--link);outline-offset:2px}\n\
 @media(max-width:34rem){.slim{display:none}text{font-size:.625rem}.grid th{font-size:.625rem}\n\
@@ -70,6 +69,7 @@ footer{margin-top:2rem;border-top:1px solid var(--line);color:var(--dim)}\n\
 summary span{margin-left:.375rem}}\n\
 @media print{@page{size:A4;margin:14mm}*{print-color-adjust:exact;-webkit-print-color-adjust:exact}\n\
 :root{color-scheme:light}body{max-width:none;padding:0;font-size:9pt}pre,td{font-size:7.5pt}.why{font-size:13pt}\n\
-nav{display:none}summary{list-style:none;break-after:avoid}h2{break-after:avoid}tr,.log i,.log mark{break-inside:avoid}\n\
+nav{display:none}summary{list-style:none;break-after:avoid}h2{break-after:avoid}\n\
+tr,.log i,.log mark{break-inside:avoid}\n\
 .scroll{overflow:visible}.grid td{white-space:pre-wrap}\n\
 details::details-content{content-visibility:visible;block-size:auto}}\n";
