@@ -6,7 +6,8 @@ mod listing;
 mod payloads;
 mod shown;
 
+pub use calendar::date_of;
 pub use listing::entries;
 pub use payloads::{Message, split_payload};
-pub use pmsg_spec::Entry;
-pub use shown::{payload, shown_lines};
+pub use pmsg_spec::{Date, Entry};
+pub use shown::{clock_text, date_text, digit, payload, shown_lines};

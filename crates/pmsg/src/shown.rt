@@ -9,7 +9,8 @@ use crate::payloads::split_payload;
 use pmsg_spec::{Date, Entry};
 use std::alloc::{AllocError, Global};
 
-fn digit(n: u32, units: u32) -> u8
+/// A digit of a number: that of the units, the tens ..
+pub fn digit(n: u32, units: u32) -> u8
     requires { 0 < units }
     ensures { result ≡ digit_of n units }
 {
@@ -23,8 +24,9 @@ fn digit_or_blank(n: u32, units: u32) -> u8
     if n < units { b' ' } else { digit(n, units) }
 }
 
+/// A date such as `2025-11-27`.
 #[tactic(auto, unfolding(pmsg_spec::specs::Lines::date_text))]
-fn date_text(date: Date) -> [u8; 10]
+pub fn date_text(date: Date) -> [u8; 10]
     ensures { result ≡ text_of_date date }
 {
     [
@@ -41,8 +43,9 @@ fn date_text(date: Date) -> [u8; 10]
     ]
 }
 
+/// The time of the day, of seconds of it and nanoseconds, to the millisecond, such as `00:04:18.836`.
 #[tactic(auto, unfolding(pmsg_spec::specs::Lines::clock_text))]
-fn clock_text(secs: u32, nanos: u32) -> [u8; 12]
+pub fn clock_text(secs: u32, nanos: u32) -> [u8; 12]
     ensures { result ≡ text_of_clock secs nanos }
 {
     let (hour, minute, second) = (secs / 3600, secs / 60 % 60, secs % 60);

@@ -1,5 +1,5 @@
 -- One zone more of the picture
-use Rattle.std.proofs.Common.{◌≡◌, ℕ, zero, suc, List, [], ◌∷◌, ◌++◌, length, ap, ap₂, sym, ◌∙◌, append-nil, arith, Some}
+use Rattle.std.proofs.Common.{◌≡◌, ℕ, zero, suc, List, [], ◌∷◌, ◌++◌, length, ap, ap₂, sym, ◌∙◌, append-nil, arith, codes, Some}
 use Rattle.std.specs.Prelude.{Option, slice_get, flat_map, min}
 use Rattle.std.specs.List.{zip}
 use Rattle.std.specs.Option.{option_map}
@@ -12,24 +12,27 @@ use Rattle.report_spec.specs.Parts.{PartStates}
 use Rattle.std.proofs.lemmas.Slice.Zip.{length-zip}
 use Rattle.prz_read.specs.Saving.{SavedLogs}
 use Rattle.prz_read.proofs.Saves.{zip-at}
-use Rattle.report_html.specs.Pieces.{Part}
+use Rattle.report_html.specs.Pieces.{Part, Words}
 use Rattle.report_html.proofs.Joined.{joined}
-use Rattle.report_html.specs.Pictures.{place_parts, read_words, runs, run_parts, unused_parts, zone_parts}
+use Rattle.report_html.specs.Pictures.{row_parts, header_parts, runs, run_parts, unused_parts, zone_parts}
 
 -- ---- one zone
 
-pub zone-added : (z : Zone) (r : Option ZoneReading) (p : PartStates) (class : List ℕ) (blocks : List PartState)
-    (old mid next new : List Part) → class ≡ read_words r → blocks ≡ p.blocks → mid ≡ old ++ place_parts z class
-    → next ≡ mid ++ flat_map (run_parts z) (runs 0 blocks) → new ≡ next ++ unused_parts z (length blocks)
+pub zone-added : (z : Zone) (r : Option ZoneReading) (p : PartStates) (header : PartState) (blocks : List PartState)
+    (old row head used rest new : List Part) → header ≡ p.header → blocks ≡ p.blocks → row ≡ old ++ row_parts z r
+    → head ≡ row ++ header_parts (Some header) → used ≡ head ++ flat_map (run_parts z) (runs 0 blocks)
+    → rest ≡ used ++ unused_parts z (length blocks) → new ≡ rest ++ Words (codes "</svg></td></tr>\n") ∷ []
     → new ≡ old ++ zone_parts ((z, r), p)
-zone-added z r p class blocks old mid next new named same placed used unused =
-    let run = flat_map (run_parts z) (runs 0 blocks) in
-    let rest = unused_parts z (length blocks) in
-    joined old (place_parts z class ++ run) rest next new (joined old (place_parts z class) run mid next placed used)
-    unused
-    ∙ ap (λ (words : List ℕ). old ++ (place_parts z words ++ run ++ rest)) named
-    ∙ ap (λ (bs : List PartState). old ++ (place_parts z (read_words r)
-    ++ flat_map (run_parts z) (runs 0 bs) ++ unused_parts z (length bs))) same
+zone-added z r p header blocks old row head used rest new first same e1 e2 e3 e4 e5 =
+    let a : List Part = row_parts z r in
+    let b : List Part = header_parts (Some header) in
+    let c : List Part = flat_map (run_parts z) (runs 0 blocks) in
+    let d : List Part = unused_parts z (length blocks) in
+    let end : List Part = Words (codes "</svg></td></tr>\n") ∷ [] in
+    joined old (a ++ b ++ c ++ d) end rest new
+    (joined old (a ++ b ++ c) d used rest (joined old (a ++ b) c head used (joined old a b row head e1 e2) e3) e4) e5
+    ∙ ap₂ (λ (h : PartState) (bs : List PartState). old ++ (a ++ header_parts (Some h)
+    ++ flat_map (run_parts z) (runs 0 bs) ++ unused_parts z (length bs) ++ end)) first same
 
 -- ---- the zones one after another
 
@@ -55,15 +58,15 @@ read-at (z ∷ zones) (q ∷ readings) zero r e = e
 read-at (z ∷ zones) (q ∷ readings) (suc i) r e = read-at zones readings i r e
 
 -- a zone, its reading and its parts at a place
-pub drawn : (zones : List Zone) (readings : List (Option ZoneReading)) (parts : List PartStates) (i : ℕ) (z : Zone)
+pub drawn : (f : Saved × PartStates → List Part) (zones : List Zone) (readings : List (Option ZoneReading)) (parts : List PartStates) (i : ℕ) (z : Zone)
     (r : Option ZoneReading) (p : PartStates) (d : Saved × PartStates) → slice_get zones i ≡ Some z
     → slice_get readings i ≡ Some r → slice_get parts i ≡ Some p
-    → slice_get (zip (zip zones readings) parts) i ≡ Some d → zone_parts ((z, r), p) ≡ flat_map zone_parts (d ∷ [])
-drawn zones readings parts i z r p d hz hr hp hd =
+    → slice_get (zip (zip zones readings) parts) i ≡ Some d → f ((z, r), p) ≡ flat_map f (d ∷ [])
+drawn f zones readings parts i z r p d hz hr hp hd =
     let here = zip-at (zip zones readings) parts i (z, r) p (zip-at zones readings i z r hz hr) hp in
     let same : Some ((z, r), p) ≡ Some d = sym here ∙ hd in
     let own : ((z, r), p) ≡ d = cc in
-    ap (λ (e : Saved × PartStates). zone_parts e) own ∙ sym (append-nil (zone_parts d))
+    ap (λ (e : Saved × PartStates). f e) own ∙ sym (append-nil (f d))
 
 min-swap : (a b c : ℕ) → min (min a b) c ≡ min (min a c) b
 min-swap a b c = omega arith

@@ -9,3 +9,4 @@ pub mod Counted
 pub mod Joined
 pub mod Blocks
 pub mod Drawn
+pub mod Places

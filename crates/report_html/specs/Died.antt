@@ -1,56 +1,157 @@
--- Why the machine died, in two lines
-use Rattle.std.specs.Prelude.{ℕ, Bool, false, ◌||◌, if◌then◌else◌, List, [], ◌∷◌, ◌++◌, codes, is_some, Option, Some, None}
+-- Why the machine died: the line that tells it, what is known of it, and the lines around it
+use Rattle.std.specs.Prelude.{ℕ, zero, suc, ◌+◌, ◌-◌, ◌==◌, Bool, ◌&&◌, nat_lt, min, if◌then◌else◌, List, [], ◌∷◌, ◌++◌, length, slice_index, codes, Option, Some, None}
+use Rattle.zone_spec.specs.declared.Name.{Name}
+use Rattle.zone_spec.specs.declared.Time.{Time}
+use Rattle.death_spec.specs.declared.Line.{Line}
 use Rattle.death_spec.specs.declared.Span.{Span}
 use Rattle.death_spec.specs.declared.Death.{Death}
-use Rattle.death_spec.specs.Lines.{part}
+use Rattle.death_spec.specs.Lines.{part, lines_from}
 use Rattle.report_spec.specs.Packed.{readable}
 use Rattle.report_spec.specs.Deaths.{DeathTold}
-use Rattle.report_html.specs.Pieces.{Part, Words, Bytes}
-use Rattle.report_html.specs.Names.{name_parts, time_parts}
+use Rattle.report_html.specs.Pieces.{Part, Words, Bytes, Moment, Log}
+use Rattle.report_html.specs.Names.{name_parts, link_parts}
 
--- before a part of the second line: it is indented, and commas stand between its parts
-abbrev pub lead : Bool → List ℕ
-lead begun = if begun then codes ", " else codes "      "
+-- ---- the line
 
-abbrev pub named_parts : Bool → List ℕ → List ℕ → Option Span → List Part
-named_parts begun label text None = []
-named_parts begun label text (Some span) =
-    Words (lead begun) ∷ Words label ∷ Bytes (part text span.start span.end) ∷ []
-
-abbrev pub end_words : Bool → List ℕ
-end_words begun = if begun then codes "\n</pre>\n" else codes "</pre>\n"
-
--- the processor, the task and the function, and no line if none is named
-abbrev pub context_parts : List ℕ → Death → List Part
-context_parts text d =
-    named_parts false (codes "cpu ") text d.cpu ++ named_parts (is_some d.cpu) [] text d.task
-    ++ named_parts (is_some d.cpu || is_some d.task) [] text d.function
-    ++ Words (end_words (is_some d.cpu || is_some d.task || is_some d.function)) ∷ []
+-- the panic below it, where the telling line is its cause
+abbrev pub second_parts : List ℕ → Option Line → List Part
+second_parts text None = []
+second_parts text (Some line) = Words (codes "\n") ∷ Bytes (part text line.text line.end) ∷ []
 
 abbrev pub said_parts : List ℕ → Death → List Part
 said_parts text d =
-    Words (codes "<pre>died: ") ∷ Bytes (part text d.telling.text d.telling.end) ∷ Words (codes "  (") ∷ []
+    Words (codes "<pre class=\"why\">") ∷ Bytes (part text d.telling.text d.telling.end)
+    ∷ second_parts text d.second ++ Words (codes "</pre>\n<table class=\"fact\">\n") ∷ []
 
--- what the telling line says, and which record says it when; and what is named below it
+-- ---- what is known of it
+
+-- a row of the table. What stands in its place if there is no such part
+abbrev pub fact_parts : (label missing text : List ℕ) → Option Span → List Part
+fact_parts label missing text None = Words missing ∷ []
+fact_parts label missing text (Some span) =
+    Words (codes "<tr><th scope=\"row\">") ∷ Words label ∷ Words (codes "</th><td>")
+    ∷ Bytes (part text span.start span.end) ∷ Words (codes "</td></tr>\n") ∷ []
+
+-- the stamp of a line without its brackets, if it has one
+abbrev pub stamp_of : Line → Option Span
+stamp_of line =
+    if nat_lt line.stamp line.caller then Some (record { start = line.stamp + 1; end = line.caller - 1 }) else None
+
+-- the time of the record that tells
+abbrev pub when_parts : Option Time → List Part
+when_parts None = Words (codes "<tr><th scope=\"row\">When</th><td>no date</td></tr>\n") ∷ []
+when_parts (Some time) =
+    Words (codes "<tr><th scope=\"row\">When</th><td><b>") ∷ Moment time ∷ Words (codes "</b></td></tr>\n") ∷ []
+
+abbrev pub no_cpu : List ℕ
+no_cpu = codes "<tr><th scope=\"row\">CPU</th><td>none is named below this line</td></tr>\n"
+
+abbrev pub no_function : List ℕ
+no_function = codes "<tr><th scope=\"row\">Function</th><td>none is named below this line</td></tr>\n"
+
+-- what the report below the line names
+abbrev pub context_parts : List ℕ → Death → List Part
+context_parts text d =
+    fact_parts (codes "Seconds after boot") [] text (stamp_of d.telling) ++ fact_parts (codes "CPU") no_cpu text d.cpu
+    ++ fact_parts (codes "Task") [] text d.task ++ fact_parts (codes "Kernel") [] text d.kernel
+    ++ fact_parts (codes "Function") no_function text d.function
+
+-- ---- the lines around it
+
+-- whether this is the newline before the line that is looked for
+abbrev pub is_found : ℕ → ℕ → Bool
+is_found b lines = (b == 10) && (lines == 0)
+
+-- the lines that are left above a byte
+abbrev pub fewer : ℕ → ℕ → ℕ
+fewer b lines = if b == 10 then lines - 1 else lines
+
+-- the place of the line so many lines above the one that a place is in or behind
+unfoldable pub back : List ℕ → ℕ → ℕ → ℕ
+back text zero lines = zero
+back text (suc p) lines =
+    if is_found (slice_index text p) lines then suc p else back text p (fewer (slice_index text p) lines)
+
+-- the place of the line so many lines above the one at a place, or of the first
+abbrev pub place_above : List ℕ → ℕ → ℕ → ℕ
+place_above text at lines = back text (min at (length text)) lines
+
+abbrev pub next_at : ℕ → List Line → ℕ
+next_at at [] = at
+next_at at (line ∷ lines) = line.next
+
+-- the place so many lines below one at which a line begins, or the end
+unfoldable pub below : List ℕ → ℕ → ℕ → ℕ
+below text at zero = at
+below text at (suc lines) = below text (next_at at (lines_from text at)) lines
+
+abbrev pub log_parts : List ℕ → (from to : ℕ) → List Part
+log_parts text from to = Log (part text from to) ∷ []
+
+abbrev pub marked_parts : List ℕ → Line → List Part
+marked_parts text line =
+    Words (codes "<mark>") ∷ Log (part text line.start line.next) ∷ Words (codes "</mark>") ∷ []
+
+-- the lines below the telling line, up to 16 below the last one that tells
+abbrev pub rest_parts : List ℕ → ℕ → Option Line → List Part
+rest_parts text at None = log_parts text at (below text at 16)
+rest_parts text at (Some line) =
+    log_parts text at line.start ++ marked_parts text line ++ log_parts text line.next (below text line.next 16)
+
+-- eight lines above the telling line, and the lines below
+abbrev pub around_parts : List ℕ → Death → List Part
+around_parts text d =
+    log_parts text (place_above text d.telling.start 8) d.telling.start ++ marked_parts text d.telling
+    ++ rest_parts text d.telling.next d.second
+
+-- ---- all of it
+
+-- which record tells: a link, and the head of the lines
+abbrev pub teller_parts : Name → List Part
+teller_parts name =
+    Words (codes "<tr><th scope=\"row\">Told by</th><td>") ∷ [] ++ link_parts name
+    ++ Words (codes "</td></tr>\n</table>\n</header>\n<main>\n<h2 id=\"told\">The lines that tell it, in ") ∷ []
+    ++ name_parts name ++ Words (codes "</h2>\n<pre class=\"log\">\n") ∷ []
+
 abbrev pub death_parts : DeathTold → List Part
 death_parts t =
-    said_parts (readable t.teller) t.death ++ name_parts t.teller.name ++ time_parts t.teller.time
-    ++ Words (codes ")\n") ∷ [] ++ context_parts (readable t.teller) t.death
+    said_parts (readable t.teller) t.death ++ when_parts t.teller.time ++ context_parts (readable t.teller) t.death
+    ++ teller_parts t.teller.name ++ around_parts (readable t.teller) t.death ++ Words (codes "</pre>\n") ∷ []
 
 abbrev pub died_parts : Option DeathTold → List Part
-died_parts None = Words (codes "<pre>died: no record tells why\n</pre>\n") ∷ []
+died_parts None = Words (codes "<pre class=\"why\">No record tells why.</pre>\n</header>\n<main>\n") ∷ []
 died_parts (Some t) = death_parts t
 
 -- ---- what of it comes from the image
+
+abbrev pub second_bytes : List ℕ → Option Line → List (List ℕ)
+second_bytes text None = []
+second_bytes text (Some line) = part text line.text line.end ∷ []
 
 abbrev pub named_bytes : List ℕ → Option Span → List (List ℕ)
 named_bytes text None = []
 named_bytes text (Some span) = part text span.start span.end ∷ []
 
+abbrev pub said_bytes : List ℕ → Death → List (List ℕ)
+said_bytes text d = part text d.telling.text d.telling.end ∷ second_bytes text d.second
+
+abbrev pub context_bytes : List ℕ → Death → List (List ℕ)
+context_bytes text d =
+    named_bytes text (stamp_of d.telling) ++ named_bytes text d.cpu ++ named_bytes text d.task
+    ++ named_bytes text d.kernel ++ named_bytes text d.function
+
+abbrev pub rest_bytes : List ℕ → ℕ → Option Line → List (List ℕ)
+rest_bytes text at None = part text at (below text at 16) ∷ []
+rest_bytes text at (Some line) =
+    part text at line.start ∷ part text line.start line.next ∷ part text line.next (below text line.next 16) ∷ []
+
+abbrev pub around_bytes : List ℕ → Death → List (List ℕ)
+around_bytes text d =
+    part text (place_above text d.telling.start 8) d.telling.start ∷ part text d.telling.start d.telling.next
+    ∷ rest_bytes text d.telling.next d.second
+
 abbrev pub death_bytes : List ℕ → Death → List (List ℕ)
-death_bytes text d =
-    part text d.telling.text d.telling.end ∷ named_bytes text d.cpu ++ named_bytes text d.task
-    ++ named_bytes text d.function
+death_bytes text d = said_bytes text d ++ context_bytes text d ++ around_bytes text d
 
 abbrev pub died_bytes : Option DeathTold → List (List ℕ)
 died_bytes None = []

@@ -5,12 +5,14 @@ use Rattle.report_spec.specs.Escaped.{escaped, IsText}
 use Rattle.report_spec.specs.Packed.{RecordShown, readable}
 use Rattle.report_spec.specs.Deaths.{DeathTold, death_told}
 use Rattle.report_html.specs.Died.{died_bytes}
-use Rattle.report_html.specs.Pieces.{Part, Words, Count, Bytes, parts_text}
+use Rattle.report_html.specs.Pieces.{Part, Words, Count, Bytes, Moment, Log, parts_text}
 
 abbrev pub foreign_in : Part → List (List ℕ)
 foreign_in (Words text) = []
 foreign_in (Count n) = []
 foreign_in (Bytes bytes) = bytes ∷ []
+foreign_in (Moment time) = []
+foreign_in (Log text) = text ∷ []
 
 -- the foreign bytes of parts, in order
 abbrev pub foreign_of : List Part → List (List ℕ)

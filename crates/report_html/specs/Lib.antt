@@ -1,3 +1,5 @@
+pub mod Moments
+pub mod Logs
 pub mod Pieces
 pub mod Pictures
 pub mod Covers

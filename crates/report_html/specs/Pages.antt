@@ -1,54 +1,82 @@
 -- The page of a report
 use Rattle.std.specs.Prelude.{ℕ, List, [], ◌∷◌, ◌++◌, length, flat_map, codes}
+use Rattle.zone_spec.specs.declared.Name.{Name}
 use Rattle.zone_spec.specs.declared.Zone.{Zone}
 use Rattle.report_spec.specs.declared.Packing.{Packing}
 use Rattle.report_spec.specs.declared.Packing.TheVariants.{Plain, Whole, Part as PartOfText}
 use Rattle.report_spec.specs.Packed.{RecordShown, fault_words, readable}
 use Rattle.report_spec.specs.Deaths.{death_told}
 use Rattle.record_report.specs.Reports.{ReportHeld}
-use Rattle.report_html.specs.declared.page.TheConstants.{STYLE}
-use Rattle.report_html.specs.Pieces.{Part, Words, Count, Bytes, parts_text}
+use Rattle.report_html.specs.declared.style.TheConstants.{STYLE}
+use Rattle.report_html.specs.Pieces.{Part, Words, Count, Bytes, Log, parts_text}
 use Rattle.report_html.specs.Names.{name_parts, time_parts}
 use Rattle.report_html.specs.Died.{died_parts}
 use Rattle.report_html.specs.Pictures.{picture}
 
 abbrev pub length_parts : ℕ → List Part
-length_parts bytes = Words (codes ", bytes: ") ∷ Count bytes ∷ []
-
-abbrev pub content_parts : List ℕ → List Part
-content_parts content =
-    Words (codes "</summary><pre>\n") ∷ Bytes content ∷ Words (codes "</pre></details>\n") ∷ []
+length_parts bytes = Words (codes "<span>") ∷ Count bytes ∷ Words (codes " bytes</span>") ∷ []
 
 -- whether a dump was packed, and how far its bytes inflate
 abbrev pub packing_parts : Packing (List ℕ) → List Part
 packing_parts Plain = []
-packing_parts (Whole taken) = Words (codes ", inflated from ") ∷ Count taken ∷ Words (codes " bytes") ∷ []
-packing_parts (PartOfText fault text) = Words (codes ", inflated in part: ") ∷ Words (fault_words fault) ∷ []
+packing_parts (Whole taken) =
+    Words (codes "<span>inflated from ") ∷ Count taken ∷ Words (codes " bytes</span>") ∷ []
+packing_parts (PartOfText fault text) =
+    Words (codes "<span class=\"fix\">inflated in part: ") ∷ Words (fault_words fault) ∷ Words (codes "</span>") ∷ []
 
--- a record to fold out: its name, the length of its file, its time and packing, and what people read of it
+-- its lines, with its name as their anchor
+abbrev pub content_parts : Name → List ℕ → List Part
+content_parts name content =
+    Words (codes "</summary>\n<pre class=\"log\" id=\"") ∷ [] ++ name_parts name
+    ++ Words (codes "\">\n") ∷ Log content ∷ Words (codes "</pre>\n</details>\n") ∷ []
+
+-- a record to fold out: its name, its time, the length of its file and its packing, and what people read of it
 abbrev pub record_parts : RecordShown → List Part
 record_parts r =
-    Words (codes "<details><summary>") ∷ [] ++ name_parts r.name ++ length_parts (length r.content)
-    ++ time_parts r.time ++ packing_parts r.packing ++ content_parts (readable r)
+    Words (codes "<details>\n<summary><b>") ∷ [] ++ name_parts r.name ++ Words (codes "</b>") ∷ []
+    ++ time_parts r.time ++ length_parts (length r.content) ++ packing_parts r.packing
+    ++ content_parts r.name (readable r)
+
+-- how many there are, and what the number of a line means
+abbrev pub records_opening : ℕ → List Part
+records_opening count =
+    Words (codes "<h2 id=\"records\">Records: ") ∷ Count count ∷ Words (codes "</h2>\n<p class=\"note\">"
+    ++ codes "The number before a line is its level: 0 emergency, 1 alert, 2 critical, 3 error, 4 warning, "
+    ++ codes "5 notice, 6 info, 7 debug. One of 8 or more is of user space; its level is the number modulo 8. "
+    ++ codes "The console keeps no levels.</p>\n") ∷ []
 
 -- before the style sheet: no script, and nothing from elsewhere
 abbrev pub head_words : List ℕ
 head_words =
     codes "<!doctype html>\n<html lang=\"en\">\n<head>\n<meta charset=\"utf-8\">\n"
+    ++ codes "<meta name=\"viewport\" content=\"width=device-width, initial-scale=1\">\n"
     ++ codes "<meta http-equiv=\"Content-Security-Policy\" content=\"default-src 'none'; style-src 'unsafe-inline'\">\n"
     ++ codes "<title>Crash log report</title>\n<style>\n"
+
+abbrev pub navigation_words : List ℕ
+navigation_words =
+    codes "</h1>\n<nav aria-label=\"Parts of this page\"><a href=\"#records\">Records</a> "
+    ++ codes "<a href=\"#region\">Region</a></nav>\n"
 
 -- a head with the style sheet, and the title
 abbrev pub heading_parts : List ℕ → List Part
 heading_parts title =
-    Words head_words ∷ Words STYLE.now ∷ Words (codes "</style>\n</head>\n<body>\n<h1>") ∷ Bytes title
-    ∷ Words (codes "</h1>\n") ∷ []
+    Words head_words ∷ Words STYLE.now
+    ∷ Words (codes "</style>\n</head>\n<body>\n<header>\n<h1>Why this machine died: ") ∷ Bytes title
+    ∷ Words navigation_words ∷ []
 
--- the heading, why the machine died, the picture of the zones, and the records
+abbrev pub end_words : List ℕ
+end_words =
+    codes "</main>\n<footer>\n<p>Times are UTC. Text of the region is printable ASCII, tabs and newlines; "
+    ++ codes "every other byte, and the backslash, is shown as <span class=\"mono\">\\x</span> "
+    ++ codes "and two hexadecimal digits.</p>\n"
+    ++ codes "</footer>\n</body>\n</html>\n"
+
+-- the heading, why the machine died, the records, and the picture of the zones
 abbrev pub page_parts : List ℕ → List Zone → ReportHeld → List Part
 page_parts title zones report =
-    heading_parts title ++ died_parts (death_told report.records) ++ picture zones report
-    ++ flat_map record_parts report.records ++ Words (codes "</body>\n</html>\n") ∷ []
+    heading_parts title ++ died_parts (death_told report.records) ++ records_opening (length report.records)
+    ++ flat_map record_parts report.records ++ picture zones report ++ Words end_words ∷ []
 
 -- the page under this title of the report of these zones
 unfoldable pub page_of : List ℕ → List Zone → ReportHeld → List ℕ

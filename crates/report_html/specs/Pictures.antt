@@ -1,5 +1,5 @@
--- The picture of an image: its zones, and below them their blocks, to scale
-use Rattle.std.specs.Prelude.{ℕ, ◌+◌, ◌-◌, ◌*◌, min, Bool, true, false, ◌==◌, nat_lt, if◌then◌else◌, List, [], ◌∷◌, ◌++◌, length, slice_get, flat_map, codes, Option, Some, None}
+-- The picture of an image: its zones to scale, and a table of them with their blocks
+use Rattle.std.specs.Prelude.{ℕ, ◌+◌, ◌-◌, ◌*◌, ◌/◌, min, Bool, true, false, ◌==◌, nat_lt, if◌then◌else◌, List, [], ◌∷◌, ◌++◌, length, slice_get, flat_map, codes, Option, Some, None}
 use Rattle.std.specs.List.{zip}
 use Rattle.zone_spec.specs.declared.Kind.{Kind}
 use Rattle.zone_spec.specs.declared.Kind.TheVariants.{Dump, Console, Ftrace, Pmsg}
@@ -14,16 +14,7 @@ use Rattle.report_spec.specs.Parts.{PartStates}
 use Rattle.record_report.specs.Reports.{ReportHeld}
 use Rattle.report_html.specs.Pieces.{Part, Words, Count}
 
--- ---- rectangles
-
--- where a rectangle begins: its class, its rows of the picture, the byte it begins at and its width in bytes
-abbrev pub opening : (class rows : List ℕ) (at width : ℕ) → List Part
-opening class rows at width =
-    Words (codes "<rect class=\"") ∷ Words class ∷ Words rows ∷ Count at ∷ Words (codes "\" width=\"") ∷ Count width
-    ∷ Words (codes "\"><title>") ∷ []
-
-abbrev pub closing : List Part
-closing = Words (codes "</title></rect>\n") ∷ []
+-- ---- zones
 
 abbrev pub kind_words : Kind → List ℕ
 kind_words Dump = codes "dump "
@@ -34,8 +25,6 @@ kind_words Pmsg = codes "pmsg "
 abbrev pub zone_name : Zone → List Part
 zone_name z = Words (kind_words z.name.kind) ∷ Count z.name.index ∷ []
 
--- ---- zones
-
 abbrev pub state_words : State → List ℕ
 state_words Unsigned = codes "unsigned"
 state_words Empty = codes "empty"
@@ -43,22 +32,94 @@ state_words Invalid = codes "invalid"
 state_words Found = codes "found"
 
 abbrev pub read_words : Option ZoneReading → List ℕ
-read_words None = []
+read_words None = codes "not read"
 read_words (Some r) = state_words r.state
 
--- a zone's place, and what it was taken for
-abbrev pub place_parts : Zone → List ℕ → List Part
-place_parts z state =
-    opening state (codes "\" y=\"0\" height=\"24\" x=\"") z.at z.size
-    ++ zone_name z ++ Words (codes ": ") ∷ Words state ∷ [] ++ closing
+-- ---- the map of the region
 
--- ---- blocks
+-- a share in thousandths of a percent, rounded down; none of nothing
+abbrev pub share : (part whole : ℕ) → ℕ
+share part whole = if whole == 0 then 0 else part * 100_000 / whole
 
--- how blocks read, None where they are not in use
+-- the class of a zone by its worst part, and the rows of its bar: the worse, the higher
+abbrev pub state_bar : State → List ℕ
+state_bar Unsigned = codes "off\" y=\"48\" height=\"4\" width=\""
+state_bar Empty = codes "off\" y=\"48\" height=\"4\" width=\""
+state_bar Invalid = codes "off\" y=\"48\" height=\"4\" width=\""
+state_bar Found = codes "ok\" y=\"42\" height=\"10\" width=\""
+
+abbrev pub reading_bar : ZoneReading → List ℕ
+reading_bar r =
+    if nat_lt 0 r.bad then codes "bad\" y=\"30\" height=\"22\" width=\""
+    else (if nat_lt 0 r.corrected then codes "fix\" y=\"36\" height=\"16\" width=\"" else state_bar r.state)
+
+abbrev pub bar_words : Option ZoneReading → List ℕ
+bar_words None = codes "off\" y=\"48\" height=\"4\" width=\""
+bar_words (Some r) = reading_bar r
+
+-- the bytes that a zone has in use, with its header; all if it was not found
+abbrev pub used_by : Zone → ZoneReading → State → ℕ
+used_by z r Unsigned = z.size
+used_by z r Empty = z.size
+used_by z r Invalid = z.size
+used_by z r Found = 12 + r.words.size
+
+abbrev pub used_bytes : Zone → Option ZoneReading → ℕ
+used_bytes z None = z.size
+used_bytes z (Some r) = used_by z r r.state
+
+abbrev pub label_opening : (size whole : ℕ) → List ℕ
+label_opening size whole =
+    if nat_lt (8 * size) whole then codes "<g class=\"slim\"><text x=\"3\" y=\"13\">"
+    else codes "<g><text x=\"3\" y=\"13\">"
+
+abbrev pub fitting_parts : Zone → ℕ → List Part
+fitting_parts z whole =
+    Words (label_opening z.size whole) ∷ [] ++ zone_name z
+    ++ Words (codes "</text><text x=\"3\" y=\"27\">") ∷ Count z.size ∷ Words (codes "</text></g>") ∷ []
+
+-- a zone's name and size, where they fit: a sixteenth of the region; an eighth on a narrow page
+abbrev pub label_parts : Zone → ℕ → List Part
+label_parts z whole = if nat_lt (16 * z.size) whole then [] else fitting_parts z whole
+
+abbrev pub place_parts : ℕ → Zone → List Part
+place_parts whole z =
+    Words (codes "<svg x=\"") ∷ Count (share z.at whole) ∷ Words (codes "e-3%\" width=\"") ∷ Count (share z.size whole)
+    ∷ Words (codes "e-3%\"><title>") ∷ []
+
+abbrev pub bar_parts : Zone → Option ZoneReading → List Part
+bar_parts z r =
+    Words (codes ": ") ∷ Words (read_words r)
+    ∷ Words (codes "</title><rect class=\"zone\" width=\"100%\" height=\"52\"/><rect class=\"") ∷ Words (bar_words r)
+    ∷ Count (share (used_bytes z r) z.size) ∷ Words (codes "e-3%\"/>") ∷ []
+
+-- a zone in the map, as wide as its share of the region
+abbrev pub map_parts : ℕ → Zone → Option ZoneReading → List Part
+map_parts whole z r =
+    place_parts whole z ++ zone_name z ++ bar_parts z r ++ label_parts z whole ++ Words (codes "</svg>\n") ∷ []
+
+-- ---- the strip of a zone
+
+-- the class of parts by how they read, and their rows: the worse, the higher. None where they are not in use
+abbrev pub class_words : Option PartState → List ℕ
+class_words None = codes "off\" y=\"20\" height=\"4\" x=\""
+class_words (Some (Read n)) =
+    if n == 0 then codes "ok\" y=\"12\" height=\"12\" x=\"" else codes "fix\" y=\"6\" height=\"18\" x=\""
+class_words (Some Bad) = codes "bad\" y=\"0\" height=\"24\" x=\""
+
 abbrev pub part_words : Option PartState → List ℕ
-part_words None = codes "unused"
+part_words None = codes "not in use"
 part_words (Some (Read n)) = if n == 0 then codes "clean" else codes "corrected"
 part_words (Some Bad) = codes "bad"
+
+-- where a rectangle begins: its class, the byte of the zone it begins at and its width in bytes
+abbrev pub opening : (class : List ℕ) (at width : ℕ) → List Part
+opening class at width =
+    Words (codes "<rect class=\"") ∷ Words class ∷ Count at ∷ Words (codes "\" width=\"") ∷ Count width
+    ∷ Words (codes "\"><title>") ∷ []
+
+abbrev pub closing : List Part
+closing = Words (codes "</title></rect>\n") ∷ []
 
 abbrev pub count_parts : ℕ → List Part
 count_parts n = if n == 0 then [] else Words (codes ", bytes corrected in each: ") ∷ Count n ∷ []
@@ -68,25 +129,28 @@ corrected_parts None = []
 corrected_parts (Some (Read n)) = count_parts n
 corrected_parts (Some Bad) = []
 
+-- the 12 bytes of the header
+abbrev pub header_parts : Option PartState → List Part
+header_parts state =
+    opening (class_words state) 0 12 ++ Words (codes "header, ") ∷ Words (part_words state) ∷ []
+    ++ corrected_parts state ++ closing
+
 -- where a block's data begin among those of its zone
 abbrev pub block_at : Zone → ℕ → ℕ
 block_at z b = min (z.block * b) z.cap
 
--- the rectangle of a zone's blocks from one up to another: its data begin after the 12 bytes of its header
+-- the rectangle of a zone's blocks from one up to another: their data begin after the 12 bytes of its header
 abbrev pub blocks_opening : Zone → (from to : ℕ) (class : List ℕ) → List Part
-blocks_opening z from to class =
-    opening class (codes "\" y=\"30\" height=\"70\" x=\"") (z.at + block_at z from + 12)
-    (block_at z to - block_at z from)
+blocks_opening z from to class = opening class (block_at z from + 12) (block_at z to - block_at z from)
 
-abbrev pub range_parts : (from to : ℕ) (class : List ℕ) → List Part
-range_parts from to class =
-    Words (codes ": blocks ") ∷ Count from ∷ Words (codes " up to ") ∷ Count to ∷ Words (codes ", ") ∷ Words class
-    ∷ []
+abbrev pub range_parts : (from to : ℕ) (words : List ℕ) → List Part
+range_parts from to words =
+    Words (codes "blocks ") ∷ Count from ∷ Words (codes " up to ") ∷ Count to ∷ Words (codes ", ") ∷ Words words ∷ []
 
 -- blocks that read alike
 abbrev pub blocks_parts : Zone → (from to : ℕ) → Option PartState → List Part
 blocks_parts z from to state =
-    blocks_opening z from to (part_words state) ++ zone_name z ++ range_parts from to (part_words state)
+    blocks_opening z from to (class_words state) ++ range_parts from to (part_words state)
     ++ corrected_parts state ++ closing
 
 -- neighbouring blocks that read alike
@@ -120,36 +184,86 @@ run_parts z r = blocks_parts z r.from r.to (Some r.state)
 abbrev pub unused_parts : Zone → ℕ → List Part
 unused_parts z used = if nat_lt used z.blocks then blocks_parts z used z.blocks None else []
 
--- ---- the whole picture
+-- ---- the table of zones
 
--- a zone with its reading, and its blocks
+abbrev pub cell : List ℕ
+cell = codes "</td><td class=\"n\">"
+
+-- the words of a header as it reads, corrected bytes and bad parts
+abbrev pub reading_cells : ZoneReading → List Part
+reading_cells r =
+    Words cell ∷ Count r.words.start ∷ Words cell ∷ Count r.words.size ∷ Words cell ∷ Count r.corrected ∷ Words cell
+    ∷ Count r.bad ∷ []
+
+abbrev pub unread_cells : List Part
+unread_cells = Words (codes "</td><td colspan=\"4\">") ∷ []
+
+abbrev pub read_cells : Option ZoneReading → List Part
+read_cells None = unread_cells
+read_cells (Some r) = reading_cells r
+
+-- a zone's name, state, place and size, and what was read; and below them room for its strip
+abbrev pub row_parts : Zone → Option ZoneReading → List Part
+row_parts z r =
+    Words (codes "<tr><th scope=\"row\">") ∷ [] ++ zone_name z ++ Words (codes "</th><td>") ∷ Words (read_words r)
+    ∷ Words cell ∷ Count z.at ∷ Words cell ∷ Count z.size ∷ [] ++ read_cells r
+    ++ Words (codes "</td></tr>\n<tr><td class=\"pic\" colspan=\"8\"><svg class=\"strip\" viewBox=\"0 0 ")
+    ∷ Count z.size ∷ Words (codes " 24\" preserveAspectRatio=\"none\">\n") ∷ []
+
+-- a zone with its reading, its header and its blocks
 abbrev pub zone_parts : Saved × PartStates → List Part
 zone_parts d =
-    place_parts d.0.0 (read_words d.0.1) ++ flat_map (run_parts d.0.0) (runs 0 d.1.blocks)
-    ++ unused_parts d.0.0 (length d.1.blocks)
+    row_parts d.0.0 d.0.1 ++ header_parts (Some d.1.header) ++ flat_map (run_parts d.0.0) (runs 0 d.1.blocks)
+    ++ unused_parts d.0.0 (length d.1.blocks) ++ Words (codes "</svg></td></tr>\n") ∷ []
+
+-- ---- the whole
+
+-- a zone in the table, or in the map of so many bytes
+abbrev pub drawn_parts : Bool → ℕ → Saved × PartStates → List Part
+drawn_parts true whole d = zone_parts d
+drawn_parts false whole d = map_parts whole d.0.0 d.0.1
 
 -- where a zone ends
 abbrev pub end_of : Option Zone → ℕ
 end_of None = 0
 end_of (Some z) = z.at + z.size
 
-abbrev pub legend_parts : List Part
-legend_parts =
-    Words (codes "</svg>\n<p>The zones, and below them their blocks: "
-    ++ codes "<span class=\"clean\">&#9632;</span> found or clean, "
-    ++ codes "<span class=\"corrected\">&#9632;</span> corrected, "
-    ++ codes "<span class=\"bad\">&#9632;</span> invalid or bad, "
-    ++ codes "<span class=\"unused\">&#9632;</span> empty, unsigned or unused.</p>\n")
-    ∷ []
+-- the bytes up to the end of the last zone
+abbrev pub width_of : List Zone → ℕ
+width_of zones = end_of (slice_get zones (length zones - 1))
 
--- as wide as the zones are long
-abbrev pub picture_opening : List Zone → List Part
-picture_opening zones =
-    Words (codes "<svg viewBox=\"0 0 ") ∷ Count (end_of (slice_get zones (length zones - 1)))
-    ∷ Words (codes " 100\" preserveAspectRatio=\"none\">\n") ∷ []
+abbrev pub region_opening : ℕ → ℕ → List Part
+region_opening whole count =
+    Words (codes "<h2 id=\"region\">The region: ") ∷ Count whole ∷ Words (codes " bytes, ") ∷ Count count
+    ∷ Words (codes " zones</h2>\n<svg class=\"map\" role=\"img\" "
+    ++ codes "aria-label=\"The region to scale; the table below has its numbers\">\n") ∷ []
 
--- a rectangle for each zone and each run of its blocks, and a legend
+abbrev pub key_words : List ℕ
+key_words =
+    codes "</svg>\n<ul class=\"legend\">\n"
+    ++ codes "<li><svg class=\"key\"><rect class=\"ok\" y=\"10\" width=\"16\" height=\"10\"/></svg>clean</li>\n"
+    ++ codes "<li><svg class=\"key\"><rect class=\"fix\" y=\"5\" width=\"16\" height=\"15\"/></svg>corrected</li>\n"
+    ++ codes "<li><svg class=\"key\"><rect class=\"bad\" width=\"16\" height=\"20\"/></svg>"
+    ++ codes "bad: more damage than parity repairs</li>\n"
+    ++ codes "<li><svg class=\"key\"><rect class=\"off\" y=\"16\" width=\"16\" height=\"4\"/></svg>not in use</li>\n"
+    ++ codes "</ul>\n<p class=\"note\">To scale. A zone has the colour of its worst part. "
+    ++ codes "In the table each zone has its header and blocks below it.</p>\n"
+
+abbrev pub table_words : List ℕ
+table_words =
+    codes "<div class=\"scroll\" tabindex=\"0\" role=\"region\" aria-label=\"Zones\"><table class=\"grid\">\n"
+    ++ codes "<tr><th scope=\"col\">Zone</th><th scope=\"col\">State</th><th scope=\"col\" class=\"n\">Place</th>"
+    ++ codes "<th scope=\"col\" class=\"n\">Size</th><th scope=\"col\" class=\"n\">Start</th>"
+    ++ codes "<th scope=\"col\" class=\"n\">Used</th><th scope=\"col\" class=\"n\">Corrected</th>"
+    ++ codes "<th scope=\"col\" class=\"n\">Bad</th></tr>\n"
+
+abbrev pub all_drawn : Bool → List Zone → ReportHeld → List Part
+all_drawn in_table zones report =
+    flat_map (drawn_parts in_table (width_of zones)) (zip (zip zones report.logs.readings) report.parts)
+
+-- the zones to scale, and a table with a row and a strip for each
 abbrev pub picture : List Zone → ReportHeld → List Part
 picture zones report =
-    picture_opening zones ++ flat_map zone_parts (zip (zip zones report.logs.readings) report.parts)
-    ++ legend_parts
+    region_opening (width_of zones) (length zones) ++ all_drawn false zones report
+    ++ Words key_words ∷ Words table_words ∷ [] ++ all_drawn true zones report
+    ++ Words (codes "</table></div>\n") ∷ []

@@ -1,77 +1,283 @@
-// Why the machine died, in two lines.
+// Why the machine died: the line that tells it, what is known of it, and the lines around it.
 ghost use Rattle.std.specs.Prelude.{◌≡◌, ◌++◌, OnOk};
 ghost use Rattle.zone_spec.specs.Parts.{AreBytes};
+ghost use Rattle.death_spec.specs.Lines.{lines_from};
 ghost use Rattle.report_spec.specs.Packed.{readable};
 ghost use Rattle.report_spec.specs.Deaths.{death_told};
 ghost use Rattle.record_report.specs.Tellers.{as_told};
 ghost use Rattle.report_html.specs.Pieces.{parts};
-ghost use Rattle.report_html.specs.Died.{named_parts, context_parts, said_parts, death_parts, died_parts};
+ghost use Rattle.report_html.specs.Died.{second_parts, said_parts, fact_parts, stamp_of as stamp_span, when_parts, context_parts, is_found as is_line_found, fewer as lines_fewer, place_above as place_before, next_at, below as place_below, log_parts, marked_parts, rest_parts, around_parts, teller_parts, death_parts, died_parts};
 ghost use Rattle.report_html.specs.Escaping.{TellsBytes};
 
-use crate::page::{add_name, add_time};
+use crate::names::{add_link, add_name};
 use crate::pieces::{Piece, add};
-use death::part;
-use death_spec::{Death, Span};
+use death::{next_line, part};
+use death_spec::{Death, Line, Span};
 use record_report::{RecordReport, Told, death_told};
 use std::alloc::AllocError;
+use zone_spec::{Name, Time};
 
-/// Adds a part of the second line, if there is one.
-fn add_named<'a>(
+const NO_CPU: &str = "<tr><th scope=\"row\">CPU</th><td>none is named below this line</td></tr>\n";
+
+const NO_FUNCTION: &str =
+    "<tr><th scope=\"row\">Function</th><td>none is named below this line</td></tr>\n";
+
+const TOLD: &str =
+    "</td></tr>\n</table>\n</header>\n<main>\n<h2 id=\"told\">The lines that tell it, in ";
+
+/// The lines that are shown above the telling line.
+const ABOVE: usize = 8;
+
+/// The lines that are shown below the last line that tells.
+const BELOW: usize = 16;
+
+fn add_second<'a>(
     pieces: &mut Vec<Piece<'a>>,
-    begun: bool,
-    label: &'static str,
     text: &'a [u8],
-    span: Option<Span>,
+    second: Option<Line>,
 ) -> Result<(), AllocError>
-    ensures { OnOk result (parts pieces.new.items
-        ≡ parts pieces.old.items ++ named_parts begun label.entry.now text.entry.now span) }
+    ensures { OnOk result (parts pieces.new.items ≡ parts pieces.old.items ++ second_parts text.entry.now second) }
 {
-    match span {
-        Some(span) => add(
+    match second {
+        Some(line) => add(
             pieces,
             &[
-                Piece::Own(if begun { ", " } else { "      " }),
-                Piece::Own(label),
-                Piece::Foreign(part(text, span.start, span.end)),
+                Piece::Own("\n"),
+                Piece::Foreign(part(text, line.text, line.end)),
             ],
         ),
         None => Ok(()),
     }
 }
 
-/// Adds the processor, the task and the function, as far as they are named, and the end.
-fn add_context<'a>(
-    pieces: &mut Vec<Piece<'a>>,
-    text: &'a [u8],
-    death: Death,
-) -> Result<(), AllocError>
-    ensures bytes { AreBytes text.entry.now }
-    ensures parts { OnOk result (parts pieces.new.items
-        ≡ parts pieces.old.items ++ context_parts text.entry.now death) }
-{
-    let has_cpu = death.cpu.is_some();
-    let has_either = has_cpu || death.task.is_some();
-    let has_any = has_either || death.function.is_some();
-    add_named(pieces, false, "cpu ", text, death.cpu)?;
-    add_named(pieces, has_cpu, "", text, death.task)?;
-    add_named(pieces, has_either, "", text, death.function)?;
-    add(
-        pieces,
-        &[Piece::Own(if has_any { "\n</pre>\n" } else { "</pre>\n" })],
-    )
-}
-
+/// Adds what the telling line says, and the panic below it.
 fn add_said<'a>(pieces: &mut Vec<Piece<'a>>, text: &'a [u8], death: Death) -> Result<(), AllocError>
     ensures { OnOk result (parts pieces.new.items ≡ parts pieces.old.items ++ said_parts text.entry.now death) }
 {
     add(
         pieces,
         &[
-            Piece::Own("<pre>died: "),
+            Piece::Own("<pre class=\"why\">"),
             Piece::Foreign(part(text, death.telling.text, death.telling.end)),
-            Piece::Own("  ("),
+        ],
+    )?;
+    add_second(pieces, text, death.second)?;
+    add(pieces, &[Piece::Own("</pre>\n<table class=\"fact\">\n")])?;
+    Ok(())
+}
+
+/// Adds a row of the table, or what stands in its place if there is no such part.
+fn add_fact<'a>(
+    pieces: &mut Vec<Piece<'a>>,
+    label: &'static str,
+    missing: &'static str,
+    text: &'a [u8],
+    span: Option<Span>,
+) -> Result<(), AllocError>
+    ensures { OnOk result (parts pieces.new.items
+        ≡ parts pieces.old.items ++ fact_parts label.entry.now missing.entry.now text.entry.now span) }
+{
+    match span {
+        Some(span) => add(
+            pieces,
+            &[
+                Piece::Own("<tr><th scope=\"row\">"),
+                Piece::Own(label),
+                Piece::Own("</th><td>"),
+                Piece::Foreign(part(text, span.start, span.end)),
+                Piece::Own("</td></tr>\n"),
+            ],
+        ),
+        None => add(pieces, &[Piece::Own(missing)]),
+    }
+}
+
+/// The stamp of a line without its brackets.
+fn stamp_of(line: Line) -> Option<Span>
+    ensures { result ≡ stamp_span line }
+{
+    if line.stamp < line.caller {
+        Some(Span {
+            start: line.stamp + 1,
+            end: line.caller - 1,
+        })
+    } else {
+        None
+    }
+}
+
+fn add_when(pieces: &mut Vec<Piece<'_>>, time: Option<Time>) -> Result<(), AllocError>
+    ensures { OnOk result (parts pieces.new.items ≡ parts pieces.old.items ++ when_parts time) }
+{
+    match time {
+        Some(time) => add(
+            pieces,
+            &[
+                Piece::Own("<tr><th scope=\"row\">When</th><td><b>"),
+                Piece::Moment(time),
+                Piece::Own("</b></td></tr>\n"),
+            ],
+        ),
+        None => add(
+            pieces,
+            &[Piece::Own("<tr><th scope=\"row\">When</th><td>no date</td></tr>\n")],
+        ),
+    }
+}
+
+/// Adds what the report below the telling line names.
+fn add_context<'a>(
+    pieces: &mut Vec<Piece<'a>>,
+    text: &'a [u8],
+    death: Death,
+) -> Result<(), AllocError>
+    ensures { OnOk result (parts pieces.new.items ≡ parts pieces.old.items ++ context_parts text.entry.now death) }
+{
+    add_fact(
+        pieces,
+        "Seconds after boot",
+        "",
+        text,
+        stamp_of(death.telling),
+    )?;
+    add_fact(pieces, "CPU", NO_CPU, text, death.cpu)?;
+    add_fact(pieces, "Task", "", text, death.task)?;
+    add_fact(pieces, "Kernel", "", text, death.kernel)?;
+    add_fact(pieces, "Function", NO_FUNCTION, text, death.function)
+}
+
+/// Whether this is the newline before the line that is looked for.
+fn is_found(b: u8, left: usize) -> bool
+    ensures { result ≡ is_line_found b left }
+{
+    b == b'\n' && left == 0
+}
+
+/// The lines that are left above a byte.
+fn fewer(b: u8, left: usize) -> usize
+    ensures { result ≡ lines_fewer b left }
+{
+    if b == b'\n' {
+        left.saturating_sub(1)
+    } else {
+        left
+    }
+}
+
+/// The place of the line so many lines above the one at a place, or of the first.
+fn place_above(text: &[u8], at: usize, lines: usize) -> usize
+    ensures { result ≡ place_before text.now at lines }
+{
+    let mut place = at.min(text.len());
+    let mut left = lines;
+    'bytes: while place > 0 {
+        let b = text[place - 1];
+        if is_found(b, left) {
+            return place;
+        }
+        left = fewer(b, left);
+        place -= 1;
+    }
+    0
+}
+
+/// The place of the next line, or this place if there is none.
+fn next_place(text: &[u8], place: usize) -> usize
+    ensures { result ≡ next_at place (lines_from text.now place) }
+{
+    match next_line(text, place) {
+        Some(line) => line.next,
+        None => place,
+    }
+}
+
+/// The place so many lines below one at which a line begins, or the end.
+fn below(text: &[u8], at: usize, lines: usize) -> usize
+    ensures { result ≡ place_below text.now at lines }
+{
+    let mut place = at;
+    let mut left = lines;
+    'lines: while left > 0 {
+        place = next_place(text, place);
+        left -= 1;
+    }
+    place
+}
+
+fn add_marked<'a>(pieces: &mut Vec<Piece<'a>>, text: &'a [u8], line: Line) -> Result<(), AllocError>
+    ensures { OnOk result (parts pieces.new.items ≡ parts pieces.old.items ++ marked_parts text.entry.now line) }
+{
+    add(
+        pieces,
+        &[
+            Piece::Own("<mark>"),
+            Piece::Log(part(text, line.start, line.next)),
+            Piece::Own("</mark>"),
         ],
     )
+}
+
+fn add_log<'a>(
+    pieces: &mut Vec<Piece<'a>>,
+    text: &'a [u8],
+    from: usize,
+    to: usize,
+) -> Result<(), AllocError>
+    ensures { OnOk result (parts pieces.new.items
+        ≡ parts pieces.old.items ++ log_parts text.entry.now from to) }
+{
+    add(pieces, &[Piece::Log(part(text, from, to))])
+}
+
+/// Adds the lines below the telling line.
+fn add_rest<'a>(
+    pieces: &mut Vec<Piece<'a>>,
+    text: &'a [u8],
+    at: usize,
+    second: Option<Line>,
+) -> Result<(), AllocError>
+    ensures { OnOk result (parts pieces.new.items ≡ parts pieces.old.items ++ rest_parts text.entry.now at second) }
+{
+    match second {
+        Some(line) => {
+            add_log(pieces, text, at, line.start)?;
+            add_marked(pieces, text, line)?;
+            add_log(pieces, text, line.next, below(text, line.next, BELOW))
+        }
+        None => add_log(pieces, text, at, below(text, at, BELOW)),
+    }
+}
+
+/// Adds the lines around those that tell.
+fn add_around<'a>(
+    pieces: &mut Vec<Piece<'a>>,
+    text: &'a [u8],
+    death: Death,
+) -> Result<(), AllocError>
+    ensures bytes { AreBytes text.entry.now }
+    ensures parts { OnOk result (parts pieces.new.items
+        ≡ parts pieces.old.items ++ around_parts text.entry.now death) }
+{
+    let telling = death.telling;
+    let from = place_above(text, telling.start, ABOVE);
+    add_log(pieces, text, from, telling.start)?;
+    add_marked(pieces, text, telling)?;
+    add_rest(pieces, text, telling.next, death.second)
+}
+
+/// Adds which record tells.
+fn add_teller(pieces: &mut Vec<Piece<'_>>, name: Name) -> Result<(), AllocError>
+    ensures { OnOk result (parts pieces.new.items ≡ parts pieces.old.items ++ teller_parts name) }
+{
+    add(
+        pieces,
+        &[Piece::Own("<tr><th scope=\"row\">Told by</th><td>")],
+    )?;
+    add_link(pieces, name)?;
+    add(pieces, &[Piece::Own(TOLD)])?;
+    add_name(pieces, name)?;
+    add(pieces, &[Piece::Own("</h2>\n<pre class=\"log\">\n")])?;
+    Ok(())
 }
 
 fn add_death<'a>(pieces: &mut Vec<Piece<'a>>, told: &Told<'a>) -> Result<(), AllocError>
@@ -81,10 +287,12 @@ fn add_death<'a>(pieces: &mut Vec<Piece<'a>>, told: &Told<'a>) -> Result<(), All
     let teller: &'a RecordReport = told.teller;
     let text = teller.readable();
     add_said(pieces, text, told.death)?;
-    add_name(pieces, teller.name)?;
-    add_time(pieces, teller.time)?;
-    add(pieces, &[Piece::Own(")\n")])?;
-    add_context(pieces, text, told.death)
+    add_when(pieces, teller.time)?;
+    add_context(pieces, text, told.death)?;
+    add_teller(pieces, teller.name)?;
+    add_around(pieces, text, told.death)?;
+    add(pieces, &[Piece::Own("</pre>\n")])?;
+    Ok(())
 }
 
 /// Adds why the machine died, as one of the records tells it, or that none tells.
@@ -100,7 +308,7 @@ pub fn add_died<'a>(
         Some(told) => add_death(pieces, &told),
         None => add(
             pieces,
-            &[Piece::Own("<pre>died: no record tells why\n</pre>\n")],
+            &[Piece::Own("<pre class=\"why\">No record tells why.</pre>\n</header>\n<main>\n")],
         ),
     }
 }

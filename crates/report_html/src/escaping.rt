@@ -1,5 +1,5 @@
 // Bytes as a page shows them.
-ghost use Rattle.std.specs.Prelude.{◌≡◌, ◌++◌, ◌∷◌, [], ◌<◌, ◌+◌, OnOk};
+ghost use Rattle.std.specs.Prelude.{◌≡◌, ◌++◌, ◌∷◌, [], ◌<◌, ◌≤◌, ◌+◌, length, take, IfOk, OnOk};
 ghost use Rattle.std.specs.Bool.{OnTrue};
 ghost use Rattle.report_spec.specs.Escaped.{escaped, escaped_byte, is_plain, shown, hex_digit};
 
@@ -38,16 +38,6 @@ fn push_byte(out: &mut Vec<u8>, b: u8) -> Result<(), AllocError>
     }
 }
 
-/// Appends the bytes escaped, one after another.
-fn push_each(out: &mut Vec<u8>, bytes: &[u8]) -> Result<(), AllocError>
-    ensures { OnOk result (out.new.items ≡ out.old.items ++ escaped bytes.now) }
-{
-    for b in bytes {
-        push_byte(out, *b)?;
-    }
-    Ok(())
-}
-
 /// Whether a byte is escaped as itself. Has no branch, so that many bytes are tested at once.
 fn is_kept(b: u8) -> bool
     ensures { OnTrue result (escaped_byte b ≡ b ∷ []) }
@@ -71,14 +61,48 @@ fn are_kept(bytes: &[u8]) -> bool
 /// The bytes that are tested at once.
 const RUN: usize = 32;
 
-/// Appends a few bytes escaped.
-fn push_run(out: &mut Vec<u8>, run: &[u8]) -> Result<(), AllocError>
-    ensures { OnOk result (out.new.items ≡ out.old.items ++ escaped run.now) }
+/// How many bytes at the front are escaped as themselves.
+fn kept_len(bytes: &[u8]) -> usize
+    ensures within { result ≤ length bytes.now }
+    ensures kept { escaped (take result bytes.now) ≡ take result bytes.now }
+{
+    let mut at = 0;
+    'bytes: while at < bytes.len() {
+        if !is_kept(bytes[at]) {
+            return at;
+        }
+        at += 1;
+    }
+    at
+}
+
+/// Appends the bytes at the front that are escaped as themselves, and the one behind them escaped. Returns how many
+/// bytes it took.
+fn push_front(out: &mut Vec<u8>, bytes: &[u8]) -> Result<usize, AllocError>
+    requires { 0 < length bytes.now }
+    ensures some { IfOk result (λ taken. (0 < taken) × (taken ≤ length bytes.now)) }
+    ensures pushed { IfOk result (λ taken. out.new.items ≡ out.old.items ++ escaped (take taken bytes.now)) }
+{
+    let kept = kept_len(bytes);
+    out.extend_from_slice(&bytes[..kept])?;
+    if kept == bytes.len() {
+        return Ok(kept);
+    }
+    push_byte(out, bytes[kept])?;
+    Ok(kept + 1)
+}
+
+/// Appends the front of a few bytes escaped, and all if they are escaped as themselves. Returns how many it took.
+fn push_run(out: &mut Vec<u8>, run: &[u8]) -> Result<usize, AllocError>
+    requires { 0 < length run.now }
+    ensures some { IfOk result (λ taken. (0 < taken) × (taken ≤ length run.now)) }
+    ensures pushed { IfOk result (λ taken. out.new.items ≡ out.old.items ++ escaped (take taken run.now)) }
 {
     if are_kept(run) {
-        out.extend_from_slice(run)
+        out.extend_from_slice(run)?;
+        Ok(run.len())
     } else {
-        push_each(out, run)
+        push_front(out, run)
     }
 }
 
@@ -89,8 +113,8 @@ pub fn push_escaped(out: &mut Vec<u8>, bytes: &[u8]) -> Result<(), AllocError>
     let mut at = 0;
     while at < bytes.len() {
         let end = at + RUN.min(bytes.len() - at);
-        push_run(out, &bytes[at..end])?;
-        at = end;
+        let taken = push_run(out, &bytes[at..end])?;
+        at += taken;
     }
     Ok(())
 }

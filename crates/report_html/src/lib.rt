@@ -1,16 +1,21 @@
-//! The page of a report: one HTML file with why the machine died, a picture of the image and its records, without
+//! The page of a report: one HTML file with why the machine died, the records, and a picture of the image, without
 //! scripts and outside resources.
 //!
-//! A page is a list of pieces: its own text, which is `'static` and so never comes from an image, numbers, and foreign
-//! bytes, which are written escaped.
+//! A page is a list of pieces: its own text, which is `'static` and so never comes from an image, numbers, times, and
+//! foreign bytes and logs, which are written escaped.
 #![tactic(auto)]
 
 mod died;
 mod escaping;
 mod laws;
+mod logs;
+mod moments;
+mod names;
 mod page;
 mod picture;
 mod pieces;
+mod region;
+mod style;
 
 pub use escaping::push_escaped;
 pub use laws::{escaped_is_text, six_blocks_make_four_runs};

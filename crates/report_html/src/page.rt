@@ -3,80 +3,50 @@ ghost use Rattle.std.specs.Prelude.{◌≡◌, ◌++◌, flat_map, IfOk, OnOk};
 ghost use Rattle.zone_spec.specs.Parts.{AreBytes};
 ghost use Rattle.report_spec.specs.Packed.{readable};
 ghost use Rattle.report_html.specs.Pieces.{parts};
-ghost use Rattle.report_html.specs.Names.{name_parts, seconds_parts, time_parts};
-ghost use Rattle.report_html.specs.Pages.{length_parts, packing_parts, content_parts, record_parts, heading_parts, page_parts, page_of};
+ghost use Rattle.report_html.specs.Pages.{length_parts, packing_parts, content_parts, record_parts, records_opening, heading_parts, page_parts, page_of};
 ghost use Rattle.report_spec.specs.Deaths.{death_told};
 ghost use Rattle.report_html.specs.Escaping.{HoldBytes, TellsBytes, IsWithoutMarkup};
 
 use crate::died::add_died;
+use crate::names::{add_name, add_time};
 use crate::picture::add_picture;
 use crate::pieces::{Piece, add, render};
+use crate::style::STYLE;
 use outside::Bytes;
 use record_report::{Packing, RecordReport, Report};
 use std::alloc::{AllocError, Global};
-use zone_spec::{Name, Time, Zone};
+use zone_spec::{Name, Zone};
 
 const HEAD: &str = "<!doctype html>\n<html lang=\"en\">\n<head>\n<meta charset=\"utf-8\">\n\
+<meta name=\"viewport\" content=\"width=device-width, initial-scale=1\">\n\
 <meta http-equiv=\"Content-Security-Policy\" content=\"default-src 'none'; style-src 'unsafe-inline'\">\n\
 <title>Crash log report</title>\n<style>\n";
 
-const STYLE: &str = ":root { color-scheme: light dark; --fg: #1b1b1b; --bg: #fdfdfd; \
---clean: #4a8f5b; --corrected: #d29a1d; --bad: #c0392b; --unused: #c9ced4; }\n\
-@media (prefers-color-scheme: dark) { :root { --fg: #e4e4e4; --bg: #17191c; \
---clean: #58b072; --corrected: #e0b04a; --bad: #e4604f; --unused: #3b4148; } }\n\
-body { font: 15px/1.5 system-ui, sans-serif; color: var(--fg); background: var(--bg); margin: 2rem; }\n\
-svg { width: 100%; height: 120px; }\nrect { stroke: var(--bg); vector-effect: non-scaling-stroke; }\n\
-.clean, .found { fill: var(--clean); color: var(--clean); }\n\
-.corrected { fill: var(--corrected); color: var(--corrected); }\n\
-.bad, .invalid { fill: var(--bad); color: var(--bad); }\n\
-.unused, .empty, .unsigned { fill: var(--unused); color: var(--unused); }\n\
-pre { white-space: pre-wrap; overflow-wrap: anywhere; }\n";
+const NAVIGATION: &str =
+    "</h1>\n<nav aria-label=\"Parts of this page\"><a href=\"#records\">Records</a> \
+<a href=\"#region\">Region</a></nav>\n";
 
-/// Adds what names a record.
-pub fn add_name(pieces: &mut Vec<Piece<'_>>, name: Name) -> Result<(), AllocError>
-    ensures { OnOk result (parts pieces.new.items ≡ parts pieces.old.items ++ name_parts name) }
-{
-    match name {
-        Name::Dump { index, packed } => add(
-            pieces,
-            &[
-                Piece::Own("dmesg-ramoops-"),
-                Piece::Number(u64::from(index)),
-                Piece::Own(if packed { ".enc.z" } else { "" }),
-            ],
-        ),
-        Name::Console => add(pieces, &[Piece::Own("console-ramoops-0")]),
-        Name::Pmsg => add(pieces, &[Piece::Own("pmsg-ramoops-0")]),
-        Name::Ftrace => add(pieces, &[Piece::Own("ftrace-ramoops-0")]),
-    }
-}
+const LEVELS: &str = "</h2>\n<p class=\"note\">\
+The number before a line is its level: 0 emergency, 1 alert, 2 critical, 3 error, 4 warning, \
+5 notice, 6 info, 7 debug. One of 8 or more is of user space; its level is the number modulo 8. \
+The console keeps no levels.</p>\n";
 
-fn add_seconds(pieces: &mut Vec<Piece<'_>>, time: Time) -> Result<(), AllocError>
-    ensures { OnOk result (parts pieces.new.items ≡ parts pieces.old.items ++ seconds_parts time) }
-{
-    add(
-        pieces,
-        &[
-            Piece::Own(", "),
-            Piece::Number(time.secs),
-            Piece::Own(" seconds since 1970"),
-        ],
-    )
-}
-
-pub fn add_time(pieces: &mut Vec<Piece<'_>>, time: Option<Time>) -> Result<(), AllocError>
-    ensures { OnOk result (parts pieces.new.items ≡ parts pieces.old.items ++ time_parts time) }
-{
-    match time {
-        Some(time) => add_seconds(pieces, time),
-        None => Ok(()),
-    }
-}
+const END: &str =
+    "</main>\n<footer>\n<p>Times are UTC. Text of the region is printable ASCII, tabs and newlines; \
+every other byte, and the backslash, is shown as <span class=\"mono\">\\x</span> and two hexadecimal digits.</p>\n\
+</footer>\n</body>\n</html>\n";
 
 fn add_length(pieces: &mut Vec<Piece<'_>>, bytes: u64) -> Result<(), AllocError>
     ensures { OnOk result (parts pieces.new.items ≡ parts pieces.old.items ++ length_parts bytes) }
 {
-    add(pieces, &[Piece::Own(", bytes: "), Piece::Number(bytes)])
+    add(
+        pieces,
+        &[
+            Piece::Own("<span>"),
+            Piece::Number(bytes),
+            Piece::Own(" bytes</span>"),
+        ],
+    )
 }
 
 fn add_packing(pieces: &mut Vec<Piece<'_>>, packing: &Packing<Bytes>) -> Result<(), AllocError>
@@ -87,33 +57,46 @@ fn add_packing(pieces: &mut Vec<Piece<'_>>, packing: &Packing<Bytes>) -> Result<
         Packing::Whole { taken } => add(
             pieces,
             &[
-                Piece::Own(", inflated from "),
+                Piece::Own("<span>inflated from "),
                 Piece::Number(*taken as u64),
-                Piece::Own(" bytes"),
+                Piece::Own(" bytes</span>"),
             ],
         ),
         Packing::Part { fault, .. } => add(
             pieces,
             &[
-                Piece::Own(", inflated in part: "),
+                Piece::Own("<span class=\"fix\">inflated in part: "),
                 Piece::Own(fault.words()),
+                Piece::Own("</span>"),
             ],
         ),
     }
 }
 
-fn add_content<'a>(pieces: &mut Vec<Piece<'a>>, content: &'a [u8]) -> Result<(), AllocError>
+/// Adds the lines of a record, with its name as their anchor.
+fn add_content<'a>(
+    pieces: &mut Vec<Piece<'a>>,
+    name: Name,
+    content: &'a [u8],
+) -> Result<(), AllocError>
     ensures bytes { AreBytes content.entry.now }
-    ensures parts { OnOk result (parts pieces.new.items ≡ parts pieces.old.items ++ content_parts content.entry.now) }
+    ensures parts { OnOk result
+        (parts pieces.new.items ≡ parts pieces.old.items ++ content_parts name content.entry.now) }
 {
     add(
         pieces,
+        &[Piece::Own("</summary>\n<pre class=\"log\" id=\"")],
+    )?;
+    add_name(pieces, name)?;
+    add(
+        pieces,
         &[
-            Piece::Own("</summary><pre>\n"),
-            Piece::Foreign(content),
-            Piece::Own("</pre></details>\n"),
+            Piece::Own("\">\n"),
+            Piece::Log(content),
+            Piece::Own("</pre>\n</details>\n"),
         ],
-    )
+    )?;
+    Ok(())
 }
 
 /// Adds a record.
@@ -121,19 +104,17 @@ fn add_record<'a>(pieces: &mut Vec<Piece<'a>>, held: &'a RecordReport) -> Result
     ensures bytes { OnOk result (AreBytes (readable held.entry.now)) }
     ensures parts { OnOk result (parts pieces.new.items ≡ parts pieces.old.items ++ record_parts held.entry.now) }
 {
-    add(pieces, &[Piece::Own("<details><summary>")])?;
+    add(pieces, &[Piece::Own("<details>\n<summary><b>")])?;
     add_name(pieces, held.name)?;
-    add_length(pieces, held.content.len() as u64)?;
+    add(pieces, &[Piece::Own("</b>")])?;
     add_time(pieces, held.time)?;
+    add_length(pieces, held.content.len() as u64)?;
     add_packing(pieces, &held.packing)?;
-    add_content(pieces, held.readable())?;
+    add_content(pieces, held.name, held.readable())?;
     Ok(())
 }
 
-fn add_records<'a>(
-    pieces: &mut Vec<Piece<'a>>,
-    records: &'a [RecordReport],
-) -> Result<(), AllocError>
+fn add_each<'a>(pieces: &mut Vec<Piece<'a>>, records: &'a [RecordReport]) -> Result<(), AllocError>
     ensures bytes { OnOk result (HoldBytes records.entry.now) }
     ensures parts { OnOk result
         (parts pieces.new.items ≡ parts pieces.old.items ++ flat_map record_parts records.entry.now) }
@@ -142,6 +123,20 @@ fn add_records<'a>(
         add_record(pieces, held)?;
     }
     Ok(())
+}
+
+/// Adds how many records there are.
+fn add_records_opening(pieces: &mut Vec<Piece<'_>>, count: u64) -> Result<(), AllocError>
+    ensures { OnOk result (parts pieces.new.items ≡ parts pieces.old.items ++ records_opening count) }
+{
+    add(
+        pieces,
+        &[
+            Piece::Own("<h2 id=\"records\">Records: "),
+            Piece::Number(count),
+            Piece::Own(LEVELS),
+        ],
+    )
 }
 
 /// Adds a head with the style, and the title.
@@ -153,9 +148,9 @@ fn add_heading<'a>(pieces: &mut Vec<Piece<'a>>, title: &'a [u8]) -> Result<(), A
         &[
             Piece::Own(HEAD),
             Piece::Own(STYLE),
-            Piece::Own("</style>\n</head>\n<body>\n<h1>"),
+            Piece::Own("</style>\n</head>\n<body>\n<header>\n<h1>Why this machine died: "),
             Piece::Foreign(title),
-            Piece::Own("</h1>\n"),
+            Piece::Own(NAVIGATION),
         ],
     )
 }
@@ -175,9 +170,10 @@ fn all_pieces<'a>(
     let mut pieces = Vec::new(alloc);
     add_heading(&mut pieces, title)?;
     add_died(&mut pieces, report.records())?;
+    add_records_opening(&mut pieces, report.records().len() as u64)?;
+    add_each(&mut pieces, report.records())?;
     add_picture(&mut pieces, zones, report)?;
-    add_records(&mut pieces, report.records())?;
-    add(&mut pieces, &[Piece::Own("</body>\n</html>\n")])?;
+    add(&mut pieces, &[Piece::Own(END)])?;
     Ok(pieces)
 }
 

@@ -1,50 +1,50 @@
-// The picture of an image: its zones and their blocks to scale.
+// The picture of an image: its zones to scale, and a table of them with their blocks.
 ghost use Rattle.std.specs.Prelude.{◌≡◌, ◌<◌, ◌≤◌, ◌-◌, ◌^◌, ◌∷◌, ◌++◌, length, drop, slice_get, flat_map, Some, OnOk};
-ghost use Rattle.std.specs.List.{zip};
 ghost use Rattle.std.specs.Option.{option_copied};
 ghost use Rattle.report_spec.specs.declared.PartState.{PartState as StateValue};
 ghost use Rattle.report_html.specs.Pieces.{parts};
-ghost use Rattle.report_html.specs.Pictures.{kind_words, zone_name, state_words, read_words, opening, closing, place_parts, part_words, range_parts, count_parts, corrected_parts, block_at, blocks_opening, blocks_parts, is_alike, runs, run_parts, unused_parts, zone_parts, end_of, picture_opening, legend_parts, picture};
+ghost use Rattle.report_html.specs.Pictures.{class_words, part_words, opening, closing, header_parts, range_parts, count_parts, corrected_parts, block_at, blocks_opening, blocks_parts, is_alike, runs, run_parts, unused_parts, reading_cells, unread_cells, read_cells, row_parts, zone_parts, drawn_parts, end_of, width_of, region_opening, all_drawn, picture};
 
 use crate::pieces::{Piece, add};
+use crate::region::{add_map_zone, add_zone_name, read_text};
 use prz_read::Reading;
 use record_report::{PartState, Report, ZoneParts};
 use std::alloc::AllocError;
-use zone_spec::{Kind, State, Zone};
+use zone_spec::Zone;
 
-const LEGEND: &str = "</svg>\n<p>The zones, and below them their blocks: \
-<span class=\"clean\">&#9632;</span> found or clean, \
-<span class=\"corrected\">&#9632;</span> corrected, <span class=\"bad\">&#9632;</span> invalid or bad, \
-<span class=\"unused\">&#9632;</span> empty, unsigned or unused.</p>\n";
+const KEY: &str = "</svg>\n<ul class=\"legend\">\n\
+<li><svg class=\"key\"><rect class=\"ok\" y=\"10\" width=\"16\" height=\"10\"/></svg>clean</li>\n\
+<li><svg class=\"key\"><rect class=\"fix\" y=\"5\" width=\"16\" height=\"15\"/></svg>corrected</li>\n\
+<li><svg class=\"key\"><rect class=\"bad\" width=\"16\" height=\"20\"/></svg>\
+bad: more damage than parity repairs</li>\n\
+<li><svg class=\"key\"><rect class=\"off\" y=\"16\" width=\"16\" height=\"4\"/></svg>not in use</li>\n\
+</ul>\n<p class=\"note\">To scale. A zone has the colour of its worst part. \
+In the table each zone has its header and blocks below it.</p>\n";
 
-fn kind_text(kind: Kind) -> &'static str
-    ensures { result.now ≡ kind_words kind }
-{
-    match kind {
-        Kind::Dump => "dump ",
-        Kind::Console => "console ",
-        Kind::Ftrace => "ftrace ",
-        Kind::Pmsg => "pmsg ",
-    }
-}
+const TABLE: &str = "<div class=\"scroll\" tabindex=\"0\" role=\"region\" aria-label=\"Zones\">\
+<table class=\"grid\">\n\
+<tr><th scope=\"col\">Zone</th><th scope=\"col\">State</th><th scope=\"col\" class=\"n\">Place</th>\
+<th scope=\"col\" class=\"n\">Size</th><th scope=\"col\" class=\"n\">Start</th>\
+<th scope=\"col\" class=\"n\">Used</th><th scope=\"col\" class=\"n\">Corrected</th>\
+<th scope=\"col\" class=\"n\">Bad</th></tr>\n";
 
-fn state_text(state: State) -> &'static str
-    ensures { result.now ≡ state_words state }
+const CELL: &str = "</td><td class=\"n\">";
+
+const STRIP: &str =
+    "</td></tr>\n<tr><td class=\"pic\" colspan=\"8\"><svg class=\"strip\" viewBox=\"0 0 ";
+
+const MAP: &str = " zones</h2>\n<svg class=\"map\" role=\"img\" \
+aria-label=\"The region to scale; the table below has its numbers\">\n";
+
+/// The class of parts by how they read, and their rows.
+fn class_text(state: Option<PartState>) -> &'static str
+    ensures { result.now ≡ class_words state }
 {
     match state {
-        State::Unsigned => "unsigned",
-        State::Empty => "empty",
-        State::Invalid => "invalid",
-        State::Found => "found",
-    }
-}
-
-fn read_text(reading: Option<&Reading>) -> &'static str
-    ensures { result.now ≡ read_words (option_copied reading.entry) }
-{
-    match reading {
-        Some(reading) => state_text(reading.state),
-        None => "",
+        None => "off\" y=\"20\" height=\"4\" x=\"",
+        Some(PartState::Read(0)) => "ok\" y=\"12\" height=\"12\" x=\"",
+        Some(PartState::Read(_)) => "fix\" y=\"6\" height=\"18\" x=\"",
+        Some(PartState::Bad) => "bad\" y=\"0\" height=\"24\" x=\"",
     }
 }
 
@@ -52,30 +52,27 @@ fn part_text(state: Option<PartState>) -> &'static str
     ensures { result.now ≡ part_words state }
 {
     match state {
-        None => "unused",
+        None => "not in use",
         Some(PartState::Read(0)) => "clean",
         Some(PartState::Read(_)) => "corrected",
         Some(PartState::Bad) => "bad",
     }
 }
 
-/// Begins a rectangle: its class, its rows of the picture, the byte it begins at and its width in bytes.
+/// Begins a rectangle: its class, the byte of the zone it begins at and its width in bytes.
 fn add_opening(
     pieces: &mut Vec<Piece<'_>>,
     class: &'static str,
-    rows: &'static str,
     at: u64,
     width: u64,
 ) -> Result<(), AllocError>
-    ensures { OnOk result (parts pieces.new.items
-        ≡ parts pieces.old.items ++ opening class.entry.now rows.entry.now at width) }
+    ensures { OnOk result (parts pieces.new.items ≡ parts pieces.old.items ++ opening class.entry.now at width) }
 {
     add(
         pieces,
         &[
             Piece::Own("<rect class=\""),
             Piece::Own(class),
-            Piece::Own(rows),
             Piece::Number(at),
             Piece::Own("\" width=\""),
             Piece::Number(width),
@@ -88,31 +85,6 @@ fn add_closing(pieces: &mut Vec<Piece<'_>>) -> Result<(), AllocError>
     ensures { OnOk result (parts pieces.new.items ≡ parts pieces.old.items ++ closing) }
 {
     add(pieces, &[Piece::Own("</title></rect>\n")])
-}
-
-fn add_zone_name(pieces: &mut Vec<Piece<'_>>, zone: &Zone) -> Result<(), AllocError>
-    ensures { OnOk result (parts pieces.new.items ≡ parts pieces.old.items ++ zone_name zone.now) }
-{
-    let kind = kind_text(zone.name.kind);
-    let index = u64::from(zone.name.index);
-    add(pieces, &[Piece::Own(kind), Piece::Number(index)])?;
-    Ok(())
-}
-
-/// Adds a zone's place, and what it was taken for.
-fn add_place(
-    pieces: &mut Vec<Piece<'_>>,
-    zone: &Zone,
-    state: &'static str,
-) -> Result<(), AllocError>
-    ensures { OnOk result (parts pieces.new.items ≡ parts pieces.old.items ++ place_parts zone.now state.entry.now) }
-{
-    let (at, size) = (u64::from(zone.at), u64::from(zone.size));
-    add_opening(pieces, state, "\" y=\"0\" height=\"24\" x=\"", at, size)?;
-    add_zone_name(pieces, zone)?;
-    add(pieces, &[Piece::Own(": "), Piece::Own(state)])?;
-    add_closing(pieces)?;
-    Ok(())
 }
 
 /// Where a block's data begin among those of its zone.
@@ -129,19 +101,19 @@ fn add_range(
     pieces: &mut Vec<Piece<'_>>,
     from: u64,
     to: u64,
-    class: &'static str,
+    words: &'static str,
 ) -> Result<(), AllocError>
-    ensures { OnOk result (parts pieces.new.items ≡ parts pieces.old.items ++ range_parts from to class.entry.now) }
+    ensures { OnOk result (parts pieces.new.items ≡ parts pieces.old.items ++ range_parts from to words.entry.now) }
 {
     add(
         pieces,
         &[
-            Piece::Own(": blocks "),
+            Piece::Own("blocks "),
             Piece::Number(from),
             Piece::Own(" up to "),
             Piece::Number(to),
             Piece::Own(", "),
-            Piece::Own(class),
+            Piece::Own(words),
         ],
     )
 }
@@ -171,6 +143,18 @@ fn add_corrected(pieces: &mut Vec<Piece<'_>>, state: Option<PartState>) -> Resul
     }
 }
 
+/// Adds the header.
+fn add_header(pieces: &mut Vec<Piece<'_>>, state: Option<PartState>) -> Result<(), AllocError>
+    ensures { OnOk result (parts pieces.new.items ≡ parts pieces.old.items ++ header_parts state) }
+{
+    let words = part_text(state);
+    add_opening(pieces, class_text(state), 0, 12)?;
+    add(pieces, &[Piece::Own("header, "), Piece::Own(words)])?;
+    add_corrected(pieces, state)?;
+    add_closing(pieces)?;
+    Ok(())
+}
+
 /// Begins the rectangle of a zone's blocks from `from` up to `to`.
 fn add_blocks_opening(
     pieces: &mut Vec<Piece<'_>>,
@@ -183,9 +167,7 @@ fn add_blocks_opening(
         ≡ parts pieces.old.items ++ blocks_opening zone.now from to class.entry.now) }
 {
     let (start, end) = (block_at(zone, from), block_at(zone, to));
-    let at = u64::from(zone.at) + start + 12;
-    let width = end.saturating_sub(start);
-    add_opening(pieces, class, "\" y=\"30\" height=\"70\" x=\"", at, width)?;
+    add_opening(pieces, class, start + 12, end.saturating_sub(start))?;
     Ok(())
 }
 
@@ -199,10 +181,8 @@ fn add_blocks(
 ) -> Result<(), AllocError>
     ensures { OnOk result (parts pieces.new.items ≡ parts pieces.old.items ++ blocks_parts zone.now from to state) }
 {
-    let class = part_text(state);
-    add_blocks_opening(pieces, zone, from, to, class)?;
-    add_zone_name(pieces, zone)?;
-    add_range(pieces, from, to, class)?;
+    add_blocks_opening(pieces, zone, from, to, class_text(state))?;
+    add_range(pieces, from, to, part_text(state))?;
     add_corrected(pieces, state)?;
     add_closing(pieces)?;
     Ok(())
@@ -264,7 +244,84 @@ fn add_unused(pieces: &mut Vec<Piece<'_>>, zone: &Zone, used: u64) -> Result<(),
     }
 }
 
-/// Adds a zone: its own place, and its blocks.
+/// Adds the words of a header as it reads, corrected bytes and bad parts.
+fn add_reading(pieces: &mut Vec<Piece<'_>>, reading: &Reading) -> Result<(), AllocError>
+    ensures { OnOk result (parts pieces.new.items ≡ parts pieces.old.items ++ reading_cells reading.now) }
+{
+    let (start, size) = (
+        u64::from(reading.words.start),
+        u64::from(reading.words.size),
+    );
+    let (corrected, bad) = (u64::from(reading.corrected), u64::from(reading.bad));
+    add(
+        pieces,
+        &[
+            Piece::Own(CELL),
+            Piece::Number(start),
+            Piece::Own(CELL),
+            Piece::Number(size),
+            Piece::Own(CELL),
+            Piece::Number(corrected),
+            Piece::Own(CELL),
+            Piece::Number(bad),
+        ],
+    )?;
+    Ok(())
+}
+
+fn add_unread(pieces: &mut Vec<Piece<'_>>) -> Result<(), AllocError>
+    ensures { OnOk result (parts pieces.new.items ≡ parts pieces.old.items ++ unread_cells) }
+{
+    add(pieces, &[Piece::Own("</td><td colspan=\"4\">")])
+}
+
+fn add_read_cells(pieces: &mut Vec<Piece<'_>>, reading: Option<&Reading>) -> Result<(), AllocError>
+    ensures { OnOk result (parts pieces.new.items
+        ≡ parts pieces.old.items ++ read_cells (option_copied reading.entry)) }
+{
+    match reading {
+        Some(reading) => add_reading(pieces, reading),
+        None => add_unread(pieces),
+    }
+}
+
+/// Adds a zone's row, and room for its strip.
+fn add_row(
+    pieces: &mut Vec<Piece<'_>>,
+    zone: &Zone,
+    reading: Option<&Reading>,
+) -> Result<(), AllocError>
+    ensures { OnOk result (parts pieces.new.items
+        ≡ parts pieces.old.items ++ row_parts zone.now (option_copied reading.entry)) }
+{
+    let read = read_text(reading);
+    let (at, size) = (u64::from(zone.at), u64::from(zone.size));
+    add(pieces, &[Piece::Own("<tr><th scope=\"row\">")])?;
+    add_zone_name(pieces, zone)?;
+    add(
+        pieces,
+        &[
+            Piece::Own("</th><td>"),
+            Piece::Own(read),
+            Piece::Own(CELL),
+            Piece::Number(at),
+            Piece::Own(CELL),
+            Piece::Number(size),
+        ],
+    )?;
+    add_read_cells(pieces, reading)?;
+    add(
+        pieces,
+        &[
+            Piece::Own(STRIP),
+            Piece::Number(size),
+            Piece::Own(" 24\" preserveAspectRatio=\"none\">\n"),
+        ],
+    )?;
+    Ok(())
+}
+
+/// Adds a zone to the table: its row, its header, and its blocks.
 fn add_zone(
     pieces: &mut Vec<Piece<'_>>,
     zone: &Zone,
@@ -275,10 +332,31 @@ fn add_zone(
         ≡ parts pieces.old.items ++ zone_parts ((zone.now, option_copied reading.entry), states.now)) }
 {
     let blocks = states.blocks.as_slice();
-    add_place(pieces, zone, read_text(reading))?;
+    add_row(pieces, zone, reading)?;
+    add_header(pieces, Some(states.header))?;
     add_used(pieces, zone, blocks)?;
     add_unused(pieces, zone, blocks.len() as u64)?;
+    add(pieces, &[Piece::Own("</svg></td></tr>\n")])?;
     Ok(())
+}
+
+/// Adds a zone to the table, or to the map of so many bytes.
+fn add_drawn(
+    pieces: &mut Vec<Piece<'_>>,
+    in_table: bool,
+    whole: u64,
+    zone: &Zone,
+    reading: Option<&Reading>,
+    states: &ZoneParts,
+) -> Result<(), AllocError>
+    ensures { OnOk result (parts pieces.new.items ≡ parts pieces.old.items
+        ++ drawn_parts in_table whole ((zone.now, option_copied reading.entry), states.now)) }
+{
+    if in_table {
+        add_zone(pieces, zone, reading, states)
+    } else {
+        add_map_zone(pieces, whole, zone, reading)
+    }
 }
 
 fn zone_end(zone: &Zone) -> u64
@@ -289,7 +367,7 @@ fn zone_end(zone: &Zone) -> u64
 
 /// The bytes up to the end of the last zone.
 fn width(zones: &[Zone]) -> u64
-    ensures { result ≡ end_of (slice_get zones.now (length zones.now - 1)) }
+    ensures { result ≡ width_of zones.now }
 {
     match zones.last() {
         Some(last) => zone_end(last),
@@ -297,37 +375,38 @@ fn width(zones: &[Zone]) -> u64
     }
 }
 
-fn add_zones(pieces: &mut Vec<Piece<'_>>, zones: &[Zone], report: &Report) -> Result<(), AllocError>
+fn add_zones(
+    pieces: &mut Vec<Piece<'_>>,
+    in_table: bool,
+    zones: &[Zone],
+    report: &Report,
+) -> Result<(), AllocError>
     ensures { OnOk result (parts pieces.new.items ≡ parts pieces.old.items
-        ++ flat_map zone_parts (zip (zip zones.now report.now.logs.readings) report.now.parts)) }
+        ++ all_drawn in_table zones.now report.now) }
 {
     let (logs, states) = (report.logs(), report.parts());
+    let whole = width(zones);
     let count = zones.len().min(states.len()).min(logs.len() as usize);
     for i in 0..count {
-        add_zone(pieces, &zones[i], logs.reading(i as u32), &states[i])?;
+        let reading = logs.reading(i as u32);
+        add_drawn(pieces, in_table, whole, &zones[i], reading, &states[i])?;
     }
     Ok(())
 }
 
-fn add_picture_opening(pieces: &mut Vec<Piece<'_>>, zones: &[Zone]) -> Result<(), AllocError>
-    ensures { OnOk result (parts pieces.new.items ≡ parts pieces.old.items ++ picture_opening zones.now) }
+fn add_region_opening(pieces: &mut Vec<Piece<'_>>, whole: u64, count: u64) -> Result<(), AllocError>
+    ensures { OnOk result (parts pieces.new.items ≡ parts pieces.old.items ++ region_opening whole count) }
 {
-    let width = width(zones);
     add(
         pieces,
         &[
-            Piece::Own("<svg viewBox=\"0 0 "),
-            Piece::Number(width),
-            Piece::Own(" 100\" preserveAspectRatio=\"none\">\n"),
+            Piece::Own("<h2 id=\"region\">The region: "),
+            Piece::Number(whole),
+            Piece::Own(" bytes, "),
+            Piece::Number(count),
+            Piece::Own(MAP),
         ],
-    )?;
-    Ok(())
-}
-
-fn add_legend(pieces: &mut Vec<Piece<'_>>) -> Result<(), AllocError>
-    ensures { OnOk result (parts pieces.new.items ≡ parts pieces.old.items ++ legend_parts) }
-{
-    add(pieces, &[Piece::Own(LEGEND)])
+    )
 }
 
 /// Adds the picture of these zones.
@@ -338,8 +417,10 @@ pub fn add_picture(
 ) -> Result<(), AllocError>
     ensures { OnOk result (parts pieces.new.items ≡ parts pieces.old.items ++ picture zones.now report.now) }
 {
-    add_picture_opening(pieces, zones)?;
-    add_zones(pieces, zones, report)?;
-    add_legend(pieces)?;
+    add_region_opening(pieces, width(zones), zones.len() as u64)?;
+    add_zones(pieces, false, zones, report)?;
+    add(pieces, &[Piece::Own(KEY), Piece::Own(TABLE)])?;
+    add_zones(pieces, true, zones, report)?;
+    add(pieces, &[Piece::Own("</table></div>\n")])?;
     Ok(())
 }

@@ -3,8 +3,11 @@ ghost use Rattle.std.specs.Prelude.{◌≡◌, ◌++◌, IfOk, OnOk};
 ghost use Rattle.report_html.specs.Pieces.{piece_text, parts, parts_text};
 
 use crate::escaping::push_escaped;
+use crate::logs::push_log;
+use crate::moments::push_moment;
 use itoa::Buffer;
 use std::alloc::{AllocError, Global};
+use zone_spec::Time;
 
 /// A piece of a page. The page's own text lives as long as the program: it cannot be made of an image's bytes.
 #[derive(Clone, Copy)]
@@ -12,6 +15,10 @@ pub enum Piece<'a> {
     Own(&'static str),
     Number(u64),
     Foreign(&'a [u8]),
+    /// The date and time of day.
+    Moment(Time),
+    /// A log, line by line.
+    Log(&'a [u8]),
 }
 
 fn push_piece(out: &mut Vec<u8>, piece: Piece<'_>) -> Result<(), AllocError>
@@ -24,6 +31,8 @@ fn push_piece(out: &mut Vec<u8>, piece: Piece<'_>) -> Result<(), AllocError>
             out.extend_from_slice(digits.format(n).as_bytes())
         }
         Piece::Foreign(bytes) => push_escaped(out, bytes),
+        Piece::Moment(time) => push_moment(out, time),
+        Piece::Log(text) => push_log(out, text),
     }
 }
 

@@ -1,6 +1,6 @@
 // Pages and escaped bytes.
 use crate::packed_dumps::{DAMAGED, WHOLE, report_on, zones_of};
-use crate::worked_deaths::{self, CONSOLE, NAMED, NONE};
+use crate::worked_deaths::{self, CONSOLE, FATAL, NAMED, NONE};
 use outside::Bytes;
 use ramoops_layout::{Params, layout};
 use record_report::report_of;
@@ -59,27 +59,32 @@ fn hostile_record(rt: HostRuntime) -> Result<(), Fail> {
     let report = report_of(rt.alloc(), &zones, &Symbols::none(rt.alloc()), image)?;
     let page = html(rt.alloc(), b"a<b", zones.zones(), &report)?;
     let text = str::from_utf8(page.as_slice())?;
-    assert!(rt; text.contains("<h1>a&lt;b</h1>"));
-    assert!(rt; text.contains("<svg viewBox=\"0 0 4096 100\""));
+    assert!(rt; text.contains("<h1>Why this machine died: a&lt;b</h1>"));
+    assert!(rt; text.contains("<h2 id=\"region\">The region: 4096 bytes, 1 zones</h2>"));
     assert!(rt;
         text.contains(
-            "<rect class=\"found\" y=\"0\" height=\"24\" x=\"0\" width=\"4096\">\
-<title>console 0: found</title></rect>\n"
+            "<svg x=\"0e-3%\" width=\"100000e-3%\"><title>console 0: found</title>\
+<rect class=\"zone\" width=\"100%\" height=\"52\"/><rect class=\"ok\" y=\"42\" height=\"10\" width=\"488e-3%\"/>\
+<g><text x=\"3\" y=\"13\">console 0</text><text x=\"3\" y=\"27\">4096</text></g></svg>\n"
         )
     );
     assert!(rt;
         text.contains(
-            "<rect class=\"clean\" y=\"30\" height=\"70\" x=\"12\" width=\"128\">\
-<title>console 0: blocks 0 up to 1, clean</title></rect>\n"
+            "<tr><th scope=\"row\">console 0</th><td>found</td><td class=\"n\">0</td><td class=\"n\">4096</td>\
+<td class=\"n\">8</td><td class=\"n\">8</td><td class=\"n\">0</td><td class=\"n\">0</td></tr>
+<tr><td class=\"pic\" colspan=\"8\"><svg class=\"strip\" viewBox=\"0 0 4096 24\" preserveAspectRatio=\"none\">
+<rect class=\"ok\" y=\"12\" height=\"12\" x=\"0\" width=\"12\"><title>header, clean</title></rect>
+<rect class=\"ok\" y=\"12\" height=\"12\" x=\"12\" width=\"128\"><title>blocks 0 up to 1, clean</title></rect>
+<rect class=\"off\" y=\"20\" height=\"4\" x=\"140\" width=\"3956\"><title>blocks 1 up to 32, not in use</title></rect>
+</svg></td></tr>\n"
         )
     );
     assert!(rt;
         text.contains(
-            "<rect class=\"unused\" y=\"30\" height=\"70\" x=\"140\" width=\"3956\">\
-<title>console 0: blocks 1 up to 32, unused</title></rect>\n"
+            "<b>console-ramoops-0</b><span>8 bytes</span></summary>
+<pre class=\"log\" id=\"console-ramoops-0\">\n&lt;script&gt;</pre>\n"
         )
     );
-    assert!(rt; text.contains("console-ramoops-0, bytes: 8</summary><pre>\n&lt;script&gt;</pre>"));
     assert!(rt; !text.contains("<script"));
     Ok(())
 }
@@ -89,22 +94,26 @@ fn compressed_dumps(rt: HostRuntime) -> Result<(), Fail> {
     for (packed, record) in [
         (
             &WHOLE[..],
-            "<summary>dmesg-ramoops-0, bytes: 24, 1764201858 seconds since 1970, inflated from 26 bytes</summary><pre>
+            "<b>dmesg-ramoops-0</b><span>2025-11-27 00:04:18.836908 UTC</span><span>24 bytes</span>\
+<span>inflated from 26 bytes</span></summary>
+<pre class=\"log\" id=\"dmesg-ramoops-0\">
 Panic#1 Part1
 red \\x1b\\x5c&lt;b&gt;
 </pre>",
         ),
         (
             &WHOLE[..22],
-            "<summary>dmesg-ramoops-0.enc.z, bytes: 22, 1764201858 seconds since 1970, inflated in part: end of input\
-</summary><pre>
+            "<b>dmesg-ramoops-0.enc.z</b><span>2025-11-27 00:04:18.836908 UTC</span><span>22 bytes</span>\
+<span class=\"fix\">inflated in part: end of input</span></summary>
+<pre class=\"log\" id=\"dmesg-ramoops-0.enc.z\">
 Panic#1 Part1
 red \\x1b\\x5c&lt;</pre>",
         ),
         (
             &DAMAGED,
-            "<summary>dmesg-ramoops-0.enc.z, bytes: 12, 1764201858 seconds since 1970, \
-inflated in part: reserved block type</summary><pre>
+            "<b>dmesg-ramoops-0.enc.z</b><span>2025-11-27 00:04:18.836908 UTC</span><span>12 bytes</span>\
+<span class=\"fix\">inflated in part: reserved block type</span></summary>
+<pre class=\"log\" id=\"dmesg-ramoops-0.enc.z\">
 
 red \\xc3</pre>",
         ),
@@ -120,29 +129,121 @@ red \\xc3</pre>",
     Ok(())
 }
 
+/// Whether the page of these logs has this text.
+fn shows(rt: HostRuntime, logs: [&[u8]; 4], wanted: &str) -> Result<bool, Fail> {
+    let zones = worked_deaths::zones_of(rt.alloc())?;
+    let report = worked_deaths::report_on(rt.alloc(), logs)?;
+    let page = html(rt.alloc(), b"a", zones.zones(), &report)?;
+    Ok(str::from_utf8(page.as_slice())?.contains(wanted))
+}
+
 #[test]
 fn why_it_died(rt: HostRuntime) -> Result<(), Fail> {
-    for (logs, died) in [
+    let died = "</nav>
+<pre class=\"why\">Kernel panic - not syncing: &lt;b&gt;\\xff</pre>
+<table class=\"fact\">
+<tr><th scope=\"row\">When</th><td><b>2025-11-27 00:04:18.836908 UTC</b></td></tr>
+<tr><th scope=\"row\">Seconds after boot</th><td>    2.500000</td></tr>
+<tr><th scope=\"row\">CPU</th><td>0</td></tr>
+<tr><th scope=\"row\">Task</th><td>PID: 1 Comm: init</td></tr>
+<tr><th scope=\"row\">Kernel</th><td>Not tainted 6.1.0 #1</td></tr>
+<tr><th scope=\"row\">Function</th><td>sysrq_handle_crash+0x16/0x20</td></tr>
+<tr><th scope=\"row\">Told by</th><td><a href=\"#dmesg-ramoops-0\">dmesg-ramoops-0</a></td></tr>
+</table>
+</header>
+<main>
+<h2 id=\"told\">The lines that tell it, in dmesg-ramoops-0</h2>
+<pre class=\"log\">
+Panic#1 Part1
+<mark><i class=\"l0\">&lt;0&gt;[    2.500000] Kernel panic - not syncing: &lt;b&gt;\\xff
+</i></mark><i class=\"l4\">&lt;4&gt;[    2.600000] CPU: 0 PID: 1 Comm: init Not tainted 6.1.0 #1
+</i><i class=\"l4\">&lt;4&gt;[    2.700000] Call Trace:
+</i><i class=\"l4\">&lt;4&gt;[    2.800000]  panic+0x1/0x2
+</i><i class=\"l4\">&lt;4&gt;[    2.900000]  sysrq_handle_crash+0x16/0x20
+</i></pre>
+<h2 id=\"records\">Records: 1</h2>\n";
+    assert!(rt; shows(rt, [NAMED, NONE, NONE, NONE], died)?);
+    Ok(())
+}
+
+#[test]
+fn why_it_died_by_the_console(rt: HostRuntime) -> Result<(), Fail> {
+    let died = "<tr><th scope=\"row\">When</th><td>no date</td></tr>
+<tr><th scope=\"row\">Seconds after boot</th><td>    3.034971</td></tr>
+<tr><th scope=\"row\">CPU</th><td>none is named below this line</td></tr>
+<tr><th scope=\"row\">Function</th><td>none is named below this line</td></tr>
+<tr><th scope=\"row\">Told by</th><td><a href=\"#console-ramoops-0\">console-ramoops-0</a></td></tr>\n";
+    assert!(rt; shows(rt, [NONE, NONE, NONE, CONSOLE], died)?);
+    let lines = "<pre class=\"log\">
+[    3.034160] sysrq: Trigger a crash
+<mark>[    3.034971] Kernel panic - not syncing: sysrq triggered crash
+</mark>[    3.036072] Kernel Offset: disabled
+</pre>\n";
+    assert!(rt; shows(rt, [NONE, NONE, NONE, CONSOLE], lines)?);
+    let both =
+        "<pre class=\"why\">Oops: a\nKernel panic - not syncing: Fatal exception</pre>\n";
+    assert!(rt; shows(rt, [NONE, NONE, NONE, FATAL], both)?);
+    let marked = "<pre class=\"log\">
+<mark>[    3.0] Oops: a\n</mark><mark>[    3.1] Kernel panic - not syncing: Fatal exception\n</mark></pre>\n";
+    assert!(rt; shows(rt, [NONE, NONE, NONE, FATAL], marked)?);
+    let none = "</nav>\n<pre class=\"why\">No record tells why.</pre>\n</header>\n<main>\n";
+    assert!(rt; shows(rt, [NONE, NONE, NONE, NONE], none)?);
+    Ok(())
+}
+
+// Eight lines above the telling line and 16 below it.
+#[test]
+fn lines_around_the_death(rt: HostRuntime) -> Result<(), Fail> {
+    let mut log = Vec::new(rt.alloc());
+    log.extend_from_slice(b"a0\na1\na2\na3\na4\na5\na6\na7\na8\na9\n")?;
+    log.extend_from_slice(b"Kernel panic - not syncing: x\n")?;
+    log.extend_from_slice(b"b0\nb1\nb2\nb3\nb4\nb5\nb6\nb7\nb8\nb9\n")?;
+    log.extend_from_slice(b"c0\nc1\nc2\nc3\nc4\nc5\nc6\nc7\nc8\nc9\n")?;
+    let shown = "<pre class=\"log\">
+a2\na3\na4\na5\na6\na7\na8\na9
+<mark>Kernel panic - not syncing: x
+</mark>b0\nb1\nb2\nb3\nb4\nb5\nb6\nb7\nb8\nb9\nc0\nc1\nc2\nc3\nc4\nc5
+</pre>\n";
+    assert!(rt; shows(rt, [NONE, NONE, NONE, log.as_slice()], shown)?);
+    Ok(())
+}
+
+#[test]
+fn lines_by_level(rt: HostRuntime) -> Result<(), Fail> {
+    let log = b"<0>a\n<1>b\n<2>c\n<3>d\n<4>e\n<5>f\n<6>g\n<7>h\n<11>i\nj";
+    let shown = "<pre class=\"log\" id=\"console-ramoops-0\">
+<i class=\"l0\">&lt;0&gt;a
+</i><i class=\"l1\">&lt;1&gt;b
+</i><i class=\"l2\">&lt;2&gt;c
+</i><i class=\"l3\">&lt;3&gt;d
+</i><i class=\"l4\">&lt;4&gt;e
+</i><i class=\"l5\">&lt;5&gt;f
+</i>&lt;6&gt;g
+<i class=\"l7\">&lt;7&gt;h
+</i><i class=\"l3\">&lt;11&gt;i
+</i>j</pre>\n";
+    assert!(rt; shows(rt, [NONE, NONE, NONE, log], shown)?);
+    Ok(())
+}
+
+// A time past the calendar of a page, and the last second before.
+#[test]
+fn times(rt: HostRuntime) -> Result<(), Fail> {
+    for (log, shown) in [
         (
-            [NAMED, NONE, NONE, NONE],
-            "</h1>\n<pre>died: Kernel panic - not syncing: &lt;b&gt;\\xff  (dmesg-ramoops-0, \
-1764201858 seconds since 1970)
-      cpu 0, PID: 1 Comm: init, sysrq_handle_crash+0x16/0x20
-</pre>\n<svg ",
+            &b"====8639999999.999999-D\n"[..],
+            "<span>2243-10-16 23:59:59.999999 UTC</span>",
         ),
         (
-            [NONE, NONE, NONE, CONSOLE],
-            "</h1>\n<pre>died: Kernel panic - not syncing: sysrq triggered crash  (console-ramoops-0)\n</pre>\n<svg ",
+            b"====8640000000.5-D\n",
+            "<span>8640000000.000005 s</span>",
         ),
         (
-            [NONE, NONE, NONE, NONE],
-            "</h1>\n<pre>died: no record tells why\n</pre>\n<svg ",
+            b"====951782400.1000000-D\n",
+            "<span>2000-02-29 00:00:00.1000000 UTC</span>",
         ),
     ] {
-        let zones = worked_deaths::zones_of(rt.alloc())?;
-        let report = worked_deaths::report_on(rt.alloc(), logs)?;
-        let page = html(rt.alloc(), b"a", zones.zones(), &report)?;
-        assert!(rt; str::from_utf8(page.as_slice())?.contains(died), "{died}");
+        assert!(rt; shows(rt, [log, NONE, NONE, NONE], shown)?, "{shown}");
     }
     Ok(())
 }

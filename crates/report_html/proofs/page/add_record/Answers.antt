@@ -17,31 +17,33 @@ returns-clause-parts c =
     let old = parts c.args.pieces.now.items in
     let begun = parts c.add.new.pieces.items in
     let named = parts c.add_name.new.pieces.items in
-    let long = parts c.add_length.new.pieces.items in
+    let ended = parts c.add-2.new.pieces.items in
     let timed = parts c.add_time.new.pieces.items in
+    let long = parts c.add_length.new.pieces.items in
     let packed = parts c.add_packing.new.pieces.items in
     let whole = parts c.add_content.new.pieces.items in
-    let begin : List Part = Words (codes "<details><summary>") ∷ [] in
-    let name : named ≡ begun ++ name_parts r.name =
+    let begin : List Part = Words (codes "<details>\n<summary><b>") ∷ [] in
+    let end : List Part = Words (codes "</b>") ∷ [] in
+    let n : List Part = name_parts r.name in
+    let t : List Part = time_parts r.time in
+    let l : List Part = length_parts (length r.content) in
+    let p : List Part = packing_parts r.packing in
+    let name : named ≡ begun ++ n =
     c.in_ok-add_name.ensures ∙ ap (λ (q : RecordShown). begun ++ name_parts q.name) c.held.view_is in
-    let bytes : long ≡ named ++ length_parts (length r.content) =
-    c.in_ok-add_length.ensures ∙ ap (λ (n : ℕ). named ++ length_parts n) c.len.ensures.len
-    ∙ ap (λ (q : RecordShown). named ++ length_parts (length q.content)) c.held.view_is in
-    let time : timed ≡ long ++ time_parts r.time =
-    c.in_ok-add_time.ensures ∙ ap (λ (q : RecordShown). long ++ time_parts q.time) c.held.view_is in
-    let packing : packed ≡ timed ++ packing_parts r.packing =
-    c.in_ok-add_packing.ensures ∙ ap (λ (q : RecordShown). timed ++ packing_parts q.packing) c.held.view_is in
-    let content : whole ≡ packed ++ content_parts (readable r) =
-    c.in_ok-add_content.ensures.parts ∙ ap (λ (bs : List ℕ). packed ++ content_parts bs) c.readable.ensures in
-    let to_name = joined old begin (name_parts r.name) begun named c.in_ok-add.ensures name in
-    let to_length = joined old (begin ++ name_parts r.name) (length_parts (length r.content))
-    named long to_name bytes in
-    let to_time =
-    joined old (begin ++ name_parts r.name ++ length_parts (length r.content)) (time_parts r.time) long timed to_length
-    time in
-    let to_packing =
-    joined old (begin ++ name_parts r.name ++ length_parts (length r.content) ++ time_parts r.time)
-    (packing_parts r.packing) timed packed to_time packing in
-    joined old
-    (begin ++ name_parts r.name ++ length_parts (length r.content) ++ time_parts r.time ++ packing_parts r.packing)
-    (content_parts (readable r)) packed whole to_packing content
+    let time : timed ≡ ended ++ t =
+    c.in_ok-add_time.ensures ∙ ap (λ (q : RecordShown). ended ++ time_parts q.time) c.held.view_is in
+    let bytes : long ≡ timed ++ l =
+    c.in_ok-add_length.ensures ∙ ap (λ (n : ℕ). timed ++ length_parts n) c.len.ensures.len
+    ∙ ap (λ (q : RecordShown). timed ++ length_parts (length q.content)) c.held.view_is in
+    let packing : packed ≡ long ++ p =
+    c.in_ok-add_packing.ensures ∙ ap (λ (q : RecordShown). long ++ packing_parts q.packing) c.held.view_is in
+    let content : whole ≡ packed ++ content_parts r.name (readable r) =
+    c.in_ok-add_content.ensures.parts
+    ∙ ap (λ (q : RecordShown). packed ++ content_parts q.name c.readable.result.now) c.held.view_is
+    ∙ ap (λ (bs : List ℕ). packed ++ content_parts r.name bs) c.readable.ensures in
+    let to_name = joined old begin n begun named c.in_ok-add.ensures name in
+    let to_end = joined old (begin ++ n) end named ended to_name c.in_ok-add-2.ensures in
+    let to_time = joined old (begin ++ n ++ end) t ended timed to_end time in
+    let to_length = joined old (begin ++ n ++ end ++ t) l timed long to_time bytes in
+    let to_packing = joined old (begin ++ n ++ end ++ t ++ l) p long packed to_length packing in
+    joined old (begin ++ n ++ end ++ t ++ l ++ p) (content_parts r.name (readable r)) packed whole to_packing content

@@ -1,4 +1,4 @@
--- The zone's place, and then its blocks
+-- The zone's row, its header, and then its blocks
 use Rattle.std.proofs.Common.{◌≡◌, ◌∙◌, ap}
 use Rattle.std.specs.Option.{option_copied}
 use Rattle.report_spec.specs.Parts.{PartStates}
@@ -10,7 +10,8 @@ pub returns : goal.returns
 returns c =
     let blocks : c.as_slice-blocks.result.now ≡ c.args.states.now.blocks =
     c.as_slice-blocks.ensures.value ∙ ap (λ (p : PartStates). p.blocks) c.states.view_is in
-    zone-added c.args.zone.now (option_copied c.args.reading) c.args.states.now c.read_text.result.now
-    c.as_slice-blocks.result.now (parts c.args.pieces.now.items) (parts c.add_place.new.pieces.items)
-    (parts c.add_used.new.pieces.items) (parts c.add_unused.new.pieces.items) c.read_text.ensures blocks
-    c.in_ok-add_place.ensures c.in_ok-add_used.ensures c.in_ok-add_unused.ensures
+    zone-added c.args.zone.now (option_copied c.args.reading) c.args.states.now c.states.inside.header
+    c.as_slice-blocks.result.now (parts c.args.pieces.now.items) (parts c.add_row.new.pieces.items)
+    (parts c.add_header.new.pieces.items) (parts c.add_used.new.pieces.items) (parts c.add_unused.new.pieces.items)
+    (parts c.add.new.pieces.items) (ap (λ (p : PartStates). p.header) c.states.view_is) blocks c.in_ok-add_row.ensures c.in_ok-add_header.ensures
+    c.in_ok-add_used.ensures c.in_ok-add_unused.ensures c.in_ok-add.ensures

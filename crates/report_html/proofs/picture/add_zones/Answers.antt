@@ -1,5 +1,5 @@
 -- Each zone is drawn with its reading and its parts
-use Rattle.std.proofs.Common.{◌≡◌, ◌<◌, ◌∙◌, List, length, get_or, ap, sym, arith, Some}
+use Rattle.std.proofs.Common.{◌≡◌, ◌<◌, ◌∙◌, ◌++◌, ℕ, List, length, get_or, ap, sym, arith, Some}
 use Rattle.std.specs.Prelude.{Option, flat_map, slice_get}
 use Rattle.std.specs.List.{zip}
 use Rattle.std.specs.Option.{option_copied, option_map}
@@ -11,8 +11,8 @@ use Rattle.zone_spec.specs.Records.{Saved}
 use Rattle.report_spec.specs.Parts.{PartStates}
 use Rattle.prz_read.specs.Saving.{SavedLogs, saved}
 use Rattle.pstore_records.proofs.Steps.{collected-more, collected-all}
-use Rattle.report_html.specs.Pieces.{parts}
-use Rattle.report_html.specs.Pictures.{zone_parts}
+use Rattle.report_html.specs.Pieces.{Part, parts}
+use Rattle.report_html.specs.Pictures.{drawn_parts, width_of}
 use Rattle.report_html.proofs.Drawn.{no_zone, read-at, drawn, all-count}
 use Rattle.report_html.proofs.picture.add_zones.Goals as goal
 
@@ -25,7 +25,7 @@ loop-i-preserved c =
     let i = c.loop-i.i in
     let z : Zone = get_or zones i no_zone in
     let p : PartStates = c.index-states-i.result in
-    let r : Option ZoneReading = option_copied c.reading.result in
+    let r : Option ZoneReading = option_copied c.reading-reading.result in
     let count : c.min-count.result ≡ length all =
     all-count zones logs c.logs-logs.result.now states c.parts-states.result.now c.min.result c.len.result
     c.min-count.result c.logs-logs.ensures c.parts-states.ensures c.min.ensures c.len.ensures.readings
@@ -38,15 +38,19 @@ loop-i-preserved c =
     let read : slice_get logs.readings i ≡ Some r =
     read-at logs.zones logs.readings i r
     (ap (λ (l : SavedLogs). option_map (λ (s : Saved). s.1) (slice_get (saved l) i)) (sym c.logs-logs.ensures)
-    ∙ c.reading.ensures) in
+    ∙ c.reading-reading.ensures) in
     let beside : slice_get states i ≡ Some p =
     ap (λ (ps : List PartStates). slice_get ps i) (sym c.parts-states.ensures)
     ∙ slice_get-get_or c.parts-states.result.now i p (omega (arith, below, least, fewest))
     ∙ ap (λ (q : PartStates). Some q) (sym c.index-states-i.is) in
-    collected-more (λ (ds : List (Saved × PartStates)). flat_map zone_parts ds) (flat_map-append zone_parts) all i
-    (parts c.args.pieces.now.items) (parts c.loop-i.pieces.items) (parts c.add_zone.new.pieces.items)
-    (zone_parts ((z, r), p)) lt (λ d at. drawn zones logs.readings states i z r p d here read beside at)
-    c.loop-i.invariant c.in_ok-add_zone.ensures
+    let f : Saved × PartStates → List Part = drawn_parts c.args.in_table (width_of zones) in
+    let added : parts c.add_drawn.new.pieces.items ≡ parts c.loop-i.pieces.items ++ f ((z, r), p) =
+    c.in_ok-add_drawn.ensures
+    ∙ ap (λ (n : ℕ). parts c.loop-i.pieces.items ++ drawn_parts c.args.in_table n ((z, r), p)) c.width-whole.ensures in
+    collected-more (λ (ds : List (Saved × PartStates)). flat_map f ds) (flat_map-append f) all i
+    (parts c.args.pieces.now.items) (parts c.loop-i.pieces.items) (parts c.add_drawn.new.pieces.items)
+    (f ((z, r), p)) lt (λ d at. drawn f zones logs.readings states i z r p d here read beside at)
+    c.loop-i.invariant added
 
 pub returns : goal.returns
 returns c =
@@ -58,6 +62,7 @@ returns c =
     all-count zones logs c.logs-logs.result.now states c.parts-states.result.now c.min.result c.len.result
     c.min-count.result c.logs-logs.ensures c.parts-states.ensures c.min.ensures c.len.ensures.readings
     c.min-count.ensures in
-    collected-all (λ (ds : List (Saved × PartStates)). flat_map zone_parts ds) (flat_map-append zone_parts) all
+    let f : Saved × PartStates → List Part = drawn_parts c.args.in_table (width_of zones) in
+    collected-all (λ (ds : List (Saved × PartStates)). flat_map f ds) (flat_map-append f) all
     c.loop-i.i (parts c.args.pieces.now.items) (parts c.loop-i.pieces.items)
     (let past = c.loop-i-test.false in omega (arith, past, count)) c.loop-i.invariant

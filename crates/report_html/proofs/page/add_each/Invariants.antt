@@ -5,7 +5,7 @@ use Rattle.report_spec.specs.Packed.{RecordShown, readable}
 use Rattle.std.specs.Prelude.{flat_map}
 use Rattle.report_html.specs.Pieces.{parts}
 use Rattle.report_html.specs.Pages.{record_parts}
-use Rattle.report_html.proofs.page.add_records.Given as goal
+use Rattle.report_html.proofs.page.add_each.Given as goal
 
 abbrev pub invariant-loop-held : goal.invariant-loop-held
 invariant-loop-held l = (parts l.pieces.items

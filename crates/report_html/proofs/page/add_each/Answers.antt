@@ -1,8 +1,8 @@
--- One record more adds its parts, and all records hold bytes. For `add_records`.
+-- One record more adds its parts, and all records hold bytes. For `add_each`.
 use Rattle.std.proofs.Common.{arith}
 use Rattle.std.proofs.lemmas.Grind.{common_steps}
 use Rattle.report_html.proofs.Foreign.{held_next, held_all}
-use Rattle.report_html.proofs.page.add_records.Goals as goal
+use Rattle.report_html.proofs.page.add_each.Goals as goal
 
 pub loop-held-preserved : goal.loop-held-preserved
 loop-held-preserved c = (

@@ -1,0 +1,28 @@
+-- A log as a page shows it: line by line, each in its level's colour
+use Rattle.std.specs.Prelude.{ℕ, ◌==◌, if◌then◌else◌, List, ◌++◌, flat_map, codes, Option, Some, None}
+use Rattle.death_spec.specs.declared.Line.{Line}
+use Rattle.death_spec.specs.Lines.{lines_from, level_of, part}
+use Rattle.report_spec.specs.Escaped.{escaped}
+
+-- a line with its newline
+abbrev pub line_bytes : List ℕ → Line → List ℕ
+line_bytes text line = part text line.start line.next
+
+abbrev pub level_words : ℕ → List ℕ
+level_words level =
+    if level == 0 then codes "<i class=\"l0\">" else (if level == 1 then codes "<i class=\"l1\">"
+    else (if level == 2 then codes "<i class=\"l2\">" else (if level == 3 then codes "<i class=\"l3\">"
+    else (if level == 4 then codes "<i class=\"l4\">" else (if level == 5 then codes "<i class=\"l5\">"
+    else codes "<i class=\"l7\">")))))
+
+-- a line without a level, and one of level 6, which tells of nothing wrong, is plain
+abbrev pub line_by : Option ℕ → List ℕ → List ℕ
+line_by None bytes = escaped bytes
+line_by (Some level) bytes =
+    if level == 6 then escaped bytes else level_words level ++ escaped bytes ++ codes "</i>"
+
+abbrev pub line_text : List ℕ → Line → List ℕ
+line_text text line = line_by (level_of text line) (line_bytes text line)
+
+unfoldable pub log_text : List ℕ → List ℕ
+log_text text = flat_map (line_text text) (lines_from text 0)

@@ -1,0 +1,56 @@
+// Logs, line by line, each in its level's colour.
+ghost use Rattle.std.specs.Prelude.{◌≡◌, ◌++◌, OnOk};
+ghost use Rattle.report_html.specs.Logs.{line_bytes, level_words, line_by, line_text as text_of_line, log_text};
+
+use crate::escaping::push_escaped;
+use death::{level, next_line, part};
+use death_spec::Line;
+use std::alloc::AllocError;
+
+fn level_tag(level: u8) -> &'static str
+    ensures { result.now ≡ level_words level }
+{
+    match level {
+        0 => "<i class=\"l0\">",
+        1 => "<i class=\"l1\">",
+        2 => "<i class=\"l2\">",
+        3 => "<i class=\"l3\">",
+        4 => "<i class=\"l4\">",
+        5 => "<i class=\"l5\">",
+        _ => "<i class=\"l7\">",
+    }
+}
+
+/// Appends a line in its level's colour.
+fn push_coloured(out: &mut Vec<u8>, level: u8, bytes: &[u8]) -> Result<(), AllocError>
+    ensures { OnOk result (out.new.items ≡ out.old.items ++ line_by (Some level) bytes.now) }
+{
+    if level == 6 {
+        return push_escaped(out, bytes);
+    }
+    out.extend_from_slice(level_tag(level).as_bytes())?;
+    push_escaped(out, bytes)?;
+    out.extend_from_slice(b"</i>")
+}
+
+fn push_line(out: &mut Vec<u8>, text: &[u8], line: Line) -> Result<(), AllocError>
+    ensures { OnOk result (out.new.items ≡ out.old.items ++ text_of_line text.now line) }
+{
+    let bytes = part(text, line.start, line.next);
+    match level(text, line) {
+        Some(level) => push_coloured(out, level, bytes),
+        None => push_escaped(out, bytes),
+    }
+}
+
+/// Appends the lines of a log.
+pub fn push_log(out: &mut Vec<u8>, text: &[u8]) -> Result<(), AllocError>
+    ensures { OnOk result (out.new.items ≡ out.old.items ++ log_text text.now) }
+{
+    let mut at = 0;
+    'lines: while let Some(line) = next_line(text, at) {
+        push_line(out, text, line)?;
+        at = line.next;
+    }
+    Ok(())
+}
