@@ -8,9 +8,9 @@ ghost use Rattle.oopsbox_c.specs.Zones.{fault_word, PlacesOf, IsLaid, IsNoLayout
 
 use crate::End;
 use crate::places::{LayoutAnswer, ZoneAnswer, ZonePlace, place_of, state_number};
-use crate::words::{WordsFault, fill, read_words_of};
 use prz_read::{Reading, read_zone};
 use prz_region::Probe;
+use report_calls::{WordsFault, fill, read_words_of};
 use std::alloc::{AllocError, Global};
 use zone_params::types::Layout;
 use zone_params::{LayoutError, ParamFault, layout, read_words};
