@@ -1,6 +1,6 @@
 -- A report that ended is the end of a call by its words. For the calls of C and of the page.
 use Rattle.std.proofs.Common.{◌≡◌, ℕ, List, ap, refl}
-use Rattle.std.specs.Prelude.{⊥, Result, Ok, Err}
+use Rattle.std.specs.Prelude.{Result, Ok, Err}
 use Rattle.std.specs.declared.string.String.{String}
 use Rattle.std.specs.declared.alloc.Global.{Global}
 use Rattle.grammar_spec.specs.Fields.{Text}

@@ -1,5 +1,5 @@
 -- What a call on a report answers
-use Rattle.std.specs.Prelude.{◌≡◌, ℕ, ⊥, ◌+◌, ◌<◌, ◌≤◌, ◌⊎◌, ◌==◌, if◌then◌else◌, List, ◌++◌, length, drop, string_bytes, Option, Some, None, Result, Ok, Err, MatchResult, IsUtf8}
+use Rattle.std.specs.Prelude.{◌≡◌, ℕ, ◌+◌, ◌<◌, ◌≤◌, ◌⊎◌, ◌==◌, if◌then◌else◌, List, ◌++◌, length, drop, string_bytes, Option, Some, None, Result, Ok, Err, MatchResult, IsUtf8}
 use Rattle.std.specs.declared.string.String.{String}
 use Rattle.std.specs.declared.alloc.Global.{Global}
 use Rattle.zone_spec.specs.LayoutFaults.{fault_number as layout_number}

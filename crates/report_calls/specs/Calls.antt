@@ -1,5 +1,5 @@
 -- How a call ends that reads its words from texts
-use Rattle.std.specs.Prelude.{◌≡◌, ℕ, ⊥, ◌⊎◌, List}
+use Rattle.std.specs.Prelude.{◌≡◌, ℕ, ◌⊎◌, List}
 use Rattle.std.specs.declared.string.String.{String}
 use Rattle.std.specs.declared.alloc.Global.{Global}
 use Rattle.grammar_spec.specs.Fields.{Text}

@@ -1,5 +1,5 @@
 -- The report of an image in memory, and why there is none
-use Rattle.std.specs.Prelude.{◌≡◌, ℕ, ⊤, ⊥, ◌<◌, true, false, List, [], length, take, string_bytes, Some}
+use Rattle.std.specs.Prelude.{◌≡◌, ℕ, ⊤, ◌<◌, true, false, List, [], length, take, string_bytes, Some}
 use Rattle.std.specs.declared.string.String.{String}
 use Rattle.std.specs.declared.alloc.Global.{Global}
 use Rattle.zone_spec.specs.Numbers.{most_memory}
