@@ -31,8 +31,10 @@ enum {
 	OOPSBOX_ARGUMENT = 13, /* an argument is outside its range; nothing was written */
 	OOPSBOX_MEMORY = 14,   /* malloc answered NULL; nothing was written */
 	OOPSBOX_BAD = 15,      /* no codeword is near enough */
-	OOPSBOX_CLOSED = 16    /* the zone does not stand as one that can be written: unsigned, no ring, or a ring that
+	OOPSBOX_CLOSED = 16,   /* the zone does not stand as one that can be written: unsigned, no ring, or a ring that
 				  cannot be appended to. Boot it first; nothing was written */
+	OOPSBOX_UNLAID = 17,   /* the layout was looked for, and none is taken */
+	OOPSBOX_TREE = 18      /* the device tree gives no layout */
 };
 
 /*
@@ -365,6 +367,50 @@ struct oopsbox_lengths {
  */
 uint32_t oopsbox_run(const uint8_t *words, size_t words_len, const uint8_t *script, size_t script_len, uint8_t *image,
 		     size_t image_len, uint8_t *text, size_t text_len, struct oopsbox_lengths *lengths);
+
+/* ---- the report -------------------------------------------------------------------------------------------------- */
+
+enum { OOPSBOX_TEXT = 0, OOPSBOX_JSON = 1, OOPSBOX_HTML = 2 };
+
+/* What is told of a report; what says nothing is 0. 32 bytes. */
+struct oopsbox_report_answer {
+	uint64_t hint;   /* how many of the text's first bytes are lines on a layout that was looked for */
+	uint64_t text;   /* how many bytes the text has in all */
+	uint64_t word;   /* which word is at fault, from 1; 0 where no single word is */
+	uint32_t fault;  /* the fault's number */
+	uint32_t needed; /* the bytes that the layout needs */
+};
+
+/*
+ * The report of image[0 .. image_len), as the program oopsreport makes it of a file: as text, as one line of JSON, or as
+ * a page (format). The image is not written. name[0 .. name_len) is UTF-8 and stands for the file's path. words are
+ * words key=value, each two with one space between; there may be none. tree[0 .. tree_len) is a flattened device tree,
+ * or no byte.
+ *
+ * The layout is that of the tree's only ramoops node, where there is a tree; words count more than the node. Else it is
+ * that of the words, if mem_size is one of them. Else it is looked for in the image, among those that agree with the
+ * words. It allocates.
+ *
+ * OOPSBOX_DONE: the first answer->text bytes of text are the report, behind answer->hint bytes of lines on a layout that
+ * was looked for, each with its newline: the layout's words, and those of another that explains as much.
+ * OOPSBOX_UNLAID: the layout was looked for and none is taken. answer->fault is 1: none was found; 2: none explains the
+ * image; 3: not all were tried. On 2 and 3 the first answer->text bytes of text are a line with the best.
+ * OOPSBOX_ROOM: text_len is below answer->text; text is as it was. *answer is what it would be with room.
+ * On all of these the rest of text is as it was.
+ *
+ * OOPSBOX_FAULT: *answer tells the fault (a word's: 1 unknown key, 2 twice, 3 no number; else word is 0: the layout's,
+ * or 101 to 105, where block_size, ecc_dump, ecc_console, ecc_ftrace or ecc_pmsg is given without mem_size).
+ * OOPSBOX_SHORT: the image has fewer bytes than answer->needed.
+ * OOPSBOX_TREE: answer->fault is 1 to 13: the tree is broken; 14: it has no ramoops node; 15: it has several; 16: a word
+ * cpus is wanted, since there is an ftrace zone for each processor. docs/MESSAGES.md lists them. On these three text is
+ * as it was.
+ *
+ * OOPSBOX_ARGUMENT: name or words is not UTF-8, or format is none of the three. OOPSBOX_MEMORY: no memory. On both
+ * nothing was written.
+ */
+uint32_t oopsbox_report(const uint8_t *name, size_t name_len, const uint8_t *words, size_t words_len,
+			const uint8_t *tree, size_t tree_len, const uint8_t *image, size_t image_len, uint32_t format,
+			uint8_t *text, size_t text_len, struct oopsbox_report_answer *answer);
 
 #ifdef __cplusplus
 }

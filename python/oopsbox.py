@@ -23,13 +23,15 @@ import os
 import sysconfig
 from collections import namedtuple
 
-__all__ = ["Error", "Record", "Ring", "Run", "Zone", "boot", "layout", "records", "rs_decode", "rs_encode", "run"]
+__all__ = ["Error", "Record", "Report", "Ring", "Run", "Zone", "boot", "layout", "records", "report", "rs_decode",
+           "rs_encode", "run"]
 
-DONE, FAULT, SHORT, ROOM, ARGUMENT, MEMORY, BAD, CLOSED = 0, 3, 4, 12, 13, 14, 15, 16
+DONE, FAULT, SHORT, ROOM, ARGUMENT, MEMORY, BAD, CLOSED, UNLAID, TREE = 0, 3, 4, 12, 13, 14, 15, 16, 17, 18
 
 Zone = namedtuple("Zone", "kind index at size cap blocks parity block sig")
 Record = namedtuple("Record", "name time content")
 Run = namedtuple("Run", "status text image")
+Report = namedtuple("Report", "text hint")
 
 _KINDS = ("dump", "console", "ftrace", "pmsg")
 
@@ -53,6 +55,11 @@ class _LayoutAnswer(ctypes.Structure):
 
 class _Lengths(ctypes.Structure):
     _fields_ = [("image", ctypes.c_uint64), ("text", ctypes.c_uint64)]
+
+
+class _ReportAnswer(ctypes.Structure):
+    _fields_ = [(name, ctypes.c_uint64) for name in ("hint", "text", "word")] + [
+        ("fault", ctypes.c_uint32), ("needed", ctypes.c_uint32)]
 
 
 class _Params(ctypes.Structure):
@@ -97,6 +104,7 @@ def _load():
         "oopsbox_rs_decode": piece + piece + piece + [ctypes.POINTER(ctypes.c_uint32)],
         "oopsbox_layout": piece + piece + [ctypes.POINTER(_LayoutAnswer)],
         "oopsbox_run": piece + piece + piece + piece + [ctypes.POINTER(_Lengths)],
+        "oopsbox_report": piece * 4 + [number] + piece + [ctypes.POINTER(_ReportAnswer)],
         "oopsbox_zone_at": [ctypes.POINTER(_Params), number, number, ctypes.POINTER(_Place),
                             ctypes.POINTER(_LayoutAnswer)],
         "oopsbox_table": [number] + piece,
@@ -233,6 +241,56 @@ def records(image, parameters):
         name, _, time = (line.split(" ") + [None])[:3]
         found.append(Record(name, time, _done(run("extract " + name, parameters, image)).text))
     return found
+
+
+_FORMATS = ("text", "json", "html")
+_NO_MEM_SIZE = ("block_size", "ecc_dump", "ecc_console", "ecc_ftrace", "ecc_pmsg")
+_UNLAID = {1: "no layout was found", 2: "no layout explains it", 3: "not all layouts were tried"}
+_TREE = {14: "the device tree has no ramoops node", 15: "the device tree has several ramoops nodes",
+         16: "cpus=N is wanted: there is an ftrace zone for each processor"}
+
+
+def _why(status, answer, hint):
+    if status == FAULT and answer.word:
+        return "parameter fault %d at word %d" % (answer.fault, answer.word)
+    if status == FAULT and answer.fault > 100:
+        return "%s needs mem_size: a layout with it is not looked for" % _NO_MEM_SIZE[answer.fault - 101]
+    if status == FAULT:
+        return "layout fault %d" % answer.fault
+    if status == SHORT:
+        return "the image is too short: the layout needs %d bytes" % answer.needed
+    if status == UNLAID:
+        return "; ".join([_UNLAID[answer.fault]] + hint.decode(errors="replace").splitlines())
+    if status == TREE:
+        return _TREE.get(answer.fault, "device tree fault %d" % answer.fault)
+    return "no text, or no such format" if status == ARGUMENT else "no memory"
+
+
+def report(image, words="", format="json", tree=b"", name="image"):
+    """The report of an image as the program oopsreport prints it of a file: "text", "json" or "html".
+
+    Words are parameters, as "mem_size=65536 ecc=1". A device tree gives the layout where there is one; without it and
+    without mem_size the layout is looked for in the image. The name stands for the file's path. Answers a Report: the
+    text, and as hint the lines on a layout that was looked for, both bytes.
+
+    Raises Error with status 3 if a word is faulty or there is no layout, 4 if the image is too short, 13 if the words
+    or the name are no text or the format is none of the three, 17 if the layout was looked for and none is taken, 18 if
+    the device tree gives none.
+    """
+    image, words, tree, name = _bytes(image), _words(words), _bytes(tree), _words(name)
+    number = _FORMATS.index(format) if format in _FORMATS else len(_FORMATS)
+    room, answer = 65536, _ReportAnswer()
+    while True:
+        text = _buffer(b"", room)
+        status = _library.oopsbox_report(_buffer(name), len(name), _buffer(words), len(words), _buffer(tree), len(tree),
+                                         _buffer(image), len(image), number, text, room, ctypes.byref(answer))
+        if status != ROOM:
+            break
+        room = answer.text
+    told = ctypes.string_at(text, answer.text if status in (DONE, UNLAID) else 0)
+    if status != DONE:
+        raise Error(status, _why(status, answer, told))
+    return Report(told[answer.hint:], told[:answer.hint])
 
 
 # The keys of parameters as numbers, the fields of the struct that they set, and the numbers of a key that is absent.

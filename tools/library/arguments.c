@@ -118,6 +118,67 @@ static void runs(void)
 	free(text);
 }
 
+enum { ROOM = 1 << 16 };
+
+static uint8_t room[ROOM];
+static struct oopsbox_report_answer told;
+
+/* A report of an image under the name "here", in text_len bytes of the room, all 7 before. */
+static uint32_t report(const char *words, const uint8_t *image, size_t image_len, uint32_t format, size_t text_len)
+{
+	memset(room, 7, ROOM);
+	memset(&told, 7, sizeof(told));
+	return oopsbox_report(bytes("here"), 4, bytes(words), strlen(words), NULL, 0, image, image_len, format, room,
+			      text_len, &told);
+}
+
+/* Whether the room is as it was from this byte on. */
+static int is_left(size_t from)
+{
+	for (size_t i = from; i < ROOM; i++)
+		if (room[i] != 7)
+			return 0;
+	return 1;
+}
+
+/* Whether the answer is these numbers. */
+static int tells(uint64_t text, uint64_t word, uint32_t fault, uint32_t needed)
+{
+	return told.text == text && told.word == word && told.fault == fault && told.needed == needed;
+}
+
+static void reports(void)
+{
+	static const uint64_t seven = 0x0707070707070707;
+	uint8_t *image = calloc(1, 4096);
+	memcpy(image, "DBGC\0\0\0\0\3\0\0\0abc", 15);
+	for (uint32_t format = OOPSBOX_TEXT; format <= OOPSBOX_HTML; format++) {
+		WANT(report(params, image, 4096, format, ROOM) == OOPSBOX_DONE);
+		uint64_t length = told.text;
+		WANT(length > 0 && tells(length, 0, 0, 0) && told.hint == 0 && is_left(length) && room[length - 1] == '\n');
+		WANT(report(params, image, 4096, format, length) == OOPSBOX_DONE && is_left(length));
+		WANT(report(params, image, 4096, format, length - 1) == OOPSBOX_ROOM && is_left(0) && tells(length, 0, 0, 0));
+		WANT(report(params, image, 4096, format, 0) == OOPSBOX_ROOM && is_left(0));
+	}
+	WANT(report(params, image, 4096, 3, ROOM) == OOPSBOX_ARGUMENT && told.text == seven && told.hint == seven && is_left(0));
+	WANT(report(params, image, 4096, UINT32_MAX, ROOM) == OOPSBOX_ARGUMENT && is_left(0));
+	WANT(report("mem_size=\xff", image, 4096, 0, ROOM) == OOPSBOX_ARGUMENT && told.text == seven && is_left(0));
+	WANT(oopsbox_report(bytes("\xff"), 1, NULL, 0, NULL, 0, image, 4096, 0, room, ROOM, &told) == OOPSBOX_ARGUMENT);
+	WANT(told.text == seven && is_left(0));
+	WANT(report(params, image, 4095, 0, ROOM) == OOPSBOX_SHORT && tells(0, 0, 0, 4096) && is_left(0));
+	WANT(report(params, NULL, 0, 0, ROOM) == OOPSBOX_SHORT && tells(0, 0, 0, 4096) && is_left(0));
+	WANT(report("mem_size=4096 ecx=1", image, 4096, 0, ROOM) == OOPSBOX_FAULT && tells(0, 2, 1, 0) && is_left(0));
+	WANT(report("ecc=1 ecc=1", image, 4096, 0, ROOM) == OOPSBOX_FAULT && tells(0, 2, 2, 0) && is_left(0));
+	WANT(report("ecc=x", image, 4096, 0, ROOM) == OOPSBOX_FAULT && tells(0, 1, 3, 0) && is_left(0));
+	WANT(report("mem_size=0", image, 4096, 0, ROOM) == OOPSBOX_FAULT && tells(0, 0, 1, 0) && is_left(0));
+	WANT(report("block_size=64", image, 4096, 0, ROOM) == OOPSBOX_FAULT && tells(0, 0, 101, 0) && is_left(0));
+	WANT(report("ecc_pmsg=1", image, 4096, 0, ROOM) == OOPSBOX_FAULT && tells(0, 0, 105, 0) && is_left(0));
+	WANT(report("", NULL, 0, 0, ROOM) == OOPSBOX_UNLAID && tells(0, 0, 1, 0) && is_left(0));
+	WANT(oopsbox_report(NULL, 0, NULL, 0, bytes("no tree"), 7, image, 4096, 0, room, ROOM, &told) == OOPSBOX_TREE);
+	WANT(tells(0, 0, 1, 0) && is_left(0));
+	free(image);
+}
+
 /* ---- the store in place ---- */
 
 enum { SIZE = 4096 };
@@ -433,6 +494,7 @@ int main(int argc, char **argv)
 	layouts();
 	zones();
 	runs();
+	reports();
 	in_place();
 	if (!failed)
 		printf("arguments as stated\n");

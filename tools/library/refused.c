@@ -2,7 +2,7 @@
  * Each growth of memory of a run refused in turn: malloc or realloc answers NULL once. A vector that finds no room for
  * twice its length then asks for less, so the run can still be done: image and text are then those of the run of which
  * nothing was refused. Else the answer is 1, 6, 7 or OOPSBOX_MEMORY; on 1 the image is untouched, and on OOPSBOX_MEMORY
- * nothing was written. It is linked with -Wl,--wrap=malloc,--wrap=realloc.
+ * nothing was written. Of a report the answer is OOPSBOX_DONE or OOPSBOX_MEMORY. It is linked with -Wl,--wrap=malloc,--wrap=realloc.
  */
 #include <oopsbox.h>
 #include <stdio.h>
@@ -57,6 +57,52 @@ static uint32_t run(const char *command, long growth)
 	return status;
 }
 
+static const struct {
+	const char *what, *words;
+	uint32_t format;
+} reports[] = {{"a text", params, OOPSBOX_TEXT}, {"a line of JSON", params, OOPSBOX_JSON},
+	       {"a page", params, OOPSBOX_HTML}, {"a layout", "", OOPSBOX_TEXT}};
+static struct oopsbox_report_answer told, told_done;
+
+/* A report of the image that a run left. On OOPSBOX_MEMORY nothing was written. */
+static uint32_t report(size_t r, long growth)
+{
+	uint32_t status;
+	memset(text, 0, TEXT);
+	memset(&told, 7, sizeof(told));
+	refused = 0;
+	left = growth;
+	status = oopsbox_report((const uint8_t *)"image", 5, (const uint8_t *)reports[r].words, strlen(reports[r].words),
+				NULL, 0, image_done, MEM, reports[r].format, text, TEXT, &told);
+	left = 0;
+	return status;
+}
+
+/* Each growth of each report refused in turn; how many of them failed, or -1. */
+static long reports_fail(void)
+{
+	struct oopsbox_report_answer seven;
+	long failing = 0;
+	memset(&seven, 7, sizeof(seven));
+	for (size_t r = 0; r < sizeof(reports) / sizeof(reports[0]); r++) {
+		if (report(r, 0) != OOPSBOX_DONE)
+			return printf("refused: %s is not done\n", reports[r].what), -1;
+		memcpy(text_done, text, TEXT);
+		told_done = told;
+		for (long growth = 1;; growth++) {
+			uint32_t status = report(r, growth);
+			if (!refused)
+				break;
+			failing += status != OOPSBOX_DONE;
+			const uint8_t *wanted = status == OOPSBOX_DONE ? text_done : nothing;
+			if ((status != OOPSBOX_DONE && status != OOPSBOX_MEMORY) || memcmp(text, wanted, TEXT) != 0
+			    || memcmp(&told, status == OOPSBOX_DONE ? &told_done : &seven, sizeof(told)) != 0)
+				return printf("refused: growth %ld of %s answers %u\n", growth, reports[r].what, status), -1;
+		}
+	}
+	return failing;
+}
+
 static int is_done(void)
 {
 	return memcmp(image, image_done, MEM) == 0 && memcmp(text, text_done, TEXT) == 0
@@ -105,5 +151,13 @@ int main(void)
 		return 1;
 	}
 	printf("%zu runs, each growth refused in turn, %zu of them failed\n", runs, failing);
+	memset(image, 0, MEM);
+	if (run("run", 0) != OOPSBOX_DONE)
+		return 1;
+	memcpy(image_done, image, MEM);
+	long reported = reports_fail();
+	if (reported < 20)
+		return printf("refused: %ld reports failed\n", reported), 1;
+	printf("reports, each growth refused in turn, %ld of them failed\n", reported);
 	return 0;
 }

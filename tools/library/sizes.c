@@ -17,14 +17,16 @@ HAS(oopsbox_store, 152);
 HAS(oopsbox_stores, 616);
 HAS(oopsbox_boot, 64);
 HAS(oopsbox_lengths, 16);
+HAS(oopsbox_report_answer, 32);
 
 /* Prints them, for the Python module to be compared. */
 #include <stdio.h>
 
 int main(void)
 {
-	printf("%zu %zu %zu %zu %zu %zu %zu %zu\n", sizeof(struct oopsbox_zone_place), sizeof(struct oopsbox_layout_answer),
+	printf("%zu %zu %zu %zu %zu %zu %zu %zu %zu\n", sizeof(struct oopsbox_zone_place), sizeof(struct oopsbox_layout_answer),
 	       sizeof(struct oopsbox_lengths), sizeof(struct oopsbox_params), sizeof(struct oopsbox_zone_answer),
-	       sizeof(struct oopsbox_flight), sizeof(struct oopsbox_boot), sizeof(struct oopsbox_stores));
+	       sizeof(struct oopsbox_flight), sizeof(struct oopsbox_boot), sizeof(struct oopsbox_stores),
+	       sizeof(struct oopsbox_report_answer));
 	return 0;
 }

@@ -79,6 +79,17 @@ static void *runs(void *unused)
 	return unused;
 }
 
+static void *reports(void *unused)
+{
+	struct oopsbox_report_answer told;
+	for (uint32_t format = OOPSBOX_TEXT; format <= OOPSBOX_HTML; format++)
+		check(oopsbox_report((const uint8_t *)"image", 5, (const uint8_t *)params, strlen(params), NULL, 0, image, MEM,
+				     format, text, TEXT, &told) == OOPSBOX_DONE, "report");
+	check(oopsbox_report(NULL, 0, NULL, 0, NULL, 0, image, 65536, OOPSBOX_TEXT, text, TEXT, &told) == OOPSBOX_UNLAID
+	      || told.hint > 0, "search");
+	return unused;
+}
+
 /* ---- the store in place: each zone of each parity, damaged or not, with a table and without ---- */
 
 static struct zone store;
@@ -286,7 +297,8 @@ int main(void)
 		     {"oopsbox_rs_decode", decode, OOPSBOX_STACK_CODES},
 		     {"oopsbox_layout", layout, OOPSBOX_STACK},
 		     {"oopsbox_zone", zone, OOPSBOX_STACK},
-		     {"oopsbox_run", runs, OOPSBOX_STACK}};
+		     {"oopsbox_run", runs, OOPSBOX_STACK},
+		     {"oopsbox_report", reports, OOPSBOX_STACK}};
 	int failed = 0;
 	image = calloc(1, MEM);
 	text = malloc(TEXT);

@@ -17,13 +17,15 @@ static int rounds = 200;
 
 /* What one thread's calls answered. */
 struct answers {
-	uint32_t status[5];
+	uint32_t status[6];
 	uint8_t parity[32], data[200], places[16], log[4096], after[MEM], text[TEXT];
 	uint32_t corrected;
 	struct oopsbox_zone_place zones[8];
 	struct oopsbox_layout_answer layout;
 	struct oopsbox_zone_answer zone;
 	struct oopsbox_lengths lengths;
+	struct oopsbox_report_answer told;
+	uint8_t line[TEXT];
 };
 
 static struct answers expected;
@@ -52,6 +54,7 @@ static void make_calls(struct answers *a)
 	memcpy(a->after, image, MEM);
 	a->lengths.image = MEM;
 	a->status[4] = run("run", script, a->after, a->text, &a->lengths);
+	a->status[5] = oopsbox_report(words, length, words, length, NULL, 0, image, MEM, OOPSBOX_JSON, a->line, TEXT, &a->told);
 }
 
 static void *work(void *unused)
@@ -76,7 +79,7 @@ int main(int argc, char **argv)
 		rounds = atoi(argv[1]);
 	failed |= run("run", script, image, expected.text, &lengths) != OOPSBOX_DONE;
 	make_calls(&expected);
-	for (int i = 0; i < 5; i++)
+	for (int i = 0; i < 6; i++)
 		failed |= expected.status[i] != OOPSBOX_DONE;
 	failed |= expected.corrected != 2 || expected.zone.log < 3 || expected.layout.zones != 4;
 	if (failed)

@@ -13,5 +13,4 @@ pub mod Runs
 pub mod Stores
 pub mod Tables
 pub mod WholeFlights
-pub mod Words
 pub mod Zones

@@ -14,10 +14,10 @@ mod memory;
 mod numbers;
 mod places;
 mod readings;
+mod reporting;
 mod running;
 mod stores;
 mod tables;
-mod words;
 mod zones;
 
 pub use boots::{ZoneBoot, oopsbox_boot_begin, oopsbox_boot_next};
@@ -31,11 +31,15 @@ pub use laws::flights_are_whole;
 pub use layouts::{LayoutParams, oopsbox_zone_at};
 pub use places::{LayoutAnswer, ZoneAnswer, ZonePlace};
 pub use readings::{oopsbox_zone_log, oopsbox_zone_read};
+pub use report_calls::ReportAnswer;
+pub use reporting::oopsbox_report;
 pub use running::Lengths;
 pub use stores::{StoreRow, Stores};
 pub use tables::{TableRow, oopsbox_table};
 
 #[cfg(test)]
 mod place_tests;
+#[cfg(test)]
+mod report_tests;
 #[cfg(test)]
 mod tests;

@@ -8,11 +8,11 @@ ghost use Rattle.oopsbox_c.specs.Zones.{fault_word, PlacesOf, IsLaid, IsNoLayout
 
 use crate::End;
 use crate::places::{LayoutAnswer, ZoneAnswer, ZonePlace, place_of, state_number};
-use crate::words::{WordsFault, fill, read_words_of};
 use prz_read::{Reading, read_zone};
 use prz_region::Probe;
 use ramoops_layout::types::Layout;
 use ramoops_layout::{LayoutError, ParamFault, layout, read_words};
+use report_calls::{WordsFault, fill, read_words_of};
 use std::alloc::{AllocError, Global};
 use zone_spec::{LayoutFault, Zone};
 

@@ -3,17 +3,25 @@ use anyhow::anyhow;
 use clap::ArgMatches;
 use dtb::{Fault, ramoops_nodes};
 use grammar_spec::ParamFault;
-use layout_search::params;
-use ramoops_layout::{DEFAULTS, LayoutError, given, layout, read_words_over};
+use ramoops_layout::given;
+use report_calls::{NoLayouts, sought};
 use report_tool::{
-    Candidate, Found, Known, LineFault, Plan, PlanFault, TreeFault, add_layout_words, add_tag,
-    ftrace_tag, known,
+    Found, Known, LineFault, Plan, PlanFault, TreeFault, add_layout_words, add_tag, ftrace_tag,
 };
 use std::alloc::{AllocError, Global};
 use std::io::ErrorKind;
 use std::rt::Runtime;
 use std::{env, fs};
 use symbols::Symbols;
+
+/// The keys that no layout which is looked for has, by their numbers.
+const UNSOUGHT: [&str; 5] = [
+    "block_size",
+    "ecc_dump",
+    "ecc_console",
+    "ecc_ftrace",
+    "ecc_pmsg",
+];
 
 /// Why there is no plan: a want of memory, or what is wrong with the words.
 pub enum NoPlan {
@@ -203,29 +211,20 @@ fn words_plan(alloc: Global, words: &[String], is_as_given: bool) -> Result<Plan
     }
 }
 
-// What the words say of a layout that is looked for. Of the family that is looked through are blocks of 128 bytes and one
-// parity.
-fn sought(words: &[String], is_as_given: bool) -> Result<Layouts, NoPlan> {
+// What the words say of a layout that is looked for.
+fn sought_by(words: &[String], is_as_given: bool) -> Result<Layouts, NoPlan> {
     if is_as_given {
         return Err(NoPlan::Words(anyhow!("--mem-as-given needs mem_size")));
     }
-    if let Err(fault) = read_words_over(words, &DEFAULTS) {
-        return Err(NoPlan::Words(told(words, fault)));
-    }
-    for key in [
-        "block_size",
-        "ecc_dump",
-        "ecc_console",
-        "ecc_ftrace",
-        "ecc_pmsg",
-    ] {
-        if given(words, key).is_some() {
-            return Err(NoPlan::Words(anyhow!(
-                "{key} needs mem_size: a layout with it is not looked for"
-            )));
+    match sought(words) {
+        Ok(known) => Ok(Layouts::Sought(known)),
+        Err(NoLayouts::Word(fault)) => Err(NoPlan::Words(told(words, fault))),
+        Err(NoLayouts::Unsought(number)) => {
+            let key = UNSOUGHT.get(usize::from(number)).unwrap_or(&"it");
+            Err(NoPlan::Words(anyhow!("{key} needs mem_size: a layout with it is not looked for")))
         }
+        Err(_) => Err(NoPlan::Memory),
     }
-    Ok(Layouts::Sought(known(words)))
 }
 
 /// How the images are laid out.
@@ -290,7 +289,7 @@ pub fn asked_by<R: Runtime>(
     let layouts = match matches.get_str("dtb") {
         Some(path) => Layouts::Given(tree_plan(rt, alloc, path, matches.get_str("node"), &words)?),
         None if given(&words, "mem_size").is_none() => {
-            sought(&words, matches.get_flag("mem-as-given"))?
+            sought_by(&words, matches.get_flag("mem-as-given"))?
         }
         None => Layouts::Given(words_plan(alloc, &words, matches.get_flag("mem-as-given"))?),
     };
@@ -305,36 +304,4 @@ pub fn asked_by<R: Runtime>(
         sought => sought,
     };
     Ok(asked)
-}
-
-/// Whether the zones of two layouts lie in the same places, so that only their kinds differ.
-pub fn are_alike(alloc: Global, one: &Candidate, other: &Candidate) -> Result<bool, AllocError> {
-    match (layout(alloc, &params(one)), layout(alloc, &params(other))) {
-        (Ok(one), Ok(other)) => Ok(
-            one.zones().len() == other.zones().len()
-                && one
-                    .zones()
-                    .iter()
-                    .zip(other.zones())
-                    .all(|(a, b)| (a.at, a.size) == (b.at, b.size)),
-        ),
-        (Err(LayoutError::Memory), _) | (_, Err(LayoutError::Memory)) => Err(AllocError),
-        _ => Ok(false),
-    }
-}
-
-/// The words of a layout that was found in an image of so many bytes.
-pub fn found_words(alloc: Global, c: &Candidate, size: u64) -> Result<String, AllocError> {
-    let mut text = String::new(alloc);
-    if c.mem != size {
-        text.push_str(&format!(in alloc; "mem_size={} ", c.mem)?)?;
-    }
-    text.push_str(&format!(in alloc;
-        "record_size={} console_size={} ftrace_size={} pmsg_size={} ecc={}",
-        c.dump, c.console, c.ftrace, c.pmsg, c.parity
-    )?)?;
-    if c.ftrace != 0 {
-        text.push_str(&format!(in alloc; " cpus={} ftrace_sig={:#x}", c.cpus, c.tag)?)?;
-    }
-    Ok(text)
 }

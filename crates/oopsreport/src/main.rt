@@ -14,9 +14,10 @@ use colour::ColourSink;
 use command::command;
 use folder::Dir;
 use image::Image;
-use layout::{Asked, Layouts, NoPlan, are_alike, asked_by, found_words};
+use layout::{Asked, Layouts, NoPlan, asked_by};
 use outside::{Load, WriterSink};
 use record_report::Report;
+use report_calls::{best_hint, taken_hint};
 use report_tool::{Format, Known, Plan, Stop, find, report, save};
 use std::alloc::{AllocError, Global};
 use std::io::{IsTerminal, Read};
@@ -51,12 +52,12 @@ fn told(stop: Stop) -> anyhow::Error {
 // A layout is looked for in the front of an image that is no file.
 const MOST: u32 = 16_777_216;
 
-// A line about the layout: above a text, and else to standard error, so that no layout is taken in silence.
-fn tell<R: Runtime>(rt: &R, format: Format, line: &str) -> Result<()> {
+// Lines about the layout: above a text, and else to standard error, so that no layout is taken in silence.
+fn tell<R: Runtime>(rt: &R, format: Format, lines: &str) -> Result<()> {
     if format == Format::Text {
-        println!(rt; "{line}")?;
+        print!(rt; "{lines}")?;
     } else {
-        eprintln!(rt; "{line}")?;
+        eprint!(rt; "{lines}")?;
     }
     Ok(())
 }
@@ -79,32 +80,15 @@ fn found_plan<R: Runtime, M: Load>(
         Ok(None) => bail!("no layout was found; give it by --param, --cmdline or --dtb"),
         Err(stop) => return Err(told(stop)),
     };
-    let words = found_words(alloc, &found.candidate, size)?;
     if !found.taken || !found.whole {
-        let t = found.tally;
-        eprintln!(rt;
-            "oopsreport: {path}: best layout: {words} ({} of {} zones fit, faults: {})",
-            t.fits, t.zones, t.faults
-        )?;
+        let best = best_hint(alloc, path, size, &found)?;
+        eprint!(rt; "oopsreport: {best}")?;
         match found.whole {
             true => bail!("no layout explains it; give it by --param, --cmdline or --dtb"),
             false => bail!("not all layouts were tried; give it by --param, --cmdline or --dtb"),
         }
     }
-    let line = match found.tally.faults {
-        0 => format!(in alloc; "{path}: {size} bytes; layout found: {words}")?,
-        n => format!(in alloc; "{path}: {size} bytes; layout found, but for {n} places: {words}")?,
-    };
-    tell(rt, format, &line)?;
-    if let Some(rival) = &found.rival {
-        let words = found_words(alloc, rival, size)?;
-        let what = match are_alike(alloc, &found.candidate, rival)? {
-            true => "kinds are taken for likely; the same zones could be",
-            false => "another layout explains as much",
-        };
-        let line = format!(in alloc; "{what}: {words}")?;
-        tell(rt, format, &line)?;
-    }
+    tell(rt, format, &taken_hint(alloc, path, size, &found)?)?;
     Ok(asked.plan_of(alloc, &found)?)
 }
 

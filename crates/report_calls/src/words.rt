@@ -2,7 +2,7 @@
 ghost use Rattle.std.specs.Prelude.{◌≡◌, ◌≤◌, ◌++◌, length, drop, map, MatchResult, IfOk, IsUtf8};
 ghost use Rattle.grammar_spec.specs.Words.{texts};
 ghost use Rattle.grammar_spec.specs.Lines.{fields_of};
-ghost use Rattle.oopsbox_c.specs.Words.{IsWordsFault};
+ghost use Rattle.report_calls.specs.Words.{words_of, IsWordsFault};
 
 use std::alloc::{AllocError, Global};
 use std::str;
@@ -51,6 +51,18 @@ pub fn read_words_of(alloc: Global, text: &[u8]) -> Result<Vec<String>, WordsFau
         },
         Err(_) => Err(WordsFault::NotText),
     }
+}
+
+/// The words of a text, each two with one space between; an empty text has none.
+pub fn read_some_words(alloc: Global, text: &[u8]) -> Result<Vec<String>, WordsFault>
+    ensures { MatchResult result
+        (λ words. IsUtf8 text.now × (texts words.items ≡ words_of text.now))
+        (λ fault. IsWordsFault fault text.now) }
+{
+    if text.is_empty() {
+        return Ok(Vec::new(alloc));
+    }
+    read_words_of(alloc, text)
 }
 
 /// Copies bytes to the front of a slice.

@@ -3,7 +3,7 @@ use Rattle.std.proofs.Common.{lit<, Ok}
 use Rattle.std.specs.declared.alloc.AllocError.{AllocError}
 use Rattle.std.proofs.lemmas.Iterator.Consumers.{map_from_collect}
 use Rattle.std.proofs.lemmas.Iterator.Splits.{YieldsList-from_str_split}
-use Rattle.oopsbox_c.proofs.words.parts.Goals as goal
+use Rattle.report_calls.proofs.words.parts.Goals as goal
 
 pub returns : goal.returns
 returns c = map_from_collect {E = AllocError} (Ok c.in_ok-collect.field-0) c.in_ok-collect.ensures.ran

@@ -1,0 +1,5 @@
+-- The call ends as its body does.
+use Rattle.oopsbox_page.proofs.calls.oopsbox_page_report.Goals as goal
+
+pub returns : goal.returns
+returns c = (c.report-end.result, c.status.ensures, c.report-end.ensures)

@@ -1,0 +1,44 @@
+// The page's call on its happy path, and its refusals.
+use crate::*;
+use report_calls::ReportAnswer;
+use std::test::Fail;
+
+const LINE: &[u8] =
+    b"quiet ramoops.mem_size=4096 ramoops.record_size=0 ramoops.ftrace_size=0 ramoops.pmsg_size=0";
+
+// The status of a call on an image of no signed zone, and what it tells.
+fn reported(
+    alloc: std::alloc::Global,
+    line: &[u8],
+    words: &[u8],
+    text: &mut [u8],
+) -> (u32, ReportAnswer) {
+    let mut answer = ReportAnswer::default();
+    let status = oopsbox_page_report(
+        alloc,
+        line,
+        b"here",
+        words,
+        b"",
+        &[0; 4096],
+        0,
+        text,
+        &mut answer,
+    );
+    (status, answer)
+}
+
+#[test]
+fn a_line_lays_the_image_out(rt: HostRuntime) -> Result<(), Fail> {
+    let alloc = rt.alloc();
+    let mut text = [b'-'; 4096];
+    let (status, answer) = reported(alloc, LINE, b"", &mut text);
+    assert!(rt; (status, answer.hint) == (0, 0));
+    assert!(rt; text.starts_with(b"here".as_slice()));
+    assert!(rt; reported(alloc, LINE, b"", &mut [0; 5]).0 == 12);
+    assert!(rt; reported(alloc, LINE, b"\xff", &mut text).0 == 13);
+    assert!(rt; reported(alloc, b"\"", b"", &mut text).0 == 13);
+    let (status, answer) = reported(alloc, LINE, b"mem_size=1", &mut text);
+    assert!(rt; (status, answer.word, answer.fault) == (3, 5, 2));
+    Ok(())
+}

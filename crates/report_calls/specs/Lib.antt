@@ -1,0 +1,7 @@
+pub mod Memory
+pub mod Words
+pub mod Layouts
+pub mod Hints
+pub mod Reports
+pub mod Answers
+pub mod Calls
