@@ -7,3 +7,4 @@ pub mod Ranges
 pub mod Gathered
 pub mod Listing
 pub mod Asked
+pub mod Sieving

@@ -1,5 +1,5 @@
 -- What the code's values say of a header's word
-use Rattle.std.proofs.Common.{◌≡◌, ℕ, zero, suc, ◌+◌, ◌-◌, ◌/◌, ◌<◌, ◌≤◌, ◌&&◌, List, [], ◌∷◌, ◌++◌, length, take, get_or, replicate, refl, sym, ap, ◌∙◌, arith, Option, Some, None, unwrap_or, length-append, ◌==◌, nat_le, if◌then◌else◌, true, false, Bool, ◌⊎◌, inl, inr, le-leb, eqb-true}
+use Rattle.std.proofs.Common.{◌≡◌, ℕ, zero, suc, ◌+◌, ◌-◌, ◌/◌, ◌<◌, ◌≤◌, ◌&&◌, List, [], ◌∷◌, ◌++◌, length, take, get_or, replicate, refl, sym, ap, ◌∙◌, subst, arith, Option, Some, None, unwrap_or, length-append, ◌==◌, nat_le, if◌then◌else◌, true, false, Bool, ◌⊎◌, inl, inr, le-leb, eqb-true}
 use Rattle.std.proofs.Math.Dec.{leb}
 use Rattle.std.proofs.lemmas.Bool.Decides.{leb_tells}
 use Rattle.std.proofs.lemmas.Bool.{and_parts}
@@ -10,8 +10,8 @@ use Rattle.zone_spec.specs.declared.Words.{Words}
 use Rattle.zone_spec.specs.Zones.{IsValidZone}
 use Rattle.zone_spec.specs.Parts.{words_in}
 use Rattle.code_spec.specs.Code.{IsWord, nearest, nearest_if, is_near, is_codeword, distance}
-use Rattle.code_laws.proofs.Nearest.{the_word-passes, distance_zero, distance_self}
-use Rattle.code_laws.proofs.Parity.{codeword_of}
+use Rattle.code_laws.proofs.Nearest.{the_word-passes, distance_zero, distance_self, nearest-IsNear}
+use Rattle.code_laws.proofs.Parity.{codeword_of, roots_of}
 use Rattle.code_laws.proofs.Steps.{zeros_codeword}
 use Rattle.rs_decode.specs.Decoding.{decoded_by, decoded_at, within}
 use Rattle.rs_decode.specs.declared.Decoded.TheVariants.{Clean, Fixed, Bad}
@@ -20,9 +20,13 @@ use Rattle.salvage_spec.specs.declared.FoundRing.{FoundRing}
 use Rattle.salvage_laws.specs.Known.{known, amended, amends, put_in}
 use Rattle.salvage_laws.proofs.Amended.{length-put_in}
 use Rattle.salvage.specs.Headers.{ring_if, ring_near}
-use Rattle.salvage.proofs.Rings.{many, near_is, one_near}
+use Rattle.salvage.specs.Sieves.{IsKnownWord}
+use Rattle.salvage.proofs.Rings.{many, near_is, none_is, one_near}
+use Rattle.salvage_laws.proofs.Laws.{known_is}
+use Rattle.salvage_laws.proofs.Bytes.{has_known}
+use Rattle.code_laws.proofs.Symbols.{HasRoots}
 
-put_in-append : (ks : List (Option ℕ)) (v w : List ℕ) → length ks ≤ length v → put_in ks (v ++ w) ≡ put_in ks v ++ w
+pub put_in-append : (ks : List (Option ℕ)) (v w : List ℕ) → length ks ≤ length v → put_in ks (v ++ w) ≡ put_in ks v ++ w
 unfolding put_in
 put_in-append [] v w l = refl
 put_in-append (k ∷ ks) [] w l = absurd (omega arith)
@@ -104,6 +108,24 @@ module _ (z : Zone) (at : ℕ) (header par bytes : List ℕ) (e : ℕ) (p : IsPr
       ∙ ap (λ (n : ℕ). ring_near z at n (amended z (header ++ par)) (within (z.parity / 2 - n)
       (amended z (header ++ par)) (nearest z.parity (amended z (header ++ par))))) p.amends
       ∙ near_is z at (header ++ par) p.valid p.word (omega (arith, few, p.amends))
+
+  -- each codeword with the known bytes is further than that
+  pub probe_far : (known_bytes : List (Option ℕ)) (r most : ℕ) (word : List ℕ) → known_bytes ≡ known z → r ≡ z.parity
+      → word ≡ bytes ++ par → most ≡ z.parity / 2 - e
+      → ((c : List ℕ) → IsKnownWord known_bytes r c → most < distance word c) → None ≡ ring_in z at (header ++ par)
+  probe_far known_bytes r most word ek er ew em far = none_is z at (header ++ par) (λ d h.
+      let near = nearest-IsNear z.parity (header ++ par) d
+      (subst (λ n. IsWord n (header ++ par)) (sym p.word.0) p.word) h.nearest in
+      let long : length d ≡ 12 + z.parity = near.word.0 ∙ p.word.0 in
+      let own : IsKnownWord known_bytes r d = record {
+        len = long ∙ ap (λ n. 12 + n) (sym er);
+        roots = subst (λ n. HasRoots n d) (sym er) (roots_of z.parity d near.codeword);
+        known = ap (λ ks. put_in ks d) ek
+            ∙ has_known z d p.valid (omega (arith, long)) near.word.1 h.words;
+      } in
+      let close : distance (amended z (header ++ par)) d ≤ z.parity / 2 - amends z (header ++ par) =
+      ((known_is z (header ++ par) d p.valid p.word).0 h).close in
+      omega (arith, far d own, close, em, p.amends, ap (λ w. distance w d) (ew ∙ sym p.amended)))
 
 -- ---- the amended word itself
 exact : (r : ℕ) (w : List ℕ) → within 0 w (nearest r w) ≡ (if is_codeword r w then Some w else None)

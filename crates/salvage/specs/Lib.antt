@@ -1,3 +1,4 @@
 pub mod Headers
 pub mod Shapes
+pub mod Sieves
 pub mod Scans

@@ -9,7 +9,9 @@ ghost use Rattle.zone_spec.specs.Parts.{words_in};
 ghost use Rattle.salvage_spec.specs.Rings.{ring_in};
 ghost use Rattle.salvage_laws.specs.Known.{known, put_in};
 ghost use Rattle.salvage.specs.Headers.{ring_if, ring_near};
+ghost use Rattle.salvage.specs.Sieves.{IsSieveOf};
 
+use crate::sieve::{Sieve, joined};
 use arrayvec::ArrayVec;
 use rs_decode::{Decoded, Fix, decode_within};
 use rs_encode::Parity;
@@ -60,7 +62,7 @@ fn differs(a: u8, b: u8) -> u8
 }
 
 /// Puts the known bytes into `bytes`, and tells how many differed.
-fn amend(expected: &[Option<u8>], bytes: &mut [u8]) -> u8
+pub fn amend(expected: &[Option<u8>], bytes: &mut [u8]) -> u8
     requires len { length expected.now ≡ length bytes.old }
     requires few { length bytes.old ≤ 12 }
     ensures bytes { bytes.new ≡ put_in expected.now bytes.old }
@@ -167,6 +169,7 @@ fn ring_within(
     }
 }
 
+/// Whether all bytes are 0. Zeros are a codeword, of an empty ring.
 fn are_zeros(bytes: &[u8]) -> bool
     ensures { IsTrue result ↔ ((k : ℕ) → k < length bytes.now → slice_index bytes.now k ≡ 0) }
 {
@@ -178,6 +181,7 @@ pub fn ring_by(
     coder: &Parity,
     zone: &Zone,
     expected: &[Option<u8>],
+    sieve: &Option<Sieve>,
     at: u32,
     header: &[u8],
     parity: &[u8],
@@ -185,6 +189,7 @@ pub fn ring_by(
     requires valid { IsValidZone zone.now }
     requires expected { expected.now ≡ known zone.now }
     requires coder { coder.now ≡ zone.now.parity }
+    requires sieve { IsSieveOf zone.now sieve.now }
     requires some { 1 ≤ zone.now.parity }
     requires len { length header.now ≡ 12 }
     requires parity { length parity.now ≡ zone.now.parity }
@@ -200,17 +205,14 @@ pub fn ring_by(
     if most == amends {
         return ring_as_amended(coder, zone, at, &bytes, amends, parity);
     }
-    // zeros are a codeword, and empty
     if are_zeros(header) && are_zeros(parity) {
         return None;
     }
-    ring_within(
-        coder,
-        (most - amends) as usize,
-        zone,
-        at,
-        &mut bytes,
-        amends,
-        parity,
-    )
+    let left = (most - amends) as usize;
+    if let Some(sieve) = sieve {
+        if sieve.is_far(joined(&bytes, parity).as_slice(), left) {
+            return None;
+        }
+    }
+    ring_within(coder, left, zone, at, &mut bytes, amends, parity)
 }

@@ -7,6 +7,7 @@
 mod header;
 mod scan;
 mod shape;
+mod sieve;
 
 pub use prz_read::Reading;
 pub use salvage_spec::{FoundRing, RingFault};

@@ -3,9 +3,12 @@ ghost use Rattle.std.specs.Prelude.{◌≡◌, ◌+◌, ◌*◌, ◌≤◌, ◌<
 ghost use Rattle.zone_spec.specs.Zones.{IsValidZone};
 ghost use Rattle.zone_spec.specs.Parts.{Header, part_parity_at};
 ghost use Rattle.salvage_spec.specs.Rings.{is_alike, ring_at, ring_in, shapes as shapes_of_zones};
+ghost use Rattle.salvage_laws.specs.Known.{known as known_of_zone};
+ghost use Rattle.salvage.specs.Sieves.{IsSieveOf};
 ghost use Rattle.salvage.specs.Shapes.{AllValid, coder_for, has_shape, with_shape};
 
 use crate::header::{known_bytes, ring_by, ring_with};
+use crate::sieve::Sieve;
 use rs_encode::Parity;
 use salvage_spec::FoundRing;
 use std::alloc::{AllocError, Global};
@@ -19,6 +22,7 @@ pub struct Shape {
     zone: Zone,
     known: [Option<u8>; 12],
     coder: Option<Parity>,
+    sieve: Option<Sieve>,
 }
 
 impl Model for Shape {
@@ -29,7 +33,7 @@ impl Model for Shape {
 
     ghost view = { λ s. s.zone };
 
-    ghost invariant = { λ s. IsShape s.zone s.known s.coder };
+    ghost invariant = { λ s. IsShape s.zone s.known s.coder s.sieve };
 }
 
 fn coder_of(zone: &Zone) -> Option<Parity>
@@ -40,6 +44,19 @@ fn coder_of(zone: &Zone) -> Option<Parity>
         None
     } else {
         Some(Parity::new(zone.parity as usize))
+    }
+}
+
+/// The sieve of a zone's headers, none without parity.
+fn sieve_of(zone: &Zone, coder: &Option<Parity>, known: [Option<u8>; 12]) -> Option<Sieve>
+    requires valid { IsValidZone zone.now }
+    requires coder { coder.now ≡ coder_for zone.now }
+    requires known { known ≡ known_of_zone zone.now }
+    ensures { IsSieveOf zone.now result }
+{
+    match coder {
+        Some(coder) => Some(Sieve::new(coder, known, zone.parity as usize)),
+        None => None,
     }
 }
 
@@ -58,10 +75,14 @@ impl Shape {
         requires { IsValidZone zone.now }
         ensures { result ≡ zone.now }
     {
+        let known = known_bytes(zone);
+        let coder = coder_of(zone);
+        let sieve = sieve_of(zone, &coder, known);
         Shape {
             zone: *zone,
-            known: known_bytes(zone),
-            coder: coder_of(zone),
+            known,
+            coder,
+            sieve,
         }
     }
 
@@ -84,7 +105,15 @@ impl Shape {
         ensures { result ≡ ring_in self.now at (header.now ++ parity.now) }
     {
         match &self.coder {
-            Some(coder) => ring_by(coder, &self.zone, &self.known, at, header, parity),
+            Some(coder) => ring_by(
+                coder,
+                &self.zone,
+                &self.known,
+                &self.sieve,
+                at,
+                header,
+                parity,
+            ),
             None => ring_with(&self.zone, at, header, 0),
         }
     }

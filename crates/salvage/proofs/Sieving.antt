@@ -1,0 +1,545 @@
+-- A word that a block's sums do not tell to have at most one error there has two at least. For `errs_twice` and
+-- `Sieve::is_far`.
+use Rattle.std.proofs.Common.{◌≡◌, ◌≢◌, ℕ, zero, suc, ◌+◌, ◌-◌, ◌<◌, ◌≤◌, ◌⊎◌, inl, inr, if◌then◌else◌, Bool, true, false, List, [], ◌∷◌, ◌++◌, length, take, drop, get_or, IsTrue, not, nat_eq, refl, sym, ap, ap₂, ◌∙◌, subst, arith, Option, Some, None, unwrap_or, length-drop, length-append}
+use Rattle.std.specs.Prelude.{slice_range, All}
+use Rattle.std.proofs.lemmas.List.Elements.{All-get_or}
+use Rattle.std.proofs.lemmas.Bool.{cases_eq, cases_lt, eq-eqb, ne_eqb}
+use Rattle.std.proofs.lemmas.List.{drop-drop, drop_more, drop_all}
+use Rattle.code_spec.specs.Field.{gf_add, gf_mul, gf_pow}
+use Rattle.code_spec.specs.Code.{value_of, distance, parity_of}
+use Rattle.code_laws.proofs.Laws.{parity_law}
+use Rattle.code_laws.proofs.Parity.{roots_of}
+use Rattle.list_laws.proofs.Elements.{AllByRecursion_from_places}
+use Rattle.code_laws.proofs.Symbols.{HasRoots}
+use Rattle.code_laws.proofs.Words.{pow_turn}
+use Rattle.code_laws.proofs.Ring.{ring, add_self, add_zero, add_assoc, zero_add, mul_zero, zero_mul, mul_one, one_mul, mul_comm, mul_assoc, pow_suc, pow_zero, pow_below, mul_below}
+use Rattle.salvage.specs.declared.sieve.Weight.{Weight}
+use Rattle.salvage.specs.declared.sieve.Block.{Block}
+use Rattle.salvage.specs.Sieves.{product, product_1, product_2, none, weight, weighed, IsKnownWord, IsOutside, IsBlock}
+use Rattle.salvage_laws.specs.Known.{put_in}
+use Rattle.salvage.proofs.Amends.{item}
+use Rattle.salvage.proofs.Probed.{put_in-append}
+
+-- the sum of the symbols' sums of two words, each times what the power of its place counts
+unfoldable pub sum_of : (ℕ → ℕ) → List ℕ → List ℕ → ℕ
+sum_of H (x ∷ w) (y ∷ b) = gf_add (gf_mul (H (length w)) (gf_add x y)) (sum_of H w b)
+sum_of H w b = 0
+
+-- ---- products
+pub product-none : (p : ℕ) → product [] p ≡ 1
+unfolding product
+product-none p = refl
+
+product_below : (ms : List ℕ) (p : ℕ) → product ms p < 256
+unfolding product
+product_below [] p = omega arith
+product_below (m ∷ ms) p = mul_below (gf_add (gf_pow 2 p) (gf_pow 2 m)) (product ms p)
+
+pub product-push : (ms : List ℕ) (m p : ℕ) → product (ms ++ m ∷ []) p
+    ≡ gf_mul (product ms p) (gf_add (gf_pow 2 p) (gf_pow 2 m))
+unfolding product
+product-push [] m p = mul_comm (gf_add (gf_pow 2 p) (gf_pow 2 m)) 1
+product-push (n ∷ ms) m p =
+    ap (gf_mul (gf_add (gf_pow 2 p) (gf_pow 2 n))) (product-push ms m p)
+    ∙ sym (mul_assoc (gf_add (gf_pow 2 p) (gf_pow 2 n)) (product ms p) (gf_add (gf_pow 2 p) (gf_pow 2 m)))
+
+-- a power among them makes it zero, and more powers leave it so
+pub product_own : (ms : List ℕ) (p : ℕ) → product (ms ++ p ∷ []) p ≡ 0
+product_own ms p =
+    product-push ms p p ∙ ap (gf_mul (product ms p)) (add_self (gf_pow 2 p)) ∙ mul_zero (product ms p)
+
+pub product_still : (ms : List ℕ) (m p : ℕ) → product ms p ≡ 0 → product (ms ++ m ∷ []) p ≡ 0
+product_still ms m p z =
+    product-push ms m p ∙ ap (λ (x : ℕ). gf_mul x (gf_add (gf_pow 2 p) (gf_pow 2 m))) z
+    ∙ zero_mul (gf_add (gf_pow 2 p) (gf_pow 2 m))
+
+-- ---- the sums of codewords are zero
+same_sum : (H K : ℕ → ℕ) (w b : List ℕ) → ((p : ℕ) → H p ≡ K p) → sum_of H w b ≡ sum_of K w b
+unfolding sum_of
+same_sum H K [] b e = refl
+same_sum H K (x ∷ w) [] e = refl
+same_sum H K (x ∷ w) (y ∷ b) e =
+    ap₂ (λ (h s : ℕ). gf_add (gf_mul h (gf_add x y)) s) (e (length w)) (same_sum H K w b e)
+
+sum_linear : (F G : ℕ → ℕ) (a : ℕ) (w b : List ℕ)
+    → sum_of (λ p. gf_add (F p) (gf_mul a (G p))) w b ≡ gf_add (sum_of F w b) (gf_mul a (sum_of G w b))
+unfolding sum_of
+sum_linear F G a [] b = sym (zero_add (gf_mul a 0) ∙ mul_zero a)
+sum_linear F G a (x ∷ w) [] = sym (zero_add (gf_mul a 0) ∙ mul_zero a)
+sum_linear F G a (x ∷ w) (y ∷ b) =
+    ap (gf_add (gf_mul (gf_add (F (length w)) (gf_mul a (G (length w)))) (gf_add x y))) (sum_linear F G a w b)
+    ∙ alg (F (length w)) (G (length w)) a (gf_add x y) (sum_of F w b) (sum_of G w b)
+  where
+    alg : (f g c d s t : ℕ) → gf_add (gf_mul (gf_add f (gf_mul c g)) d) (gf_add s (gf_mul c t))
+        ≡ gf_add (gf_add (gf_mul f d) s) (gf_mul c (gf_add (gf_mul g d) t))
+    alg f g c d s t = simp ring
+
+sum_of_values : (i : ℕ) (w b : List ℕ) → length w ≡ length b
+    → sum_of (λ p. gf_pow (gf_pow 2 p) i) w b ≡ gf_add (value_of w (gf_pow 2 i)) (value_of b (gf_pow 2 i))
+unfolding sum_of value_of
+sum_of_values i [] [] e = sym (zero_add 0)
+sum_of_values i [] (y ∷ b) e = absurd (omega arith)
+sum_of_values i (x ∷ w) [] e = absurd (omega arith)
+sum_of_values i (x ∷ w) (y ∷ b) e =
+    let l : length w ≡ length b = omega arith in
+    ap₂ (λ (p s : ℕ). gf_add (gf_mul p (gf_add x y)) s) (pow_turn 2 (length w) i) (sum_of_values i w b l)
+    ∙ alg x y (gf_pow (gf_pow 2 i) (length w)) (value_of w (gf_pow 2 i)) (value_of b (gf_pow 2 i))
+    ∙ ap (λ (n : ℕ). gf_add (gf_add (gf_mul x (gf_pow (gf_pow 2 i) (length w))) (value_of w (gf_pow 2 i)))
+    (gf_add (gf_mul y (gf_pow (gf_pow 2 i) n)) (value_of b (gf_pow 2 i)))) l
+  where
+    alg : (u v p s t : ℕ) → gf_add (gf_mul p (gf_add u v)) (gf_add s t)
+        ≡ gf_add (gf_add (gf_mul u p) s) (gf_add (gf_mul v p) t)
+    alg u v p s t = simp ring
+
+-- what a place counts: the i-th power of its locator times the product
+times_power : List ℕ → ℕ → ℕ → ℕ
+times_power ms i p = gf_mul (gf_pow (gf_pow 2 p) i) (product ms p)
+
+one_more : (m : ℕ) (ms : List ℕ) (i p : ℕ) → times_power (m ∷ ms) i p
+    ≡ gf_add (times_power ms (suc i) p) (gf_mul (gf_pow 2 m) (times_power ms i p))
+unfolding times_power product
+one_more m ms i p =
+    alg (gf_pow (gf_pow 2 p) i) (gf_pow 2 p) (gf_pow 2 m) (product ms p)
+    ∙ ap (λ (q : ℕ). gf_add (gf_mul q (product ms p)) (gf_mul (gf_pow 2 m) (gf_mul (gf_pow (gf_pow 2 p) i)
+    (product ms p)))) (sym (pow_suc (gf_pow 2 p) i))
+  where
+    alg : (q x a d : ℕ) → gf_mul q (gf_mul (gf_add x a) d) ≡ gf_add (gf_mul (gf_mul x q) d) (gf_mul a (gf_mul q d))
+    alg q x a d = simp ring
+
+none_left : (i p : ℕ) → times_power [] i p ≡ gf_pow (gf_pow 2 p) i
+unfolding times_power product
+none_left i p = mul_one (gf_pow (gf_pow 2 p) i) (pow_below (gf_pow 2 p) i)
+
+codewords_sum : (r : ℕ) (ms : List ℕ) (i : ℕ) (c b : List ℕ) → length ms + i < r → length c ≡ length b
+    → HasRoots r c → HasRoots r b → sum_of (times_power ms i) c b ≡ 0
+codewords_sum r [] i c b l e hc hb =
+    same_sum (times_power [] i) (λ p. gf_pow (gf_pow 2 p) i) c b (none_left i) ∙ sum_of_values i c b e
+    ∙ ap₂ gf_add (hc.at i (omega arith)) (hb.at i (omega arith)) ∙ zero_add 0
+codewords_sum r (m ∷ ms) i c b l e hc hb =
+    same_sum (times_power (m ∷ ms) i) (λ p. gf_add (times_power ms (suc i) p) (gf_mul (gf_pow 2 m) (times_power ms i p)))
+    c b (one_more m ms i)
+    ∙ sum_linear (times_power ms (suc i)) (times_power ms i) (gf_pow 2 m) c b
+    ∙ ap₂ (λ (s t : ℕ). gf_add s (gf_mul (gf_pow 2 m) t)) (codewords_sum r ms (suc i) c b (omega arith) e hc hb)
+    (codewords_sum r ms i c b (omega arith) e hc hb)
+    ∙ zero_add (gf_mul (gf_pow 2 m) 0) ∙ mul_zero (gf_pow 2 m)
+
+zeroth_is : (ms : List ℕ) (p : ℕ) → product ms p ≡ times_power ms 0 p
+unfolding times_power
+zeroth_is ms p =
+    sym (one_mul (product ms p) (product_below ms p)) ∙ ap (λ (q : ℕ). gf_mul q (product ms p))
+    (sym (pow_zero (gf_pow 2 p)))
+
+first_is : (ms : List ℕ) (p : ℕ) → product_1 ms p ≡ times_power ms 1 p
+unfolding times_power product_1
+first_is ms p =
+    mul_comm (product ms p) (gf_pow 2 p) ∙ ap (λ (q : ℕ). gf_mul q (product ms p))
+    (sym (pow_suc (gf_pow 2 p) 0 ∙ ap (gf_mul (gf_pow 2 p)) (pow_zero (gf_pow 2 p)) ∙ mul_one (gf_pow 2 p) (pow_below 2 p)))
+
+second_is : (ms : List ℕ) (p : ℕ) → product_2 ms p ≡ times_power ms 2 p
+unfolding times_power product_2
+second_is ms p =
+    ap (λ (q : ℕ). gf_mul q (gf_pow 2 p)) (first_is ms p)
+    ∙ alg (gf_pow (gf_pow 2 p) 1) (product ms p) (gf_pow 2 p)
+    ∙ ap (λ (q : ℕ). gf_mul q (product ms p)) (sym (pow_suc (gf_pow 2 p) 1))
+  where
+    alg : (q d x : ℕ) → gf_mul (gf_mul q d) x ≡ gf_mul (gf_mul x q) d
+    alg q d x = simp ring
+
+-- ---- sums between two places
+pub sum_step : (H : ℕ → ℕ) (w b : List ℕ) (k : ℕ) → k < length w → length w ≡ length b
+    → sum_of H (drop k w) (drop k b) ≡ gf_add (gf_mul (H (length w - 1 - k)) (gf_add (get_or w k 0) (get_or b k 0)))
+    (sum_of H (drop (suc k) w) (drop (suc k) b))
+unfolding sum_of
+sum_step H [] b k l e = absurd (omega arith)
+sum_step H (x ∷ w) [] k l e = absurd (omega arith)
+sum_step H (x ∷ w) (y ∷ b) zero l e =
+    ap (λ (p : ℕ). gf_add (gf_mul (H p) (gf_add x y)) (sum_of H w b)) (omega arith)
+sum_step H (x ∷ w) (y ∷ b) (suc k) l e =
+    sum_step H w b k (omega arith) (omega arith)
+    ∙ ap (λ (p : ℕ). gf_add (gf_mul (H p) (gf_add (get_or w k 0) (get_or b k 0)))
+    (sum_of H (drop (suc k) w) (drop (suc k) b))) (omega arith)
+
+-- a place that counts nothing, or at which the words agree
+abbrev pub IsQuiet : (ℕ → ℕ) → List ℕ → List ℕ → ℕ → Type 0
+IsQuiet H w b k = (get_or w k 0 ≡ get_or b k 0) ⊎ (H (length w - 1 - k) ≡ 0)
+
+quiet_term : (H : ℕ → ℕ) (w b : List ℕ) (k : ℕ) → IsQuiet H w b k
+    → gf_mul (H (length w - 1 - k)) (gf_add (get_or w k 0) (get_or b k 0)) ≡ 0
+quiet_term H w b k (inl e) =
+    ap (λ (y : ℕ). gf_mul (H (length w - 1 - k)) (gf_add (get_or w k 0) y)) (sym e)
+    ∙ ap (gf_mul (H (length w - 1 - k))) (add_self (get_or w k 0)) ∙ mul_zero (H (length w - 1 - k))
+quiet_term H w b k (inr z) =
+    ap (λ (h : ℕ). gf_mul h (gf_add (get_or w k 0) (get_or b k 0))) z
+    ∙ zero_mul (gf_add (get_or w k 0) (get_or b k 0))
+
+quiet_front : (H : ℕ → ℕ) (w b : List ℕ) (n : ℕ) → n ≤ length w → length w ≡ length b
+    → ((k : ℕ) → k < n → IsQuiet H w b k) → sum_of H w b ≡ sum_of H (drop n w) (drop n b)
+quiet_front H w b zero l e q = refl
+quiet_front H w b (suc n) l e q =
+    quiet_front H w b n (omega arith) e (λ k m. q k (omega arith))
+    ∙ sum_step H w b n (omega arith) e
+    ∙ ap (λ (t : ℕ). gf_add t (sum_of H (drop (suc n) w) (drop (suc n) b))) (quiet_term H w b n (q n (omega arith)))
+    ∙ zero_add (sum_of H (drop (suc n) w) (drop (suc n) b))
+
+sum_past : (H : ℕ → ℕ) (w b : List ℕ) (n : ℕ) → length w ≤ n → sum_of H (drop n w) (drop n b) ≡ 0
+unfolding sum_of
+sum_past H [] b zero l = refl
+sum_past H [] b (suc n) l = refl
+sum_past H (x ∷ w) b zero l = absurd (omega arith)
+sum_past H (x ∷ w) [] (suc n) l = by (drop n w)
+  where
+    by : (v : List ℕ) → sum_of H v [] ≡ 0
+    by [] = refl
+    by (u ∷ v) = refl
+sum_past H (x ∷ w) (y ∷ b) (suc n) l = sum_past H w b n (omega arith)
+
+quiet_rest : (H : ℕ → ℕ) (w b : List ℕ) (m n : ℕ) → n + m ≡ length w → length w ≡ length b
+    → ((k : ℕ) → n ≤ k → k < length w → IsQuiet H w b k) → sum_of H (drop n w) (drop n b) ≡ 0
+quiet_rest H w b zero n s e q = sum_past H w b n (omega arith)
+quiet_rest H w b (suc m) n s e q =
+    sum_step H w b n (omega arith) e
+    ∙ ap₂ gf_add (quiet_term H w b n (q n (omega arith) (omega arith)))
+    (quiet_rest H w b m (suc n) (omega arith) e (λ k l. q k (omega arith)))
+    ∙ zero_add 0
+
+-- the sum over the places from `from` up to `to`
+abbrev pub between : (ℕ → ℕ) → List ℕ → List ℕ → ℕ → ℕ → ℕ
+between H w b from to = gf_add (sum_of H (drop from w) (drop from b)) (sum_of H (drop to w) (drop to b))
+
+through : (H : ℕ → ℕ) (w c b : List ℕ) → length w ≡ length c → length c ≡ length b
+    → sum_of H w b ≡ gf_add (sum_of H w c) (sum_of H c b)
+unfolding sum_of
+through H [] [] [] e e' = sym (zero_add 0)
+through H [] [] (z ∷ b) e e' = absurd (omega arith)
+through H [] (y ∷ c) b e e' = absurd (omega arith)
+through H (x ∷ w) [] b e e' = absurd (omega arith)
+through H (x ∷ w) (y ∷ c) [] e e' = absurd (omega arith)
+through H (x ∷ w) (y ∷ c) (z ∷ b) e e' =
+    let l : length w ≡ length c = omega arith in
+    ap (gf_add (gf_mul (H (length w)) (gf_add x z))) (through H w c b l (omega arith))
+    ∙ alg (H (length w)) x y z (sum_of H w c) (sum_of H c b)
+    ∙ ap (λ (n : ℕ). gf_add (gf_add (gf_mul (H (length w)) (gf_add x y)) (sum_of H w c))
+    (gf_add (gf_mul (H n) (gf_add y z)) (sum_of H c b))) l
+  where
+    alg : (h x y z s t : ℕ) → gf_add (gf_mul h (gf_add x z)) (gf_add s t)
+        ≡ gf_add (gf_add (gf_mul h (gf_add x y)) s) (gf_add (gf_mul h (gf_add y z)) t)
+    alg h x y z s t = simp ring
+
+between-through : (H : ℕ → ℕ) (w c b : List ℕ) (from to : ℕ) → length w ≡ length c → length c ≡ length b
+    → between H w b from to ≡ gf_add (between H w c from to) (between H c b from to)
+between-through H w c b from to e e' =
+    ap₂ gf_add (drops from) (drops to)
+    ∙ alg (sum_of H (drop from w) (drop from c)) (sum_of H (drop from c) (drop from b))
+    (sum_of H (drop to w) (drop to c)) (sum_of H (drop to c) (drop to b))
+  where
+    drops : (n : ℕ) → sum_of H (drop n w) (drop n b)
+        ≡ gf_add (sum_of H (drop n w) (drop n c)) (sum_of H (drop n c) (drop n b))
+    drops n =
+        through H (drop n w) (drop n c) (drop n b)
+        (length-drop n w ∙ ap (λ (k : ℕ). k - n) e ∙ sym (length-drop n c))
+        (length-drop n c ∙ ap (λ (k : ℕ). k - n) e' ∙ sym (length-drop n b))
+
+    alg : (a a' d d' : ℕ) → gf_add (gf_add a a') (gf_add d d') ≡ gf_add (gf_add a d) (gf_add a' d')
+    alg a a' d d' = simp ring
+
+-- ---- at most one error
+same_head : (x y : ℕ) (w c : List ℕ) → x ≡ y → distance (x ∷ w) (y ∷ c) ≡ distance w c
+unfolding distance
+same_head x y w c e = ap (λ (b : Bool). (if b then 0 else 1) + distance w c) (eq-eqb x y e) ∙ omega arith
+
+other_head : (x y : ℕ) (w c : List ℕ) → x ≢ y → distance (x ∷ w) (y ∷ c) ≡ suc (distance w c)
+unfolding distance
+other_head x y w c n = ap (λ (b : Bool). (if b then 0 else 1) + distance w c) (ne_eqb x y n) ∙ omega arith
+
+distance-drop : (m : ℕ) (w c : List ℕ) → length w ≡ length c → distance (drop m w) (drop m c) ≤ distance w c
+distance-drop zero w c e = omega arith
+distance-drop (suc m) [] [] e = omega arith
+distance-drop (suc m) [] (y ∷ c) e = absurd (omega arith)
+distance-drop (suc m) (x ∷ w) [] e = absurd (omega arith)
+distance-drop (suc m) (x ∷ w) (y ∷ c) e = by (cases_eq x y) (distance-drop m w c (omega arith))
+  where
+    by : (x ≡ y) ⊎ (x ≢ y) → distance (drop m w) (drop m c) ≤ distance w c
+        → distance (drop m w) (drop m c) ≤ distance (x ∷ w) (y ∷ c)
+    by (inl s) h = omega (arith, same_head x y w c s)
+    by (inr n) h = omega (arith, other_head x y w c n)
+
+same_term : (H : ℕ → ℕ) (x y : ℕ) (w c v d : List ℕ) → x ≡ y
+    → gf_add (sum_of H (x ∷ w) (y ∷ c)) (sum_of H v d) ≡ gf_add (sum_of H w c) (sum_of H v d)
+unfolding sum_of
+same_term H x y w c v d e =
+    ap (λ (t : ℕ). gf_add (gf_add (gf_mul (H (length w)) t) (sum_of H w c)) (sum_of H v d))
+    (ap (gf_add x) (sym e) ∙ add_self x)
+    ∙ alg (H (length w)) (sum_of H w c) (sum_of H v d)
+  where
+    alg : (h s t : ℕ) → gf_add (gf_add (gf_mul h 0) s) t ≡ gf_add s t
+    alg h s t = simp ring
+
+none_apart : (m : ℕ) (w c : List ℕ) → length w ≡ length c → distance w c ≤ distance (drop m w) (drop m c)
+    → (H : ℕ → ℕ) → gf_add (sum_of H w c) (sum_of H (drop m w) (drop m c)) ≡ 0
+none_apart zero w c e d H = add_self (sum_of H w c)
+none_apart (suc m) [] [] e d H = add_self (sum_of H [] [])
+none_apart (suc m) [] (y ∷ c) e d H = absurd (omega arith)
+none_apart (suc m) (x ∷ w) [] e d H = absurd (omega arith)
+none_apart (suc m) (x ∷ w) (y ∷ c) e d H = by (cases_eq x y) (λ l. none_apart m w c (omega arith) l H)
+  where
+    by : (x ≡ y) ⊎ (x ≢ y) → (distance w c ≤ distance (drop m w) (drop m c)
+        → gf_add (sum_of H w c) (sum_of H (drop m w) (drop m c)) ≡ 0)
+        → gf_add (sum_of H (x ∷ w) (y ∷ c)) (sum_of H (drop m w) (drop m c)) ≡ 0
+    by (inl s) rest =
+        same_term H x y w c (drop m w) (drop m c) s ∙ rest (omega (arith, same_head x y w c s, d))
+    by (inr n) rest = absurd (omega (arith, other_head x y w c n, d, distance-drop m w c (omega arith)))
+
+alone : (H : ℕ → ℕ) (x y : ℕ) (w c v d : List ℕ) → gf_add (sum_of H w c) (sum_of H v d) ≡ 0
+    → gf_add (sum_of H (x ∷ w) (y ∷ c)) (sum_of H v d) ≡ gf_mul (H (length w)) (gf_add x y)
+unfolding sum_of
+alone H x y w c v d z =
+    add_assoc (gf_mul (H (length w)) (gf_add x y)) (sum_of H w c) (sum_of H v d)
+    ∙ ap (gf_add (gf_mul (H (length w)) (gf_add x y))) z ∙ add_zero (gf_mul (H (length w)) (gf_add x y))
+
+one_apart : (m : ℕ) (w c : List ℕ) → length w ≡ length c → distance w c ≤ 1 + distance (drop m w) (drop m c)
+    → (p : ℕ) × (a : ℕ)
+    × ((H : ℕ → ℕ) → gf_add (sum_of H w c) (sum_of H (drop m w) (drop m c)) ≡ gf_mul (H p) a)
+one_apart zero w c e d = (0, 0, λ H. add_self (sum_of H w c) ∙ sym (mul_zero (H 0)))
+one_apart (suc m) [] [] e d = (0, 0, λ H. add_self (sum_of H [] []) ∙ sym (mul_zero (H 0)))
+one_apart (suc m) [] (y ∷ c) e d = absurd (omega arith)
+one_apart (suc m) (x ∷ w) [] e d = absurd (omega arith)
+one_apart (suc m) (x ∷ w) (y ∷ c) e d = by (cases_eq x y) (λ l. one_apart m w c (omega arith) l)
+  where
+    by : (x ≡ y) ⊎ (x ≢ y) → (distance w c ≤ 1 + distance (drop m w) (drop m c) → (p : ℕ) × (a : ℕ)
+        × ((H : ℕ → ℕ) → gf_add (sum_of H w c) (sum_of H (drop m w) (drop m c)) ≡ gf_mul (H p) a))
+        → (p : ℕ) × (a : ℕ)
+        × ((H : ℕ → ℕ) → gf_add (sum_of H (x ∷ w) (y ∷ c)) (sum_of H (drop m w) (drop m c)) ≡ gf_mul (H p) a)
+    by (inl s) rest =
+        let h = rest (omega (arith, same_head x y w c s, d)) in
+        (h.0, h.1, λ H. same_term H x y w c (drop m w) (drop m c) s ∙ h.2 H)
+    by (inr n) rest = (
+      length w,
+      gf_add x y,
+      λ H. alone H x y w c (drop m w) (drop m c)
+          (none_apart m w c (omega arith) (omega (arith, other_head x y w c n, d)) H),
+    )
+
+rank_one : (ms : List ℕ) (p a : ℕ) → gf_mul (gf_mul (product ms p) a) (gf_mul (product_2 ms p) a)
+    ≡ gf_mul (gf_mul (product_1 ms p) a) (gf_mul (product_1 ms p) a)
+unfolding product_2 product_1
+rank_one ms p a = alg (product ms p) (gf_pow 2 p) a
+  where
+    alg : (d x a : ℕ) → gf_mul (gf_mul d a) (gf_mul (gf_mul (gf_mul d x) x) a)
+        ≡ gf_mul (gf_mul (gf_mul d x) a) (gf_mul (gf_mul d x) a)
+    alg d x a = simp ring
+
+zero_1 : (ms : List ℕ) (p : ℕ) → product ms p ≡ 0 → product_1 ms p ≡ 0
+unfolding product_1
+zero_1 ms p z = ap (λ (x : ℕ). gf_mul x (gf_pow 2 p)) z ∙ zero_mul (gf_pow 2 p)
+
+zero_2 : (ms : List ℕ) (p : ℕ) → product ms p ≡ 0 → product_2 ms p ≡ 0
+unfolding product_2
+zero_2 ms p z = ap (λ (x : ℕ). gf_mul x (gf_pow 2 p)) (zero_1 ms p z) ∙ zero_mul (gf_pow 2 p)
+
+-- ---- a block's sums
+pub weighed_step : (f : Weight → ℕ) (gs : List Weight) (w b : List ℕ) (k : ℕ) (d : Weight) → k < length gs
+    → length w ≡ length gs → length b ≡ length gs → weighed f (drop k gs) (drop k w) (drop k b)
+    ≡ gf_add (gf_mul (f (get_or gs k d)) (gf_add (get_or w k 0) (get_or b k 0)))
+    (weighed f (drop (k + 1) gs) (drop (k + 1) w) (drop (k + 1) b))
+unfolding weighed
+weighed_step f gs w b k d l ew eb =
+    rw (drop_more gs k d l, drop_more w k 0 (omega (arith, ew)), drop_more b k 0 (omega (arith, eb))) refl
+
+-- one place more is counted
+pub weighed_next : (f : Weight → ℕ) (gs : List Weight) (w b : List ℕ) (k : ℕ) (d : Weight) (s m x t total : ℕ)
+    → k < length gs → length w ≡ length gs → length b ≡ length gs → x ≡ gf_add (get_or w k 0) (get_or b k 0)
+    → m ≡ gf_mul (f (get_or gs k d)) x → t ≡ gf_add s m
+    → gf_add s (weighed f (drop k gs) (drop k w) (drop k b)) ≡ total
+    → gf_add t (weighed f (drop (k + 1) gs) (drop (k + 1) w) (drop (k + 1) b)) ≡ total
+weighed_next f gs w b k d s m x t total l ew eb ex em et h =
+    ap (λ (y : ℕ). gf_add y (weighed f (drop (k + 1) gs) (drop (k + 1) w) (drop (k + 1) b)))
+    (et ∙ ap (gf_add s) (em ∙ ap (gf_mul (f (get_or gs k d))) ex))
+    ∙ add_assoc s (gf_mul (f (get_or gs k d)) (gf_add (get_or w k 0) (get_or b k 0)))
+    (weighed f (drop (k + 1) gs) (drop (k + 1) w) (drop (k + 1) b))
+    ∙ ap (gf_add s) (sym (weighed_step f gs w b k d l ew eb)) ∙ h
+
+weighed_end : (f : Weight → ℕ) (k : ℕ) (gs : List Weight) (w b : List ℕ) → length gs ≤ k
+    → weighed f (drop k gs) (drop k w) (drop k b) ≡ 0
+unfolding weighed
+weighed_end f k gs w b l = rw (drop_all k gs l) refl
+
+pub weighed_done : (f : Weight → ℕ) (k : ℕ) (gs : List Weight) (w b : List ℕ) (s total : ℕ) → length gs ≤ k
+    → gf_add s (weighed f (drop k gs) (drop k w) (drop k b)) ≡ total → s ≡ total
+weighed_done f k gs w b s total l h = sym (ap (gf_add s) (weighed_end f k gs w b l) ∙ add_zero s) ∙ h
+
+pub weighed_is : (f : Weight → ℕ) (H : ℕ → ℕ) (m : ℕ) (gs : List Weight) (w b : List ℕ) → m ≤ length gs
+    → m ≤ length w → length w ≡ length b → ((k : ℕ) → k < m → f (get_or gs k none) ≡ H (length w - 1 - k))
+    → weighed f (take m gs) (take m w) (take m b) ≡ gf_add (sum_of H w b) (sum_of H (drop m w) (drop m b))
+unfolding weighed sum_of
+weighed_is f H zero gs w b lg lw e h = sym (add_self (sum_of H w b))
+weighed_is f H (suc m) [] w b lg lw e h = absurd (omega arith)
+weighed_is f H (suc m) (g ∷ gs) [] b lg lw e h = absurd (omega arith)
+weighed_is f H (suc m) (g ∷ gs) (x ∷ w) [] lg lw e h = absurd (omega arith)
+weighed_is f H (suc m) (g ∷ gs) (x ∷ w) (y ∷ b) lg lw e h =
+    ap₂ (λ (t s : ℕ). gf_add (gf_mul t (gf_add x y)) s) (h 0 (omega arith) ∙ ap H (omega arith))
+    (weighed_is f H m gs w b (omega arith) (omega arith) (omega arith)
+    (λ k l. h (suc k) (omega arith) ∙ ap H (omega arith)))
+    ∙ sym (add_assoc (gf_mul (H (length w)) (gf_add x y)) (sum_of H w b) (sum_of H (drop m w) (drop m b)))
+
+-- the words agree where a byte is known
+agree : (ks : List (Option ℕ)) (r : ℕ) (c b : List ℕ) → IsKnownWord ks r c → IsKnownWord ks r b → (j : ℕ)
+    → j < 12 + r → (o : Option ℕ) → get_or ks j None ≡ o → o ≢ None → get_or c j 0 ≡ get_or b j 0
+agree ks r c b hc hb j l None e n = absurd (n refl)
+agree ks r c b hc hb j l (Some k) e n = at c hc ∙ sym (at b hb)
+  where
+    within : (xs : List (Option ℕ)) (i : ℕ) → get_or xs i None ≡ Some k → i < length xs
+    within [] i e = cc
+    within (x ∷ xs) zero e = omega arith
+    within (x ∷ xs) (suc i) e = let h = within xs i e in omega arith
+
+    at : (d : List ℕ) → IsKnownWord ks r d → get_or d j 0 ≡ k
+    at d h =
+        ap (λ (u : List ℕ). get_or u j 0) (sym h.known)
+        ∙ item ks d j (within ks j e) (omega (arith, h.len)) ∙ ap (λ (o : Option ℕ). unwrap_or o (get_or d j 0)) e
+
+module _ (ks : List (Option ℕ)) (r : ℕ) (b : Block) (is : IsBlock ks r b) (c base : List ℕ)
+    (hc : IsKnownWord ks r c) (hb : IsKnownWord ks r base) where
+  same_length : length c ≡ length base
+  same_length = hc.len ∙ sym hb.len
+
+  quiet : (H : ℕ → ℕ) → ((p : ℕ) → product is.others p ≡ 0 → H p ≡ 0) → (j : ℕ) → j < length c
+      → IsOutside b.from b.to j → IsQuiet H c base j
+  quiet H zero_there j l out = by (get_or ks j None) refl
+    where
+      by : (o : Option ℕ) → get_or ks j None ≡ o → IsQuiet H c base j
+      by None e = inr (zero_there (length c - 1 - j) (ap (product is.others) (omega (arith, hc.len))
+          ∙ is.outside j (omega (arith, hc.len)) out e))
+      by (Some k) e = inl (agree ks r c base hc hb j (omega (arith, hc.len)) (Some k) e (λ n. cc))
+
+  -- the sums of a codeword are zero in the block too
+  between_none : (H : ℕ → ℕ) (i : ℕ) → i ≤ 2 → ((p : ℕ) → H p ≡ times_power is.others i p)
+      → ((p : ℕ) → product is.others p ≡ 0 → H p ≡ 0) → between H c base b.from b.to ≡ 0
+  between_none H i two hp zero_there =
+      ap₂ gf_add
+      (sym (quiet_front H c base b.from (omega (arith, hc.len, is.some, is.within)) same_length (λ k l.
+      quiet H zero_there k (omega (arith, hc.len, is.some, is.within)) (inl l)))
+      ∙ same_sum H (times_power is.others i) c base hp
+      ∙ codewords_sum r is.others i c base (omega (arith, is.few)) same_length hc.roots hb.roots)
+      (quiet_rest H c base (length c - b.to) b.to (omega (arith, hc.len, is.within)) same_length (λ k l m.
+      quiet H zero_there k m (inr l)))
+      ∙ zero_add 0
+
+  -- a word whose sums differ from those of one error has two errors in the block
+  pub twice : (word : List ℕ) → length word ≡ 12 + r
+      → gf_mul (between (product is.others) word base b.from b.to) (between (product_2 is.others) word base b.from b.to)
+      ≢ gf_mul (between (product_1 is.others) word base b.from b.to) (between (product_1 is.others) word base b.from b.to)
+      → 2 + distance (drop b.to word) (drop b.to c) ≤ distance (drop b.from word) (drop b.from c)
+  twice word l apart =
+      by (cases_lt (distance (drop b.from word) (drop b.from c)) (2 + distance (drop b.to word) (drop b.to c)))
+    where
+      e : length word ≡ length c
+      e = l ∙ sym hc.len
+
+      on : (v : List ℕ) → drop (b.to - b.from) (drop b.from v) ≡ drop b.to v
+      on v = drop-drop (b.to - b.from) b.from v ∙ ap (λ (n : ℕ). drop n v) (omega (arith, is.some))
+
+      apart_in : (H : ℕ → ℕ) (p a : ℕ)
+          → gf_add (sum_of H (drop b.from word) (drop b.from c))
+          (sum_of H (drop (b.to - b.from) (drop b.from word)) (drop (b.to - b.from) (drop b.from c))) ≡ gf_mul (H p) a
+          → between H c base b.from b.to ≡ 0 → between H word base b.from b.to ≡ gf_mul (H p) a
+      apart_in H p a h z =
+          between-through H word c base b.from b.to e same_length
+          ∙ ap₂ gf_add (ap₂ (λ (u v : List ℕ). gf_add (sum_of H (drop b.from word) (drop b.from c)) (sum_of H u v))
+          (sym (on word)) (sym (on c)) ∙ h) z ∙ add_zero (gf_mul (H p) a)
+
+      by : (distance (drop b.from word) (drop b.from c) < 2 + distance (drop b.to word) (drop b.to c))
+          ⊎ (2 + distance (drop b.to word) (drop b.to c) ≤ distance (drop b.from word) (drop b.from c))
+          → 2 + distance (drop b.to word) (drop b.to c) ≤ distance (drop b.from word) (drop b.from c)
+      by (inr h) = h
+      by (inl h) =
+          let near : distance (drop b.from word) (drop b.from c)
+          ≤ 1 + distance (drop (b.to - b.from) (drop b.from word)) (drop (b.to - b.from) (drop b.from c)) =
+          omega (arith, h, ap₂ distance (on word) (on c)) in
+          let one = one_apart (b.to - b.from) (drop b.from word) (drop b.from c)
+          (length-drop b.from word ∙ ap (λ (k : ℕ). k - b.from) e ∙ sym (length-drop b.from c)) near in
+          let p : ℕ = one.0 in
+          let a : ℕ = one.1 in
+          let at = one.2 in
+          let z0 = apart_in (product is.others) p a (at (product is.others))
+          (between_none (product is.others) 0 (omega arith) (zeroth_is is.others) (λ p z. z)) in
+          let z1 = apart_in (product_1 is.others) p a (at (product_1 is.others))
+          (between_none (product_1 is.others) 1 (omega arith) (first_is is.others) (zero_1 is.others)) in
+          let z2 = apart_in (product_2 is.others) p a (at (product_2 is.others))
+          (between_none (product_2 is.others) 2 (omega arith) (second_is is.others) (zero_2 is.others)) in
+          absurd (apart (ap₂ gf_mul z0 z2 ∙ rank_one is.others p a ∙ sym (ap₂ gf_mul z1 z1)))
+
+-- the sum of the places of a block, by their weights
+pub block_sum : (ks : List (Option ℕ)) (r : ℕ) (b : Block) (is : IsBlock ks r b) (word base : List ℕ)
+    → length word ≡ 12 + r → length base ≡ length word → (f : Weight → ℕ) (H : ℕ → ℕ)
+    → ((p : ℕ) → f (weight is.others p) ≡ H p) → (gs : List Weight) → gs ≡ take (b.to - b.from) b.weights
+    → weighed f gs (slice_range word b.from b.to) (slice_range base b.from b.to) ≡ between H word base b.from b.to
+block_sum ks r b is word base l e f H fh gs eg =
+    ap (λ (xs : List Weight). weighed f xs (slice_range word b.from b.to) (slice_range base b.from b.to)) eg
+    ∙ weighed_is f H (b.to - b.from) b.weights (drop b.from word) (drop b.from base)
+    (omega (arith, is.len, is.short)) (omega (arith, length-drop b.from word, l, is.within, is.some))
+    (length-drop b.from word ∙ ap (λ (k : ℕ). k - b.from) (sym e) ∙ sym (length-drop b.from base))
+    (λ k m. ap f (is.weights k (omega arith)) ∙ fh (11 + r - b.from - k)
+    ∙ ap H (omega (arith, length-drop b.from word, l)))
+    ∙ ap₂ (λ (u v : List ℕ). gf_add (sum_of H (drop b.from word) (drop b.from base)) (sum_of H u v))
+    (on word) (on base)
+  where
+    on : (v : List ℕ) → drop (b.to - b.from) (drop b.from v) ≡ drop b.to v
+    on v = drop-drop (b.to - b.from) b.from v ∙ ap (λ (n : ℕ). drop n v) (omega (arith, is.some))
+
+pub unequal : (a b : ℕ) → IsTrue (not (nat_eq a b)) → a ≢ b
+unequal a b h e = (let t : not (nat_eq a b) ≡ false = ap not (eq-eqb a b e) in
+    let bad : true ≡ false = sym h ∙ t in cc)
+
+-- a block that begins where the last one ended or later
+pub one_block : (word c : List ℕ) (count end from to : ℕ) → length word ≡ length c → end ≤ from
+    → count + distance (drop end word) (drop end c) ≤ distance word c
+    → 2 + distance (drop to word) (drop to c) ≤ distance (drop from word) (drop from c)
+    → count + 2 + distance (drop to word) (drop to c) ≤ distance word c
+one_block word c count end from to e l h t =
+    omega (
+      arith,
+      h,
+      t,
+      distance-drop (from - end) (drop end word) (drop end c)
+          (length-drop end word ∙ ap (λ (k : ℕ). k - end) e ∙ sym (length-drop end c)),
+      ap₂ distance (on word) (on c),
+    )
+  where
+    on : (v : List ℕ) → drop (from - end) (drop end v) ≡ drop from v
+    on v = drop-drop (from - end) end v ∙ ap (λ (n : ℕ). drop n v) (omega (arith, l))
+
+-- and of a sieve's blocks
+pub far_more : (ks : List (Option ℕ)) (r i : ℕ) (blocks items : List Block) (b : Block) (word begun base c : List ℕ)
+    (count end : ℕ) → items ≡ blocks → All (IsBlock ks r) blocks → i < length items → begun ≡ base
+    → IsKnownWord ks r base → length word ≡ 12 + r → IsKnownWord ks r c → end ≤ (get_or items i b).from
+    → count + distance (drop end word) (drop end c) ≤ distance word c
+    → ((ks : List (Option ℕ)) (r : ℕ) (c : List ℕ) → length word ≡ 12 + r → IsBlock ks r (get_or items i b)
+    → IsKnownWord ks r begun → IsKnownWord ks r c
+    → 2 + distance (drop (get_or items i b).to word) (drop (get_or items i b).to c)
+    ≤ distance (drop (get_or items i b).from word) (drop (get_or items i b).from c))
+    → count + 2 + distance (drop (get_or items i b).to word) (drop (get_or items i b).to c) ≤ distance word c
+far_more ks r i blocks items b word begun base c count end ei each l eb hb lw hc order far errs =
+    one_block word c count end (get_or items i b).from (get_or items i b).to (lw ∙ sym hc.len) order far
+    (errs ks r c lw (All-get_or (IsBlock ks r) items i b l (subst (All (IsBlock ks r)) (sym ei) each))
+    (subst (IsKnownWord ks r) (sym eb) hb) hc)
+
+-- ---- the codeword of the known bytes
+put_in_twice : (ks : List (Option ℕ)) (w : List ℕ) → put_in ks (put_in ks w) ≡ put_in ks w
+unfolding put_in
+put_in_twice [] w = refl
+put_in_twice (k ∷ ks) [] = refl
+put_in_twice (None ∷ ks) (b ∷ w) = ap (λ xs. b ∷ xs) (put_in_twice ks w)
+put_in_twice (Some k ∷ ks) (b ∷ w) = ap (λ xs. k ∷ xs) (put_in_twice ks w)
+
+pub known_word : (ks : List (Option ℕ)) (r : ℕ) (z h p w : List ℕ) → w ≡ h ++ p → p ≡ parity_of r h → h ≡ put_in ks z
+    → length h ≡ 12 → length ks ≡ 12 → r ≤ 127 → ((k : ℕ) → get_or h k 0 < 256) → IsKnownWord ks r w
+known_word ks r z h p w ew ep eh lh lk few bytes =
+    let made = (parity_law r h (parity_of r h) (omega (arith, lh))
+    (refl, AllByRecursion_from_places (λ b. b < 256) h bytes)).0 refl in
+    let same : w ≡ h ++ parity_of r h = ew ∙ ap (λ q. h ++ q) ep in
+    let own : put_in ks h ≡ h = ap (put_in ks) eh ∙ put_in_twice ks z ∙ sym eh in
+    subst (IsKnownWord ks r) (sym same) (record {
+      len = length-append h (parity_of r h) ∙ omega (arith, lh, made.0.0);
+      roots = roots_of r (h ++ parity_of r h) made.1;
+      known = put_in-append ks h (parity_of r h) (omega (arith, lh, lk)) ∙ ap (λ v. v ++ parity_of r h) own;
+    })

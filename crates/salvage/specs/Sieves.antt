@@ -1,0 +1,68 @@
+-- What a sieve of headers' words is made of
+use Rattle.std.specs.Prelude.{◌≡◌, ℕ, ◌+◌, ◌-◌, ◌≤◌, ◌<◌, ◌⊎◌, List, [], ◌∷◌, length, slice_index_or, Option, None, All, MatchOption}
+use Rattle.code_spec.specs.Field.{gf_add, gf_mul, gf_pow}
+use Rattle.code_laws.proofs.Symbols.{HasRoots}
+use Rattle.zone_spec.specs.declared.Zone.{Zone}
+use Rattle.salvage_laws.specs.Known.{known, put_in}
+use Rattle.salvage.specs.declared.sieve.Weight.{Weight}
+use Rattle.salvage.specs.declared.sieve.Block.{Block}
+
+-- the product of 2 ^ p + 2 ^ m over the powers m
+unfoldable pub product : List ℕ → ℕ → ℕ
+product [] p = 1
+product (m ∷ ms) p = gf_mul (gf_add (gf_pow 2 p) (gf_pow 2 m)) (product ms p)
+
+unfoldable pub product_1 : List ℕ → ℕ → ℕ
+product_1 ms p = gf_mul (product ms p) (gf_pow 2 p)
+
+unfoldable pub product_2 : List ℕ → ℕ → ℕ
+product_2 ms p = gf_mul (product_1 ms p) (gf_pow 2 p)
+
+-- what a place of this power counts: the product, times 2 ^ p, times its square
+abbrev pub weight : List ℕ → ℕ → Weight
+weight ms p = record { zeroth = product ms p; first = product_1 ms p; second = product_2 ms p }
+
+-- what no place counts
+abbrev pub none : Weight
+none = record { zeroth = 0; first = 0; second = 0 }
+
+-- the sum of the symbols' sums at each place, weighed
+unfoldable pub weighed : (Weight → ℕ) → List Weight → List ℕ → List ℕ → ℕ
+weighed f (g ∷ gs) (x ∷ w) (y ∷ b) = gf_add (gf_mul (f g) (gf_add x y)) (weighed f gs w b)
+weighed f gs w b = 0
+
+-- a codeword with the known bytes
+pub record IsKnownWord (ks : List (Option ℕ)) (r : ℕ) (c : List ℕ) : Type 0 where
+  pub len : length c ≡ 12 + r
+  pub roots : HasRoots r c
+  pub known : put_in ks c ≡ c
+
+abbrev pub IsOutside : ℕ → ℕ → ℕ → Type 0
+IsOutside from to j = (j < from) ⊎ (to ≤ j)
+
+-- the weights of a block are those of powers that are few enough for the sums of codewords to be zero, and among which
+-- are those of all other unknown places
+pub record IsBlock (ks : List (Option ℕ)) (r : ℕ) (b : Block) : Type 0 where
+  pub others : List ℕ
+  pub few : length others + 3 ≤ r
+  pub some : b.from < b.to
+  pub short : b.to ≤ b.from + 16
+  pub within : b.to ≤ 12 + r
+  pub len : length b.weights ≡ 16
+  pub weights : (k : ℕ) → b.from + k < b.to → slice_index_or b.weights k none ≡ weight others (11 + r - b.from - k)
+  pub outside : (j : ℕ) → j < 12 + r → IsOutside b.from b.to j → slice_index_or ks j None ≡ None
+      → product others (11 + r - j) ≡ 0
+
+-- the known bytes of a sieve, and how many symbols of parity
+pub record Sifted : Type 0 where
+  pub known : List (Option ℕ)
+  pub parity : ℕ
+
+pub record IsSieve (ks : List (Option ℕ)) (r : ℕ) (base : List ℕ) (blocks : List Block) : Type 0 where
+  pub few : r ≤ 127
+  pub codeword : IsKnownWord ks r base
+  pub each : All (IsBlock ks r) blocks
+
+-- where there is a sieve, it is one of this zone's headers
+abbrev pub IsSieveOf : Zone → Option Sifted → Type 0
+IsSieveOf z s = MatchOption s (Unit {0}) (λ v. (v.known ≡ known z) × (v.parity ≡ z.parity))
