@@ -169,6 +169,7 @@ fn ring_within(
     }
 }
 
+/// Whether all bytes are 0. Zeros are a codeword, of an empty ring.
 fn are_zeros(bytes: &[u8]) -> bool
     ensures { IsTrue result ↔ ((k : ℕ) → k < length bytes.now → slice_index bytes.now k ≡ 0) }
 {
@@ -204,7 +205,6 @@ pub fn ring_by(
     if most == amends {
         return ring_as_amended(coder, zone, at, &bytes, amends, parity);
     }
-    // zeros are a codeword, and empty
     if are_zeros(header) && are_zeros(parity) {
         return None;
     }
