@@ -46,7 +46,7 @@ fn left(live: &Live, zone: ZoneName) -> u64
     }
 }
 
-// Makes a call, and tells how many stores it has, none where there is no such zone.
+// Makes a call, and tells how many stores it has: none if it is refused.
 fn make_stores(live: &mut Live, ask: Ask) -> u64
     requires can { CanBeAsked ask }
     ensures { (layout : List AZone) (mem : ℕ) (s : LiveState) → IsLayout layout mem
@@ -93,7 +93,7 @@ pub fn make_turn(live: &mut Live, counts: &mut Counts, turn: Option<Ask>)
     make_call(live, counts, ask);
 }
 
-// Begins a call, and tells how many stores it has, none where there is no such zone.
+// Begins a call, and tells how many stores it has: none if it is refused.
 fn begin_stores(live: &mut Live, ask: Ask) -> u64
     requires can { CanBeAsked ask }
     ensures { (layout : List AZone) (mem : ℕ) (s : LiveState) → IsLayout layout mem

@@ -165,6 +165,7 @@ abbrev pub stores_begun : List Zone → ZoneName → Result LiveState Refusal �
 stores_begun layout name (Ok live) = left_in (target layout live name)
 stores_begun layout name (Err why) = 0
 
+-- the stores that a call has in this state
 abbrev pub stores_of : List Zone → Session → Ask → ℕ
 stores_of layout (Off off) ask = 0
 stores_of layout (Live live) ask = stores_begun layout (asked_name live ask) (begin layout live ask)
