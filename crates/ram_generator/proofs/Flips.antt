@@ -1,5 +1,5 @@
--- Flips made one behind another
-use Rattle.std.proofs.Common.{◌≡◌, ℕ, zero, suc, ◌+◌, ◌<◌, ◌≤◌, true, false, nat_lt, List, [], ◌∷◌, length, drop, get_or, fold, refl, sym, ap, ◌∙◌, arith, slice_index, bit_xor}
+-- Flips made one behind another. `make_flip` and `make_damage` cite them.
+use Rattle.std.proofs.Common.{◌≡◌, ℕ, ◌+◌, ◌<◌, ◌≤◌, true, false, nat_lt, List, [], length, drop, get_or, fold, refl, sym, ap, ◌∙◌, arith, slice_index, bit_xor}
 use Rattle.std.proofs.lemmas.Bool.{lt-ltb, le-ltb}
 use Rattle.std.proofs.lemmas.List.{length-set}
 use Rattle.ramoops_layout.proofs.LaidOut.{drop_next}
@@ -9,6 +9,7 @@ use Rattle.machine_spec.specs.Off.{flipped}
 use Rattle.ramoops.specs.OffSeen.{OffSeen, StandsOff}
 use Rattle.script_spec.specs.Generated.{Generated, with_flip}
 use Rattle.ram_generator.specs.Damage.{IsFlipped, IsDamaged, flipped_to}
+use Rattle.ram_generator.proofs.Over.{drop_all}
 
 flip_within : (layout : List Zone) (g : Generated) (s : OffState) (place mask : ℕ) → g.session ≡ Off s
     → place < length s.image → with_flip layout g (place, mask) ≡ flipped_to g (flipped s place mask) 1
@@ -82,12 +83,6 @@ flips_more old now new flips i flip d lt same one so_far layout mem g s e stands
       stands = b.stands;
       size = b.size;
     }
-
-drop_all : {X : Type 0} (xs : List X) (i : ℕ) → length xs ≤ i → drop i xs ≡ []
-drop_all [] zero le = refl
-drop_all [] (suc i) le = refl
-drop_all (x ∷ xs) zero le = absurd (omega (arith, le))
-drop_all (x ∷ xs) (suc i) le = drop_all xs i (omega (arith, le))
 
 pub flips_end : (old now : OffSeen) (flips : List (ℕ × ℕ)) (i : ℕ) → i ≡ length flips → AreUnderWay old flips i now
     → (layout : List Zone) (mem : ℕ) (g : Generated) (s : OffState) → g.session ≡ Off s → StandsOff layout mem old s

@@ -9,37 +9,36 @@ use Rattle.machine_spec.specs.Boot.{booted}
 use Rattle.machine_spec.specs.Stop.{live_image, session_image}
 use Rattle.machine_spec.specs.Report.{ZoneReport}
 use Rattle.ramoops.specs.LiveSeen.{LiveSeen, StandsLive}
-use Rattle.script_spec.specs.Generated.{Generated, first_boot, rounds, generated, summary}
+use Rattle.script_spec.specs.Generated.{Generated, first_boot, round, generated, summary}
 use Rattle.ram_generator.specs.declared.counts.Counts.{Counts}
 use Rattle.ram_generator.specs.Counting.{none_counted, counted}
-use Rattle.ram_generator.specs.Sessions.{RunsIdle, IsUp}
+use Rattle.ram_generator.specs.Sessions.{Runs, GoesOver, IsUp}
 
 -- a store of zeros that is booted
 first_runs : (layout : List Zone) (mem : ℕ) (v : LiveSeen) (told : List ZoneReport)
     → IsUp layout mem (fresh layout (replicate mem 0)) v told
-    → RunsIdle layout mem v none_counted (first_boot layout mem)
+    → Runs layout mem v none_counted (first_boot layout mem)
 first_runs layout mem v told up = record {
   now = booted layout (fresh layout (replicate mem 0));
   is = refl;
   stands = up.stands;
   sound = up.sound;
-  idle = up.idle;
 }
 
-pub all_runs : (layout : List Zone) (mem n : ℕ) (v w : LiveSeen) (c : Counts) (told : List ZoneReport)
+pub all_runs : (layout : List Zone) (mem n y : ℕ) (v w : LiveSeen) (c : Counts) (told : List ZoneReport)
     → IsLayout layout mem → IsUp layout mem (fresh layout (replicate mem 0)) v told
-    → ((mem : ℕ) (g : Generated) → IsLayout layout mem → RunsIdle layout mem v none_counted g
-    → RunsIdle layout mem w c (rounds layout g (range_with_len 0 8) n).0)
-    → RunsIdle layout mem w c (generated layout mem n)
-all_runs layout mem n v w c told lies up runs = runs mem (first_boot layout mem) lies (first_runs layout mem v told up)
+    → GoesOver (round layout) (range_with_len 0 8) layout v none_counted n w c y
+    → Runs layout mem w c (generated layout mem n)
+all_runs layout mem n y v w c told lies up goes =
+    (goes mem (first_boot layout mem) lies (first_runs layout mem v told up)).runs
 
 pub image_left : (layout : List Zone) (mem : ℕ) (v : LiveSeen) (image : List ℕ) (c : Counts) (g : Generated)
-    → RunsIdle layout mem v c g → ((s : LiveState) → StandsLive layout mem v s → image ≡ live_image s)
+    → Runs layout mem v c g → ((s : LiveState) → StandsLive layout mem v s → image ≡ live_image s)
     → image ≡ session_image g.session
 image_left layout mem v image c g r same = same r.now r.stands
     ∙ sym (ap (λ (h : Generated). session_image h.session) r.is)
 
 pub text_left : (layout : List Zone) (mem n : ℕ) (v : LiveSeen) (c : Counts) (g : Generated) (text : List ℕ)
-    → RunsIdle layout mem v c g → ((session : Session) → text ≡ summary n layout (counted session c))
+    → Runs layout mem v c g → ((session : Session) → text ≡ summary n layout (counted session c))
     → text ≡ summary n layout g
 text_left layout mem n v c g text r told = told (Live r.now) ∙ ap (summary n layout) (sym r.is)

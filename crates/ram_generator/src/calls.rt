@@ -1,25 +1,26 @@
 // The calls of a generated session.
-ghost use Rattle.std.specs.Prelude.{◌≡◌, ℕ, ◌≤◌, ◌^◌, if◌then◌else◌, nat_lt, min, List, map, fold, length};
-ghost use Rattle.std.specs.List.{All, AllByRecursion};
-ghost use Rattle.zone_spec.specs.declared.Zone.{Zone};
+ghost use Rattle.std.specs.Prelude.{◌≡◌, ℕ, ◌^◌, if◌then◌else◌, nat_lt, min, List, filter, fold, IfOk};
+ghost use Rattle.std.specs.List.{All};
+ghost use Rattle.zone_spec.specs.declared.Zone.{Zone as AZone};
 ghost use Rattle.zone_spec.specs.Layouts.{IsLayout};
 ghost use Rattle.machine_spec.specs.States.{LiveState, Live as LiveOf};
 ghost use Rattle.machine_spec.specs.LiveZones.{target};
-ghost use Rattle.machine_spec.specs.Operations.{Step};
+ghost use Rattle.machine_spec.specs.Operations.{Begin, Make, Step};
 ghost use Rattle.machine_spec.specs.Sound.{IsState, IsAsk};
 ghost use Rattle.ramoops.specs.Asks.{ask_seen, CanBeAsked};
 ghost use Rattle.ramoops.specs.LiveSeen.{StandsLive};
-ghost use Rattle.script_spec.specs.Generated.{Generated, with_call, with_cut};
-ghost use Rattle.ram_generator.specs.Turns.{cut_of};
+ghost use Rattle.script_spec.specs.Generated.{Generated, left_in, rests as rests_in, with_call, with_cut};
+ghost use Rattle.ram_generator.specs.Turns.{cut_of, turn_of, TurnCanBeAsked};
+ghost use Rattle.ram_generator.specs.Damage.{IsWithin};
 ghost use Rattle.ram_generator.specs.Counting.{AreBelow, Grows, calls_added};
-ghost use Rattle.ram_generator.specs.Sessions.{IsForRing, IsCutOfRing, AreIdle, left_in, IsMade};
-ghost use Rattle.ram_generator.specs.Sessions.{IsBegun, IsLeft, RunsIdle, RunsCut};
+ghost use Rattle.ram_generator.specs.Sessions.{IsCalled, IsLeft, Runs};
 
 use crate::CutAppend;
 use crate::counts::Counts;
 use ram_session::{begin, finish, step};
 use ramoops::{Ask, Live};
-use zone_spec::ZoneName;
+use std::alloc::{AllocError, Global};
+use zone_spec::{Zone, ZoneName};
 
 // Tells that the payload is of bytes.
 fn check(ask: &Ask)
@@ -36,7 +37,7 @@ fn check(ask: &Ask)
 
 // How many stores are left of a zone's flight, none where there is no such zone.
 fn left(live: &Live, zone: ZoneName) -> u64
-    ensures { (layout : List Zone) (mem : ℕ) (s : LiveState) → StandsLive layout mem live.now s
+    ensures { (layout : List AZone) (mem : ℕ) (s : LiveState) → StandsLive layout mem live.now s
         → result ≡ left_in (target layout s zone) }
 {
     match live.left(zone) {
@@ -45,13 +46,12 @@ fn left(live: &Live, zone: ZoneName) -> u64
     }
 }
 
-// Makes a call in an idle store, and tells how many stores it has, none where there is no such zone.
+// Makes a call, and tells how many stores it has: none if it is refused.
 fn make_stores(live: &mut Live, ask: Ask) -> u64
     requires can { CanBeAsked ask }
-    requires ring { IsForRing (ask_seen ask) }
-    ensures { (layout : List Zone) (mem : ℕ) (s : LiveState) → IsLayout layout mem
-        → StandsLive layout mem live.old s → IsState layout mem (LiveOf s) → AreIdle s.zones
-        → IsMade layout mem s (ask_seen ask) live.new result }
+    ensures { (layout : List AZone) (mem : ℕ) (s : LiveState) → IsLayout layout mem
+        → StandsLive layout mem live.old s → IsState layout mem (LiveOf s)
+        → IsCalled layout mem s (Make (ask_seen ask)) (ask_seen ask) live.new result }
 {
     check(&ask);
     let zone = match begin(live, ask) {
@@ -65,43 +65,40 @@ fn make_stores(live: &mut Live, ask: Ask) -> u64
     }
 }
 
-/// Makes a call in an idle store, and counts it with its stores.
-pub fn make_call(live: &mut Live, counts: &mut Counts, ask: Ask)
+// Makes a call, and counts it with its stores.
+fn make_call(live: &mut Live, counts: &mut Counts, ask: Ask)
     requires can { CanBeAsked ask }
-    requires ring { IsForRing (ask_seen ask) }
     requires room { AreBelow counts.old (2 ^ 32) }
-    ensures made { (layout : List Zone) (mem : ℕ) (g : Generated) → IsLayout layout mem
-        → RunsIdle layout mem live.old counts.old g
-        → RunsIdle layout mem live.new counts.new (with_call layout g (ask_seen ask)) }
+    ensures made { (layout : List AZone) (mem : ℕ) (g : Generated) → IsLayout layout mem
+        → Runs layout mem live.old counts.old g
+        → Runs layout mem live.new counts.new (with_call layout g (ask_seen ask)) }
     ensures grows { Grows counts.old counts.new 1 }
 {
     let stores = make_stores(live, ask);
     counts.add_calls(1, stores);
 }
 
-/// Makes calls in their order.
-pub fn make_calls(live: &mut Live, counts: &mut Counts, asks: Vec<Ask>)
-    requires can { All CanBeAsked asks.items }
-    requires rings { AllByRecursion IsForRing (map ask_seen asks.items) }
-    requires few { length asks.items ≤ 24 }
-    requires room { AreBelow counts.old (2 ^ 31) }
-    ensures made { (layout : List Zone) (mem : ℕ) (g : Generated) → IsLayout layout mem
-        → RunsIdle layout mem live.old counts.old g
-        → RunsIdle layout mem live.new counts.new (fold (with_call layout) g (map ask_seen asks.items)) }
-    ensures grows { Grows counts.old counts.new 24 }
+/// Makes a turn's call, where it has one, and counts it.
+pub fn make_turn(live: &mut Live, counts: &mut Counts, turn: Option<Ask>)
+    requires can { TurnCanBeAsked turn }
+    requires room { AreBelow counts.old (2 ^ 32) }
+    ensures made { (layout : List AZone) (mem : ℕ) (g : Generated) → IsLayout layout mem
+        → Runs layout mem live.old counts.old g
+        → Runs layout mem live.new counts.new (fold (with_call layout) g (turn_of turn)) }
+    ensures grows { Grows counts.old counts.new 1 }
 {
-    for ask in asks {
-        make_call(live, counts, ask);
-    }
+    let Some(ask) = turn else {
+        return;
+    };
+    make_call(live, counts, ask);
 }
 
-// Begins a call in an idle store, and tells how many stores it has, none where there is no such zone.
+// Begins a call, and tells how many stores it has: none if it is refused.
 fn begin_stores(live: &mut Live, ask: Ask) -> u64
     requires can { CanBeAsked ask }
-    requires ring { IsForRing (ask_seen ask) }
-    ensures { (layout : List Zone) (mem : ℕ) (s : LiveState) → IsLayout layout mem
-        → StandsLive layout mem live.old s → IsState layout mem (LiveOf s) → AreIdle s.zones
-        → IsBegun layout mem s (ask_seen ask) live.new result }
+    ensures { (layout : List AZone) (mem : ℕ) (s : LiveState) → IsLayout layout mem
+        → StandsLive layout mem live.old s → IsState layout mem (LiveOf s)
+        → IsCalled layout mem s (Begin (ask_seen ask)) (ask_seen ask) live.new result }
 {
     check(&ask);
     match begin(live, ask) {
@@ -112,7 +109,7 @@ fn begin_stores(live: &mut Live, ask: Ask) -> u64
 
 // Makes the next stores of a zone's flight, so many or all, where one stands.
 fn step_stores(live: &mut Live, zone: ZoneName, count: u64)
-    ensures { (layout : List Zone) (mem : ℕ) (s : LiveState) → IsLayout layout mem
+    ensures { (layout : List AZone) (mem : ℕ) (s : LiveState) → IsLayout layout mem
         → StandsLive layout mem live.old s → IsState layout mem (LiveOf s)
         → IsLeft layout mem s (Step zone count) live.new }
 {
@@ -135,13 +132,12 @@ fn count_cut(counts: &mut Counts, count: u64, all: u64)
     }
 }
 
-/// Makes the first stores of an append in an idle store, or all, and counts them. Gives the ring where stores are left.
-pub fn make_cut(live: &mut Live, counts: &mut Counts, cut: Option<CutAppend>) -> Option<ZoneName>
-    requires ring { AllByRecursion IsCutOfRing (cut_of cut) }
+/// Makes the first stores of an append, or all, and counts them.
+pub fn make_cut(live: &mut Live, counts: &mut Counts, cut: Option<CutAppend>)
     requires room { AreBelow counts.old (2 ^ 32) }
-    ensures cut { (layout : List Zone) (mem : ℕ) (g : Generated) → IsLayout layout mem
-        → RunsIdle layout mem live.old counts.old g
-        → RunsCut layout mem live.new counts.new result (fold (with_cut layout) g (cut_of cut)) }
+    ensures cut { (layout : List AZone) (mem : ℕ) (g : Generated) → IsLayout layout mem
+        → Runs layout mem live.old counts.old g
+        → Runs layout mem live.new counts.new (fold (with_cut layout) g (cut_of cut)) }
     ensures grows { Grows counts.old counts.new 1 }
 {
     let Some(
@@ -152,11 +148,38 @@ pub fn make_cut(live: &mut Live, counts: &mut Counts, cut: Option<CutAppend>) ->
         },
     ) = cut
     else {
-        return None;
+        return;
     };
     let count = u64::from(stores);
     let all = begin_stores(live, Ask::Append(ring, bytes));
     step_stores(live, ring, count);
     count_cut(counts, count, all);
-    if count < all { Some(ring) } else { None }
+}
+
+// Whether no call stands in a zone, also where there is no such zone.
+fn rests(live: &Live, zone: ZoneName) -> bool
+    ensures { (layout : List AZone) (mem : ℕ) (s : LiveState) → StandsLive layout mem live.now s
+        → result ≡ rests_in (target layout s zone) }
+{
+    match live.flies(zone) {
+        Ok(flies) => !flies,
+        Err(_) => true,
+    }
+}
+
+/// The zones where no call stands.
+pub fn resting(alloc: Global, live: &Live, zones: &[Zone]) -> Result<Vec<Zone>, AllocError>
+    requires within { All IsWithin zones.now }
+    ensures resting { IfOk result (λ rest. (layout : List AZone) (mem : ℕ) (s : LiveState)
+        → StandsLive layout mem live.now s
+        → rest.items ≡ filter (λ (z : AZone). rests_in (target layout s z.name)) zones.now) }
+    ensures within { IfOk result (λ rest. All IsWithin rest.items) }
+{
+    let mut rest = Vec::new(alloc);
+    'zones: for zone in zones {
+        if rests(live, zone.name) {
+            rest.push(*zone)?;
+        }
+    }
+    Ok(rest)
 }

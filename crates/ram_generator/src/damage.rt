@@ -1,12 +1,12 @@
 // The damage of the zones that no call was cut in.
-ghost use Rattle.std.specs.Prelude.{ℕ, List, length, ◌≡◌, ◌<◌, ◌+◌, ◌++◌, ◌^◌, IfOk, OnOk};
+ghost use Rattle.std.specs.Prelude.{ℕ, List, [], length, ◌≡◌, ◌<◌, ◌+◌, ◌^◌, IfOk, OnOk};
 ghost use Rattle.std.specs.List.{All};
 ghost use Rattle.zone_spec.specs.declared.Zone.{Zone as AZone};
 ghost use Rattle.zone_spec.specs.Zones.{IsValidZone};
 ghost use Rattle.zone_spec.specs.Parts.{Part, part_at, part_len};
 ghost use Rattle.machine_spec.specs.States.{OffState, Off as OffOf};
 ghost use Rattle.ramoops.specs.OffSeen.{StandsOff};
-ghost use Rattle.script_spec.specs.Generated.{Generated, drawn_flips, drawn_damage, draw_each, joined};
+ghost use Rattle.script_spec.specs.Generated.{Generated, draw_over, drawn_flips, drawn_damage};
 ghost use Rattle.ram_generator.specs.Damage.{blocks_of, IsWithin, IsFlipped, IsDamaged};
 
 use crate::Draws;
@@ -14,7 +14,7 @@ use ramoops::Off;
 use std::alloc::{AllocError, Global};
 use zone_spec::Zone;
 
-// Flips of at most so many bytes of a part, all in a row.
+// Flips of at most so many bytes of a part more, all in a row.
 fn draw_flips(
     draws: &mut Draws,
     most: u32,
@@ -24,10 +24,8 @@ fn draw_flips(
 ) -> Result<(), AllocError>
     requires within { at + len < 2 ^ 32 }
     requires short { len < 2 ^ 31 }
-    ensures flips { OnOk result ((z : AZone) (part : Part) → at ≡ z.at + part_at z part → len ≡ part_len z part
-        → flips.new.items ≡ flips.old.items ++ (drawn_flips most z part draws.old).0) }
-    ensures number { OnOk result ((z : AZone) (part : Part) → len ≡ part_len z part
-        → draws.new ≡ (drawn_flips most z part draws.old).1) }
+    ensures { OnOk result ((z : AZone) (part : Part) → at ≡ z.at + part_at z part → len ≡ part_len z part
+        → (flips.new.items, draws.new) ≡ drawn_flips most z flips.old.items part draws.old) }
 {
     let count = draws.draw(most.min(len) + 1);
     let place = draws.draw(len - count + 1);
@@ -35,7 +33,7 @@ fn draw_flips(
     Ok(())
 }
 
-// Flips of a zone's blocks.
+// Flips of a zone's blocks more.
 fn draw_blocks(
     draws: &mut Draws,
     most: u32,
@@ -44,10 +42,8 @@ fn draw_blocks(
 ) -> Result<(), AllocError>
     requires valid { IsValidZone zone.now }
     requires within { zone.now.at + zone.now.size < 2 ^ 32 }
-    ensures flips { OnOk result (flips.new.items ≡ flips.old.items ++ joined
-        (draw_each (drawn_flips most zone.now) (blocks_of zone.now) draws.old).0) }
-    ensures number { OnOk result (draws.new ≡ (draw_each (drawn_flips most zone.now) (blocks_of zone.now)
-        draws.old).1) }
+    ensures { OnOk result ((flips.new.items, draws.new)
+        ≡ draw_over (drawn_flips most zone.now) flips.old.items (blocks_of zone.now) draws.old) }
 {
     let blocks = zone.cap.div_ceil(zone.block);
     'parts: for b in 0..blocks {
@@ -58,12 +54,11 @@ fn draw_blocks(
     Ok(())
 }
 
-// Flips of a zone: in each part at most half the parity.
+// Flips of a zone more: in each part at most half the parity.
 fn draw_damage(draws: &mut Draws, zone: &Zone, flips: &mut Vec<(u32, u8)>) -> Result<(), AllocError>
     requires valid { IsValidZone zone.now }
     requires within { zone.now.at + zone.now.size < 2 ^ 32 }
-    ensures flips { OnOk result (flips.new.items ≡ flips.old.items ++ joined (drawn_damage zone.now draws.old).0) }
-    ensures number { OnOk result (draws.new ≡ (drawn_damage zone.now draws.old).1) }
+    ensures { OnOk result ((flips.new.items, draws.new) ≡ drawn_damage flips.old.items zone.now draws.old) }
 {
     let most = zone.parity / 2;
     draw_flips(draws, most, zone.at, 12, flips)?;
@@ -78,9 +73,8 @@ pub fn draw_all(
     zones: &[Zone],
 ) -> Result<Vec<(u32, u8)>, AllocError>
     requires { All IsWithin zones.now }
-    ensures flips { IfOk result (λ flips. flips.items ≡ joined
-        (joined (draw_each drawn_damage zones.now draws.old).0)) }
-    ensures number { OnOk result (draws.new ≡ (draw_each drawn_damage zones.now draws.old).1) }
+    ensures { IfOk result (λ flips. (flips.items, draws.new)
+        ≡ draw_over drawn_damage [] zones.now draws.old) }
 {
     let mut flips = Vec::new(alloc);
     'zones: for zone in zones {

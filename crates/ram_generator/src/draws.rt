@@ -1,6 +1,7 @@
 // The numbers of a generated session.
-ghost use Rattle.std.specs.Prelude.{◌≡◌, ◌<◌, ◌+◌, ◌^◌, ◌++◌, IfOk, OnOk};
-ghost use Rattle.script_spec.specs.Generated.{draw, draws, masked};
+ghost use Rattle.std.specs.Prelude.{◌≡◌, ◌<◌, ◌+◌, ◌^◌, IfOk, OnOk};
+ghost use Rattle.std.specs.List.{range_with_len};
+ghost use Rattle.script_spec.specs.Generated.{draw, draw_over, draws, drawn_flip};
 
 use outside::Bytes;
 use std::alloc::{AllocError, Global};
@@ -43,8 +44,7 @@ impl Draws {
 
     /// So many bytes.
     pub fn draw_bytes(&mut self, alloc: Global, count: u32) -> Result<Bytes, AllocError>
-        ensures bytes { IfOk result (λ bytes. bytes ≡ (draws count 256 self.old).0) }
-        ensures number { OnOk result (self.new ≡ (draws count 256 self.old).1) }
+        ensures { IfOk result (λ bytes. (bytes, self.new) ≡ draws count 256 self.old) }
     {
         let mut bytes = Vec::new(alloc);
         'bytes: for _ in 0..count {
@@ -53,7 +53,7 @@ impl Draws {
         Ok(Bytes::from_vec(bytes))
     }
 
-    // Masks for so many bytes in a row, from a place of the image on.
+    // Flips of so many bytes in a row more, from a place of the image on.
     pub(crate) fn draw_masks(
         &mut self,
         place: u32,
@@ -61,8 +61,8 @@ impl Draws {
         flips: &mut Vec<(u32, u8)>,
     ) -> Result<(), AllocError>
         requires { place + count < 2 ^ 32 }
-        ensures flips { OnOk result (flips.new.items ≡ flips.old.items ++ masked place (draws count 255 self.old).0) }
-        ensures number { OnOk result (self.new ≡ (draws count 255 self.old).1) }
+        ensures { OnOk result ((flips.new.items, self.new)
+            ≡ draw_over drawn_flip flips.old.items (range_with_len place count) self.old) }
     {
         'masks: for i in 0..count {
             flips.push((place + i, 1 + self.draw(255) as u8))?;

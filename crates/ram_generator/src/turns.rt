@@ -1,10 +1,9 @@
-// The calls of a round, drawn before any is made.
-ghost use Rattle.std.specs.Prelude.{◌≡◌, ℕ, List, ◌<◌, ◌≤◌, ◌+◌, ◌++◌, ◌^◌, true, false, map, length, Some, IfOk, OnOk};
-ghost use Rattle.std.specs.List.{All, range_with_len};
+// The calls of a round, as they are drawn.
+ghost use Rattle.std.specs.Prelude.{◌≡◌, List, ◌<◌, ◌≤◌, ◌^◌, length, IfOk};
+ghost use Rattle.std.specs.List.{All};
 ghost use Rattle.zone_spec.specs.Records.{is_of};
 ghost use Rattle.zone_spec.specs.declared.Kind.TheVariants.{Dump as DumpKind};
-ghost use Rattle.ramoops.specs.Asks.{ask_seen, CanBeAsked};
-ghost use Rattle.script_spec.specs.Generated.{rings as rings_in, draw_each, joined, drawn_dump, drawn_turn, drawn_cut};
+ghost use Rattle.script_spec.specs.Generated.{rings as rings_in, drawn_dump, drawn_turn, drawn_cut};
 ghost use Rattle.ramoops_layout.specs.Laid.{zones_of};
 ghost use Rattle.ram_generator.specs.Damage.{IsWithin};
 ghost use Rattle.ram_generator.specs.Turns.{turn_of, TurnCanBeAsked, cut_of, AreTargets};
@@ -52,20 +51,6 @@ fn rings(alloc: Global, zones: &[Zone]) -> Result<Vec<ZoneName>, AllocError>
     Ok(names)
 }
 
-// Adds a turn's call, where it has one.
-fn push_turn(turns: &mut Vec<Ask>, turn: Option<Ask>) -> Result<(), AllocError>
-    requires before { All CanBeAsked turns.old.items }
-    requires can { TurnCanBeAsked turn }
-    ensures turns { OnOk result (map ask_seen turns.new.items ≡ map ask_seen turns.old.items ++ turn_of turn) }
-    ensures all { OnOk result (All CanBeAsked turns.new.items) }
-{
-    match turn {
-        Some(ask) => turns.push(ask)?,
-        None => {}
-    }
-    Ok(())
-}
-
 impl Targets {
     /// Tells that a layout's zones are few, and lie within 32 bits.
     pub fn check(layout: &Layout)
@@ -88,15 +73,18 @@ impl Targets {
         })
     }
 
-    // A turn of round q: an append to a ring, or a dump where there are dump zones.
-    fn draw_turn(&self, alloc: Global, draws: &mut Draws, q: u64) -> Result<Option<Ask>, AllocError>
+    /// A turn of round q: an append to a ring, or a dump where there are dump zones. A dump has q for its seconds.
+    pub fn draw_turn(
+        &self,
+        alloc: Global,
+        draws: &mut Draws,
+        q: u64,
+    ) -> Result<Option<Ask>, AllocError>
         requires few { length self.now.rings.items < 2 ^ 31 }
         requires round { q < 2 ^ 63 }
         ensures turn { IfOk result (λ turn. (layout : List Zone) → AreTargets layout self.now
-            → turn_of turn ≡ (drawn_turn layout q draws.old).0) }
+            → (turn_of turn, draws.new) ≡ drawn_turn layout q draws.old) }
         ensures can { IfOk result TurnCanBeAsked }
-        ensures number { OnOk result ((layout : List Zone) → AreTargets layout self.now
-            → draws.new ≡ (drawn_turn layout q draws.old).1) }
     {
         let c = draws.draw(self.rings.len() as u32 + 1) as usize;
         let count = 1 + draws.draw(700);
@@ -118,9 +106,8 @@ impl Targets {
     ) -> Result<Option<Ask>, AllocError>
         requires { q < 2 ^ 63 }
         ensures turn { IfOk result (λ turn. (layout : List Zone) → AreTargets layout self.now
-            → turn_of turn ≡ (drawn_dump layout q count draws.old).0) }
+            → (turn_of turn, draws.new) ≡ drawn_dump layout q count draws.old) }
         ensures can { IfOk result TurnCanBeAsked }
-        ensures number { OnOk result ((layout : List Zone) → draws.new ≡ (drawn_dump layout q count draws.old).1) }
     {
         let micros = draws.draw(1_000_000);
         let body = draws.draw_bytes(alloc, count)?;
@@ -130,29 +117,6 @@ impl Targets {
         Ok(Some(Ask::Dump(Time { secs: q, micros }, false, body)))
     }
 
-    /// The calls of the 24 turns of round q. The dumps among them have q for their seconds.
-    pub fn draw_turns(
-        &self,
-        alloc: Global,
-        draws: &mut Draws,
-        q: u64,
-    ) -> Result<Vec<Ask>, AllocError>
-        requires few { length self.now.rings.items < 2 ^ 31 }
-        requires round { q < 2 ^ 63 }
-        ensures turns { IfOk result (λ turns. (layout : List Zone) → AreTargets layout self.now
-            → map ask_seen turns.items
-            ≡ joined (draw_each (λ (i : ℕ). drawn_turn layout q) (range_with_len 0 24) draws.old).0) }
-        ensures can { IfOk result (λ turns. All CanBeAsked turns.items) }
-        ensures number { OnOk result ((layout : List Zone) → AreTargets layout self.now
-            → draws.new ≡ (draw_each (λ (i : ℕ). drawn_turn layout q) (range_with_len 0 24) draws.old).1) }
-    {
-        let mut turns = Vec::new(alloc);
-        'turns: for _ in 0..24_u32 {
-            push_turn(&mut turns, self.draw_turn(alloc, draws, q)?)?;
-        }
-        Ok(turns)
-    }
-
     /// The append that is cut, where there are rings.
     pub fn draw_cut(
         &self,
@@ -160,8 +124,7 @@ impl Targets {
         draws: &mut Draws,
     ) -> Result<Option<CutAppend>, AllocError>
         requires { length self.now.rings.items < 2 ^ 31 }
-        ensures cut { IfOk result (λ cut. cut_of cut ≡ (drawn_cut self.now.rings.items draws.old).0) }
-        ensures number { OnOk result (draws.new ≡ (drawn_cut self.now.rings.items draws.old).1) }
+        ensures { IfOk result (λ cut. (cut_of cut, draws.new) ≡ drawn_cut self.now.rings.items draws.old) }
     {
         if self.rings.is_empty() {
             return Ok(None);

@@ -1,19 +1,20 @@
 -- The session of `make N`: calls, cuts and damage by the numbers that N begins
-use Rattle.std.specs.Prelude.{ℕ, zero, suc, ◌+◌, ◌-◌, ◌*◌, ◌/◌, ◌%◌, ◌^◌, min, Bool, true, false, not, if◌then◌else◌, nat_lt, ◌==◌, is_none, List, [], ◌∷◌, ◌++◌, length, replicate, filter, fold, flat_map, map, zip, slice_get, count_by, codes, decimal, Option, Some, None}
+use Rattle.std.specs.Prelude.{ℕ, ◌+◌, ◌-◌, ◌*◌, ◌/◌, ◌%◌, ◌^◌, min, Bool, true, false, not, if◌then◌else◌, nat_lt, ◌==◌, is_none, List, [], ◌∷◌, ◌++◌, length, replicate, filter, fold, map, slice_get, count_by, codes, decimal, Option, Some, None, Result, Ok, Err}
 use Rattle.std.specs.List.{range_with_len}
 use Rattle.zone_spec.specs.declared.Zone.{Zone}
 use Rattle.zone_spec.specs.declared.ZoneName.{ZoneName}
 use Rattle.zone_spec.specs.declared.Kind.TheVariants.{Dump as DumpKind}
+use Rattle.zone_spec.specs.declared.Refusal.{Refusal}
 use Rattle.zone_spec.specs.declared.Verdict.{Verdict}
 use Rattle.zone_spec.specs.declared.Verdict.TheVariants.{AsTold, Differs}
 use Rattle.zone_spec.specs.Parts.{Part, Header, Block, part_at, part_len}
 use Rattle.zone_spec.specs.Reading.{blocks_below}
 use Rattle.zone_spec.specs.Records.{is_of}
-use Rattle.zone_spec.specs.Calls.{call_stores}
 use Rattle.machine_spec.specs.Zones.{dump_zones}
-use Rattle.machine_spec.specs.States.{OffZone, OffState, Session, Off, Live}
+use Rattle.machine_spec.specs.States.{LiveState, Session, Off, Live}
+use Rattle.machine_spec.specs.ZoneCalls.{stores_left}
 use Rattle.machine_spec.specs.LiveZones.{Target, target}
-use Rattle.machine_spec.specs.LiveCalls.{Ask, Append, Dump, call_of, asked_name}
+use Rattle.machine_spec.specs.LiveCalls.{Ask, Append, Dump, asked_name, begin}
 use Rattle.machine_spec.specs.Off.{fresh}
 use Rattle.machine_spec.specs.Report.{ZoneReport, report}
 use Rattle.machine_spec.specs.Operations.{Operation, Make, Begin, Step, Stop, Flip, Boot, operated, left_by}
@@ -42,25 +43,22 @@ next_number x = (x * 1664525 + 1013904223) % 2 ^ 32
 unfoldable pub draw : ℕ → Drawn ℕ
 draw m x = (next_number x / 256 % m, next_number x)
 
--- so many of them
-unfoldable pub draws : ℕ → ℕ → Drawn (List ℕ)
-draws zero m = drawn []
-draws (suc n) m = do
+-- one step for each of some items, from a state on
+unfoldable pub draw_over : {S A : Type 0} → (S → A → Drawn S) → S → List A → Drawn S
+draw_over step state [] = drawn state
+draw_over step state (x ∷ xs) = do
+  next ← step state x
+  draw_over step next xs
+
+-- one number more
+unfoldable pub drawn_number : ℕ → List ℕ → ℕ → Drawn (List ℕ)
+drawn_number m numbers i = do
   a ← draw m
-  others ← draws n m
-  drawn (a ∷ others)
+  drawn (numbers ++ a ∷ [])
 
--- one of each
-unfoldable pub draw_each : {A B : Type 0} → (A → Drawn B) → List A → Drawn (List B)
-draw_each f [] = drawn []
-draw_each f (x ∷ xs) = do
-  y ← f x
-  ys ← draw_each f xs
-  drawn (y ∷ ys)
-
--- lists end to end
-abbrev pub joined : {A : Type 0} → List (List A) → List A
-joined lists = flat_map (λ list. list) lists
+-- so many numbers below m
+unfoldable pub draws : ℕ → ℕ → Drawn (List ℕ)
+draws n m = draw_over (drawn_number m) [] (range_with_len 0 n)
 
 -- ---- calls
 
@@ -121,30 +119,26 @@ drawn_cut (ring ∷ others) = do
 
 -- ---- damage
 
--- masks on so many places, from this place of the image on
-abbrev pub masked : ℕ → List ℕ → List (ℕ × ℕ)
-masked place masks = zip (range_with_len place (length masks)) (map (λ m. 1 + m) masks)
+-- a flip of this place more, with a mask
+unfoldable pub drawn_flip : List (ℕ × ℕ) → ℕ → Drawn (List (ℕ × ℕ))
+drawn_flip flips place = do
+  m ← draw 255
+  drawn (flips ++ (place, 1 + m) ∷ [])
 
--- flips of at most so many bytes of a part, all in a row
-unfoldable pub drawn_flips : ℕ → Zone → Part → Drawn (List (ℕ × ℕ))
-drawn_flips most z part = do
+-- flips of at most so many bytes of a part more, all in a row
+unfoldable pub drawn_flips : ℕ → Zone → List (ℕ × ℕ) → Part → Drawn (List (ℕ × ℕ))
+drawn_flips most z flips part = do
   f ← draw (min most (part_len z part) + 1)
   p ← draw (part_len z part - f + 1)
-  masks ← draws f 255
-  drawn (masked (z.at + part_at z part + p) masks)
+  draw_over drawn_flip flips (range_with_len (z.at + part_at z part + p) f)
 
 -- a zone's parts: the header, and each block with data
 abbrev pub parts_of : Zone → List Part
 parts_of z = Header ∷ map (λ b. Block b) (blocks_below z z.cap)
 
--- flips of a zone: in each part at most half the parity
-unfoldable pub drawn_damage : Zone → Drawn (List (List (ℕ × ℕ)))
-drawn_damage z = draw_each (drawn_flips (z.parity / 2) z) (parts_of z)
-
--- the zones of a state off that no cut has
-abbrev pub uncut : List Zone → OffState → List Zone
-uncut layout off = map (λ (pair : Zone × OffZone). pair.0)
-    (filter (λ (pair : Zone × OffZone). is_none pair.1.cut) (zip layout off.zones))
+-- flips of a zone more: in each part at most half the parity
+unfoldable pub drawn_damage : List (ℕ × ℕ) → Zone → Drawn (List (ℕ × ℕ))
+drawn_damage flips z = draw_over (drawn_flips (z.parity / 2) z) flips (parts_of z)
 
 -- ---- the session
 
@@ -161,14 +155,20 @@ pub record Generated : Type 0 where
 abbrev pub after : List Zone → Session → Operation → Session
 after layout session operation = left_by session (operated layout session operation)
 
--- the stores that a call would make in its zone as it stands
-abbrev pub stores_in : Option Target → Ask → ℕ
-stores_in None ask = 0
-stores_in (Some t) ask = length (call_stores t.zone (call_of ask) t.live.image)
+-- the stores that are left of the flight in a zone
+abbrev pub left_in : Option Target → ℕ
+left_in None = 0
+left_in (Some t) = stores_left t.live.flight t.zone
 
+-- the stores of a call that was just begun in the zone of this name; a refused call has none
+abbrev pub stores_begun : List Zone → ZoneName → Result LiveState Refusal → ℕ
+stores_begun layout name (Ok live) = left_in (target layout live name)
+stores_begun layout name (Err why) = 0
+
+-- the stores that a call has in this state
 abbrev pub stores_of : List Zone → Session → Ask → ℕ
 stores_of layout (Off off) ask = 0
-stores_of layout (Live live) ask = stores_in (target layout live (asked_name live ask)) ask
+stores_of layout (Live live) ask = stores_begun layout (asked_name live ask) (begin layout live ask)
 
 -- a call and all its stores
 abbrev pub with_call : List Zone → Generated → Ask → Generated
@@ -218,35 +218,39 @@ with_boot layout g = record g {
   differs = g.differs + count_by (λ (r : ZoneReport). is_other r.verdict) (reported layout g.session);
 }
 
--- the zones that no call was cut in
-abbrev pub zones_uncut : List Zone → Session → List Zone
-zones_uncut layout (Off off) = uncut layout off
-zones_uncut layout (Live live) = []
+-- whether no call stands in a zone, so that a stop cuts none
+abbrev pub rests : Option Target → Bool
+rests None = true
+rests (Some t) = is_none t.live.flight
 
--- 24 turns of round q, a call that is cut, and a stop
-unfoldable pub drawn_halt : List Zone → Generated → ℕ → Drawn Generated
-drawn_halt layout g q = do
-  turns ← draw_each (λ i. drawn_turn layout q) (range_with_len 0 24)
+-- the zones where none stands
+abbrev pub resting : List Zone → Session → List Zone
+resting layout (Off off) = []
+resting layout (Live live) = filter (λ (z : Zone). rests (target layout live z.name)) layout
+
+-- a turn of round q, whichever it is
+unfoldable pub turn : List Zone → ℕ → Generated → ℕ → Drawn Generated
+turn layout q g i = do
+  asks ← drawn_turn layout q
+  drawn (fold (with_call layout) g asks)
+
+-- 24 turns of round q, and a call of which only the first stores are made
+unfoldable pub drawn_calls : List Zone → Generated → ℕ → Drawn Generated
+drawn_calls layout g q = do
+  turned ← draw_over (turn layout q) g (range_with_len 0 24)
   cut ← drawn_cut (rings layout)
-  drawn (with_stop layout (fold (with_cut layout) (fold (with_call layout) g (joined turns)) cut))
+  drawn (fold (with_cut layout) turned cut)
 
--- damage of the zones that no call was cut in, and a boot
+-- a stop, damage of the zones that it cuts no call in, and a boot
 unfoldable pub drawn_boot : List Zone → Generated → Drawn Generated
 drawn_boot layout g = do
-  damage ← draw_each drawn_damage (zones_uncut layout g.session)
-  drawn (with_boot layout (fold (with_flip layout) g (joined (joined damage))))
+  flips ← draw_over drawn_damage [] (resting layout g.session)
+  drawn (with_boot layout (fold (with_flip layout) (with_stop layout g) flips))
 
 unfoldable pub round : List Zone → Generated → ℕ → Drawn Generated
 round layout g q = do
-  halted ← drawn_halt layout g q
-  drawn_boot layout halted
-
--- the rounds of these numbers
-unfoldable pub rounds : List Zone → Generated → List ℕ → Drawn Generated
-rounds layout g [] = drawn g
-rounds layout g (q ∷ qs) = do
-  next ← round layout g q
-  rounds layout next qs
+  called ← drawn_calls layout g q
+  drawn_boot layout called
 
 -- the store after the first boot of zeros
 abbrev pub first_boot : List Zone → ℕ → Generated
@@ -261,7 +265,7 @@ first_boot layout mem = record {
 
 -- the session of N: eight rounds
 abbrev pub generated : List Zone → ℕ → ℕ → Generated
-generated layout mem n = (rounds layout (first_boot layout mem) (range_with_len 0 8) n).0
+generated layout mem n = (draw_over (round layout) (first_boot layout mem) (range_with_len 0 8) n).0
 
 -- `make N zones Z calls C stores S flips F as-told A differs D`
 abbrev pub summary : ℕ → List Zone → Generated → Text

@@ -10,7 +10,7 @@ use Rattle.grammar_spec.specs.Lines.{line_of, lines_from, script_of}
 use Rattle.spec_rows.proofs.Computing.{computing_all}
 use Rattle.kmsg_spec.specs.Bodies.{last_lines}
 use Rattle.script_spec.specs.Scripts.{store_line, line_done}
-use Rattle.script_spec.specs.Generated.{draw, draws}
+use Rattle.script_spec.specs.Generated.{draw, draw_over, drawn_number, draws}
 use Rattle.command_spec.specs.Commands.{with_to}
 use Rattle.script_spec.specs.SharedScripts.{with_steps, shared_line}
 use Rattle.shared_spec.specs.Calls.{since_oldest_open}
@@ -31,7 +31,7 @@ unfoldable pub computing_tool : ℕ
 unfolding computing_all decode_pairs number_of first_fault value_text given number_below zone_at ring zone payload
     message some_bytes flag reason name ring_hex time_flag_hex one_zone one_number one_name one_message one_some_bytes
     step_line flip_line kdump_line crash_line store_row begin_row begin_line plain_row row lone_word line_of lines_from
-    script_of last_lines store_line line_done draw draws
+    script_of last_lines store_line line_done draw draw_over drawn_number draws
 computing_tool = 0
 
 -- these too: for the block store

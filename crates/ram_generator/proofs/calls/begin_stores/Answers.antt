@@ -6,8 +6,8 @@ use Rattle.ram_generator.proofs.calls.begin_stores.Goals as goal
 
 pub returns-in-Ok : goal.returns-in-Ok
 returns-in-Ok c = begun_call c.args.live.now c.begin.new.live (ask_seen c.args.ask)
-    c.in-Ok.zone c.left.result c.check.ensures c.requires.ring c.in-Ok.ensures.begun c.left.ensures
+    c.in-Ok.zone c.left.result c.check.ensures c.in-Ok.ensures.begun c.left.ensures
 
 pub returns-in-Err : goal.returns-in-Err
 returns-in-Err c = unbegun_call c.args.live.now c.begin.new.live (ask_seen c.args.ask)
-    c.in-Err.field-0 c.requires.ring c.in-Err.ensures.unchanged c.in-Err.ensures.refused
+    c.in-Err.field-0 c.in-Err.ensures.unchanged c.in-Err.ensures.refused

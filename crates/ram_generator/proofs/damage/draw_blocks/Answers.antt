@@ -1,7 +1,9 @@
--- The flips of one block more join those drawn so far. For `draw_blocks`.
+-- The flips of one block more follow those drawn so far. For `draw_blocks`.
 use Rattle.std.proofs.Common.{◌≡◌, ◌*◌, ◌-◌, ap, arith}
 use Rattle.zone_spec.specs.Parts.{Block, part_len}
-use Rattle.ram_generator.proofs.Damaging.{blocks_start, block_more, blocks_all}
+use Rattle.script_spec.specs.Generated.{drawn_flips}
+use Rattle.ram_generator.proofs.Over.{over_more, over_all}
+use Rattle.ram_generator.proofs.Damaging.{blocks_start, block_next, blocks_end}
 use Rattle.ram_generator.proofs.damage.draw_blocks.Goals as goal
 
 pub parts-init : goal.parts-init
@@ -17,18 +19,12 @@ parts-preserved c =
     let b = c.parts.b in
     let len : c.min-end.result - z.block * b ≡ part_len z (Block b) = ap (λ k. k - z.block * b) c.min-end.ensures in (
       omega (arith, c.parts-test.true),
-      block_more c.args.most z c.parts.draws c.draw_flips.new.draws b c.div_ceil-blocks.result c.args.flips.now.items
-          c.parts.flips.items c.draw_flips.new.flips.items _ c.parts-test.true
-          (c.in_ok-draw_flips.ensures.flips z (Block b) (omega arith) len)
-          (c.in_ok-draw_flips.ensures.number z (Block b) len) c.parts.invariant.1,
+      over_more (drawn_flips c.args.most z) c.parts.flips.items c.draw_flips.new.flips.items (Block b) _ _ c.parts.draws
+          c.draw_flips.new.draws _ (block_next b c.div_ceil-blocks.result c.parts-test.true)
+          (c.in_ok-draw_flips.ensures z (Block b) (omega arith) len) c.parts.invariant.1,
     )
 
-pub returns-clause-flips : goal.returns-clause-flips
-returns-clause-flips c = (blocks_all c.args.most c.args.zone.now c.parts.draws c.parts.b c.div_ceil-blocks.result
-    c.args.flips.now.items c.parts.flips.items _ (omega (arith, c.parts-test.false, c.parts.invariant.0))
-    c.parts.invariant.1).0
-
-pub returns-clause-number : goal.returns-clause-number
-returns-clause-number c = (blocks_all c.args.most c.args.zone.now c.parts.draws c.parts.b c.div_ceil-blocks.result
-    c.args.flips.now.items c.parts.flips.items _ (omega (arith, c.parts-test.false, c.parts.invariant.0))
-    c.parts.invariant.1).1
+pub returns : goal.returns
+returns c = over_all (drawn_flips c.args.most c.args.zone.now) c.parts.flips.items _ c.parts.draws _
+    (blocks_end c.parts.b c.div_ceil-blocks.result (omega (arith, c.parts-test.false, c.parts.invariant.0)))
+    c.parts.invariant.1

@@ -8,7 +8,7 @@ use Rattle.machine_spec.specs.Off.{fresh}
 use Rattle.ramoops.specs.OffSeen.{StandsOff}
 use Rattle.ramoops_layout.specs.Laid.{params_of, zones_of}
 use Rattle.script_spec.specs.Generated.{generated}
-use Rattle.ram_generator.specs.Sessions.{RunsIdle}
+use Rattle.ram_generator.specs.Sessions.{Runs}
 use Rattle.ram_generator.proofs.WholeSession.{all_runs, image_left, text_left}
 use Rattle.ram_generator.proofs.generating.generate.Goals as goal
 
@@ -22,7 +22,7 @@ mem c = (params_of c.args.layout).mem
 lies : (c : goal.After-drop-plan-3) → IsLayout (zones c) (mem c)
 lies c = rw c.zones.ensures.value at c.zones.ensures.laid_out
 
-runs : (c : goal.After-drop-plan-3) → RunsIdle (zones c) (mem c) c.in_ok-live-2.live c.rounds.new.counts
+runs : (c : goal.After-drop-plan-3) → Runs (zones c) (mem c) c.in_ok-live-2.live c.rounds.new.counts
     (generated (zones c) (mem c) c.args.n)
 runs c =
     let image : c.in_ok-image.image ≡ replicate (mem c) 0 =
@@ -34,7 +34,7 @@ runs c =
     (length-replicate (mem c) 0) in
     let ran = rw (c.in_ok-plan.ensures.zones, c.zones.ensures.value, c.none-counts.ensures, c.new-draws.ensures)
     at c.in_ok-live-2.ensures in
-    all_runs (zones c) (mem c) c.args.n c.in_ok-live.live c.in_ok-live-2.live c.rounds.new.counts _ (lies c) up ran
+    all_runs (zones c) (mem c) c.args.n c.rounds.new.draws c.in_ok-live.live c.in_ok-live-2.live c.rounds.new.counts _ (lies c) up ran
 
 pub returns-clause-image : goal.returns-clause-image
 returns-clause-image c = image_left (zones c) (mem c) c.in_ok-live-2.live c.into_image.result c.rounds.new.counts

@@ -1,10 +1,10 @@
--- The masks so far, and those that are left, are the draws. For the loop of `draw_masks`.
-use Rattle.std.proofs.Common.{◌≤◌, ◌-◌}
-use Rattle.script_spec.specs.Generated.{draws}
-use Rattle.ram_generator.proofs.Drawing.{IsMasked}
+-- The flips so far, and then those that are left, are the draws. For the loop of `draw_masks`.
+use Rattle.std.proofs.Common.{◌≡◌, ◌≤◌, ◌+◌, ◌-◌}
+use Rattle.std.specs.List.{range_with_len}
+use Rattle.script_spec.specs.Generated.{draw_over, drawn_flip}
 use Rattle.ram_generator.proofs.draws.Draws.draw_masks.Given as goal
 
--- the flips so far, and then those that are left
 abbrev pub invariant-masks : goal.invariant-masks
-invariant-masks l = (l.i ≤ l.count) × IsMasked l.initial.flips.items l.flips.items l.place l.i
-    (draws (l.count - l.i) 255 l.self) (draws l.count 255 l.initial.self)
+invariant-masks l = (l.i ≤ l.count) × (draw_over drawn_flip l.flips.items
+    (range_with_len (l.place + l.i) (l.count - l.i)) l.self
+    ≡ draw_over drawn_flip l.initial.flips.items (range_with_len l.place l.count) l.initial.self)
