@@ -10,3 +10,4 @@ pub mod Joined
 pub mod Blocks
 pub mod Drawn
 pub mod Places
+pub mod LogLines

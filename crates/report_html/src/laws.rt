@@ -1,15 +1,22 @@
-// What escaped bytes are, what the runs of a picture are, and a worked picture.
-ghost use Rattle.std.specs.Prelude.{◌≡◌, ℕ, List, [], ◌∷◌, length};
+// What escaped bytes are, what the lines of a log and the runs of a picture are, and a worked picture.
+ghost use Rattle.std.specs.Prelude.{◌≡◌, ℕ, List, [], ◌∷◌, length, flat_map};
 ghost use Rattle.zone_spec.specs.Parts.{AreBytes};
 ghost use Rattle.report_spec.specs.Escaped.{IsText, escaped};
 ghost use Rattle.report_spec.specs.declared.PartState.{PartState};
 ghost use Rattle.report_spec.specs.declared.PartState.TheVariants.{Read, Bad};
+ghost use Rattle.death_spec.specs.Lines.{lines_from};
+ghost use Rattle.report_html.specs.Logs.{line_bytes};
 ghost use Rattle.report_html.specs.Pictures.{runs};
 ghost use Rattle.report_html.specs.Covers.{Cover, states_of};
 
 /// Escaped bytes are text: no markup of a page comes from them, whatever they are, and each of them is visible.
 pub fn escaped_is_text()
     ensures { (bytes : List ℕ) → AreBytes bytes → IsText (escaped bytes) }
+{}
+
+/// The lines of a log, each with its newline, are the log: a page leaves out none of its bytes.
+pub fn a_log_is_its_lines()
+    ensures { (text : List ℕ) → flat_map (line_bytes text) (lines_from text 0) ≡ text }
 {}
 
 /// The runs of the blocks cover them, from the first to the last, in order. None is empty, neighbours read differently,

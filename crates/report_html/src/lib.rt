@@ -18,6 +18,6 @@ mod region;
 mod style;
 
 pub use escaping::push_escaped;
-pub use laws::{escaped_is_text, six_blocks_make_four_runs};
+pub use laws::{a_log_is_its_lines, escaped_is_text, six_blocks_make_four_runs};
 pub use page::html;
 pub use pieces::{Piece, render};

@@ -1,7 +1,7 @@
 // The style sheet.
 
-/// The style of a page in both themes, from 360 pixels to print. It names no color by its state alone: a word or a
-/// shape says it too.
+/// The style of a page in both themes, from 360 pixels to print. Beside each colour stands a word or a shape that says
+/// the same.
 pub const STYLE: &str =
     ":root{color-scheme:light dark;--bg:#fff;--fg:#1b1f24;--dim:#555c65;--line:#c6ccd3;--code:#f4f6f8;\n\
 --mark:#ffeeb0;--link:#0a55c4;--ok:#1979af;--okf:#4094c6;--fix:#8f4c00;--bad:#560012;--off:#7d858f;\n\

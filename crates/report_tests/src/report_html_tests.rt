@@ -180,8 +180,7 @@ fn why_it_died_by_the_console(rt: HostRuntime) -> Result<(), Fail> {
 </mark>[    3.036072] Kernel Offset: disabled
 </pre>\n";
     assert!(rt; shows(rt, [NONE, NONE, NONE, CONSOLE], lines)?);
-    let both =
-        "<pre class=\"why\">Oops: a\nKernel panic - not syncing: Fatal exception</pre>\n";
+    let both = "<pre class=\"why\">Oops: a\nKernel panic - not syncing: Fatal exception</pre>\n";
     assert!(rt; shows(rt, [NONE, NONE, NONE, FATAL], both)?);
     let marked = "<pre class=\"log\">
 <mark>[    3.0] Oops: a\n</mark><mark>[    3.1] Kernel panic - not syncing: Fatal exception\n</mark></pre>\n";
@@ -234,10 +233,7 @@ fn times(rt: HostRuntime) -> Result<(), Fail> {
             &b"====8639999999.999999-D\n"[..],
             "<span>2243-10-16 23:59:59.999999 UTC</span>",
         ),
-        (
-            b"====8640000000.5-D\n",
-            "<span>8640000000.000005 s</span>",
-        ),
+        (b"====8640000000.5-D\n", "<span>8640000000.000005 s</span>"),
         (
             b"====951782400.1000000-D\n",
             "<span>2000-02-29 00:00:00.1000000 UTC</span>",

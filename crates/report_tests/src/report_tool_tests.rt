@@ -61,7 +61,7 @@ fn each_format(rt: HostRuntime) -> Result<(), Fail> {
         (
             Format::Html,
             "<!doctype html>\n<html lang=\"en\">\n",
-            "<pre>\na&lt;\n</pre>",
+            "<pre class=\"log\" id=\"console-ramoops-0\">\na&lt;\n</pre>",
         ),
     ] {
         let Ok(shown) = reported(rt.alloc(), format, 4096)? else {
