@@ -1,2 +1,4 @@
--- The end of a call by its report. The calls of C and of the page cite it.
+-- What a report by a plan says of the image, and the end of a call by its report. `report_of`, and the calls of C and of
+-- the page cite them.
+mod Refused
 pub mod Calls
