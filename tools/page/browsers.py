@@ -10,7 +10,7 @@ import subprocess
 import tempfile
 import time
 
-LONGEST = 180  # seconds that a step may take
+LONGEST = 60  # seconds that a step may take
 
 
 def until(what, is_done, seconds=LONGEST):
@@ -128,10 +128,12 @@ class Chromium(Browser):
         self.wait("document.readyState === 'complete'")
 
     def place(self, selector):
-        """The middle of an element, scrolled into sight."""
-        return self.js(f"(() => {{ const it = document.querySelector({json.dumps(selector)}); "
-                       "it.scrollIntoView({ block: 'center' }); const box = it.getBoundingClientRect(); "
-                       "return [box.x + box.width / 2, box.y + box.height / 2]; })()")
+        """The middle of an element, scrolled into sight. A moment passes until events go by what is then on screen."""
+        element = f"document.querySelector({json.dumps(selector)})"
+        self.js(f"{element}.scrollIntoView({{ block: 'center' }})")
+        time.sleep(0.3)
+        middle = "({ x, y, width, height }) => [x + width / 2, y + height / 2]"
+        return self.js(f"({middle})({element}.getBoundingClientRect())")
 
     def click(self, selector):
         x, y = self.place(selector)
