@@ -25,7 +25,7 @@ import time
 from collections import Counter
 
 import oopsbox_fleet
-from images import WORDS, read_file
+from images import IN_A_FILE, WORDS, read_file
 
 WAIT = 120
 
@@ -128,7 +128,7 @@ def paths(one, rows):
     wanted = lines_of(one)[:len(seen)]
     for row in seen + wanted:
         del row["path"]
-    if len(seen) != 1000 or seen != wanted or not missing["fault"]:
+    if len(seen) != IN_A_FILE or seen != wanted or not missing["fault"]:
         sys.exit("drive: the rows of paths differ")
     print("paths: %d rows as before, and a missing file is a row: %s" % (len(seen), missing["fault"].split(":")[0]))
 
