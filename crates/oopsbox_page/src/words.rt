@@ -14,12 +14,10 @@ pub enum NoWords {
     Memory,
 }
 
-fn add_each(words: &mut Vec<String>, more: Vec<String>) -> Result<(), AllocError>
-    ensures { OnOk result (words.new.items ≡ words.old.items ++ more.items) }
+fn add_each(words: &mut Vec<String>, mut more: Vec<String>) -> Result<(), AllocError>
+    ensures { OnOk result (texts words.new.items ≡ texts words.old.items ++ texts more.items) }
 {
-    for word in more {
-        words.push(word)?;
-    }
+    words.append(&mut more)?;
     Ok(())
 }
 

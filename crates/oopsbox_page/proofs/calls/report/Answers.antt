@@ -10,6 +10,7 @@ returns c =
     let r = c.in-Ok.ensures in
     call_ends (IsUtf8 c.args.words.now) (IsReadable c.args.line.now c.args.words.now)
     (IsUnreadable c.args.line.now c.args.words.now) c.report_in.result
-    (words_of c.args.line.now c.args.words.now) c.in-Ok.words.items c.in-Some.asked
+    (words_of c.args.line.now c.args.words.now) c.deref.result.now c.in-Some.asked
     (given c.args.name.now c.args.format c.args.tree.now c.args.image.now) c.args.text.now c.report_in.new.text
-    c.args.answer.now c.report_in.new.answer r.0.is_text r.0 c.in-Some.ensures r.1 c.report_in.ensures
+    c.args.answer.now c.report_in.new.answer r.0.is_text r.0 c.in-Some.ensures (rw c.deref.ensures.value r.1)
+    c.report_in.ensures
