@@ -29,6 +29,7 @@ class Browser:
         self.folder = pathlib.Path(tempfile.mkdtemp(prefix="page-browser-"))
         self.saved = self.folder / "saved"
         self.saved.mkdir()
+        self.opened = set()
 
     def wait(self, expression):
         until(expression, lambda: self.js(expression))
@@ -124,6 +125,7 @@ class Chromium(Browser):
         return answer["result"].get("value")
 
     def go(self, path):
+        self.opened.add(pathlib.Path(path).as_uri())
         self.call("Page.navigate", url=pathlib.Path(path).as_uri())
         self.wait("document.readyState === 'complete'")
 
@@ -259,6 +261,7 @@ class Firefox(Browser):
         return self.chrome("return window.pageRequests;")
 
     def go(self, path):
+        self.opened.add(pathlib.Path(path).as_uri())
         self.call("WebDriver:Navigate", url=pathlib.Path(path).as_uri())
 
     def element(self, selector):
