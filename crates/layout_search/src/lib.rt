@@ -19,4 +19,5 @@ mod walking;
 
 pub use laying::params;
 pub use layout_spec::{Candidate, Known, Tally};
+pub use marks::is_mark;
 pub use searching::{Found, search};

@@ -1,0 +1,4 @@
+mod ReadWithin
+pub mod Marked
+pub mod NextPiece
+mod FromFront

@@ -1,0 +1,29 @@
+-- A part of what holds bytes
+use Rattle.std.specs.Prelude.{◌≡◌, ℕ, zero, suc, ◌+◌, ◌<◌, List, [], ◌∷◌, length, take, drop, Option, Some, None, IfSome}
+use Rattle.std.proofs.Common.{lit<}
+use Rattle.std.specs.Option.{option_map}
+use Rattle.outside.specs.Bytes.{AreBytes, AreBytes-drop}
+use Rattle.memory_regions.specs.declared.part.NoPart.{NoPart}
+use Rattle.memory_regions.specs.declared.part.NoPart.TheVariants.{Fault, Outside}
+
+-- the bytes of the part, where the whole tells its bytes
+abbrev pub part_of : ℕ → ℕ → Option (List ℕ) → Option (List ℕ)
+part_of at size holds = option_map (λ bs. take size (drop at bs)) holds
+
+-- why there is no part: the whole ends before it does
+abbrev pub IsNoPart : Option (List ℕ) → ℕ → ℕ → NoPart → Type 0
+IsNoPart holds at size Fault = Unit {0}
+IsNoPart holds at size (Outside has) = (has < at + size) × IfSome holds (λ bs. has ≡ length bs)
+
+-- a front of bytes is of bytes
+AreBytes-take : (n : ℕ) (xs : List ℕ) → AreBytes xs → AreBytes (take n xs)
+AreBytes-take zero xs of_bytes i = lit< tt
+AreBytes-take (suc n) [] of_bytes i = lit< tt
+AreBytes-take (suc n) (x ∷ xs) of_bytes zero = of_bytes 0
+AreBytes-take (suc n) (x ∷ xs) of_bytes (suc i) = AreBytes-take n xs (λ k. of_bytes (suc k)) i
+
+-- a part of bytes is of bytes
+pub part_bytes : (at size : ℕ) (holds : Option (List ℕ)) → IfSome holds AreBytes
+    → IfSome (part_of at size holds) AreBytes
+part_bytes at size None of_bytes = tt
+part_bytes at size (Some bs) of_bytes = AreBytes-take size (drop at bs) (AreBytes-drop at bs of_bytes)

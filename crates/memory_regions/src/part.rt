@@ -1,0 +1,73 @@
+// A part of what can be read, as the whole of it.
+ghost use Rattle.std.specs.Prelude.{◌≡◌, ◌+◌, ◌≤◌, ◌<◌, ◌^◌, length, take, drop, IfOk, IfErr};
+ghost use Rattle.std.specs.Option.{ForSome};
+ghost use Rattle.memory_regions.specs.Parts.{part_of, part_bytes, IsNoPart};
+
+use outside::{Failed, Load};
+
+/// Why there is no such part.
+#[derive(Clone, Copy, Debug, PartialEq, Eq)]
+pub enum NoPart {
+    /// The size could not be told.
+    Fault,
+    /// There are only so many bytes, and the part passes their end.
+    Outside(u64),
+}
+
+/// So many bytes of `inner` from a place on: an image within a larger file. It is read alone, and never written.
+#[derive(Drop)]
+pub struct Part<M: Load> {
+    inner: M,
+    at: u64,
+    size: u64,
+    faults: u64,
+    ghost inside: { ForSome (M.holds inner) (λ bs. at + size ≤ length bs) },
+    ghost small: { at + size < 2 ^ 64 },
+}
+
+impl<M: Load + Drop> Part<M> {
+    /// The part of `size` bytes from `at` on. It is refused where `inner` ends before.
+    pub fn new(mut inner: M, at: u64, size: u64) -> Result<Part<M>, NoPart>
+        ensures part { IfOk result (λ p. (p.at ≡ at) × (p.size ≡ size)) }
+        ensures holds { IfOk result (λ p. M.holds p.inner ≡ M.holds inner) }
+        ensures refused { IfErr result (IsNoPart (M.holds inner) at size) }
+    {
+        let Ok(has) = inner.size() else {
+            return Err(NoPart::Fault);
+        };
+        if at > has || size > has - at {
+            return Err(NoPart::Outside(has));
+        }
+        Ok(Part {
+            inner,
+            at,
+            size,
+            faults: 0,
+        })
+    }
+}
+
+impl<M: Load> Load for Part<M> {
+    ghost holds = { λ s. part_of s.at s.size (M.holds s.inner) };
+
+    ghost faults = { λ s. M.faults s.inner + s.faults };
+
+    ghost writes = { λ s. M.writes s.inner };
+
+    ghost read_faults = { λ s. M.read_faults s.inner + s.faults };
+
+    ghost held_bytes = { λ s. part_bytes s.at s.size (M.holds s.inner) (M.held_bytes s.inner) };
+
+    fn size(&mut self) -> Result<u64, Failed> {
+        Ok(self.size)
+    }
+
+    fn read_at(&mut self, at: u64, into: &mut [u8]) -> Result<(), Failed> {
+        let count = into.len() as u64;
+        if at > self.size || count > self.size - at {
+            self.faults = self.faults.saturating_add(1);
+            return Err(Failed);
+        }
+        self.inner.read_at(self.at + at, into)
+    }
+}

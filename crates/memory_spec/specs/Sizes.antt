@@ -1,0 +1,35 @@
+-- The sizes of which a region is tried, and which of two comes first
+use Rattle.std.specs.Prelude.{ℕ, ◌/◌, ◌==◌, Bool, ◌&&◌, ◌||◌, nat_le, nat_lt, List, [], ◌∷◌, length, Option, Some, None}
+use Rattle.std.specs.List.{filter, list_any}
+use Rattle.layout_spec.specs.declared.Known.{Known}
+use Rattle.layout_spec.specs.declared.Tally.{Tally}
+use Rattle.memory_spec.specs.Pages.{marked}
+
+-- the powers of two from a page to 16 MiB
+unfoldable pub powers : List ℕ
+powers =
+    4096 ∷ 8192 ∷ 16384 ∷ 32768 ∷ 65536 ∷ 131072 ∷ 262144 ∷ 524288 ∷ 1048576 ∷ 2097152 ∷ 4194304 ∷ 8388608 ∷ 16777216
+    ∷ []
+
+-- a page in the second half of so many bytes
+abbrev pub is_in_half : ℕ → ℕ → Bool
+is_in_half size page = nat_le (size / 8192) page && nat_lt page (size / 4096)
+
+-- a header seems to stand in the second half: without one, half of the size shows as many zones
+abbrev pub is_reached : List ℕ → ℕ → Bool
+is_reached pages size = (size == 4096) || list_any (is_in_half size) pages
+
+-- the sizes that are tried, rising: the one that is known, or those that are reached; none has more bytes than there are
+abbrev pub sizes_of : Option ℕ → ℕ → List ℕ → List ℕ
+sizes_of (Some size) len pages = filter (λ n. nat_le n len) (size ∷ [])
+sizes_of None len pages = filter (λ n. nat_le n len && is_reached pages n) powers
+
+abbrev pub sizes : Known → List ℕ → List ℕ
+sizes known bytes = sizes_of known.mem (length bytes) (marked bytes)
+
+-- of two layouts that are taken the first has fewer faults; of as many, fewer logs that are not as their kind writes
+-- them, as two regions in a row have where they are read as one; of as many, more zones that fit
+abbrev pub comes_first : Tally → Tally → Bool
+comes_first t u =
+    nat_lt t.faults u.faults
+    || ((t.faults == u.faults) && (nat_lt t.odd u.odd || ((t.odd == u.odd) && nat_lt u.fits t.fits)))

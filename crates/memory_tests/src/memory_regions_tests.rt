@@ -1,0 +1,107 @@
+// Regions of two and four fresh zones in memories of zeros.
+use layout_search::Known;
+use memory_regions::{NoPart, Part, Unread, Watch, best, larger, marked_pages, readings, window};
+use outside::{Bytes, Calls, Load, MemStore};
+use std::alloc::{AllocError, Global};
+use std::test::Fail;
+
+// The 16 parity bytes of a header with nothing in its ring, as Linux wrote them.
+const FRESH_PARITY: [u8; 16] = [
+    170, 37, 213, 33, 50, 226, 53, 58, 56, 85, 25, 192, 43, 203, 173, 95,
+];
+
+const PAGE: usize = 4096;
+
+#[derive(Drop)]
+struct Nobody;
+
+impl Watch for Nobody {
+    fn reached(&mut self, _: u64, _: u64) {}
+}
+
+fn add_zeros(memory: &mut Vec<u8>, count: usize) -> Result<(), AllocError> {
+    for _ in 0..count {
+        memory.push(0)?;
+    }
+    Ok(())
+}
+
+// A page of zeros, so many zones of a page each, and a page of zeros.
+fn memory(alloc: Global, zones: usize) -> Result<Vec<u8>, AllocError> {
+    let mut memory = Vec::new(alloc);
+    add_zeros(&mut memory, PAGE)?;
+    for _ in 0..zones {
+        memory.extend_from_slice(b"DBGC")?;
+        add_zeros(&mut memory, PAGE - 20)?;
+        memory.extend_from_slice(&FRESH_PARITY)?;
+    }
+    add_zeros(&mut memory, PAGE)?;
+    Ok(memory)
+}
+
+fn store(alloc: Global, bytes: Vec<u8>, fails: &[u32]) -> Result<MemStore, AllocError> {
+    let bytes = Bytes::from_vec(bytes);
+    match u32::try_from(bytes.len()) {
+        Ok(len) => MemStore::new(bytes, len, Calls::new(alloc, fails)?),
+        Err(_) => Err(AllocError),
+    }
+}
+
+// The pages of the four zones, told by one question for the size and one read.
+#[test]
+fn pages_of_zones(rt: HostRuntime) -> Result<(), Fail> {
+    let mut store = store(rt.alloc(), memory(rt.alloc(), 4)?, &[3])?;
+    match marked_pages(rt.alloc(), &mut store, &mut Nobody) {
+        Ok(pages) => assert_eq!(rt; pages.as_slice(), [1, 2, 3, 4].as_slice()),
+        Err(_) => return Err("unread".into()),
+    }
+    Ok(())
+}
+
+// A read that fails is told.
+#[test]
+fn a_fault_is_told(rt: HostRuntime) -> Result<(), Fail> {
+    let mut store = store(rt.alloc(), memory(rt.alloc(), 4)?, &[2])?;
+    let unread = marked_pages(rt.alloc(), &mut store, &mut Nobody).err();
+    assert_eq!(rt; unread, Some(Unread::Fault));
+    Ok(())
+}
+
+// Two zones explain more than one, and no larger size is tried.
+#[test]
+fn a_region_of_two_zones(rt: HostRuntime) -> Result<(), Fail> {
+    let mut store = store(rt.alloc(), memory(rt.alloc(), 2)?, &[])?;
+    let Ok(bytes) = window(rt.alloc(), &mut store, PAGE as u64, 1 << 24) else {
+        return Err("unread".into());
+    };
+    let known = Known {
+        dump: Some(0),
+        ftrace: Some(0),
+        parity: Some(16),
+        ..Known::default()
+    };
+    let readings = readings(rt.alloc(), &known, &bytes)?;
+    let first = best(&readings).ok_or("none")?;
+    assert_eq!(rt; (readings.len(), first.size), (2, 8192));
+    assert!(rt; larger(&readings, &first).is_none());
+    Ok(())
+}
+
+// A part is read as a file of its own, and is refused where the memory ends before it.
+#[test]
+fn a_part_is_a_file(rt: HostRuntime) -> Result<(), Fail> {
+    let inner = store(rt.alloc(), memory(rt.alloc(), 1)?, &[])?;
+    let Ok(mut part) = Part::new(inner, 4096, 8192) else {
+        return Err("no part".into());
+    };
+    assert_eq!(rt; part.size(), Ok(8192));
+    let mut front = [1u8; 5];
+    assert!(rt; part.read_at(0, &mut front).is_ok());
+    assert_eq!(rt; front.as_slice(), b"DBGC\0".as_slice());
+    let inner = store(rt.alloc(), memory(rt.alloc(), 1)?, &[])?;
+    match Part::new(inner, 4097, 8192) {
+        Err(NoPart::Outside(has)) => assert_eq!(rt; has, 12288),
+        _ => return Err("a part past the end".into()),
+    }
+    Ok(())
+}
