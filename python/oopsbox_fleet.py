@@ -24,7 +24,7 @@ import os
 import sys
 from collections import Counter, namedtuple
 
-import oopsbox
+from oopsbox import report
 
 __all__ = ["Death", "Row", "deaths", "row", "rows"]
 
@@ -51,13 +51,13 @@ def _functions(death):
     return ([place.partition("+")[0]] if place else []) + (death["trace"] or [])
 
 
-def _told(path, report):
-    bad = sum(zone["bad"] > 0 for zone in report["zones"])
-    corrected = sum(zone["corrected"] for zone in report["zones"])
-    death = report["death"]
+def _told(path, line):
+    bad = sum(zone["bad"] > 0 for zone in line["zones"])
+    corrected = sum(zone["corrected"] for zone in line["zones"])
+    death = line["death"]
     if death is None:
         return Row(path, None, None, None, [], bad, corrected, None)
-    record = next(record for record in report["records"] if record["name"] == death["record"])
+    record = next(record for record in line["records"] if record["name"] == death["record"])
     time = record["time"] and record["time"]["seconds"] + record["time"]["microseconds"] / 1e6
     return Row(path, death["line"], _reason(record["text"]), time, _functions(death), bad, corrected, None)
 
@@ -75,7 +75,7 @@ def row(image, words=""):
         if content is None:
             with open(path, "rb") as file:
                 content = file.read(_MOST)
-        return _told(path, json.loads(oopsbox.report(content, words).text))
+        return _told(path, json.loads(report(content, words).text))
     except Exception as fault:  # whatever one image has, the others go on
         return Row(path, None, None, None, [], None, None, "%s: %s" % (type(fault).__name__, fault))
 

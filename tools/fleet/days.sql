@@ -1,5 +1,7 @@
-select toString(toDate(toDateTime(assumeNotNull(time), 'UTC'), 'UTC')) as day, toUInt32(count()) as count, died
+select
+    if(time < 86400, '1970-01-01', toString(toDate(toDateTime(assumeNotNull(time), 'UTC'), 'UTC'))) as day,
+    toUInt32(count()) as count, died
 from rows
-where died is not null and time < 4000000000
+where died is not null and time between 0 and 4000000000
 group by day, died
 order by day, count desc, died

@@ -103,13 +103,14 @@ def lines_of(path):
 
 def days(rows, answer):
     """Whether a database counted as we do. Prints the first lines of its answer."""
-    told = [row for row in lines_of(rows) if row["died"] is not None and (row["time"] or 4e9) < 4e9]
-    counts = Counter((day_of(row), row["died"]) for row in told)
+    told = [row for row in lines_of(rows) if row["died"] is not None and row["time"] is not None]
+    counts = Counter((day_of(row), row["died"]) for row in told if 0 <= row["time"] <= 4e9)
     answered = lines_of(answer)
     for line in answered[:8]:
         print("%s\t%d\t%s" % (line["day"], line["count"], line["died"]))
     if counts != {(line["day"], line["died"]): line["count"] for line in answered}:
-        sys.exit("drive: the database counts otherwise")
+        answers = {(line["day"], line["died"]): line["count"] for line in answered}
+        sys.exit("drive: the database counts otherwise: %s" % sorted(counts.items() ^ answers.items())[:4])
 
 
 def files(folder, to):
