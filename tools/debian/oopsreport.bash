@@ -10,14 +10,14 @@ _oopsreport()
             compopt -o nospace ;;
         --color) mapfile -t COMPREPLY < <(compgen -W "auto always never" -- "$word") ;;
         --format) mapfile -t COMPREPLY < <(compgen -W "text json html" -- "$word") ;;
-        --cmdline | --kernel | --node | --lines) COMPREPLY=() ;;
+        --cmdline | --kernel | --node | --lines | --at | --memory-at) COMPREPLY=() ;;
         --save)
             mapfile -t COMPREPLY < <(compgen -d -- "$word")
             compopt -o filenames ;;
         *)
             if [[ $word == -* ]]; then
-                mapfile -t COMPREPLY < <(compgen -W "--param --cmdline --cmdline-file --kernel --dtb --node --mem-as-given --symbols --lines --color --format
-                    --save --help --version" -- "$word")
+                mapfile -t COMPREPLY < <(compgen -W "--param --cmdline --cmdline-file --kernel --dtb --node --mem-as-given --memory --at --memory-at
+                    --symbols --lines --color --format --save --help --version" -- "$word")
             else
                 mapfile -t COMPREPLY < <(compgen -f -- "$word")
                 compopt -o filenames

@@ -48,6 +48,27 @@ fn with_layout<'a>(alloc: Global, command: Command<'a>) -> Result<Command<'a>, A
         .arg(as_given)
 }
 
+// Whether the images are whole memories, and where a region lies in them.
+fn with_memory<'a>(alloc: Global, command: Command<'a>) -> Result<Command<'a>, AllocError> {
+    let memory = Arg::new(alloc, "memory")
+        .long("memory")
+        .action(ArgAction::SetTrue)
+        .help(
+            "Each image is a copy of all memory, of any size, and the regions in it are looked for",
+        );
+    let at = Arg::new(alloc, "at")
+        .long("at")
+        .value_name("PLACE")
+        .requires_arg("memory")?
+        .help("The region begins at this place of the memory");
+    let from = Arg::new(alloc, "memory-at")
+        .long("memory-at")
+        .value_name("ADDRESS")
+        .requires_arg("memory")?
+        .help("The physical address of the memory's first byte: places are then addresses");
+    command.arg(memory)?.arg(at)?.arg(from)
+}
+
 // What is done with the images, and the images.
 fn with_work<'a>(alloc: Global, command: Command<'a>) -> Result<Command<'a>, AllocError> {
     let format = Arg::new(alloc, "format")
@@ -97,5 +118,5 @@ pub fn command<'a>(alloc: Global) -> Result<Command<'a>, AllocError> {
         .after_help(
             "Status: 0 done, 1 an image was not reported or a record not saved, 2 wrong words.",
         );
-    with_work(alloc, with_layout(alloc, command)?)
+    with_work(alloc, with_memory(alloc, with_layout(alloc, command)?)?)
 }

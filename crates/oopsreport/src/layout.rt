@@ -211,17 +211,17 @@ fn words_plan(alloc: Global, words: &[String], is_as_given: bool) -> Result<Plan
     }
 }
 
-// What the words say of a layout that is looked for.
-fn sought_by(words: &[String], is_as_given: bool) -> Result<Layouts, NoPlan> {
+// What the words say of a layout that is looked for: `lack` is what they lack.
+fn sought_by(words: &[String], is_as_given: bool, lack: &str) -> Result<Known, NoPlan> {
     if is_as_given {
-        return Err(NoPlan::Words(anyhow!("--mem-as-given needs mem_size")));
+        return Err(NoPlan::Words(anyhow!("--mem-as-given needs {lack}")));
     }
     match sought(words) {
-        Ok(known) => Ok(Layouts::Sought(known)),
+        Ok(known) => Ok(known),
         Err(NoLayouts::Word(fault)) => Err(NoPlan::Words(told(words, fault))),
         Err(NoLayouts::Unsought(number)) => {
             let key = UNSOUGHT.get(usize::from(number)).unwrap_or(&"it");
-            Err(NoPlan::Words(anyhow!("{key} needs mem_size: a layout with it is not looked for")))
+            Err(NoPlan::Words(anyhow!("{key} needs {lack}: a layout with it is not looked for")))
         }
         Err(_) => Err(NoPlan::Memory),
     }
@@ -236,11 +236,22 @@ pub enum Layouts {
     Sought(Known),
 }
 
+/// A whole memory: the address of its first byte, or 0, and the place of the region in it, if one is named.
+#[derive(Clone, Copy)]
+pub struct Memory {
+    pub base: u64,
+    pub place: Option<u64>,
+    /// The region's size, if a command line reserves it by name.
+    pub reserved: Option<u64>,
+}
+
 /// How the images are read.
 #[derive(Drop)]
 pub struct Asked {
     pub layouts: Layouts,
     pub is_coloured: bool,
+    /// If the images are whole memories.
+    pub memory: Option<Memory>,
     lines: usize,
     map: Option<Vec<u8>>,
 }
@@ -276,6 +287,158 @@ fn is_coloured<R: Runtime>(rt: &R, matches: &ArgMatches<'_>, is_terminal: bool) 
     }
 }
 
+// A number, decimal or behind `0x`.
+fn number_of(text: &str) -> Option<u64> {
+    let number = match text.strip_prefix("0x") {
+        Some(digits) => u64::from_str_radix(digits, 16),
+        None => text.parse::<u64>(),
+    };
+    number.ok()
+}
+
+fn number(matches: &ArgMatches<'_>, option: &str) -> Result<Option<u64>, NoPlan> {
+    let Some(text) = matches.get_str(option) else {
+        return Ok(None);
+    };
+    match number_of(text) {
+        Some(number) => Ok(Some(number)),
+        None => Err(NoPlan::Words(anyhow!("--{option} {text} is no number"))),
+    }
+}
+
+// The last value behind this front of a word of a kernel's command line.
+fn last_value<'a>(line: &'a [u8], front: &[u8]) -> Option<&'a [u8]> {
+    let mut last = None;
+    for word in line.split(|b| b.is_ascii_whitespace()) {
+        if let Some(value) = word.strip_prefix(front) {
+            last = Some(value);
+        }
+    }
+    last
+}
+
+// A size with or without its unit, as the kernel reads it (`lib/cmdline.c`, memparse).
+fn size_of(text: &[u8]) -> Option<u64> {
+    let (digits, unit) = match text.split_last() {
+        Some((b'K' | b'k', digits)) => (digits, 1 << 10),
+        Some((b'M' | b'm', digits)) => (digits, 1 << 20),
+        Some((b'G' | b'g', digits)) => (digits, 1 << 30),
+        _ => (text, 1),
+    };
+    let number = number_of(std::str::from_utf8(digits).ok()?)?;
+    number.checked_mul(unit)
+}
+
+// The size in `SIZE:ALIGN:NAME`, if it has this name.
+fn size_named(value: &[u8], name: &[u8]) -> Option<u64> {
+    let mut fields = value.split(|b| *b == b':');
+    let size = fields.next()?;
+    let _align = fields.next()?;
+    if fields.next()? == name {
+        size_of(size)
+    } else {
+        None
+    }
+}
+
+// The bytes that a kernel's command line reserves under the name that it gives ramoops. The kernel picks their place at
+// each boot, so no word tells it.
+fn reserved_size(line: &[u8]) -> Option<u64> {
+    let name = last_value(line, b"ramoops.mem_name=")?;
+    size_named(last_value(line, b"reserve_mem=")?, name)
+}
+
+// The address that a kernel's command line gives the region, the last if it gives several.
+fn line_address(line: &[u8]) -> Option<u64> {
+    let value = last_value(line, b"ramoops.mem_address=")?;
+    number_of(std::str::from_utf8(value).ok()?)
+}
+
+// The address of the node of this path, or of the only one.
+fn node_address(alloc: Global, tree: &[u8], path: Option<&str>) -> Option<u64> {
+    let Ok(nodes) = ramoops_nodes(alloc, tree) else {
+        return None;
+    };
+    for node in &nodes {
+        match path {
+            Some(path) if node.path.as_slice() != path.as_bytes() => (),
+            _ => return Some(node.numbers.address),
+        }
+    }
+    None
+}
+
+// The address and the size that a kernel's command line gives the region.
+fn line_says<R: Runtime>(
+    rt: &R,
+    matches: &ArgMatches<'_>,
+) -> Result<(Option<u64>, Option<u64>), NoPlan> {
+    if let Some(path) = matches.get_str("cmdline-file") {
+        let line = read_file(rt, path)?;
+        return Ok((line_address(&line), reserved_size(&line)));
+    }
+    let line = matches.get_str("cmdline").unwrap_or("").as_bytes();
+    Ok((line_address(line), reserved_size(line)))
+}
+
+// Where the words say that a memory and the region in it lie.
+fn memory_by<R: Runtime>(
+    rt: &R,
+    alloc: Global,
+    matches: &ArgMatches<'_>,
+) -> Result<Memory, NoPlan> {
+    let first = number(matches, "memory-at")?;
+    let base = first.unwrap_or(0);
+    let (said, reserved) = line_says(rt, matches)?;
+    let address = match (number(matches, "at")?, matches.get_str("dtb")) {
+        (Some(at), _) => Some(at),
+        (None, _) if first.is_none() => None,
+        (None, Some(path)) => {
+            node_address(alloc, &read_file(rt, path)?, matches.get_str("node"))
+        }
+        (None, None) => said,
+    };
+    let place = match address {
+        Some(address) if address < base => {
+            let fault = anyhow!("the region at {address:#x} lies before the memory, at {base:#x}");
+            return Err(NoPlan::Words(fault));
+        }
+        Some(address) => Some(address - base),
+        None => None,
+    };
+    Ok(Memory {
+        base,
+        place,
+        reserved,
+    })
+}
+
+// How the images are laid out by the words alone, without a device tree. In a whole memory in which no place is named a
+// layout is looked for also if its size is known.
+fn layouts_by(
+    alloc: Global,
+    words: &[String],
+    is_as_given: bool,
+    memory: Option<Memory>,
+) -> Result<Layouts, NoPlan> {
+    if given(words, "mem_size").is_none() {
+        let mut known = sought_by(words, is_as_given, "mem_size")?;
+        if let Some(Memory { reserved, .. }) = memory {
+            known.mem = reserved;
+        }
+        return Ok(Layouts::Sought(known));
+    }
+    let plan = words_plan(alloc, words, is_as_given)?;
+    match memory {
+        Some(Memory { place: None, .. }) => {
+            let mut known = sought_by(words, false, "--at")?;
+            known.mem = Some(u64::from(plan.mem()));
+            Ok(Layouts::Sought(known))
+        }
+        _ => Ok(Layouts::Given(plan)),
+    }
+}
+
 /// How the images are to be read.
 pub fn asked_by<R: Runtime>(
     rt: &R,
@@ -286,16 +449,23 @@ pub fn asked_by<R: Runtime>(
     let mut words = Vec::new(alloc);
     add_cmdline(rt, alloc, &mut words, matches)?;
     add_params(alloc, &mut words, matches)?;
-    let layouts = match matches.get_str("dtb") {
-        Some(path) => Layouts::Given(tree_plan(rt, alloc, path, matches.get_str("node"), &words)?),
-        None if given(&words, "mem_size").is_none() => {
-            sought_by(&words, matches.get_flag("mem-as-given"))?
+    let memory = match matches.get_flag("memory") {
+        true => Some(memory_by(rt, alloc, matches)?),
+        false => None,
+    };
+    let layouts = match (matches.get_str("dtb"), memory) {
+        (Some(_), Some(Memory { place: None, .. })) => {
+            return Err(NoPlan::Words(anyhow!("--dtb in a memory needs --memory-at or --at")));
         }
-        None => Layouts::Given(words_plan(alloc, &words, matches.get_flag("mem-as-given"))?),
+        (Some(path), _) => {
+            Layouts::Given(tree_plan(rt, alloc, path, matches.get_str("node"), &words)?)
+        }
+        (None, memory) => { layouts_by(alloc, &words, matches.get_flag("mem-as-given"), memory)? }
     };
     let mut asked = Asked {
         layouts: Layouts::Sought(Known::default()),
         is_coloured: is_coloured(rt, matches, is_terminal),
+        memory,
         lines: line_count(matches)?,
         map: read_map(rt, alloc, matches)?,
     };

@@ -6,6 +6,7 @@ mod command;
 mod folder;
 mod image;
 mod layout;
+mod memory;
 
 use anyhow::{Context, Result, anyhow, bail};
 use clap::ArgMatches;
@@ -14,8 +15,10 @@ use colour::ColourSink;
 use command::command;
 use folder::Dir;
 use image::Image;
-use layout::{Asked, Layouts, NoPlan, asked_by};
-use outside::{Load, WriterSink};
+use layout::{Asked, Layouts, Memory, NoPlan, asked_by};
+use memory::{Progress, Region, named, region_at, regions};
+use memory_regions::{NoPart, Part};
+use outside::{FileLoad, Load, WriterSink};
 use record_report::Report;
 use report_calls::{best_hint, taken_hint};
 use report_tool::{Format, Known, Plan, Stop, find, report, save};
@@ -23,7 +26,7 @@ use std::alloc::{AllocError, Global};
 use std::io::{IsTerminal, Read};
 use std::process::ExitCode;
 use std::rt::Runtime;
-use std::{env, io};
+use std::{env, fs, io};
 
 /// The status where an image was not reported or a record was not saved.
 const NOT_DONE: u8 = 1;
@@ -151,17 +154,159 @@ fn one_image<R: Runtime, S: Read>(
         Image::File(mut file) => report_image(rt, alloc, asked, format, path, &mut file)?,
         Image::Front(mut front) => report_image(rt, alloc, asked, format, path, &mut front)?,
     };
+    save_records(rt, alloc, folder, &report)
+}
+
+// The records of an image saved, where a folder is named.
+fn save_records<R: Runtime>(
+    rt: &R,
+    alloc: Global,
+    folder: Option<&str>,
+    report: &Report,
+) -> Result<()> {
     let Some(folder) = folder else {
         return Ok(());
     };
     let mut dir = Dir::new(rt.clone()?, alloc, folder).context(format_args!("{folder}"))?;
-    match save(&mut dir, &report) {
+    match save(&mut dir, report) {
         Ok(()) => Ok(()),
         Err(_) => match dir.error() {
             Some(e) => Err(anyhow!("a record was not saved in {folder}: {e}")),
             None => Err(anyhow!("a record was not saved in {folder}")),
         },
     }
+}
+
+// The report of the region at a place of a file, and its records saved.
+fn report_region<R: Runtime>(
+    rt: &R,
+    alloc: Global,
+    asked: &Asked,
+    plan: &Plan,
+    format: Format,
+    folder: Option<&str>,
+    path: &str,
+    memory: Memory,
+    place: u64,
+) -> Result<()> {
+    let name = format!(in alloc; "{path}@{}", named(alloc, memory.base, place)?)?;
+    let file = FileLoad::new(rt, alloc, path)?;
+    let report = match Part::new(file, place, u64::from(plan.mem())) {
+        Ok(mut part) => report_by(rt, alloc, plan, asked, format, &name, &mut part)?,
+        Err(NoPart::Fault) => bail!("it could not be read"),
+        Err(NoPart::Outside(has)) => {
+            bail!(
+                "it has {has} bytes, and the region has {} from {place} on",
+                plan.mem()
+            )
+        }
+    };
+    save_records(rt, alloc, folder, &report)
+}
+
+// What was found of a region.
+fn tell_region<R: Runtime>(
+    rt: &R,
+    alloc: Global,
+    format: Format,
+    path: &str,
+    base: u64,
+    region: &Region,
+) -> Result<()> {
+    let place = named(alloc, base, region.place)?;
+    let name = format!(in alloc; "{path}@{place}")?;
+    let size = region.found.candidate.mem;
+    tell(rt, format, &taken_hint(alloc, &name, size, &region.found)?)?;
+    if let Some(size) = region.larger {
+        let line = format!(in alloc; "a region of {size} bytes explains as much\n")?;
+        tell(rt, format, &line)?;
+    }
+    Ok(())
+}
+
+// The regions of a memory.
+fn regions_of<R: Runtime>(
+    rt: &R,
+    alloc: Global,
+    known: &Known,
+    path: &str,
+    memory: Memory,
+    shows_progress: bool,
+) -> Result<Vec<Region>> {
+    let mut file = FileLoad::new(rt, alloc, path)?;
+    if let Some(place) = memory.place {
+        return match region_at(alloc, &mut file, known, place)? {
+            Some(region) => Ok(vec![in alloc; region]?),
+            None => bail!("no layout explains what stands at that place; give it by --param"),
+        };
+    }
+    let mut progress = Progress::new(rt.clone()?, shows_progress);
+    let regions = regions(
+        rt,
+        alloc,
+        &mut file,
+        known,
+        path,
+        memory.base,
+        &mut progress,
+    )?;
+    if regions.is_empty() {
+        bail!("no region was found");
+    }
+    Ok(regions)
+}
+
+// The places of regions, where one must be chosen.
+fn choose_one(alloc: Global, base: u64, regions: &[Region]) -> Result<anyhow::Error> {
+    let mut places = String::new(alloc);
+    for region in regions {
+        places.push_str(" ")?;
+        places.push_str(&named(alloc, base, region.place)?)?;
+    }
+    Ok(anyhow!("several regions; choose one by --at:{places}"))
+}
+
+// A whole memory: the report of each region, and the records of one saved.
+fn one_memory<R: Runtime>(
+    rt: &R,
+    alloc: Global,
+    asked: &Asked,
+    memory: Memory,
+    format: Format,
+    folder: Option<&str>,
+    path: &str,
+    shows_progress: bool,
+) -> Result<()> {
+    if !fs::metadata(rt, path)?.is_file() {
+        bail!("it is no file");
+    }
+    let known = match (&asked.layouts, memory.place) {
+        (Layouts::Given(plan), Some(place)) => {
+            return report_region(rt, alloc, asked, plan, format, folder, path, memory, place);
+        }
+        (Layouts::Given(_), None) => bail!("no place is named"),
+        (Layouts::Sought(known), _) => known,
+    };
+    let regions = regions_of(rt, alloc, known, path, memory, shows_progress)?;
+    if regions.len() > 1 && (format == Format::Html || folder.is_some()) {
+        return Err(choose_one(alloc, memory.base, &regions)?);
+    }
+    for region in &regions {
+        tell_region(rt, alloc, format, path, memory.base, region)?;
+        let plan = asked.plan_of(alloc, &region.found)?;
+        report_region(
+            rt,
+            alloc,
+            asked,
+            &plan,
+            format,
+            folder,
+            path,
+            memory,
+            region.place,
+        )?;
+    }
+    Ok(())
 }
 
 // All images, one after another, and the status. A line that standard error does not take ends nothing.
@@ -181,7 +326,23 @@ fn all_images<R: Runtime, S: Read>(
             status = NOT_DONE;
         }
         let folder = matches.get_str("save");
-        match one_image(rt, alloc, input, asked, format(matches), folder, path) {
+        let format = format(matches);
+        let done = match asked.memory {
+            Some(memory) => {
+                one_memory(
+                    rt,
+                    alloc,
+                    asked,
+                    memory,
+                    format,
+                    folder,
+                    path,
+                    shows_progress,
+                )
+            }
+            None => one_image(rt, alloc, input, asked, format, folder, path),
+        };
+        match done {
             Ok(()) => (),
             Err(e) => {
                 status = NOT_DONE;

@@ -1,0 +1,139 @@
+// Regions in a copy of all of a machine's memory.
+use anyhow::{Result, anyhow};
+use memory_regions::{Unread, Watch, best, larger, marked_pages, readings, window};
+use outside::FileLoad;
+use report_tool::{Found, Known};
+use std::alloc::{AllocError, Global};
+use std::rt::Runtime;
+
+const PAGE: u64 = 4_096;
+
+/// A region has at most so many bytes.
+const MOST: u32 = 16_777_216;
+
+/// At so many pages a layout is looked for and none is found, then no more.
+const TRIES: u32 = 64;
+
+/// A region, by its place in the file.
+#[derive(Clone, Copy)]
+pub struct Region {
+    pub place: u64,
+    pub found: Found,
+    /// A larger size that explains as much.
+    pub larger: Option<u64>,
+}
+
+/// A line of a terminal that tells how far a file was read.
+#[derive(Drop)]
+pub struct Progress<R: Runtime> {
+    rt: R,
+    is_shown: bool,
+    percent: u64,
+}
+
+impl<R: Runtime> Progress<R> {
+    pub fn new(rt: R, is_shown: bool) -> Progress<R> {
+        Progress {
+            rt,
+            is_shown,
+            percent: 101,
+        }
+    }
+}
+
+impl<R: Runtime> Watch for Progress<R> {
+    fn reached(&mut self, done: u64, all: u64) {
+        let percent = done / (all / 100).max(1);
+        if self.is_shown && percent != self.percent {
+            let end = if done < all { "" } else { "\n" };
+            let _told = eprint!(self.rt; "\r{}% read{end}", percent.min(100));
+            self.percent = percent;
+        }
+    }
+}
+
+fn told(unread: Unread) -> anyhow::Error {
+    match unread {
+        Unread::Memory => AllocError.into(),
+        Unread::Fault => anyhow!("it could not be read"),
+    }
+}
+
+/// The region that begins at a place of the file, if one explains what is there.
+pub fn region_at<R: Runtime>(
+    alloc: Global,
+    file: &mut FileLoad<R>,
+    known: &Known,
+    place: u64,
+) -> Result<Option<Region>> {
+    let bytes = match window(alloc, file, place, MOST) {
+        Ok(bytes) => bytes,
+        Err(unread) => return Err(told(unread)),
+    };
+    let readings = readings(alloc, known, &bytes)?;
+    let Some(first) = best(&readings) else {
+        return Ok(None);
+    };
+    let Some(found) = first.found else {
+        return Ok(None);
+    };
+    let larger = match larger(&readings, &first) {
+        Some(reading) => Some(reading.size),
+        None => None,
+    };
+    Ok(Some(Region {
+        place,
+        found,
+        larger,
+    }))
+}
+
+/// The regions of a file, in the order of their places: each begins at a page at which a header seems to stand, and not
+/// within the one before it. A page whose bytes no layout explains is told.
+pub fn regions<R: Runtime>(
+    rt: &R,
+    alloc: Global,
+    file: &mut FileLoad<R>,
+    known: &Known,
+    path: &str,
+    base: u64,
+    progress: &mut Progress<R>,
+) -> Result<Vec<Region>> {
+    let pages = match marked_pages(alloc, file, progress) {
+        Ok(pages) => pages,
+        Err(unread) => return Err(told(unread)),
+    };
+    let mut regions = Vec::new(alloc);
+    let mut from = 0;
+    let mut tries = 0;
+    for page in &pages {
+        let place = page.saturating_mul(PAGE);
+        if place < from {
+            continue;
+        }
+        if tries >= TRIES {
+            let place = named(alloc, base, place)?;
+            eprintln!(rt; "oopsreport: {path}: what stands from {place} on was not looked at")?;
+            break;
+        }
+        match region_at(alloc, file, known, place)? {
+            Some(region) => {
+                from = place.saturating_add(region.found.candidate.mem);
+                regions.push(region)?;
+            }
+            None => {
+                tries = tries.saturating_add(1);
+                let place = named(alloc, base, place)?;
+                eprintln!(rt;
+                    "oopsreport: {path}@{place}: a header seems to stand there, and no layout explains it"
+                )?;
+            }
+        }
+    }
+    Ok(regions)
+}
+
+/// A place as it is told: in the file, or as an address if that of the file's first byte is known.
+pub fn named(alloc: Global, base: u64, place: u64) -> Result<String, AllocError> {
+    format!(in alloc; "{:#x}", base.saturating_add(place))
+}
