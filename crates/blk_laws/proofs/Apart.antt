@@ -6,8 +6,8 @@ use Rattle.zone_spec.specs.Told.{last_items}
 use Rattle.blk_spec.specs.declared.BlkZone.{BlkZone}
 use Rattle.blk_spec.specs.declared.BlkWords.{BlkWords}
 use Rattle.blk_spec.specs.declared.BlkTime.{BlkTime}
-use Rattle.blk_spec.specs.declared.Reason.{Reason}
-use Rattle.blk_spec.specs.Reasons.{reason_number}
+use Rattle.kmsg_spec.specs.declared.Reason.{Reason}
+use Rattle.kmsg_spec.specs.Reasons.{reason_number}
 use Rattle.blk_spec.specs.Layout.{capacity}
 use Rattle.blk_spec.specs.Writes.{Write, after_write, after_writes, first_bytes}
 use Rattle.blk_spec.specs.Rings.{header_bytes, header_write, run_writes, first_run, first_words, run_words, is_short, last_words, kept_writes, append_writes}

@@ -7,7 +7,7 @@ use Rattle.blk_spec.specs.declared.BlkRing.TheVariants.{Console as ConsoleRing, 
 use Rattle.blk_spec.specs.declared.BlkZone.{BlkZone}
 use Rattle.blk_spec.specs.declared.BlkTime.{BlkTime}
 use Rattle.blk_spec.specs.declared.BlkName.TheVariants.{Dump as DumpName}
-use Rattle.blk_spec.specs.declared.Reason.{Reason}
+use Rattle.kmsg_spec.specs.declared.Reason.{Reason}
 use Rattle.blk_spec.specs.declared.BlkFault.TheVariants.{NoZone as NoZoneFault}
 use Rattle.blk_spec.specs.declared.BlkCut.{BlkCut}
 use Rattle.blk_spec.specs.declared.BlkCut.TheVariants.{Uncut, After, Dropped}

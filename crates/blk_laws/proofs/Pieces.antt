@@ -5,7 +5,7 @@ use Rattle.std.proofs.lemmas.Nat.{div-add-mod'}
 use Rattle.std.proofs.lemmas.Bool.{cases_lt, eqb-true}
 use Rattle.std.proofs.lemmas.List.{take_all, take-append-le, append-nil, drop-drop, take_at, drop_at, replicate-append-replicate}
 use Rattle.list_laws.proofs.Elements.{take-append_past}
-use Rattle.blk_spec.specs.Reasons.{reason_number}
+use Rattle.kmsg_spec.specs.Reasons.{reason_number}
 use Rattle.blk_spec.specs.Writes.{Write, after_write, after_writes, first_bytes, bytes_in, in_pieces}
 use Rattle.blk_spec.specs.Rings.{header_bytes}
 use Rattle.blk_spec.specs.Dumps.{dump_header, body_kept, dump_writes, zeros_by, dump_pieces}

@@ -15,7 +15,7 @@ use Rattle.blk_spec.specs.declared.BlkName.TheVariants.{Dump as DumpName, Consol
 use Rattle.blk_spec.specs.declared.BlkTime.{BlkTime}
 use Rattle.blk_spec.specs.declared.BlkCut.{BlkCut}
 use Rattle.blk_spec.specs.declared.BlkFault.TheVariants.{NoZone as NoZoneFault}
-use Rattle.blk_spec.specs.declared.Reason.{Reason}
+use Rattle.kmsg_spec.specs.declared.Reason.{Reason}
 use Rattle.blk_spec.specs.Layout.{IsLayout, ring_zone, dump_zone, capacity}
 use Rattle.blk_spec.specs.Writes.{Write, after_writes, bytes_in, reaching, spent}
 use Rattle.blk_spec.specs.Rings.{header_write, empty_words, append_writes, words_after}

@@ -1,7 +1,7 @@
 -- Worked rows of the block store: three zones of 4096 bytes, pmsg at 0, the console at 4096, a dump at 8192
 use Rattle.std.specs.Prelude.{◌≡◌, ℕ, List, [], ◌∷◌, take, map, replicate, Some, false}
 use Rattle.blk_spec.specs.declared.BlkZone.{BlkZone}
-use Rattle.blk_spec.specs.declared.Reason.TheVariants.{Panic}
+use Rattle.kmsg_spec.specs.declared.Reason.TheVariants.{Panic}
 use Rattle.blk_spec.specs.Writes.{Write}
 use Rattle.blk_spec.specs.Rings.{append_writes, empty_words}
 use Rattle.blk_spec.specs.Dumps.{dump_writes}

@@ -6,7 +6,8 @@ use Rattle.blk_spec.specs.declared.BlkLayout.{BlkLayout}
 use Rattle.blk_spec.specs.declared.BlkRing.{BlkRing}
 use Rattle.blk_spec.specs.declared.BlkName.{BlkName}
 use Rattle.blk_spec.specs.declared.BlkTime.{BlkTime}
-use Rattle.blk_spec.specs.declared.Reason.{Reason}
+use Rattle.kmsg_spec.specs.declared.Reason.{Reason}
+use Rattle.kmsg_spec.specs.Reasons.{reason_of}
 use Rattle.blk_spec.specs.declared.BlkFault.{BlkFault}
 use Rattle.blk_spec.specs.declared.BlkFault.TheVariants.{NoZone as NoZoneThere, NoRecord as NoRecordThere, StoreFault as StoreFaultThere, Memory as MemoryThere}
 use Rattle.blk_spec.specs.Writes.{after_writes, store_after, bytes_in}
@@ -14,7 +15,7 @@ use Rattle.blk_spec.specs.States.{BlkState, loaded, load_writes, cut_after}
 use Rattle.blk_spec.specs.Session.{Append, AppendElsewhere, Dump as DumpNow, Erase as EraseRecord, cause_of, session_after, load_session}
 use Rattle.blk_spec.specs.Answers.{Device, further, HasFront, Loads}
 use Rattle.grammar_spec.specs.declared.line.Line.TheVariants.{Write, Boot, Erase, KDump, CutAfter}
-use Rattle.script_spec.specs.BlkScripts.{blk_line_done, operation_of, append_to, ring_for, reason_of, blk_named, line_writes}
+use Rattle.script_spec.specs.BlkScripts.{blk_line_done, operation_of, append_to, ring_for, blk_named, line_writes}
 use Rattle.script_spec.specs.declared.Cause.TheVariants.{NoZone, NoRecord}
 use Rattle.blk_session.specs.declared.errors.LineError.TheVariants.{Refused}
 use Rattle.blk_session.specs.Lines.{LineDone, IsWantedLine, LineFails, error_of}

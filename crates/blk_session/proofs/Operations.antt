@@ -7,7 +7,7 @@ use Rattle.blk_spec.specs.declared.BlkRing.{BlkRing}
 use Rattle.blk_spec.specs.declared.BlkTime.{BlkTime}
 use Rattle.blk_spec.specs.declared.BlkName.{BlkName}
 use Rattle.blk_spec.specs.declared.BlkCut.{BlkCut}
-use Rattle.blk_spec.specs.declared.Reason.{Reason}
+use Rattle.kmsg_spec.specs.declared.Reason.{Reason}
 use Rattle.blk_spec.specs.declared.BlkFault.{BlkFault}
 use Rattle.blk_spec.specs.declared.BlkFault.TheVariants.{NoZone as NoZoneThere, NoRecord as NoRecordThere, StoreFault as StoreFaultThere, Memory as MemoryThere}
 use Rattle.blk_spec.specs.Writes.{Write as StoreWrite, after_writes, store_after, bytes_in, reaching, spent}

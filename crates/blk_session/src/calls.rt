@@ -5,7 +5,7 @@ ghost use Rattle.blk_spec.specs.Answers.{HasRoom, device};
 ghost use Rattle.blk_spec.specs.States.{BlkState};
 ghost use Rattle.blk_spec.specs.Session.{Append, Dump as DumpNow, Erase as EraseRecord};
 ghost use Rattle.grammar_spec.specs.declared.line.Line.TheVariants.{Write, KDump, Boot, Erase};
-ghost use Rattle.script_spec.specs.BlkScripts.{ring_for as ring_of_kind, reason_of as reason_of_number};
+ghost use Rattle.script_spec.specs.BlkScripts.{ring_for as ring_of_kind};
 ghost use Rattle.blk_session.specs.Lines.{LineDone, LineFails, OperationDone, OperationFails, KeptUnlessFault};
 
 use crate::errors::{LineError, line_error};
@@ -22,18 +22,6 @@ fn ring_for(kind: Kind) -> Option<BlkRing>
         Kind::Console => Some(BlkRing::Console),
         Kind::Pmsg => Some(BlkRing::Pmsg),
         Kind::Dump | Kind::Ftrace => None,
-    }
-}
-
-// A reason by its number, 1 to 4.
-fn reason_of(number: u32) -> Reason
-    ensures { result ≡ reason_of_number number }
-{
-    match number {
-        1 => Reason::Panic,
-        2 => Reason::Oops,
-        3 => Reason::Emergency,
-        _ => Reason::Shutdown,
     }
 }
 
@@ -178,7 +166,14 @@ pub fn kdump<S: Store>(
         (λ e. LineFails e blk.old.layout (Some blk.old) (KDump time.secs time.nanos packed reason body.now) before now
         (S.faults store.old) (S.faults store.new)) }
 {
-    dump(blk, store, time, packed, reason_of(reason), body.as_slice())
+    dump(
+        blk,
+        store,
+        time,
+        packed,
+        Reason::of_number(reason),
+        body.as_slice(),
+    )
 }
 
 /// An erasure of the record whose name has this text.

@@ -4,9 +4,9 @@ use Rattle.std.specs.Int.{to_le_bytes}
 use Rattle.std.proofs.Common.{w32, w64}
 use Rattle.blk_spec.specs.declared.BlkZone.{BlkZone}
 use Rattle.blk_spec.specs.declared.BlkTime.{BlkTime}
-use Rattle.blk_spec.specs.declared.Reason.{Reason}
-use Rattle.blk_spec.specs.declared.Reason.TheVariants.{Panic, Oops}
-use Rattle.blk_spec.specs.Reasons.{reason_number}
+use Rattle.kmsg_spec.specs.declared.Reason.{Reason}
+use Rattle.kmsg_spec.specs.declared.Reason.TheVariants.{Panic, Oops}
+use Rattle.kmsg_spec.specs.Reasons.{reason_number}
 use Rattle.blk_spec.specs.Layout.{capacity}
 use Rattle.blk_spec.specs.Writes.{Write, in_pieces}
 use Rattle.blk_spec.specs.Rings.{header_bytes}

@@ -1,5 +1,4 @@
 pub mod Layout
-pub mod Reasons
 pub mod Writes
 pub mod Rings
 pub mod Dumps

@@ -3,7 +3,7 @@ use Rattle.std.specs.Prelude.{◌≡◌, ℕ, ◌^◌, ◌<◌, Bool, true, fals
 use Rattle.blk_spec.specs.declared.BlkName.{BlkName}
 use Rattle.blk_spec.specs.declared.BlkName.TheVariants.{Dump, Console, Pmsg}
 use Rattle.blk_spec.specs.Reading.{BlkDump}
-use Rattle.blk_spec.specs.Reasons.{reason_word}
+use Rattle.kmsg_spec.specs.Reasons.{reason_word}
 
 -- the text of a name; a compressed dump's ends in `.enc.z`
 abbrev pub name_text : BlkName → List ℕ

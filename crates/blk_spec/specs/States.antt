@@ -14,7 +14,7 @@ use Rattle.blk_spec.specs.declared.BlkCut.{BlkCut}
 use Rattle.blk_spec.specs.declared.BlkCut.TheVariants.{Uncut}
 use Rattle.blk_spec.specs.declared.BlkFault.{BlkFault}
 use Rattle.blk_spec.specs.declared.BlkFault.TheVariants.{NoZone, NoRecord}
-use Rattle.blk_spec.specs.declared.Reason.{Reason}
+use Rattle.kmsg_spec.specs.declared.Reason.{Reason}
 use Rattle.blk_spec.specs.Layout.{ring_zone, dump_zone}
 use Rattle.blk_spec.specs.Writes.{Write, limited}
 use Rattle.blk_spec.specs.Rings.{header_write, empty_words, append_writes, words_after}

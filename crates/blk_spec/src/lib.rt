@@ -3,8 +3,8 @@
 #![tactic(auto)]
 
 ghost use Rattle.std.specs.Prelude.{◌≡◌};
-ghost use Rattle.blk_spec.specs.Reasons.{reason_number};
 
+pub use kmsg_spec::Reason;
 use std::alloc::AllocError;
 use thiserror::Error;
 
@@ -49,29 +49,6 @@ pub struct BlkZone {
 pub struct BlkWords {
     pub size: u32,
     pub start: u32,
-}
-
-/// Why a dump is written (`include/linux/kmsg_dump.h`, `enum kmsg_dump_reason`).
-#[derive(Clone, Copy, Debug, PartialEq, Eq)]
-pub enum Reason {
-    Panic,
-    Oops,
-    Emergency,
-    Shutdown,
-}
-
-impl Reason {
-    /// The reason's number in a dump's header.
-    pub fn number(self) -> u32
-        ensures { result ≡ reason_number self }
-    {
-        match self {
-            Reason::Panic => 1,
-            Reason::Oops => 2,
-            Reason::Emergency => 3,
-            Reason::Shutdown => 4,
-        }
-    }
 }
 
 /// A moment, as seconds of at most 2^63 - 1 and nanoseconds below 1,000,000,000.

@@ -12,7 +12,7 @@ ghost use Rattle.kmsg_dump.specs.Starts.{IsFirstStart};
 use arrayvec::ArrayString;
 use circular_buffer::HeapCircularBuffer;
 use itoa::Buffer;
-pub use kmsg_spec::Why;
+pub use kmsg_spec::Reason;
 use memchr::memchr;
 use outside::Bytes;
 use std::alloc::{AllocError, Global};
@@ -86,16 +86,16 @@ fn tail<'a>(front: &'a [u8], back: &'a [u8], from: usize) -> (&'a [u8], &'a [u8]
     }
 }
 
-fn heading_of(why: Why, count: u32) -> ArrayString<32>
-    ensures { result.bytes ≡ heading why count }
+fn heading_of(reason: Reason, count: u32) -> ArrayString<32>
+    ensures { result.bytes ≡ heading reason count }
 {
     let mut digits = Buffer::new();
     let mut text = ArrayString::new();
-    text.push_str(match why {
-        Why::Panic => "Panic",
-        Why::Oops => "Oops",
-        Why::Emergency => "Emergency",
-        Why::Shutdown => "Shutdown",
+    text.push_str(match reason {
+        Reason::Panic => "Panic",
+        Reason::Oops => "Oops",
+        Reason::Emergency => "Emergency",
+        Reason::Shutdown => "Shutdown",
     });
     text.push_str("#");
     text.push_str(digits.format(count));
@@ -160,11 +160,11 @@ impl KLog {
     }
 
     /// The body of crash number `count` in a room of so many bytes: a heading, and the last lines that fit after it.
-    pub fn body(&self, why: Why, count: u32, room: u32) -> Result<Bytes, AllocError>
+    pub fn body(&self, reason: Reason, count: u32, room: u32) -> Result<Bytes, AllocError>
         ensures { (given : List (List ℕ)) → Keeps self.now given → IfOk result (λ bytes. bytes
-            ≡ body_of why count room (last_lines self.now.capacity given)) }
+            ≡ body_of reason count room (last_lines self.now.capacity given)) }
     {
-        let text = heading_of(why, count);
+        let text = heading_of(reason, count);
         let head = text.as_bytes();
         let room = room as usize;
         if head.len() > room {

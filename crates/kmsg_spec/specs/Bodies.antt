@@ -1,7 +1,7 @@
 -- The body of a crash dump: a heading, and the last lines of the message log that fit
 use Rattle.std.specs.Prelude.{◌≡◌, ℕ, ◌-◌, ◌≤◌, nat_le, if◌then◌else◌, List, [], ◌∷◌, ◌++◌, length, take, flat_map, codes, decimal}
-use Rattle.kmsg_spec.specs.declared.Why.{Why}
-use Rattle.kmsg_spec.specs.declared.Why.TheVariants.{Panic, Oops, Emergency, Shutdown}
+use Rattle.kmsg_spec.specs.declared.Reason.{Reason}
+use Rattle.kmsg_spec.specs.Reasons.{reason_number, reason_word}
 
 abbrev pub newline : ℕ
 newline = 10
@@ -27,19 +27,13 @@ last_lines room [] = []
 last_lines room (line ∷ lines) =
     if nat_le (length (bytes_of (line ∷ lines))) room then line ∷ lines else last_lines room lines
 
-abbrev pub why_text : Why → List ℕ
-why_text Panic = codes "Panic"
-why_text Oops = codes "Oops"
-why_text Emergency = codes "Emergency"
-why_text Shutdown = codes "Shutdown"
-
-abbrev pub heading : Why → ℕ → List ℕ
-heading why count = why_text why ++ codes "#" ++ decimal count ++ codes " Part1" ++ newline ∷ []
+abbrev pub heading : Reason → ℕ → List ℕ
+heading reason count = reason_word (reason_number reason) ++ codes "#" ++ decimal count ++ codes " Part1" ++ newline ∷ []
 
 abbrev pub body_below : List ℕ → ℕ → List (List ℕ) → List ℕ
 body_below head room lines =
     if nat_le (length head) room then head ++ bytes_of (last_lines (room - length head) lines) else take room head
 
 -- the body of the crash of this number, in a room of so many bytes
-abbrev pub body : Why → ℕ → ℕ → List (List ℕ) → List ℕ
-body why count room lines = body_below (heading why count) room lines
+abbrev pub body : Reason → ℕ → ℕ → List (List ℕ) → List ℕ
+body reason count room lines = body_below (heading reason count) room lines

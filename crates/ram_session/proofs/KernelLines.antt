@@ -18,13 +18,14 @@ use Rattle.machine_spec.specs.Sound.{IsTime}
 use Rattle.machine_spec.specs.LiveZones.{Target, target_of, target_at}
 use Rattle.prz_read.specs.Saving.{SavedLogs}
 use Rattle.ramoops.specs.LiveSeen.{LiveSeen}
-use Rattle.kmsg_spec.specs.declared.Why.{Why}
+use Rattle.kmsg_spec.specs.declared.Reason.{Reason}
+use Rattle.kmsg_spec.specs.Reasons.{reason_of}
 use Rattle.kmsg_spec.specs.Bodies.{last_lines, body}
 use Rattle.kmsg_dump.specs.Kept.{IsLine, Keeps}
 use Rattle.grammar_spec.specs.Fields.{is_message}
 use Rattle.grammar_spec.specs.Printed.{HasFields}
 use Rattle.grammar_spec.specs.declared.line.Line.TheVariants.{KMsg, Crash, Dump}
-use Rattle.script_spec.specs.Scripts.{Kernel as KernelOf, beside, prints, crash_body, crashed, log_limit, why_of, room_in, dump_target, store_line, line_done}
+use Rattle.script_spec.specs.Scripts.{Kernel as KernelOf, beside, prints, crash_body, crashed, log_limit, room_in, dump_target, store_line, line_done}
 use Rattle.script_spec.specs.declared.Cause.{Cause}
 use Rattle.script_spec.specs.declared.Cause.TheVariants.{TooLong, NoZone}
 use Rattle.ram_session.specs.Kernels.{StandsForKernel, DumpsAlike, left_in, first_room}
@@ -177,34 +178,34 @@ crash_is layout s k reason time = refl
 -- the body that is dumped, by the kernel
 abbrev pub IsBody : List Zone → Kernel → ℕ → Time → List ℕ → Type 0
 IsBody layout kernel reason time bytes = (given : List (List ℕ)) → Keeps kernel.log given
-    → bytes ≡ body (why_of reason) (kernel.crashes + 1) (first_room layout time) (last_lines kernel.log.capacity given)
+    → bytes ≡ body (reason_of reason) (kernel.crashes + 1) (first_room layout time) (last_lines kernel.log.capacity given)
 
-pub told_body : (layout zones : List Zone) (kernel : Kernel) (reason : ℕ) (time : Time) (bytes : List ℕ) (why : Why)
-    (room : ℕ) → why ≡ why_of reason → room ≡ first_room zones time → zones ≡ layout
+pub told_body : (layout zones : List Zone) (kernel : Kernel) (reason : ℕ) (time : Time) (bytes : List ℕ) (why : Reason)
+    (room : ℕ) → why ≡ reason_of reason → room ≡ first_room zones time → zones ≡ layout
     → ((given : List (List ℕ)) → Keeps kernel.log given
     → bytes ≡ body why (kernel.crashes + 1) room (last_lines kernel.log.capacity given))
     → IsBody layout kernel reason time bytes
 told_body layout zones kernel reason time bytes why room e f g is given keeps =
     let lines = last_lines kernel.log.capacity given in
-    is given keeps ∙ ap (λ (w : Why). body w (kernel.crashes + 1) room lines) e
-    ∙ ap (λ (n : ℕ). body (why_of reason) (kernel.crashes + 1) n lines)
+    is given keeps ∙ ap (λ (w : Reason). body w (kernel.crashes + 1) room lines) e
+    ∙ ap (λ (n : ℕ). body (reason_of reason) (kernel.crashes + 1) n lines)
     (f ∙ ap (λ (l : List Zone). first_room l time) g)
 
 body_same : (layout : List Zone) (kernel : Kernel) (k : KernelOf) (reason : ℕ) (time : Time) (bytes : List ℕ)
     → StandsForKernel kernel k → IsBody layout kernel reason time bytes
-    → bytes ≡ body (why_of reason) (k.crashes + 1) (first_room layout time) (last_lines log_limit k.printed)
+    → bytes ≡ body (reason_of reason) (k.crashes + 1) (first_room layout time) (last_lines log_limit k.printed)
 body_same layout kernel k reason time bytes has is =
     is k.printed has.log
-    ∙ ap (λ (n : ℕ). body (why_of reason) (n + 1) (first_room layout time)
+    ∙ ap (λ (n : ℕ). body (reason_of reason) (n + 1) (first_room layout time)
     (last_lines kernel.log.capacity k.printed)) has.crashes
-    ∙ ap (λ (n : ℕ). body (why_of reason) (k.crashes + 1) (first_room layout time) (last_lines n k.printed)) has.limit
+    ∙ ap (λ (n : ℕ). body (reason_of reason) (k.crashes + 1) (first_room layout time) (last_lines n k.printed)) has.limit
 
 dumped : (layout : List Zone) (s : LiveState) (kernel : Kernel) (k : KernelOf) (reason : ℕ) (time : Time)
     (bytes : List ℕ) → DumpsAlike layout → StandsForKernel kernel k → IsBody layout kernel reason time bytes
     → line_done layout (LiveOf s) k (Crash reason time)
     ≡ beside (crashed k) (store_line layout (LiveOf s) (Dump time false bytes))
 dumped layout s kernel k reason time bytes alike has is =
-    let dumps : ℕ → List ℕ = λ room. body (why_of reason) (k.crashes + 1) room (last_lines log_limit k.printed) in
+    let dumps : ℕ → List ℕ = λ room. body (reason_of reason) (k.crashes + 1) room (last_lines log_limit k.printed) in
     crash_is layout s k reason time
     ∙ ap (beside (crashed k)) (same_dump layout s time dumps (dump_target layout s) alike refl
     ∙ ap (λ (b : List ℕ). store_line layout (LiveOf s) (Dump time false b))

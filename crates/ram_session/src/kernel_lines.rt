@@ -9,7 +9,6 @@ ghost use Rattle.prz_read.specs.Saving.{SavedLogs};
 ghost use Rattle.ramoops.specs.LiveSeen.{LiveSeen};
 ghost use Rattle.kmsg_dump.specs.Kept.{IsLine};
 ghost use Rattle.grammar_spec.specs.declared.line.Line.TheVariants.{KMsg, Crash};
-ghost use Rattle.script_spec.specs.Scripts.{why_of};
 ghost use Rattle.ram_session.specs.Kernels.{first_room};
 ghost use Rattle.ram_session.specs.Machines.{MachineDone, MachineFails};
 ghost use Rattle.ram_session.specs.declared.machine.Machine.TheVariants.{Live as LiveMachine};
@@ -19,7 +18,7 @@ use crate::live_lines::dump;
 use crate::machine::LineError;
 use arrayvec::ArrayString;
 use dump_records::line;
-use kmsg_dump::Why;
+use kmsg_dump::Reason;
 use ramoops::Live;
 use script_spec::Cause;
 use zone_spec::{Kind, Time, Zone};
@@ -38,17 +37,6 @@ pub fn print(kernel: &mut Kernel, text: &[u8]) -> Result<(), LineError>
         Ok(())
     } else {
         Err(LineError::Refused(Cause::TooLong))
-    }
-}
-
-fn why(reason: u32) -> Why
-    ensures { result ≡ why_of reason }
-{
-    match reason {
-        1 => Why::Panic,
-        2 => Why::Oops,
-        3 => Why::Emergency,
-        _ => Why::Shutdown,
     }
 }
 
@@ -93,7 +81,7 @@ pub fn crash(live: &mut Live, kernel: &mut Kernel, reason: u32, time: Time) -> R
 {
     let count = kernel.crashes + 1;
     let room = body_room(live.zones(), time);
-    let body = kernel.log.body(why(reason), count, room)?;
+    let body = kernel.log.body(Reason::of_number(reason), count, room)?;
     match dump(live, time, false, body) {
         Ok(()) => {
             kernel.crashes = count;

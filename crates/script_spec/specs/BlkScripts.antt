@@ -9,8 +9,7 @@ use Rattle.blk_spec.specs.declared.BlkRing.TheVariants.{Console as ConsoleRing, 
 use Rattle.blk_spec.specs.declared.BlkTime.{BlkTime}
 use Rattle.blk_spec.specs.declared.BlkName.{BlkName}
 use Rattle.blk_spec.specs.declared.BlkName.TheVariants.{Dump as DumpName}
-use Rattle.blk_spec.specs.declared.Reason.{Reason}
-use Rattle.blk_spec.specs.declared.Reason.TheVariants.{Panic, Oops, Emergency, Shutdown}
+use Rattle.kmsg_spec.specs.Reasons.{reason_of}
 use Rattle.blk_spec.specs.Writes.{Write as StoreWrite, bytes_in, reaching}
 use Rattle.blk_spec.specs.Names.{name_text}
 use Rattle.blk_spec.specs.States.{BlkState, load_writes, append_of, dump_of, erase_of, names_of, content_of, time_of}
@@ -70,10 +69,6 @@ ring_for other = None
 abbrev pub append_to : Option BlkRing → List ℕ → Operation
 append_to None bytes = AppendElsewhere
 append_to (Some ring) bytes = Append ring bytes
-
--- a reason by its number
-abbrev pub reason_of : ℕ → Reason
-reason_of n = if n == 1 then Panic else if n == 2 then Oops else if n == 3 then Emergency else Shutdown
 
 -- the listed record whose name has this text
 abbrev pub blk_named : Option BlkState → Text → Option BlkName

@@ -18,8 +18,7 @@ use Rattle.machine_spec.specs.LiveZones.{Target, target}
 use Rattle.machine_spec.specs.LiveCalls.{Append as AppendAsk, Erase as EraseAsk, Dump as DumpAsk}
 use Rattle.machine_spec.specs.Operations.{Operation, operated, Begin as BeginCall, Make as MakeCall, Step as StepFlight, Finish as FinishFlight, Flip as FlipByte, Boot as BootStore, BootPart as BootInPart, EraseRecord, Stop as StopStore, Cause as SessionCause, WrongState, NoRecord as NoSuchRecord, Refused as RefusedThere}
 use Rattle.kmsg_spec.specs.Bodies.{body, last_lines}
-use Rattle.kmsg_spec.specs.declared.Why.{Why}
-use Rattle.kmsg_spec.specs.declared.Why.TheVariants.{Panic, Oops, Emergency, Shutdown}
+use Rattle.kmsg_spec.specs.Reasons.{reason_of}
 use Rattle.grammar_spec.specs.Fields.{Text}
 use Rattle.grammar_spec.specs.declared.line.Line.{Line}
 use Rattle.grammar_spec.specs.declared.line.Line.TheVariants.{Blank, Write, Dump, BeginWrite, BeginErase, BeginDump, Step, Finish, Stop, Flip, Boot, BootPart, List as ListLine, Extract, Erase, KMsg, Crash}
@@ -150,10 +149,6 @@ prints (Live live) kernel text =
       text = [];
     })
 
--- a reason by its number
-abbrev pub why_of : ℕ → Why
-why_of n = if n == 1 then Panic else if n == 2 then Oops else if n == 3 then Emergency else Shutdown
-
 -- what a zone has for a dump's body, behind the time line
 abbrev pub room_in : Option Target → Time → ℕ
 room_in None time = 0
@@ -166,7 +161,7 @@ dump_target layout live = target layout live (record { kind = DumpKind; index = 
 -- what a crash dumps of the message log
 abbrev pub crash_body : List Zone → LiveState → Kernel → ℕ → Time → List ℕ
 crash_body layout live kernel reason time =
-    body (why_of reason) (kernel.crashes + 1) (room_in (dump_target layout live) time)
+    body (reason_of reason) (kernel.crashes + 1) (room_in (dump_target layout live) time)
     (last_lines log_limit kernel.printed)
 
 abbrev pub crashed : Kernel → Kernel

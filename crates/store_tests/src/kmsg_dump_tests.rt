@@ -17,7 +17,7 @@ fn a_first_crash(rt: HostRuntime) -> Result<(), Fail> {
     let mut log = KLog::new(rt.alloc(), 131_072)?;
     assert!(rt; kept(&mut log, b"one"));
     assert!(rt; kept(&mut log, b"two"));
-    let body = log.body(Why::Panic, 1, 4060)?;
+    let body = log.body(Reason::Panic, 1, 4060)?;
     assert_eq!(rt; body.as_slice(), b"Panic#1 Part1\none\ntwo\n".as_slice());
     Ok(())
 }
@@ -28,9 +28,9 @@ fn a_log_longer_than_its_room(rt: HostRuntime) -> Result<(), Fail> {
     for _ in 0..100 {
         assert!(rt; kept(&mut log, b"xxxxxxxxx"));
     }
-    let body = log.body(Why::Panic, 1, 569)?;
+    let body = log.body(Reason::Panic, 1, 569)?;
     assert_eq!(rt; body.len(), 564);
-    let short = log.body(Why::Emergency, 4_294_967_295, 5)?;
+    let short = log.body(Reason::Emergency, 4_294_967_295, 5)?;
     assert_eq!(rt; short.as_slice(), b"Emerg".as_slice());
     Ok(())
 }
@@ -41,7 +41,7 @@ fn old_lines_go(rt: HostRuntime) -> Result<(), Fail> {
     assert!(rt; kept(&mut log, b"first"));
     assert!(rt; kept(&mut log, b""));
     assert!(rt; kept(&mut log, &[b'a'; 249]));
-    let body = log.body(Why::Oops, 2, 4060)?;
+    let body = log.body(Reason::Oops, 2, 4060)?;
     assert_eq!(rt;
         body.len(),
         13 + 1 + 250,
@@ -52,7 +52,7 @@ fn old_lines_go(rt: HostRuntime) -> Result<(), Fail> {
         !kept(&mut log, &[b'c'; 256]),
         "a line as long as the limit"
     );
-    let body = log.body(Why::Shutdown, 3, 4060)?;
+    let body = log.body(Reason::Shutdown, 3, 4060)?;
     assert_eq!(rt; body.len(), 17 + 256, "the last line alone");
     Ok(())
 }

@@ -7,9 +7,10 @@ use Rattle.zone_spec.specs.declared.Time.{Time}
 use Rattle.zone_spec.specs.TimeLines.{line_text}
 use Rattle.machine_spec.specs.States.{LiveState}
 use Rattle.machine_spec.specs.LiveZones.{Target}
-use Rattle.kmsg_spec.specs.declared.Why.{Why}
+use Rattle.kmsg_spec.specs.declared.Reason.{Reason}
+use Rattle.kmsg_spec.specs.Reasons.{reason_of}
 use Rattle.kmsg_spec.specs.Bodies.{bytes_of, last_lines, heading, body}
-use Rattle.script_spec.specs.Scripts.{Kernel, crash_body, dump_target, room_in, why_of, log_limit}
+use Rattle.script_spec.specs.Scripts.{Kernel, crash_body, dump_target, room_in, log_limit}
 use Rattle.tool_laws.specs.Crashes.{CrashesAreToldWhole}
 
 size_by : (n : ℕ) (b : Bool) (lines last : List (List ℕ)) → nat_le (length (bytes_of lines)) n ≡ b
@@ -32,7 +33,7 @@ body_by room head lines true e =
     omega (arith, fits, last, all)
 body_by room head lines false e = let n = length-take room head in omega (arith, n)
 
-pub body_fits : (why : Why) (count room : ℕ) (lines : List (List ℕ)) → length (body why count room lines) ≤ room
+pub body_fits : (why : Reason) (count room : ℕ) (lines : List (List ℕ)) → length (body why count room lines) ≤ room
 body_fits why count room lines =
     body_by room (heading why count) lines (nat_le (length (heading why count)) room) refl
 
@@ -40,7 +41,7 @@ crash_fits : (layout : List Zone) (live : LiveState) (kernel : Kernel) (reason :
     → dump_target layout live ≡ Some t
     → length (crash_body layout live kernel reason time) ≤ t.zone.cap - length (line_text time false)
 crash_fits layout live kernel reason time t e =
-    let fits = body_fits (why_of reason) (kernel.crashes + 1) (room_in (dump_target layout live) time)
+    let fits = body_fits (reason_of reason) (kernel.crashes + 1) (room_in (dump_target layout live) time)
     (last_lines log_limit kernel.printed) in
     let room : room_in (dump_target layout live) time ≡ t.zone.cap - length (line_text time false) =
     ap (λ (o : Option Target). room_in o time) e in

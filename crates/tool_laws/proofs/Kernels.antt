@@ -6,9 +6,10 @@ use Rattle.std.specs.Fmt.{digit_glyph, digits_onto, digits}
 use Rattle.std.proofs.lemmas.Bool.{ltb-true}
 use Rattle.std.proofs.lemmas.List.Elements.{All-nil, All-cons, All-head, All-tail, All-append, All-take, All-weaker}
 use Rattle.std.proofs.lemmas.List.Sums.{AllPass-from_list_all}
-use Rattle.kmsg_spec.specs.declared.Why.{Why}
-use Rattle.kmsg_spec.specs.declared.Why.TheVariants.{Panic, Oops, Emergency, Shutdown}
-use Rattle.kmsg_spec.specs.Bodies.{newline, ended, bytes_of, last_lines, why_text, heading, body}
+use Rattle.kmsg_spec.specs.declared.Reason.{Reason}
+use Rattle.kmsg_spec.specs.declared.Reason.TheVariants.{Panic, Oops, Emergency, Shutdown}
+use Rattle.kmsg_spec.specs.Reasons.{reason_number, reason_word}
+use Rattle.kmsg_spec.specs.Bodies.{newline, ended, bytes_of, last_lines, heading, body}
 use Rattle.grammar_spec.specs.Printed.{IsPayload}
 
 -- ---- last lines
@@ -65,23 +66,23 @@ decimal_bytes : (n : ℕ) → IsPayload (decimal n)
 unfolding digits
 decimal_bytes n = digits_bytes 64 n [] (All-nil (λ b. b < 256))
 
-why_bytes : (why : Why) → IsPayload (why_text why)
-why_bytes Panic = literal_bytes (why_text Panic) refl
-why_bytes Oops = literal_bytes (why_text Oops) refl
-why_bytes Emergency = literal_bytes (why_text Emergency) refl
-why_bytes Shutdown = literal_bytes (why_text Shutdown) refl
+reason_bytes : (why : Reason) → IsPayload (reason_word (reason_number why))
+reason_bytes Panic = literal_bytes (reason_word 1) refl
+reason_bytes Oops = literal_bytes (reason_word 2) refl
+reason_bytes Emergency = literal_bytes (reason_word 3) refl
+reason_bytes Shutdown = literal_bytes (reason_word 4) refl
 
-heading_bytes : (why : Why) (count : ℕ) → IsPayload (heading why count)
+heading_bytes : (why : Reason) (count : ℕ) → IsPayload (heading why count)
 heading_bytes why count =
     let P : ℕ → Type 0 = λ b. b < 256 in
-    let named = All-append P (why_text why) (codes "#") (why_bytes why) (literal_bytes (codes "#") refl) in
-    let numbered = All-append P (why_text why ++ codes "#") (decimal count) named (decimal_bytes count) in
-    let parted = All-append P (why_text why ++ codes "#" ++ decimal count) (codes " Part1") numbered
+    let named = All-append P (reason_word (reason_number why)) (codes "#") (reason_bytes why) (literal_bytes (codes "#") refl) in
+    let numbered = All-append P (reason_word (reason_number why) ++ codes "#") (decimal count) named (decimal_bytes count) in
+    let parted = All-append P (reason_word (reason_number why) ++ codes "#" ++ decimal count) (codes " Part1") numbered
     (literal_bytes (codes " Part1") refl) in
-    All-append P (why_text why ++ codes "#" ++ decimal count ++ codes " Part1") (newline ∷ []) parted
+    All-append P (reason_word (reason_number why) ++ codes "#" ++ decimal count ++ codes " Part1") (newline ∷ []) parted
     (literal_bytes (newline ∷ []) refl)
 
-pub body_bytes : (why : Why) (count room : ℕ) (lines : List (List ℕ)) → All IsPayload lines
+pub body_bytes : (why : Reason) (count room : ℕ) (lines : List (List ℕ)) → All IsPayload lines
     → IsPayload (body why count room lines)
 body_bytes why count room lines h = by (nat_le (length head) room)
   where

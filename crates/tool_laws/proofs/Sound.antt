@@ -19,9 +19,10 @@ use Rattle.grammar_spec.specs.declared.line.Line.{Line}
 use Rattle.grammar_spec.specs.declared.line.Line.TheVariants.{Blank, Write, Dump, BeginWrite, BeginDump, Stop, Flip, Boot, List as ListLine, Extract, Erase, KDump, CutAfter, KMsg, Crash, Reserve, StoreNext}
 use Rattle.grammar_spec.specs.Fields.{Text}
 use Rattle.grammar_spec.specs.Printed.{HasFields, AllHaveFields, IsPayload}
-use Rattle.script_spec.specs.Scripts.{StoreDone, Kernel, new_kernel, Done, Ran, ran, ran_on, next_line, started, store_line, beside, prints, crash_body, crashed, crashes, log_limit, why_of, room_in, dump_target, line_done, does, done_or_refused, named, lists, extracts, extracts_of, erases, erases_of, put_by}
+use Rattle.script_spec.specs.Scripts.{StoreDone, Kernel, new_kernel, Done, Ran, ran, ran_on, next_line, started, store_line, beside, prints, crash_body, crashed, crashes, log_limit, room_in, dump_target, line_done, does, done_or_refused, named, lists, extracts, extracts_of, erases, erases_of, put_by}
 use Rattle.script_spec.specs.declared.Cause.{Cause}
 use Rattle.script_spec.specs.declared.Cause.TheVariants.{TooLong}
+use Rattle.kmsg_spec.specs.Reasons.{reason_of}
 use Rattle.kmsg_spec.specs.Bodies.{last_lines}
 use Rattle.tool_laws.proofs.Kernels.{all_last, body_bytes}
 
@@ -158,7 +159,7 @@ crash_sound : (layout : List Zone) (mem : ℕ) (session : Session) (kernel : Ker
     → crashes layout session kernel reason time ≡ Ok d → IsSound layout mem d.session d.kernel
 crash_sound layout mem (Off off) kernel reason time d lies s fit h = absurd (cc)
 crash_sound layout mem (Live live) kernel reason time d lies s fit h =
-    let bytes = body_bytes (why_of reason) (kernel.crashes + 1) (room_in (dump_target layout live) time)
+    let bytes = body_bytes (reason_of reason) (kernel.crashes + 1) (room_in (dump_target layout live) time)
     (last_lines log_limit kernel.printed) (all_last IsPayload log_limit kernel.printed s.printed) in
     beside_sound layout mem lies (Live live) kernel (crashed kernel)
     (Dump time false (crash_body layout live kernel reason time)) d s s.printed

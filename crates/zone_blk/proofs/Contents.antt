@@ -10,7 +10,7 @@ use Rattle.zone_blk.specs.Loading.{IsIn}
 use Rattle.blk_spec.specs.declared.BlkName.{BlkName}
 use Rattle.blk_spec.specs.declared.BlkName.TheVariants.{Dump, Console, Pmsg}
 use Rattle.blk_spec.specs.Reading.{BlkDump}
-use Rattle.blk_spec.specs.Reasons.{reason_word}
+use Rattle.kmsg_spec.specs.Reasons.{reason_word}
 use Rattle.blk_spec.specs.Names.{is_name, dump_name, dump_content}
 use Rattle.blk_spec.specs.States.{BlkState, content_of, is_listed}
 use Rattle.blk_laws.proofs.Listings.{listed-parts, listed-console, listed-pmsg}

@@ -2,8 +2,8 @@
 use Rattle.std.proofs.Common.{◌≡◌, ℕ, ◌+◌, ◌-◌, ◌≤◌, Bool, List, ◌∷◌, length, Option, Some, None, Result, Ok, Err, refl, ap, ◌∙◌}
 use Rattle.blk_spec.specs.declared.BlkZone.{BlkZone}
 use Rattle.blk_spec.specs.declared.BlkTime.{BlkTime}
-use Rattle.blk_spec.specs.declared.Reason.{Reason}
-use Rattle.blk_spec.specs.Reasons.{reason_number}
+use Rattle.kmsg_spec.specs.declared.Reason.{Reason}
+use Rattle.kmsg_spec.specs.Reasons.{reason_number}
 use Rattle.blk_spec.specs.Rings.{header_bytes}
 use Rattle.blk_spec.specs.Dumps.{dump_header, body_kept, dump_writes, dump_pieces, zeros_by}
 use Rattle.blk_spec.specs.declared.BlkCut.{BlkCut}

@@ -4,7 +4,7 @@ ghost use Rattle.std.specs.Int.{to_le_bytes};
 ghost use Rattle.std.proofs.Common.{w32, w64};
 ghost use Rattle.outside.specs.Outside.{HasCause};
 ghost use Rattle.blk_spec.specs.Answers.{HasRoom, device};
-ghost use Rattle.blk_spec.specs.Reasons.{reason_number};
+ghost use Rattle.kmsg_spec.specs.Reasons.{reason_number};
 ghost use Rattle.blk_spec.specs.Dumps.{dump_header, dump_writes, dump_pieces};
 ghost use Rattle.zone_blk.specs.Outcomes.{EndsAs};
 ghost use Rattle.zone_blk.specs.Fits.{IsZone};

@@ -3,7 +3,7 @@ use Rattle.std.proofs.Common.{◌≡◌, ℕ, ◌+◌, ◌-◌, ◌≤◌, ◌++
 use Rattle.std.proofs.lemmas.List.{length-append, length-drop, append_assoc}
 use Rattle.std.proofs.lemmas.Bool.{le-leb}
 use Rattle.circular_buffer.specs.Buffer.{Buffer}
-use Rattle.kmsg_spec.specs.declared.Why.{Why}
+use Rattle.kmsg_spec.specs.declared.Reason.{Reason}
 use Rattle.kmsg_spec.specs.Bodies.{bytes_of, heading, last_lines, body}
 use Rattle.kmsg_dump.specs.Kept.{IsLine, Keeps}
 use Rattle.kmsg_dump.specs.Starts.{IsFirstStart}
@@ -26,7 +26,7 @@ lines_in log given spare start k s =
     ∙ ap (λ (n : ℕ). bytes_of (last_lines n kept)) room ∙ ap bytes_of (in_room spare kept)
 
 -- with the heading
-body_in : (why : Why) (count room : ℕ) (lines : List (List ℕ)) → length (heading why count) ≤ room
+body_in : (why : Reason) (count room : ℕ) (lines : List (List ℕ)) → length (heading why count) ≤ room
     → heading why count ++ bytes_of (last_lines (room - length (heading why count)) lines) ≡ body why count room lines
 body_in why count room lines h = rw (le-leb (length (heading why count)) room h) refl
 
@@ -43,12 +43,12 @@ returns c = λ given k.
     let v : c.self.inside.ring ≡ c.args.self.now = c.self.view_is in
     let x : c.as_bytes-head.result.now ≡ c.deref.result.now = c.as_bytes-head.ensures.value in
     let d : c.deref.result.now ≡ c.heading_of-text.result.bytes = c.deref.ensures.0 in
-    let h : c.heading_of-text.result.bytes ≡ heading c.args.why c.args.count = c.heading_of-text.ensures in
+    let h : c.heading_of-text.result.bytes ≡ heading c.args.reason c.args.count = c.heading_of-text.ensures in
     let head = x ∙ d ∙ h in
     let hn = ap length head in
     let vn = ap (λ (b : Buffer ℕ). length b.items) v in
     let n = c.len-len.ensures.len in
-    let spare = c.args.room - length (heading c.args.why c.args.count) in
+    let spare = c.args.room - length (heading c.args.reason c.args.count) in
     let from : c.len-len.result - c.min.result ≡ length c.args.self.now.items - min (length c.args.self.now.items)
     spare =
     omega (arith, hn, vn, n, c.min.ensures) in
@@ -62,11 +62,11 @@ returns c = λ given k.
     c.tail.ensures ∙ ap (drop c.start_from-start.result) (c.as_slices.ensures ∙ ap (λ (b : Buffer ℕ). b.items) v)
     ∙ lines_in c.args.self.now given spare c.start_from-start.result k start in
     let made : c.extend_from_slice-3.new.self.items
-    ≡ heading c.args.why c.args.count ++ (c.tail.result.0.now ++ c.tail.result.1.now) =
+    ≡ heading c.args.reason c.args.count ++ (c.tail.result.0.now ++ c.tail.result.1.now) =
     c.in_ok-extend_from_slice-3.ensures.items
     ∙ ap (λ (bytes : List ℕ). bytes ++ c.tail.result.1.now) (c.in_ok-extend_from_slice-2.ensures.items
     ∙ ap (λ (bytes : List ℕ). bytes ++ c.tail.result.0.now) (p
     ∙ ap (λ (bytes : List ℕ). bytes ++ c.as_bytes-head.result.now) w ∙ head))
-    ∙ append_assoc (heading c.args.why c.args.count) c.tail.result.0.now c.tail.result.1.now in
-    c.from_vec.ensures ∙ made ∙ ap (λ (bytes : List ℕ). heading c.args.why c.args.count ++ bytes) rest
-    ∙ body_in c.args.why c.args.count c.args.room (last_lines c.args.self.now.capacity given) (omega (arith, hn))
+    ∙ append_assoc (heading c.args.reason c.args.count) c.tail.result.0.now c.tail.result.1.now in
+    c.from_vec.ensures ∙ made ∙ ap (λ (bytes : List ℕ). heading c.args.reason c.args.count ++ bytes) rest
+    ∙ body_in c.args.reason c.args.count c.args.room (last_lines c.args.self.now.capacity given) (omega (arith, hn))

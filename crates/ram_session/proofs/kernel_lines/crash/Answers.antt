@@ -8,12 +8,12 @@ pub returns-in-Ok-clause-done : goal.returns-in-Ok-clause-done
 returns-in-Ok-clause-done c = λ logs.
     crash_done c.args.live.now c.dump.new.live logs c.args.kernel.now _ c.args.reason c.args.time c.in_ok-body.body
     (told_body c.args.live.now.layout c.zones.result.now c.args.kernel.now c.args.reason c.args.time c.in_ok-body.body
-    c.why.result c.body_room-room.result c.why.ensures c.body_room-room.ensures c.zones.ensures.value
+    c.of_number.result c.body_room-room.result c.of_number.ensures c.body_room-room.ensures c.zones.ensures.value
     c.in_ok-body.ensures) refl refl (c.in-Ok.ensures logs)
 
 pub returns-in-Err-clause-done : goal.returns-in-Err-clause-done
 returns-in-Err-clause-done c = λ logs.
     crash_fails c.args.live.now logs c.args.kernel.now c.args.reason c.args.time c.in_ok-body.body c.in-Err.e
     (told_body c.args.live.now.layout c.zones.result.now c.args.kernel.now c.args.reason c.args.time c.in_ok-body.body
-    c.why.result c.body_room-room.result c.why.ensures c.body_room-room.ensures c.zones.ensures.value
+    c.of_number.result c.body_room-room.result c.of_number.ensures c.body_room-room.ensures c.zones.ensures.value
     c.in_ok-body.ensures) (c.in-Err.ensures logs)
