@@ -1,5 +1,5 @@
 -- The foreign parts of a page
-use Rattle.std.proofs.Common.{◌≡◌, ℕ, suc, ◌+◌, ◌<◌, ◌≤◌, ◌==◌, Bool, true, false, cond, nat_lt, List, [], ◌∷◌, ◌++◌, length, map, slice_get, drop, ◌-◌, ◌*◌, All, Option, Some, None, codes, append_assoc, refl, sym, ap, ap₂, ◌∙◌, subst, append-nil, get_or, inl, inr, arith}
+use Rattle.std.proofs.Common.{◌≡◌, ℕ, suc, ◌+◌, ◌<◌, ◌≤◌, ◌==◌, Bool, true, false, cond, nat_lt, List, [], ◌∷◌, ◌++◌, length, slice_get, drop, ◌-◌, ◌*◌, All, Option, Some, None, codes, append_assoc, refl, sym, ap, ap₂, ◌∙◌, subst, append-nil, get_or, inl, inr, arith}
 use Rattle.std.specs.Prelude.{flat_map}
 use Rattle.std.specs.List.{zip}
 use Rattle.std.proofs.lemmas.Bool.{cases_order}
@@ -25,13 +25,16 @@ use Rattle.death_spec.specs.declared.Line.{Line}
 use Rattle.death_spec.specs.declared.Span.{Span}
 use Rattle.death_spec.specs.declared.Death.{Death}
 use Rattle.death_spec.specs.Lines.{part}
+use Rattle.death_spec.specs.Reports.{death_of}
 use Rattle.prz_region.proofs.Chains.{AreBytes-take, AreBytes-drop}
 use Rattle.record_report.specs.Reports.{ReportHeld}
 use Rattle.report_html.specs.Pieces.{Part, Words, Count, Bytes, parts_text}
 use Rattle.report_html.specs.Pictures.{zone_name, place_parts, bar_parts, fitting_parts, label_parts, map_parts, closing, corrected_parts, header_parts, blocks_parts, run_parts, runs, unused_parts, row_parts, zone_parts, drawn_parts, width_of, region_opening, key_words, table_words, all_drawn, picture}
 use Rattle.report_html.specs.Names.{name_parts, time_parts}
 use Rattle.report_html.specs.Died.{second_parts, said_parts, fact_parts, stamp_of, when_parts, no_cpu, no_function, context_parts, place_above, below, rest_parts, around_parts, teller_parts, death_parts, died_parts, second_bytes, named_bytes, said_bytes, context_bytes, rest_bytes, around_bytes, death_bytes, died_bytes}
-use Rattle.report_html.specs.Pages.{length_parts, packing_parts, content_parts, record_parts, records_opening, heading_parts, end_words, page_parts}
+use Rattle.report_html.specs.Listed.{below_parts, telling_parts, above_parts, say_parts, unfolded, is_unfolded, fold_parts, below_bytes, telling_bytes, above_bytes, record_bytes}
+use Rattle.report_html.specs.Groups.{are_grouped, group_in, is_same, end_parts, begin_parts, edge_parts}
+use Rattle.report_html.specs.Pages.{length_parts, packing_parts, content_parts, record_parts, listed_parts, records_after, list_parts, records_opening, heading_parts, end_words, page_parts}
 use Rattle.report_html.specs.Escaping.{foreign_in, foreign_of, HoldBytes, TellsBytes, IsWithoutMarkup}
 use Rattle.report_html.proofs.Texts.{is-text}
 
@@ -129,8 +132,31 @@ of-picture zones report =
 
 -- ---- a record has what people read of it
 
-of-name : (name : Name)
-    → foreign_of (Words (codes "<details>\n<summary><b>") ∷ [] ++ name_parts name ++ Words (codes "</b>") ∷ []) ≡ []
+of-below : (text : List ℕ) (span : Option Span) → foreign_of (below_parts text span) ≡ below_bytes text span
+of-below text None = refl
+of-below text (Some span) = refl
+
+of-telling : (text : List ℕ) (d : Option Death) → foreign_of (telling_parts text d) ≡ telling_bytes text d
+of-telling text None = refl
+of-telling text (Some d) =
+    ap (λ (bs : List (List ℕ)). part text d.telling.text d.telling.end ∷ bs) (of-below text d.function)
+
+of-above : (name : Name) (text : List ℕ) → foreign_of (above_parts name text) ≡ above_bytes name text
+of-above (Dump index packed) text = of-telling text (death_of text)
+of-above Console text = of-telling text (death_of text)
+of-above Pmsg text = refl
+of-above Ftrace text = refl
+
+of-say : (name : Name) (text : List ℕ) → foreign_of (say_parts name text) ≡ above_bytes name text
+of-say name text =
+    and-none (Words (codes "<pre class=\"say\">") ∷ [] ++ above_parts name text) (Words (codes "</pre>\n") ∷ [])
+    (above_bytes name text) (of-above name text) refl
+
+of-fold : (is_open : Bool) → foreign_of (fold_parts is_open) ≡ []
+of-fold true = refl
+of-fold false = refl
+
+of-name : (name : Name) → foreign_of (name_parts name) ≡ []
 of-name (Dump index packed) = refl
 of-name Console = refl
 of-name Pmsg = refl
@@ -151,23 +177,51 @@ of-content Console text = refl
 of-content Pmsg text = refl
 of-content Ftrace text = refl
 
-of-record : (r : RecordShown) → foreign_of (record_parts r) ≡ readable r ∷ []
-of-record r =
-    let named : List Part =
-    Words (codes "<details>\n<summary><b>") ∷ [] ++ name_parts r.name ++ Words (codes "</b>") ∷ [] in
-    let timed : List Part = named ++ time_parts r.time in
+of-record : (is_open : Bool) (r : RecordShown) → foreign_of (record_parts is_open r) ≡ record_bytes r
+of-record is_open r =
+    let text : List ℕ = readable r in
+    let a : List (List ℕ) = above_bytes r.name text in
+    let say : List Part = say_parts r.name text in
+    let folded : List Part = say ++ fold_parts is_open in
+    let named : List Part = folded ++ name_parts r.name in
+    let ended : List Part = named ++ Words (codes "</b>") ∷ [] in
+    let timed : List Part = ended ++ time_parts r.time in
     let long : List Part = timed ++ length_parts (length r.content) in
-    none-and (long ++ packing_parts r.packing) (content_parts r.name (readable r))
-    (none-and long (packing_parts r.packing)
-    (none-and timed (length_parts (length r.content)) (none-and named (time_parts r.time) (of-name r.name)
-    ∙ of-time r.time)) ∙ of-packing r.packing)
-    ∙ of-content r.name (readable r)
+    and-of (long ++ packing_parts r.packing) (content_parts r.name text) a (text ∷ [])
+    (and-none long (packing_parts r.packing) a
+    (and-none timed (length_parts (length r.content)) a
+    (and-none ended (time_parts r.time) a
+    (and-none named (Words (codes "</b>") ∷ []) a
+    (and-none folded (name_parts r.name) a (and-none say (fold_parts is_open) a (of-say r.name text) (of-fold is_open))
+    (of-name r.name)) refl) (of-time r.time)) refl) (of-packing r.packing))
+    (of-content r.name text)
 
-of-records : (rs : List RecordShown) → foreign_of (flat_map record_parts rs) ≡ map readable rs
-of-records [] = refl
-of-records (r ∷ rs) =
-    both (record_parts r) (flat_map record_parts rs)
-    ∙ ap₂ (λ (a b : List (List ℕ)). a ++ b) (of-record r) (of-records rs)
+of-end : (group : Option ℕ) → foreign_of (end_parts group) ≡ []
+of-end None = refl
+of-end (Some g) = refl
+
+of-begin : (number group : Option ℕ) → foreign_of (begin_parts number group) ≡ []
+of-begin number None = refl
+of-begin number (Some g) = refl
+
+of-edge : (number before after : Option ℕ) → foreign_of (edge_parts number before after) ≡ []
+of-edge number before after = by (is_same before after)
+  where
+    by : (t : Bool) → foreign_of (cond t [] (end_parts before ++ begin_parts number after)) ≡ []
+    by true = refl
+    by false = none-and (end_parts before) (begin_parts number after) (of-end before) ∙ of-begin number after
+
+of-records : (grouped : Bool) (number before : Option ℕ) (rs : List RecordShown)
+    → foreign_of (records_after grouped number before rs) ≡ flat_map record_bytes rs
+unfolding records_after
+of-records grouped number before [] = of-edge number before None
+of-records grouped number before (r ∷ rs) =
+    let group : Option ℕ = group_in grouped r.name in
+    let edge : List Part = edge_parts number before group in
+    let listed : List Part = listed_parts number r in
+    and-of (edge ++ listed) (records_after grouped number group rs) (record_bytes r) (flat_map record_bytes rs)
+    (none-and edge listed (of-edge number before group) ∙ of-record (is_unfolded number r.name) r)
+    (of-records grouped number group rs)
 
 -- ---- why the machine died has parts of the text that tells it
 
@@ -246,20 +300,20 @@ of-died (Some t) = of-death t
 -- ---- the page has its title, those parts, and what people read of its records
 
 of-page : (title : List ℕ) (zones : List Zone) (report : ReportHeld) → foreign_of (page_parts title zones report)
-    ≡ title ∷ died_bytes (death_told report.records) ++ map readable report.records
+    ≡ title ∷ died_bytes (death_told report.records) ++ flat_map record_bytes report.records
 of-page title zones report =
     let head : List Part = heading_parts title in
     let died : List Part = died_parts (death_told report.records) in
     let opened : List Part = records_opening (length report.records) in
-    let records : List Part = flat_map record_parts report.records in
+    let records : List Part = list_parts zones report.records in
     let d : List (List ℕ) = died_bytes (death_told report.records) in
-    let m : List (List ℕ) = map readable report.records in
+    let m : List (List ℕ) = flat_map record_bytes report.records in
     and-none (head ++ died ++ opened ++ records ++ picture zones report) (Words end_words ∷ []) (title ∷ d ++ m)
     (and-none (head ++ died ++ opened ++ records) (picture zones report) (title ∷ d ++ m)
     (and-of (head ++ died ++ opened) records (title ∷ d) m
     (and-none (head ++ died) opened (title ∷ d)
     (and-of head died (title ∷ []) d refl (of-died (death_told report.records))) refl)
-    (of-records report.records)) (of-picture zones report)) refl
+    (of-records (are_grouped zones) (unfolded report.records) None report.records)) (of-picture zones report)) refl
 
 -- ---- each of them is escaped to text
 
@@ -332,16 +386,39 @@ texts-died : (t : Option DeathTold) (more : List (List ℕ)) → TellsBytes t �
 texts-died None more h all = all
 texts-died (Some t) more h all = joins-death (readable t.teller) t.death h more all
 
-texts-of : (rs : List RecordShown) → HoldBytes rs → EscapeToTexts (map readable rs)
+joins-whole : (text : List ℕ) → AreBytes text → Joins (text ∷ [])
+joins-whole text h more all = onto text more (is-text text h) all
+
+joins-below : (text : List ℕ) (span : Option Span) → AreBytes text → Joins (below_bytes text span)
+joins-below text None h = joins-none
+joins-below text (Some span) h = joins-with text span.start span.end [] h joins-none
+
+joins-telling : (text : List ℕ) (d : Option Death) → AreBytes text → Joins (telling_bytes text d)
+joins-telling text None h = joins-none
+joins-telling text (Some d) h =
+    joins-with text d.telling.text d.telling.end (below_bytes text d.function) h (joins-below text d.function h)
+
+joins-above : (name : Name) (text : List ℕ) → AreBytes text → Joins (above_bytes name text)
+joins-above (Dump index packed) text h = joins-telling text (death_of text) h
+joins-above Console text h = joins-telling text (death_of text) h
+joins-above Pmsg text h = joins-none
+joins-above Ftrace text h = joins-none
+
+joins-record : (r : RecordShown) → AreBytes (readable r) → Joins (record_bytes r)
+joins-record r h =
+    joins-and (above_bytes r.name (readable r)) (readable r ∷ []) (joins-above r.name (readable r) h)
+    (joins-whole (readable r) h)
+
+texts-of : (rs : List RecordShown) → HoldBytes rs → EscapeToTexts (flat_map record_bytes rs)
 texts-of [] h = All-nil (λ (bytes : List ℕ). IsText (escaped bytes))
-texts-of (r ∷ rs) h = All-cons (λ (bytes : List ℕ). IsText (escaped bytes)) (readable r)
-    (map readable rs) (is-text (readable r) (h 0 r refl)) (texts-of rs (λ k q e. h (suc k) q e))
+texts-of (r ∷ rs) h =
+    joins-record r (h 0 r refl) (flat_map record_bytes rs) (texts-of rs (λ k q e. h (suc k) q e))
 
 pub without_markup : (title : List ℕ) (zones : List Zone) (report : ReportHeld) (page : List ℕ) → AreBytes title
     → HoldBytes report.records → TellsBytes (death_told report.records)
     → page ≡ parts_text (page_parts title zones report) → IsWithoutMarkup title report.records page
 without_markup title zones report page bytes hold tells is =
-    let records = map readable report.records in
+    let records = flat_map record_bytes report.records in
     let died = died_bytes (death_told report.records) in
     record {
       parts = page_parts title zones report;

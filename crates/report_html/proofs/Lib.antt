@@ -11,3 +11,4 @@ pub mod Blocks
 pub mod Drawn
 pub mod Places
 pub mod LogLines
+pub mod Grouped

@@ -5,5 +5,7 @@ pub mod Pictures
 pub mod Covers
 pub mod Names
 pub mod Died
+pub mod Listed
+pub mod Groups
 pub mod Pages
 pub mod Escaping

@@ -7,7 +7,9 @@
 
 mod died;
 mod escaping;
+mod groups;
 mod laws;
+mod listed;
 mod logs;
 mod moments;
 mod names;

@@ -1,10 +1,11 @@
 // Pages and escaped bytes.
 use crate::packed_dumps::{DAMAGED, WHOLE, report_on, zones_of};
-use crate::worked_deaths::{self, CONSOLE, FATAL, NAMED, NONE};
+use crate::worked_deaths::{self, CONSOLE, FATAL, NAMED, NONE, OOPS, PANIC, SILENT};
 use outside::Bytes;
 use ramoops_layout::{Params, layout};
 use record_report::report_of;
 use report_html::*;
+use std::alloc::Global;
 use std::test::Fail;
 use symbols::Symbols;
 
@@ -187,6 +188,132 @@ fn why_it_died_by_the_console(rt: HostRuntime) -> Result<(), Fail> {
     assert!(rt; shows(rt, [NONE, NONE, NONE, FATAL], marked)?);
     let none = "</nav>\n<pre class=\"why\">No record tells why.</pre>\n</header>\n<main>\n";
     assert!(rt; shows(rt, [NONE, NONE, NONE, NONE], none)?);
+    Ok(())
+}
+
+// Above each record stands its telling line, with the function that is named below it.
+#[test]
+fn telling_lines_of_the_list(rt: HostRuntime) -> Result<(), Fail> {
+    for record in [
+        "<pre class=\"say\">BUG: kernel NULL pointer dereference, address: 0000000000000000
+<span>lkdtm_EXCEPTION+0x8/0x14 [lkdtm]</span></pre>
+<details>\n<summary><b>dmesg-ramoops-0</b><span>2026-11-26 23:44:14.642000 UTC</span>",
+        "<pre class=\"say\">Kernel panic - not syncing: sysrq triggered crash</pre>
+<details>\n<summary><b>dmesg-ramoops-1</b><span>2026-11-26 23:44:14.688627 UTC</span>",
+        "<pre class=\"say\">Kernel panic - not syncing: sysrq triggered crash</pre>
+<details>\n<summary><b>console-ramoops-0</b><span>",
+    ] {
+        assert!(rt;
+            shows(rt, [OOPS, PANIC, NONE, CONSOLE], record)?,
+            "{record}"
+        );
+    }
+    let hostile = "<pre class=\"say\">Kernel panic - not syncing: &lt;b&gt;\\xff
+<span>sysrq_handle_crash+0x16/0x20</span></pre>
+<details>\n<summary><b>dmesg-ramoops-0</b>";
+    assert!(rt; shows(rt, [NAMED, NONE, NONE, NONE], hostile)?);
+    // a fatal exception is told by the oops above it
+    let fatal = "<pre class=\"say\">Oops: a</pre>\n<details>\n<summary><b>console-ramoops-0</b>";
+    assert!(rt; shows(rt, [NONE, NONE, NONE, FATAL], fatal)?);
+    let silent =
+        "<pre class=\"say\">no telling line</pre>\n<details>\n<summary><b>console-ramoops-0</b>";
+    assert!(rt; shows(rt, [NONE, NONE, NONE, b"[    1.000000] a\n"], silent)?);
+    Ok(())
+}
+
+// The newest dump is unfolded if it does not tell, and no other record.
+#[test]
+fn unfolded_dump(rt: HostRuntime) -> Result<(), Fail> {
+    let open = "<details open>";
+    assert!(rt; !shows(rt, [OOPS, PANIC, NONE, CONSOLE], open)?);
+    assert!(rt; !shows(rt, [NONE, NONE, NONE, CONSOLE], open)?);
+    assert!(rt; !shows(rt, [NONE, NONE, NONE, NONE], open)?);
+    let newest = "<pre class=\"say\">no telling line</pre>
+<details open>\n<summary><b>dmesg-ramoops-1</b><span>2026-11-26 23:44:15.000000 UTC</span>";
+    assert!(rt; shows(rt, [OOPS, SILENT, NONE, CONSOLE], newest)?);
+    let older = "</pre>\n<details>\n<summary><b>dmesg-ramoops-0</b>";
+    assert!(rt; shows(rt, [OOPS, SILENT, NONE, CONSOLE], older)?);
+    let console = "</pre>\n<details>\n<summary><b>console-ramoops-0</b>";
+    assert!(rt; shows(rt, [OOPS, SILENT, NONE, CONSOLE], console)?);
+    // no record tells
+    let silent =
+        "<pre class=\"say\">no telling line</pre>\n<details open>\n<summary><b>dmesg-ramoops-2</b>";
+    assert!(rt; shows(rt, [NONE, NONE, SILENT, NONE], silent)?);
+    // the console has a panic that the dump lacks
+    let dump =
+        "<span>lkdtm_EXCEPTION+0x8/0x14 [lkdtm]</span></pre>\n<details open>\n<summary><b>dmesg-ramoops-0</b>";
+    assert!(rt; shows(rt, [OOPS, NONE, NONE, CONSOLE], dump)?);
+    Ok(())
+}
+
+/// The page of an image of 36 dumps of 256 bytes and a console, which holds these logs at these zones.
+fn page_of_many(alloc: Global, logs: &[(u16, &[u8])]) -> Result<Vec<u8>, Fail> {
+    let params = Params {
+        mem: 37 * 256,
+        dump: 256,
+        console: 256,
+        ..worked_deaths::PARAMS
+    };
+    let zones = layout(alloc, &params)?;
+    let mut bytes = Vec::new(alloc);
+    for (zone, log) in logs {
+        bytes.resize(256 * usize::from(*zone), 0)?;
+        let used = u32::try_from(log.len())?.to_le_bytes();
+        bytes.extend_from_slice(b"DBGC")?;
+        bytes.extend_from_slice(&used)?;
+        bytes.extend_from_slice(&used)?;
+        bytes.extend_from_slice(log)?;
+    }
+    bytes.resize(37 * 256, 0)?;
+    let image = Bytes::from_vec(bytes);
+    if image.len() != zones.mem() as usize {
+        return Err(Fail::from("the image has another size"));
+    }
+    let report = report_of(alloc, &zones, &Symbols::none(alloc), image)?;
+    Ok(html(alloc, b"a", zones.zones(), &report)?)
+}
+
+// Dumps of 32 zones make a group. That of the unfolded dump is open.
+#[test]
+fn groups_of_dumps(rt: HostRuntime) -> Result<(), Fail> {
+    let page = page_of_many(
+        rt.alloc(),
+        &[
+            (0, b"====1.0-D\na\n"),
+            (31, b"====2.0-D\nb\n"),
+            (32, b"====4.0-D\nc\n"),
+            (35, b"====3.0-D\nd\n"),
+            (36, b"e\n"),
+        ],
+    )?;
+    let text = str::from_utf8(page.as_slice())?;
+    for shown in [
+        "</p>\n<details class=\"group\">\n<summary><b>Dump zones from 0</b></summary>
+<pre class=\"say\">no telling line</pre>\n<details>\n<summary><b>dmesg-ramoops-0</b>",
+        "a\n</pre>\n</details>
+<pre class=\"say\">no telling line</pre>\n<details>\n<summary><b>dmesg-ramoops-31</b>",
+        "b\n</pre>\n</details>\n</details>
+<details class=\"group\" open>\n<summary><b>Dump zones from 32</b></summary>
+<pre class=\"say\">no telling line</pre>\n<details open>\n<summary><b>dmesg-ramoops-32</b>",
+        "c\n</pre>\n</details>
+<pre class=\"say\">no telling line</pre>\n<details>\n<summary><b>dmesg-ramoops-35</b>",
+        "d\n</pre>\n</details>\n</details>
+<pre class=\"say\">no telling line</pre>\n<details>\n<summary><b>console-ramoops-0</b>",
+        "e\n</pre>\n</details>\n<h2 id=\"region\">",
+    ] {
+        assert!(rt; text.contains(shown), "{shown}");
+    }
+    let page = page_of_many(
+        rt.alloc(),
+        &[(0, b"====1.0-D\na\n"), (31, b"====2.0-D\nb\n")],
+    )?;
+    assert!(rt; str::from_utf8(page.as_slice())?.contains("from 0</b>"));
+    assert!(rt; !str::from_utf8(page.as_slice())?.contains("from 32</b>"));
+    assert!(rt; !shows(rt, [OOPS, PANIC, NONE, CONSOLE], "class=\"group\"")?);
+    // a group at the end of the list
+    let page = page_of_many(rt.alloc(), &[(33, b"====1.0-D\na\n")])?;
+    let last = "a\n</pre>\n</details>\n</details>\n<h2 id=\"region\">";
+    assert!(rt; str::from_utf8(page.as_slice())?.contains(last));
     Ok(())
 }
 
