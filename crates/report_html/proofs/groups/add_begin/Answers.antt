@@ -15,5 +15,6 @@ returns-in-Some c =
     (c.is_same.ensures ∙ ap (λ (g : Option ℕ). is_same g (Some c.in-Some.of)) c.group_at.ensures) in
     let first : 32 * c.from.result ≡ 32 * c.in-Some.of = ap (λ (n : ℕ). 32 * n) c.from.ensures in
     on_ok_weaker c.add.result
-    (λ e. e ∙ ap (λ (ps : List Part). old ++ ps) (ap₂ fold words first ∙ sym (ap (begin_parts c.args.number) c.in-Some.is)))
-    c.add.ensures
+    (λ e. e
+    ∙ ap (λ (ps : List Part). old ++ ps)
+    (ap₂ fold words first ∙ sym (ap (begin_parts c.args.number) c.in-Some.is))) c.add.ensures

@@ -54,4 +54,5 @@ returns-clause-parts c =
     let to_time = joined old (s ++ begin ++ n ++ end) t ended timed to_end time in
     let to_length = joined old (s ++ begin ++ n ++ end ++ t) l timed long to_time bytes in
     let to_packing = joined old (s ++ begin ++ n ++ end ++ t ++ l) p long packed to_length packing in
-    joined old (s ++ begin ++ n ++ end ++ t ++ l ++ p) (content_parts r.name (readable r)) packed whole to_packing content
+    joined old (s ++ begin ++ n ++ end ++ t ++ l ++ p) (content_parts r.name (readable r)) packed whole to_packing
+    content
