@@ -11,3 +11,5 @@ pub mod Blocks
 pub mod Drawn
 pub mod Places
 pub mod LogLines
+pub mod Earlier
+pub mod Spotted

@@ -11,7 +11,7 @@ use Rattle.report_html.specs.declared.style.TheConstants.{STYLE}
 use Rattle.report_html.specs.Pieces.{Part, Words, Count, Bytes, Log, parts_text}
 use Rattle.report_html.specs.Names.{name_parts, time_parts}
 use Rattle.report_html.specs.Died.{died_parts}
-use Rattle.report_html.specs.Pictures.{picture}
+use Rattle.report_html.specs.Regions.{picture}
 
 abbrev pub length_parts : ℕ → List Part
 length_parts bytes = Words (codes "<span>") ∷ Count bytes ∷ Words (codes " bytes</span>") ∷ []
@@ -75,7 +75,7 @@ end_words =
 -- the heading, why the machine died, the records, and the picture of the zones
 abbrev pub page_parts : List ℕ → List Zone → ReportHeld → List Part
 page_parts title zones report =
-    heading_parts title ++ died_parts (death_told report.records) ++ records_opening (length report.records)
+    heading_parts title ++ died_parts report.records (death_told report.records) ++ records_opening (length report.records)
     ++ flat_map record_parts report.records ++ picture zones report ++ Words end_words ∷ []
 
 -- the page under this title of the report of these zones
