@@ -12,3 +12,5 @@ pub mod Drawn
 pub mod Places
 pub mod LogLines
 pub mod Grouped
+pub mod Earlier
+pub mod Spotted

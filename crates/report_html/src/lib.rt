@@ -5,6 +5,8 @@
 //! foreign bytes and logs, which are written escaped.
 #![tactic(auto)]
 
+mod before;
+mod block_runs;
 mod died;
 mod escaping;
 mod groups;
@@ -17,6 +19,7 @@ mod page;
 mod picture;
 mod pieces;
 mod region;
+mod spots;
 mod style;
 
 pub use escaping::push_escaped;

@@ -5,7 +5,7 @@ ghost use Rattle.report_spec.specs.Packed.{readable};
 ghost use Rattle.report_html.specs.Pieces.{parts};
 ghost use Rattle.report_html.specs.Pages.{length_parts, packing_parts, content_parts, record_parts, records_after, list_parts, records_opening, heading_parts, page_parts, page_of};
 ghost use Rattle.report_spec.specs.Deaths.{death_told};
-ghost use Rattle.report_html.specs.Escaping.{HoldBytes, TellsBytes, IsWithoutMarkup};
+ghost use Rattle.report_html.specs.Escaping.{HoldBytes, AllTellBytes, IsWithoutMarkup};
 
 use crate::died::add_died;
 use crate::groups::{add_edge, are_grouped, group_in};
@@ -196,7 +196,7 @@ fn all_pieces<'a>(
     report: &'a Report,
 ) -> Result<Vec<Piece<'a>>, AllocError>
     ensures bytes { OnOk result (HoldBytes report.entry.now.records) }
-    ensures tells { OnOk result (TellsBytes (death_told report.entry.now.records)) }
+    ensures tells { OnOk result (AllTellBytes report.entry.now.records (death_told report.entry.now.records)) }
     ensures parts { IfOk result (λ pieces. parts pieces.items
         ≡ page_parts title.entry.now zones.now report.entry.now) }
 {
@@ -205,7 +205,7 @@ fn all_pieces<'a>(
     add_died(&mut pieces, report.records())?;
     add_records_opening(&mut pieces, report.records().len() as u64)?;
     add_list(&mut pieces, zones, report.records())?;
-    add_picture(&mut pieces, zones, report)?;
+    add_picture(alloc, &mut pieces, zones, report)?;
     add(&mut pieces, &[Piece::Own(END)])?;
     Ok(pieces)
 }

@@ -25,12 +25,13 @@ font-size:clamp(1rem,2.2vw,1.375rem);line-height:1.3;font-weight:700;white-space
 table{border-collapse:collapse}\n\
 th,td{padding:.1875rem .625rem .1875rem 0;text-align:left;vertical-align:top;font-weight:400}\n\
 th{color:var(--dim);white-space:nowrap}\n\
-.fact td{overflow-wrap:anywhere}\n\
+.fact td{white-space:pre-line;overflow-wrap:anywhere}\n\
 .grid th,.grid td{border-top:1px solid var(--line)}\n\
 .grid td{white-space:pre}\n\
 .grid .n{text-align:right}\n\
 .grid .pic{padding:0 0 .5rem;border:0}\n\
 .scroll{overflow-x:auto}\n\
+details>.scroll{margin-bottom:1rem}\n\
 .ok,.fix,.bad,.off{font-weight:600;padding:0 .375rem;border:1px solid;border-radius:.25rem;white-space:nowrap}\n\
 .ok{color:var(--ok);fill:var(--okf)}\n\
 .fix{color:var(--fix);fill:var(--fix);border-style:dashed}\n\

@@ -2,6 +2,7 @@
 use crate::packed_dumps::{DAMAGED, WHOLE, report_on, zones_of};
 use crate::worked_deaths::{self, CONSOLE, FATAL, NAMED, NONE, OOPS, PANIC, SILENT};
 use outside::Bytes;
+use ramoops_layout::types::Layout;
 use ramoops_layout::{Params, layout};
 use record_report::report_of;
 use report_html::*;
@@ -30,35 +31,45 @@ fn escaped_rows(rt: HostRuntime) -> Result<(), Fail> {
     Ok(())
 }
 
-// The page of an image of one console record, which would be a script.
-#[test]
-fn hostile_record(rt: HostRuntime) -> Result<(), Fail> {
+// One console zone, with so many bytes of parity.
+fn one_console(alloc: Global, ecc: u64) -> Result<Layout, Fail> {
     let params = Params {
         mem: 4096,
         dump: 0,
         console: 4096,
         ftrace: 0,
         pmsg: 0,
-        ecc: 0,
+        ecc,
         cpus: 1,
         ftrace_sig: 0,
         block: 128,
-        ecc_dump: 0,
-        ecc_console: 0,
-        ecc_ftrace: 0,
-        ecc_pmsg: 0,
+        ecc_dump: ecc,
+        ecc_console: ecc,
+        ecc_ftrace: ecc,
+        ecc_pmsg: ecc,
     };
-    let zones = layout(rt.alloc(), &params)?;
-    let mut bytes = Vec::new(rt.alloc());
-    bytes.extend_from_slice(&[0x44, 0x42, 0x47, 0x43, 8, 0, 0, 0, 8, 0, 0, 0])?;
-    bytes.extend_from_slice(b"<script>")?;
-    bytes.resize(4096, 0)?;
+    Ok(layout(alloc, &params)?)
+}
+
+/// The page of an image of a console.
+fn console_page(alloc: Global, zones: &Layout, bytes: Vec<u8>) -> Result<Vec<u8>, Fail> {
     let image = Bytes::from_vec(bytes);
     if image.len() != zones.mem() as usize {
         return Err(Fail::from("the image has another size"));
     }
-    let report = report_of(rt.alloc(), &zones, &Symbols::none(rt.alloc()), image)?;
-    let page = html(rt.alloc(), b"a<b", zones.zones(), &report)?;
+    let report = report_of(alloc, zones, &Symbols::none(alloc), image)?;
+    Ok(html(alloc, b"a<b", zones.zones(), &report)?)
+}
+
+// The page of an image of one console record, which would be a script.
+#[test]
+fn hostile_record(rt: HostRuntime) -> Result<(), Fail> {
+    let zones = one_console(rt.alloc(), 0)?;
+    let mut bytes = Vec::new(rt.alloc());
+    bytes.extend_from_slice(&[0x44, 0x42, 0x47, 0x43, 8, 0, 0, 0, 8, 0, 0, 0])?;
+    bytes.extend_from_slice(b"<script>")?;
+    bytes.resize(4096, 0)?;
+    let page = console_page(rt.alloc(), &zones, bytes)?;
     let text = str::from_utf8(page.as_slice())?;
     assert!(rt; text.contains("<h1>Why this machine died: a&lt;b</h1>"));
     assert!(rt; text.contains("<h2 id=\"region\">The region: 4096 bytes, 1 zones</h2>"));
@@ -75,9 +86,14 @@ fn hostile_record(rt: HostRuntime) -> Result<(), Fail> {
 <td class=\"n\">8</td><td class=\"n\">8</td><td class=\"n\">0</td><td class=\"n\">0</td></tr>
 <tr><td class=\"pic\" colspan=\"8\"><svg class=\"strip\" viewBox=\"0 0 4096 24\" preserveAspectRatio=\"none\">
 <rect class=\"ok\" y=\"12\" height=\"12\" x=\"0\" width=\"12\"><title>header, clean</title></rect>
-<rect class=\"ok\" y=\"12\" height=\"12\" x=\"12\" width=\"128\"><title>blocks 0 up to 1, clean</title></rect>
-<rect class=\"off\" y=\"20\" height=\"4\" x=\"140\" width=\"3956\"><title>blocks 1 up to 32, not in use</title></rect>
+<rect class=\"ok\" y=\"12\" height=\"12\" x=\"12\" width=\"128\"><title>block 0, clean</title></rect>
+<rect class=\"off\" y=\"20\" height=\"4\" x=\"140\" width=\"3956\"><title>blocks 1 to 31, not in use</title></rect>
 </svg></td></tr>\n"
+        )
+    );
+    assert!(rt;
+        text.contains(
+            "<p class=\"note\">All headers and blocks in use are clean.</p>\n<div class=\"scroll\""
         )
     );
     assert!(rt;
@@ -87,6 +103,43 @@ fn hostile_record(rt: HostRuntime) -> Result<(), Fail> {
         )
     );
     assert!(rt; !text.contains("<script"));
+    Ok(())
+}
+
+// A log of 1000 zeros, whose parity is zeros too, with damage in the header, block 1, blocks 3 and 4, and block 6.
+#[test]
+fn spots_that_are_not_clean(rt: HostRuntime) -> Result<(), Fail> {
+    let zones = one_console(rt.alloc(), 16)?;
+    let mut bytes = Vec::new(rt.alloc());
+    bytes.extend_from_slice(&[0x44, 0x42, 0x47, 0x43, 0xe8, 3, 0, 0, 0xe8, 3, 0, 0])?;
+    bytes.resize(4080, 0)?;
+    let parity = [
+        167, 91, 197, 161, 235, 62, 89, 195, 178, 249, 61, 125, 1, 138, 99, 55,
+    ];
+    bytes.extend_from_slice(&parity)?;
+    for (place, b) in [(140, 1), (396, 2), (523, 3), (524, 4), (651, 5)] {
+        bytes[place] = b;
+    }
+    for place in 780..792 {
+        bytes[place] = 7;
+    }
+    let page = console_page(rt.alloc(), &zones, bytes)?;
+    let shown = "<details open><summary><b>Headers and blocks that are not clean: 4</b></summary>
+<div class=\"scroll\" tabindex=\"0\" role=\"region\" aria-label=\"Headers and blocks that are not clean\">\
+<table class=\"grid\">
+<tr><th scope=\"col\">Zone</th><th scope=\"col\" class=\"n\">Block</th><th scope=\"col\" class=\"n\">Place</th>\
+<th scope=\"col\" class=\"n\">Bytes</th><th scope=\"col\">Read</th></tr>
+<tr><th scope=\"row\">console 0</th><td class=\"n\">header</td><td class=\"n\">0</td><td class=\"n\">12</td>\
+<td><span class=\"fix\">corrected 1</span></td></tr>
+<tr><th scope=\"row\">console 0</th><td class=\"n\">1</td><td class=\"n\">140</td><td class=\"n\">128</td>\
+<td><span class=\"fix\">corrected 1</span></td></tr>
+<tr><th scope=\"row\">console 0</th><td class=\"n\">3 to 4</td><td class=\"n\">396</td><td class=\"n\">256</td>\
+<td><span class=\"fix\">corrected 2 in each</span></td></tr>
+<tr><th scope=\"row\">console 0</th><td class=\"n\">6</td><td class=\"n\">780</td><td class=\"n\">128</td>\
+<td><span class=\"bad\">bad</span></td></tr>
+</table></div>
+</details>\n";
+    assert!(rt; str::from_utf8(page.as_slice())?.contains(shown));
     Ok(())
 }
 
@@ -368,5 +421,26 @@ fn times(rt: HostRuntime) -> Result<(), Fail> {
     ] {
         assert!(rt; shows(rt, [log, NONE, NONE, NONE], shown)?, "{shown}");
     }
+    Ok(())
+}
+
+// The newest other dump that tells: one without a telling line is passed, and so is one that is older.
+#[test]
+fn what_was_before_it(rt: HostRuntime) -> Result<(), Fail> {
+    let before =
+        "<tr><th scope=\"row\">Before it</th><td><a href=\"#dmesg-ramoops-1\">dmesg-ramoops-1</a>, \
+2026-11-26 23:44:14.642000 UTC
+BUG: kernel NULL pointer dereference, address: 0000000000000000</td></tr>
+<tr><th scope=\"row\">Told by</th><td><a href=\"#dmesg-ramoops-0\">dmesg-ramoops-0</a></td></tr>\n";
+    assert!(rt; shows(rt, [PANIC, OOPS, NAMED, CONSOLE], before)?);
+    let silent = b"====1795736654.650000-D\nnothing\n";
+    assert!(rt; shows(rt, [PANIC, OOPS, silent, NONE], before)?);
+    let by_console =
+        "<tr><th scope=\"row\">Before it</th><td><a href=\"#dmesg-ramoops-1\">dmesg-ramoops-1</a>, \
+2026-11-26 23:44:14.642000 UTC
+BUG: kernel NULL pointer dereference, address: 0000000000000000</td></tr>
+<tr><th scope=\"row\">Told by</th><td><a href=\"#console-ramoops-0\">console-ramoops-0</a></td></tr>\n";
+    assert!(rt; shows(rt, [NAMED, OOPS, NONE, CONSOLE], by_console)?);
+    assert!(rt; !shows(rt, [PANIC, NONE, silent, CONSOLE], "Before it")?);
     Ok(())
 }
