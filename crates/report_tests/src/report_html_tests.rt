@@ -117,11 +117,15 @@ fn spots_that_are_not_clean(rt: HostRuntime) -> Result<(), Fail> {
         167, 91, 197, 161, 235, 62, 89, 195, 178, 249, 61, 125, 1, 138, 99, 55,
     ];
     bytes.extend_from_slice(&parity)?;
-    for (place, b) in [(140, 1), (396, 2), (523, 3), (524, 4), (651, 5)] {
-        bytes[place] = b;
+    for (at, b) in [(140, 1), (396, 2), (523, 3), (524, 4), (651, 5)] {
+        if let Some(place) = bytes.get_mut(at) {
+            *place = b;
+        }
     }
-    for place in 780..792 {
-        bytes[place] = 7;
+    for at in 780..792 {
+        if let Some(place) = bytes.get_mut(at) {
+            *place = 7;
+        }
     }
     let page = console_page(rt.alloc(), &zones, bytes)?;
     let shown = "<details open><summary><b>Headers and blocks that are not clean: 4</b></summary>
