@@ -93,11 +93,6 @@ fn hostile_record(rt: HostRuntime) -> Result<(), Fail> {
     );
     assert!(rt;
         text.contains(
-            "<p class=\"note\">All headers and blocks in use are clean.</p>\n<div class=\"scroll\""
-        )
-    );
-    assert!(rt;
-        text.contains(
             "<b>console-ramoops-0</b><span>8 bytes</span></summary>
 <pre class=\"log\" id=\"console-ramoops-0\">\n&lt;script&gt;</pre>\n"
         )
@@ -193,6 +188,14 @@ fn shows(rt: HostRuntime, logs: [&[u8]; 4], wanted: &str) -> Result<bool, Fail> 
     let report = worked_deaths::report_on(rt.alloc(), logs)?;
     let page = html(rt.alloc(), b"a", zones.zones(), &report)?;
     Ok(str::from_utf8(page.as_slice())?.contains(wanted))
+}
+
+#[test]
+fn no_spots(rt: HostRuntime) -> Result<(), Fail> {
+    let clean =
+        "<p class=\"note\">All headers and blocks in use are clean.</p>\n<div class=\"scroll\"";
+    assert!(rt; shows(rt, [NAMED, NONE, NONE, NONE], clean)?);
+    Ok(())
 }
 
 #[test]
