@@ -18,7 +18,8 @@ use crate::sweeping::sweep;
 use layout_spec::{Candidate, Known, Tally};
 use std::alloc::{AllocError, Global};
 
-// How much work a search may do: laying out a zone costs 64, a header without parity 4, one with parity 386 to 8,448.
+// How much work a search may do: laying out a zone costs 64, a header without parity 4, one with
+// parity 512.
 const WORK: u64 = 1 << 30;
 
 // More faults than this are not told apart.

@@ -84,18 +84,10 @@ fn is_left_out(besides: &Option<Candidate>, c: &Candidate) -> bool
     }
 }
 
-/// What a header costs to read: with more parity, more to decode.
-pub fn header_price(parity: u64) -> u64 {
-    if parity == 0 {
-        4
-    } else {
-        parity.saturating_mul(parity) / 2 + 384
-    }
-}
-
-// What a candidate costs that has so many zones, of which so many headers were looked at.
+// What a candidate costs that has so many zones, of which so many headers were looked at: with parity each may be
+// decoded.
 fn price(c: &Candidate, zones: usize, looked: u64) -> u64 {
-    let each = header_price(c.parity);
+    let each = if c.parity == 0 { 4 } else { 512 };
     (zones as u64)
         .saturating_mul(64)
         .saturating_add(looked.saturating_mul(each))

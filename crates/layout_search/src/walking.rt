@@ -12,7 +12,6 @@ use crate::progress::{Aim, Progress};
 use crate::rows::{console_row, dump_memory, dump_row, ftrace_row, has_room, pmsg_row};
 use crate::seeing::{may_begin, may_fit};
 use crate::tagging::try_tags;
-use crate::trying::header_price;
 use layout_spec::{Candidate, Known};
 use std::alloc::{AllocError, Global};
 
@@ -94,7 +93,6 @@ fn try_parities(
     ensures sound { OnOk result (IsSound known.now image.now aim.now.besides state.new.best) }
 {
     for k in 0..parities.len() {
-        spend(state, header_price(parities[k]));
         if state.work == 0 {
             return Ok(());
         }
