@@ -7,9 +7,7 @@ use Rattle.std.proofs.Math.ListN.{drop_of_length-le}
 use Rattle.std.proofs.lemmas.Option.{slice_get-get_or}
 use Rattle.report_spec.specs.declared.PartState.{PartState}
 use Rattle.report_spec.specs.declared.PartState.TheVariants.{Read, Bad}
-use Rattle.zone_spec.specs.declared.Zone.{Zone}
-use Rattle.report_html.specs.Pieces.{Part}
-use Rattle.report_html.specs.Pictures.{Run, is_alike, with_block, runs, run_parts}
+use Rattle.report_html.specs.Pictures.{Run, is_alike, with_block, runs}
 
 -- how many blocks at the front read so
 unfoldable pub alike : PartState → List PartState → ℕ
@@ -151,28 +149,28 @@ ends-last blocks from to s lt past here was =
 
 -- ---- runs that are added one after another
 
--- the parts that were added and those of the runs from a block on are all
-abbrev pub IsLeft : Zone → List PartState → (from : ℕ) → (added all : List Part) → Type 0
-IsLeft z blocks from added all = added ++ flat_map (run_parts z) (runs from (drop from blocks)) ≡ all
+-- what was added, and what is added for the runs from a block on, are all
+abbrev pub IsLeft : {X : Type 0} → (Run → List X) → List PartState → (from : ℕ) → (added all : List X) → Type 0
+IsLeft f blocks from added all = added ++ flat_map f (runs from (drop from blocks)) ≡ all
 
-pub run-more : (z : Zone) (blocks : List PartState) (from to : ℕ) (s : PartState) (old new all : List Part)
+pub run-more : {X : Type 0} (f : Run → List X) (blocks : List PartState) (from to : ℕ) (s : PartState) (old new all : List X)
     → runs from (drop from blocks) ≡ record { from = from; to = to; state = s } ∷ runs to (drop to blocks)
-    → new ≡ old ++ run_parts z (record { from = from; to = to; state = s })
-    → IsLeft z blocks from old all → IsLeft z blocks to new all
-run-more z blocks from to s old new all first added was =
-    let rest = flat_map (run_parts z) (runs to (drop to blocks)) in
-    let own = run_parts z (record { from = from; to = to; state = s }) in
-    ap (λ (ps : List Part). ps ++ rest) added ∙ append_assoc old own rest
-    ∙ ap (λ (rs : List Run). old ++ flat_map (run_parts z) rs) (sym first) ∙ was
+    → new ≡ old ++ f (record { from = from; to = to; state = s })
+    → IsLeft f blocks from old all → IsLeft f blocks to new all
+run-more {X} f blocks from to s old new all first added was =
+    let rest : List X = flat_map f (runs to (drop to blocks)) in
+    let own : List X = f (record { from = from; to = to; state = s }) in
+    ap (λ (ps : List X). ps ++ rest) added ∙ append_assoc old own rest
+    ∙ ap (λ (rs : List Run). old ++ flat_map f rs) (sym first) ∙ was
 
 runs-none : (b : ℕ) → runs b [] ≡ []
 unfolding runs
 runs-none b = refl
 
-pub runs-done : (z : Zone) (blocks : List PartState) (from : ℕ) (added all : List Part) → length blocks ≤ from
-    → IsLeft z blocks from added all → added ≡ all
-runs-done z blocks from added all past was =
+pub runs-done : {X : Type 0} (f : Run → List X) (blocks : List PartState) (from : ℕ) (added all : List X)
+    → length blocks ≤ from → IsLeft f blocks from added all → added ≡ all
+runs-done {X} f blocks from added all past was =
     sym (append-nil added)
-    ∙ ap (λ (rs : List Run). added ++ flat_map (run_parts z) rs)
+    ∙ ap (λ (rs : List Run). added ++ flat_map f rs)
     (sym (ap (λ (xs : List PartState). runs from xs) (drop_of_length-le blocks past) ∙ runs-none from))
     ∙ was

@@ -1,5 +1,5 @@
 -- The foreign parts of a page
-use Rattle.std.proofs.Common.{◌≡◌, ℕ, suc, ◌+◌, ◌<◌, ◌≤◌, ◌==◌, Bool, true, false, cond, nat_lt, List, [], ◌∷◌, ◌++◌, length, map, slice_get, drop, ◌-◌, ◌*◌, All, Option, Some, None, codes, append_assoc, refl, sym, ap, ap₂, ◌∙◌, subst, append-nil, get_or, inl, inr, arith}
+use Rattle.std.proofs.Common.{◌≡◌, ℕ, suc, ◌+◌, ◌<◌, ◌≤◌, ◌==◌, Bool, true, false, cond, nat_lt, List, [], ◌∷◌, ◌++◌, length, slice_get, drop, ◌-◌, ◌*◌, All, Option, Some, None, codes, append_assoc, refl, sym, ap, ap₂, ◌∙◌, subst, append-nil, get_or, inl, inr, arith}
 use Rattle.std.specs.Prelude.{flat_map}
 use Rattle.std.specs.List.{zip}
 use Rattle.std.proofs.lemmas.Bool.{cases_order}
@@ -25,14 +25,23 @@ use Rattle.death_spec.specs.declared.Line.{Line}
 use Rattle.death_spec.specs.declared.Span.{Span}
 use Rattle.death_spec.specs.declared.Death.{Death}
 use Rattle.death_spec.specs.Lines.{part}
+use Rattle.death_spec.specs.Reports.{death_of}
 use Rattle.prz_region.proofs.Chains.{AreBytes-take, AreBytes-drop}
 use Rattle.record_report.specs.Reports.{ReportHeld}
 use Rattle.report_html.specs.Pieces.{Part, Words, Count, Bytes, parts_text}
-use Rattle.report_html.specs.Pictures.{zone_name, place_parts, bar_parts, fitting_parts, label_parts, map_parts, closing, corrected_parts, header_parts, blocks_parts, run_parts, runs, unused_parts, row_parts, zone_parts, drawn_parts, width_of, region_opening, key_words, table_words, all_drawn, picture}
-use Rattle.report_html.specs.Names.{name_parts, time_parts}
+use Rattle.report_html.specs.declared.spots.Stretch.{Stretch}
+use Rattle.report_html.specs.declared.spots.Stretch.TheVariants.{Header, Blocks}
+use Rattle.report_html.specs.declared.spots.Spot.{Spot}
+use Rattle.report_html.specs.Spots.{spots_of, stretch_parts, place_of, size_of, verdict_parts, spot_parts, spots_opening, spots_parts}
+use Rattle.report_html.specs.Regions.{picture}
+use Rattle.report_html.specs.Pictures.{numbers_parts, range_parts, blocks_opening, class_words, part_words, cell, zone_name, place_parts, bar_parts, fitting_parts, label_parts, map_parts, closing, corrected_parts, header_parts, blocks_parts, run_parts, runs, unused_parts, row_parts, zone_parts, drawn_parts, width_of, region_opening, key_words, table_words, all_drawn}
+use Rattle.report_html.specs.Names.{name_parts, link_parts, time_parts}
+use Rattle.report_html.specs.Before.{told_before, time_after, line_below, before_parts, before_bytes}
 use Rattle.report_html.specs.Died.{second_parts, said_parts, fact_parts, stamp_of, when_parts, no_cpu, no_function, context_parts, place_above, below, rest_parts, around_parts, teller_parts, death_parts, died_parts, second_bytes, named_bytes, said_bytes, context_bytes, rest_bytes, around_bytes, death_bytes, died_bytes}
-use Rattle.report_html.specs.Pages.{length_parts, packing_parts, content_parts, record_parts, records_opening, heading_parts, end_words, page_parts}
-use Rattle.report_html.specs.Escaping.{foreign_in, foreign_of, HoldBytes, TellsBytes, IsWithoutMarkup}
+use Rattle.report_html.specs.Listed.{below_parts, telling_parts, above_parts, say_parts, unfolded, is_unfolded, fold_parts, below_bytes, telling_bytes, above_bytes, record_bytes}
+use Rattle.report_html.specs.Groups.{are_grouped, group_in, is_same, end_parts, begin_parts, edge_parts}
+use Rattle.report_html.specs.Pages.{length_parts, packing_parts, content_parts, record_parts, listed_parts, records_after, list_parts, records_opening, heading_parts, end_words, page_parts}
+use Rattle.report_html.specs.Escaping.{foreign_in, foreign_of, HoldBytes, TellsBytes, AllTellBytes, IsWithoutMarkup}
 use Rattle.report_html.proofs.Texts.{is-text}
 
 both : (a b : List Part) → foreign_of (a ++ b) ≡ foreign_of a ++ foreign_of b
@@ -67,8 +76,24 @@ of-corrected (Some (Read n)) rest = by (n == 0)
 of-header : (s : Option PartState) → foreign_of (header_parts s) ≡ []
 of-header s = of-corrected s closing
 
+of-numbers : (from to : ℕ) (rest : List Part) → foreign_of (numbers_parts from to ++ rest) ≡ foreign_of rest
+of-numbers from to rest = by (to - from == 1)
+  where
+    by : (t : Bool) → foreign_of (cond t (Count from ∷ []) (Count from ∷ Words (codes " to ") ∷ Count (to - 1) ∷ []) ++ rest)
+        ≡ foreign_of rest
+    by true = refl
+    by false = refl
+
+of-range : (from to : ℕ) (words : List ℕ) → foreign_of (range_parts from to words) ≡ []
+of-range from to words = of-numbers from to (Words (codes ", ") ∷ Words words ∷ [])
+
 of-blocks : (z : Zone) (from to : ℕ) (s : Option PartState) → foreign_of (blocks_parts z from to s) ≡ []
-of-blocks z from to s = of-corrected s closing
+of-blocks z from to s =
+    let front : List Part = blocks_opening z from to (class_words s) in
+    let range : List Part = range_parts from to (part_words s) in
+    none-and (front ++ range ++ corrected_parts s) closing
+    (none-and (front ++ range) (corrected_parts s) (none-and front range refl ∙ of-range from to (part_words s))
+    ∙ ap foreign_of (sym (append-nil (corrected_parts s))) ∙ of-corrected s [])
 
 of-unused : (z : Zone) (used : ℕ) → foreign_of (unused_parts z used) ≡ []
 of-unused z used = by (nat_lt used z.blocks)
@@ -116,21 +141,82 @@ of-all in_table zones report =
     none-of (drawn_parts in_table (width_of zones)) (of-drawn in_table (width_of zones))
     (zip (zip zones report.logs.readings) report.parts)
 
+of-stretch : (stretch : Stretch) (rest : List Part) → foreign_of (stretch_parts stretch ++ rest) ≡ foreign_of rest
+of-stretch Header rest = refl
+of-stretch (Blocks from to) rest = of-numbers from to rest
+
+of-verdict : (stretch : Stretch) (state : PartState) (rest : List Part)
+    → foreign_of (verdict_parts stretch state ++ rest) ≡ foreign_of rest
+of-verdict stretch (Read n) rest = refl
+of-verdict stretch Bad rest = refl
+
+of-spot : (s : Spot) → foreign_of (spot_parts s) ≡ []
+of-spot s =
+    let front : List Part =
+    Words (codes "<tr><th scope=\"row\">") ∷ [] ++ zone_name s.zone ++ Words (codes "</th><td class=\"n\">") ∷ [] in
+    let cells : List Part =
+    Words cell ∷ Count (place_of s.zone s.stretch) ∷ Words cell ∷ Count (size_of s.zone s.stretch)
+    ∷ Words (codes "</td><td>") ∷ [] in
+    let end : List Part = Words (codes "</td></tr>\n") ∷ [] in
+    let whole : foreign_of (front ++ stretch_parts s.stretch) ≡ [] =
+    none-and front (stretch_parts s.stretch) refl
+    ∙ ap foreign_of (sym (append-nil (stretch_parts s.stretch))) ∙ of-stretch s.stretch [] in
+    none-and (front ++ stretch_parts s.stretch ++ cells ++ verdict_parts s.stretch s.state) end
+    (none-and (front ++ stretch_parts s.stretch ++ cells) (verdict_parts s.stretch s.state)
+    (none-and (front ++ stretch_parts s.stretch) cells whole)
+    ∙ ap foreign_of (sym (append-nil (verdict_parts s.stretch s.state))) ∙ of-verdict s.stretch s.state [])
+
+of-spots : (ss : List Spot) → foreign_of (spots_parts ss) ≡ []
+of-spots [] = refl
+of-spots (s ∷ ss) =
+    let front : List Part = spots_opening (length (s ∷ ss)) in
+    let rows : List Part = flat_map spot_parts (s ∷ ss) in
+    none-and (front ++ rows) (Words (codes "</table></div>\n</details>\n") ∷ [])
+    (none-and front rows refl ∙ none-of spot_parts of-spot (s ∷ ss))
+
 of-picture : (zones : List Zone) (report : ReportHeld) → foreign_of (picture zones report) ≡ []
 of-picture zones report =
     let open_map : List Part = region_opening (width_of zones) (length zones) in
     let map_drawn : List Part = all_drawn false zones report in
-    let open_table : List Part = Words key_words ∷ Words table_words ∷ [] in
+    let key : List Part = Words key_words ∷ [] in
+    let spots : List Part = spots_parts (spots_of zones report.parts) in
+    let open_table : List Part = Words table_words ∷ [] in
     let table : List Part = all_drawn true zones report in
-    none-and (open_map ++ map_drawn ++ open_table ++ table) (Words (codes "</table></div>\n") ∷ [])
-    (none-and (open_map ++ map_drawn ++ open_table) table
-    (none-and (open_map ++ map_drawn) open_table (none-and open_map map_drawn refl ∙ of-all false zones report))
+    none-and (open_map ++ map_drawn ++ key ++ spots ++ open_table ++ table) (Words (codes "</table></div>\n") ∷ [])
+    (none-and (open_map ++ map_drawn ++ key ++ spots ++ open_table) table
+    (none-and (open_map ++ map_drawn ++ key ++ spots) open_table
+    (none-and (open_map ++ map_drawn ++ key) spots
+    (none-and (open_map ++ map_drawn) key (none-and open_map map_drawn refl ∙ of-all false zones report))
+    ∙ of-spots (spots_of zones report.parts)))
     ∙ of-all true zones report)
 
 -- ---- a record has what people read of it
 
-of-name : (name : Name)
-    → foreign_of (Words (codes "<details>\n<summary><b>") ∷ [] ++ name_parts name ++ Words (codes "</b>") ∷ []) ≡ []
+of-below : (text : List ℕ) (span : Option Span) → foreign_of (below_parts text span) ≡ below_bytes text span
+of-below text None = refl
+of-below text (Some span) = refl
+
+of-telling : (text : List ℕ) (d : Option Death) → foreign_of (telling_parts text d) ≡ telling_bytes text d
+of-telling text None = refl
+of-telling text (Some d) =
+    ap (λ (bs : List (List ℕ)). part text d.telling.text d.telling.end ∷ bs) (of-below text d.function)
+
+of-above : (name : Name) (text : List ℕ) → foreign_of (above_parts name text) ≡ above_bytes name text
+of-above (Dump index packed) text = of-telling text (death_of text)
+of-above Console text = of-telling text (death_of text)
+of-above Pmsg text = refl
+of-above Ftrace text = refl
+
+of-say : (name : Name) (text : List ℕ) → foreign_of (say_parts name text) ≡ above_bytes name text
+of-say name text =
+    and-none (Words (codes "<pre class=\"say\">") ∷ [] ++ above_parts name text) (Words (codes "</pre>\n") ∷ [])
+    (above_bytes name text) (of-above name text) refl
+
+of-fold : (is_open : Bool) → foreign_of (fold_parts is_open) ≡ []
+of-fold true = refl
+of-fold false = refl
+
+of-name : (name : Name) → foreign_of (name_parts name) ≡ []
 of-name (Dump index packed) = refl
 of-name Console = refl
 of-name Pmsg = refl
@@ -151,23 +237,51 @@ of-content Console text = refl
 of-content Pmsg text = refl
 of-content Ftrace text = refl
 
-of-record : (r : RecordShown) → foreign_of (record_parts r) ≡ readable r ∷ []
-of-record r =
-    let named : List Part =
-    Words (codes "<details>\n<summary><b>") ∷ [] ++ name_parts r.name ++ Words (codes "</b>") ∷ [] in
-    let timed : List Part = named ++ time_parts r.time in
+of-record : (is_open : Bool) (r : RecordShown) → foreign_of (record_parts is_open r) ≡ record_bytes r
+of-record is_open r =
+    let text : List ℕ = readable r in
+    let a : List (List ℕ) = above_bytes r.name text in
+    let say : List Part = say_parts r.name text in
+    let folded : List Part = say ++ fold_parts is_open in
+    let named : List Part = folded ++ name_parts r.name in
+    let ended : List Part = named ++ Words (codes "</b>") ∷ [] in
+    let timed : List Part = ended ++ time_parts r.time in
     let long : List Part = timed ++ length_parts (length r.content) in
-    none-and (long ++ packing_parts r.packing) (content_parts r.name (readable r))
-    (none-and long (packing_parts r.packing)
-    (none-and timed (length_parts (length r.content)) (none-and named (time_parts r.time) (of-name r.name)
-    ∙ of-time r.time)) ∙ of-packing r.packing)
-    ∙ of-content r.name (readable r)
+    and-of (long ++ packing_parts r.packing) (content_parts r.name text) a (text ∷ [])
+    (and-none long (packing_parts r.packing) a
+    (and-none timed (length_parts (length r.content)) a
+    (and-none ended (time_parts r.time) a
+    (and-none named (Words (codes "</b>") ∷ []) a
+    (and-none folded (name_parts r.name) a (and-none say (fold_parts is_open) a (of-say r.name text) (of-fold is_open))
+    (of-name r.name)) refl) (of-time r.time)) refl) (of-packing r.packing))
+    (of-content r.name text)
 
-of-records : (rs : List RecordShown) → foreign_of (flat_map record_parts rs) ≡ map readable rs
-of-records [] = refl
-of-records (r ∷ rs) =
-    both (record_parts r) (flat_map record_parts rs)
-    ∙ ap₂ (λ (a b : List (List ℕ)). a ++ b) (of-record r) (of-records rs)
+of-end : (group : Option ℕ) → foreign_of (end_parts group) ≡ []
+of-end None = refl
+of-end (Some g) = refl
+
+of-begin : (number group : Option ℕ) → foreign_of (begin_parts number group) ≡ []
+of-begin number None = refl
+of-begin number (Some g) = refl
+
+of-edge : (number before after : Option ℕ) → foreign_of (edge_parts number before after) ≡ []
+of-edge number before after = by (is_same before after)
+  where
+    by : (t : Bool) → foreign_of (cond t [] (end_parts before ++ begin_parts number after)) ≡ []
+    by true = refl
+    by false = none-and (end_parts before) (begin_parts number after) (of-end before) ∙ of-begin number after
+
+of-records : (grouped : Bool) (number before : Option ℕ) (rs : List RecordShown)
+    → foreign_of (records_after grouped number before rs) ≡ flat_map record_bytes rs
+unfolding records_after
+of-records grouped number before [] = of-edge number before None
+of-records grouped number before (r ∷ rs) =
+    let group : Option ℕ = group_in grouped r.name in
+    let edge : List Part = edge_parts number before group in
+    let listed : List Part = listed_parts number r in
+    and-of (edge ++ listed) (records_after grouped number group rs) (record_bytes r) (flat_map record_bytes rs)
+    (none-and edge listed (of-edge number before group) ∙ of-record (is_unfolded number r.name) r)
+    (of-records grouped number group rs)
 
 -- ---- why the machine died has parts of the text that tells it
 
@@ -222,44 +336,65 @@ of-around text d =
     let line : List ℕ = part text d.telling.start d.telling.next in
     ap (λ (bs : List (List ℕ)). above ∷ line ∷ bs) (of-rest text d.telling.next d.second)
 
-of-death : (t : DeathTold) → foreign_of (death_parts t) ≡ death_bytes (readable t.teller) t.death
-of-death t =
+of-before : (before : Option DeathTold) → foreign_of (before_parts before) ≡ before_bytes before
+of-before None = refl
+of-before (Some t) = by t.teller.name t.teller.time
+  where
+    by : (name : Name) (time : Option Time)
+        → foreign_of (Words (codes "<tr><th scope=\"row\">Before it</th><td>") ∷ [] ++ link_parts name
+        ++ time_after time ++ line_below (readable t.teller) t.death.telling) ≡ before_bytes (Some t)
+    by (Dump index packed) None = refl
+    by (Dump index packed) (Some time) = refl
+    by Console None = refl
+    by Console (Some time) = refl
+    by Pmsg None = refl
+    by Pmsg (Some time) = refl
+    by Ftrace None = refl
+    by Ftrace (Some time) = refl
+
+of-death : (t : DeathTold) (before : Option DeathTold)
+    → foreign_of (death_parts t before) ≡ death_bytes (readable t.teller) t.death before
+of-death t before =
     let text : List ℕ = readable t.teller in
     let said : List Part = said_parts text t.death in
     let when : List Part = when_parts t.teller.time in
     let context : List Part = context_parts text t.death in
+    let earlier : List Part = before_parts before in
     let teller : List Part = teller_parts t.teller.name in
     let around : List Part = around_parts text t.death in
     let s : List (List ℕ) = said_bytes text t.death in
     let c : List (List ℕ) = context_bytes text t.death in
     let a : List (List ℕ) = around_bytes text t.death in
-    and-none (said ++ when ++ context ++ teller ++ around) (Words (codes "</pre>\n") ∷ []) (s ++ c ++ a)
-    (and-of (said ++ when ++ context ++ teller) around (s ++ c) a
-    (and-none (said ++ when ++ context) teller (s ++ c)
+    let b : List (List ℕ) = before_bytes before in
+    and-none (said ++ when ++ context ++ earlier ++ teller ++ around) (Words (codes "</pre>\n") ∷ []) (s ++ c ++ b ++ a)
+    (and-of (said ++ when ++ context ++ earlier ++ teller) around (s ++ c ++ b) a
+    (and-none (said ++ when ++ context ++ earlier) teller (s ++ c ++ b)
+    (and-of (said ++ when ++ context) earlier (s ++ c) b
     (and-of (said ++ when) context s c (and-none said when s (of-said text t.death) (of-when t.teller.time))
-    (of-context text t.death)) (of-teller t.teller.name)) (of-around text t.death)) refl
+    (of-context text t.death)) (of-before before)) (of-teller t.teller.name)) (of-around text t.death)) refl
 
-of-died : (t : Option DeathTold) → foreign_of (died_parts t) ≡ died_bytes t
-of-died None = refl
-of-died (Some t) = of-death t
+of-died : (records : List RecordShown) (t : Option DeathTold)
+    → foreign_of (died_parts records t) ≡ died_bytes records t
+of-died records None = refl
+of-died records (Some t) = of-death t (told_before t.teller.name records)
 
 -- ---- the page has its title, those parts, and what people read of its records
 
 of-page : (title : List ℕ) (zones : List Zone) (report : ReportHeld) → foreign_of (page_parts title zones report)
-    ≡ title ∷ died_bytes (death_told report.records) ++ map readable report.records
+    ≡ title ∷ died_bytes report.records (death_told report.records) ++ flat_map record_bytes report.records
 of-page title zones report =
     let head : List Part = heading_parts title in
-    let died : List Part = died_parts (death_told report.records) in
+    let died : List Part = died_parts report.records (death_told report.records) in
     let opened : List Part = records_opening (length report.records) in
-    let records : List Part = flat_map record_parts report.records in
-    let d : List (List ℕ) = died_bytes (death_told report.records) in
-    let m : List (List ℕ) = map readable report.records in
+    let records : List Part = list_parts zones report.records in
+    let d : List (List ℕ) = died_bytes report.records (death_told report.records) in
+    let m : List (List ℕ) = flat_map record_bytes report.records in
     and-none (head ++ died ++ opened ++ records ++ picture zones report) (Words end_words ∷ []) (title ∷ d ++ m)
     (and-none (head ++ died ++ opened ++ records) (picture zones report) (title ∷ d ++ m)
     (and-of (head ++ died ++ opened) records (title ∷ d) m
     (and-none (head ++ died) opened (title ∷ d)
-    (and-of head died (title ∷ []) d refl (of-died (death_told report.records))) refl)
-    (of-records report.records)) (of-picture zones report)) refl
+    (and-of head died (title ∷ []) d refl (of-died report.records (death_told report.records))) refl)
+    (of-records (are_grouped zones) (unfolded report.records) None report.records)) (of-picture zones report)) refl
 
 -- ---- each of them is escaped to text
 
@@ -316,40 +451,71 @@ joins-context text d h =
     (joins-and (b (stamp_of d.telling)) (b d.cpu) (j (stamp_of d.telling)) (j d.cpu)) (j d.task)) (j d.kernel))
     (j d.function)
 
-joins-death : (text : List ℕ) (d : Death) → AreBytes text → Joins (death_bytes text d)
-joins-death text d h =
+joins-before : (before : Option DeathTold) → TellsBytes before → Joins (before_bytes before)
+joins-before None h = joins-none
+joins-before (Some t) h =
+    joins-with (readable t.teller) t.death.telling.text t.death.telling.end [] h joins-none
+
+joins-death : (text : List ℕ) (d : Death) (before : Option DeathTold) → AreBytes text → TellsBytes before
+    → Joins (death_bytes text d before)
+joins-death text d before h g =
     let rest : List (List ℕ) = rest_bytes text d.telling.next d.second in
-    joins-and (said_bytes text d ++ context_bytes text d) (around_bytes text d)
+    joins-and (said_bytes text d ++ context_bytes text d ++ before_bytes before) (around_bytes text d)
+    (joins-and (said_bytes text d ++ context_bytes text d) (before_bytes before)
     (joins-and (said_bytes text d) (context_bytes text d)
     (joins-with text d.telling.text d.telling.end (second_bytes text d.second) h (joins-second text d.second h))
-    (joins-context text d h))
+    (joins-context text d h)) (joins-before before g))
     (joins-with text (place_above text d.telling.start 8) d.telling.start
     (part text d.telling.start d.telling.next ∷ rest) h
     (joins-with text d.telling.start d.telling.next rest h (joins-rest text d.telling.next d.second h)))
 
-texts-died : (t : Option DeathTold) (more : List (List ℕ)) → TellsBytes t → EscapeToTexts more
-    → EscapeToTexts (died_bytes t ++ more)
-texts-died None more h all = all
-texts-died (Some t) more h all = joins-death (readable t.teller) t.death h more all
+texts-died : (records : List RecordShown) (t : Option DeathTold) (more : List (List ℕ)) → AllTellBytes records t
+    → EscapeToTexts more → EscapeToTexts (died_bytes records t ++ more)
+texts-died records None more h all = all
+texts-died records (Some t) more h all =
+    joins-death (readable t.teller) t.death (told_before t.teller.name records) h.0 h.1 more all
 
-texts-of : (rs : List RecordShown) → HoldBytes rs → EscapeToTexts (map readable rs)
+joins-whole : (text : List ℕ) → AreBytes text → Joins (text ∷ [])
+joins-whole text h more all = onto text more (is-text text h) all
+
+joins-below : (text : List ℕ) (span : Option Span) → AreBytes text → Joins (below_bytes text span)
+joins-below text None h = joins-none
+joins-below text (Some span) h = joins-with text span.start span.end [] h joins-none
+
+joins-telling : (text : List ℕ) (d : Option Death) → AreBytes text → Joins (telling_bytes text d)
+joins-telling text None h = joins-none
+joins-telling text (Some d) h =
+    joins-with text d.telling.text d.telling.end (below_bytes text d.function) h (joins-below text d.function h)
+
+joins-above : (name : Name) (text : List ℕ) → AreBytes text → Joins (above_bytes name text)
+joins-above (Dump index packed) text h = joins-telling text (death_of text) h
+joins-above Console text h = joins-telling text (death_of text) h
+joins-above Pmsg text h = joins-none
+joins-above Ftrace text h = joins-none
+
+joins-record : (r : RecordShown) → AreBytes (readable r) → Joins (record_bytes r)
+joins-record r h =
+    joins-and (above_bytes r.name (readable r)) (readable r ∷ []) (joins-above r.name (readable r) h)
+    (joins-whole (readable r) h)
+
+texts-of : (rs : List RecordShown) → HoldBytes rs → EscapeToTexts (flat_map record_bytes rs)
 texts-of [] h = All-nil (λ (bytes : List ℕ). IsText (escaped bytes))
-texts-of (r ∷ rs) h = All-cons (λ (bytes : List ℕ). IsText (escaped bytes)) (readable r)
-    (map readable rs) (is-text (readable r) (h 0 r refl)) (texts-of rs (λ k q e. h (suc k) q e))
+texts-of (r ∷ rs) h =
+    joins-record r (h 0 r refl) (flat_map record_bytes rs) (texts-of rs (λ k q e. h (suc k) q e))
 
 pub without_markup : (title : List ℕ) (zones : List Zone) (report : ReportHeld) (page : List ℕ) → AreBytes title
-    → HoldBytes report.records → TellsBytes (death_told report.records)
+    → HoldBytes report.records → AllTellBytes report.records (death_told report.records)
     → page ≡ parts_text (page_parts title zones report) → IsWithoutMarkup title report.records page
 without_markup title zones report page bytes hold tells is =
-    let records = map readable report.records in
-    let died = died_bytes (death_told report.records) in
+    let records = flat_map record_bytes report.records in
+    let died = died_bytes report.records (death_told report.records) in
     record {
       parts = page_parts title zones report;
       page_is = is;
       foreign = of-page title zones report;
       texts = subst EscapeToTexts (sym (of-page title zones report))
           (onto title (died ++ records) (is-text title bytes)
-          (texts-died (death_told report.records) records tells (texts-of report.records hold)));
+          (texts-died report.records (death_told report.records) records tells (texts-of report.records hold)));
     }
 
 -- ---- what people read of records are bytes

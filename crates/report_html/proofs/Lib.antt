@@ -11,3 +11,6 @@ pub mod Blocks
 pub mod Drawn
 pub mod Places
 pub mod LogLines
+pub mod Grouped
+pub mod Earlier
+pub mod Spotted

@@ -6,10 +6,11 @@ use Rattle.death_spec.specs.declared.Line.{Line}
 use Rattle.death_spec.specs.declared.Span.{Span}
 use Rattle.death_spec.specs.declared.Death.{Death}
 use Rattle.death_spec.specs.Lines.{part, lines_from}
-use Rattle.report_spec.specs.Packed.{readable}
+use Rattle.report_spec.specs.Packed.{RecordShown, readable}
 use Rattle.report_spec.specs.Deaths.{DeathTold}
 use Rattle.report_html.specs.Pieces.{Part, Words, Bytes, Moment, Log}
 use Rattle.report_html.specs.Names.{name_parts, link_parts}
+use Rattle.report_html.specs.Before.{told_before, before_parts, before_bytes}
 
 -- ---- the line
 
@@ -113,14 +114,17 @@ teller_parts name =
     ++ Words (codes "</td></tr>\n</table>\n</header>\n<main>\n<h2 id=\"told\">The lines that tell it, in ") ∷ []
     ++ name_parts name ++ Words (codes "</h2>\n<pre class=\"log\">\n") ∷ []
 
-abbrev pub death_parts : DeathTold → List Part
-death_parts t =
+-- why, when, what is known, what was before it, by which record, and the lines
+abbrev pub death_parts : DeathTold → Option DeathTold → List Part
+death_parts t before =
     said_parts (readable t.teller) t.death ++ when_parts t.teller.time ++ context_parts (readable t.teller) t.death
-    ++ teller_parts t.teller.name ++ around_parts (readable t.teller) t.death ++ Words (codes "</pre>\n") ∷ []
+    ++ before_parts before ++ teller_parts t.teller.name ++ around_parts (readable t.teller) t.death
+    ++ Words (codes "</pre>\n") ∷ []
 
-abbrev pub died_parts : Option DeathTold → List Part
-died_parts None = Words (codes "<pre class=\"why\">No record tells why.</pre>\n</header>\n<main>\n") ∷ []
-died_parts (Some t) = death_parts t
+-- of the records, by the one that tells
+abbrev pub died_parts : List RecordShown → Option DeathTold → List Part
+died_parts records None = Words (codes "<pre class=\"why\">No record tells why.</pre>\n</header>\n<main>\n") ∷ []
+died_parts records (Some t) = death_parts t (told_before t.teller.name records)
 
 -- ---- what of it comes from the image
 
@@ -150,9 +154,10 @@ around_bytes text d =
     part text (place_above text d.telling.start 8) d.telling.start ∷ part text d.telling.start d.telling.next
     ∷ rest_bytes text d.telling.next d.second
 
-abbrev pub death_bytes : List ℕ → Death → List (List ℕ)
-death_bytes text d = said_bytes text d ++ context_bytes text d ++ around_bytes text d
+abbrev pub death_bytes : List ℕ → Death → Option DeathTold → List (List ℕ)
+death_bytes text d before =
+    said_bytes text d ++ context_bytes text d ++ before_bytes before ++ around_bytes text d
 
-abbrev pub died_bytes : Option DeathTold → List (List ℕ)
-died_bytes None = []
-died_bytes (Some t) = death_bytes (readable t.teller) t.death
+abbrev pub died_bytes : List RecordShown → Option DeathTold → List (List ℕ)
+died_bytes records None = []
+died_bytes records (Some t) = death_bytes (readable t.teller) t.death (told_before t.teller.name records)

@@ -1,10 +1,12 @@
 -- What of a page is its own, and what comes from elsewhere
-use Rattle.std.specs.Prelude.{◌≡◌, ℕ, List, [], ◌∷◌, map, flat_map, ◌++◌, slice_get, All, ⊤, Option, Some, None}
+use Rattle.std.specs.Prelude.{◌≡◌, ℕ, List, [], ◌∷◌, flat_map, ◌++◌, slice_get, All, ⊤, Option, Some, None}
 use Rattle.zone_spec.specs.Parts.{AreBytes}
 use Rattle.report_spec.specs.Escaped.{escaped, IsText}
 use Rattle.report_spec.specs.Packed.{RecordShown, readable}
 use Rattle.report_spec.specs.Deaths.{DeathTold, death_told}
+use Rattle.report_html.specs.Before.{told_before}
 use Rattle.report_html.specs.Died.{died_bytes}
+use Rattle.report_html.specs.Listed.{record_bytes}
 use Rattle.report_html.specs.Pieces.{Part, Words, Count, Bytes, Moment, Log, parts_text}
 
 abbrev pub foreign_in : Part → List (List ℕ)
@@ -27,10 +29,16 @@ abbrev pub TellsBytes : Option DeathTold → Type 0
 TellsBytes None = ⊤
 TellsBytes (Some t) = AreBytes (readable t.teller)
 
--- a page whose foreign bytes are its title, parts of the text that tells why the machine died, and what people read of
--- its records, in order, each escaped to text without markup. All else are the page's own words and numbers
+-- and what people read of the one before it
+abbrev pub AllTellBytes : List RecordShown → Option DeathTold → Type 0
+AllTellBytes records None = ⊤
+AllTellBytes records (Some t) = AreBytes (readable t.teller) × TellsBytes (told_before t.teller.name records)
+
+-- a page whose foreign bytes are its title, parts of the texts that tell why the machine died and what was before it,
+-- and of each record, in order, parts of the line above it and what people read of it, each escaped to text without
+-- markup. All else are the page's own words and numbers
 pub record IsWithoutMarkup (title : List ℕ) (records : List RecordShown) (page : List ℕ) : Type 0 where
   pub parts : List Part
   pub page_is : page ≡ parts_text parts
-  pub foreign : foreign_of parts ≡ title ∷ died_bytes (death_told records) ++ map readable records
+  pub foreign : foreign_of parts ≡ title ∷ died_bytes records (death_told records) ++ flat_map record_bytes records
   pub texts : All (λ (bytes : List ℕ). IsText (escaped bytes)) (foreign_of parts)

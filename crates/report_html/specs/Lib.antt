@@ -3,7 +3,12 @@ pub mod Logs
 pub mod Pieces
 pub mod Pictures
 pub mod Covers
+pub mod Spots
+pub mod Regions
 pub mod Names
+pub mod Before
 pub mod Died
+pub mod Listed
+pub mod Groups
 pub mod Pages
 pub mod Escaping

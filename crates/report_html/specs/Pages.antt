@@ -1,5 +1,5 @@
 -- The page of a report
-use Rattle.std.specs.Prelude.{ℕ, List, [], ◌∷◌, ◌++◌, length, flat_map, codes}
+use Rattle.std.specs.Prelude.{ℕ, Bool, List, [], ◌∷◌, ◌++◌, length, codes, Option, None}
 use Rattle.zone_spec.specs.declared.Name.{Name}
 use Rattle.zone_spec.specs.declared.Zone.{Zone}
 use Rattle.report_spec.specs.declared.Packing.{Packing}
@@ -11,7 +11,9 @@ use Rattle.report_html.specs.declared.style.TheConstants.{STYLE}
 use Rattle.report_html.specs.Pieces.{Part, Words, Count, Bytes, Log, parts_text}
 use Rattle.report_html.specs.Names.{name_parts, time_parts}
 use Rattle.report_html.specs.Died.{died_parts}
-use Rattle.report_html.specs.Pictures.{picture}
+use Rattle.report_html.specs.Listed.{say_parts, fold_parts, is_unfolded, unfolded}
+use Rattle.report_html.specs.Groups.{are_grouped, group_in, edge_parts}
+use Rattle.report_html.specs.Regions.{picture}
 
 abbrev pub length_parts : ℕ → List Part
 length_parts bytes = Words (codes "<span>") ∷ Count bytes ∷ Words (codes " bytes</span>") ∷ []
@@ -30,12 +32,27 @@ content_parts name content =
     Words (codes "</summary>\n<pre class=\"log\" id=\"") ∷ [] ++ name_parts name
     ++ Words (codes "\">\n") ∷ Log content ∷ Words (codes "</pre>\n</details>\n") ∷ []
 
--- a record to fold out: its name, its time, the length of its file and its packing, and what people read of it
-abbrev pub record_parts : RecordShown → List Part
-record_parts r =
-    Words (codes "<details>\n<summary><b>") ∷ [] ++ name_parts r.name ++ Words (codes "</b>") ∷ []
+-- a record, folded or not: above it the line that tells of it; its name, its time, the length of its file and its
+-- packing; and what people read of it
+abbrev pub record_parts : Bool → RecordShown → List Part
+record_parts is_open r =
+    say_parts r.name (readable r) ++ fold_parts is_open ++ name_parts r.name ++ Words (codes "</b>") ∷ []
     ++ time_parts r.time ++ length_parts (length r.content) ++ packing_parts r.packing
     ++ content_parts r.name (readable r)
+
+-- a record in the list, in which at most the dump of one number is unfolded
+abbrev pub listed_parts : Option ℕ → RecordShown → List Part
+listed_parts number r = record_parts (is_unfolded number r.name) r
+
+-- records after one of a group: where the group changes it ends, and the next one begins
+unfoldable pub records_after : (grouped : Bool) (number before : Option ℕ) → List RecordShown → List Part
+records_after grouped number before [] = edge_parts number before None
+records_after grouped number before (r ∷ rs) =
+    edge_parts number before (group_in grouped r.name) ++ listed_parts number r
+    ++ records_after grouped number (group_in grouped r.name) rs
+
+abbrev pub list_parts : List Zone → List RecordShown → List Part
+list_parts zones records = records_after (are_grouped zones) (unfolded records) None records
 
 -- how many there are, and what the number of a line means
 abbrev pub records_opening : ℕ → List Part
@@ -75,8 +92,8 @@ end_words =
 -- the heading, why the machine died, the records, and the picture of the zones
 abbrev pub page_parts : List ℕ → List Zone → ReportHeld → List Part
 page_parts title zones report =
-    heading_parts title ++ died_parts (death_told report.records) ++ records_opening (length report.records)
-    ++ flat_map record_parts report.records ++ picture zones report ++ Words end_words ∷ []
+    heading_parts title ++ died_parts report.records (death_told report.records) ++ records_opening (length report.records)
+    ++ list_parts zones report.records ++ picture zones report ++ Words end_words ∷ []
 
 -- the page under this title of the report of these zones
 unfoldable pub page_of : List ℕ → List Zone → ReportHeld → List ℕ

@@ -143,9 +143,17 @@ block_at z b = min (z.block * b) z.cap
 abbrev pub blocks_opening : Zone → (from to : ℕ) (class : List ℕ) → List Part
 blocks_opening z from to class = opening class (block_at z from + 12) (block_at z to - block_at z from)
 
+-- the numbers of blocks from one up to another: `3`, or `3 to 7`
+abbrev pub numbers_parts : (from to : ℕ) → List Part
+numbers_parts from to =
+    if to - from == 1 then Count from ∷ [] else Count from ∷ Words (codes " to ") ∷ Count (to - 1) ∷ []
+
+abbrev pub blocks_word : (from to : ℕ) → List ℕ
+blocks_word from to = if to - from == 1 then codes "block " else codes "blocks "
+
 abbrev pub range_parts : (from to : ℕ) (words : List ℕ) → List Part
 range_parts from to words =
-    Words (codes "blocks ") ∷ Count from ∷ Words (codes " up to ") ∷ Count to ∷ Words (codes ", ") ∷ Words words ∷ []
+    Words (blocks_word from to) ∷ [] ++ numbers_parts from to ++ Words (codes ", ") ∷ Words words ∷ []
 
 -- blocks that read alike
 abbrev pub blocks_parts : Zone → (from to : ℕ) → Option PartState → List Part
@@ -260,10 +268,3 @@ table_words =
 abbrev pub all_drawn : Bool → List Zone → ReportHeld → List Part
 all_drawn in_table zones report =
     flat_map (drawn_parts in_table (width_of zones)) (zip (zip zones report.logs.readings) report.parts)
-
--- the zones to scale, and a table with a row and a strip for each
-abbrev pub picture : List Zone → ReportHeld → List Part
-picture zones report =
-    region_opening (width_of zones) (length zones) ++ all_drawn false zones report
-    ++ Words key_words ∷ Words table_words ∷ [] ++ all_drawn true zones report
-    ++ Words (codes "</table></div>\n") ∷ []

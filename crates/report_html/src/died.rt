@@ -7,8 +7,10 @@ ghost use Rattle.report_spec.specs.Deaths.{death_told};
 ghost use Rattle.record_report.specs.Tellers.{as_told};
 ghost use Rattle.report_html.specs.Pieces.{parts};
 ghost use Rattle.report_html.specs.Died.{second_parts, said_parts, fact_parts, stamp_of as stamp_span, when_parts, context_parts, is_found as is_line_found, fewer as lines_fewer, place_above as place_before, next_at, below as place_below, log_parts, marked_parts, rest_parts, around_parts, teller_parts, death_parts, died_parts};
-ghost use Rattle.report_html.specs.Escaping.{TellsBytes};
+ghost use Rattle.report_html.specs.Before.{told_before};
+ghost use Rattle.report_html.specs.Escaping.{TellsBytes, AllTellBytes};
 
+use crate::before::add_before;
 use crate::names::{add_link, add_name};
 use crate::pieces::{Piece, add};
 use death::{next_line, part};
@@ -280,15 +282,22 @@ fn add_teller(pieces: &mut Vec<Piece<'_>>, name: Name) -> Result<(), AllocError>
     Ok(())
 }
 
-fn add_death<'a>(pieces: &mut Vec<Piece<'a>>, told: &Told<'a>) -> Result<(), AllocError>
+fn add_death<'a>(
+    pieces: &mut Vec<Piece<'a>>,
+    told: &Told<'a>,
+    records: &'a [RecordReport],
+) -> Result<(), AllocError>
     ensures bytes { OnOk result (AreBytes (readable told.now.teller.now)) }
-    ensures parts { OnOk result (parts pieces.new.items ≡ parts pieces.old.items ++ death_parts (as_told told.now)) }
+    ensures before { OnOk result (TellsBytes (told_before told.now.teller.now.name records.entry.now)) }
+    ensures parts { OnOk result (parts pieces.new.items ≡ parts pieces.old.items
+        ++ death_parts (as_told told.now) (told_before told.now.teller.now.name records.entry.now)) }
 {
     let teller: &'a RecordReport = told.teller;
     let text = teller.readable();
     add_said(pieces, text, told.death)?;
     add_when(pieces, teller.time)?;
     add_context(pieces, text, told.death)?;
+    add_before(pieces, teller.name, records)?;
     add_teller(pieces, teller.name)?;
     add_around(pieces, text, told.death)?;
     add(pieces, &[Piece::Own("</pre>\n")])?;
@@ -300,12 +309,12 @@ pub fn add_died<'a>(
     pieces: &mut Vec<Piece<'a>>,
     records: &'a [RecordReport],
 ) -> Result<(), AllocError>
-    ensures tells { OnOk result (TellsBytes (death_told records.entry.now)) }
+    ensures tells { OnOk result (AllTellBytes records.entry.now (death_told records.entry.now)) }
     ensures parts { OnOk result (parts pieces.new.items
-        ≡ parts pieces.old.items ++ died_parts (death_told records.entry.now)) }
+        ≡ parts pieces.old.items ++ died_parts records.entry.now (death_told records.entry.now)) }
 {
     match death_told(records) {
-        Some(told) => add_death(pieces, &told),
+        Some(told) => add_death(pieces, &told, records),
         None => add(
             pieces,
             &[Piece::Own("<pre class=\"why\">No record tells why.</pre>\n</header>\n<main>\n")],

@@ -5,9 +5,13 @@
 //! foreign bytes and logs, which are written escaped.
 #![tactic(auto)]
 
+mod before;
+mod block_runs;
 mod died;
 mod escaping;
+mod groups;
 mod laws;
+mod listed;
 mod logs;
 mod moments;
 mod names;
@@ -15,6 +19,7 @@ mod page;
 mod picture;
 mod pieces;
 mod region;
+mod spots;
 mod style;
 
 pub use escaping::push_escaped;

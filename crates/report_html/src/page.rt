@@ -1,13 +1,15 @@
 // The page.
-ghost use Rattle.std.specs.Prelude.{◌≡◌, ◌++◌, flat_map, IfOk, OnOk};
+ghost use Rattle.std.specs.Prelude.{◌≡◌, ◌++◌, None, IfOk, OnOk};
 ghost use Rattle.zone_spec.specs.Parts.{AreBytes};
 ghost use Rattle.report_spec.specs.Packed.{readable};
 ghost use Rattle.report_html.specs.Pieces.{parts};
-ghost use Rattle.report_html.specs.Pages.{length_parts, packing_parts, content_parts, record_parts, records_opening, heading_parts, page_parts, page_of};
+ghost use Rattle.report_html.specs.Pages.{length_parts, packing_parts, content_parts, record_parts, records_after, list_parts, records_opening, heading_parts, page_parts, page_of};
 ghost use Rattle.report_spec.specs.Deaths.{death_told};
-ghost use Rattle.report_html.specs.Escaping.{HoldBytes, TellsBytes, IsWithoutMarkup};
+ghost use Rattle.report_html.specs.Escaping.{HoldBytes, AllTellBytes, IsWithoutMarkup};
 
 use crate::died::add_died;
+use crate::groups::{add_edge, are_grouped, group_in};
+use crate::listed::{add_fold, add_say, is_unfolded, unfolded};
 use crate::names::{add_name, add_time};
 use crate::picture::add_picture;
 use crate::pieces::{Piece, add, render};
@@ -99,30 +101,61 @@ fn add_content<'a>(
     Ok(())
 }
 
-/// Adds a record.
-fn add_record<'a>(pieces: &mut Vec<Piece<'a>>, held: &'a RecordReport) -> Result<(), AllocError>
+/// Adds a record, folded or not.
+fn add_record<'a>(
+    pieces: &mut Vec<Piece<'a>>,
+    is_open: bool,
+    held: &'a RecordReport,
+) -> Result<(), AllocError>
     ensures bytes { OnOk result (AreBytes (readable held.entry.now)) }
-    ensures parts { OnOk result (parts pieces.new.items ≡ parts pieces.old.items ++ record_parts held.entry.now) }
+    ensures parts { OnOk result
+        (parts pieces.new.items ≡ parts pieces.old.items ++ record_parts is_open held.entry.now) }
 {
-    add(pieces, &[Piece::Own("<details>\n<summary><b>")])?;
+    let text = held.readable();
+    add_say(pieces, held.name, text)?;
+    add_fold(pieces, is_open)?;
     add_name(pieces, held.name)?;
     add(pieces, &[Piece::Own("</b>")])?;
     add_time(pieces, held.time)?;
     add_length(pieces, held.content.len() as u64)?;
     add_packing(pieces, &held.packing)?;
-    add_content(pieces, held.name, held.readable())?;
+    add_content(pieces, held.name, text)?;
     Ok(())
 }
 
-fn add_each<'a>(pieces: &mut Vec<Piece<'a>>, records: &'a [RecordReport]) -> Result<(), AllocError>
+/// Adds the records, in groups or not. That of the dump of this number is unfolded.
+fn add_each<'a>(
+    pieces: &mut Vec<Piece<'a>>,
+    grouped: bool,
+    number: Option<u32>,
+    records: &'a [RecordReport],
+) -> Result<(), AllocError>
+    ensures bytes { OnOk result (HoldBytes records.entry.now) }
+    ensures parts { OnOk result (parts pieces.new.items
+        ≡ parts pieces.old.items ++ records_after grouped number None records.entry.now) }
+{
+    let mut before = None;
+    for held in records {
+        let group = group_in(grouped, held);
+        add_edge(pieces, number, before, group)?;
+        add_record(pieces, is_unfolded(number, held), held)?;
+        before = group;
+    }
+    add_edge(pieces, number, before, None)?;
+    Ok(())
+}
+
+/// Adds the records of these zones.
+fn add_list<'a>(
+    pieces: &mut Vec<Piece<'a>>,
+    zones: &[Zone],
+    records: &'a [RecordReport],
+) -> Result<(), AllocError>
     ensures bytes { OnOk result (HoldBytes records.entry.now) }
     ensures parts { OnOk result
-        (parts pieces.new.items ≡ parts pieces.old.items ++ flat_map record_parts records.entry.now) }
+        (parts pieces.new.items ≡ parts pieces.old.items ++ list_parts zones.now records.entry.now) }
 {
-    for held in records {
-        add_record(pieces, held)?;
-    }
-    Ok(())
+    add_each(pieces, are_grouped(zones), unfolded(records), records)
 }
 
 /// Adds how many records there are.
@@ -163,7 +196,7 @@ fn all_pieces<'a>(
     report: &'a Report,
 ) -> Result<Vec<Piece<'a>>, AllocError>
     ensures bytes { OnOk result (HoldBytes report.entry.now.records) }
-    ensures tells { OnOk result (TellsBytes (death_told report.entry.now.records)) }
+    ensures tells { OnOk result (AllTellBytes report.entry.now.records (death_told report.entry.now.records)) }
     ensures parts { IfOk result (λ pieces. parts pieces.items
         ≡ page_parts title.entry.now zones.now report.entry.now) }
 {
@@ -171,8 +204,8 @@ fn all_pieces<'a>(
     add_heading(&mut pieces, title)?;
     add_died(&mut pieces, report.records())?;
     add_records_opening(&mut pieces, report.records().len() as u64)?;
-    add_each(&mut pieces, report.records())?;
-    add_picture(&mut pieces, zones, report)?;
+    add_list(&mut pieces, zones, report.records())?;
+    add_picture(alloc, &mut pieces, zones, report)?;
     add(&mut pieces, &[Piece::Own(END)])?;
     Ok(pieces)
 }

@@ -1,15 +1,17 @@
 // The picture of an image: its zones to scale, and a table of them with their blocks.
-ghost use Rattle.std.specs.Prelude.{◌≡◌, ◌<◌, ◌≤◌, ◌-◌, ◌^◌, ◌∷◌, ◌++◌, length, drop, slice_get, flat_map, Some, OnOk};
+ghost use Rattle.std.specs.Prelude.{◌≡◌, ◌++◌, flat_map, Some, OnOk};
 ghost use Rattle.std.specs.Option.{option_copied};
-ghost use Rattle.report_spec.specs.declared.PartState.{PartState as StateValue};
 ghost use Rattle.report_html.specs.Pieces.{parts};
-ghost use Rattle.report_html.specs.Pictures.{class_words, part_words, opening, closing, header_parts, range_parts, count_parts, corrected_parts, block_at, blocks_opening, blocks_parts, is_alike, runs, run_parts, unused_parts, reading_cells, unread_cells, read_cells, row_parts, zone_parts, drawn_parts, end_of, width_of, region_opening, all_drawn, picture};
+ghost use Rattle.report_html.specs.Pictures.{class_words, part_words, opening, closing, header_parts, blocks_word, range_parts, count_parts, corrected_parts, blocks_opening, blocks_parts, runs, run_parts, unused_parts, reading_cells, unread_cells, read_cells, row_parts, zone_parts, drawn_parts, end_of, width_of, region_opening, all_drawn};
+ghost use Rattle.report_html.specs.Regions.{picture};
 
+use crate::block_runs::{add_numbers, block_at, run_end};
 use crate::pieces::{Piece, add};
 use crate::region::{add_map_zone, add_zone_name, read_text};
+use crate::spots::{add_spots, spots_of};
 use prz_read::Reading;
 use record_report::{PartState, Report, ZoneParts};
-use std::alloc::AllocError;
+use std::alloc::{AllocError, Global};
 use zone_spec::Zone;
 
 const KEY: &str = "</svg>\n<ul class=\"legend\">\n\
@@ -87,14 +89,14 @@ fn add_closing(pieces: &mut Vec<Piece<'_>>) -> Result<(), AllocError>
     add(pieces, &[Piece::Own("</title></rect>\n")])
 }
 
-/// Where a block's data begin among those of its zone.
-fn block_at(zone: &Zone, block: u64) -> u64
-    ensures at { result ≡ block_at zone.now block }
-    ensures few { result < 2 ^ 32 }
+fn blocks_word(from: u64, to: u64) -> &'static str
+    ensures { result.now ≡ blocks_word from to }
 {
-    u64::from(zone.block)
-        .saturating_mul(block)
-        .min(u64::from(zone.cap))
+    if to.saturating_sub(from) == 1 {
+        "block "
+    } else {
+        "blocks "
+    }
 }
 
 fn add_range(
@@ -105,17 +107,10 @@ fn add_range(
 ) -> Result<(), AllocError>
     ensures { OnOk result (parts pieces.new.items ≡ parts pieces.old.items ++ range_parts from to words.entry.now) }
 {
-    add(
-        pieces,
-        &[
-            Piece::Own("blocks "),
-            Piece::Number(from),
-            Piece::Own(" up to "),
-            Piece::Number(to),
-            Piece::Own(", "),
-            Piece::Own(words),
-        ],
-    )
+    add(pieces, &[Piece::Own(blocks_word(from, to))])?;
+    add_numbers(pieces, from, to)?;
+    add(pieces, &[Piece::Own(", "), Piece::Own(words)])?;
+    Ok(())
 }
 
 fn add_count(pieces: &mut Vec<Piece<'_>>, n: u32) -> Result<(), AllocError>
@@ -186,32 +181,6 @@ fn add_blocks(
     add_corrected(pieces, state)?;
     add_closing(pieces)?;
     Ok(())
-}
-
-fn is_alike(a: PartState, b: PartState) -> bool
-    ensures { result ≡ is_alike a b }
-{
-    match (a, b) {
-        (PartState::Read(m), PartState::Read(n)) => m == n,
-        (PartState::Bad, PartState::Bad) => true,
-        _ => false,
-    }
-}
-
-/// Where the run ends that begins at block `from`.
-fn run_end(blocks: &[PartState], from: usize) -> usize
-    requires { from < length blocks.now }
-    ensures on { from < result }
-    ensures within { result ≤ length blocks.now }
-    ensures run { (s : StateValue) → slice_get blocks.now from ≡ Some s → runs from (drop from blocks.now)
-        ≡ record { from = from; to = result; state = s } ∷ runs result (drop result blocks.now) }
-{
-    for to in from + 1..blocks.len() {
-        if !is_alike(blocks[from], blocks[to]) {
-            return to;
-        }
-    }
-    blocks.len()
 }
 
 /// Adds the blocks that hold bytes of the log.
@@ -411,6 +380,7 @@ fn add_region_opening(pieces: &mut Vec<Piece<'_>>, whole: u64, count: u64) -> Re
 
 /// Adds the picture of these zones.
 pub fn add_picture(
+    alloc: Global,
     pieces: &mut Vec<Piece<'_>>,
     zones: &[Zone],
     report: &Report,
@@ -419,7 +389,11 @@ pub fn add_picture(
 {
     add_region_opening(pieces, width(zones), zones.len() as u64)?;
     add_zones(pieces, false, zones, report)?;
-    add(pieces, &[Piece::Own(KEY), Piece::Own(TABLE)])?;
+    add(pieces, &[Piece::Own(KEY)])?;
+    let states = report.parts();
+    let spots = spots_of(alloc, zones, states)?;
+    add_spots(pieces, spots.as_slice())?;
+    add(pieces, &[Piece::Own(TABLE)])?;
     add_zones(pieces, true, zones, report)?;
     add(pieces, &[Piece::Own("</table></div>\n")])?;
     Ok(())

@@ -25,12 +25,13 @@ font-size:clamp(1rem,2.2vw,1.375rem);line-height:1.3;font-weight:700;white-space
 table{border-collapse:collapse}\n\
 th,td{padding:.1875rem .625rem .1875rem 0;text-align:left;vertical-align:top;font-weight:400}\n\
 th{color:var(--dim);white-space:nowrap}\n\
-.fact td{overflow-wrap:anywhere}\n\
+.fact td{white-space:pre-line;overflow-wrap:anywhere}\n\
 .grid th,.grid td{border-top:1px solid var(--line)}\n\
 .grid td{white-space:pre}\n\
 .grid .n{text-align:right}\n\
 .grid .pic{padding:0 0 .5rem;border:0}\n\
 .scroll{overflow-x:auto}\n\
+details>.scroll{margin-bottom:1rem}\n\
 .ok,.fix,.bad,.off{font-weight:600;padding:0 .375rem;border:1px solid;border-radius:.25rem;white-space:nowrap}\n\
 .ok{color:var(--ok);fill:var(--okf)}\n\
 .fix{color:var(--fix);fill:var(--fix);border-style:dashed}\n\
@@ -46,9 +47,13 @@ text{fill:var(--fg);font:.75rem system-ui,sans-serif}\n\
 .strip .bad{stroke:var(--bad)}\n\
 .legend{margin:.5rem 0;padding:0;list-style:none;display:flex;flex-wrap:wrap;gap:.125rem 1rem}\n\
 .key{display:inline-block;width:1rem;height:1.25rem;margin-right:.25rem;vertical-align:-.3rem}\n\
+.say{margin:.75rem 0 0;font-weight:700;white-space:pre-wrap;overflow-wrap:anywhere}\n\
+.say span{font-weight:400;color:var(--dim)}\n\
 summary{padding:.25rem 0;cursor:pointer}\n\
 summary span{display:inline-block;margin-left:.75rem}\n\
-details{border-top:1px solid var(--line)}\n\
+.group{border-top:1px solid var(--line)}\n\
+.group>summary{padding:.5rem 0}\n\
+.group>.say,.group>details{margin-left:1rem}\n\
 .log{margin:.25rem 0;padding:.375rem .5rem .375rem .8125rem;background:var(--code);line-height:1.4;\n\
 white-space:pre-wrap;overflow-wrap:anywhere;tab-size:8}\n\
 .log i,.log mark{display:block;margin:0 -.5rem 0 -.8125rem}\n\
@@ -65,11 +70,11 @@ footer{margin-top:2rem;border-top:1px solid var(--line);color:var(--dim)}\n\
 :target{outline:2px solid var(--link);outline-offset:2px}\n\
 @media(max-width:34rem){.slim{display:none}text{font-size:.625rem}.grid th{font-size:.625rem}\n\
 .fact tr,.fact th,.fact td{display:block}.fact th{padding:.375rem 0 0}.fact td{padding-top:0}\n\
-.grid th,.grid td{padding-right:.25rem}.grid td{font-size:.6875rem}.log{font-size:.6875rem}\n\
-summary span{margin-left:.375rem}}\n\
+.grid th,.grid td{padding-right:.25rem}.grid td{font-size:.6875rem}.say{font-size:.75rem}\n\
+.log{font-size:.6875rem}summary span{margin-left:.375rem}.group>.say,.group>details{margin-left:0}}\n\
 @media print{@page{size:A4;margin:14mm}*{print-color-adjust:exact;-webkit-print-color-adjust:exact}\n\
 :root{color-scheme:light}body{max-width:none;padding:0;font-size:9pt}pre,td{font-size:7.5pt}.why{font-size:13pt}\n\
-nav{display:none}summary{list-style:none;break-after:avoid}h2{break-after:avoid}\n\
+nav{display:none}summary{list-style:none;break-after:avoid}.say,h2{break-after:avoid}\n\
 tr,.log i,.log mark{break-inside:avoid}\n\
 .scroll{overflow:visible}.grid td{white-space:pre-wrap}\n\
 details::details-content{content-visibility:visible;block-size:auto}}\n";

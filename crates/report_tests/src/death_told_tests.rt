@@ -1,5 +1,5 @@
 // Which record tells why a machine died, and by which line.
-use crate::worked_deaths::{CONSOLE, OOPS, PANIC, report_on};
+use crate::worked_deaths::{CONSOLE, OOPS, PANIC, SILENT, report_on};
 use record_report::{RecordReport, death_told};
 use std::alloc::Global;
 use std::process::Abort;
@@ -41,10 +41,6 @@ fn assert_none(rt: &impl Abort, alloc: Global, logs: [&[u8]; 4]) -> Result<(), F
 const SYSRQ: &[u8] = b"Kernel panic - not syncing: sysrq triggered crash";
 
 const FAULT: &[u8] = b"BUG: kernel NULL pointer dereference, address: 0000000000000000";
-
-// A dump later than the others, without a telling line.
-const SILENT: &[u8] =
-    b"====1795736655.0-D\nPanic#9 Part1\n<6>[    4.000000] sysrq: Trigger a crash\n";
 
 #[test]
 fn the_newest_dump_tells(rt: HostRuntime) -> Result<(), Fail> {

@@ -2,6 +2,7 @@
 use outside::Bytes;
 use ramoops_layout::{Params, layout};
 use record_report::{Report, report_of};
+use report_html::html;
 use report_json::json;
 use report_text::text;
 use std::alloc::Global;
@@ -128,5 +129,32 @@ fn trace_with_functions(rt: HostRuntime) -> Result<(), Fail> {
     let record = report.records().first().ok_or("no record")?;
     assert_eq!(rt; record.name, Name::Ftrace);
     assert_eq!(rt; str::from_utf8(record.content.as_slice())?, TRACE);
+    Ok(())
+}
+
+// The page of such an image says what a pmsg and an ftrace log are, whatever stands in them.
+#[test]
+fn above_other_records(rt: HostRuntime) -> Result<(), Fail> {
+    let alloc = rt.alloc();
+    let panic = b"Kernel panic - not syncing: x\n";
+    for (params, signature, log, above) in [
+        (
+            params(4096, 0),
+            0x4347_4244,
+            &panic[..],
+            "<pre class=\"say\">messages of user space</pre>\n<details>\n<summary><b>pmsg-ramoops-0</b>",
+        ),
+        (
+            params(0, 4096),
+            0x4341_4384,
+            FTRACE,
+            "<pre class=\"say\">function trace</pre>\n<details>\n<summary><b>ftrace-ramoops-0</b>",
+        ),
+    ] {
+        let zones = layout(alloc, &params)?;
+        let report = reported(alloc, &params, signature, log)?;
+        let page = html(alloc, b"a", zones.zones(), &report)?;
+        assert!(rt; str::from_utf8(page.as_slice())?.contains(above), "{above}");
+    }
     Ok(())
 }

@@ -1,10 +1,12 @@
 // Pages and escaped bytes.
 use crate::packed_dumps::{DAMAGED, WHOLE, report_on, zones_of};
-use crate::worked_deaths::{self, CONSOLE, FATAL, NAMED, NONE};
+use crate::worked_deaths::{self, CONSOLE, FATAL, NAMED, NONE, OOPS, PANIC, SILENT};
 use outside::Bytes;
+use ramoops_layout::types::Layout;
 use ramoops_layout::{Params, layout};
 use record_report::report_of;
 use report_html::*;
+use std::alloc::Global;
 use std::test::Fail;
 use symbols::Symbols;
 
@@ -29,35 +31,45 @@ fn escaped_rows(rt: HostRuntime) -> Result<(), Fail> {
     Ok(())
 }
 
-// The page of an image of one console record, which would be a script.
-#[test]
-fn hostile_record(rt: HostRuntime) -> Result<(), Fail> {
+// One console zone, with so many bytes of parity.
+fn one_console(alloc: Global, ecc: u64) -> Result<Layout, Fail> {
     let params = Params {
         mem: 4096,
         dump: 0,
         console: 4096,
         ftrace: 0,
         pmsg: 0,
-        ecc: 0,
+        ecc,
         cpus: 1,
         ftrace_sig: 0,
         block: 128,
-        ecc_dump: 0,
-        ecc_console: 0,
-        ecc_ftrace: 0,
-        ecc_pmsg: 0,
+        ecc_dump: ecc,
+        ecc_console: ecc,
+        ecc_ftrace: ecc,
+        ecc_pmsg: ecc,
     };
-    let zones = layout(rt.alloc(), &params)?;
-    let mut bytes = Vec::new(rt.alloc());
-    bytes.extend_from_slice(&[0x44, 0x42, 0x47, 0x43, 8, 0, 0, 0, 8, 0, 0, 0])?;
-    bytes.extend_from_slice(b"<script>")?;
-    bytes.resize(4096, 0)?;
+    Ok(layout(alloc, &params)?)
+}
+
+/// The page of an image of a console.
+fn console_page(alloc: Global, zones: &Layout, bytes: Vec<u8>) -> Result<Vec<u8>, Fail> {
     let image = Bytes::from_vec(bytes);
     if image.len() != zones.mem() as usize {
         return Err(Fail::from("the image has another size"));
     }
-    let report = report_of(rt.alloc(), &zones, &Symbols::none(rt.alloc()), image)?;
-    let page = html(rt.alloc(), b"a<b", zones.zones(), &report)?;
+    let report = report_of(alloc, zones, &Symbols::none(alloc), image)?;
+    Ok(html(alloc, b"a<b", zones.zones(), &report)?)
+}
+
+// The page of an image of one console record, which would be a script.
+#[test]
+fn hostile_record(rt: HostRuntime) -> Result<(), Fail> {
+    let zones = one_console(rt.alloc(), 0)?;
+    let mut bytes = Vec::new(rt.alloc());
+    bytes.extend_from_slice(&[0x44, 0x42, 0x47, 0x43, 8, 0, 0, 0, 8, 0, 0, 0])?;
+    bytes.extend_from_slice(b"<script>")?;
+    bytes.resize(4096, 0)?;
+    let page = console_page(rt.alloc(), &zones, bytes)?;
     let text = str::from_utf8(page.as_slice())?;
     assert!(rt; text.contains("<h1>Why this machine died: a&lt;b</h1>"));
     assert!(rt; text.contains("<h2 id=\"region\">The region: 4096 bytes, 1 zones</h2>"));
@@ -74,9 +86,14 @@ fn hostile_record(rt: HostRuntime) -> Result<(), Fail> {
 <td class=\"n\">8</td><td class=\"n\">8</td><td class=\"n\">0</td><td class=\"n\">0</td></tr>
 <tr><td class=\"pic\" colspan=\"8\"><svg class=\"strip\" viewBox=\"0 0 4096 24\" preserveAspectRatio=\"none\">
 <rect class=\"ok\" y=\"12\" height=\"12\" x=\"0\" width=\"12\"><title>header, clean</title></rect>
-<rect class=\"ok\" y=\"12\" height=\"12\" x=\"12\" width=\"128\"><title>blocks 0 up to 1, clean</title></rect>
-<rect class=\"off\" y=\"20\" height=\"4\" x=\"140\" width=\"3956\"><title>blocks 1 up to 32, not in use</title></rect>
+<rect class=\"ok\" y=\"12\" height=\"12\" x=\"12\" width=\"128\"><title>block 0, clean</title></rect>
+<rect class=\"off\" y=\"20\" height=\"4\" x=\"140\" width=\"3956\"><title>blocks 1 to 31, not in use</title></rect>
 </svg></td></tr>\n"
+        )
+    );
+    assert!(rt;
+        text.contains(
+            "<p class=\"note\">All headers and blocks in use are clean.</p>\n<div class=\"scroll\""
         )
     );
     assert!(rt;
@@ -86,6 +103,43 @@ fn hostile_record(rt: HostRuntime) -> Result<(), Fail> {
         )
     );
     assert!(rt; !text.contains("<script"));
+    Ok(())
+}
+
+// A log of 1000 zeros, whose parity is zeros too, with damage in the header, block 1, blocks 3 and 4, and block 6.
+#[test]
+fn spots_that_are_not_clean(rt: HostRuntime) -> Result<(), Fail> {
+    let zones = one_console(rt.alloc(), 16)?;
+    let mut bytes = Vec::new(rt.alloc());
+    bytes.extend_from_slice(&[0x44, 0x42, 0x47, 0x43, 0xe8, 3, 0, 0, 0xe8, 3, 0, 0])?;
+    bytes.resize(4080, 0)?;
+    let parity = [
+        167, 91, 197, 161, 235, 62, 89, 195, 178, 249, 61, 125, 1, 138, 99, 55,
+    ];
+    bytes.extend_from_slice(&parity)?;
+    for (place, b) in [(140, 1), (396, 2), (523, 3), (524, 4), (651, 5)] {
+        bytes[place] = b;
+    }
+    for place in 780..792 {
+        bytes[place] = 7;
+    }
+    let page = console_page(rt.alloc(), &zones, bytes)?;
+    let shown = "<details open><summary><b>Headers and blocks that are not clean: 4</b></summary>
+<div class=\"scroll\" tabindex=\"0\" role=\"region\" aria-label=\"Headers and blocks that are not clean\">\
+<table class=\"grid\">
+<tr><th scope=\"col\">Zone</th><th scope=\"col\" class=\"n\">Block</th><th scope=\"col\" class=\"n\">Place</th>\
+<th scope=\"col\" class=\"n\">Bytes</th><th scope=\"col\">Read</th></tr>
+<tr><th scope=\"row\">console 0</th><td class=\"n\">header</td><td class=\"n\">0</td><td class=\"n\">12</td>\
+<td><span class=\"fix\">corrected 1</span></td></tr>
+<tr><th scope=\"row\">console 0</th><td class=\"n\">1</td><td class=\"n\">140</td><td class=\"n\">128</td>\
+<td><span class=\"fix\">corrected 1</span></td></tr>
+<tr><th scope=\"row\">console 0</th><td class=\"n\">3 to 4</td><td class=\"n\">396</td><td class=\"n\">256</td>\
+<td><span class=\"fix\">corrected 2 in each</span></td></tr>
+<tr><th scope=\"row\">console 0</th><td class=\"n\">6</td><td class=\"n\">780</td><td class=\"n\">128</td>\
+<td><span class=\"bad\">bad</span></td></tr>
+</table></div>
+</details>\n";
+    assert!(rt; str::from_utf8(page.as_slice())?.contains(shown));
     Ok(())
 }
 
@@ -190,6 +244,132 @@ fn why_it_died_by_the_console(rt: HostRuntime) -> Result<(), Fail> {
     Ok(())
 }
 
+// Above each record stands its telling line, with the function that is named below it.
+#[test]
+fn telling_lines_of_the_list(rt: HostRuntime) -> Result<(), Fail> {
+    for record in [
+        "<pre class=\"say\">BUG: kernel NULL pointer dereference, address: 0000000000000000
+<span>lkdtm_EXCEPTION+0x8/0x14 [lkdtm]</span></pre>
+<details>\n<summary><b>dmesg-ramoops-0</b><span>2026-11-26 23:44:14.642000 UTC</span>",
+        "<pre class=\"say\">Kernel panic - not syncing: sysrq triggered crash</pre>
+<details>\n<summary><b>dmesg-ramoops-1</b><span>2026-11-26 23:44:14.688627 UTC</span>",
+        "<pre class=\"say\">Kernel panic - not syncing: sysrq triggered crash</pre>
+<details>\n<summary><b>console-ramoops-0</b><span>",
+    ] {
+        assert!(rt;
+            shows(rt, [OOPS, PANIC, NONE, CONSOLE], record)?,
+            "{record}"
+        );
+    }
+    let hostile = "<pre class=\"say\">Kernel panic - not syncing: &lt;b&gt;\\xff
+<span>sysrq_handle_crash+0x16/0x20</span></pre>
+<details>\n<summary><b>dmesg-ramoops-0</b>";
+    assert!(rt; shows(rt, [NAMED, NONE, NONE, NONE], hostile)?);
+    // a fatal exception is told by the oops above it
+    let fatal = "<pre class=\"say\">Oops: a</pre>\n<details>\n<summary><b>console-ramoops-0</b>";
+    assert!(rt; shows(rt, [NONE, NONE, NONE, FATAL], fatal)?);
+    let silent =
+        "<pre class=\"say\">no telling line</pre>\n<details>\n<summary><b>console-ramoops-0</b>";
+    assert!(rt; shows(rt, [NONE, NONE, NONE, b"[    1.000000] a\n"], silent)?);
+    Ok(())
+}
+
+// The newest dump is unfolded if it does not tell, and no other record.
+#[test]
+fn unfolded_dump(rt: HostRuntime) -> Result<(), Fail> {
+    let open = "<details open>";
+    assert!(rt; !shows(rt, [OOPS, PANIC, NONE, CONSOLE], open)?);
+    assert!(rt; !shows(rt, [NONE, NONE, NONE, CONSOLE], open)?);
+    assert!(rt; !shows(rt, [NONE, NONE, NONE, NONE], open)?);
+    let newest = "<pre class=\"say\">no telling line</pre>
+<details open>\n<summary><b>dmesg-ramoops-1</b><span>2026-11-26 23:44:15.000000 UTC</span>";
+    assert!(rt; shows(rt, [OOPS, SILENT, NONE, CONSOLE], newest)?);
+    let older = "</pre>\n<details>\n<summary><b>dmesg-ramoops-0</b>";
+    assert!(rt; shows(rt, [OOPS, SILENT, NONE, CONSOLE], older)?);
+    let console = "</pre>\n<details>\n<summary><b>console-ramoops-0</b>";
+    assert!(rt; shows(rt, [OOPS, SILENT, NONE, CONSOLE], console)?);
+    // no record tells
+    let silent =
+        "<pre class=\"say\">no telling line</pre>\n<details open>\n<summary><b>dmesg-ramoops-2</b>";
+    assert!(rt; shows(rt, [NONE, NONE, SILENT, NONE], silent)?);
+    // the console has a panic that the dump lacks
+    let dump =
+        "<span>lkdtm_EXCEPTION+0x8/0x14 [lkdtm]</span></pre>\n<details open>\n<summary><b>dmesg-ramoops-0</b>";
+    assert!(rt; shows(rt, [OOPS, NONE, NONE, CONSOLE], dump)?);
+    Ok(())
+}
+
+/// The page of an image of 36 dumps of 256 bytes and a console, which holds these logs at these zones.
+fn page_of_many(alloc: Global, logs: &[(u16, &[u8])]) -> Result<Vec<u8>, Fail> {
+    let params = Params {
+        mem: 37 * 256,
+        dump: 256,
+        console: 256,
+        ..worked_deaths::PARAMS
+    };
+    let zones = layout(alloc, &params)?;
+    let mut bytes = Vec::new(alloc);
+    for (zone, log) in logs {
+        bytes.resize(256 * usize::from(*zone), 0)?;
+        let used = u32::try_from(log.len())?.to_le_bytes();
+        bytes.extend_from_slice(b"DBGC")?;
+        bytes.extend_from_slice(&used)?;
+        bytes.extend_from_slice(&used)?;
+        bytes.extend_from_slice(log)?;
+    }
+    bytes.resize(37 * 256, 0)?;
+    let image = Bytes::from_vec(bytes);
+    if image.len() != zones.mem() as usize {
+        return Err(Fail::from("the image has another size"));
+    }
+    let report = report_of(alloc, &zones, &Symbols::none(alloc), image)?;
+    Ok(html(alloc, b"a", zones.zones(), &report)?)
+}
+
+// Dumps of 32 zones make a group. That of the unfolded dump is open.
+#[test]
+fn groups_of_dumps(rt: HostRuntime) -> Result<(), Fail> {
+    let page = page_of_many(
+        rt.alloc(),
+        &[
+            (0, b"====1.0-D\na\n"),
+            (31, b"====2.0-D\nb\n"),
+            (32, b"====4.0-D\nc\n"),
+            (35, b"====3.0-D\nd\n"),
+            (36, b"e\n"),
+        ],
+    )?;
+    let text = str::from_utf8(page.as_slice())?;
+    for shown in [
+        "</p>\n<details class=\"group\">\n<summary><b>Dump zones from 0</b></summary>
+<pre class=\"say\">no telling line</pre>\n<details>\n<summary><b>dmesg-ramoops-0</b>",
+        "a\n</pre>\n</details>
+<pre class=\"say\">no telling line</pre>\n<details>\n<summary><b>dmesg-ramoops-31</b>",
+        "b\n</pre>\n</details>\n</details>
+<details class=\"group\" open>\n<summary><b>Dump zones from 32</b></summary>
+<pre class=\"say\">no telling line</pre>\n<details open>\n<summary><b>dmesg-ramoops-32</b>",
+        "c\n</pre>\n</details>
+<pre class=\"say\">no telling line</pre>\n<details>\n<summary><b>dmesg-ramoops-35</b>",
+        "d\n</pre>\n</details>\n</details>
+<pre class=\"say\">no telling line</pre>\n<details>\n<summary><b>console-ramoops-0</b>",
+        "e\n</pre>\n</details>\n<h2 id=\"region\">",
+    ] {
+        assert!(rt; text.contains(shown), "{shown}");
+    }
+    let page = page_of_many(
+        rt.alloc(),
+        &[(0, b"====1.0-D\na\n"), (31, b"====2.0-D\nb\n")],
+    )?;
+    assert!(rt; str::from_utf8(page.as_slice())?.contains("from 0</b>"));
+    assert!(rt; !str::from_utf8(page.as_slice())?.contains("from 32</b>"));
+    assert!(rt; !shows(rt, [OOPS, PANIC, NONE, CONSOLE], "class=\"group\"")?);
+    // a group at the end of the list
+    let page = page_of_many(rt.alloc(), &[(33, b"====1.0-D\na\n")])?;
+    let last = "a\n</pre>\n</details>\n</details>\n<h2 id=\"region\">";
+    assert!(rt; str::from_utf8(page.as_slice())?.contains(last));
+    Ok(())
+}
+
 // Eight lines above the telling line and 16 below it.
 #[test]
 fn lines_around_the_death(rt: HostRuntime) -> Result<(), Fail> {
@@ -241,5 +421,26 @@ fn times(rt: HostRuntime) -> Result<(), Fail> {
     ] {
         assert!(rt; shows(rt, [log, NONE, NONE, NONE], shown)?, "{shown}");
     }
+    Ok(())
+}
+
+// The newest other dump that tells: one without a telling line is passed, and so is one that is older.
+#[test]
+fn what_was_before_it(rt: HostRuntime) -> Result<(), Fail> {
+    let before =
+        "<tr><th scope=\"row\">Before it</th><td><a href=\"#dmesg-ramoops-1\">dmesg-ramoops-1</a>, \
+2026-11-26 23:44:14.642000 UTC
+BUG: kernel NULL pointer dereference, address: 0000000000000000</td></tr>
+<tr><th scope=\"row\">Told by</th><td><a href=\"#dmesg-ramoops-0\">dmesg-ramoops-0</a></td></tr>\n";
+    assert!(rt; shows(rt, [PANIC, OOPS, NAMED, CONSOLE], before)?);
+    let silent = b"====1795736654.650000-D\nnothing\n";
+    assert!(rt; shows(rt, [PANIC, OOPS, silent, NONE], before)?);
+    let by_console =
+        "<tr><th scope=\"row\">Before it</th><td><a href=\"#dmesg-ramoops-1\">dmesg-ramoops-1</a>, \
+2026-11-26 23:44:14.642000 UTC
+BUG: kernel NULL pointer dereference, address: 0000000000000000</td></tr>
+<tr><th scope=\"row\">Told by</th><td><a href=\"#console-ramoops-0\">console-ramoops-0</a></td></tr>\n";
+    assert!(rt; shows(rt, [NAMED, OOPS, NONE, CONSOLE], by_console)?);
+    assert!(rt; !shows(rt, [PANIC, NONE, silent, CONSOLE], "Before it")?);
     Ok(())
 }

@@ -22,6 +22,10 @@ pub const OOPS: &[u8] = b"====1795736654.642000-D\nOops#7 Part1\n\
 <4>[    2.973949] CPU: 0 PID: 40 Comm: init Tainted: G      D            6.1.192 #4 \n\
 <4>[    2.974496] RIP: 0010:lkdtm_EXCEPTION+0x8/0x14 [lkdtm]\n";
 
+/// A dump later than the others, without a telling line.
+pub const SILENT: &[u8] =
+    b"====1795736655.0-D\nPanic#9 Part1\n<6>[    4.000000] sysrq: Trigger a crash\n";
+
 /// Lines of the console of the same run.
 pub const CONSOLE: &[u8] = b"[    3.034160] sysrq: Trigger a crash\n\
 [    3.034971] Kernel panic - not syncing: sysrq triggered crash\n[    3.036072] Kernel Offset: disabled\n";

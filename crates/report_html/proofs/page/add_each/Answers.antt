@@ -1,12 +1,17 @@
--- One record more adds its parts, and all records hold bytes. For `add_each`.
+-- One record more adds its parts, the last group ends, and all records hold bytes. For `add_each`.
 use Rattle.std.proofs.Common.{arith}
-use Rattle.std.proofs.lemmas.Grind.{common_steps}
+use Rattle.report_html.specs.Pieces.{parts}
 use Rattle.report_html.proofs.Foreign.{held_next, held_all}
+use Rattle.report_html.proofs.Grouped.{listed_on, listed_all}
 use Rattle.report_html.proofs.page.add_each.Goals as goal
 
 pub loop-held-preserved : goal.loop-held-preserved
 loop-held-preserved c = (
-  grind (arith, common_steps),
+  listed_on c.args.grouped c.args.number c.loop-held.before c.group_in-group.result c.is_unfolded.result
+      c.args.records.now c.loop-held.held-index c.held-item.result (parts c.args.pieces.now.items)
+      (parts c.loop-held.pieces.items) (parts c.add_edge.new.pieces.items) (parts c.add_record.new.pieces.items)
+      c.loop-held-test.true c.held-item.is c.loop-held.invariant.0 c.group_in-group.ensures c.is_unfolded.ensures
+      c.in_ok-add_edge.ensures c.in_ok-add_record.ensures.parts,
   held_next c.args.records.now c.loop-held.held-index c.held-item.result c.held-item.is c.loop-held.invariant.1
       c.in_ok-add_record.ensures.bytes,
 )
@@ -15,3 +20,9 @@ pub returns-clause-bytes : goal.returns-clause-bytes
 returns-clause-bytes c =
     held_all c.args.records.now c.loop-held.held-index (let past = c.loop-held-test.false in omega (arith, past))
     c.loop-held.invariant.1
+
+pub returns-clause-parts : goal.returns-clause-parts
+returns-clause-parts c =
+    listed_all c.args.grouped c.args.number c.loop-held.before c.args.records.now c.loop-held.held-index
+    (parts c.args.pieces.now.items) (parts c.loop-held.pieces.items) (parts c.add_edge-2.new.pieces.items)
+    (let past = c.loop-held-test.false in omega (arith, past)) c.loop-held.invariant.0 c.in_ok-add_edge-2.ensures

@@ -15,7 +15,7 @@ loop-from-preserved c =
     let s : PartState = get_or blocks c.loop-from.from (Read 0) in
     record {
       within = c.run_end-to.ensures.within;
-      left = run-more c.args.zone.now blocks c.loop-from.from c.run_end-to.result s (parts c.loop-from.pieces.items)
+      left = run-more (run_parts c.args.zone.now) blocks c.loop-from.from c.run_end-to.result s (parts c.loop-from.pieces.items)
           (parts c.add_blocks.new.pieces.items)
           (parts c.args.pieces.now.items ++ flat_map (run_parts c.args.zone.now) (runs 0 blocks))
           (c.run_end-to.ensures.run s (slice_get-get_or blocks c.loop-from.from (Read 0) c.loop-from-test.true))
@@ -24,6 +24,6 @@ loop-from-preserved c =
 
 pub returns : goal.returns
 returns c =
-    runs-done c.args.zone.now c.args.blocks.now c.loop-from.from (parts c.loop-from.pieces.items)
+    runs-done (run_parts c.args.zone.now) c.args.blocks.now c.loop-from.from (parts c.loop-from.pieces.items)
     (parts c.args.pieces.now.items ++ flat_map (run_parts c.args.zone.now) (runs 0 c.args.blocks.now))
     (let past = c.loop-from-test.false in omega (arith, past)) c.loop-from.invariant.left

@@ -9,7 +9,7 @@ use Rattle.report_html.proofs.picture.add_used.Given as goal
 abbrev pub invariant-loop-from : goal.invariant-loop-from
 invariant-loop-from l = record {
   within : l.from ≤ length l.blocks;
-  left : IsLeft l.zone l.blocks l.from (parts l.pieces.items)
+  left : IsLeft (run_parts l.zone) l.blocks l.from (parts l.pieces.items)
       (parts l.initial.pieces.items ++ flat_map (run_parts l.zone) (runs 0 l.blocks));
 }
 

@@ -2,7 +2,7 @@
 use Rattle.std.proofs.Common.{◌≡◌, true, false, arith}
 use Rattle.report_spec.specs.declared.PartState.TheVariants.{Read}
 use Rattle.report_html.proofs.Blocks.{alike-next, ends-before, ends-last}
-use Rattle.report_html.proofs.picture.run_end.Goals as goal
+use Rattle.report_html.proofs.block_runs.run_end.Goals as goal
 
 pub returns-then-not-is_alike-clause-run : goal.returns-then-not-is_alike-clause-run
 returns-then-not-is_alike-clause-run c = λ s here.

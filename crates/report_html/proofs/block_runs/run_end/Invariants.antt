@@ -3,7 +3,7 @@ use Rattle.std.proofs.Common.{◌≡◌, ◌<◌, ◌≤◌, length, Some}
 use Rattle.std.specs.Prelude.{slice_get}
 use Rattle.report_spec.specs.declared.PartState.{PartState}
 use Rattle.report_html.proofs.Blocks.{AlikeTo}
-use Rattle.report_html.proofs.picture.run_end.Given as goal
+use Rattle.report_html.proofs.block_runs.run_end.Given as goal
 
 abbrev pub invariant-loop-to : goal.invariant-loop-to
 invariant-loop-to l = record {

@@ -1,0 +1,63 @@
+-- What was before the death: the newest of the other dumps that tell
+use Rattle.std.specs.Prelude.{ℕ, Bool, false, ◌==◌, if◌then◌else◌, List, [], ◌∷◌, ◌++◌, filter, codes, Option, Some, None}
+use Rattle.std.specs.Option.{is_some, option_map, option_or}
+use Rattle.zone_spec.specs.declared.Name.{Name}
+use Rattle.zone_spec.specs.declared.Name.TheVariants.{Dump, Console, Pmsg, Ftrace}
+use Rattle.zone_spec.specs.declared.Time.{Time}
+use Rattle.death_spec.specs.declared.Line.{Line}
+use Rattle.death_spec.specs.Lines.{part}
+use Rattle.report_spec.specs.Packed.{RecordShown, readable}
+use Rattle.report_spec.specs.Newest.{newest, is_newer}
+use Rattle.report_spec.specs.Deaths.{DeathTold, told_by}
+use Rattle.report_html.specs.Pieces.{Part, Words, Bytes, Moment}
+use Rattle.report_html.specs.Names.{link_parts}
+
+-- ---- which record
+
+abbrev pub is_same_dump : Name → Name → Bool
+is_same_dump (Dump i packed) (Dump j other) = i == j
+is_same_dump (Dump i packed) Console = false
+is_same_dump (Dump i packed) Pmsg = false
+is_same_dump (Dump i packed) Ftrace = false
+is_same_dump Console other = false
+is_same_dump Pmsg other = false
+is_same_dump Ftrace other = false
+
+-- why the machine died by another record than the dump of this name
+abbrev pub other_told : Name → RecordShown → Option DeathTold
+other_told name r = if is_same_dump name r.name then None else told_by (Some r)
+
+abbrev pub is_other : Name → RecordShown → Bool
+is_other name r = is_some (other_told name r)
+
+-- by the newest of the others that tell. Dumps alone have a time
+abbrev pub told_before : Name → List RecordShown → Option DeathTold
+told_before name records = told_by (newest (filter (is_other name) records))
+
+-- one record more: it is held in place of the one before if it is newer and tells
+abbrev pub teller_in : Option DeathTold → Option RecordShown
+teller_in told = option_map (λ (t : DeathTold). t.teller) told
+
+abbrev pub newer_told : Name → Option DeathTold → RecordShown → Option DeathTold
+newer_told name held r = if is_newer r (teller_in held) then option_or (other_told name r) held else held
+
+-- ---- its row
+
+abbrev pub time_after : Option Time → List Part
+time_after None = []
+time_after (Some time) = Words (codes ", ") ∷ Moment time ∷ []
+
+abbrev pub line_below : List ℕ → Line → List Part
+line_below text line = Words (codes "\n") ∷ Bytes (part text line.text line.end) ∷ Words (codes "</td></tr>\n") ∷ []
+
+-- a link to the record, its time, and below them its telling line
+abbrev pub before_parts : Option DeathTold → List Part
+before_parts None = []
+before_parts (Some t) =
+    Words (codes "<tr><th scope=\"row\">Before it</th><td>") ∷ [] ++ link_parts t.teller.name
+    ++ time_after t.teller.time ++ line_below (readable t.teller) t.death.telling
+
+-- what of it comes from the image
+abbrev pub before_bytes : Option DeathTold → List (List ℕ)
+before_bytes None = []
+before_bytes (Some t) = part (readable t.teller) t.death.telling.text t.death.telling.end ∷ []

@@ -1,0 +1,152 @@
+// What was before the death: the newest of the other dumps that tell.
+ghost use Rattle.std.specs.Prelude.{◌≡◌, ◌++◌, OnOk};
+ghost use Rattle.std.specs.Option.{option_and_then};
+ghost use Rattle.zone_spec.specs.Parts.{AreBytes};
+ghost use Rattle.report_spec.specs.Packed.{RecordShown};
+ghost use Rattle.report_spec.specs.Newest.{is_later, later_than};
+ghost use Rattle.record_report.specs.Tellers.{told_in};
+ghost use Rattle.report_html.specs.Pieces.{parts};
+ghost use Rattle.report_html.specs.Before.{is_same_dump as is_dump_named, other_told as told_by_other, told_before as told_by_newest, teller_in, newer_told as told_by_newer, time_after, line_below, before_parts};
+ghost use Rattle.report_html.specs.Escaping.{TellsBytes};
+
+use crate::names::add_link;
+use crate::pieces::{Piece, add};
+use death::{death, part};
+use death_spec::Line;
+use record_report::{RecordReport, Told};
+use std::alloc::AllocError;
+use zone_spec::{Name, Time};
+
+fn is_same_dump(name: Name, other: Name) -> bool
+    ensures { result ≡ is_dump_named name other }
+{
+    match (name, other) {
+        (Name::Dump { index, .. }, Name::Dump { index: number, .. }) => index == number,
+        _ => false,
+    }
+}
+
+/// Why the machine died by another record than the dump of this name.
+fn other_told(name: Name, entry: &RecordReport) -> Option<Told<'_>>
+    ensures { told_in result ≡ told_by_other name entry.now }
+{
+    if is_same_dump(name, entry.name) {
+        return None;
+    }
+    let death = death(entry.readable())?;
+    Some(Told {
+        teller: entry,
+        death,
+    })
+}
+
+fn is_later(time: Time, other: Time) -> bool
+    ensures { result ≡ is_later time other }
+{
+    time.secs > other.secs || (time.secs == other.secs && time.micros > other.micros)
+}
+
+fn is_later_than(time: Option<Time>, other: Option<Time>) -> bool
+    ensures { result ≡ later_than time other }
+{
+    match time {
+        Some(time) => match other {
+            Some(other) => is_later(time, other),
+            None => true,
+        },
+        None => false,
+    }
+}
+
+/// When the record that is held was written.
+fn time_held(held: Option<Told<'_>>) -> Option<Time>
+    ensures { result ≡ option_and_then (λ (r : RecordShown). r.time) (teller_in (told_in held.entry)) }
+{
+    match held {
+        Some(told) => {
+            let teller: &RecordReport = told.teller;
+            teller.time
+        }
+        None => None,
+    }
+}
+
+fn newer_told<'a>(name: Name, held: Option<Told<'a>>, entry: &'a RecordReport) -> Option<Told<'a>>
+    ensures { told_in result ≡ told_by_newer name (told_in held.entry) entry.now }
+{
+    if is_later_than(entry.time, time_held(held)) {
+        other_told(name, entry).or(held)
+    } else {
+        held
+    }
+}
+
+/// Why the machine died by the newest of the other dumps that tell.
+fn told_before<'a>(name: Name, records: &'a [RecordReport]) -> Option<Told<'a>>
+    ensures { told_in result ≡ told_by_newest name records.now }
+{
+    let mut before = None;
+    for entry in records {
+        before = newer_told(name, before, entry);
+    }
+    before
+}
+
+fn add_time_after(pieces: &mut Vec<Piece<'_>>, time: Option<Time>) -> Result<(), AllocError>
+    ensures { OnOk result (parts pieces.new.items ≡ parts pieces.old.items ++ time_after time) }
+{
+    match time {
+        Some(time) => add(pieces, &[Piece::Own(", "), Piece::Moment(time)]),
+        None => Ok(()),
+    }
+}
+
+fn add_line_below<'a>(
+    pieces: &mut Vec<Piece<'a>>,
+    text: &'a [u8],
+    line: Line,
+) -> Result<(), AllocError>
+    ensures bytes { AreBytes text.entry.now }
+    ensures parts { OnOk result (parts pieces.new.items ≡ parts pieces.old.items ++ line_below text.entry.now line) }
+{
+    add(
+        pieces,
+        &[
+            Piece::Own("\n"),
+            Piece::Foreign(part(text, line.text, line.end)),
+            Piece::Own("</td></tr>\n"),
+        ],
+    )
+}
+
+fn add_told<'a>(pieces: &mut Vec<Piece<'a>>, told: Told<'a>) -> Result<(), AllocError>
+    ensures bytes { OnOk result (TellsBytes (told_in (Some told.entry))) }
+    ensures parts { OnOk result (parts pieces.new.items
+        ≡ parts pieces.old.items ++ before_parts (told_in (Some told.entry))) }
+{
+    let teller: &'a RecordReport = told.teller;
+    add(
+        pieces,
+        &[Piece::Own("<tr><th scope=\"row\">Before it</th><td>")],
+    )?;
+    add_link(pieces, teller.name)?;
+    add_time_after(pieces, teller.time)?;
+    add_line_below(pieces, teller.readable(), told.death.telling)?;
+    Ok(())
+}
+
+/// Adds what was before the death that the record of this name tells.
+pub fn add_before<'a>(
+    pieces: &mut Vec<Piece<'a>>,
+    name: Name,
+    records: &'a [RecordReport],
+) -> Result<(), AllocError>
+    ensures bytes { OnOk result (TellsBytes (told_by_newest name records.entry.now)) }
+    ensures parts { OnOk result (parts pieces.new.items
+        ≡ parts pieces.old.items ++ before_parts (told_by_newest name records.entry.now)) }
+{
+    match told_before(name, records) {
+        Some(told) => add_told(pieces, told),
+        None => Ok(()),
+    }
+}
