@@ -16,11 +16,14 @@ mod logs;
 mod moments;
 mod names;
 mod page;
+mod parameters;
 mod picture;
 mod pieces;
+mod reads;
 mod region;
 mod spots;
 mod style;
+mod warnings;
 
 pub use escaping::push_escaped;
 pub use laws::{a_log_is_its_lines, escaped_is_text, six_blocks_make_four_runs};
