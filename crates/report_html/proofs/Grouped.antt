@@ -10,12 +10,14 @@ use Rattle.report_html.specs.Pages.{record_parts, listed_parts, records_after}
 use Rattle.report_html.proofs.Joined.{joined}
 
 -- one record more
-pub listed_on : (zones : List Saved) (grouped : Bool) (number before group : Option ℕ) (is_open : Bool) (rs : List RecordShown) (i : ℕ)
+pub listed_on : (zones : List Saved) (grouped : Bool) (number before group : Option ℕ) (is_open : Bool)
+    (rs : List RecordShown) (i : ℕ)
     (r : RecordShown) (old p p1 p2 : List Part) → i < length rs → r ≡ get_or rs i r
     → p ++ records_after zones grouped number before (drop i rs) ≡ old ++ records_after zones grouped number None rs
     → group ≡ group_in grouped r.name → is_open ≡ is_unfolded number r.name
     → p1 ≡ p ++ edge_parts number before group → p2 ≡ p1 ++ record_parts zones is_open r
-    → p2 ++ records_after zones grouped number group (drop (i + 1) rs) ≡ old ++ records_after zones grouped number None rs
+    → p2 ++ records_after zones grouped number group (drop (i + 1) rs)
+    ≡ old ++ records_after zones grouped number None rs
 unfolding records_after
 listed_on zones grouped number before group is_open rs i r old p p1 p2 below is inv grouping opened edged added =
     let here : Option ℕ = group_in grouped r.name in
@@ -33,8 +35,9 @@ listed_on zones grouped number before group is_open rs i r old p p1 p2 below is 
     ∙ inv
 
 -- the last group ends
-pub listed_all : (zones : List Saved) (grouped : Bool) (number before : Option ℕ) (rs : List RecordShown) (i : ℕ) (old p p1 : List Part)
-    → length rs ≤ i → p ++ records_after zones grouped number before (drop i rs) ≡ old ++ records_after zones grouped number None rs
+pub listed_all : (zones : List Saved) (grouped : Bool) (number before : Option ℕ) (rs : List RecordShown) (i : ℕ)
+    (old p p1 : List Part) → length rs ≤ i
+    → p ++ records_after zones grouped number before (drop i rs) ≡ old ++ records_after zones grouped number None rs
     → p1 ≡ p ++ edge_parts number before None → p1 ≡ old ++ records_after zones grouped number None rs
 unfolding records_after
 listed_all zones grouped number before rs i old p p1 past inv edged =

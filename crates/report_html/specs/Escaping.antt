@@ -41,5 +41,6 @@ pub record IsWithoutMarkup (title : List ℕ) (records : List RecordShown) (page
   pub parts : List Part
   pub page_is : page ≡ parts_text parts
   pub foreign : foreign_of parts
-      ≡ title ∷ why_bytes (death_told records) ++ died_bytes records (death_told records) ++ flat_map record_bytes records
+      ≡ title ∷ why_bytes (death_told records) ++ died_bytes records (death_told records)
+      ++ flat_map record_bytes records
   pub texts : All (λ (bytes : List ℕ). IsText (escaped bytes)) (foreign_of parts)

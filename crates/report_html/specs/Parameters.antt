@@ -25,7 +25,8 @@ ftrace_rows p = parameter_parts (codes "cpus") p.cpus ++ parameter_parts (codes 
 
 abbrev pub parameters_words : List ℕ
 parameters_words =
-    codes "<h2 id=\"layout\">Parameters</h2>\n<p class=\"note\">As the zones were read. Sizes and parity are in bytes.</p>\n"
+    codes "<h2 id=\"layout\">Parameters</h2>\n"
+    ++ codes "<p class=\"note\">As the zones were read. Sizes and parity are in bytes.</p>\n"
     ++ codes "<div class=\"scroll\" tabindex=\"0\" role=\"region\" aria-label=\"Parameters\"><table class=\"grid\">\n"
     ++ codes "<tr><th scope=\"col\">Parameter</th><th scope=\"col\" class=\"n\">Value</th></tr>\n"
 

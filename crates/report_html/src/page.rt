@@ -227,8 +227,8 @@ fn all_pieces<'a>(
     Ok(pieces)
 }
 
-/// The page of the report of these parameters and their zones, in ASCII. `title` is what it is headed with, such as the image's path. All
-/// bytes that come from the image or the title are escaped, and so make no markup.
+/// The page of the report of these parameters and their zones, in ASCII. `title` is what it is headed with, such as the
+/// image's path. All bytes that come from the image or the title are escaped, and so make no markup.
 pub fn html(
     alloc: Global,
     title: &[u8],

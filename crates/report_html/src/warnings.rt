@@ -202,7 +202,8 @@ fn add_layout_warning(
     }
 }
 
-/// Adds the warnings by how many headers are bad, how many zones have a log, how many bad parts, and how many there are.
+/// Adds the warnings by how many headers are bad, how many zones have a log, how many have bad parts, and how many zones
+/// there are.
 fn add_counted(
     pieces: &mut Vec<Piece<'_>>,
     headers: u64,

@@ -24,6 +24,7 @@ returns-clause-bytes c =
 
 pub returns-clause-parts : goal.returns-clause-parts
 returns-clause-parts c =
-    listed_all (saved c.args.logs.now) c.args.grouped c.args.number c.loop-held.before c.args.records.now c.loop-held.held-index
+    listed_all (saved c.args.logs.now) c.args.grouped c.args.number c.loop-held.before c.args.records.now
+    c.loop-held.held-index
     (parts c.args.pieces.now.items) (parts c.loop-held.pieces.items) (parts c.add_edge-2.new.pieces.items)
     (let past = c.loop-held-test.false in omega (arith, past)) c.loop-held.invariant.0 c.in_ok-add_edge-2.ensures
