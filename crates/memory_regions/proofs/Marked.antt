@@ -1,13 +1,12 @@
 -- The marked pages of two pieces of a memory are those of the first and those of the second further on. For
 -- `add_marked` and `marked_pages`.
-use Rattle.std.proofs.Common.{◌≡◌, ◌∙◌, ℕ, zero, suc, ◌+◌, ◌*◌, ◌-◌, ◌/◌, ◌<◌, ◌≤◌, ◌==◌, Bool, true, false, cond, List, [], ◌∷◌, ◌++◌, length, get_or, map, take, drop, refl, sym, ap, ap₂, arith, length-append, lit<, append_assoc, add_assoc, ◌%◌, min}
-use Rattle.std.specs.Prelude.{slice_index, nat_le, ◌||◌, ◌&&◌, if◌then◌else◌}
-use Rattle.std.specs.Int.{div_ceil}
+use Rattle.std.proofs.Common.{◌≡◌, ◌∙◌, ℕ, zero, suc, ◌+◌, ◌*◌, ◌/◌, ◌<◌, ◌≤◌, Bool, true, false, cond, List, [], ◌∷◌, ◌++◌, length, map, refl, sym, ap, ap₂, arith, length-append, lit<, append_assoc, add_assoc, ◌%◌, min}
+use Rattle.std.specs.Prelude.{slice_index}
 use Rattle.std.specs.List.{range_with_len, filter}
 use Rattle.std.proofs.lemmas.List.{get_or_append_left, get_or-append-add}
 use Rattle.std.proofs.lemmas.List.Elements.{filter-append}
 use Rattle.list_laws.proofs.Ranges.{range_with_len-add}
-use Rattle.layout_spec.specs.Marks.{is_mark, flag, signature_bytes, has_zero}
+use Rattle.layout_spec.specs.Marks.{is_mark}
 use Rattle.memory_spec.specs.Pages.{is_marked, marked, pages}
 
 -- one page more

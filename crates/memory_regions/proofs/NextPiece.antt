@@ -1,10 +1,9 @@
 -- The marked pages of what was read, with those of the next piece. For `add_piece` and `marked_pages`.
-use Rattle.std.proofs.Common.{◌≡◌, ◌∙◌, ℕ, ◌+◌, ◌*◌, ◌/◌, ◌%◌, ◌≤◌, List, [], ◌++◌, length, map, take, drop, refl, sym, ap, ap₂, arith, take_all, Option, Some, None, IfSome}
+use Rattle.std.proofs.Common.{◌≡◌, ◌∙◌, ℕ, ◌+◌, ◌*◌, ◌/◌, ◌%◌, ◌≤◌, List, [], ◌++◌, length, map, take, drop, refl, sym, ap, subst, arith, take_all, Option, Some, None, IfSome}
 use Rattle.std.proofs.Math.Seq.{take-add}
 use Rattle.std.proofs.lemmas.List.{length-take-le}
 use Rattle.memory_spec.specs.Pages.{marked}
 use Rattle.memory_regions.specs.declared.pages.Unread.{Unread}
-use Rattle.memory_regions.specs.declared.pages.Unread.TheVariants.{Memory, Fault}
 use Rattle.memory_regions.specs.Faults.{IsUnread}
 use Rattle.memory_regions.proofs.Marked.{marked-append}
 
@@ -58,7 +57,6 @@ pub all_read : (holds : Option (List ℕ)) (size at : ℕ) (pages : List ℕ) �
 all_read None size at pages end h = tt
 all_read (Some bs) size at pages end h = h.1 ∙ ap marked (take_all at bs (omega (arith, end, h.0)))
 
--- a read that failed later
-pub unread_later : (e : Unread) (first before now : ℕ) → first ≤ before → IsUnread e before now → IsUnread e first now
-unread_later Memory first before now le h = h
-unread_later Fault first before now le h = omega (arith, le, h)
+-- no fault before why it was not read
+pub unread_since : (e : Unread) (first before now : ℕ) → before ≡ first → IsUnread e before now → IsUnread e first now
+unread_since e first before now same h = subst (λ (n : ℕ). IsUnread e n now) same h

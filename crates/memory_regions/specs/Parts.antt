@@ -1,19 +1,12 @@
 -- A part of what holds bytes
-use Rattle.std.specs.Prelude.{◌≡◌, ℕ, zero, suc, ◌+◌, ◌<◌, List, [], ◌∷◌, length, take, drop, Option, Some, None, IfSome}
+use Rattle.std.specs.Prelude.{ℕ, zero, suc, List, [], ◌∷◌, take, drop, Option, Some, None, IfSome}
 use Rattle.std.proofs.Common.{lit<}
 use Rattle.std.specs.Option.{option_map}
 use Rattle.outside.specs.Bytes.{AreBytes, AreBytes-drop}
-use Rattle.memory_regions.specs.declared.part.NoPart.{NoPart}
-use Rattle.memory_regions.specs.declared.part.NoPart.TheVariants.{Fault, Outside}
 
 -- the bytes of the part, where the whole tells its bytes
 abbrev pub part_of : ℕ → ℕ → Option (List ℕ) → Option (List ℕ)
 part_of at size holds = option_map (λ bs. take size (drop at bs)) holds
-
--- why there is no part: the whole ends before it does
-abbrev pub IsNoPart : Option (List ℕ) → ℕ → ℕ → NoPart → Type 0
-IsNoPart holds at size Fault = Unit {0}
-IsNoPart holds at size (Outside has) = (has < at + size) × IfSome holds (λ bs. has ≡ length bs)
 
 -- a front of bytes is of bytes
 AreBytes-take : (n : ℕ) (xs : List ℕ) → AreBytes xs → AreBytes (take n xs)

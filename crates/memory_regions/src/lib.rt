@@ -9,4 +9,4 @@ mod sizes;
 
 pub use choosing::{Reading, best, larger, readings};
 pub use pages::{Unread, Watch, marked_pages, window};
-pub use part::{NoPart, Part};
+pub use part::Part;

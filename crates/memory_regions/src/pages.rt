@@ -63,6 +63,7 @@ fn add_piece<M: Load>(
     ensures ok { OnOk result (IfSome (M.holds memory.old) (λ bs. pages.new.items ≡ pages.old.items
         ++ map (λ page. at / 4096 + page) (marked (take (length piece.old) (drop at bs))))) }
     ensures err { IfErr result (λ e. IsUnread e (M.faults memory.old) (M.faults memory.new)) }
+    ensures no_fault { OnOk result (M.faults memory.new ≡ M.faults memory.old) }
     ensures same { M.holds memory.new ≡ M.holds memory.old }
     ensures later { M.faults memory.old ≤ M.faults memory.new }
 {
@@ -82,6 +83,7 @@ pub fn marked_pages<M: Load, W: Watch>(
 ) -> Result<Vec<u64>, Unread>
     ensures ok { IfOk result (λ pages. IfSome (M.holds memory.old) (λ bs. pages.items ≡ marked bs)) }
     ensures err { IfErr result (λ e. IsUnread e (M.faults memory.old) (M.faults memory.new)) }
+    ensures no_fault { OnOk result (M.faults memory.new ≡ M.faults memory.old) }
     ensures same { M.holds memory.new ≡ M.holds memory.old }
     ensures later { M.faults memory.old ≤ M.faults memory.new }
 {
@@ -111,6 +113,7 @@ pub fn marked_pages<M: Load, W: Watch>(
 pub fn window<M: Load>(alloc: Global, memory: &mut M, at: u64, most: u32) -> Result<Vec<u8>, Unread>
     ensures ok { IfOk result (λ v. IfSome (M.holds memory.old) (λ bs. v.items ≡ take most (drop at bs))) }
     ensures err { IfErr result (λ e. IsUnread e (M.faults memory.old) (M.faults memory.new)) }
+    ensures no_fault { OnOk result (M.faults memory.new ≡ M.faults memory.old) }
     ensures same { M.holds memory.new ≡ M.holds memory.old }
     ensures later { M.faults memory.old ≤ M.faults memory.new }
 {

@@ -1,18 +1,9 @@
 // A part of what can be read, as the whole of it.
-ghost use Rattle.std.specs.Prelude.{◌≡◌, ◌+◌, ◌≤◌, ◌<◌, ◌^◌, length, take, drop, IfOk, IfErr};
-ghost use Rattle.std.specs.Option.{ForSome};
-ghost use Rattle.memory_regions.specs.Parts.{part_of, part_bytes, IsNoPart};
+ghost use Rattle.std.specs.Prelude.{◌≡◌, ◌+◌, ◌≤◌, ◌<◌, ◌^◌, nat_le, length, take, drop, IfSome};
+ghost use Rattle.std.specs.Option.{ForSome, is_some};
+ghost use Rattle.memory_regions.specs.Parts.{part_of, part_bytes};
 
 use outside::{Failed, Load};
-
-/// Why there is no such part.
-#[derive(Clone, Copy, Debug, PartialEq, Eq)]
-pub enum NoPart {
-    /// The size could not be told.
-    Fault,
-    /// There are only so many bytes, and the part passes their end.
-    Outside(u64),
-}
 
 /// So many bytes of `inner` from a place on: an image within a larger file. It is read alone, and never written.
 #[derive(Drop)]
@@ -26,19 +17,19 @@ pub struct Part<M: Load> {
 }
 
 impl<M: Load + Drop> Part<M> {
-    /// The part of `size` bytes from `at` on. It is refused where `inner` ends before.
-    pub fn new(mut inner: M, at: u64, size: u64) -> Result<Part<M>, NoPart>
-        ensures part { IfOk result (λ p. (p.at ≡ at) × (p.size ≡ size)) }
-        ensures holds { IfOk result (λ p. M.holds p.inner ≡ M.holds inner) }
-        ensures refused { IfErr result (IsNoPart (M.holds inner) at size) }
+    /// The part of `size` bytes from `at` on, of the `has` bytes of `inner`; none if they end before it does. Nothing is
+    /// asked of `inner`.
+    pub fn new(inner: M, has: u64, at: u64, size: u64) -> Option<Part<M>>
+        requires { IfSome (M.holds inner) (λ bs. has ≡ length bs) }
+        ensures within { is_some result ≡ nat_le (at + size) has }
+        ensures part { IfSome result (λ p. (p.at ≡ at) × (p.size ≡ size)) }
+        ensures whole { IfSome result (λ p. p.inner ≡ inner) }
+        ensures no_fault { IfSome result (λ p. p.faults ≡ 0) }
     {
-        let Ok(has) = inner.size() else {
-            return Err(NoPart::Fault);
-        };
         if at > has || size > has - at {
-            return Err(NoPart::Outside(has));
+            return None;
         }
-        Ok(Part {
+        Some(Part {
             inner,
             at,
             size,

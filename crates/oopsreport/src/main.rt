@@ -16,8 +16,7 @@ use command::command;
 use folder::Dir;
 use image::Image;
 use layout::{Asked, Layouts, Memory, NoPlan, asked_by};
-use memory::{Progress, Region, named, region_at, regions};
-use memory_regions::{NoPart, Part};
+use memory::{Progress, Region, named, part_at, region_at, regions};
 use outside::{FileLoad, Load, WriterSink};
 use record_report::Report;
 use report_calls::{best_hint, taken_hint};
@@ -190,17 +189,8 @@ fn report_region<R: Runtime>(
     place: u64,
 ) -> Result<()> {
     let name = format!(in alloc; "{path}@{}", named(alloc, memory.base, place)?)?;
-    let file = FileLoad::new(rt, alloc, path)?;
-    let report = match Part::new(file, place, u64::from(plan.mem())) {
-        Ok(mut part) => report_by(rt, alloc, plan, asked, format, &name, &mut part)?,
-        Err(NoPart::Fault) => bail!("it could not be read"),
-        Err(NoPart::Outside(has)) => {
-            bail!(
-                "it has {has} bytes, and the region has {} from {place} on",
-                plan.mem()
-            )
-        }
-    };
+    let mut part = part_at(rt, alloc, path, place, plan.mem())?;
+    let report = report_by(rt, alloc, plan, asked, format, &name, &mut part)?;
     save_records(rt, alloc, folder, &report)
 }
 

@@ -1,7 +1,7 @@
 // Regions in a copy of all of a machine's memory.
-use anyhow::{Result, anyhow};
-use memory_regions::{Unread, Watch, best, larger, marked_pages, readings, window};
-use outside::FileLoad;
+use anyhow::{Result, anyhow, bail};
+use memory_regions::{Part, Unread, Watch, best, larger, marked_pages, readings, window};
+use outside::{FileLoad, Load};
 use report_tool::{Found, Known};
 use std::alloc::{AllocError, Global};
 use std::rt::Runtime;
@@ -131,6 +131,24 @@ pub fn regions<R: Runtime>(
         }
     }
     Ok(regions)
+}
+
+/// The part of a file that has `size` bytes from a place on.
+pub fn part_at<R: Runtime>(
+    rt: &R,
+    alloc: Global,
+    path: &str,
+    place: u64,
+    size: u32,
+) -> Result<Part<FileLoad<R>>> {
+    let mut file = FileLoad::new(rt, alloc, path)?;
+    let Ok(has) = file.size() else {
+        bail!("it could not be read");
+    };
+    match Part::new(file, has, place, u64::from(size)) {
+        Some(part) => Ok(part),
+        None => bail!("it has {has} bytes, and the region has {size} from {place} on"),
+    }
 }
 
 /// A place as it is told: in the file, or as an address if that of the file's first byte is known.

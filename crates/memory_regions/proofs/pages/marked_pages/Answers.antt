@@ -1,7 +1,7 @@
 -- What is read is the next piece, and its pages are added. For `marked_pages`.
-use Rattle.std.proofs.Common.{◌≡◌, ◌+◌, ◌-◌, ◌≤◌, ◌%◌, ◌∙◌, sym, ap, arith, rules, length, take}
+use Rattle.std.proofs.Common.{◌≡◌, ◌+◌, ◌-◌, ◌≤◌, ◌%◌, ◌∙◌, ap, arith, length, take}
 use Rattle.std.proofs.lemmas.List.{length-take, length-take-le}
-use Rattle.memory_regions.proofs.NextPiece.{HasPages, none_yet, piece_fits, next_piece, all_read, unread_later}
+use Rattle.memory_regions.proofs.NextPiece.{none_yet, piece_fits, next_piece, all_read, unread_since}
 use Rattle.memory_regions.proofs.pages.marked_pages.Goals as goal
 
 pub pieces-init : goal.pieces-init
@@ -14,7 +14,7 @@ pieces-init g c =
       holds = c.size.ensures.same;
       pages = rw (c.new-pages.ensures.items, start)
           (none_yet (g.M.Load.holds c.args.memory.now) c.in-Ok.size c.in-Ok.ensures.bytes);
-      later = c.size.ensures.cause.later;
+      no_fault = c.in-Ok.ensures.cause.done;
     }
 
 pub add_piece-requires : goal.add_piece-requires
@@ -53,13 +53,13 @@ pieces-preserved g c =
           c.pieces.pages.items c.add_piece.new.pages.items c.pieces.invariant.holds
           (length-take-le c.min-count.result c.deref_mut.result.now inside) on fits
           (c.pieces.invariant.whole c.pieces-test.true) c.pieces.invariant.pages c.in-Ok-add_piece.ensures.ok;
-      later = omega (arith, c.pieces.invariant.later, c.add_piece.ensures.later);
+      no_fault = c.in-Ok-add_piece.ensures.no_fault ∙ c.pieces.invariant.no_fault;
     }
 
 pub returns-in-Err-clause-err : goal.returns-in-Err-clause-err
 returns-in-Err-clause-err g c =
-    unread_later c.in-Err.unread (g.M.Load.faults c.args.memory.now) (g.M.Load.faults c.pieces.memory)
-    (g.M.Load.faults c.add_piece.new.memory) c.pieces.invariant.later c.in-Err.ensures.err
+    unread_since c.in-Err.unread (g.M.Load.faults c.args.memory.now) (g.M.Load.faults c.pieces.memory)
+    (g.M.Load.faults c.add_piece.new.memory) c.pieces.invariant.no_fault c.in-Err.ensures.err
 
 pub returns-clause-ok : goal.returns-clause-ok
 returns-clause-ok g c =

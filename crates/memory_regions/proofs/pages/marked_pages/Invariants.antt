@@ -10,7 +10,7 @@ invariant-pieces g l = record {
   room : vec_len l.piece ≡ 1048576;
   holds : g.M.Load.holds l.memory ≡ g.M.Load.holds l.fn.memory;
   pages : HasPages (g.M.Load.holds l.fn.memory) l.size (l.size - l.left) l.pages.items;
-  later : g.M.Load.faults l.fn.memory ≤ g.M.Load.faults l.memory;
+  no_fault : g.M.Load.faults l.memory ≡ g.M.Load.faults l.fn.memory;
 }
 
 abbrev pub decreases-pieces : goal.decreases-pieces
