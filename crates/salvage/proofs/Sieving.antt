@@ -1,6 +1,6 @@
--- A word that a block's sums do not tell to have at most one error there has two at least. For `errs_twice` and
+-- A word whose sums in a block have such factors has as many errors there as there are factors. For `errs` and
 -- `Sieve::is_far`.
-use Rattle.std.proofs.Common.{◌≡◌, ◌≢◌, ℕ, zero, suc, ◌+◌, ◌-◌, ◌<◌, ◌≤◌, ◌⊎◌, inl, inr, if◌then◌else◌, Bool, true, false, List, [], ◌∷◌, ◌++◌, length, take, drop, get_or, IsTrue, not, nat_eq, refl, sym, ap, ap₂, ◌∙◌, subst, arith, Option, Some, None, unwrap_or, length-drop, length-append}
+use Rattle.std.proofs.Common.{◌*◌, ◌≡◌, ◌≢◌, ℕ, zero, suc, ◌+◌, ◌-◌, ◌<◌, ◌≤◌, ◌⊎◌, inl, inr, if◌then◌else◌, Bool, true, false, List, [], ◌∷◌, ◌++◌, length, take, drop, get_or, IsTrue, not, nat_eq, refl, sym, ap, ap₂, ◌∙◌, subst, arith, Option, Some, None, unwrap_or, length-drop, length-append}
 use Rattle.std.specs.Prelude.{slice_range, All}
 use Rattle.std.proofs.lemmas.List.Elements.{All-get_or}
 use Rattle.std.proofs.lemmas.Bool.{cases_eq, cases_lt, eq-eqb, ne_eqb}
@@ -15,7 +15,7 @@ use Rattle.code_laws.proofs.Words.{pow_turn}
 use Rattle.code_laws.proofs.Ring.{ring, add_self, add_zero, add_assoc, zero_add, mul_zero, zero_mul, mul_one, one_mul, mul_comm, mul_assoc, pow_suc, pow_zero, pow_below, mul_below}
 use Rattle.salvage.specs.declared.sieve.Weight.{Weight}
 use Rattle.salvage.specs.declared.sieve.Block.{Block}
-use Rattle.salvage.specs.Sieves.{product, product_1, product_2, none, weight, weighed, IsKnownWord, IsOutside, IsBlock}
+use Rattle.salvage.specs.Sieves.{product, times_power, none, weighed, dot, AreFactors, IsKnownWord, IsOutside, IsBlock}
 use Rattle.salvage_laws.specs.Known.{put_in}
 use Rattle.salvage.proofs.Amends.{item}
 use Rattle.salvage.proofs.Probed.{put_in-append}
@@ -92,9 +92,6 @@ sum_of_values i (x ∷ w) (y ∷ b) e =
     alg u v p s t = simp ring
 
 -- what a place counts: the i-th power of its locator times the product
-times_power : List ℕ → ℕ → ℕ → ℕ
-times_power ms i p = gf_mul (gf_pow (gf_pow 2 p) i) (product ms p)
-
 one_more : (m : ℕ) (ms : List ℕ) (i p : ℕ) → times_power (m ∷ ms) i p
     ≡ gf_add (times_power ms (suc i) p) (gf_mul (gf_pow 2 m) (times_power ms i p))
 unfolding times_power product
@@ -123,24 +120,17 @@ codewords_sum r (m ∷ ms) i c b l e hc hb =
     (codewords_sum r ms i c b (omega arith) e hc hb)
     ∙ zero_add (gf_mul (gf_pow 2 m) 0) ∙ mul_zero (gf_pow 2 m)
 
-zeroth_is : (ms : List ℕ) (p : ℕ) → product ms p ≡ times_power ms 0 p
+pub zeroth_is : (ms : List ℕ) (p : ℕ) → product ms p ≡ times_power ms 0 p
 unfolding times_power
 zeroth_is ms p =
     sym (one_mul (product ms p) (product_below ms p)) ∙ ap (λ (q : ℕ). gf_mul q (product ms p))
     (sym (pow_zero (gf_pow 2 p)))
 
-first_is : (ms : List ℕ) (p : ℕ) → product_1 ms p ≡ times_power ms 1 p
-unfolding times_power product_1
-first_is ms p =
-    mul_comm (product ms p) (gf_pow 2 p) ∙ ap (λ (q : ℕ). gf_mul q (product ms p))
-    (sym (pow_suc (gf_pow 2 p) 0 ∙ ap (gf_mul (gf_pow 2 p)) (pow_zero (gf_pow 2 p)) ∙ mul_one (gf_pow 2 p) (pow_below 2 p)))
-
-second_is : (ms : List ℕ) (p : ℕ) → product_2 ms p ≡ times_power ms 2 p
-unfolding times_power product_2
-second_is ms p =
-    ap (λ (q : ℕ). gf_mul q (gf_pow 2 p)) (first_is ms p)
-    ∙ alg (gf_pow (gf_pow 2 p) 1) (product ms p) (gf_pow 2 p)
-    ∙ ap (λ (q : ℕ). gf_mul q (product ms p)) (sym (pow_suc (gf_pow 2 p) 1))
+pub next_power : (ms : List ℕ) (i p : ℕ) → gf_mul (times_power ms i p) (gf_pow 2 p) ≡ times_power ms (suc i) p
+unfolding times_power
+next_power ms i p =
+    alg (gf_pow (gf_pow 2 p) i) (product ms p) (gf_pow 2 p)
+    ∙ ap (λ (q : ℕ). gf_mul q (product ms p)) (sym (pow_suc (gf_pow 2 p) i))
   where
     alg : (q d x : ℕ) → gf_mul (gf_mul q d) x ≡ gf_mul (gf_mul x q) d
     alg q d x = simp ring
@@ -242,7 +232,7 @@ between-through H w c b from to e e' =
     alg : (a a' d d' : ℕ) → gf_add (gf_add a a') (gf_add d d') ≡ gf_add (gf_add a d) (gf_add a' d')
     alg a a' d d' = simp ring
 
--- ---- at most one error
+-- ---- at most so many errors
 same_head : (x y : ℕ) (w c : List ℕ) → x ≡ y → distance (x ∷ w) (y ∷ c) ≡ distance w c
 unfolding distance
 same_head x y w c e = ap (λ (b : Bool). (if b then 0 else 1) + distance w c) (eq-eqb x y e) ∙ omega arith
@@ -274,21 +264,6 @@ same_term H x y w c v d e =
     alg : (h s t : ℕ) → gf_add (gf_add (gf_mul h 0) s) t ≡ gf_add s t
     alg h s t = simp ring
 
-none_apart : (m : ℕ) (w c : List ℕ) → length w ≡ length c → distance w c ≤ distance (drop m w) (drop m c)
-    → (H : ℕ → ℕ) → gf_add (sum_of H w c) (sum_of H (drop m w) (drop m c)) ≡ 0
-none_apart zero w c e d H = add_self (sum_of H w c)
-none_apart (suc m) [] [] e d H = add_self (sum_of H [] [])
-none_apart (suc m) [] (y ∷ c) e d H = absurd (omega arith)
-none_apart (suc m) (x ∷ w) [] e d H = absurd (omega arith)
-none_apart (suc m) (x ∷ w) (y ∷ c) e d H = by (cases_eq x y) (λ l. none_apart m w c (omega arith) l H)
-  where
-    by : (x ≡ y) ⊎ (x ≢ y) → (distance w c ≤ distance (drop m w) (drop m c)
-        → gf_add (sum_of H w c) (sum_of H (drop m w) (drop m c)) ≡ 0)
-        → gf_add (sum_of H (x ∷ w) (y ∷ c)) (sum_of H (drop m w) (drop m c)) ≡ 0
-    by (inl s) rest =
-        same_term H x y w c (drop m w) (drop m c) s ∙ rest (omega (arith, same_head x y w c s, d))
-    by (inr n) rest = absurd (omega (arith, other_head x y w c n, d, distance-drop m w c (omega arith)))
-
 alone : (H : ℕ → ℕ) (x y : ℕ) (w c v d : List ℕ) → gf_add (sum_of H w c) (sum_of H v d) ≡ 0
     → gf_add (sum_of H (x ∷ w) (y ∷ c)) (sum_of H v d) ≡ gf_mul (H (length w)) (gf_add x y)
 unfolding sum_of
@@ -296,45 +271,158 @@ alone H x y w c v d z =
     add_assoc (gf_mul (H (length w)) (gf_add x y)) (sum_of H w c) (sum_of H v d)
     ∙ ap (gf_add (gf_mul (H (length w)) (gf_add x y))) z ∙ add_zero (gf_mul (H (length w)) (gf_add x y))
 
-one_apart : (m : ℕ) (w c : List ℕ) → length w ≡ length c → distance w c ≤ 1 + distance (drop m w) (drop m c)
-    → (p : ℕ) × (a : ℕ)
-    × ((H : ℕ → ℕ) → gf_add (sum_of H w c) (sum_of H (drop m w) (drop m c)) ≡ gf_mul (H p) a)
-one_apart zero w c e d = (0, 0, λ H. add_self (sum_of H w c) ∙ sym (mul_zero (H 0)))
-one_apart (suc m) [] [] e d = (0, 0, λ H. add_self (sum_of H [] []) ∙ sym (mul_zero (H 0)))
-one_apart (suc m) [] (y ∷ c) e d = absurd (omega arith)
-one_apart (suc m) (x ∷ w) [] e d = absurd (omega arith)
-one_apart (suc m) (x ∷ w) (y ∷ c) e d = by (cases_eq x y) (λ l. one_apart m w c (omega arith) l)
+-- H is zero at these powers
+unfoldable Vanish : (ℕ → ℕ) → List ℕ → Type 0
+Vanish H [] = Unit {0}
+Vanish H (p ∷ ps) = (H p ≡ 0) × Vanish H ps
+
+unfoldable zeros : ℕ → List ℕ
+zeros zero = []
+zeros (suc n) = 0 ∷ zeros n
+
+length-zeros : (n : ℕ) → length (zeros n) ≡ n
+unfolding zeros
+length-zeros zero = refl
+length-zeros (suc n) = ap suc (length-zeros n)
+
+-- the powers of at most e places at which words differ: a sum that counts none of them is zero
+apart : (m e : ℕ) (w c : List ℕ) → length w ≡ length c → distance w c ≤ e + distance (drop m w) (drop m c)
+    → (ps : List ℕ) × (length ps ≡ e)
+    × ((H : ℕ → ℕ) → Vanish H ps → gf_add (sum_of H w c) (sum_of H (drop m w) (drop m c)) ≡ 0)
+unfolding Vanish
+apart zero e w c l d = (zeros e, length-zeros e, λ H v. add_self (sum_of H w c))
+apart (suc m) e [] [] l d = (zeros e, length-zeros e, λ H v. add_self (sum_of H [] []))
+apart (suc m) e [] (y ∷ c) l d = absurd (omega arith)
+apart (suc m) e (x ∷ w) [] l d = absurd (omega arith)
+apart (suc m) zero (x ∷ w) (y ∷ c) l d = by (cases_eq x y) (λ h. apart m 0 w c (omega arith) h)
   where
-    by : (x ≡ y) ⊎ (x ≢ y) → (distance w c ≤ 1 + distance (drop m w) (drop m c) → (p : ℕ) × (a : ℕ)
-        × ((H : ℕ → ℕ) → gf_add (sum_of H w c) (sum_of H (drop m w) (drop m c)) ≡ gf_mul (H p) a))
-        → (p : ℕ) × (a : ℕ)
-        × ((H : ℕ → ℕ) → gf_add (sum_of H (x ∷ w) (y ∷ c)) (sum_of H (drop m w) (drop m c)) ≡ gf_mul (H p) a)
+    by : (x ≡ y) ⊎ (x ≢ y) → (distance w c ≤ 0 + distance (drop m w) (drop m c) → (ps : List ℕ) × (length ps ≡ 0)
+        × ((H : ℕ → ℕ) → Vanish H ps → gf_add (sum_of H w c) (sum_of H (drop m w) (drop m c)) ≡ 0))
+        → (ps : List ℕ) × (length ps ≡ 0) × ((H : ℕ → ℕ) → Vanish H ps
+        → gf_add (sum_of H (x ∷ w) (y ∷ c)) (sum_of H (drop m w) (drop m c)) ≡ 0)
     by (inl s) rest =
         let h = rest (omega (arith, same_head x y w c s, d)) in
-        (h.0, h.1, λ H. same_term H x y w c (drop m w) (drop m c) s ∙ h.2 H)
-    by (inr n) rest = (
-      length w,
-      gf_add x y,
-      λ H. alone H x y w c (drop m w) (drop m c)
-          (none_apart m w c (omega arith) (omega (arith, other_head x y w c n, d)) H),
-    )
-
-rank_one : (ms : List ℕ) (p a : ℕ) → gf_mul (gf_mul (product ms p) a) (gf_mul (product_2 ms p) a)
-    ≡ gf_mul (gf_mul (product_1 ms p) a) (gf_mul (product_1 ms p) a)
-unfolding product_2 product_1
-rank_one ms p a = alg (product ms p) (gf_pow 2 p) a
+        (h.0, h.1, λ H v. same_term H x y w c (drop m w) (drop m c) s ∙ h.2 H v)
+    by (inr n) rest = absurd (omega (arith, other_head x y w c n, d, distance-drop m w c (omega arith)))
+apart (suc m) (suc e) (x ∷ w) (y ∷ c) l d =
+    by (cases_eq x y) (λ h. apart m (suc e) w c (omega arith) h) (λ h. apart m e w c (omega arith) h)
   where
-    alg : (d x a : ℕ) → gf_mul (gf_mul d a) (gf_mul (gf_mul (gf_mul d x) x) a)
-        ≡ gf_mul (gf_mul (gf_mul d x) a) (gf_mul (gf_mul d x) a)
-    alg d x a = simp ring
+    by : (x ≡ y) ⊎ (x ≢ y)
+        → (distance w c ≤ suc e + distance (drop m w) (drop m c) → (ps : List ℕ) × (length ps ≡ suc e)
+        × ((H : ℕ → ℕ) → Vanish H ps → gf_add (sum_of H w c) (sum_of H (drop m w) (drop m c)) ≡ 0))
+        → (distance w c ≤ e + distance (drop m w) (drop m c) → (ps : List ℕ) × (length ps ≡ e)
+        × ((H : ℕ → ℕ) → Vanish H ps → gf_add (sum_of H w c) (sum_of H (drop m w) (drop m c)) ≡ 0))
+        → (ps : List ℕ) × (length ps ≡ suc e) × ((H : ℕ → ℕ) → Vanish H ps
+        → gf_add (sum_of H (x ∷ w) (y ∷ c)) (sum_of H (drop m w) (drop m c)) ≡ 0)
+    by (inl s) same other =
+        let h = same (omega (arith, same_head x y w c s, d)) in
+        (h.0, h.1, λ H v. same_term H x y w c (drop m w) (drop m c) s ∙ h.2 H v)
+    by (inr n) same other =
+        let h = other (omega (arith, other_head x y w c n, d)) in (
+          length w ∷ h.0,
+          ap suc h.1,
+          λ H v.
+              alone H x y w c (drop m w) (drop m c) (h.2 H v.1)
+              ∙ ap (λ (t : ℕ). gf_mul t (gf_add x y)) v.0 ∙ zero_mul (gf_add x y),
+        )
 
-zero_1 : (ms : List ℕ) (p : ℕ) → product ms p ≡ 0 → product_1 ms p ≡ 0
-unfolding product_1
-zero_1 ms p z = ap (λ (x : ℕ). gf_mul x (gf_pow 2 p)) z ∙ zero_mul (gf_pow 2 p)
+-- the product is zero at each power of its own
+vanish_more : (m : ℕ) (ms ps : List ℕ) → Vanish (product ms) ps → Vanish (product (m ∷ ms)) ps
+unfolding product Vanish
+vanish_more m ms [] v = tt
+vanish_more m ms (p ∷ ps) v = (
+  ap (gf_mul (gf_add (gf_pow 2 p) (gf_pow 2 m))) v.0 ∙ mul_zero (gf_add (gf_pow 2 p) (gf_pow 2 m)),
+  vanish_more m ms ps v.1,
+)
 
-zero_2 : (ms : List ℕ) (p : ℕ) → product ms p ≡ 0 → product_2 ms p ≡ 0
-unfolding product_2
-zero_2 ms p z = ap (λ (x : ℕ). gf_mul x (gf_pow 2 p)) (zero_1 ms p z) ∙ zero_mul (gf_pow 2 p)
+vanish_own : (ps ms : List ℕ) → Vanish (product (ps ++ ms)) ps
+unfolding product Vanish
+vanish_own [] ms = tt
+vanish_own (p ∷ ps) ms = (
+  ap (λ (x : ℕ). gf_mul x (product (ps ++ ms) p)) (add_self (gf_pow 2 p)) ∙ zero_mul (product (ps ++ ms) p),
+  vanish_more p (ps ++ ms) ps (vanish_own ps ms),
+)
+
+vanish_times : (ms : List ℕ) (i : ℕ) (ps : List ℕ) → Vanish (product ms) ps → Vanish (times_power ms i) ps
+unfolding times_power Vanish
+vanish_times ms i [] v = tt
+vanish_times ms i (p ∷ ps) v = (
+  ap (gf_mul (gf_pow (gf_pow 2 p) i)) v.0 ∙ mul_zero (gf_pow (gf_pow 2 p) i),
+  vanish_times ms i ps v.1,
+)
+
+-- ---- recurrences
+dot_same : (q : List ℕ) (s t : ℕ → ℕ) (l : ℕ) → ((i : ℕ) → i < l + length q → s i ≡ t i) → dot q s l ≡ dot q t l
+unfolding dot
+dot_same [] s t l h = refl
+dot_same (x ∷ q) s t l h =
+    ap₂ (λ (a b : ℕ). gf_add (gf_mul x a) b) (h l (omega arith)) (dot_same q s t (suc l) (λ i m. h i (omega (arith, m))))
+
+dot_none : (q : List ℕ) (s : ℕ → ℕ) (l : ℕ) → ((i : ℕ) → s i ≡ 0) → dot q s l ≡ 0
+unfolding dot
+dot_none [] s l h = refl
+dot_none (x ∷ q) s l h =
+    ap₂ (λ (a b : ℕ). gf_add (gf_mul x a) b) (h l) (dot_none q s (suc l) h)
+    ∙ add_zero (gf_mul x 0) ∙ mul_zero x
+
+dot_killed : (q : List ℕ) (s t : ℕ → ℕ) (a l : ℕ) → ((i : ℕ) → t i ≡ gf_add (s (suc i)) (gf_mul a (s i)))
+    → dot q t l ≡ gf_add (dot q s (suc l)) (gf_mul a (dot q s l))
+unfolding dot
+dot_killed [] s t a l h = sym (zero_add (gf_mul a 0) ∙ mul_zero a)
+dot_killed (x ∷ q) s t a l h =
+    ap₂ (λ (u v : ℕ). gf_add (gf_mul x u) v) (h l) (dot_killed q s t a (suc l) h)
+    ∙ alg x a (s (suc l)) (s l) (dot q s (suc (suc l))) (dot q s (suc l))
+  where
+    alg : (x a u v d e : ℕ) → gf_add (gf_mul x (gf_add u (gf_mul a v))) (gf_add d (gf_mul a e))
+        ≡ gf_add (gf_add (gf_mul x u) d) (gf_mul a (gf_add (gf_mul x v) e))
+    alg x a u v d e = simp ring
+
+pub dot_begun : (q : List ℕ) (s : ℕ → ℕ) (start : ℕ) → gf_add 0 (dot q s (start + 0)) ≡ dot q s start
+dot_begun q s start = zero_add (dot q s (start + 0)) ∙ ap (dot q s) (omega arith)
+
+dot_step : (q : List ℕ) (s : ℕ → ℕ) (j l : ℕ) → j < length q
+    → dot (drop j q) s l ≡ gf_add (gf_mul (get_or q j 0) (s l)) (dot (drop (suc j) q) s (suc l))
+unfolding dot
+dot_step [] s j l h = absurd (omega arith)
+dot_step (x ∷ q) s zero l h = refl
+dot_step (x ∷ q) s (suc j) l h = dot_step q s j l (omega arith)
+
+pub dot_next : (q : List ℕ) (s : ℕ → ℕ) (start j sum m more total : ℕ) → j < length q
+    → m ≡ gf_mul (get_or q j 0) (s (start + j)) → more ≡ gf_add sum m
+    → gf_add sum (dot (drop j q) s (start + j)) ≡ total
+    → gf_add more (dot (drop (j + 1) q) s (start + (j + 1))) ≡ total
+dot_next q s start j sum m more total l em es h =
+    ap₂ (λ (u v : ℕ). gf_add u v) (es ∙ ap (gf_add sum) em)
+    (ap₂ (λ (i k : ℕ). dot (drop i q) s k) (let e : j + 1 ≡ suc j = omega arith in e)
+    (let e : start + (j + 1) ≡ suc (start + j) = omega arith in e))
+    ∙ add_assoc sum (gf_mul (get_or q j 0) (s (start + j))) (dot (drop (suc j) q) s (suc (start + j)))
+    ∙ ap (gf_add sum) (sym (dot_step q s j (start + j) l)) ∙ h
+
+pub dot_done : (q : List ℕ) (s : ℕ → ℕ) (start j sum total : ℕ) → length q ≤ j
+    → gf_add sum (dot (drop j q) s (start + j)) ≡ total → sum ≡ total
+unfolding dot
+dot_done q s start j sum total l h =
+    sym (ap (λ (v : List ℕ). gf_add sum (dot v s (start + j))) (drop_all j q l) ∙ add_zero sum) ∙ h
+
+-- the sums that count no place of these powers: factors for the sums before are factors for them
+killed : (q : List ℕ) (t : List ℕ → ℕ → ℕ)
+    → ((m : ℕ) (ps : List ℕ) (i : ℕ) → t (m ∷ ps) i ≡ gf_add (t ps (suc i)) (gf_mul (gf_pow 2 m) (t ps i)))
+    → (ps : List ℕ) (k : ℕ) → ((l : ℕ) → l < length ps + k → dot q (t []) l ≡ 0)
+    → ((l : ℕ) → l < k → dot q (t ps) l ≡ 0) × (dot q (t ps) k ≡ dot q (t []) (length ps + k))
+killed q t step [] k h = (λ l b. h l (omega (arith, b)), ap (dot q (t [])) (omega arith))
+killed q t step (m ∷ ps) k h =
+    let before = killed q t step ps (suc k) (λ l b. h l (omega (arith, b))) in
+    let each = dot_killed q (t ps) (t (m ∷ ps)) (gf_pow 2 m) in (
+      λ l b. each l (step m ps)
+          ∙ ap₂ (λ (u v : ℕ). gf_add u (gf_mul (gf_pow 2 m) v)) (before.0 (suc l) (omega (arith, b)))
+          (before.0 l (omega (arith, b)))
+          ∙ zero_add (gf_mul (gf_pow 2 m) 0) ∙ mul_zero (gf_pow 2 m),
+      each k (step m ps)
+          ∙ ap₂ (λ (u v : ℕ). gf_add u (gf_mul (gf_pow 2 m) v)) before.1 (before.0 k (omega arith))
+          ∙ ap (gf_add (dot q (t []) (length ps + suc k))) (mul_zero (gf_pow 2 m))
+          ∙ add_zero (dot q (t []) (length ps + suc k))
+          ∙ ap (dot q (t [])) (omega arith),
+    )
 
 -- ---- a block's sums
 pub weighed_step : (f : Weight → ℕ) (gs : List Weight) (w b : List ℕ) (k : ℕ) (d : Weight) → k < length gs
@@ -397,6 +485,31 @@ agree ks r c b hc hb j l (Some k) e n = at c hc ∙ sym (at b hb)
         ap (λ (u : List ℕ). get_or u j 0) (sym h.known)
         ∙ item ks d j (within ks j e) (omega (arith, h.len)) ∙ ap (λ (o : Option ℕ). unwrap_or o (get_or d j 0)) e
 
+times_zero : (ms : List ℕ) (i p : ℕ) → product ms p ≡ 0 → times_power ms i p ≡ 0
+unfolding times_power
+times_zero ms i p z = ap (gf_mul (gf_pow (gf_pow 2 p) i)) z ∙ mul_zero (gf_pow (gf_pow 2 p) i)
+
+-- one power more that is not counted
+between_more : (m : ℕ) (ms : List ℕ) (i : ℕ) (w c : List ℕ) (from to : ℕ)
+    → between (times_power (m ∷ ms) i) w c from to
+    ≡ gf_add (between (times_power ms (suc i)) w c from to) (gf_mul (gf_pow 2 m) (between (times_power ms i) w c from to))
+between_more m ms i w c from to =
+    ap₂ gf_add (one (drop from w) (drop from c)) (one (drop to w) (drop to c))
+    ∙ alg (sum_of (times_power ms (suc i)) (drop from w) (drop from c))
+    (sum_of (times_power ms (suc i)) (drop to w) (drop to c)) (gf_pow 2 m)
+    (sum_of (times_power ms i) (drop from w) (drop from c)) (sum_of (times_power ms i) (drop to w) (drop to c))
+  where
+    one : (u v : List ℕ) → sum_of (times_power (m ∷ ms) i) u v
+        ≡ gf_add (sum_of (times_power ms (suc i)) u v) (gf_mul (gf_pow 2 m) (sum_of (times_power ms i) u v))
+    one u v =
+        same_sum (times_power (m ∷ ms) i)
+        (λ p. gf_add (times_power ms (suc i) p) (gf_mul (gf_pow 2 m) (times_power ms i p))) u v (one_more m ms i)
+        ∙ sum_linear (times_power ms (suc i)) (times_power ms i) (gf_pow 2 m) u v
+
+    alg : (a b x c d : ℕ) → gf_add (gf_add a (gf_mul x c)) (gf_add b (gf_mul x d))
+        ≡ gf_add (gf_add a b) (gf_mul x (gf_add c d))
+    alg a b x c d = simp ring
+
 module _ (ks : List (Option ℕ)) (r : ℕ) (b : Block) (is : IsBlock ks r b) (c base : List ℕ)
     (hc : IsKnownWord ks r c) (hb : IsKnownWord ks r base) where
   same_length : length c ≡ length base
@@ -412,25 +525,24 @@ module _ (ks : List (Option ℕ)) (r : ℕ) (b : Block) (is : IsBlock ks r b) (c
       by (Some k) e = inl (agree ks r c base hc hb j (omega (arith, hc.len)) (Some k) e (λ n. cc))
 
   -- the sums of a codeword are zero in the block too
-  between_none : (H : ℕ → ℕ) (i : ℕ) → i ≤ 2 → ((p : ℕ) → H p ≡ times_power is.others i p)
-      → ((p : ℕ) → product is.others p ≡ 0 → H p ≡ 0) → between H c base b.from b.to ≡ 0
-  between_none H i two hp zero_there =
+  between_none : (i : ℕ) → length is.others + i < r → between (times_power is.others i) c base b.from b.to ≡ 0
+  between_none i two =
       ap₂ gf_add
-      (sym (quiet_front H c base b.from (omega (arith, hc.len, is.some, is.within)) same_length (λ k l.
-      quiet H zero_there k (omega (arith, hc.len, is.some, is.within)) (inl l)))
-      ∙ same_sum H (times_power is.others i) c base hp
-      ∙ codewords_sum r is.others i c base (omega (arith, is.few)) same_length hc.roots hb.roots)
-      (quiet_rest H c base (length c - b.to) b.to (omega (arith, hc.len, is.within)) same_length (λ k l m.
-      quiet H zero_there k m (inr l)))
+      (sym (quiet_front (times_power is.others i) c base b.from (omega (arith, hc.len, is.some, is.within)) same_length
+      (λ k l. quiet (times_power is.others i) (times_zero is.others i) k (omega (arith, hc.len, is.some, is.within))
+      (inl l)))
+      ∙ codewords_sum r is.others i c base two same_length hc.roots hb.roots)
+      (quiet_rest (times_power is.others i) c base (length c - b.to) b.to (omega (arith, hc.len, is.within)) same_length
+      (λ k l m. quiet (times_power is.others i) (times_zero is.others i) k m (inr l)))
       ∙ zero_add 0
 
-  -- a word whose sums differ from those of one error has two errors in the block
-  pub twice : (word : List ℕ) → length word ≡ 12 + r
-      → gf_mul (between (product is.others) word base b.from b.to) (between (product_2 is.others) word base b.from b.to)
-      ≢ gf_mul (between (product_1 is.others) word base b.from b.to) (between (product_1 is.others) word base b.from b.to)
-      → 2 + distance (drop b.to word) (drop b.to c) ≤ distance (drop b.from word) (drop b.from c)
-  twice word l apart =
-      by (cases_lt (distance (drop b.from word) (drop b.from c)) (2 + distance (drop b.to word) (drop b.to c)))
+  -- a word whose sums have such factors has as many errors in the block as there are
+  pub errors : (word q : List ℕ) (s : ℕ → ℕ) → length word ≡ 12 + r → length q ≡ b.least
+      → ((i : ℕ) → i < 7 → s i ≡ between (times_power is.others i) word base b.from b.to)
+      → ((l : ℕ) → l + 1 < length q → dot q s l ≡ 0) → dot q s (length q - 1) ≢ 0
+      → b.least + distance (drop b.to word) (drop b.to c) ≤ distance (drop b.from word) (drop b.from c)
+  errors word q s l lq at zero_at some =
+      by (cases_lt (distance (drop b.from word) (drop b.from c)) (b.least + distance (drop b.to word) (drop b.to c)))
     where
       e : length word ≡ length c
       e = l ∙ sym hc.len
@@ -438,50 +550,61 @@ module _ (ks : List (Option ℕ)) (r : ℕ) (b : Block) (is : IsBlock ks r b) (c
       on : (v : List ℕ) → drop (b.to - b.from) (drop b.from v) ≡ drop b.to v
       on v = drop-drop (b.to - b.from) b.from v ∙ ap (λ (n : ℕ). drop n v) (omega (arith, is.some))
 
-      apart_in : (H : ℕ → ℕ) (p a : ℕ)
-          → gf_add (sum_of H (drop b.from word) (drop b.from c))
-          (sum_of H (drop (b.to - b.from) (drop b.from word)) (drop (b.to - b.from) (drop b.from c))) ≡ gf_mul (H p) a
-          → between H c base b.from b.to ≡ 0 → between H word base b.from b.to ≡ gf_mul (H p) a
-      apart_in H p a h z =
-          between-through H word c base b.from b.to e same_length
-          ∙ ap₂ gf_add (ap₂ (λ (u v : List ℕ). gf_add (sum_of H (drop b.from word) (drop b.from c)) (sum_of H u v))
-          (sym (on word)) (sym (on c)) ∙ h) z ∙ add_zero (gf_mul (H p) a)
+      t : List ℕ → ℕ → ℕ
+      t ps i = between (times_power (ps ++ is.others) i) word c b.from b.to
 
-      by : (distance (drop b.from word) (drop b.from c) < 2 + distance (drop b.to word) (drop b.to c))
-          ⊎ (2 + distance (drop b.to word) (drop b.to c) ≤ distance (drop b.from word) (drop b.from c))
-          → 2 + distance (drop b.to word) (drop b.to c) ≤ distance (drop b.from word) (drop b.from c)
+      step : (m : ℕ) (ps : List ℕ) (i : ℕ) → t (m ∷ ps) i ≡ gf_add (t ps (suc i)) (gf_mul (gf_pow 2 m) (t ps i))
+      step m ps i = between_more m (ps ++ is.others) i word c b.from b.to
+
+      same : (i : ℕ) → i + 1 < 2 * b.least → s i ≡ t [] i
+      same i h =
+          at i (omega (arith, h, is.four))
+          ∙ between-through (times_power is.others i) word c base b.from b.to e same_length
+          ∙ ap (gf_add (between (times_power is.others i) word c b.from b.to))
+          (between_none i (omega (arith, h, is.few)))
+          ∙ add_zero (between (times_power is.others i) word c b.from b.to)
+
+      near : distance (drop b.from word) (drop b.from c) < b.least + distance (drop b.to word) (drop b.to c)
+          → dot q s (length q - 1) ≡ 0
+      near h =
+          let one = apart (b.to - b.from) (b.least - 1) (drop b.from word) (drop b.from c)
+          (length-drop b.from word ∙ ap (λ (k : ℕ). k - b.from) e ∙ sym (length-drop b.from c))
+          (omega (arith, h, is.one, ap₂ distance (on word) (on c))) in
+          let ps : List ℕ = one.0 in
+          let lp : length ps ≡ b.least - 1 = one.1 in
+          let none : (i : ℕ) → t ps i ≡ 0 = λ i.
+          ap₂ (λ (u v : List ℕ). gf_add (sum_of (times_power (ps ++ is.others) i) (drop b.from word) (drop b.from c))
+          (sum_of (times_power (ps ++ is.others) i) u v)) (sym (on word)) (sym (on c))
+          ∙ one.2 (times_power (ps ++ is.others) i)
+          (vanish_times (ps ++ is.others) i ps (vanish_own ps is.others)) in
+          let all = killed q t step ps 0 (λ k m. sym (dot_same q s (t []) k (λ i n. same i (omega (arith, m, n, lp, lq))))
+          ∙ zero_at k (omega (arith, m, lp, lq, is.one))) in
+          dot_same q s (t []) (length q - 1) (λ i n. same i (omega (arith, n, lq, is.one)))
+          ∙ ap (dot q (t [])) (omega (arith, lp, lq)) ∙ sym all.1 ∙ dot_none q (t ps) 0 none
+
+      by : (distance (drop b.from word) (drop b.from c) < b.least + distance (drop b.to word) (drop b.to c))
+          ⊎ (b.least + distance (drop b.to word) (drop b.to c) ≤ distance (drop b.from word) (drop b.from c))
+          → b.least + distance (drop b.to word) (drop b.to c) ≤ distance (drop b.from word) (drop b.from c)
       by (inr h) = h
-      by (inl h) =
-          let near : distance (drop b.from word) (drop b.from c)
-          ≤ 1 + distance (drop (b.to - b.from) (drop b.from word)) (drop (b.to - b.from) (drop b.from c)) =
-          omega (arith, h, ap₂ distance (on word) (on c)) in
-          let one = one_apart (b.to - b.from) (drop b.from word) (drop b.from c)
-          (length-drop b.from word ∙ ap (λ (k : ℕ). k - b.from) e ∙ sym (length-drop b.from c)) near in
-          let p : ℕ = one.0 in
-          let a : ℕ = one.1 in
-          let at = one.2 in
-          let z0 = apart_in (product is.others) p a (at (product is.others))
-          (between_none (product is.others) 0 (omega arith) (zeroth_is is.others) (λ p z. z)) in
-          let z1 = apart_in (product_1 is.others) p a (at (product_1 is.others))
-          (between_none (product_1 is.others) 1 (omega arith) (first_is is.others) (zero_1 is.others)) in
-          let z2 = apart_in (product_2 is.others) p a (at (product_2 is.others))
-          (between_none (product_2 is.others) 2 (omega arith) (second_is is.others) (zero_2 is.others)) in
-          absurd (apart (ap₂ gf_mul z0 z2 ∙ rank_one is.others p a ∙ sym (ap₂ gf_mul z1 z1)))
+      by (inl h) = absurd (some (near h))
 
 -- the sum of the places of a block, by their weights
 pub block_sum : (ks : List (Option ℕ)) (r : ℕ) (b : Block) (is : IsBlock ks r b) (word base : List ℕ)
-    → length word ≡ 12 + r → length base ≡ length word → (f : Weight → ℕ) (H : ℕ → ℕ)
-    → ((p : ℕ) → f (weight is.others p) ≡ H p) → (gs : List Weight) → gs ≡ take (b.to - b.from) b.weights
-    → weighed f gs (slice_range word b.from b.to) (slice_range base b.from b.to) ≡ between H word base b.from b.to
-block_sum ks r b is word base l e f H fh gs eg =
-    ap (λ (xs : List Weight). weighed f xs (slice_range word b.from b.to) (slice_range base b.from b.to)) eg
-    ∙ weighed_is f H (b.to - b.from) b.weights (drop b.from word) (drop b.from base)
+    → length word ≡ 12 + r → length base ≡ length word → (i : ℕ) → i < 7
+    → (gs : List Weight) → gs ≡ take (b.to - b.from) is.weights
+    → weighed (λ (g : Weight). get_or g.counts i 0) gs (slice_range word b.from b.to) (slice_range base b.from b.to)
+    ≡ between (times_power is.others i) word base b.from b.to
+block_sum ks r b is word base l e i small gs eg =
+    ap (λ (xs : List Weight). weighed (λ (g : Weight). get_or g.counts i 0) xs (slice_range word b.from b.to)
+    (slice_range base b.from b.to)) eg
+    ∙ weighed_is (λ (g : Weight). get_or g.counts i 0) (times_power is.others i) (b.to - b.from) is.weights
+    (drop b.from word) (drop b.from base)
     (omega (arith, is.len, is.short)) (omega (arith, length-drop b.from word, l, is.within, is.some))
     (length-drop b.from word ∙ ap (λ (k : ℕ). k - b.from) (sym e) ∙ sym (length-drop b.from base))
-    (λ k m. ap f (is.weights k (omega arith)) ∙ fh (11 + r - b.from - k)
-    ∙ ap H (omega (arith, length-drop b.from word, l)))
-    ∙ ap₂ (λ (u v : List ℕ). gf_add (sum_of H (drop b.from word) (drop b.from base)) (sum_of H u v))
-    (on word) (on base)
+    (λ k m. is.each k (omega (arith, m)) i small
+    ∙ ap (times_power is.others i) (omega (arith, length-drop b.from word, l)))
+    ∙ ap₂ (λ (u v : List ℕ). gf_add (sum_of (times_power is.others i) (drop b.from word) (drop b.from base))
+    (sum_of (times_power is.others i) u v)) (on word) (on base)
   where
     on : (v : List ℕ) → drop (b.to - b.from) (drop b.from v) ≡ drop b.to v
     on v = drop-drop (b.to - b.from) b.from v ∙ ap (λ (n : ℕ). drop n v) (omega (arith, is.some))
@@ -491,11 +614,11 @@ unequal a b h e = (let t : not (nat_eq a b) ≡ false = ap not (eq-eqb a b e) in
     let bad : true ≡ false = sym h ∙ t in cc)
 
 -- a block that begins where the last one ended or later
-pub one_block : (word c : List ℕ) (count end from to : ℕ) → length word ≡ length c → end ≤ from
+pub one_block : (word c : List ℕ) (count least end from to : ℕ) → length word ≡ length c → end ≤ from
     → count + distance (drop end word) (drop end c) ≤ distance word c
-    → 2 + distance (drop to word) (drop to c) ≤ distance (drop from word) (drop from c)
-    → count + 2 + distance (drop to word) (drop to c) ≤ distance word c
-one_block word c count end from to e l h t =
+    → least + distance (drop to word) (drop to c) ≤ distance (drop from word) (drop from c)
+    → count + least + distance (drop to word) (drop to c) ≤ distance word c
+one_block word c count least end from to e l h t =
     omega (
       arith,
       h,
@@ -508,6 +631,11 @@ one_block word c count end from to e l h t =
     on : (v : List ℕ) → drop (from - end) (drop end v) ≡ drop from v
     on v = drop-drop (from - end) end v ∙ ap (λ (n : ℕ). drop n v) (omega (arith, l))
 
+pub few_told : (ks : List (Option ℕ)) (r i : ℕ) (blocks items : List Block) (b : Block) → items ≡ blocks
+    → All (IsBlock ks r) blocks → i < length items → (get_or items i b).least ≤ 4
+few_told ks r i blocks items b ei each l =
+    (All-get_or (IsBlock ks r) items i b l (subst (All (IsBlock ks r)) (sym ei) each)).four
+
 -- and of a sieve's blocks
 pub far_more : (ks : List (Option ℕ)) (r i : ℕ) (blocks items : List Block) (b : Block) (word begun base c : List ℕ)
     (count end : ℕ) → items ≡ blocks → All (IsBlock ks r) blocks → i < length items → begun ≡ base
@@ -515,11 +643,11 @@ pub far_more : (ks : List (Option ℕ)) (r i : ℕ) (blocks items : List Block) 
     → count + distance (drop end word) (drop end c) ≤ distance word c
     → ((ks : List (Option ℕ)) (r : ℕ) (c : List ℕ) → length word ≡ 12 + r → IsBlock ks r (get_or items i b)
     → IsKnownWord ks r begun → IsKnownWord ks r c
-    → 2 + distance (drop (get_or items i b).to word) (drop (get_or items i b).to c)
+    → (get_or items i b).least + distance (drop (get_or items i b).to word) (drop (get_or items i b).to c)
     ≤ distance (drop (get_or items i b).from word) (drop (get_or items i b).from c))
-    → count + 2 + distance (drop (get_or items i b).to word) (drop (get_or items i b).to c) ≤ distance word c
+    → count + (get_or items i b).least + distance (drop (get_or items i b).to word) (drop (get_or items i b).to c) ≤ distance word c
 far_more ks r i blocks items b word begun base c count end ei each l eb hb lw hc order far errs =
-    one_block word c count end (get_or items i b).from (get_or items i b).to (lw ∙ sym hc.len) order far
+    one_block word c count (get_or items i b).least end (get_or items i b).from (get_or items i b).to (lw ∙ sym hc.len) order far
     (errs ks r c lw (All-get_or (IsBlock ks r) items i b l (subst (All (IsBlock ks r)) (sym ei) each))
     (subst (IsKnownWord ks r) (sym eb) hb) hc)
 

@@ -1,8 +1,9 @@
 -- What a sieve of headers' words is made of
-use Rattle.std.specs.Prelude.{◌≡◌, ℕ, ◌+◌, ◌-◌, ◌≤◌, ◌<◌, ◌⊎◌, List, [], ◌∷◌, length, slice_index_or, Option, None, All, MatchOption}
+use Rattle.std.specs.Prelude.{◌≡◌, ◌≢◌, ℕ, suc, ◌+◌, ◌*◌, ◌^◌, ◌%◌, if◌then◌else◌, nat_lt, ◌-◌, ◌≤◌, ◌<◌, ◌⊎◌, List, [], ◌∷◌, length, slice_index, slice_index_or, Option, None, All, MatchOption}
 use Rattle.code_spec.specs.Field.{gf_add, gf_mul, gf_pow}
 use Rattle.code_laws.proofs.Symbols.{HasRoots}
 use Rattle.zone_spec.specs.declared.Zone.{Zone}
+use Rattle.rs_encode.specs.Lanes.{IsMultiple, digit}
 use Rattle.salvage_laws.specs.Known.{known, put_in}
 use Rattle.salvage.specs.declared.sieve.Weight.{Weight}
 use Rattle.salvage.specs.declared.sieve.Block.{Block}
@@ -12,24 +13,47 @@ unfoldable pub product : List ℕ → ℕ → ℕ
 product [] p = 1
 product (m ∷ ms) p = gf_mul (gf_add (gf_pow 2 p) (gf_pow 2 m)) (product ms p)
 
-unfoldable pub product_1 : List ℕ → ℕ → ℕ
-product_1 ms p = gf_mul (product ms p) (gf_pow 2 p)
+-- that, times the i-th power of 2 ^ p
+unfoldable pub times_power : List ℕ → ℕ → ℕ → ℕ
+times_power ms i p = gf_mul (gf_pow (gf_pow 2 p) i) (product ms p)
 
-unfoldable pub product_2 : List ℕ → ℕ → ℕ
-product_2 ms p = gf_mul (product_1 ms p) (gf_pow 2 p)
-
--- what a place of this power counts: the product, times 2 ^ p, times its square
-abbrev pub weight : List ℕ → ℕ → Weight
-weight ms p = record { zeroth = product ms p; first = product_1 ms p; second = product_2 ms p }
+-- what a place of this power counts in each of the sums
+abbrev pub IsWeight : List ℕ → ℕ → Weight → Type 0
+IsWeight ms p g = (i : ℕ) → i < 7 → slice_index g.counts i ≡ times_power ms i p
 
 -- what no place counts
 abbrev pub none : Weight
-none = record { zeroth = 0; first = 0; second = 0 }
+none = record { counts = 0 ∷ 0 ∷ 0 ∷ 0 ∷ 0 ∷ 0 ∷ 0 ∷ [] }
 
 -- the sum of the symbols' sums at each place, weighed
 unfoldable pub weighed : (Weight → ℕ) → List Weight → List ℕ → List ℕ → ℕ
 weighed f (g ∷ gs) (x ∷ w) (y ∷ b) = gf_add (gf_mul (f g) (gf_add x y)) (weighed f gs w b)
 weighed f gs w b = 0
+
+-- the rows of a table: for each place the multiples of its counts by each low and each high half of a byte
+pub record AreRows (gs : List Weight) (rows : List ℕ) : Type 0 where
+  pub low : (k f : ℕ) → k < length gs → f < 16 → IsMultiple (f * 2 ^ 0) (slice_index_or gs k none).counts
+      (slice_index rows (32 * k + f))
+  pub high : (k f : ℕ) → k < length gs → f < 16 → IsMultiple (f * 2 ^ 4) (slice_index_or gs k none).counts
+      (slice_index rows (32 * k + 16 + f))
+
+-- the half of a byte whose multiple stands in a row
+abbrev pub factor_of : ℕ → ℕ
+factor_of row = if nat_lt (row % 32) 16 then row % 32 else (row % 32 - 16) * 16
+
+-- the i-th of a block's sums
+abbrev pub sum_at : ℕ → List Weight → List ℕ → List ℕ → ℕ
+sum_at i gs w b = weighed (λ g. slice_index g.counts i) gs w b
+
+-- the sum of the factors' products with the sums from the l-th on
+unfoldable pub dot : List ℕ → (ℕ → ℕ) → ℕ → ℕ
+dot [] s l = 0
+dot (x ∷ q) s l = gf_add (gf_mul x (s l)) (dot q s (suc l))
+
+-- factors that show that no recurrence with fewer terms than there are factors makes the sums
+pub record AreFactors (q sums : List ℕ) : Type 0 where
+  pub zero : (l : ℕ) → l + 1 < length q → dot q (slice_index sums) l ≡ 0
+  pub some : dot q (slice_index sums) (length q - 1) ≢ 0
 
 -- a codeword with the known bytes
 pub record IsKnownWord (ks : List (Option ℕ)) (r : ℕ) (c : List ℕ) : Type 0 where
@@ -40,16 +64,20 @@ pub record IsKnownWord (ks : List (Option ℕ)) (r : ℕ) (c : List ℕ) : Type 
 abbrev pub IsOutside : ℕ → ℕ → ℕ → Type 0
 IsOutside from to j = (j < from) ⊎ (to ≤ j)
 
--- the weights of a block are those of powers that are few enough for the sums of codewords to be zero, and among which
--- are those of all other unknown places
+-- the rows of a block are of weights, which are those of powers that are few enough for the sums of codewords to be zero, and among which
+-- are those of all other unknown places. Twice as many sums less one tell of so many errors at least
 pub record IsBlock (ks : List (Option ℕ)) (r : ℕ) (b : Block) : Type 0 where
   pub others : List ℕ
-  pub few : length others + 3 ≤ r
+  pub few : length others + 2 * b.least ≤ r + 1
+  pub one : 1 ≤ b.least
+  pub four : b.least ≤ 4
   pub some : b.from < b.to
   pub short : b.to ≤ b.from + 16
   pub within : b.to ≤ 12 + r
-  pub len : length b.weights ≡ 16
-  pub weights : (k : ℕ) → b.from + k < b.to → slice_index_or b.weights k none ≡ weight others (11 + r - b.from - k)
+  pub weights : List Weight
+  pub len : length weights ≡ 16
+  pub each : (k : ℕ) → b.from + k < b.to → IsWeight others (11 + r - b.from - k) (slice_index_or weights k none)
+  pub rows : AreRows weights b.rows
   pub outside : (j : ℕ) → j < 12 + r → IsOutside b.from b.to j → slice_index_or ks j None ≡ None
       → product others (11 + r - j) ≡ 0
 

@@ -2,13 +2,15 @@
 //
 // The places of a word that are not known before stand in blocks. A block's weights are the values, at the block's
 // places, of a polynomial that is 0 at the unknown places outside the block. Its degree is so low that the weighted
-// symbols of a codeword add up to 0. So the weighted sum of a word tells of the errors in the block alone, and three
-// such sums tell whether there is at most one.
-ghost use Rattle.std.specs.Prelude.{◌≡◌, ◌+◌, ◌-◌, ◌≤◌, ◌<◌, ◌↔◌, ℕ, ◌++◌, length, replicate, drop, slice_index_or, List, true, false, IsTrue, Option, None, All, IfSome};
+// symbols of a codeword add up to 0. So the weighted sum of a word tells of the errors in the block alone. The sums with
+// one, two and more powers of the place's locator as a further weight follow a recurrence that has a term for each
+// error. So 2e - 1 sums tell whether there are fewer than e errors.
+ghost use Rattle.std.specs.Prelude.{◌≡◌, ◌+◌, ◌*◌, ◌-◌, ◌≤◌, ◌<◌, ◌↔◌, ℕ, slice_index, ◌^◌, bit_xor, ◌++◌, length, replicate, drop, slice_index_or, List, true, false, IsTrue, Option, None, All, IfSome};
 ghost use Rattle.code_spec.specs.Field.{gf_add, gf_mul, gf_pow};
 ghost use Rattle.code_spec.specs.Code.{distance};
+ghost use Rattle.rs_encode.specs.Lanes.{IsMultiple, digit};
 ghost use Rattle.salvage_laws.specs.Known.{put_in};
-ghost use Rattle.salvage.specs.Sieves.{IsBlock, IsKnownWord, IsOutside, none, product, weight, weighed};
+ghost use Rattle.salvage.specs.Sieves.{AreFactors, AreRows, factor_of, IsBlock, IsKnownWord, IsOutside, IsWeight, dot, none, product, sum_at};
 
 use crate::header::amend;
 use arrayvec::ArrayVec;
@@ -16,20 +18,20 @@ use gf256::{add, alpha_pow, mul};
 use rs_encode::Parity;
 use std::marker::Model;
 
-/// What a place's symbol counts in a block's three sums.
+/// What a place's symbol counts in each of a block's sums.
 #[derive(Clone, Copy, Default)]
 pub struct Weight {
-    pub zeroth: u8,
-    pub first: u8,
-    pub second: u8,
+    pub counts: [u8; 7],
 }
 
-/// The places from `from` up to `to`, and their weights.
+/// The places from `from` up to `to`, and for each the multiples of its weight by the halves of a byte. Their sums tell
+/// of `least` errors.
 #[derive(Clone, Copy, Default)]
 pub struct Block {
     pub from: usize,
     pub to: usize,
-    pub weights: [Weight; 16],
+    pub least: usize,
+    pub rows: [u128; 512],
 }
 
 /// Blocks of the places of a header's word, and a codeword with the known bytes.
@@ -38,7 +40,7 @@ pub struct Sieve {
     known: [Option<u8>; 12],
     parity: usize,
     base: ArrayVec<u8, 139>,
-    blocks: ArrayVec<Block, 16>,
+    blocks: ArrayVec<Block, 8>,
 }
 
 impl Model for Sieve {
@@ -98,24 +100,20 @@ fn product_at(others: &[u8], power: u8) -> u8
 fn nothing() -> Weight
     ensures { result ≡ none }
 {
-    Weight {
-        zeroth: 0,
-        first: 0,
-        second: 0,
-    }
+    Weight { counts: [0; 7] }
 }
 
+/// What a place of this power counts.
 fn weight_at(others: &[u8], power: u8) -> Weight
-    ensures { result ≡ weight others.now power }
+    ensures { IsWeight others.now power result }
 {
-    let zeroth = product_at(others, power);
-    let first = mul(zeroth, alpha_pow(power));
-    let second = mul(first, alpha_pow(power));
-    Weight {
-        zeroth,
-        first,
-        second,
+    let mut counts = [0u8; 7];
+    let mut count = product_at(others, power);
+    for i in 0..7usize {
+        counts[i] = count;
+        count = mul(count, alpha_pow(power));
     }
+    Weight { counts }
 }
 
 /// The weights of `count` places, the first of which has this power.
@@ -123,7 +121,7 @@ fn weights_of(others: &[u8], power: usize, count: usize) -> [Weight; 16]
     requires power { power < 139 }
     requires count { count ≤ 16 }
     requires within { count ≤ power + 1 }
-    ensures weights { (k : ℕ) → k < count → slice_index_or result k none ≡ weight others.now (power - k) }
+    ensures weights { (k : ℕ) → k < count → IsWeight others.now (power - k) (slice_index_or result k none) }
     ensures len { length result ≡ 16 }
 {
     let mut weights = [nothing(); 16];
@@ -133,35 +131,116 @@ fn weights_of(others: &[u8], power: usize, count: usize) -> [Weight; 16]
     weights
 }
 
-/// The block of these places, where their number suffices for its sums.
-fn block_of(known: &[Option<u8>], parity: usize, from: usize, to: usize) -> Option<Block>
+/// The count at `k`, or 0 past the end.
+fn count_or_zero(counts: &[u8], k: usize) -> u8
+    ensures { result ≡ slice_index counts.now k }
+{
+    if k < counts.len() { counts[k] } else { 0 }
+}
+
+/// The lane of `factor` times the counts.
+fn lane_of(factor: u8, counts: &[u8]) -> u128
+    ensures { IsMultiple factor counts.now result }
+{
+    let mut lane = 0u128;
+    for k in 0..16usize {
+        lane = (lane << 8u32) ^ u128::from(mul(factor, count_or_zero(counts, k)));
+    }
+    lane
+}
+
+/// The low or high half of a byte whose multiple stands in a row.
+fn factor_of(row: usize) -> u8
+    ensures { result ≡ factor_of row }
+{
+    let half = row % 32;
+    if half < 16 {
+        half as u8
+    } else {
+        ((half - 16) * 16) as u8
+    }
+}
+
+/// The rows for the places of these weights.
+fn rows_of(weights: &[Weight]) -> [u128; 512]
+    requires { length weights.now ≡ 16 }
+    ensures { AreRows weights.now result }
+{
+    let mut rows = [0u128; 512];
+    for i in 0..512usize {
+        rows[i] = lane_of(factor_of(i), &weights[i / 32].counts);
+    }
+    rows
+}
+
+/// The block of these places that tells of so many errors, where there is parity for its sums.
+fn block_of(
+    known: &[Option<u8>],
+    parity: usize,
+    from: usize,
+    to: usize,
+    least: usize,
+) -> Option<Block>
     requires { parity ≤ 127 }
     ensures { IfSome result (IsBlock known.now parity) }
 {
     let places = 12 + parity;
-    if to <= from || to - from > 16 || places < to {
+    if to <= from || to - from > 16 || places < to || least < 1 || least > 4 {
         return None;
     }
     let others = powers_outside(known, places, from, to);
-    if parity < others.len() + 3 {
+    if parity + 1 < others.len() + 2 * least {
         return None;
     }
     let weights = weights_of(others.as_slice(), places - 1 - from, to - from);
-    Some(Block { from, to, weights })
+    Some(Block {
+        from,
+        to,
+        least,
+        rows: rows_of(&weights),
+    })
 }
 
-/// The blocks of a word: the first from place 4 on, with three bytes of parity, and the rest of so many bytes of parity
-/// each.
-fn blocks_of(known: &[Option<u8>], parity: usize, width: usize) -> ArrayVec<Block, 16>
+/// How many unknown places a block has beside two for each error that it tells of: one less than the unknown bytes of
+/// a header.
+fn spare(known: &[Option<u8>; 12]) -> usize
+    ensures { result ≤ 5 }
+{
+    if known[6].is_some() { 3 } else { 5 }
+}
+
+/// Where the block ends that begins at `from` and tells of so many errors. The first block has a header's known bytes
+/// besides.
+fn end_of(from: usize, least: usize, spare: usize) -> usize
+    requires from { from ≤ 1000 }
+    requires least { least ≤ 4 }
+    requires spare { spare ≤ 5 }
+    ensures { result ≤ from + 20 }
+{
+    let inside = if from == 4 { 7 - spare } else { 0 };
+    from + 2 * least + spare + inside
+}
+
+/// Of how many errors the block from `from` on tells, so many at most: the last block has fewer places.
+fn least_from(from: usize, places: usize, most: usize, spare: usize) -> usize
+    ensures { result ≤ most }
+{
+    let left = places.saturating_sub(from).saturating_sub(spare) / 2;
+    left.min(most)
+}
+
+/// The blocks of a word, from place 4 on: each tells of so many errors, but the last one of what its places allow.
+fn blocks_of(known: &[Option<u8>; 12], parity: usize, most: usize) -> ArrayVec<Block, 8>
     requires parity { parity ≤ 127 }
-    requires width { width ≤ 16 }
+    requires most { most ≤ 4 }
     ensures { All (IsBlock known.now parity) result.items }
 {
-    let mut blocks: ArrayVec<Block, 16> = ArrayVec::new();
+    let mut blocks: ArrayVec<Block, 8> = ArrayVec::new();
     let mut from = 4;
-    for i in 0..16usize {
-        let to = 15 + i * width;
-        if let Some(block) = block_of(known, parity, from, to) {
+    for i in 0..8usize {
+        let least = least_from(from, 12 + parity, most, spare(known));
+        let to = end_of(from, least, spare(known));
+        if let Some(block) = block_of(known, parity, from, to, least) {
             blocks.push(block);
         }
         from = to;
@@ -220,46 +299,138 @@ fn codeword_of(
     joined(header, symbols)
 }
 
-/// The sums of the symbols' sums, by the weights.
-fn sums_of(weights: &[Weight], word: &[u8], base: &[u8]) -> Weight
-    requires word { length word.now ≡ length weights.now }
-    requires base { length base.now ≡ length weights.now }
-    ensures zeroth { result.zeroth ≡ weighed (λ g. g.zeroth) weights.now word.now base.now }
-    ensures first { result.first ≡ weighed (λ g. g.first) weights.now word.now base.now }
-    ensures second { result.second ≡ weighed (λ g. g.second) weights.now word.now base.now }
+/// The lane of a symbol's products with the counts of place `k`.
+fn row_for(rows: &[u128], k: usize, symbol: u8) -> u128
+    requires { 32 * k + 32 ≤ length rows.now }
+    ensures { (gs : List Weight) → k < length gs → AreRows gs rows.now
+        → IsMultiple symbol (slice_index_or gs k none).counts result }
 {
-    let mut sums = nothing();
-    for k in 0..weights.len() {
-        let weight = weights[k];
-        let symbol = add(word[k], base[k]);
-        sums = Weight {
-            zeroth: add(sums.zeroth, mul(weight.zeroth, symbol)),
-            first: add(sums.first, mul(weight.first, symbol)),
-            second: add(sums.second, mul(weight.second, symbol)),
-        };
+    let low = rows[32 * k + (symbol % 16) as usize];
+    let high = rows[32 * k + 16 + (symbol / 16) as usize];
+    low ^ high
+}
+
+/// The sums of the symbols' sums, by the rows, in one lane.
+fn sums_of(rows: &[u128], word: &[u8], base: &[u8]) -> u128
+    requires word { 32 * length word.now ≤ length rows.now }
+    requires base { length base.now ≡ length word.now }
+    ensures { (gs : List Weight) → length gs ≡ length word.now → AreRows gs rows.now → (i p : ℕ) → i + p ≡ 15
+        → digit result p ≡ sum_at i gs word.now base.now }
+{
+    let mut sums = 0u128;
+    for k in 0..word.len() {
+        sums ^= row_for(rows, k, add(word[k], base[k]));
     }
     sums
 }
 
-/// Whether each codeword with the known bytes differs from the word in two places of the block at least. Few words
-/// that do so are not told.
-fn errs_twice(block: &Block, word: &[u8], base: &[u8]) -> bool
+/// The sum of the products of the factors and the sums from `start` on.
+fn dot_at(factors: &[u8], sums: &[u8], start: usize) -> u8
+    requires { start + length factors.now ≤ length sums.now }
+    ensures { result ≡ dot factors.now (slice_index sums.now) start }
+{
+    let mut sum = 0u8;
+    for j in 0..factors.len() {
+        sum = add(sum, mul(factors[j], sums[start + j]));
+    }
+    sum
+}
+
+/// Whether the factors make zeros of the sums from each of the first places on, and something else from the last on.
+fn are_factors(factors: &[u8], sums: &[u8]) -> bool
+    requires some { 1 ≤ length factors.now }
+    requires sums { 2 * length factors.now ≤ length sums.now + 1 }
+    ensures { IsTrue result → AreFactors factors.now sums.now }
+{
+    let last = factors.len() - 1;
+    for l in 0..last {
+        if dot_at(factors, sums, l) != 0 {
+            return false;
+        }
+    }
+    dot_at(factors, sums, last) != 0
+}
+
+/// The determinant of two rows of two.
+fn cross(a: u8, b: u8, c: u8, d: u8) -> u8 {
+    add(mul(a, d), mul(b, c))
+}
+
+/// The sum of three products.
+fn three(a: (u8, u8), b: (u8, u8), c: (u8, u8)) -> u8 {
+    add(add(mul(a.0, a.1), mul(b.0, b.1)), mul(c.0, c.1))
+}
+
+/// The determinants of the sums' first three rows of four, each without one column.
+fn four_factors(s: &[u8; 16]) -> [u8; 4]
+    ensures { length result ≡ 4 }
+{
+    let front = cross(s[0], s[1], s[1], s[2]);
+    let outer = cross(s[0], s[2], s[1], s[3]);
+    let far = cross(s[0], s[3], s[1], s[4]);
+    let inner = cross(s[1], s[2], s[2], s[3]);
+    let wide = cross(s[1], s[3], s[2], s[4]);
+    let back = cross(s[2], s[3], s[3], s[4]);
+    [
+        three((s[3], back), (s[4], wide), (s[5], inner)),
+        three((s[2], back), (s[4], far), (s[5], outer)),
+        three((s[2], wide), (s[3], far), (s[5], front)),
+        three((s[2], inner), (s[3], outer), (s[4], front)),
+    ]
+}
+
+/// Factors for sums of so many errors at least. Which they are is no matter of proof: they are tested.
+fn factors_of(s: &[u8; 16], count: usize) -> [u8; 4]
+    ensures { length result ≡ 4 }
+{
+    if count == 4 {
+        four_factors(s)
+    } else if count == 3 {
+        [
+            cross(s[1], s[2], s[2], s[3]),
+            cross(s[0], s[1], s[2], s[3]),
+            cross(s[0], s[1], s[1], s[2]),
+            0,
+        ]
+    } else if count == 2 {
+        [s[1], s[0], 0, 0]
+    } else {
+        [1, 0, 0, 0]
+    }
+}
+
+/// Whether each codeword with the known bytes differs from the word in as many places of the block as it tells of. Few
+/// words that do so are not told.
+fn errs(block: &Block, word: &[u8], base: &[u8]) -> bool
     requires order { block.now.from ≤ block.now.to }
     requires short { block.now.to ≤ block.now.from + 16 }
+    requires one { 1 ≤ block.now.least }
+    requires four { block.now.least ≤ 4 }
     requires within { block.now.to ≤ length word.now }
     requires base { length base.now ≡ length word.now }
     ensures { IsTrue result → (ks : List (Option ℕ)) (r : ℕ) (c : List ℕ) → length word.now ≡ 12 + r
         → IsBlock ks r block.now → IsKnownWord ks r base.now → IsKnownWord ks r c
-        → 2 + distance (drop block.now.to word.now) (drop block.now.to c)
+        → block.now.least + distance (drop block.now.to word.now) (drop block.now.to c)
         ≤ distance (drop block.now.from word.now) (drop block.now.from c) }
 {
-    let count = block.to - block.from;
     let sums = sums_of(
-        &block.weights[..count],
+        &block.rows,
         &word[block.from..block.to],
         &base[block.from..block.to],
     );
-    mul(sums.zeroth, sums.second) != mul(sums.first, sums.first)
+    let sums = sums.to_be_bytes();
+    let factors = factors_of(&sums, block.least);
+    are_factors(&factors[..block.least], &sums)
+}
+
+/// Of how many errors a block tells, such that the blocks tell of all that no known byte of random bytes leaves.
+fn most_told(known: &[Option<u8>; 12], parity: usize) -> usize
+    ensures { result ≤ 4 }
+{
+    let spare = spare(known);
+    let wanted = (parity / 2 + spare).saturating_sub(10);
+    let blocks = if spare == 3 { 6 } else { 3 };
+    wanted.div_ceil(blocks).clamp(2, 4)
 }
 
 impl Sieve {
@@ -270,12 +441,12 @@ impl Sieve {
         ensures known { result.known ≡ known }
         ensures parity { result.parity ≡ parity }
     {
-        let width = if known[6].is_some() { 7 } else { 9 };
+        let most = most_told(&known, parity);
         Sieve {
             known,
             parity,
             base: codeword_of(coder, &known, &known_header(&known), parity),
-            blocks: blocks_of(&known, parity, width),
+            blocks: blocks_of(&known, parity, most),
         }
     }
 
@@ -289,10 +460,10 @@ impl Sieve {
         let mut count = 0usize;
         let mut end = 0usize;
         for block in self.blocks.as_slice() {
-            if block.from < end || !errs_twice(block, word, self.base.as_slice()) {
+            if block.from < end || !errs(block, word, self.base.as_slice()) {
                 return false;
             }
-            count += 2;
+            count += block.least;
             if most < count {
                 return true;
             }

@@ -1,7 +1,7 @@
--- Each block has two errors more, until they are too many. For `Sieve::is_far`.
-use Rattle.std.proofs.Common.{◌+◌, ap, sym, ◌∙◌, arith, subst}
+-- Each block has its errors more, until they are too many. For `Sieve::is_far`.
+use Rattle.std.proofs.Common.{[], ◌+◌, ap, sym, ◌∙◌, arith, subst}
 use Rattle.salvage.specs.Sieves.{IsKnownWord, Sifted}
-use Rattle.salvage.proofs.Sieving.{far_more}
+use Rattle.salvage.proofs.Sieving.{far_more, few_told}
 use Rattle.salvage.proofs.sieve.Sieve.is_far.Goals as goal
 
 pub returns-then-most-count : goal.returns-then-most-count
@@ -13,7 +13,7 @@ returns-then-most-count c = λ _ d hd.
     c.loop-block.count c.loop-block.end c.as_slice-block-items.ensures.value c.self.invariant.each
     c.loop-block-test.true c.as_slice.ensures.value c.self.invariant.codeword
     (c.requires ∙ ap (λ (s : Sifted). 12 + s.parity) (sym c.self.view_is)) own c.if-block-end.false
-    (c.loop-block.invariant.far d own) (c.errs_twice.ensures c.if-not-errs_twice.false) in
+    (c.loop-block.invariant.far d own) (c.errs.ensures c.if-not-errs.false) in
     omega (arith, more, c.if-most-count.true)
 
 pub loop-block-preserved : goal.loop-block-preserved
@@ -23,6 +23,12 @@ loop-block-preserved c = record {
       c.self.inside.base.items d c.loop-block.count c.loop-block.end c.as_slice-block-items.ensures.value
       c.self.invariant.each c.loop-block-test.true c.as_slice.ensures.value c.self.invariant.codeword
       (c.requires ∙ ap (λ (s : Sifted). 12 + s.parity) (sym c.self.view_is)) own c.if-block-end.false
-      (c.loop-block.invariant.far d own) (c.errs_twice.ensures c.if-not-errs_twice.false);
-  small = omega (arith, c.loop-block.invariant.small);
+      (c.loop-block.invariant.far d own) (c.errs.ensures c.if-not-errs.false);
+  small = omega (
+    arith,
+    c.loop-block.invariant.small,
+    few_told c.self.inside.known c.self.inside.parity c.loop-block.block-index c.self.inside.blocks.items
+        c.as_slice-block-items.result.now (record { from = 0; to = 0; least = 0; rows = [] })
+        c.as_slice-block-items.ensures.value c.self.invariant.each c.loop-block-test.true,
+  );
 }

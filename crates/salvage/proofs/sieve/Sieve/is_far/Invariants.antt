@@ -8,5 +8,5 @@ abbrev pub invariant-loop-block : goal.invariant-loop-block
 invariant-loop-block l = record {
   far : (d : List ℕ) → IsKnownWord l.self-inside.known l.self-inside.parity d
       → l.count + distance (drop l.end l.word) (drop l.end d) ≤ distance l.word d;
-  small : l.count ≤ 2 * l.block-index;
+  small : l.count ≤ 4 * l.block-index;
 }
