@@ -10,5 +10,6 @@ pub mod Before
 pub mod Died
 pub mod Listed
 pub mod Groups
+pub mod Causes
 pub mod Pages
 pub mod Escaping
