@@ -13,6 +13,7 @@ use Rattle.report_html.specs.Names.{name_parts, time_parts}
 use Rattle.report_html.specs.Died.{died_parts}
 use Rattle.report_html.specs.Listed.{say_parts, fold_parts, is_unfolded, unfolded}
 use Rattle.report_html.specs.Groups.{are_grouped, group_in, edge_parts}
+use Rattle.report_html.specs.Causes.{causes_parts}
 use Rattle.report_html.specs.Regions.{picture}
 
 abbrev pub length_parts : ℕ → List Part
@@ -89,11 +90,11 @@ end_words =
     ++ codes "and two hexadecimal digits.</p>\n"
     ++ codes "</footer>\n</body>\n</html>\n"
 
--- the heading, why the machine died, the records, and the picture of the zones
+-- the heading, why the machine died, the dumps by telling line, the records, and the picture of the zones
 abbrev pub page_parts : List ℕ → List Zone → ReportHeld → List Part
 page_parts title zones report =
     heading_parts title ++ died_parts report.records (death_told report.records) ++ records_opening (length report.records)
-    ++ list_parts zones report.records ++ picture zones report ++ Words end_words ∷ []
+    ++ causes_parts report.records ++ list_parts zones report.records ++ picture zones report ++ Words end_words ∷ []
 
 -- the page under this title of the report of these zones
 unfoldable pub page_of : List ℕ → List Zone → ReportHeld → List ℕ
