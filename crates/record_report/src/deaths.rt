@@ -1,6 +1,7 @@
 // Which record tells why the machine died, and how.
 ghost use Rattle.std.specs.Prelude.{◌≡◌};
 ghost use Rattle.std.specs.Option.{option_copied};
+ghost use Rattle.report_spec.specs.Packed.{readable};
 ghost use Rattle.report_spec.specs.Deaths.{told_by, stamped, has_line, last_line, is_panic_beyond, tells_more, told_of, death_told};
 ghost use Rattle.record_report.specs.Tellers.{as_told, told_in};
 
@@ -41,6 +42,17 @@ fn has_line(text: &[u8], words: &[u8]) -> bool
         at = line.next;
     }
     false
+}
+
+/// Whether a record has the telling line too, from its stamp on.
+pub fn has_telling_line(entry: &RecordReport, told: &Told<'_>) -> bool
+    ensures { result ≡ has_line (readable entry.now)
+        (stamped (readable (as_told told.now).teller) told.now.death.telling) }
+{
+    has_line(
+        entry.readable(),
+        stamped(told.teller.readable(), told.death.telling),
+    )
 }
 
 fn last_line(death: Death) -> Line

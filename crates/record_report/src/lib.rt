@@ -2,15 +2,17 @@
 //! compressed dumps inflated, and why the machine died.
 #![tactic(auto)]
 
+mod counted;
 mod deaths;
 mod laws;
 mod newest;
 mod report;
 mod shown;
 
-pub use deaths::{Told, death_told};
+pub use counted::counts;
+pub use deaths::{Told, death_told, has_telling_line};
 pub use laws::one_shown;
-pub use newest::{android_log, console, newest_dump};
+pub use newest::{android_log, console, is_newer, newest_dump};
 pub use prz_read::ZoneParts;
 pub use report::{Report, report_of, report_of_zones};
 pub use report_spec::{Packing, PartState, TextFault};

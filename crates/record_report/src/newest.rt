@@ -25,7 +25,8 @@ fn is_later_than(time: Option<Time>, other: Option<Time>) -> bool
     }
 }
 
-fn is_newer(entry: &RecordReport, newest: Option<&RecordReport>) -> bool
+/// Whether a record has a later time than another. No time is never later, and each is later than none.
+pub fn is_newer(entry: &RecordReport, newest: Option<&RecordReport>) -> bool
     ensures { result ≡ is_newer entry.now (option_copied newest.entry) }
 {
     match newest {

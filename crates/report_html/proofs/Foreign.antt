@@ -1,7 +1,7 @@
 -- The foreign parts of a page
-use Rattle.std.proofs.Common.{◌≡◌, ℕ, zero, suc, ◌+◌, ◌<◌, ◌≤◌, ◌==◌, Bool, true, false, cond, nat_lt, List, [], ◌∷◌, ◌++◌, length, slice_get, map, take, drop, ◌-◌, ◌*◌, All, Option, Some, None, codes, append_assoc, refl, sym, ap, ap₂, ◌∙◌, subst, append-nil, get_or, inl, inr, arith}
+use Rattle.std.proofs.Common.{◌≡◌, ℕ, zero, suc, ◌+◌, ◌<◌, ◌≤◌, ◌==◌, Bool, true, false, cond, nat_lt, List, [], ◌∷◌, ◌++◌, length, slice_get, map, take, drop, ◌-◌, ◌*◌, ◌/◌, All, Option, Some, None, codes, append_assoc, refl, sym, ap, ap₂, ◌∙◌, subst, append-nil, get_or, inl, inr, arith}
 use Rattle.std.specs.Prelude.{⊤, filter, flat_map}
-use Rattle.std.specs.List.{fold, list_any, zip}
+use Rattle.std.specs.List.{count_by, fold, list_any, zip}
 use Rattle.std.specs.Option.{option_map}
 use Rattle.std.proofs.lemmas.Bool.{cases_order}
 use Rattle.std.proofs.lemmas.List.Elements.{All-cons, All-nil}
@@ -11,6 +11,7 @@ use Rattle.zone_spec.specs.declared.Name.{Name}
 use Rattle.zone_spec.specs.declared.Name.TheVariants.{Dump, Console, Pmsg, Ftrace}
 use Rattle.zone_spec.specs.declared.Time.{Time}
 use Rattle.zone_spec.specs.declared.Zone.{Zone}
+use Rattle.zone_spec.specs.declared.params.Params.{Params}
 use Rattle.zone_spec.specs.Parts.{AreBytes}
 use Rattle.zone_spec.specs.Records.{Saved}
 use Rattle.report_spec.specs.declared.PartState.{PartState}
@@ -20,7 +21,7 @@ use Rattle.report_spec.specs.Parts.{PartStates}
 use Rattle.report_spec.specs.declared.Packing.{Packing}
 use Rattle.report_spec.specs.declared.Packing.TheVariants.{Plain, Whole, Part as PartOfText}
 use Rattle.report_spec.specs.Packed.{RecordShown, readable}
-use Rattle.report_spec.specs.Newest.{newest}
+use Rattle.report_spec.specs.Newest.{newest, is_console, console_of}
 use Rattle.report_spec.specs.Deaths.{DeathTold, death_told}
 use Rattle.zone_spec.specs.Reading.{ZoneReading}
 use Rattle.death_spec.specs.declared.Line.{Line}
@@ -28,6 +29,9 @@ use Rattle.death_spec.specs.declared.Span.{Span}
 use Rattle.death_spec.specs.declared.Death.{Death}
 use Rattle.death_spec.specs.Lines.{part}
 use Rattle.death_spec.specs.Reports.{death_of}
+use Rattle.prz_read.specs.Saving.{saved}
+use Rattle.pstore_records.specs.Counts.{corrected_in, bad_in}
+use Rattle.record_report.specs.Counted.{zones_counted}
 use Rattle.prz_region.proofs.Chains.{AreBytes-take, AreBytes-drop}
 use Rattle.record_report.specs.Reports.{ReportHeld}
 use Rattle.report_html.specs.Pieces.{Part, Words, Count, Bytes, parts_text}
@@ -39,11 +43,14 @@ use Rattle.report_html.specs.Regions.{picture}
 use Rattle.report_html.specs.Pictures.{numbers_parts, range_parts, blocks_opening, class_words, part_words, cell, zone_name, place_parts, bar_parts, fitting_parts, label_parts, map_parts, closing, corrected_parts, header_parts, blocks_parts, run_parts, runs, unused_parts, row_parts, zone_parts, drawn_parts, width_of, region_opening, key_words, table_words, all_drawn}
 use Rattle.report_html.specs.Names.{name_parts, link_parts, time_parts}
 use Rattle.report_html.specs.Before.{told_before, time_after, line_below, before_parts, before_bytes}
-use Rattle.report_html.specs.Died.{second_parts, said_parts, fact_parts, stamp_of, when_parts, no_cpu, no_function, context_parts, place_above, below, rest_parts, around_parts, teller_parts, death_parts, died_parts, second_bytes, named_bytes, said_bytes, context_bytes, rest_bytes, around_bytes, death_bytes, died_bytes}
+use Rattle.report_html.specs.Died.{second_parts, said_parts, why_parts, fact_parts, stamp_of, when_parts, no_cpu, no_function, context_parts, place_above, below, rest_parts, around_parts, console_words, teller_parts, death_parts, died_parts, second_bytes, named_bytes, said_bytes, why_bytes, context_bytes, rest_bytes, around_bytes, death_bytes, died_bytes}
 use Rattle.report_html.specs.Listed.{below_parts, telling_parts, above_parts, say_parts, unfolded, is_unfolded, fold_parts, below_bytes, telling_bytes, above_bytes, record_bytes}
 use Rattle.report_html.specs.Causes.{CrashShown, crash_of, is_dump, crashes_of, with_first, firsts_of, rows_of, has_no_row, has_line_of, time_cell, newest_cells, row_parts as dumps_parts, line_part, cause_parts, others_parts, causes_words, table_parts, table_of, causes_parts, line_bytes, lines_of, causes_bytes}
 use Rattle.report_html.specs.Groups.{are_grouped, group_in, is_same, end_parts, begin_parts, edge_parts}
-use Rattle.report_html.specs.Pages.{length_parts, packing_parts, content_parts, record_parts, listed_parts, records_after, list_parts, records_opening, heading_parts, end_words, page_parts}
+use Rattle.report_html.specs.Pages.{length_parts, packing_parts, content_parts, record_parts, listed_parts, records_after, list_parts, records_opening, heading_parts, end_words, page_with, page_parts}
+use Rattle.report_html.specs.Reads.{counted_parts, number_parts, read_parts}
+use Rattle.report_html.specs.Parameters.{parameters_parts}
+use Rattle.report_html.specs.Warnings.{lacking, console_warning, tells_badly, teller_warning, has_bad_header, bad_headers, headers_warning, has_log, has_bad_part, layout_warning, warnings_parts}
 use Rattle.report_html.specs.Escaping.{foreign_in, foreign_of, HoldBytes, TellsBytes, AllTellBytes, IsWithoutMarkup}
 use Rattle.report_html.proofs.Texts.{is-text}
 
@@ -240,8 +247,24 @@ of-content Console text = refl
 of-content Pmsg text = refl
 of-content Ftrace text = refl
 
-of-record : (is_open : Bool) (r : RecordShown) → foreign_of (record_parts is_open r) ≡ record_bytes r
-of-record is_open r =
+of-number : (words : List ℕ) (n : ℕ) → foreign_of (number_parts words n) ≡ []
+of-number words n = by (nat_lt 0 n)
+  where
+    by : (t : Bool) → foreign_of (cond t (counted_parts words n) []) ≡ []
+    by true = refl
+    by false = refl
+
+of-read : (zones : List Saved) (name : Name) → foreign_of (read_parts zones name) ≡ []
+of-read zones name =
+    let bad : List Part = number_parts (codes "<span class=\"bad\">bad ") (bad_in name (zones_counted name zones)) in
+    let fixed : List Part =
+    number_parts (codes "<span class=\"fix\">corrected ") (corrected_in name (zones_counted name zones)) in
+    none-and bad fixed (of-number (codes "<span class=\"bad\">bad ") (bad_in name (zones_counted name zones)))
+    ∙ of-number (codes "<span class=\"fix\">corrected ") (corrected_in name (zones_counted name zones))
+
+of-record : (zones : List Saved) (is_open : Bool) (r : RecordShown)
+    → foreign_of (record_parts zones is_open r) ≡ record_bytes r
+of-record zones is_open r =
     let text : List ℕ = readable r in
     let a : List (List ℕ) = above_bytes r.name text in
     let say : List Part = say_parts r.name text in
@@ -250,13 +273,15 @@ of-record is_open r =
     let ended : List Part = named ++ Words (codes "</b>") ∷ [] in
     let timed : List Part = ended ++ time_parts r.time in
     let long : List Part = timed ++ length_parts (length r.content) in
-    and-of (long ++ packing_parts r.packing) (content_parts r.name text) a (text ∷ [])
+    let packed : List Part = long ++ packing_parts r.packing in
+    and-of (packed ++ read_parts zones r.name) (content_parts r.name text) a (text ∷ [])
+    (and-none packed (read_parts zones r.name) a
     (and-none long (packing_parts r.packing) a
     (and-none timed (length_parts (length r.content)) a
     (and-none ended (time_parts r.time) a
     (and-none named (Words (codes "</b>") ∷ []) a
     (and-none folded (name_parts r.name) a (and-none say (fold_parts is_open) a (of-say r.name text) (of-fold is_open))
-    (of-name r.name)) refl) (of-time r.time)) refl) (of-packing r.packing))
+    (of-name r.name)) refl) (of-time r.time)) refl) (of-packing r.packing)) (of-read zones r.name))
     (of-content r.name text)
 
 of-end : (group : Option ℕ) → foreign_of (end_parts group) ≡ []
@@ -274,28 +299,32 @@ of-edge number before after = by (is_same before after)
     by true = refl
     by false = none-and (end_parts before) (begin_parts number after) (of-end before) ∙ of-begin number after
 
-of-records : (grouped : Bool) (number before : Option ℕ) (rs : List RecordShown)
-    → foreign_of (records_after grouped number before rs) ≡ flat_map record_bytes rs
+of-records : (zones : List Saved) (grouped : Bool) (number before : Option ℕ) (rs : List RecordShown)
+    → foreign_of (records_after zones grouped number before rs) ≡ flat_map record_bytes rs
 unfolding records_after
-of-records grouped number before [] = of-edge number before None
-of-records grouped number before (r ∷ rs) =
+of-records zones grouped number before [] = of-edge number before None
+of-records zones grouped number before (r ∷ rs) =
     let group : Option ℕ = group_in grouped r.name in
     let edge : List Part = edge_parts number before group in
-    let listed : List Part = listed_parts number r in
-    and-of (edge ++ listed) (records_after grouped number group rs) (record_bytes r) (flat_map record_bytes rs)
-    (none-and edge listed (of-edge number before group) ∙ of-record (is_unfolded number r.name) r)
-    (of-records grouped number group rs)
+    let listed : List Part = listed_parts zones number r in
+    and-of (edge ++ listed) (records_after zones grouped number group rs) (record_bytes r) (flat_map record_bytes rs)
+    (none-and edge listed (of-edge number before group) ∙ of-record zones (is_unfolded number r.name) r)
+    (of-records zones grouped number group rs)
 
 -- ---- why the machine died has parts of the text that tells it
 
 of-second : (text line : List ℕ) (second : Option Line)
     → foreign_of (Words (codes "<pre class=\"why\">") ∷ Bytes line ∷ second_parts text second
-    ++ Words (codes "</pre>\n<table class=\"fact\">\n") ∷ []) ≡ line ∷ second_bytes text second
+    ++ Words (codes "</pre>\n") ∷ []) ≡ line ∷ second_bytes text second
 of-second text line None = refl
 of-second text line (Some second) = refl
 
 of-said : (text : List ℕ) (d : Death) → foreign_of (said_parts text d) ≡ said_bytes text d
 of-said text d = of-second text (part text d.telling.text d.telling.end) d.second
+
+of-why : (told : Option DeathTold) → foreign_of (why_parts told) ≡ why_bytes told
+of-why None = refl
+of-why (Some t) = of-said (readable t.teller) t.death
 
 of-when : (time : Option Time) → foreign_of (when_parts time) ≡ []
 of-when None = refl
@@ -322,11 +351,11 @@ of-context text d =
     (of-fact (codes "CPU") no_cpu text d.cpu)) (of-fact (codes "Task") [] text d.task))
     (of-fact (codes "Kernel") [] text d.kernel)) (of-fact (codes "Function") no_function text d.function)
 
-of-teller : (name : Name) → foreign_of (teller_parts name) ≡ []
-of-teller (Dump index packed) = refl
-of-teller Console = refl
-of-teller Pmsg = refl
-of-teller Ftrace = refl
+of-teller : (name : Name) (words : List ℕ) → foreign_of (teller_parts name words) ≡ []
+of-teller (Dump index packed) words = refl
+of-teller Console words = refl
+of-teller Pmsg words = refl
+of-teller Ftrace words = refl
 
 of-rest : (text : List ℕ) (at : ℕ) (second : Option Line)
     → foreign_of (rest_parts text at second) ≡ rest_bytes text at second
@@ -355,31 +384,78 @@ of-before (Some t) = by t.teller.name t.teller.time
     by Ftrace None = refl
     by Ftrace (Some time) = refl
 
-of-death : (t : DeathTold) (before : Option DeathTold)
-    → foreign_of (death_parts t before) ≡ death_bytes (readable t.teller) t.death before
-of-death t before =
+of-death : (records : List RecordShown) (t : DeathTold) → foreign_of (death_parts records t)
+    ≡ death_bytes (readable t.teller) t.death (told_before t.teller.name records)
+of-death records t =
     let text : List ℕ = readable t.teller in
-    let said : List Part = said_parts text t.death in
+    let before : Option DeathTold = told_before t.teller.name records in
+    let words : List ℕ = console_words t (console_of records) in
     let when : List Part = when_parts t.teller.time in
     let context : List Part = context_parts text t.death in
     let earlier : List Part = before_parts before in
-    let teller : List Part = teller_parts t.teller.name in
+    let teller : List Part = teller_parts t.teller.name words in
     let around : List Part = around_parts text t.death in
-    let s : List (List ℕ) = said_bytes text t.death in
     let c : List (List ℕ) = context_bytes text t.death in
     let a : List (List ℕ) = around_bytes text t.death in
     let b : List (List ℕ) = before_bytes before in
-    and-none (said ++ when ++ context ++ earlier ++ teller ++ around) (Words (codes "</pre>\n") ∷ []) (s ++ c ++ b ++ a)
-    (and-of (said ++ when ++ context ++ earlier ++ teller) around (s ++ c ++ b) a
-    (and-none (said ++ when ++ context ++ earlier) teller (s ++ c ++ b)
-    (and-of (said ++ when ++ context) earlier (s ++ c) b
-    (and-of (said ++ when) context s c (and-none said when s (of-said text t.death) (of-when t.teller.time))
-    (of-context text t.death)) (of-before before)) (of-teller t.teller.name)) (of-around text t.death)) refl
+    and-none (when ++ context ++ earlier ++ teller ++ around) (Words (codes "</pre>\n") ∷ []) (c ++ b ++ a)
+    (and-of (when ++ context ++ earlier ++ teller) around (c ++ b) a
+    (and-none (when ++ context ++ earlier) teller (c ++ b)
+    (and-of (when ++ context) earlier c b
+    (none-and when context (of-when t.teller.time) ∙ of-context text t.death) (of-before before))
+    (of-teller t.teller.name words)) (of-around text t.death)) refl
 
 of-died : (records : List RecordShown) (t : Option DeathTold)
     → foreign_of (died_parts records t) ≡ died_bytes records t
 of-died records None = refl
-of-died records (Some t) = of-death t (told_before t.teller.name records)
+of-died records (Some t) = of-death records t
+
+-- ---- warnings have none
+
+of-link : (name : Name) → foreign_of (link_parts name) ≡ []
+of-link (Dump index packed) = refl
+of-link Console = refl
+of-link Pmsg = refl
+of-link Ftrace = refl
+
+of-lacking : (name : Name) → foreign_of (lacking name) ≡ []
+of-lacking (Dump index packed) = refl
+of-lacking Console = refl
+of-lacking Pmsg = refl
+of-lacking Ftrace = refl
+
+of-choice : (t : Bool) (a b : List Part) → foreign_of a ≡ [] → foreign_of b ≡ [] → foreign_of (cond t a b) ≡ []
+of-choice true a b e f = e
+of-choice false a b e f = f
+
+of-console : (dump : Option RecordShown) (told : Option DeathTold) → foreign_of (console_warning dump told) ≡ []
+of-console None told = refl
+of-console (Some dump) None = refl
+of-console (Some dump) (Some told) =
+    of-choice (is_console told.teller.name) (lacking dump.name) [] (of-lacking dump.name) refl
+
+of-teller_warning : (badly : Bool) → foreign_of (teller_warning badly) ≡ []
+of-teller_warning badly = of-choice badly _ [] refl refl
+
+of-bad_headers : (count : ℕ) → foreign_of (headers_warning count) ≡ []
+of-bad_headers count = of-choice (nat_lt 0 count) (bad_headers count) [] refl refl
+
+of-layout : (logs bad zones : ℕ) → foreign_of (layout_warning logs bad zones) ≡ []
+of-layout logs bad zones =
+    of-choice (logs == 0) _ _ refl (of-choice (nat_lt (zones / 2) bad) _ [] refl refl)
+
+of-warnings : (report : ReportHeld) (told : Option DeathTold) → foreign_of (warnings_parts report told) ≡ []
+of-warnings report told =
+    let lacks : List Part = console_warning (newest report.records) told in
+    let badly : Bool = tells_badly (saved report.logs) told in
+    let teller : List Part = teller_warning badly in
+    let headers : List Part = headers_warning (count_by has_bad_header report.parts) in
+    let layout : List Part =
+    layout_warning (count_by has_log report.parts) (count_by has_bad_part report.parts) (length report.parts) in
+    none-and (lacks ++ teller ++ headers) layout
+    (none-and (lacks ++ teller) headers (none-and lacks teller (of-console (newest report.records) told)
+    ∙ of-teller_warning badly) ∙ of-bad_headers (count_by has_bad_header report.parts))
+    ∙ of-layout (count_by has_log report.parts) (count_by has_bad_part report.parts) (length report.parts)
 
 -- ---- the table of dumps has telling lines
 
@@ -445,27 +521,37 @@ of-causes crashes = by (nat_lt 1 (length crashes))
 
 -- ---- the page has its title, those parts, and what people read of its records
 
-of-page : (title : List ℕ) (zones : List Zone) (report : ReportHeld) → foreign_of (page_parts title zones report)
-    ≡ title ∷ died_bytes report.records (death_told report.records) ++ causes_bytes report.records
+of-page : (title : List ℕ) (p : Params) (zones : List Zone) (report : ReportHeld) (told : Option DeathTold)
+    → foreign_of (page_with title p zones report told)
+    ≡ title ∷ why_bytes told ++ died_bytes report.records told ++ causes_bytes report.records
     ++ flat_map record_bytes report.records
-of-page title zones report =
+of-page title p zones report told =
     let head : List Part = heading_parts title in
-    let died : List Part = died_parts report.records (death_told report.records) in
+    let why : List Part = why_parts told in
+    let warned : List Part = warnings_parts report told in
+    let died : List Part = died_parts report.records told in
     let opened : List Part = records_opening (length report.records) in
     let causes : List Part = causes_parts report.records in
-    let records : List Part = list_parts zones report.records in
-    let d : List (List ℕ) = died_bytes report.records (death_told report.records) in
+    let records : List Part = list_parts zones report told in
+    let drawn : List Part = picture zones report in
+    let w : List (List ℕ) = why_bytes told in
+    let d : List (List ℕ) = died_bytes report.records told in
     let l : List (List ℕ) = causes_bytes report.records in
     let m : List (List ℕ) = flat_map record_bytes report.records in
-    and-none (head ++ died ++ opened ++ causes ++ records ++ picture zones report) (Words end_words ∷ [])
-    (title ∷ d ++ l ++ m)
-    (and-none (head ++ died ++ opened ++ causes ++ records) (picture zones report) (title ∷ d ++ l ++ m)
-    (and-of (head ++ died ++ opened ++ causes) records (title ∷ d ++ l) m
-    (and-of (head ++ died ++ opened) causes (title ∷ d) l
-    (and-none (head ++ died) opened (title ∷ d)
-    (and-of head died (title ∷ []) d refl (of-died report.records (death_told report.records))) refl)
-    (of-causes (crashes_of report.records)))
-    (of-records (are_grouped zones) (unfolded report.records) None report.records)) (of-picture zones report)) refl
+    let number : Option ℕ = unfolded (newest report.records) told in
+    and-none (head ++ why ++ warned ++ died ++ opened ++ causes ++ records ++ drawn ++ parameters_parts p)
+    (Words end_words ∷ []) (title ∷ w ++ d ++ l ++ m)
+    (and-none (head ++ why ++ warned ++ died ++ opened ++ causes ++ records ++ drawn) (parameters_parts p)
+    (title ∷ w ++ d ++ l ++ m)
+    (and-none (head ++ why ++ warned ++ died ++ opened ++ causes ++ records) drawn (title ∷ w ++ d ++ l ++ m)
+    (and-of (head ++ why ++ warned ++ died ++ opened ++ causes) records (title ∷ w ++ d ++ l) m
+    (and-of (head ++ why ++ warned ++ died ++ opened) causes (title ∷ w ++ d) l
+    (and-none (head ++ why ++ warned ++ died) opened (title ∷ w ++ d)
+    (and-of (head ++ why ++ warned) died (title ∷ w) d
+    (and-none (head ++ why) warned (title ∷ w) (and-of head why (title ∷ []) w refl (of-why told))
+    (of-warnings report told)) (of-died report.records told)) refl) (of-causes (crashes_of report.records)))
+    (of-records (saved report.logs) (are_grouped zones) number None report.records)) (of-picture zones report)) refl)
+    refl
 
 -- ---- each of them is escaped to text
 
@@ -531,20 +617,23 @@ joins-death : (text : List ℕ) (d : Death) (before : Option DeathTold) → AreB
     → Joins (death_bytes text d before)
 joins-death text d before h g =
     let rest : List (List ℕ) = rest_bytes text d.telling.next d.second in
-    joins-and (said_bytes text d ++ context_bytes text d ++ before_bytes before) (around_bytes text d)
-    (joins-and (said_bytes text d ++ context_bytes text d) (before_bytes before)
-    (joins-and (said_bytes text d) (context_bytes text d)
-    (joins-with text d.telling.text d.telling.end (second_bytes text d.second) h (joins-second text d.second h))
-    (joins-context text d h)) (joins-before before g))
+    joins-and (context_bytes text d ++ before_bytes before) (around_bytes text d)
+    (joins-and (context_bytes text d) (before_bytes before) (joins-context text d h) (joins-before before g))
     (joins-with text (place_above text d.telling.start 8) d.telling.start
     (part text d.telling.start d.telling.next ∷ rest) h
     (joins-with text d.telling.start d.telling.next rest h (joins-rest text d.telling.next d.second h)))
 
-texts-died : (records : List RecordShown) (t : Option DeathTold) (more : List (List ℕ)) → AllTellBytes records t
-    → EscapeToTexts more → EscapeToTexts (died_bytes records t ++ more)
-texts-died records None more h all = all
-texts-died records (Some t) more h all =
-    joins-death (readable t.teller) t.death (told_before t.teller.name records) h.0 h.1 more all
+joins-why : (records : List RecordShown) (t : Option DeathTold) → AllTellBytes records t → Joins (why_bytes t)
+joins-why records None h = joins-none
+joins-why records (Some t) h =
+    let text : List ℕ = readable t.teller in
+    joins-with text t.death.telling.text t.death.telling.end (second_bytes text t.death.second) h.0
+    (joins-second text t.death.second h.0)
+
+joins-died : (records : List RecordShown) (t : Option DeathTold) → AllTellBytes records t
+    → Joins (died_bytes records t)
+joins-died records None h = joins-none
+joins-died records (Some t) h = joins-death (readable t.teller) t.death (told_before t.teller.name records) h.0 h.1
 
 joins-whole : (text : List ℕ) → AreBytes text → Joins (text ∷ [])
 joins-whole text h more all = onto text more (is-text text h) all
@@ -642,21 +731,23 @@ joins-causes records h = by (nat_lt 1 (length (crashes_of records)))
         (lines-take 15 (firsts_of (crashes_of records)) (lines-firsts (crashes_of records) [] tt (lines-told records h)))
     by false = joins-none
 
-pub without_markup : (title : List ℕ) (zones : List Zone) (report : ReportHeld) (page : List ℕ) → AreBytes title
-    → HoldBytes report.records → AllTellBytes report.records (death_told report.records)
-    → page ≡ parts_text (page_parts title zones report) → IsWithoutMarkup title report.records page
-without_markup title zones report page bytes hold tells is =
+pub without_markup : (title : List ℕ) (p : Params) (zones : List Zone) (report : ReportHeld) (page : List ℕ)
+    → AreBytes title → HoldBytes report.records → AllTellBytes report.records (death_told report.records)
+    → page ≡ parts_text (page_parts title p zones report) → IsWithoutMarkup title report.records page
+without_markup title p zones report page bytes hold tells is =
     let records = flat_map record_bytes report.records in
     let lines = causes_bytes report.records in
-    let died = died_bytes report.records (death_told report.records) in
+    let told = death_told report.records in
+    let died = died_bytes report.records told in
+    let foreign = of-page title p zones report told in
     record {
-      parts = page_parts title zones report;
+      parts = page_parts title p zones report;
       page_is = is;
-      foreign = of-page title zones report;
-      texts = subst EscapeToTexts (sym (of-page title zones report))
-          (onto title (died ++ lines ++ records) (is-text title bytes)
-          (joins-and died lines
-          (λ more all. texts-died report.records (death_told report.records) more tells all)
+      foreign = foreign;
+      texts = subst EscapeToTexts (sym foreign)
+          (onto title (why_bytes told ++ died ++ lines ++ records) (is-text title bytes)
+          (joins-and (why_bytes told ++ died) lines
+          (joins-and (why_bytes told) died (joins-why report.records told tells) (joins-died report.records told tells))
           (joins-causes report.records hold) records (texts-of report.records hold)));
     }
 

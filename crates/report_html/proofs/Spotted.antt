@@ -9,7 +9,7 @@ use Rattle.zone_spec.specs.declared.Zone.{Zone}
 use Rattle.report_spec.specs.Parts.{PartStates}
 use Rattle.prz_read.proofs.Saves.{zip-at}
 use Rattle.report_html.specs.declared.spots.Spot.{Spot}
-use Rattle.report_html.specs.Pieces.{Part, Words}
+use Rattle.report_html.specs.Pieces.{Words}
 use Rattle.report_html.specs.Spots.{zone_spots, spot_parts, spots_opening, spots_parts}
 
 pub spotted : (zones : List Zone) (states : List PartStates) (i : ℕ) (z : Zone) (p : PartStates) (old new : List Spot)

@@ -1,5 +1,5 @@
 -- Why the machine died: the line that tells it, what is known of it, and the lines around it
-use Rattle.std.specs.Prelude.{ℕ, zero, suc, ◌+◌, ◌-◌, ◌==◌, Bool, ◌&&◌, nat_lt, min, if◌then◌else◌, List, [], ◌∷◌, ◌++◌, length, slice_index, codes, Option, Some, None}
+use Rattle.std.specs.Prelude.{ℕ, zero, suc, ◌+◌, ◌-◌, ◌==◌, Bool, true, false, ◌&&◌, nat_lt, min, if◌then◌else◌, List, [], ◌∷◌, ◌++◌, length, slice_index, codes, Option, Some, None}
 use Rattle.zone_spec.specs.declared.Name.{Name}
 use Rattle.zone_spec.specs.declared.Time.{Time}
 use Rattle.death_spec.specs.declared.Line.{Line}
@@ -7,7 +7,8 @@ use Rattle.death_spec.specs.declared.Span.{Span}
 use Rattle.death_spec.specs.declared.Death.{Death}
 use Rattle.death_spec.specs.Lines.{part, lines_from}
 use Rattle.report_spec.specs.Packed.{RecordShown, readable}
-use Rattle.report_spec.specs.Deaths.{DeathTold}
+use Rattle.report_spec.specs.Newest.{is_console, console_of}
+use Rattle.report_spec.specs.Deaths.{DeathTold, stamped, has_line}
 use Rattle.report_html.specs.Pieces.{Part, Words, Bytes, Moment, Log}
 use Rattle.report_html.specs.Names.{name_parts, link_parts}
 use Rattle.report_html.specs.Before.{told_before, before_parts, before_bytes}
@@ -22,7 +23,12 @@ second_parts text (Some line) = Words (codes "\n") ∷ Bytes (part text line.tex
 abbrev pub said_parts : List ℕ → Death → List Part
 said_parts text d =
     Words (codes "<pre class=\"why\">") ∷ Bytes (part text d.telling.text d.telling.end)
-    ∷ second_parts text d.second ++ Words (codes "</pre>\n<table class=\"fact\">\n") ∷ []
+    ∷ second_parts text d.second ++ Words (codes "</pre>\n") ∷ []
+
+-- what a record tells, or that none tells
+abbrev pub why_parts : Option DeathTold → List Part
+why_parts None = Words (codes "<pre class=\"why\">No record tells why.</pre>\n") ∷ []
+why_parts (Some t) = said_parts (readable t.teller) t.death
 
 -- ---- what is known of it
 
@@ -38,11 +44,13 @@ abbrev pub stamp_of : Line → Option Span
 stamp_of line =
     if nat_lt line.stamp line.caller then Some (record { start = line.stamp + 1; end = line.caller - 1 }) else None
 
--- the time of the record that tells
+-- the head of the table, and the time of the record that tells
 abbrev pub when_parts : Option Time → List Part
-when_parts None = Words (codes "<tr><th scope=\"row\">When</th><td>no date</td></tr>\n") ∷ []
+when_parts None =
+    Words (codes "<table class=\"fact\">\n<tr><th scope=\"row\">When</th><td>no date</td></tr>\n") ∷ []
 when_parts (Some time) =
-    Words (codes "<tr><th scope=\"row\">When</th><td><b>") ∷ Moment time ∷ Words (codes "</b></td></tr>\n") ∷ []
+    Words (codes "<table class=\"fact\">\n<tr><th scope=\"row\">When</th><td><b>") ∷ Moment time
+    ∷ Words (codes "</b></td></tr>\n") ∷ []
 
 abbrev pub no_cpu : List ℕ
 no_cpu = codes "<tr><th scope=\"row\">CPU</th><td>none is named below this line</td></tr>\n"
@@ -107,24 +115,37 @@ around_parts text d =
 
 -- ---- all of it
 
--- which record tells: a link, and the head of the lines
-abbrev pub teller_parts : Name → List Part
-teller_parts name =
-    Words (codes "<tr><th scope=\"row\">Told by</th><td>") ∷ [] ++ link_parts name
-    ++ Words (codes "</td></tr>\n</table>\n</header>\n<main>\n<h2 id=\"told\">The lines that tell it, in ") ∷ []
+-- whether the console has the telling line too
+abbrev pub shared_words : Bool → List ℕ
+shared_words true = codes "\nthe console has the same line"
+shared_words false = codes "\nthe console lacks this line: it can be of another boot"
+
+-- a dump outlives boots, and the console does not
+abbrev pub console_words : DeathTold → Option RecordShown → List ℕ
+console_words t None = []
+console_words t (Some console) =
+    if is_console t.teller.name then []
+    else shared_words (has_line (readable console) (stamped (readable t.teller) t.death.telling))
+
+-- which record tells: a link, whether the console tells the same, and the head of the lines
+abbrev pub teller_parts : Name → List ℕ → List Part
+teller_parts name words =
+    Words (codes "<tr><th scope=\"row\">Told by</th><td>") ∷ [] ++ link_parts name ++ Words words
+    ∷ Words (codes "</td></tr>\n</table>\n</header>\n<main>\n<h2 id=\"told\">The lines that tell it, in ") ∷ []
     ++ name_parts name ++ Words (codes "</h2>\n<pre class=\"log\">\n") ∷ []
 
--- why, when, what is known, what was before it, by which record, and the lines
-abbrev pub death_parts : DeathTold → Option DeathTold → List Part
-death_parts t before =
-    said_parts (readable t.teller) t.death ++ when_parts t.teller.time ++ context_parts (readable t.teller) t.death
-    ++ before_parts before ++ teller_parts t.teller.name ++ around_parts (readable t.teller) t.death
-    ++ Words (codes "</pre>\n") ∷ []
+-- when, what is known, what was before it, by which record, and the lines
+abbrev pub death_parts : List RecordShown → DeathTold → List Part
+death_parts records t =
+    when_parts t.teller.time ++ context_parts (readable t.teller) t.death
+    ++ before_parts (told_before t.teller.name records)
+    ++ teller_parts t.teller.name (console_words t (console_of records))
+    ++ around_parts (readable t.teller) t.death ++ Words (codes "</pre>\n") ∷ []
 
 -- of the records, by the one that tells
 abbrev pub died_parts : List RecordShown → Option DeathTold → List Part
-died_parts records None = Words (codes "<pre class=\"why\">No record tells why.</pre>\n</header>\n<main>\n") ∷ []
-died_parts records (Some t) = death_parts t (told_before t.teller.name records)
+died_parts records None = Words (codes "</header>\n<main>\n") ∷ []
+died_parts records (Some t) = death_parts records t
 
 -- ---- what of it comes from the image
 
@@ -154,9 +175,12 @@ around_bytes text d =
     part text (place_above text d.telling.start 8) d.telling.start ∷ part text d.telling.start d.telling.next
     ∷ rest_bytes text d.telling.next d.second
 
+abbrev pub why_bytes : Option DeathTold → List (List ℕ)
+why_bytes None = []
+why_bytes (Some t) = said_bytes (readable t.teller) t.death
+
 abbrev pub death_bytes : List ℕ → Death → Option DeathTold → List (List ℕ)
-death_bytes text d before =
-    said_bytes text d ++ context_bytes text d ++ before_bytes before ++ around_bytes text d
+death_bytes text d before = context_bytes text d ++ before_bytes before ++ around_bytes text d
 
 abbrev pub died_bytes : List RecordShown → Option DeathTold → List (List ℕ)
 died_bytes records None = []

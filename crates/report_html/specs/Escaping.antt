@@ -5,7 +5,7 @@ use Rattle.report_spec.specs.Escaped.{escaped, IsText}
 use Rattle.report_spec.specs.Packed.{RecordShown, readable}
 use Rattle.report_spec.specs.Deaths.{DeathTold, death_told}
 use Rattle.report_html.specs.Before.{told_before}
-use Rattle.report_html.specs.Died.{died_bytes}
+use Rattle.report_html.specs.Died.{why_bytes, died_bytes}
 use Rattle.report_html.specs.Causes.{causes_bytes}
 use Rattle.report_html.specs.Listed.{record_bytes}
 use Rattle.report_html.specs.Pieces.{Part, Words, Count, Bytes, Moment, Log, parts_text}
@@ -42,5 +42,6 @@ pub record IsWithoutMarkup (title : List ℕ) (records : List RecordShown) (page
   pub parts : List Part
   pub page_is : page ≡ parts_text parts
   pub foreign : foreign_of parts
-      ≡ title ∷ died_bytes records (death_told records) ++ causes_bytes records ++ flat_map record_bytes records
+      ≡ title ∷ why_bytes (death_told records) ++ died_bytes records (death_told records) ++ causes_bytes records
+      ++ flat_map record_bytes records
   pub texts : All (λ (bytes : List ℕ). IsText (escaped bytes)) (foreign_of parts)

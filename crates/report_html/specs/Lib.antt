@@ -8,6 +8,9 @@ pub mod Regions
 pub mod Names
 pub mod Before
 pub mod Died
+pub mod Warnings
+pub mod Reads
+pub mod Parameters
 pub mod Listed
 pub mod Groups
 pub mod Causes

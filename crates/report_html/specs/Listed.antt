@@ -7,8 +7,8 @@ use Rattle.death_spec.specs.declared.Death.{Death}
 use Rattle.death_spec.specs.Lines.{part}
 use Rattle.death_spec.specs.Reports.{death_of}
 use Rattle.report_spec.specs.Packed.{RecordShown, readable}
-use Rattle.report_spec.specs.Newest.{newest, is_console}
-use Rattle.report_spec.specs.Deaths.{DeathTold, death_told}
+use Rattle.report_spec.specs.Newest.{is_console}
+use Rattle.report_spec.specs.Deaths.{DeathTold}
 use Rattle.report_html.specs.Pieces.{Part, Words, Bytes}
 
 -- ---- the line above a record
@@ -46,14 +46,10 @@ dump_number Pmsg = None
 dump_number Ftrace = None
 
 -- the newest dump, unless it tells why the machine died: then its lines stand above the list
-abbrev pub unfolded_of : Option RecordShown → Option DeathTold → Option ℕ
-unfolded_of None told = None
-unfolded_of (Some dump) None = dump_number dump.name
-unfolded_of (Some dump) (Some told) = if is_console told.teller.name then dump_number dump.name else None
-
--- the number of the dump that is unfolded
-abbrev pub unfolded : List RecordShown → Option ℕ
-unfolded records = unfolded_of (newest records) (death_told records)
+abbrev pub unfolded : Option RecordShown → Option DeathTold → Option ℕ
+unfolded None told = None
+unfolded (Some dump) None = dump_number dump.name
+unfolded (Some dump) (Some told) = if is_console told.teller.name then dump_number dump.name else None
 
 abbrev pub is_numbered : ℕ → Name → Bool
 is_numbered number (Dump index packed) = index == number

@@ -2,15 +2,22 @@
 use Rattle.std.specs.Prelude.{ℕ, Bool, List, [], ◌∷◌, ◌++◌, length, codes, Option, None}
 use Rattle.zone_spec.specs.declared.Name.{Name}
 use Rattle.zone_spec.specs.declared.Zone.{Zone}
+use Rattle.zone_spec.specs.declared.params.Params.{Params}
+use Rattle.zone_spec.specs.Records.{Saved}
+use Rattle.prz_read.specs.Saving.{saved}
 use Rattle.report_spec.specs.declared.Packing.{Packing}
 use Rattle.report_spec.specs.declared.Packing.TheVariants.{Plain, Whole, Part as PartOfText}
 use Rattle.report_spec.specs.Packed.{RecordShown, fault_words, readable}
-use Rattle.report_spec.specs.Deaths.{death_told}
+use Rattle.report_spec.specs.Newest.{newest}
+use Rattle.report_spec.specs.Deaths.{DeathTold, death_told}
 use Rattle.record_report.specs.Reports.{ReportHeld}
 use Rattle.report_html.specs.declared.style.TheConstants.{STYLE}
 use Rattle.report_html.specs.Pieces.{Part, Words, Count, Bytes, Log, parts_text}
 use Rattle.report_html.specs.Names.{name_parts, time_parts}
-use Rattle.report_html.specs.Died.{died_parts}
+use Rattle.report_html.specs.Died.{why_parts, died_parts}
+use Rattle.report_html.specs.Warnings.{warnings_parts}
+use Rattle.report_html.specs.Reads.{read_parts}
+use Rattle.report_html.specs.Parameters.{parameters_parts}
 use Rattle.report_html.specs.Listed.{say_parts, fold_parts, is_unfolded, unfolded}
 use Rattle.report_html.specs.Groups.{are_grouped, group_in, edge_parts}
 use Rattle.report_html.specs.Causes.{causes_parts}
@@ -33,27 +40,28 @@ content_parts name content =
     Words (codes "</summary>\n<pre class=\"log\" id=\"") ∷ [] ++ name_parts name
     ++ Words (codes "\">\n") ∷ Log content ∷ Words (codes "</pre>\n</details>\n") ∷ []
 
--- a record, folded or not: above it the line that tells of it; its name, its time, the length of its file and its
--- packing; and what people read of it
-abbrev pub record_parts : Bool → RecordShown → List Part
-record_parts is_open r =
+-- a record, folded or not: above it the line that tells of it; its name, its time, the length of its file, its
+-- packing and how it read; and what people read of it
+abbrev pub record_parts : List Saved → Bool → RecordShown → List Part
+record_parts zones is_open r =
     say_parts r.name (readable r) ++ fold_parts is_open ++ name_parts r.name ++ Words (codes "</b>") ∷ []
     ++ time_parts r.time ++ length_parts (length r.content) ++ packing_parts r.packing
-    ++ content_parts r.name (readable r)
+    ++ read_parts zones r.name ++ content_parts r.name (readable r)
 
 -- a record in the list, in which at most the dump of one number is unfolded
-abbrev pub listed_parts : Option ℕ → RecordShown → List Part
-listed_parts number r = record_parts (is_unfolded number r.name) r
+abbrev pub listed_parts : List Saved → Option ℕ → RecordShown → List Part
+listed_parts zones number r = record_parts zones (is_unfolded number r.name) r
 
 -- records after one of a group: where the group changes it ends, and the next one begins
-unfoldable pub records_after : (grouped : Bool) (number before : Option ℕ) → List RecordShown → List Part
-records_after grouped number before [] = edge_parts number before None
-records_after grouped number before (r ∷ rs) =
-    edge_parts number before (group_in grouped r.name) ++ listed_parts number r
-    ++ records_after grouped number (group_in grouped r.name) rs
+unfoldable pub records_after : List Saved → (grouped : Bool) (number before : Option ℕ) → List RecordShown → List Part
+records_after zones grouped number before [] = edge_parts number before None
+records_after zones grouped number before (r ∷ rs) =
+    edge_parts number before (group_in grouped r.name) ++ listed_parts zones number r
+    ++ records_after zones grouped number (group_in grouped r.name) rs
 
-abbrev pub list_parts : List Zone → List RecordShown → List Part
-list_parts zones records = records_after (are_grouped zones) (unfolded records) None records
+abbrev pub list_parts : List Zone → ReportHeld → Option DeathTold → List Part
+list_parts zones report told =
+    records_after (saved report.logs) (are_grouped zones) (unfolded (newest report.records) told) None report.records
 
 -- how many there are, and what the number of a line means
 abbrev pub records_opening : ℕ → List Part
@@ -74,7 +82,7 @@ head_words =
 abbrev pub navigation_words : List ℕ
 navigation_words =
     codes "</h1>\n<nav aria-label=\"Parts of this page\"><a href=\"#records\">Records</a> "
-    ++ codes "<a href=\"#region\">Region</a></nav>\n"
+    ++ codes "<a href=\"#region\">Region</a> <a href=\"#layout\">Parameters</a></nav>\n"
 
 -- a head with the style sheet, and the title
 abbrev pub heading_parts : List ℕ → List Part
@@ -90,12 +98,16 @@ end_words =
     ++ codes "and two hexadecimal digits.</p>\n"
     ++ codes "</footer>\n</body>\n</html>\n"
 
--- the heading, why the machine died, the dumps by telling line, the records, and the picture of the zones
-abbrev pub page_parts : List ℕ → List Zone → ReportHeld → List Part
-page_parts title zones report =
-    heading_parts title ++ died_parts report.records (death_told report.records) ++ records_opening (length report.records)
-    ++ causes_parts report.records ++ list_parts zones report.records ++ picture zones report ++ Words end_words ∷ []
+-- the heading, why the machine died, the dumps by telling line, the records, the picture of the zones, and the parameters
+abbrev pub page_with : List ℕ → Params → List Zone → ReportHeld → Option DeathTold → List Part
+page_with title params zones report told =
+    heading_parts title ++ why_parts told ++ warnings_parts report told ++ died_parts report.records told
+    ++ records_opening (length report.records) ++ causes_parts report.records ++ list_parts zones report told
+    ++ picture zones report ++ parameters_parts params ++ Words end_words ∷ []
 
--- the page under this title of the report of these zones
-unfoldable pub page_of : List ℕ → List Zone → ReportHeld → List ℕ
-page_of title zones report = parts_text (page_parts title zones report)
+abbrev pub page_parts : List ℕ → Params → List Zone → ReportHeld → List Part
+page_parts title params zones report = page_with title params zones report (death_told report.records)
+
+-- the page under this title of the report of these parameters and their zones
+unfoldable pub page_of : List ℕ → Params → List Zone → ReportHeld → List ℕ
+page_of title params zones report = parts_text (page_parts title params zones report)

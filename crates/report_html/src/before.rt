@@ -1,9 +1,7 @@
 // What was before the death: the newest of the other dumps that tell.
 ghost use Rattle.std.specs.Prelude.{◌≡◌, ◌++◌, OnOk};
-ghost use Rattle.std.specs.Option.{option_and_then};
 ghost use Rattle.zone_spec.specs.Parts.{AreBytes};
-ghost use Rattle.report_spec.specs.Packed.{RecordShown};
-ghost use Rattle.report_spec.specs.Newest.{is_later, later_than};
+ghost use Rattle.report_spec.specs.Newest.{is_newer};
 ghost use Rattle.record_report.specs.Tellers.{told_in};
 ghost use Rattle.report_html.specs.Pieces.{parts};
 ghost use Rattle.report_html.specs.Before.{is_same_dump as is_dump_named, other_told as told_by_other, told_before as told_by_newest, teller_in, newer_told as told_by_newer, time_after, line_below, before_parts};
@@ -13,7 +11,7 @@ use crate::names::add_link;
 use crate::pieces::{Piece, add};
 use death::{death, part};
 use death_spec::Line;
-use record_report::{RecordReport, Told};
+use record_report::{RecordReport, Told, is_newer};
 use std::alloc::AllocError;
 use zone_spec::{Name, Time};
 
@@ -40,41 +38,20 @@ fn other_told(name: Name, entry: &RecordReport) -> Option<Told<'_>>
     })
 }
 
-fn is_later(time: Time, other: Time) -> bool
-    ensures { result ≡ is_later time other }
-{
-    time.secs > other.secs || (time.secs == other.secs && time.micros > other.micros)
-}
-
-fn is_later_than(time: Option<Time>, other: Option<Time>) -> bool
-    ensures { result ≡ later_than time other }
-{
-    match time {
-        Some(time) => match other {
-            Some(other) => is_later(time, other),
-            None => true,
-        },
-        None => false,
-    }
-}
-
-/// When the record that is held was written.
-fn time_held(held: Option<Told<'_>>) -> Option<Time>
-    ensures { result ≡ option_and_then (λ (r : RecordShown). r.time) (teller_in (told_in held.entry)) }
+/// Whether a record is newer than the one that is held.
+fn is_newer_than(entry: &RecordReport, held: Option<Told<'_>>) -> bool
+    ensures { result ≡ is_newer entry.now (teller_in (told_in held.entry)) }
 {
     match held {
-        Some(told) => {
-            let teller: &RecordReport = told.teller;
-            teller.time
-        }
-        None => None,
+        Some(held) => is_newer(entry, Some(held.teller)),
+        None => is_newer(entry, None),
     }
 }
 
 fn newer_told<'a>(name: Name, held: Option<Told<'a>>, entry: &'a RecordReport) -> Option<Told<'a>>
     ensures { told_in result ≡ told_by_newer name (told_in held.entry) entry.now }
 {
-    if is_later_than(entry.time, time_held(held)) {
+    if is_newer_than(entry, held) {
         other_told(name, entry).or(held)
     } else {
         held

@@ -3,19 +3,20 @@ ghost use Rattle.std.specs.Prelude.{◌≡◌, ◌++◌, OnOk};
 ghost use Rattle.zone_spec.specs.Parts.{AreBytes};
 ghost use Rattle.death_spec.specs.Lines.{lines_from};
 ghost use Rattle.report_spec.specs.Packed.{readable};
-ghost use Rattle.report_spec.specs.Deaths.{death_told};
-ghost use Rattle.record_report.specs.Tellers.{as_told};
+ghost use Rattle.std.specs.Option.{option_copied};
+ghost use Rattle.record_report.specs.Tellers.{as_told, told_in};
 ghost use Rattle.report_html.specs.Pieces.{parts};
-ghost use Rattle.report_html.specs.Died.{second_parts, said_parts, fact_parts, stamp_of as stamp_span, when_parts, context_parts, is_found as is_line_found, fewer as lines_fewer, place_above as place_before, next_at, below as place_below, log_parts, marked_parts, rest_parts, around_parts, teller_parts, death_parts, died_parts};
+ghost use Rattle.report_html.specs.Died.{second_parts, said_parts, why_parts, fact_parts, stamp_of as stamp_span, when_parts, context_parts, is_found as is_line_found, fewer as lines_fewer, place_above as place_before, next_at, below as place_below, log_parts, marked_parts, rest_parts, around_parts, shared_words, console_words, teller_parts, death_parts, died_parts};
 ghost use Rattle.report_html.specs.Before.{told_before};
 ghost use Rattle.report_html.specs.Escaping.{TellsBytes, AllTellBytes};
 
 use crate::before::add_before;
+use crate::listed::is_console;
 use crate::names::{add_link, add_name};
 use crate::pieces::{Piece, add};
 use death::{next_line, part};
 use death_spec::{Death, Line, Span};
-use record_report::{RecordReport, Told, death_told};
+use record_report::{RecordReport, Told, console, has_telling_line};
 use std::alloc::AllocError;
 use zone_spec::{Name, Time};
 
@@ -64,8 +65,27 @@ fn add_said<'a>(pieces: &mut Vec<Piece<'a>>, text: &'a [u8], death: Death) -> Re
         ],
     )?;
     add_second(pieces, text, death.second)?;
-    add(pieces, &[Piece::Own("</pre>\n<table class=\"fact\">\n")])?;
+    add(pieces, &[Piece::Own("</pre>\n")])?;
     Ok(())
+}
+
+/// Adds what a record tells, or that none tells.
+pub fn add_why<'a>(
+    pieces: &mut Vec<Piece<'a>>,
+    told: Option<Told<'a>>,
+) -> Result<(), AllocError>
+    ensures { OnOk result (parts pieces.new.items ≡ parts pieces.old.items ++ why_parts (told_in told.entry)) }
+{
+    match told {
+        Some(told) => {
+            let teller: &'a RecordReport = told.teller;
+            add_said(pieces, teller.readable(), told.death)
+        }
+        None => add(
+            pieces,
+            &[Piece::Own("<pre class=\"why\">No record tells why.</pre>\n")],
+        ),
+    }
 }
 
 /// Adds a row of the table, or what stands in its place if there is no such part.
@@ -115,14 +135,14 @@ fn add_when(pieces: &mut Vec<Piece<'_>>, time: Option<Time>) -> Result<(), Alloc
         Some(time) => add(
             pieces,
             &[
-                Piece::Own("<tr><th scope=\"row\">When</th><td><b>"),
+                Piece::Own("<table class=\"fact\">\n<tr><th scope=\"row\">When</th><td><b>"),
                 Piece::Moment(time),
                 Piece::Own("</b></td></tr>\n"),
             ],
         ),
         None => add(
             pieces,
-            &[Piece::Own("<tr><th scope=\"row\">When</th><td>no date</td></tr>\n")],
+            &[Piece::Own("<table class=\"fact\">\n<tr><th scope=\"row\">When</th><td>no date</td></tr>\n")],
         ),
     }
 }
@@ -267,16 +287,45 @@ fn add_around<'a>(
     add_rest(pieces, text, telling.next, death.second)
 }
 
-/// Adds which record tells.
-fn add_teller(pieces: &mut Vec<Piece<'_>>, name: Name) -> Result<(), AllocError>
-    ensures { OnOk result (parts pieces.new.items ≡ parts pieces.old.items ++ teller_parts name) }
+fn shared_text(is_shared: bool) -> &'static str
+    ensures { result.now ≡ shared_words is_shared }
+{
+    if is_shared {
+        "\nthe console has the same line"
+    } else {
+        "\nthe console lacks this line: it can be of another boot"
+    }
+}
+
+/// Whether the console has the telling line too.
+fn console_text(told: &Told<'_>, console: Option<&RecordReport>) -> &'static str
+    ensures { result.now ≡ console_words (as_told told.now) (option_copied console.entry) }
+{
+    let Some(console) = console else {
+        return "";
+    };
+    let teller: &RecordReport = told.teller;
+    if is_console(teller.name) {
+        return "";
+    }
+    shared_text(has_telling_line(console, told))
+}
+
+/// Adds which record tells, and these words.
+fn add_teller(
+    pieces: &mut Vec<Piece<'_>>,
+    name: Name,
+    words: &'static str,
+) -> Result<(), AllocError>
+    ensures { OnOk result (parts pieces.new.items
+        ≡ parts pieces.old.items ++ teller_parts name words.entry.now) }
 {
     add(
         pieces,
         &[Piece::Own("<tr><th scope=\"row\">Told by</th><td>")],
     )?;
     add_link(pieces, name)?;
-    add(pieces, &[Piece::Own(TOLD)])?;
+    add(pieces, &[Piece::Own(words), Piece::Own(TOLD)])?;
     add_name(pieces, name)?;
     add(pieces, &[Piece::Own("</h2>\n<pre class=\"log\">\n")])?;
     Ok(())
@@ -290,34 +339,31 @@ fn add_death<'a>(
     ensures bytes { OnOk result (AreBytes (readable told.now.teller.now)) }
     ensures before { OnOk result (TellsBytes (told_before told.now.teller.now.name records.entry.now)) }
     ensures parts { OnOk result (parts pieces.new.items ≡ parts pieces.old.items
-        ++ death_parts (as_told told.now) (told_before told.now.teller.now.name records.entry.now)) }
+        ++ death_parts records.entry.now (as_told told.now)) }
 {
     let teller: &'a RecordReport = told.teller;
     let text = teller.readable();
-    add_said(pieces, text, told.death)?;
     add_when(pieces, teller.time)?;
     add_context(pieces, text, told.death)?;
     add_before(pieces, teller.name, records)?;
-    add_teller(pieces, teller.name)?;
+    add_teller(pieces, teller.name, console_text(told, console(records)))?;
     add_around(pieces, text, told.death)?;
     add(pieces, &[Piece::Own("</pre>\n")])?;
     Ok(())
 }
 
-/// Adds why the machine died, as one of the records tells it, or that none tells.
+/// Adds what is known of the death that one of these records tells, and the lines around it.
 pub fn add_died<'a>(
     pieces: &mut Vec<Piece<'a>>,
     records: &'a [RecordReport],
+    told: Option<Told<'a>>,
 ) -> Result<(), AllocError>
-    ensures tells { OnOk result (AllTellBytes records.entry.now (death_told records.entry.now)) }
+    ensures tells { OnOk result (AllTellBytes records.entry.now (told_in told.entry)) }
     ensures parts { OnOk result (parts pieces.new.items
-        ≡ parts pieces.old.items ++ died_parts records.entry.now (death_told records.entry.now)) }
+        ≡ parts pieces.old.items ++ died_parts records.entry.now (told_in told.entry)) }
 {
-    match death_told(records) {
+    match told {
         Some(told) => add_death(pieces, &told, records),
-        None => add(
-            pieces,
-            &[Piece::Own("<pre class=\"why\">No record tells why.</pre>\n</header>\n<main>\n")],
-        ),
+        None => add(pieces, &[Piece::Own("</header>\n<main>\n")]),
     }
 }

@@ -17,11 +17,14 @@ mod logs;
 mod moments;
 mod names;
 mod page;
+mod parameters;
 mod picture;
 mod pieces;
+mod reads;
 mod region;
 mod spots;
 mod style;
+mod warnings;
 
 pub use escaping::push_escaped;
 pub use laws::{

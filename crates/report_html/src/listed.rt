@@ -4,12 +4,12 @@ ghost use Rattle.std.specs.Option.{option_copied};
 ghost use Rattle.report_spec.specs.Newest.{is_console};
 ghost use Rattle.record_report.specs.Tellers.{told_in};
 ghost use Rattle.report_html.specs.Pieces.{parts};
-ghost use Rattle.report_html.specs.Listed.{below_parts, telling_parts, above_parts, say_parts, dump_number, unfolded_of, unfolded, is_numbered, is_unfolded, fold_parts};
+ghost use Rattle.report_html.specs.Listed.{below_parts, telling_parts, above_parts, say_parts, dump_number, unfolded, is_numbered, is_unfolded, fold_parts};
 
 use crate::pieces::{Piece, add};
 use death::{death, part};
 use death_spec::{Death, Span};
-use record_report::{RecordReport, Told, death_told, newest_dump};
+use record_report::{RecordReport, Told};
 use std::alloc::AllocError;
 use zone_spec::Name;
 
@@ -87,7 +87,7 @@ pub fn dump_number(name: Name) -> Option<u32>
     }
 }
 
-fn is_console(name: Name) -> bool
+pub fn is_console(name: Name) -> bool
     ensures { result ≡ is_console name }
 {
     match name {
@@ -96,8 +96,9 @@ fn is_console(name: Name) -> bool
     }
 }
 
-fn unfolded_of(dump: Option<&RecordReport>, told: Option<Told<'_>>) -> Option<u32>
-    ensures { result ≡ unfolded_of (option_copied dump.entry) (told_in told.entry) }
+/// The number of the dump that is unfolded: the newest, unless it tells why the machine died.
+pub fn unfolded(dump: Option<&RecordReport>, told: Option<Told<'_>>) -> Option<u32>
+    ensures { result ≡ unfolded (option_copied dump.entry) (told_in told.entry) }
 {
     let dump = dump?;
     match told {
@@ -111,13 +112,6 @@ fn unfolded_of(dump: Option<&RecordReport>, told: Option<Told<'_>>) -> Option<u3
         }
         None => dump_number(dump.name),
     }
-}
-
-/// The number of the dump that is unfolded: the newest, unless it tells why the machine died.
-pub fn unfolded(records: &[RecordReport]) -> Option<u32>
-    ensures { result ≡ unfolded records.now }
-{
-    unfolded_of(newest_dump(records), death_told(records))
 }
 
 fn is_numbered(number: u32, name: Name) -> bool

@@ -1,5 +1,7 @@
 // The page.
 ghost use Rattle.std.specs.Prelude.{◌≡◌, ◌++◌, None, IfOk, OnOk};
+ghost use Rattle.prz_read.specs.Saving.{saved};
+ghost use Rattle.record_report.specs.Tellers.{told_in};
 ghost use Rattle.zone_spec.specs.Parts.{AreBytes};
 ghost use Rattle.report_spec.specs.Packed.{readable};
 ghost use Rattle.report_html.specs.Pieces.{parts};
@@ -8,17 +10,21 @@ ghost use Rattle.report_spec.specs.Deaths.{death_told};
 ghost use Rattle.report_html.specs.Escaping.{HoldBytes, AllTellBytes, IsWithoutMarkup};
 
 use crate::causes::add_causes;
-use crate::died::add_died;
+use crate::died::{add_died, add_why};
 use crate::groups::{add_edge, are_grouped, group_in};
 use crate::listed::{add_fold, add_say, is_unfolded, unfolded};
 use crate::names::{add_name, add_time};
+use crate::parameters::add_parameters;
 use crate::picture::add_picture;
 use crate::pieces::{Piece, add, render};
+use crate::reads::add_read;
 use crate::style::STYLE;
+use crate::warnings::add_warnings;
 use outside::Bytes;
-use record_report::{Packing, RecordReport, Report};
+use prz_read::Logs;
+use record_report::{Packing, RecordReport, Report, Told, death_told, newest_dump};
 use std::alloc::{AllocError, Global};
-use zone_spec::{Name, Zone};
+use zone_spec::{Name, Params, Zone};
 
 const HEAD: &str = "<!doctype html>\n<html lang=\"en\">\n<head>\n<meta charset=\"utf-8\">\n\
 <meta name=\"viewport\" content=\"width=device-width, initial-scale=1\">\n\
@@ -27,7 +33,7 @@ const HEAD: &str = "<!doctype html>\n<html lang=\"en\">\n<head>\n<meta charset=\
 
 const NAVIGATION: &str =
     "</h1>\n<nav aria-label=\"Parts of this page\"><a href=\"#records\">Records</a> \
-<a href=\"#region\">Region</a></nav>\n";
+<a href=\"#region\">Region</a> <a href=\"#layout\">Parameters</a></nav>\n";
 
 const LEVELS: &str = "</h2>\n<p class=\"note\">\
 The number before a line is its level: 0 emergency, 1 alert, 2 critical, 3 error, 4 warning, \
@@ -105,12 +111,13 @@ fn add_content<'a>(
 /// Adds a record, folded or not.
 fn add_record<'a>(
     pieces: &mut Vec<Piece<'a>>,
+    logs: &Logs,
     is_open: bool,
     held: &'a RecordReport,
 ) -> Result<(), AllocError>
     ensures bytes { OnOk result (AreBytes (readable held.entry.now)) }
     ensures parts { OnOk result
-        (parts pieces.new.items ≡ parts pieces.old.items ++ record_parts is_open held.entry.now) }
+        (parts pieces.new.items ≡ parts pieces.old.items ++ record_parts (saved logs.now) is_open held.entry.now) }
 {
     let text = held.readable();
     add_say(pieces, held.name, text)?;
@@ -120,6 +127,7 @@ fn add_record<'a>(
     add_time(pieces, held.time)?;
     add_length(pieces, held.content.len() as u64)?;
     add_packing(pieces, &held.packing)?;
+    add_read(pieces, logs, held.name)?;
     add_content(pieces, held.name, text)?;
     Ok(())
 }
@@ -127,36 +135,40 @@ fn add_record<'a>(
 /// Adds the records, in groups or not. That of the dump of this number is unfolded.
 fn add_each<'a>(
     pieces: &mut Vec<Piece<'a>>,
+    logs: &Logs,
     grouped: bool,
     number: Option<u32>,
     records: &'a [RecordReport],
 ) -> Result<(), AllocError>
     ensures bytes { OnOk result (HoldBytes records.entry.now) }
     ensures parts { OnOk result (parts pieces.new.items
-        ≡ parts pieces.old.items ++ records_after grouped number None records.entry.now) }
+        ≡ parts pieces.old.items ++ records_after (saved logs.now) grouped number None records.entry.now) }
 {
     let mut before = None;
     for held in records {
         let group = group_in(grouped, held);
         add_edge(pieces, number, before, group)?;
-        add_record(pieces, is_unfolded(number, held), held)?;
+        add_record(pieces, logs, is_unfolded(number, held), held)?;
         before = group;
     }
     add_edge(pieces, number, before, None)?;
     Ok(())
 }
 
-/// Adds the records of these zones.
+/// Adds the records of a report of these zones, in which this tells why the machine died.
 fn add_list<'a>(
     pieces: &mut Vec<Piece<'a>>,
     zones: &[Zone],
-    records: &'a [RecordReport],
+    report: &'a Report,
+    told: Option<Told<'_>>,
 ) -> Result<(), AllocError>
-    ensures bytes { OnOk result (HoldBytes records.entry.now) }
-    ensures parts { OnOk result
-        (parts pieces.new.items ≡ parts pieces.old.items ++ list_parts zones.now records.entry.now) }
+    ensures bytes { OnOk result (HoldBytes report.entry.now.records) }
+    ensures parts { OnOk result (parts pieces.new.items
+        ≡ parts pieces.old.items ++ list_parts zones.now report.entry.now (told_in told.entry)) }
 {
-    add_each(pieces, are_grouped(zones), unfolded(records), records)
+    let records = report.records();
+    let number = unfolded(newest_dump(records), told);
+    add_each(pieces, report.logs(), are_grouped(zones), number, records)
 }
 
 /// Adds how many records there are.
@@ -193,37 +205,43 @@ fn add_heading<'a>(pieces: &mut Vec<Piece<'a>>, title: &'a [u8]) -> Result<(), A
 fn all_pieces<'a>(
     alloc: Global,
     title: &'a [u8],
+    params: &Params,
     zones: &[Zone],
     report: &'a Report,
 ) -> Result<Vec<Piece<'a>>, AllocError>
     ensures bytes { OnOk result (HoldBytes report.entry.now.records) }
     ensures tells { OnOk result (AllTellBytes report.entry.now.records (death_told report.entry.now.records)) }
     ensures parts { IfOk result (λ pieces. parts pieces.items
-        ≡ page_parts title.entry.now zones.now report.entry.now) }
+        ≡ page_parts title.entry.now params.now zones.now report.entry.now) }
 {
     let mut pieces = Vec::new(alloc);
+    let told = death_told(report.records());
     add_heading(&mut pieces, title)?;
-    add_died(&mut pieces, report.records())?;
+    add_why(&mut pieces, told)?;
+    add_warnings(&mut pieces, report, told)?;
+    add_died(&mut pieces, report.records(), told)?;
     add_records_opening(&mut pieces, report.records().len() as u64)?;
     add_causes(alloc, &mut pieces, report.records())?;
-    add_list(&mut pieces, zones, report.records())?;
+    add_list(&mut pieces, zones, report, told)?;
     add_picture(alloc, &mut pieces, zones, report)?;
+    add_parameters(&mut pieces, params)?;
     add(&mut pieces, &[Piece::Own(END)])?;
     Ok(pieces)
 }
 
-/// The page of the report of these zones, in ASCII. `title` is what it is headed with, such as the image's path. All
+/// The page of the report of these parameters and their zones, in ASCII. `title` is what it is headed with, such as the image's path. All
 /// bytes that come from the image or the title are escaped, and so make no markup.
 pub fn html(
     alloc: Global,
     title: &[u8],
+    params: &Params,
     zones: &[Zone],
     report: &Report,
 ) -> Result<Vec<u8>, AllocError>
-    ensures page { IfOk result (λ text. text.items ≡ page_of title.now zones.now report.now) }
+    ensures page { IfOk result (λ text. text.items ≡ page_of title.now params.now zones.now report.now) }
     ensures no_markup { IfOk result (λ text. IsWithoutMarkup title.now report.now.records text.items) }
 {
-    let pieces = all_pieces(alloc, title, zones, report)?;
+    let pieces = all_pieces(alloc, title, params, zones, report)?;
     let text = render(alloc, pieces.as_slice())?;
     Ok(text)
 }

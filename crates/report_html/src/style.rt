@@ -22,6 +22,7 @@ nav a{display:inline-block;margin-right:1rem;padding:.125rem 0}\n\
 .note{color:var(--dim)}\n\
 .why{margin:0 0 .75rem;padding:.5rem .75rem;border-left:.375rem solid var(--bad);background:var(--code);\n\
 font-size:clamp(1rem,2.2vw,1.375rem);line-height:1.3;font-weight:700;white-space:pre-wrap;overflow-wrap:anywhere}\n\
+.warn{max-width:none;padding:.375rem .75rem;border:2px dashed var(--fix)}\n\
 table{border-collapse:collapse}\n\
 caption{padding:.25rem 0;text-align:left;color:var(--dim)}\n\
 th,td{padding:.1875rem .625rem .1875rem 0;text-align:left;vertical-align:top;font-weight:400}\n\

@@ -1,5 +1,5 @@
 -- The data of a report's line, schema 2
-use Rattle.std.specs.Prelude.{◌≡◌, ℕ, ◌-◌, ◌<◌, Bool, true, false, if◌then◌else◌, List, [], ◌∷◌, ◌++◌, length, map, take, slice_get, Option, Some, None, option_to_list, replicate, codes}
+use Rattle.std.specs.Prelude.{◌≡◌, ℕ, ◌-◌, ◌<◌, Bool, true, false, if◌then◌else◌, List, [], ◌∷◌, ◌++◌, length, map, take, slice_get, Option, Some, None, replicate, codes}
 use Rattle.std.specs.Str.{is_utf8}
 use Rattle.std.specs.Str.Lossy.{utf8_valid_len}
 use Rattle.json.specs.Lex.{tokens}
@@ -14,7 +14,6 @@ use Rattle.zone_spec.specs.declared.Kind.TheVariants.{Dump, Console, Ftrace, Pms
 use Rattle.zone_spec.specs.declared.State.{State}
 use Rattle.zone_spec.specs.declared.State.TheVariants.{Unsigned, Empty, Invalid, Found}
 use Rattle.zone_spec.specs.declared.Name.{Name}
-use Rattle.zone_spec.specs.declared.Name.TheVariants.{Dump as DumpName, Console as ConsoleName, Pmsg as PmsgName, Ftrace as FtraceName}
 use Rattle.zone_spec.specs.declared.Time.{Time}
 use Rattle.zone_spec.specs.declared.Words.{Words}
 use Rattle.zone_spec.specs.declared.Zone.{Zone}
@@ -39,6 +38,7 @@ use Rattle.report_spec.specs.declared.Packing.{Packing}
 use Rattle.report_spec.specs.declared.Packing.TheVariants.{Plain, Whole, Part}
 use Rattle.report_spec.specs.Packed.{RecordShown, fault_words, readable}
 use Rattle.report_spec.specs.Deaths.{DeathTold, death_told}
+use Rattle.record_report.specs.Counted.{zones_counted}
 use Rattle.record_report.specs.Reports.{ReportHeld}
 
 abbrev pub count : ℕ → Data
@@ -117,13 +117,6 @@ time_data None = null
 time_data (Some time) = object (
     member (codes "microseconds") (count time.micros) (
     member (codes "seconds") (count time.secs) no_members))
-
--- the zones over which a record's counts go: dump zone i is the i-th of a layout
-abbrev pub zones_counted : Name → List Saved → List Saved
-zones_counted (DumpName index packed) zones = option_to_list (slice_get zones index)
-zones_counted ConsoleName zones = zones
-zones_counted PmsgName zones = zones
-zones_counted FtraceName zones = zones
 
 -- whether a dump was packed, the bytes that its whole text took, and why its text goes no further
 abbrev pub is_packed : Packing (List ℕ) → Bool

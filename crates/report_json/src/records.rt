@@ -4,16 +4,15 @@ ghost use Rattle.std.specs.Str.Lossy.{utf8_valid_len};
 ghost use Rattle.serde_json.specs.Data.{null};
 ghost use Rattle.serde_json.specs.View.{view};
 ghost use Rattle.prz_read.specs.Saving.{saved};
-ghost use Rattle.pstore_records.specs.Counts.{corrected_in, bad_in};
-ghost use Rattle.report_json.specs.Schema.{time_data, taken_data, fault_data, is_packed, record_of, record_by, record_with, content_data, part_data_of, record_data, zones_counted, entry_by, entry_data, entries_data};
+ghost use Rattle.report_json.specs.Schema.{time_data, taken_data, fault_data, is_packed, record_of, record_by, record_with, content_data, part_data_of, record_data, entry_by, entry_data, entries_data};
 
 use arrayvec::ArrayString;
 use base64::engine::general_purpose::STANDARD;
 use outside::Bytes;
 use pmsg::{Entry, payload, split_payload};
 use prz_read::Logs;
-use pstore_records::{Counts, counts_at, counts_of, name_text};
-use record_report::{Packing, RecordReport};
+use pstore_records::{Counts, name_text};
+use record_report::{Packing, RecordReport, counts};
 use serde_json::{Value, json};
 use simdutf8::compat::from_utf8;
 use std::alloc::{AllocError, Global};
@@ -25,22 +24,6 @@ fn time_value(alloc: Global, time: Option<Time>) -> Result<Value, AllocError>
     match time {
         Some(time) => json!(in alloc; { "microseconds": time.micros, "seconds": time.secs }),
         None => Ok(Value::Null),
-    }
-}
-
-/// What the zones of a record count. Dump zone i of a layout is its i-th zone.
-fn counts(logs: &Logs, name: Name) -> Counts
-    ensures corrected { result.corrected ≡ corrected_in name (zones_counted name (saved logs.now)) }
-    ensures bad { result.bad ≡ bad_in name (zones_counted name (saved logs.now)) }
-{
-    match name {
-        Name::Dump { index, .. } if index < logs.len() => counts_at(logs, index, name),
-        Name::Dump { .. } => Counts {
-            has_parity: false,
-            corrected: 0,
-            bad: 0,
-        },
-        Name::Console | Name::Pmsg | Name::Ftrace => counts_of(logs, name),
     }
 }
 

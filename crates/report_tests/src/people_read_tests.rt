@@ -153,7 +153,7 @@ fn above_other_records(rt: HostRuntime) -> Result<(), Fail> {
     ] {
         let zones = layout(alloc, &params)?;
         let report = reported(alloc, &params, signature, log)?;
-        let page = html(alloc, b"a", zones.zones(), &report)?;
+        let page = html(alloc, b"a", &params, zones.zones(), &report)?;
         assert!(rt; str::from_utf8(page.as_slice())?.contains(above), "{above}");
     }
     Ok(())

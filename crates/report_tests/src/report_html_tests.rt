@@ -1,5 +1,5 @@
 // Pages and escaped bytes.
-use crate::packed_dumps::{DAMAGED, WHOLE, report_on, zones_of};
+use crate::packed_dumps::{self, DAMAGED, WHOLE, report_on, zones_of};
 use crate::worked_deaths::{self, CONSOLE, FATAL, NAMED, NONE, OOPS, PANIC, SILENT};
 use outside::Bytes;
 use ramoops_layout::types::Layout;
@@ -32,8 +32,8 @@ fn escaped_rows(rt: HostRuntime) -> Result<(), Fail> {
 }
 
 // One console zone, with so many bytes of parity.
-fn one_console(alloc: Global, ecc: u64) -> Result<Layout, Fail> {
-    let params = Params {
+fn one_console(ecc: u64) -> Params {
+    Params {
         mem: 4096,
         dump: 0,
         console: 4096,
@@ -47,29 +47,29 @@ fn one_console(alloc: Global, ecc: u64) -> Result<Layout, Fail> {
         ecc_console: ecc,
         ecc_ftrace: ecc,
         ecc_pmsg: ecc,
-    };
-    Ok(layout(alloc, &params)?)
+    }
 }
 
-/// The page of an image of a console.
-fn console_page(alloc: Global, zones: &Layout, bytes: Vec<u8>) -> Result<Vec<u8>, Fail> {
+/// The page of an image of a console with so many bytes of parity.
+fn console_page(alloc: Global, ecc: u64, bytes: Vec<u8>) -> Result<Vec<u8>, Fail> {
+    let params = one_console(ecc);
+    let zones = layout(alloc, &params)?;
     let image = Bytes::from_vec(bytes);
     if image.len() != zones.mem() as usize {
         return Err(Fail::from("the image has another size"));
     }
-    let report = report_of(alloc, zones, &Symbols::none(alloc), image)?;
-    Ok(html(alloc, b"a<b", zones.zones(), &report)?)
+    let report = report_of(alloc, &zones, &Symbols::none(alloc), image)?;
+    Ok(html(alloc, b"a<b", &params, zones.zones(), &report)?)
 }
 
 // The page of an image of one console record, which would be a script.
 #[test]
 fn hostile_record(rt: HostRuntime) -> Result<(), Fail> {
-    let zones = one_console(rt.alloc(), 0)?;
     let mut bytes = Vec::new(rt.alloc());
     bytes.extend_from_slice(&[0x44, 0x42, 0x47, 0x43, 8, 0, 0, 0, 8, 0, 0, 0])?;
     bytes.extend_from_slice(b"<script>")?;
     bytes.resize(4096, 0)?;
-    let page = console_page(rt.alloc(), &zones, bytes)?;
+    let page = console_page(rt.alloc(), 0, bytes)?;
     let text = str::from_utf8(page.as_slice())?;
     assert!(rt; text.contains("<h1>Why this machine died: a&lt;b</h1>"));
     assert!(rt; text.contains("<h2 id=\"region\">The region: 4096 bytes, 1 zones</h2>"));
@@ -102,10 +102,8 @@ fn hostile_record(rt: HostRuntime) -> Result<(), Fail> {
 }
 
 // A log of 1000 zeros, whose parity is zeros too, with damage in the header, block 1, blocks 3 and 4, and block 6.
-#[test]
-fn spots_that_are_not_clean(rt: HostRuntime) -> Result<(), Fail> {
-    let zones = one_console(rt.alloc(), 16)?;
-    let mut bytes = Vec::new(rt.alloc());
+fn damaged_zeros(alloc: Global) -> Result<Vec<u8>, Fail> {
+    let mut bytes = Vec::new(alloc);
     bytes.extend_from_slice(&[0x44, 0x42, 0x47, 0x43, 0xe8, 3, 0, 0, 0xe8, 3, 0, 0])?;
     bytes.resize(4080, 0)?;
     let parity = [
@@ -122,7 +120,12 @@ fn spots_that_are_not_clean(rt: HostRuntime) -> Result<(), Fail> {
             *place = 7;
         }
     }
-    let page = console_page(rt.alloc(), &zones, bytes)?;
+    Ok(bytes)
+}
+
+#[test]
+fn spots_that_are_not_clean(rt: HostRuntime) -> Result<(), Fail> {
+    let page = console_page(rt.alloc(), 16, damaged_zeros(rt.alloc())?)?;
     let shown = "<details open><summary><b>Headers and blocks that are not clean: 4</b></summary>
 <div class=\"scroll\" tabindex=\"0\" role=\"region\" aria-label=\"Headers and blocks that are not clean\">\
 <table class=\"grid\">
@@ -173,7 +176,13 @@ red \\xc3</pre>",
     ] {
         let zones = zones_of(rt.alloc())?;
         let report = report_on(rt.alloc(), packed)?;
-        let page = html(rt.alloc(), b"a", zones.zones(), &report)?;
+        let page = html(
+            rt.alloc(),
+            b"a",
+            &packed_dumps::PARAMS,
+            zones.zones(),
+            &report,
+        )?;
         assert!(rt;
             str::from_utf8(page.as_slice())?.contains(record),
             "{record}"
@@ -186,7 +195,8 @@ red \\xc3</pre>",
 fn shows(rt: HostRuntime, logs: [&[u8]; 4], wanted: &str) -> Result<bool, Fail> {
     let zones = worked_deaths::zones_of(rt.alloc())?;
     let report = worked_deaths::report_on(rt.alloc(), logs)?;
-    let page = html(rt.alloc(), b"a", zones.zones(), &report)?;
+    let params = &worked_deaths::PARAMS;
+    let page = html(rt.alloc(), b"a", params, zones.zones(), &report)?;
     Ok(str::from_utf8(page.as_slice())?.contains(wanted))
 }
 
@@ -246,7 +256,9 @@ fn why_it_died_by_the_console(rt: HostRuntime) -> Result<(), Fail> {
     let marked = "<pre class=\"log\">
 <mark>[    3.0] Oops: a\n</mark><mark>[    3.1] Kernel panic - not syncing: Fatal exception\n</mark></pre>\n";
     assert!(rt; shows(rt, [NONE, NONE, NONE, FATAL], marked)?);
-    let none = "</nav>\n<pre class=\"why\">No record tells why.</pre>\n</header>\n<main>\n";
+    let none = "</nav>\n<pre class=\"why\">No record tells why.</pre>
+<p class=\"warn\"><b>Read with care.</b> No zone has a log. \
+The region is blank, or its place or the parameters are not the kernel's.</p>\n</header>\n<main>\n";
     assert!(rt; shows(rt, [NONE, NONE, NONE, NONE], none)?);
     Ok(())
 }
@@ -330,7 +342,7 @@ fn page_of_many(alloc: Global, logs: &[(u16, &[u8])]) -> Result<Vec<u8>, Fail> {
         return Err(Fail::from("the image has another size"));
     }
     let report = report_of(alloc, &zones, &Symbols::none(alloc), image)?;
-    Ok(html(alloc, b"a", zones.zones(), &report)?)
+    Ok(html(alloc, b"a", &params, zones.zones(), &report)?)
 }
 
 // Dumps of 32 zones make a group. That of the unfolded dump is open.
@@ -438,7 +450,7 @@ fn what_was_before_it(rt: HostRuntime) -> Result<(), Fail> {
         "<tr><th scope=\"row\">Before it</th><td><a href=\"#dmesg-ramoops-1\">dmesg-ramoops-1</a>, \
 2026-11-26 23:44:14.642000 UTC
 BUG: kernel NULL pointer dereference, address: 0000000000000000</td></tr>
-<tr><th scope=\"row\">Told by</th><td><a href=\"#dmesg-ramoops-0\">dmesg-ramoops-0</a></td></tr>\n";
+<tr><th scope=\"row\">Told by</th><td><a href=\"#dmesg-ramoops-0\">dmesg-ramoops-0</a>";
     assert!(rt; shows(rt, [PANIC, OOPS, NAMED, CONSOLE], before)?);
     let silent = b"====1795736654.650000-D\nnothing\n";
     assert!(rt; shows(rt, [PANIC, OOPS, silent, NONE], before)?);
@@ -449,5 +461,95 @@ BUG: kernel NULL pointer dereference, address: 0000000000000000</td></tr>
 <tr><th scope=\"row\">Told by</th><td><a href=\"#console-ramoops-0\">console-ramoops-0</a></td></tr>\n";
     assert!(rt; shows(rt, [NAMED, OOPS, NONE, CONSOLE], by_console)?);
     assert!(rt; !shows(rt, [PANIC, NONE, silent, CONSOLE], "Before it")?);
+    Ok(())
+}
+
+// A dump outlives boots, the console does not.
+#[test]
+fn whether_the_console_tells_the_same(rt: HostRuntime) -> Result<(), Fail> {
+    let same = "dmesg-ramoops-0</a>\nthe console has the same line</td></tr>\n</table>\n";
+    assert!(rt; shows(rt, [PANIC, OOPS, NONE, CONSOLE], same)?);
+    let other = "dmesg-ramoops-0</a>
+the console lacks this line: it can be of another boot</td></tr>\n</table>\n";
+    let later = b"[    1.000000] Linux version 6.1.0\n";
+    assert!(rt; shows(rt, [PANIC, OOPS, NONE, later], other)?);
+    // neither without a console, nor if the console tells
+    assert!(rt; !shows(rt, [PANIC, OOPS, NONE, NONE], "the console")?);
+    assert!(rt; !shows(rt, [NAMED, NONE, NONE, CONSOLE], "\nthe console")?);
+    Ok(())
+}
+
+const CARE: &str = "<p class=\"warn\"><b>Read with care.</b> ";
+
+#[test]
+fn the_console_tells_and_not_the_dump(rt: HostRuntime) -> Result<(), Fail> {
+    let lacks = "</pre>
+<p class=\"warn\"><b>Read with care.</b> The console tells it. The newest dump, \
+<a href=\"#dmesg-ramoops-0\">dmesg-ramoops-0</a>, lacks its last telling line.</p>\n<table class=\"fact\">\n";
+    assert!(rt; shows(rt, [OOPS, NONE, NONE, CONSOLE], lacks)?);
+    assert!(rt; shows(rt, [SILENT, NONE, NONE, CONSOLE], lacks)?);
+    assert!(rt; !shows(rt, [PANIC, NONE, NONE, CONSOLE], CARE)?);
+    assert!(rt; !shows(rt, [NONE, NONE, NONE, CONSOLE], CARE)?);
+    Ok(())
+}
+
+// Nine of the header's parity bytes are lost, and all of the first block. Both are read as they stand.
+#[test]
+fn warnings_of_bad_parts(rt: HostRuntime) -> Result<(), Fail> {
+    let text = b"Kernel panic - not syncing: a\n";
+    let mut bytes = Vec::new(rt.alloc());
+    bytes.extend_from_slice(&[0x44, 0x42, 0x47, 0x43, 0xe8, 3, 0, 0, 0xe8, 3, 0, 0])?;
+    bytes.extend_from_slice(text)?;
+    bytes.resize(4089, 0)?;
+    bytes.extend_from_slice(&[249, 61, 125, 1, 138, 99, 55])?;
+    let page = console_page(rt.alloc(), 16, bytes)?;
+    let warned = "<pre class=\"why\">Kernel panic - not syncing: a</pre>
+<p class=\"warn\"><b>Read with care.</b> The record that tells it has bad parts: its lines can be wrong.</p>
+<p class=\"warn\"><b>Read with care.</b> Bad headers: 1. \
+A log that is lost there can be newer than what stands below.</p>
+<p class=\"warn\"><b>Read with care.</b> More than half of the zones have bad parts. \
+The place or the parameters can be other than the kernel's.</p>
+<table class=\"fact\">\n";
+    assert!(rt; str::from_utf8(page.as_slice())?.contains(warned));
+    let read = "<b>console-ramoops-0</b><span>1048 bytes</span><span class=\"bad\">bad 2</span></summary>\n";
+    assert!(rt; str::from_utf8(page.as_slice())?.contains(read));
+    Ok(())
+}
+
+#[test]
+fn how_a_record_read(rt: HostRuntime) -> Result<(), Fail> {
+    let page = console_page(rt.alloc(), 16, damaged_zeros(rt.alloc())?)?;
+    let text = str::from_utf8(page.as_slice())?;
+    let read = "<b>console-ramoops-0</b><span>1048 bytes</span>\
+<span class=\"bad\">bad 1</span><span class=\"fix\">corrected 6</span></summary>\n";
+    assert!(rt; text.contains(read));
+    assert!(rt; !text.contains("Bad headers"));
+    Ok(())
+}
+
+#[test]
+fn parameters(rt: HostRuntime) -> Result<(), Fail> {
+    let page = console_page(rt.alloc(), 16, damaged_zeros(rt.alloc())?)?;
+    let table = "</table></div>
+<h2 id=\"layout\">Parameters</h2>
+<p class=\"note\">As the zones were read. Sizes and parity are in bytes.</p>
+<div class=\"scroll\" tabindex=\"0\" role=\"region\" aria-label=\"Parameters\"><table class=\"grid\">
+<tr><th scope=\"col\">Parameter</th><th scope=\"col\" class=\"n\">Value</th></tr>
+<tr><th scope=\"row\">mem_size</th><td class=\"n\">4096</td></tr>
+<tr><th scope=\"row\">record_size</th><td class=\"n\">0</td></tr>
+<tr><th scope=\"row\">console_size</th><td class=\"n\">4096</td></tr>
+<tr><th scope=\"row\">ftrace_size</th><td class=\"n\">0</td></tr>
+<tr><th scope=\"row\">pmsg_size</th><td class=\"n\">0</td></tr>
+<tr><th scope=\"row\">block_size</th><td class=\"n\">128</td></tr>
+<tr><th scope=\"row\">ecc</th><td class=\"n\">16</td></tr>
+<tr><th scope=\"row\">ecc_dump</th><td class=\"n\">16</td></tr>
+<tr><th scope=\"row\">ecc_console</th><td class=\"n\">16</td></tr>
+<tr><th scope=\"row\">ecc_ftrace</th><td class=\"n\">16</td></tr>
+<tr><th scope=\"row\">ecc_pmsg</th><td class=\"n\">16</td></tr>
+<tr><th scope=\"row\">cpus</th><td class=\"n\">1</td></tr>
+<tr><th scope=\"row\">ftrace_sig</th><td class=\"n\">0</td></tr>
+</table></div>
+</main>\n";
+    assert!(rt; str::from_utf8(page.as_slice())?.contains(table));
     Ok(())
 }

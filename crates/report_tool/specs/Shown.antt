@@ -30,4 +30,4 @@ pub record IsJsonLine (path : List ℕ) (plan : Plan) (report : ReportHeld) (tex
 abbrev pub Shows : Format → List ℕ → Plan → ReportHeld → List ℕ → Type 0
 Shows Text path plan report text = IsVisibleText path plan report text
 Shows Json path plan report text = IsJsonLine path plan report text
-Shows Html path plan report text = text ≡ page_of path plan.zones.items report
+Shows Html path plan report text = text ≡ page_of path plan.params plan.zones.items report

@@ -47,6 +47,6 @@ pub fn shown(
             Ok(bytes.into_vec())
         }
         Format::Json => json_line(alloc, plan, path, report),
-        Format::Html => html(alloc, path.as_bytes(), &plan.zones, report),
+        Format::Html => html(alloc, path.as_bytes(), &plan.params, &plan.zones, report),
     }
 }

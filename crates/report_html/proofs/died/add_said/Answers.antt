@@ -1,4 +1,4 @@
--- The telling line, the panic below it, and the head of the table
+-- The telling line, and the panic below it
 use Rattle.std.proofs.Common.{◌≡◌, ◌∙◌, ◌++◌, ◌∷◌, [], ℕ, List, ap, codes}
 use Rattle.report_html.specs.Pieces.{Part, Words, Bytes, parts}
 use Rattle.report_html.specs.Died.{second_parts}
@@ -15,7 +15,7 @@ returns c =
     let p2 = parts c.add_second.new.pieces.items in
     let a2 : List Part = second_parts c.args.text.now c.args.death.second in
     let p3 = parts c.add-2.new.pieces.items in
-    let a3 : List Part = Words (codes "</pre>\n<table class=\"fact\">\n") ∷ [] in
+    let a3 : List Part = Words (codes "</pre>\n") ∷ [] in
     let e1 : p1 ≡ old ++ a1 = c.in_ok-add.ensures ∙ ap (λ (bs : List ℕ). old ++ why bs) c.part.ensures.part in
     let e2 : p2 ≡ p1 ++ a2 = c.in_ok-add_second.ensures in
     let t2 = joined old (a1) a2 p1 p2 e1 e2 in

@@ -13,7 +13,8 @@ returns c =
     let p2 = parts c.add_link.new.pieces.items in
     let a2 : List Part = link_parts c.args.name in
     let p3 = parts c.add-2.new.pieces.items in
-    let a3 : List Part = Words (codes "</td></tr>\n</table>\n</header>\n<main>\n<h2 id=\"told\">The lines that tell it, in ") ∷ [] in
+    let a3 : List Part = Words c.args.words.now
+    ∷ Words (codes "</td></tr>\n</table>\n</header>\n<main>\n<h2 id=\"told\">The lines that tell it, in ") ∷ [] in
     let p4 = parts c.add_name.new.pieces.items in
     let a4 : List Part = name_parts c.args.name in
     let p5 = parts c.add-3.new.pieces.items in

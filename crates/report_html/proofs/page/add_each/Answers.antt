@@ -1,5 +1,6 @@
 -- One record more adds its parts, the last group ends, and all records hold bytes. For `add_each`.
 use Rattle.std.proofs.Common.{arith}
+use Rattle.prz_read.specs.Saving.{saved}
 use Rattle.report_html.specs.Pieces.{parts}
 use Rattle.report_html.proofs.Foreign.{held_next, held_all}
 use Rattle.report_html.proofs.Grouped.{listed_on, listed_all}
@@ -7,7 +8,7 @@ use Rattle.report_html.proofs.page.add_each.Goals as goal
 
 pub loop-held-preserved : goal.loop-held-preserved
 loop-held-preserved c = (
-  listed_on c.args.grouped c.args.number c.loop-held.before c.group_in-group.result c.is_unfolded.result
+  listed_on (saved c.args.logs.now) c.args.grouped c.args.number c.loop-held.before c.group_in-group.result c.is_unfolded.result
       c.args.records.now c.loop-held.held-index c.held-item.result (parts c.args.pieces.now.items)
       (parts c.loop-held.pieces.items) (parts c.add_edge.new.pieces.items) (parts c.add_record.new.pieces.items)
       c.loop-held-test.true c.held-item.is c.loop-held.invariant.0 c.group_in-group.ensures c.is_unfolded.ensures
@@ -23,6 +24,6 @@ returns-clause-bytes c =
 
 pub returns-clause-parts : goal.returns-clause-parts
 returns-clause-parts c =
-    listed_all c.args.grouped c.args.number c.loop-held.before c.args.records.now c.loop-held.held-index
+    listed_all (saved c.args.logs.now) c.args.grouped c.args.number c.loop-held.before c.args.records.now c.loop-held.held-index
     (parts c.args.pieces.now.items) (parts c.loop-held.pieces.items) (parts c.add_edge-2.new.pieces.items)
     (let past = c.loop-held-test.false in omega (arith, past)) c.loop-held.invariant.0 c.in_ok-add_edge-2.ensures

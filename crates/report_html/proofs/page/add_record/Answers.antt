@@ -5,6 +5,8 @@ use Rattle.report_spec.specs.Packed.{RecordShown, readable}
 use Rattle.report_html.specs.Pieces.{Part, Words, parts}
 use Rattle.report_html.specs.Names.{name_parts, time_parts}
 use Rattle.report_html.specs.Listed.{say_parts, fold_parts}
+use Rattle.prz_read.specs.Saving.{saved}
+use Rattle.report_html.specs.Reads.{read_parts}
 use Rattle.report_html.specs.Pages.{length_parts, packing_parts, content_parts}
 use Rattle.report_html.proofs.Joined.{joined}
 use Rattle.report_html.proofs.page.add_record.Goals as goal
@@ -23,6 +25,7 @@ returns-clause-parts c =
     let timed = parts c.add_time.new.pieces.items in
     let long = parts c.add_length.new.pieces.items in
     let packed = parts c.add_packing.new.pieces.items in
+    let read = parts c.add_read.new.pieces.items in
     let whole = parts c.add_content.new.pieces.items in
     let s : List Part = say_parts r.name (readable r) in
     let begin : List Part = fold_parts c.args.is_open in
@@ -31,6 +34,7 @@ returns-clause-parts c =
     let t : List Part = time_parts r.time in
     let l : List Part = length_parts (length r.content) in
     let p : List Part = packing_parts r.packing in
+    let q : List Part = read_parts (saved c.args.logs.now) r.name in
     let say : said ≡ old ++ s =
     c.in_ok-add_say.ensures
     ∙ ap (λ (q : RecordShown). old ++ say_parts q.name c.readable-text.result.now) c.held.view_is
@@ -44,15 +48,19 @@ returns-clause-parts c =
     ∙ ap (λ (q : RecordShown). timed ++ length_parts (length q.content)) c.held.view_is in
     let packing : packed ≡ long ++ p =
     c.in_ok-add_packing.ensures ∙ ap (λ (q : RecordShown). long ++ packing_parts q.packing) c.held.view_is in
-    let content : whole ≡ packed ++ content_parts r.name (readable r) =
+    let reading : read ≡ packed ++ q =
+    c.in_ok-add_read.ensures
+    ∙ ap (λ (q : RecordShown). packed ++ read_parts (saved c.args.logs.now) q.name) c.held.view_is in
+    let content : whole ≡ read ++ content_parts r.name (readable r) =
     c.in_ok-add_content.ensures.parts
-    ∙ ap (λ (q : RecordShown). packed ++ content_parts q.name c.readable-text.result.now) c.held.view_is
-    ∙ ap (λ (bs : List ℕ). packed ++ content_parts r.name bs) c.readable-text.ensures in
+    ∙ ap (λ (q : RecordShown). read ++ content_parts q.name c.readable-text.result.now) c.held.view_is
+    ∙ ap (λ (bs : List ℕ). read ++ content_parts r.name bs) c.readable-text.ensures in
     let to_fold = joined old s begin said begun say c.in_ok-add_fold.ensures in
     let to_name = joined old (s ++ begin) n begun named to_fold name in
     let to_end = joined old (s ++ begin ++ n) end named ended to_name c.in_ok-add.ensures in
     let to_time = joined old (s ++ begin ++ n ++ end) t ended timed to_end time in
     let to_length = joined old (s ++ begin ++ n ++ end ++ t) l timed long to_time bytes in
     let to_packing = joined old (s ++ begin ++ n ++ end ++ t ++ l) p long packed to_length packing in
-    joined old (s ++ begin ++ n ++ end ++ t ++ l ++ p) (content_parts r.name (readable r)) packed whole to_packing
+    let to_reading = joined old (s ++ begin ++ n ++ end ++ t ++ l ++ p) q packed read to_packing reading in
+    joined old (s ++ begin ++ n ++ end ++ t ++ l ++ p ++ q) (content_parts r.name (readable r)) read whole to_reading
     content

@@ -16,7 +16,7 @@ returns-clause-page c =
 pub returns-clause-no_markup : goal.returns-clause-no_markup
 unfolding page_of
 returns-clause-no_markup c =
-    without_markup c.args.title.now c.args.zones.now c.args.report.now c.in_ok-text.text.items
+    without_markup c.args.title.now c.args.params.now c.args.zones.now c.args.report.now c.in_ok-text.text.items
     (λ i. (c.type_inv.title i).fits) c.in_ok-pieces.ensures.bytes c.in_ok-pieces.ensures.tells
     (c.in_ok-text.ensures
     ∙ ap (λ (ps : List Piece). parts_text (parts ps)) c.as_slice.ensures.value

@@ -1,5 +1,5 @@
 -- The cells of a row
-use Rattle.std.proofs.Common.{◌≡◌, ◌∙◌, ◌++◌, ◌∷◌, [], ℕ, List, ap, ap₂, codes}
+use Rattle.std.proofs.Common.{◌≡◌, ◌∙◌, ◌++◌, ◌∷◌, [], ℕ, List, ap₂, codes}
 use Rattle.report_html.specs.Pieces.{Part, Words, Count, parts}
 use Rattle.report_html.specs.declared.spots.Spot.{Spot}
 use Rattle.report_html.specs.Pictures.{zone_name, cell}

@@ -1,5 +1,5 @@
 -- Each zone is looked at with its parts
-use Rattle.std.proofs.Common.{◌≡◌, ◌<◌, ◌∙◌, List, length, take, get_or, ap, sym, arith, Some}
+use Rattle.std.proofs.Common.{◌≡◌, ◌∙◌, List, length, get_or, ap, sym, arith, Some}
 use Rattle.std.specs.Prelude.{flat_map, slice_get}
 use Rattle.std.specs.List.{zip}
 use Rattle.std.proofs.lemmas.List.{take_all}

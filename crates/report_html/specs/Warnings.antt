@@ -1,0 +1,87 @@
+-- What must be known before a page is believed
+use Rattle.std.specs.Prelude.{ℕ, ◌/◌, ◌==◌, Bool, true, false, not, ◌||◌, nat_lt, if◌then◌else◌, List, [], ◌∷◌, ◌++◌, length, codes, Option, Some, None}
+use Rattle.std.specs.List.{list_any, count_by}
+use Rattle.zone_spec.specs.declared.Name.{Name}
+use Rattle.zone_spec.specs.Records.{Saved}
+use Rattle.pstore_records.specs.Counts.{bad_in}
+use Rattle.report_spec.specs.declared.PartState.{PartState}
+use Rattle.report_spec.specs.declared.PartState.TheVariants.{Read, Bad}
+use Rattle.report_spec.specs.Parts.{PartStates}
+use Rattle.report_spec.specs.Packed.{RecordShown}
+use Rattle.report_spec.specs.Newest.{newest, is_console}
+use Rattle.report_spec.specs.Deaths.{DeathTold}
+use Rattle.prz_read.specs.Saving.{saved}
+use Rattle.record_report.specs.Counted.{zones_counted}
+use Rattle.record_report.specs.Reports.{ReportHeld}
+use Rattle.report_html.specs.Pieces.{Part, Words, Count}
+use Rattle.report_html.specs.Names.{link_parts}
+
+abbrev pub opening : List ℕ
+opening = codes "<p class=\"warn\"><b>Read with care.</b> "
+
+abbrev pub closing : List ℕ
+closing = codes "</p>\n"
+
+abbrev pub warning : List ℕ → List Part
+warning said = Words opening ∷ Words said ∷ Words closing ∷ []
+
+-- the console tells, and not this dump
+abbrev pub lacking : Name → List Part
+lacking dump =
+    Words opening ∷ Words (codes "The console tells it. The newest dump, ") ∷ [] ++ link_parts dump
+    ++ Words (codes ", lacks its last telling line.") ∷ Words closing ∷ []
+
+abbrev pub console_warning : Option RecordShown → Option DeathTold → List Part
+console_warning None told = []
+console_warning (Some dump) None = []
+console_warning (Some dump) (Some told) =
+    if is_console told.teller.name then lacking dump.name else []
+
+-- whether parts of the record that tells are bad
+abbrev pub tells_badly : List Saved → Option DeathTold → Bool
+tells_badly zones None = false
+tells_badly zones (Some told) = nat_lt 0 (bad_in told.teller.name (zones_counted told.teller.name zones))
+
+abbrev pub teller_warning : Bool → List Part
+teller_warning badly =
+    if badly then warning (codes "The record that tells it has bad parts: its lines can be wrong.") else []
+
+abbrev pub is_bad : PartState → Bool
+is_bad (Read n) = false
+is_bad Bad = true
+
+abbrev pub has_bad_header : PartStates → Bool
+has_bad_header parts = is_bad parts.header
+
+-- so many headers are bad
+abbrev pub bad_headers : ℕ → List Part
+bad_headers count =
+    Words opening ∷ Words (codes "Bad headers: ") ∷ Count count
+    ∷ Words (codes ". A log that is lost there can be newer than what stands below.") ∷ Words closing ∷ []
+
+abbrev pub headers_warning : ℕ → List Part
+headers_warning count = if nat_lt 0 count then bad_headers count else []
+
+-- whether blocks of a zone are in use
+abbrev pub has_log : PartStates → Bool
+has_log parts = not (length parts.blocks == 0)
+
+abbrev pub has_bad_part : PartStates → Bool
+has_bad_part parts = is_bad parts.header || list_any is_bad parts.blocks
+
+-- no zone has a log, or more than half of them have bad parts
+abbrev pub layout_warning : (logs bad zones : ℕ) → List Part
+layout_warning logs bad zones =
+    if logs == 0
+    then warning (codes "No zone has a log. "
+    ++ codes "The region is blank, or its place or the parameters are not the kernel's.")
+    else (if nat_lt (zones / 2) bad
+    then warning (codes "More than half of the zones have bad parts. "
+    ++ codes "The place or the parameters can be other than the kernel's.") else [])
+
+-- the warnings of a report, in which this tells why the machine died
+abbrev pub warnings_parts : ReportHeld → Option DeathTold → List Part
+warnings_parts report told =
+    console_warning (newest report.records) told ++ teller_warning (tells_badly (saved report.logs) told)
+    ++ headers_warning (count_by has_bad_header report.parts)
+    ++ layout_warning (count_by has_log report.parts) (count_by has_bad_part report.parts) (length report.parts)

@@ -1,0 +1,75 @@
+// The parameters of a layout.
+ghost use Rattle.std.specs.Prelude.{◌≡◌, ◌++◌, OnOk};
+ghost use Rattle.report_html.specs.Pieces.{parts};
+ghost use Rattle.report_html.specs.Parameters.{parameter_parts, size_rows, parity_rows, ftrace_rows, parameters_parts};
+
+use crate::pieces::{Piece, add};
+use std::alloc::AllocError;
+use zone_spec::Params;
+
+const HEAD: &str = "<h2 id=\"layout\">Parameters</h2>\n\
+<p class=\"note\">As the zones were read. Sizes and parity are in bytes.</p>\n\
+<div class=\"scroll\" tabindex=\"0\" role=\"region\" aria-label=\"Parameters\"><table class=\"grid\">\n\
+<tr><th scope=\"col\">Parameter</th><th scope=\"col\" class=\"n\">Value</th></tr>\n";
+
+fn add_parameter(
+    pieces: &mut Vec<Piece<'_>>,
+    key: &'static str,
+    value: u64,
+) -> Result<(), AllocError>
+    ensures { OnOk result (parts pieces.new.items ≡ parts pieces.old.items ++ parameter_parts key.entry.now value) }
+{
+    add(
+        pieces,
+        &[
+            Piece::Own("<tr><th scope=\"row\">"),
+            Piece::Own(key),
+            Piece::Own("</th><td class=\"n\">"),
+            Piece::Number(value),
+            Piece::Own("</td></tr>\n"),
+        ],
+    )
+}
+
+fn add_sizes(pieces: &mut Vec<Piece<'_>>, params: &Params) -> Result<(), AllocError>
+    ensures { OnOk result (parts pieces.new.items ≡ parts pieces.old.items ++ size_rows params.now) }
+{
+    add_parameter(pieces, "mem_size", params.mem)?;
+    add_parameter(pieces, "record_size", params.dump)?;
+    add_parameter(pieces, "console_size", params.console)?;
+    add_parameter(pieces, "ftrace_size", params.ftrace)?;
+    add_parameter(pieces, "pmsg_size", params.pmsg)?;
+    add_parameter(pieces, "block_size", params.block)?;
+    Ok(())
+}
+
+fn add_parity(pieces: &mut Vec<Piece<'_>>, params: &Params) -> Result<(), AllocError>
+    ensures { OnOk result (parts pieces.new.items ≡ parts pieces.old.items ++ parity_rows params.now) }
+{
+    add_parameter(pieces, "ecc", params.ecc)?;
+    add_parameter(pieces, "ecc_dump", params.ecc_dump)?;
+    add_parameter(pieces, "ecc_console", params.ecc_console)?;
+    add_parameter(pieces, "ecc_ftrace", params.ecc_ftrace)?;
+    add_parameter(pieces, "ecc_pmsg", params.ecc_pmsg)?;
+    Ok(())
+}
+
+fn add_ftrace(pieces: &mut Vec<Piece<'_>>, params: &Params) -> Result<(), AllocError>
+    ensures { OnOk result (parts pieces.new.items ≡ parts pieces.old.items ++ ftrace_rows params.now) }
+{
+    add_parameter(pieces, "cpus", params.cpus)?;
+    add_parameter(pieces, "ftrace_sig", u64::from(params.ftrace_sig))?;
+    Ok(())
+}
+
+/// Adds a table of the parameters.
+pub fn add_parameters(pieces: &mut Vec<Piece<'_>>, params: &Params) -> Result<(), AllocError>
+    ensures { OnOk result (parts pieces.new.items ≡ parts pieces.old.items ++ parameters_parts params.now) }
+{
+    add(pieces, &[Piece::Own(HEAD)])?;
+    add_sizes(pieces, params)?;
+    add_parity(pieces, params)?;
+    add_ftrace(pieces, params)?;
+    add(pieces, &[Piece::Own("</table></div>\n")])?;
+    Ok(())
+}
