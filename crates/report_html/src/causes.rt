@@ -1,7 +1,7 @@
 // The dumps by telling line.
 ghost use Rattle.std.specs.Prelude.{◌≡◌, ◌&&◌, nat_lt, if◌then◌else◌, List, [], ◌∷◌, ◌++◌, length, take, map, filter, flat_map, IfOk, OnOk};
 ghost use Rattle.std.specs.Option.{option_copied};
-ghost use Rattle.report_spec.specs.Newest.{is_later, later_than, is_newer, newer_of, newest};
+ghost use Rattle.report_spec.specs.Newest.{newer_of, newest};
 ghost use Rattle.report_html.specs.Pieces.{part_of, parts};
 ghost use Rattle.report_html.specs.Causes.{CrashShown, telling_line as line_told, crash_of as crash_shown, is_dump as is_dump_shown, crashes_of as crashes_shown, is_same_line as are_same, has_line_of as has_same, with_first, rows_of as rows_shown, has_no_row as has_none, time_cell, newest_cells, row_parts, line_part, cause_parts, others_parts, table_parts, causes_parts, crash_in, crashes_in};
 
@@ -9,7 +9,7 @@ use crate::listed::dump_number;
 use crate::names::add_link;
 use crate::pieces::{Piece, add};
 use death::{death, part};
-use record_report::RecordReport;
+use record_report::{RecordReport, is_newer};
 use std::alloc::{AllocError, Global};
 use zone_spec::Time;
 
@@ -176,33 +176,6 @@ fn others<'a>(
         keep(&mut others, has_no_row(rows, crash), crash)?;
     }
     Ok(others)
-}
-
-fn is_later(time: Time, other: Time) -> bool
-    ensures { result ≡ is_later time other }
-{
-    time.secs > other.secs || (time.secs == other.secs && time.micros > other.micros)
-}
-
-fn is_later_than(time: Option<Time>, other: Option<Time>) -> bool
-    ensures { result ≡ later_than time other }
-{
-    match time {
-        Some(time) => match other {
-            Some(other) => is_later(time, other),
-            None => true,
-        },
-        None => false,
-    }
-}
-
-fn is_newer(dump: &RecordReport, held: Option<&RecordReport>) -> bool
-    ensures { result ≡ is_newer dump.now (option_copied held.entry) }
-{
-    match held {
-        Some(held) => is_later_than(dump.time, held.time),
-        None => dump.time.is_some(),
-    }
 }
 
 /// The record that is held, or one that is newer.
