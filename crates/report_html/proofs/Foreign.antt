@@ -1,7 +1,8 @@
 -- The foreign parts of a page
-use Rattle.std.proofs.Common.{◌≡◌, ℕ, suc, ◌+◌, ◌<◌, ◌≤◌, ◌==◌, Bool, true, false, cond, nat_lt, List, [], ◌∷◌, ◌++◌, length, slice_get, drop, ◌-◌, ◌*◌, ◌/◌, All, Option, Some, None, codes, append_assoc, refl, sym, ap, ap₂, ◌∙◌, subst, append-nil, get_or, inl, inr, arith}
-use Rattle.std.specs.Prelude.{flat_map}
-use Rattle.std.specs.List.{zip, count_by}
+use Rattle.std.proofs.Common.{◌≡◌, ℕ, zero, suc, ◌+◌, ◌<◌, ◌≤◌, ◌==◌, Bool, true, false, cond, nat_lt, List, [], ◌∷◌, ◌++◌, length, slice_get, map, take, drop, ◌-◌, ◌*◌, ◌/◌, All, Option, Some, None, codes, append_assoc, refl, sym, ap, ap₂, ◌∙◌, subst, append-nil, get_or, inl, inr, arith}
+use Rattle.std.specs.Prelude.{⊤, filter, flat_map}
+use Rattle.std.specs.List.{count_by, fold, list_any, zip}
+use Rattle.std.specs.Option.{option_map}
 use Rattle.std.proofs.lemmas.Bool.{cases_order}
 use Rattle.std.proofs.lemmas.List.Elements.{All-cons, All-nil}
 use Rattle.std.proofs.lemmas.List.Concat.{flat_map-append}
@@ -44,6 +45,7 @@ use Rattle.report_html.specs.Names.{name_parts, link_parts, time_parts}
 use Rattle.report_html.specs.Before.{told_before, time_after, line_below, before_parts, before_bytes}
 use Rattle.report_html.specs.Died.{second_parts, said_parts, why_parts, fact_parts, stamp_of, when_parts, no_cpu, no_function, context_parts, place_above, below, rest_parts, around_parts, console_words, teller_parts, death_parts, died_parts, second_bytes, named_bytes, said_bytes, why_bytes, context_bytes, rest_bytes, around_bytes, death_bytes, died_bytes}
 use Rattle.report_html.specs.Listed.{below_parts, telling_parts, above_parts, say_parts, unfolded, is_unfolded, fold_parts, below_bytes, telling_bytes, above_bytes, record_bytes}
+use Rattle.report_html.specs.Causes.{CrashShown, crash_of, is_dump, crashes_of, with_first, firsts_of, rows_of, has_no_row, has_line_of, time_cell, newest_cells, row_parts as dumps_parts, line_part, cause_parts, others_parts, causes_words, table_parts, table_of, causes_parts, line_bytes, lines_of, causes_bytes}
 use Rattle.report_html.specs.Groups.{are_grouped, group_in, is_same, end_parts, begin_parts, edge_parts}
 use Rattle.report_html.specs.Pages.{length_parts, packing_parts, content_parts, record_parts, listed_parts, records_after, list_parts, records_opening, heading_parts, end_words, page_with, page_parts}
 use Rattle.report_html.specs.Reads.{counted_parts, number_parts, read_parts}
@@ -455,32 +457,99 @@ of-warnings report told =
     ∙ of-teller_warning badly) ∙ of-bad_headers (count_by has_bad_header report.parts))
     ∙ of-layout (count_by has_log report.parts) (count_by has_bad_part report.parts) (length report.parts)
 
+-- ---- the table of dumps has telling lines
+
+of-newest : (newest : Option RecordShown) → foreign_of (newest_cells newest) ≡ []
+of-newest None = refl
+of-newest (Some r) = by r.name r.time
+  where
+    by : (name : Name) (time : Option Time)
+        → foreign_of (link_parts name ++ Words (codes "</td><td>") ∷ [] ++ time_cell time) ≡ []
+    by (Dump index packed) None = refl
+    by (Dump index packed) (Some time) = refl
+    by Console None = refl
+    by Console (Some time) = refl
+    by Pmsg None = refl
+    by Pmsg (Some time) = refl
+    by Ftrace None = refl
+    by Ftrace (Some time) = refl
+
+of-dumps : (line : Part) (crashes : List CrashShown) → foreign_of (dumps_parts line crashes) ≡ foreign_in line
+of-dumps line crashes =
+    let front : List Part =
+    Words (codes "<tr><td class=\"n\">") ∷ Count (length crashes) ∷ Words (codes " &times;</td><td class=\"wrap\">")
+    ∷ line ∷ Words (codes "</td><td>") ∷ [] in
+    let held : Option RecordShown = newest (map (λ (c : CrashShown). c.dump) crashes) in
+    and-none (front ++ newest_cells held) (Words (codes "</td></tr>\n") ∷ []) (foreign_in line)
+    (and-none front (newest_cells held) (foreign_in line) (append-nil (foreign_in line)) (of-newest held)) refl
+
+of-line : (line : Option (List ℕ)) → foreign_in (line_part line) ≡ line_bytes line
+of-line None = refl
+of-line (Some line) = refl
+
+of-rows : (crashes rows : List CrashShown)
+    → foreign_of (flat_map (cause_parts crashes) rows) ≡ flat_map (λ (c : CrashShown). line_bytes c.line) rows
+of-rows crashes [] = refl
+of-rows crashes (row ∷ rows) =
+    and-of (cause_parts crashes row) (flat_map (cause_parts crashes) rows) (line_bytes row.line)
+    (flat_map (λ (c : CrashShown). line_bytes c.line) rows)
+    (of-dumps (line_part row.line) (filter (has_line_of row) crashes) ∙ of-line row.line) (of-rows crashes rows)
+
+of-others : (others : List CrashShown) → foreign_of (others_parts others) ≡ []
+of-others [] = refl
+of-others (c ∷ cs) = of-dumps (Words (codes "other telling lines")) (c ∷ cs)
+
+of-causes : (crashes : List CrashShown) → foreign_of (table_of crashes) ≡ lines_of crashes
+of-causes crashes = by (nat_lt 1 (length crashes))
+  where
+    rows : List Part
+    rows = flat_map (cause_parts crashes) (rows_of crashes)
+
+    others : List Part
+    others = others_parts (filter (has_no_row (rows_of crashes)) crashes)
+
+    lines : List (List ℕ)
+    lines = flat_map (λ (c : CrashShown). line_bytes c.line) (rows_of crashes)
+
+    by : (t : Bool) → foreign_of (cond t (table_parts crashes) []) ≡ cond t lines []
+    by true =
+        and-none (Words causes_words ∷ [] ++ rows ++ others) (Words (codes "</table></div>\n") ∷ []) lines
+        (and-none (Words causes_words ∷ [] ++ rows) others lines
+        (none-and (Words causes_words ∷ []) rows refl ∙ of-rows crashes (rows_of crashes))
+        (of-others (filter (has_no_row (rows_of crashes)) crashes))) refl
+    by false = refl
+
 -- ---- the page has its title, those parts, and what people read of its records
 
 of-page : (title : List ℕ) (p : Params) (zones : List Zone) (report : ReportHeld) (told : Option DeathTold)
     → foreign_of (page_with title p zones report told)
-    ≡ title ∷ why_bytes told ++ died_bytes report.records told ++ flat_map record_bytes report.records
+    ≡ title ∷ why_bytes told ++ died_bytes report.records told ++ causes_bytes report.records
+    ++ flat_map record_bytes report.records
 of-page title p zones report told =
     let head : List Part = heading_parts title in
     let why : List Part = why_parts told in
     let warned : List Part = warnings_parts report told in
     let died : List Part = died_parts report.records told in
     let opened : List Part = records_opening (length report.records) in
+    let causes : List Part = causes_parts report.records in
     let records : List Part = list_parts zones report told in
     let drawn : List Part = picture zones report in
     let w : List (List ℕ) = why_bytes told in
     let d : List (List ℕ) = died_bytes report.records told in
+    let l : List (List ℕ) = causes_bytes report.records in
     let m : List (List ℕ) = flat_map record_bytes report.records in
     let number : Option ℕ = unfolded (newest report.records) told in
-    and-none (head ++ why ++ warned ++ died ++ opened ++ records ++ drawn ++ parameters_parts p) (Words end_words ∷ [])
-    (title ∷ w ++ d ++ m)
-    (and-none (head ++ why ++ warned ++ died ++ opened ++ records ++ drawn) (parameters_parts p) (title ∷ w ++ d ++ m)
-    (and-none (head ++ why ++ warned ++ died ++ opened ++ records) drawn (title ∷ w ++ d ++ m)
-    (and-of (head ++ why ++ warned ++ died ++ opened) records (title ∷ w ++ d) m
+    and-none (head ++ why ++ warned ++ died ++ opened ++ causes ++ records ++ drawn ++ parameters_parts p)
+    (Words end_words ∷ []) (title ∷ w ++ d ++ l ++ m)
+    (and-none (head ++ why ++ warned ++ died ++ opened ++ causes ++ records ++ drawn) (parameters_parts p)
+    (title ∷ w ++ d ++ l ++ m)
+    (and-none (head ++ why ++ warned ++ died ++ opened ++ causes ++ records) drawn (title ∷ w ++ d ++ l ++ m)
+    (and-of (head ++ why ++ warned ++ died ++ opened ++ causes) records (title ∷ w ++ d ++ l) m
+    (and-of (head ++ why ++ warned ++ died ++ opened) causes (title ∷ w ++ d) l
     (and-none (head ++ why ++ warned ++ died) opened (title ∷ w ++ d)
     (and-of (head ++ why ++ warned) died (title ∷ w) d
     (and-none (head ++ why) warned (title ∷ w) (and-of head why (title ∷ []) w refl (of-why told))
-    (of-warnings report told)) (of-died report.records told)) refl)
+    (of-warnings report told)) (of-died report.records told)) refl) (of-causes (crashes_of report.records)))
     (of-records (saved report.logs) (are_grouped zones) number None report.records)) (of-picture zones report)) refl)
     refl
 
@@ -594,11 +663,80 @@ texts-of [] h = All-nil (λ (bytes : List ℕ). IsText (escaped bytes))
 texts-of (r ∷ rs) h =
     joins-record r (h 0 r refl) (flat_map record_bytes rs) (texts-of rs (λ k q e. h (suc k) q e))
 
+-- ---- telling lines are bytes
+
+abbrev IsLine : Option (List ℕ) → Type 0
+IsLine None = ⊤
+IsLine (Some line) = AreBytes line
+
+abbrev HaveLines : List CrashShown → Type 0
+HaveLines [] = ⊤
+HaveLines (c ∷ cs) = IsLine c.line × HaveLines cs
+
+line-told : (text : List ℕ) (d : Option Death) → AreBytes text
+    → IsLine (option_map (λ (death : Death). part text death.telling.text death.telling.end) d)
+line-told text None h = tt
+line-told text (Some d) h =
+    AreBytes-take (d.telling.end - d.telling.text) (drop d.telling.text text) (AreBytes-drop d.telling.text text h)
+
+lines-first : (r : RecordShown) (rs : List RecordShown) (t : Bool) → AreBytes (readable r)
+    → HaveLines (map crash_of rs) → HaveLines (map crash_of (cond t (r ∷ rs) rs))
+lines-first r rs true h more = (line-told (readable r) (death_of (readable r)) h, more)
+lines-first r rs false h more = more
+
+lines-told : (rs : List RecordShown) → HoldBytes rs → HaveLines (crashes_of rs)
+lines-told [] h = tt
+lines-told (r ∷ rs) h =
+    lines-first r (filter is_dump rs) (is_dump r) (h 0 r refl) (lines-told rs (λ k q e. h (suc k) q e))
+
+lines-on : (cs : List CrashShown) (c : CrashShown) → HaveLines cs → IsLine c.line → HaveLines (cs ++ c ∷ [])
+lines-on [] c all h = (h, tt)
+lines-on (d ∷ ds) c all h = (all.0, lines-on ds c all.1 h)
+
+lines-kept : (cs : List CrashShown) (c : CrashShown) (t : Bool) → HaveLines cs → IsLine c.line
+    → HaveLines (cond t cs (cs ++ c ∷ []))
+lines-kept cs c true all h = all
+lines-kept cs c false all h = lines-on cs c all h
+
+lines-firsts : (cs firsts : List CrashShown) → HaveLines firsts → HaveLines cs
+    → HaveLines (fold with_first firsts cs)
+lines-firsts [] firsts all h = all
+lines-firsts (c ∷ cs) firsts all h =
+    lines-firsts cs (with_first firsts c) (lines-kept firsts c (list_any (has_line_of c) firsts) all h.0) h.1
+
+lines-take : (n : ℕ) (cs : List CrashShown) → HaveLines cs → HaveLines (take n cs)
+lines-take zero cs all = tt
+lines-take (suc n) [] all = tt
+lines-take (suc n) (c ∷ cs) all = (all.0, lines-take n cs all.1)
+
+joins-line : (line : Option (List ℕ)) → IsLine line → Joins (line_bytes line)
+joins-line None h = joins-none
+joins-line (Some line) h = joins-whole line h
+
+joins-lines : (cs : List CrashShown) → HaveLines cs → Joins (flat_map (λ (c : CrashShown). line_bytes c.line) cs)
+joins-lines [] all = joins-none
+joins-lines (c ∷ cs) all =
+    joins-and (line_bytes c.line) (flat_map (λ (d : CrashShown). line_bytes d.line) cs) (joins-line c.line all.0)
+    (joins-lines cs all.1)
+
+joins-causes : (records : List RecordShown) → HoldBytes records → Joins (causes_bytes records)
+joins-causes records h = by (nat_lt 1 (length (crashes_of records)))
+  where
+    rows : List CrashShown
+    rows = rows_of (crashes_of records)
+
+    by : (t : Bool) → Joins (cond t (flat_map (λ (c : CrashShown). line_bytes c.line) rows) [])
+    by true =
+        joins-lines rows
+        (lines-take 15 (firsts_of (crashes_of records)) (lines-firsts (crashes_of records) [] tt (lines-told records h)))
+    by false = joins-none
+
 pub without_markup : (title : List ℕ) (p : Params) (zones : List Zone) (report : ReportHeld) (page : List ℕ)
     → AreBytes title → HoldBytes report.records → AllTellBytes report.records (death_told report.records)
     → page ≡ parts_text (page_parts title p zones report) → IsWithoutMarkup title report.records page
 without_markup title p zones report page bytes hold tells is =
     let records = flat_map record_bytes report.records in
+    let lines = causes_bytes report.records in
     let told = death_told report.records in
     let died = died_bytes report.records told in
     let foreign = of-page title p zones report told in
@@ -607,9 +745,10 @@ without_markup title p zones report page bytes hold tells is =
       page_is = is;
       foreign = foreign;
       texts = subst EscapeToTexts (sym foreign)
-          (onto title (why_bytes told ++ died ++ records) (is-text title bytes)
-          (joins-and (why_bytes told) died (joins-why report.records told tells) (joins-died report.records told tells)
-          records (texts-of report.records hold)));
+          (onto title (why_bytes told ++ died ++ lines ++ records) (is-text title bytes)
+          (joins-and (why_bytes told ++ died) lines
+          (joins-and (why_bytes told) died (joins-why report.records told tells) (joins-died report.records told tells))
+          (joins-causes report.records hold) records (texts-of report.records hold)));
     }
 
 -- ---- what people read of records are bytes

@@ -14,3 +14,5 @@ pub mod LogLines
 pub mod Grouped
 pub mod Earlier
 pub mod Spotted
+pub mod Rows
+pub mod Once

@@ -6,6 +6,7 @@ use Rattle.report_spec.specs.Packed.{RecordShown, readable}
 use Rattle.report_spec.specs.Deaths.{DeathTold, death_told}
 use Rattle.report_html.specs.Before.{told_before}
 use Rattle.report_html.specs.Died.{why_bytes, died_bytes}
+use Rattle.report_html.specs.Causes.{causes_bytes}
 use Rattle.report_html.specs.Listed.{record_bytes}
 use Rattle.report_html.specs.Pieces.{Part, Words, Count, Bytes, Moment, Log, parts_text}
 
@@ -35,12 +36,12 @@ AllTellBytes records None = ⊤
 AllTellBytes records (Some t) = AreBytes (readable t.teller) × TellsBytes (told_before t.teller.name records)
 
 -- a page whose foreign bytes are its title, parts of the texts that tell why the machine died and what was before it,
--- and of each record, in order, parts of the line above it and what people read of it, each escaped to text without
+-- the telling lines of dumps, and of each record, in order, parts of the line above it and what people read of it, each escaped to text without
 -- markup. All else are the page's own words and numbers
 pub record IsWithoutMarkup (title : List ℕ) (records : List RecordShown) (page : List ℕ) : Type 0 where
   pub parts : List Part
   pub page_is : page ≡ parts_text parts
   pub foreign : foreign_of parts
-      ≡ title ∷ why_bytes (death_told records) ++ died_bytes records (death_told records)
+      ≡ title ∷ why_bytes (death_told records) ++ died_bytes records (death_told records) ++ causes_bytes records
       ++ flat_map record_bytes records
   pub texts : All (λ (bytes : List ℕ). IsText (escaped bytes)) (foreign_of parts)

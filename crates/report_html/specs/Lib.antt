@@ -13,5 +13,6 @@ pub mod Reads
 pub mod Parameters
 pub mod Listed
 pub mod Groups
+pub mod Causes
 pub mod Pages
 pub mod Escaping

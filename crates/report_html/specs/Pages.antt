@@ -20,6 +20,7 @@ use Rattle.report_html.specs.Reads.{read_parts}
 use Rattle.report_html.specs.Parameters.{parameters_parts}
 use Rattle.report_html.specs.Listed.{say_parts, fold_parts, is_unfolded, unfolded}
 use Rattle.report_html.specs.Groups.{are_grouped, group_in, edge_parts}
+use Rattle.report_html.specs.Causes.{causes_parts}
 use Rattle.report_html.specs.Regions.{picture}
 
 abbrev pub length_parts : ℕ → List Part
@@ -97,12 +98,12 @@ end_words =
     ++ codes "and two hexadecimal digits.</p>\n"
     ++ codes "</footer>\n</body>\n</html>\n"
 
--- the heading, why the machine died, the records, the picture of the zones, and the parameters
+-- the heading, why the machine died, the dumps by telling line, the records, the picture of the zones, and the parameters
 abbrev pub page_with : List ℕ → Params → List Zone → ReportHeld → Option DeathTold → List Part
 page_with title params zones report told =
     heading_parts title ++ why_parts told ++ warnings_parts report told ++ died_parts report.records told
-    ++ records_opening (length report.records) ++ list_parts zones report told ++ picture zones report
-    ++ parameters_parts params ++ Words end_words ∷ []
+    ++ records_opening (length report.records) ++ causes_parts report.records ++ list_parts zones report told
+    ++ picture zones report ++ parameters_parts params ++ Words end_words ∷ []
 
 abbrev pub page_parts : List ℕ → Params → List Zone → ReportHeld → List Part
 page_parts title params zones report = page_with title params zones report (death_told report.records)

@@ -1,5 +1,7 @@
-// What escaped bytes are, what the lines of a log and the runs of a picture are, and a worked picture.
-ghost use Rattle.std.specs.Prelude.{◌≡◌, ℕ, List, [], ◌∷◌, length, flat_map};
+// What escaped bytes are, what the lines of a log and the runs of a picture are, that each dump is counted once, and a
+// worked picture.
+ghost use Rattle.std.specs.Prelude.{◌≡◌, ℕ, ◌+◌, List, [], ◌∷◌, length, filter, flat_map};
+ghost use Rattle.std.specs.List.{sum_by};
 ghost use Rattle.zone_spec.specs.Parts.{AreBytes};
 ghost use Rattle.report_spec.specs.Escaped.{IsText, escaped};
 ghost use Rattle.report_spec.specs.declared.PartState.{PartState};
@@ -7,6 +9,7 @@ ghost use Rattle.report_spec.specs.declared.PartState.TheVariants.{Read, Bad};
 ghost use Rattle.death_spec.specs.Lines.{lines_from};
 ghost use Rattle.report_html.specs.Logs.{line_bytes};
 ghost use Rattle.report_html.specs.Pictures.{runs};
+ghost use Rattle.report_html.specs.Causes.{CrashShown, has_line_of, rows_of, has_no_row};
 ghost use Rattle.report_html.specs.Covers.{Cover, states_of};
 
 /// Escaped bytes are text: no markup of a page comes from them, whatever they are, and each of them is visible.
@@ -24,6 +27,13 @@ pub fn a_log_is_its_lines()
 pub fn runs_cover_the_blocks()
     ensures cover { (states : List PartState) → Cover 0 (length states) (runs 0 states) }
     ensures states { (states : List PartState) → states_of (runs 0 states) ≡ states }
+{}
+
+/// The rows of the table of dumps, with the last one, count each dump once.
+pub fn each_dump_is_counted_once()
+    ensures { (crashes : List CrashShown)
+        → sum_by (λ (first : CrashShown). length (filter (has_line_of first) crashes)) (rows_of crashes)
+        + length (filter (has_no_row (rows_of crashes)) crashes) ≡ length crashes }
 {}
 
 /// Six blocks, of which two neighbours are clean and two bad, make four runs.

@@ -7,6 +7,7 @@
 
 mod before;
 mod block_runs;
+mod causes;
 mod died;
 mod escaping;
 mod groups;
@@ -26,6 +27,8 @@ mod style;
 mod warnings;
 
 pub use escaping::push_escaped;
-pub use laws::{a_log_is_its_lines, escaped_is_text, six_blocks_make_four_runs};
+pub use laws::{
+    a_log_is_its_lines, each_dump_is_counted_once, escaped_is_text, six_blocks_make_four_runs,
+};
 pub use page::html;
 pub use pieces::{Piece, render};

@@ -9,6 +9,7 @@ ghost use Rattle.report_html.specs.Pages.{length_parts, packing_parts, content_p
 ghost use Rattle.report_spec.specs.Deaths.{death_told};
 ghost use Rattle.report_html.specs.Escaping.{HoldBytes, AllTellBytes, IsWithoutMarkup};
 
+use crate::causes::add_causes;
 use crate::died::{add_died, add_why};
 use crate::groups::{add_edge, are_grouped, group_in};
 use crate::listed::{add_fold, add_say, is_unfolded, unfolded};
@@ -220,6 +221,7 @@ fn all_pieces<'a>(
     add_warnings(&mut pieces, report, told)?;
     add_died(&mut pieces, report.records(), told)?;
     add_records_opening(&mut pieces, report.records().len() as u64)?;
+    add_causes(alloc, &mut pieces, report.records())?;
     add_list(&mut pieces, zones, report, told)?;
     add_picture(alloc, &mut pieces, zones, report)?;
     add_parameters(&mut pieces, params)?;

@@ -24,12 +24,14 @@ nav a{display:inline-block;margin-right:1rem;padding:.125rem 0}\n\
 font-size:clamp(1rem,2.2vw,1.375rem);line-height:1.3;font-weight:700;white-space:pre-wrap;overflow-wrap:anywhere}\n\
 .warn{max-width:none;padding:.375rem .75rem;border:2px dashed var(--fix)}\n\
 table{border-collapse:collapse}\n\
+caption{padding:.25rem 0;text-align:left;color:var(--dim)}\n\
 th,td{padding:.1875rem .625rem .1875rem 0;text-align:left;vertical-align:top;font-weight:400}\n\
 th{color:var(--dim);white-space:nowrap}\n\
 .fact td{white-space:pre-line;overflow-wrap:anywhere}\n\
 .grid th,.grid td{border-top:1px solid var(--line)}\n\
 .grid td{white-space:pre}\n\
 .grid .n{text-align:right}\n\
+.grid .wrap{min-width:12rem;white-space:pre-wrap;overflow-wrap:anywhere}\n\
 .grid .pic{padding:0 0 .5rem;border:0}\n\
 .scroll{overflow-x:auto}\n\
 details>.scroll{margin-bottom:1rem}\n\
@@ -69,6 +71,9 @@ white-space:pre-wrap;overflow-wrap:anywhere;tab-size:8}\n\
 .log .l7{border-left:.3125rem dotted var(--l7);color:var(--l7)}\n\
 footer{margin-top:2rem;border-top:1px solid var(--line);color:var(--dim)}\n\
 :target{outline:2px solid var(--link);outline-offset:2px}\n\
+@media(max-width:48rem){.stack tr{display:block;border-top:1px solid var(--line)}.stack th{display:none}\n\
+.grid.stack td{display:inline;border:0;white-space:pre-wrap}.stack td:nth-child(3)::before{content:\"\\A\"}\n\
+.grid .wrap{min-width:0}}\n\
 @media(max-width:34rem){.slim{display:none}text{font-size:.625rem}.grid th{font-size:.625rem}\n\
 .fact tr,.fact th,.fact td{display:block}.fact th{padding:.375rem 0 0}.fact td{padding-top:0}\n\
 .grid th,.grid td{padding-right:.25rem}.grid td{font-size:.6875rem}.say{font-size:.75rem}\n\

@@ -360,7 +360,7 @@ fn groups_of_dumps(rt: HostRuntime) -> Result<(), Fail> {
     )?;
     let text = str::from_utf8(page.as_slice())?;
     for shown in [
-        "</p>\n<details class=\"group\">\n<summary><b>Dump zones from 0</b></summary>
+        "</table></div>\n<details class=\"group\">\n<summary><b>Dump zones from 0</b></summary>
 <pre class=\"say\">no telling line</pre>\n<details>\n<summary><b>dmesg-ramoops-0</b>",
         "a\n</pre>\n</details>
 <pre class=\"say\">no telling line</pre>\n<details>\n<summary><b>dmesg-ramoops-31</b>",
