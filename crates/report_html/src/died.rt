@@ -70,10 +70,7 @@ fn add_said<'a>(pieces: &mut Vec<Piece<'a>>, text: &'a [u8], death: Death) -> Re
 }
 
 /// Adds what a record tells, or that none tells.
-pub fn add_why<'a>(
-    pieces: &mut Vec<Piece<'a>>,
-    told: Option<Told<'a>>,
-) -> Result<(), AllocError>
+pub fn add_why<'a>(pieces: &mut Vec<Piece<'a>>, told: Option<Told<'a>>) -> Result<(), AllocError>
     ensures { OnOk result (parts pieces.new.items ≡ parts pieces.old.items ++ why_parts (told_in told.entry)) }
 {
     match told {
@@ -142,7 +139,9 @@ fn add_when(pieces: &mut Vec<Piece<'_>>, time: Option<Time>) -> Result<(), Alloc
         ),
         None => add(
             pieces,
-            &[Piece::Own("<table class=\"fact\">\n<tr><th scope=\"row\">When</th><td>no date</td></tr>\n")],
+            &[Piece::Own(
+                "<table class=\"fact\">\n<tr><th scope=\"row\">When</th><td>no date</td></tr>\n",
+            )],
         ),
     }
 }

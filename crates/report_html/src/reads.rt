@@ -15,11 +15,7 @@ fn add_counted(pieces: &mut Vec<Piece<'_>>, words: &'static str, n: u64) -> Resu
 {
     add(
         pieces,
-        &[
-            Piece::Own(words),
-            Piece::Number(n),
-            Piece::Own("</span>"),
-        ],
+        &[Piece::Own(words), Piece::Number(n), Piece::Own("</span>")],
     )
 }
 

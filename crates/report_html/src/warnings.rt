@@ -33,11 +33,7 @@ fn add_warning(pieces: &mut Vec<Piece<'_>>, said: &'static str) -> Result<(), Al
 {
     add(
         pieces,
-        &[
-            Piece::Own(OPENING),
-            Piece::Own(said),
-            Piece::Own(CLOSING),
-        ],
+        &[Piece::Own(OPENING), Piece::Own(said), Piece::Own(CLOSING)],
     )
 }
 

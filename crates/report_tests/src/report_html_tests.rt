@@ -511,7 +511,8 @@ A log that is lost there can be newer than what stands below.</p>
 The place or the parameters can be other than the kernel's.</p>
 <table class=\"fact\">\n";
     assert!(rt; str::from_utf8(page.as_slice())?.contains(warned));
-    let read = "<b>console-ramoops-0</b><span>1048 bytes</span><span class=\"bad\">bad 2</span></summary>\n";
+    let read =
+        "<b>console-ramoops-0</b><span>1048 bytes</span><span class=\"bad\">bad 2</span></summary>\n";
     assert!(rt; str::from_utf8(page.as_slice())?.contains(read));
     Ok(())
 }
