@@ -17,8 +17,8 @@ pub struct Part<M: Load> {
 }
 
 impl<M: Load + Drop> Part<M> {
-    /// The part of `size` bytes from `at` on, of the `has` bytes of `inner`; none if they end before it does. Nothing is
-    /// asked of `inner`.
+    /// The part of `size` bytes from `at` on, of the `has` bytes of `inner`; none if they end before it does. Nothing
+    /// is asked of `inner`.
     pub fn new(inner: M, has: u64, at: u64, size: u64) -> Option<Part<M>>
         requires { IfSome (M.holds inner) (λ bs. has ≡ length bs) }
         ensures within { is_some result ≡ nat_le (at + size) has }

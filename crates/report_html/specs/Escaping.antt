@@ -36,8 +36,8 @@ AllTellBytes records None = ⊤
 AllTellBytes records (Some t) = AreBytes (readable t.teller) × TellsBytes (told_before t.teller.name records)
 
 -- a page whose foreign bytes are its title, parts of the texts that tell why the machine died and what was before it,
--- the telling lines of dumps, and of each record, in order, parts of the line above it and what people read of it, each escaped to text without
--- markup. All else are the page's own words and numbers
+-- the telling lines of dumps, and of each record, in order, parts of the line above it and what people read of it,
+-- each escaped to text without markup. All else are the page's own words and numbers
 pub record IsWithoutMarkup (title : List ℕ) (records : List RecordShown) (page : List ℕ) : Type 0 where
   pub parts : List Part
   pub page_is : page ≡ parts_text parts

@@ -98,7 +98,8 @@ end_words =
     ++ codes "and two hexadecimal digits.</p>\n"
     ++ codes "</footer>\n</body>\n</html>\n"
 
--- the heading, why the machine died, the dumps by telling line, the records, the picture of the zones, and the parameters
+-- the heading, why the machine died, the dumps by telling line, the records, the picture of the zones, and the
+-- parameters
 abbrev pub page_with : List ℕ → Params → List Zone → ReportHeld → Option DeathTold → List Part
 page_with title params zones report told =
     heading_parts title ++ why_parts told ++ warnings_parts report told ++ died_parts report.records told

@@ -198,7 +198,7 @@ fn add_layout_warning(
     }
 }
 
-/// Adds the warnings by how many headers are bad, how many zones have a log, how many have bad parts, and how many zones
+/// Adds the warnings by how many headers are bad, how many zones have a log, how many have bad parts, and how many
 /// there are.
 fn add_counted(
     pieces: &mut Vec<Piece<'_>>,
