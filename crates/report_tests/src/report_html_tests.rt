@@ -293,6 +293,26 @@ fn telling_lines_of_the_list(rt: HostRuntime) -> Result<(), Fail> {
     Ok(())
 }
 
+// Two dumps with one line share a row, and one without a line has a row of its own.
+#[test]
+fn dumps_by_telling_line(rt: HostRuntime) -> Result<(), Fail> {
+    let table = "levels.</p>
+<div class=\"scroll\" tabindex=\"0\" role=\"region\" aria-label=\"Dumps by telling line\">\
+<table class=\"grid stack\">
+<caption>Dumps by telling line</caption>
+<tr><th scope=\"col\" class=\"n\">Dumps</th><th scope=\"col\">Telling line</th>\
+<th scope=\"col\">Newest of them</th><th scope=\"col\">Its time</th></tr>
+<tr><td class=\"n\">2 &times;</td><td class=\"wrap\">Kernel panic - not syncing: &lt;b&gt;\\xff</td>\
+<td><a href=\"#dmesg-ramoops-0\">dmesg-ramoops-0</a></td><td>2025-11-27 00:04:18.836908 UTC</td></tr>
+<tr><td class=\"n\">1 &times;</td><td class=\"wrap\">no telling line</td>\
+<td><a href=\"#dmesg-ramoops-1\">dmesg-ramoops-1</a></td><td>2026-11-26 23:44:15.000000 UTC</td></tr>
+</table></div>
+<pre class=\"say\">";
+    assert!(rt; shows(rt, [NAMED, SILENT, NAMED, NONE], table)?);
+    assert!(rt; !shows(rt, [NAMED, NONE, NONE, CONSOLE], "Dumps by telling line")?);
+    Ok(())
+}
+
 // The newest dump is unfolded if it does not tell, and no other record.
 #[test]
 fn unfolded_dump(rt: HostRuntime) -> Result<(), Fail> {
@@ -385,6 +405,41 @@ fn groups_of_dumps(rt: HostRuntime) -> Result<(), Fail> {
     // a group at the end of the list
     let page = page_of_many(rt.alloc(), &[(33, b"====1.0-D\na\n")])?;
     let last = "a\n</pre>\n</details>\n</details>\n<h2 id=\"region\">";
+    assert!(rt; str::from_utf8(page.as_slice())?.contains(last));
+    Ok(())
+}
+
+// Fifteen lines have rows; the last row counts the other dumps.
+#[test]
+fn more_lines_than_rows(rt: HostRuntime) -> Result<(), Fail> {
+    let page = page_of_many(
+        rt.alloc(),
+        &[
+            (0, b"====1.0-D\nKernel panic - not syncing: a\n"),
+            (1, b"====2.0-D\nKernel panic - not syncing: b\n"),
+            (2, b"====3.0-D\nKernel panic - not syncing: c\n"),
+            (3, b"====4.0-D\nKernel panic - not syncing: d\n"),
+            (4, b"====5.0-D\nKernel panic - not syncing: e\n"),
+            (5, b"====6.0-D\nKernel panic - not syncing: f\n"),
+            (6, b"====7.0-D\nKernel panic - not syncing: g\n"),
+            (7, b"====8.0-D\nKernel panic - not syncing: h\n"),
+            (8, b"====9.0-D\nKernel panic - not syncing: i\n"),
+            (9, b"====10.0-D\nKernel panic - not syncing: j\n"),
+            (10, b"====11.0-D\nKernel panic - not syncing: k\n"),
+            (11, b"====12.0-D\nKernel panic - not syncing: l\n"),
+            (12, b"====13.0-D\nKernel panic - not syncing: m\n"),
+            (13, b"====14.0-D\nKernel panic - not syncing: n\n"),
+            (14, b"====15.0-D\nKernel panic - not syncing: o\n"),
+            (15, b"====16.0-D\nKernel panic - not syncing: p\n"),
+            (16, b"====17.0-D\nKernel panic - not syncing: q\n"),
+        ],
+    )?;
+    let last =
+        "<tr><td class=\"n\">1 &times;</td><td class=\"wrap\">Kernel panic - not syncing: o</td>\
+<td><a href=\"#dmesg-ramoops-14\">dmesg-ramoops-14</a></td><td>1970-01-01 00:00:15.000000 UTC</td></tr>
+<tr><td class=\"n\">2 &times;</td><td class=\"wrap\">other telling lines</td>\
+<td><a href=\"#dmesg-ramoops-16\">dmesg-ramoops-16</a></td><td>1970-01-01 00:00:17.000000 UTC</td></tr>
+</table></div>\n";
     assert!(rt; str::from_utf8(page.as_slice())?.contains(last));
     Ok(())
 }
