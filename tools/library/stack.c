@@ -2,7 +2,9 @@
  * How much stack each call takes: it runs in a thread whose stack was painted before, and what is still painted
  * afterwards was not used. Prints the bytes of each call. Fails if a call on a store in place takes more than
  * OOPSBOX_STACK_PLACE bytes, one of the two calls on a block more than OOPSBOX_STACK_CODES, or another call more than
- * OOPSBOX_STACK (include/oopsbox.h).
+ * OOPSBOX_STACK (include/oopsbox.h). Reports are also made of regions, and of one by a device tree.
+ *
+ *     stack TREE REGION ..
  */
 #include "store.h"
 #include <pthread.h>
@@ -79,14 +81,44 @@ static void *runs(void *unused)
 	return unused;
 }
 
-static void *reports(void *unused)
+enum { FILES = 8, FILE_MOST = 1 << 16 };
+
+static struct {
+	uint8_t bytes[FILE_MOST];
+	size_t size;
+} files[FILES]; /* a device tree, and regions that it may fit */
+static int file_count;
+
+static void read_files(int count, char **names)
+{
+	check(count >= 2 && count <= FILES, "reading a tree and a region");
+	for (; file_count < count; file_count++) {
+		FILE *file = fopen(names[file_count], "rb");
+		check(file != NULL, names[file_count]);
+		files[file_count].size = fread(files[file_count].bytes, 1, FILE_MOST, file);
+		check(fclose(file) == 0 && files[file_count].size > 0, names[file_count]);
+	}
+}
+
+static uint32_t report(const char *words, size_t tree, const uint8_t *bytes, size_t size, uint32_t format)
 {
 	struct oopsbox_report_answer told;
-	for (uint32_t format = OOPSBOX_TEXT; format <= OOPSBOX_HTML; format++)
-		check(oopsbox_report((const uint8_t *)"image", 5, (const uint8_t *)params, strlen(params), NULL, 0, image, MEM,
-				     format, text, TEXT, &told) == OOPSBOX_DONE, "report");
-	check(oopsbox_report(NULL, 0, NULL, 0, NULL, 0, image, 65536, OOPSBOX_TEXT, text, TEXT, &told) == OOPSBOX_UNLAID
-	      || told.hint > 0, "search");
+	return oopsbox_report((const uint8_t *)"image", 5, (const uint8_t *)words, strlen(words), files[0].bytes, tree, bytes,
+			      size, format, text, TEXT, &told);
+}
+
+/* Each format of a full image with 52 wrong bytes in each block, and of regions whose layout is looked for. */
+static void *reports(void *unused)
+{
+	check(run("make 7", "") == OOPSBOX_DONE, "make");
+	for (size_t i = 0; i < MEM; i += 5)
+		image[i] ^= 0x5a;
+	for (uint32_t format = OOPSBOX_TEXT; format <= OOPSBOX_HTML; format++) {
+		check(report(params, 0, image, MEM, format) == OOPSBOX_DONE, "report");
+		for (int i = 1; i < file_count; i++)
+			check(report("", 0, files[i].bytes, files[i].size, format) == OOPSBOX_DONE, "search");
+		check(report("", files[0].size, files[1].bytes, files[1].size, format) == OOPSBOX_DONE, "tree");
+	}
 	return unused;
 }
 
@@ -287,7 +319,7 @@ static size_t taken(void *(*work)(void *), size_t size)
 	return bytes;
 }
 
-int main(void)
+int main(int argc, char **argv)
 {
 	static const struct {
 		const char *name;
@@ -303,6 +335,7 @@ int main(void)
 	image = calloc(1, MEM);
 	text = malloc(TEXT);
 	check(image != NULL && text != NULL, "memory");
+	read_files(argc - 1, argv + 1);
 	failed = places_fail();
 	check(run("make 7", "") == OOPSBOX_DONE, "make");
 	for (size_t i = 0; i < sizeof(calls) / sizeof(calls[0]); i++) {
