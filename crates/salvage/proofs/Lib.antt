@@ -8,4 +8,3 @@ pub mod Gathered
 pub mod Listing
 pub mod Asked
 pub mod Sieving
-pub mod Rows

@@ -591,17 +591,17 @@ module _ (ks : List (Option ℕ)) (r : ℕ) (b : Block) (is : IsBlock ks r b) (c
 -- the sum of the places of a block, by their weights
 pub block_sum : (ks : List (Option ℕ)) (r : ℕ) (b : Block) (is : IsBlock ks r b) (word base : List ℕ)
     → length word ≡ 12 + r → length base ≡ length word → (i : ℕ) → i < 7
-    → (gs : List Weight) → gs ≡ take (b.to - b.from) is.weights
+    → (gs : List Weight) → gs ≡ take (b.to - b.from) b.weights
     → weighed (λ (g : Weight). get_or g.counts i 0) gs (slice_range word b.from b.to) (slice_range base b.from b.to)
     ≡ between (times_power is.others i) word base b.from b.to
 block_sum ks r b is word base l e i small gs eg =
     ap (λ (xs : List Weight). weighed (λ (g : Weight). get_or g.counts i 0) xs (slice_range word b.from b.to)
     (slice_range base b.from b.to)) eg
-    ∙ weighed_is (λ (g : Weight). get_or g.counts i 0) (times_power is.others i) (b.to - b.from) is.weights
+    ∙ weighed_is (λ (g : Weight). get_or g.counts i 0) (times_power is.others i) (b.to - b.from) b.weights
     (drop b.from word) (drop b.from base)
     (omega (arith, is.len, is.short)) (omega (arith, length-drop b.from word, l, is.within, is.some))
     (length-drop b.from word ∙ ap (λ (k : ℕ). k - b.from) (sym e) ∙ sym (length-drop b.from base))
-    (λ k m. is.each k (omega (arith, m)) i small
+    (λ k m. is.weights k (omega (arith, m)) i small
     ∙ ap (times_power is.others i) (omega (arith, length-drop b.from word, l)))
     ∙ ap₂ (λ (u v : List ℕ). gf_add (sum_of (times_power is.others i) (drop b.from word) (drop b.from base))
     (sum_of (times_power is.others i) u v)) (on word) (on base)

@@ -5,12 +5,11 @@
 // symbols of a codeword add up to 0. So the weighted sum of a word tells of the errors in the block alone. The sums with
 // one, two and more powers of the place's locator as a further weight follow a recurrence that has a term for each
 // error. So 2e - 1 sums tell whether there are fewer than e errors.
-ghost use Rattle.std.specs.Prelude.{◌≡◌, ◌+◌, ◌*◌, ◌-◌, ◌≤◌, ◌<◌, ◌↔◌, ℕ, slice_index, ◌^◌, bit_xor, ◌++◌, length, replicate, drop, slice_index_or, List, true, false, IsTrue, Option, None, All, IfSome};
+ghost use Rattle.std.specs.Prelude.{◌≡◌, ◌+◌, ◌*◌, ◌-◌, ◌≤◌, ◌<◌, ◌↔◌, ℕ, slice_index, ◌++◌, length, replicate, drop, slice_index_or, List, true, false, IsTrue, Option, None, All, IfSome};
 ghost use Rattle.code_spec.specs.Field.{gf_add, gf_mul, gf_pow};
 ghost use Rattle.code_spec.specs.Code.{distance};
-ghost use Rattle.rs_encode.specs.Lanes.{IsMultiple, digit};
 ghost use Rattle.salvage_laws.specs.Known.{put_in};
-ghost use Rattle.salvage.specs.Sieves.{AreFactors, AreRows, factor_of, IsBlock, IsKnownWord, IsOutside, IsWeight, dot, none, product, sum_at};
+ghost use Rattle.salvage.specs.Sieves.{AreFactors, IsBlock, IsKnownWord, IsOutside, IsWeight, dot, none, product, sum_at};
 
 use crate::header::amend;
 use arrayvec::ArrayVec;
@@ -24,14 +23,13 @@ pub struct Weight {
     pub counts: [u8; 7],
 }
 
-/// The places from `from` up to `to`, and for each the multiples of its weight by the halves of a byte. Their sums tell
-/// of `least` errors.
+/// The places from `from` up to `to`, and their weights. Their sums tell of `least` errors.
 #[derive(Clone, Copy, Default)]
 pub struct Block {
     pub from: usize,
     pub to: usize,
     pub least: usize,
-    pub rows: [u128; 512],
+    pub weights: [Weight; 16],
 }
 
 /// Blocks of the places of a header's word, and a codeword with the known bytes.
@@ -40,7 +38,7 @@ pub struct Sieve {
     known: [Option<u8>; 12],
     parity: usize,
     base: ArrayVec<u8, 139>,
-    blocks: ArrayVec<Block, 8>,
+    blocks: ArrayVec<Block, 16>,
 }
 
 impl Model for Sieve {
@@ -131,48 +129,6 @@ fn weights_of(others: &[u8], power: usize, count: usize) -> [Weight; 16]
     weights
 }
 
-/// The count at `k`, or 0 past the end.
-fn count_or_zero(counts: &[u8], k: usize) -> u8
-    ensures { result ≡ slice_index counts.now k }
-{
-    if k < counts.len() { counts[k] } else { 0 }
-}
-
-/// The lane of `factor` times the counts.
-fn lane_of(factor: u8, counts: &[u8]) -> u128
-    ensures { IsMultiple factor counts.now result }
-{
-    let mut lane = 0u128;
-    for k in 0..16usize {
-        lane = (lane << 8u32) ^ u128::from(mul(factor, count_or_zero(counts, k)));
-    }
-    lane
-}
-
-/// The low or high half of a byte whose multiple stands in a row.
-fn factor_of(row: usize) -> u8
-    ensures { result ≡ factor_of row }
-{
-    let half = row % 32;
-    if half < 16 {
-        half as u8
-    } else {
-        ((half - 16) * 16) as u8
-    }
-}
-
-/// The rows for the places of these weights.
-fn rows_of(weights: &[Weight]) -> [u128; 512]
-    requires { length weights.now ≡ 16 }
-    ensures { AreRows weights.now result }
-{
-    let mut rows = [0u128; 512];
-    for i in 0..512usize {
-        rows[i] = lane_of(factor_of(i), &weights[i / 32].counts);
-    }
-    rows
-}
-
 /// The block of these places that tells of so many errors, where there is parity for its sums.
 fn block_of(
     known: &[Option<u8>],
@@ -197,7 +153,7 @@ fn block_of(
         from,
         to,
         least,
-        rows: rows_of(&weights),
+        weights,
     })
 }
 
@@ -230,14 +186,14 @@ fn least_from(from: usize, places: usize, most: usize, spare: usize) -> usize
 }
 
 /// The blocks of a word, from place 4 on: each tells of so many errors, but the last one of what its places allow.
-fn blocks_of(known: &[Option<u8>; 12], parity: usize, most: usize) -> ArrayVec<Block, 8>
+fn blocks_of(known: &[Option<u8>; 12], parity: usize, most: usize) -> ArrayVec<Block, 16>
     requires parity { parity ≤ 127 }
     requires most { most ≤ 4 }
     ensures { All (IsBlock known.now parity) result.items }
 {
-    let mut blocks: ArrayVec<Block, 8> = ArrayVec::new();
+    let mut blocks: ArrayVec<Block, 16> = ArrayVec::new();
     let mut from = 4;
-    for i in 0..8usize {
+    for i in 0..16usize {
         let least = least_from(from, 12 + parity, most, spare(known));
         let to = end_of(from, least, spare(known));
         if let Some(block) = block_of(known, parity, from, to, least) {
@@ -299,27 +255,27 @@ fn codeword_of(
     joined(header, symbols)
 }
 
-/// The lane of a symbol's products with the counts of place `k`.
-fn row_for(rows: &[u128], k: usize, symbol: u8) -> u128
-    requires { 32 * k + 32 ≤ length rows.now }
-    ensures { (gs : List Weight) → k < length gs → AreRows gs rows.now
-        → IsMultiple symbol (slice_index_or gs k none).counts result }
+/// The sums with one symbol more.
+fn counted(sums: Weight, weight: Weight, symbol: u8) -> Weight
+    ensures { (i : ℕ) → i < 7 → slice_index result.counts i
+        ≡ gf_add (slice_index sums.counts i) (gf_mul (slice_index weight.counts i) symbol) }
 {
-    let low = rows[32 * k + (symbol % 16) as usize];
-    let high = rows[32 * k + 16 + (symbol / 16) as usize];
-    low ^ high
+    let mut counts = [0u8; 7];
+    for i in 0..7usize {
+        counts[i] = add(sums.counts[i], mul(weight.counts[i], symbol));
+    }
+    Weight { counts }
 }
 
-/// The sums of the symbols' sums, by the rows, in one lane.
-fn sums_of(rows: &[u128], word: &[u8], base: &[u8]) -> u128
-    requires word { 32 * length word.now ≤ length rows.now }
-    requires base { length base.now ≡ length word.now }
-    ensures { (gs : List Weight) → length gs ≡ length word.now → AreRows gs rows.now → (i p : ℕ) → i + p ≡ 15
-        → digit result p ≡ sum_at i gs word.now base.now }
+/// The sums of the symbols' sums, by the weights.
+fn sums_of(weights: &[Weight], word: &[u8], base: &[u8]) -> Weight
+    requires word { length word.now ≡ length weights.now }
+    requires base { length base.now ≡ length weights.now }
+    ensures { (i : ℕ) → i < 7 → slice_index result.counts i ≡ sum_at i weights.now word.now base.now }
 {
-    let mut sums = 0u128;
-    for k in 0..word.len() {
-        sums ^= row_for(rows, k, add(word[k], base[k]));
+    let mut sums = nothing();
+    for k in 0..weights.len() {
+        sums = counted(sums, weights[k], add(word[k], base[k]));
     }
     sums
 }
@@ -362,7 +318,7 @@ fn three(a: (u8, u8), b: (u8, u8), c: (u8, u8)) -> u8 {
 }
 
 /// The determinants of the sums' first three rows of four, each without one column.
-fn four_factors(s: &[u8; 16]) -> [u8; 4]
+fn four_factors(s: &[u8; 7]) -> [u8; 4]
     ensures { length result ≡ 4 }
 {
     let front = cross(s[0], s[1], s[1], s[2]);
@@ -380,7 +336,7 @@ fn four_factors(s: &[u8; 16]) -> [u8; 4]
 }
 
 /// Factors for sums of so many errors at least. Which they are is no matter of proof: they are tested.
-fn factors_of(s: &[u8; 16], count: usize) -> [u8; 4]
+fn factors_of(s: &[u8; 7], count: usize) -> [u8; 4]
     ensures { length result ≡ 4 }
 {
     if count == 4 {
@@ -413,14 +369,14 @@ fn errs(block: &Block, word: &[u8], base: &[u8]) -> bool
         → block.now.least + distance (drop block.now.to word.now) (drop block.now.to c)
         ≤ distance (drop block.now.from word.now) (drop block.now.from c) }
 {
+    let count = block.to - block.from;
     let sums = sums_of(
-        &block.rows,
+        &block.weights[..count],
         &word[block.from..block.to],
         &base[block.from..block.to],
     );
-    let sums = sums.to_be_bytes();
-    let factors = factors_of(&sums, block.least);
-    are_factors(&factors[..block.least], &sums)
+    let factors = factors_of(&sums.counts, block.least);
+    are_factors(&factors[..block.least], &sums.counts)
 }
 
 /// Of how many errors a block tells, such that the blocks tell of all that no known byte of random bytes leaves.

@@ -28,7 +28,7 @@ loop-block-preserved c = record {
     arith,
     c.loop-block.invariant.small,
     few_told c.self.inside.known c.self.inside.parity c.loop-block.block-index c.self.inside.blocks.items
-        c.as_slice-block-items.result.now (record { from = 0; to = 0; least = 0; rows = [] })
+        c.as_slice-block-items.result.now (record { from = 0; to = 0; least = 0; weights = [] })
         c.as_slice-block-items.ensures.value c.self.invariant.each c.loop-block-test.true,
   );
 }
