@@ -19,3 +19,4 @@ pub mod DumpEnds
 pub mod RingTexts
 pub mod MoveReads
 pub mod Due
+pub mod Asked

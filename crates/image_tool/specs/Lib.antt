@@ -5,5 +5,6 @@ pub mod Dumps
 pub mod Moves
 pub mod Headline
 pub mod Due
+pub mod Asked
 pub mod Runs
 pub mod Shares

@@ -7,6 +7,7 @@ use Rattle.command_spec.specs.PlanAnswers.{Untouched, PlanWrites, ToolAnswers}
 use Rattle.command_spec.specs.Complete.{Completes}
 use Rattle.image_tool.specs.Headline.{RunReads}
 use Rattle.image_tool.specs.Due.{LastLine}
+use Rattle.image_tool.specs.Asked.{ImageFails}
 
 -- from one moment of the outside to another, with this status
 pub record Runs (words : List Text) (a b : Outside) (status : ℕ) : Type 0 where
@@ -14,6 +15,8 @@ pub record Runs (words : List Text) (a b : Outside) (status : ℕ) : Type 0 wher
   pub untouched : Untouched (plan_of words) a b status
   -- when it is asked to be written: never by a command that only reads
   pub writes : PlanWrites (plan_of words) a b status
+  -- a script or a move whose image fails behind its text has asked for a write
+  pub image_fails : ImageFails (plan_of words) a b status
   -- a fault that decides nothing is none
   pub faults : NoOtherFault a b status
   -- the status, the text and the image that are wanted, or why not

@@ -10,6 +10,7 @@ ghost use Rattle.tool_frame.specs.Words.{move_for};
 ghost use Rattle.script_spec.specs.Playing.{KeptUnless};
 ghost use Rattle.tool_frame.specs.Ended.{CausedAt, KeptAt, ImageEnds};
 ghost use Rattle.image_tool.specs.Due.{PutsFirst};
+ghost use Rattle.image_tool.specs.Asked.{FailsAt};
 
 use crate::records::read_logs;
 use outside::{Failed, Sink, Store};
@@ -47,6 +48,11 @@ pub fn move_image<M: Store, O: Sink>(
     ensures out_count { KeptUnless Stop.SinkFault result (O.faults out.old) (O.faults out.new) }
     ensures ended { (left : Option (List ℕ)) (f : ℕ) → let plan = move_for from to in
         ImageEnds (statuses (OfMove plan)) (wanted_move plan)
+        (outside left f (M.holds image.old) (M.faults image.old) (M.writes image.old)
+        (O.given out.old) (O.faults out.old))
+        (outside left f (M.holds image.new) (M.faults image.new) (M.writes image.new)
+        (O.given out.new) (O.faults out.new)) result }
+    ensures asked { (left : Option (List ℕ)) (f : ℕ) → FailsAt
         (outside left f (M.holds image.old) (M.faults image.old) (M.writes image.old)
         (O.given out.old) (O.faults out.old))
         (outside left f (M.holds image.new) (M.faults image.new) (M.writes image.new)

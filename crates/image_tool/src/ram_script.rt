@@ -5,6 +5,7 @@ ghost use Rattle.command_spec.specs.Answers.{outside};
 ghost use Rattle.tool_frame.specs.Words.{plan_for};
 ghost use Rattle.tool_frame.specs.Ended.{WorkDone};
 ghost use Rattle.image_tool.specs.Due.{PutsLines};
+ghost use Rattle.image_tool.specs.Asked.{FailsAt};
 
 use crate::stores::fresh_store;
 use outside::{Failed, Sink, Source, Store};
@@ -26,6 +27,11 @@ pub fn run_script<S: Source, M: Store, O: Sink>(
         let after = outside (S.left script.new) (S.faults script.new) (M.holds image.new)
         (M.faults image.new) (M.writes image.new) (O.given out.new) (O.faults out.new) in
         WorkDone (Ok (OfRam (plan_for Run layout))) before after result }
+    ensures asked { let before = outside (S.left script.old) (S.faults script.old) (M.holds image.old)
+        (M.faults image.old) (M.writes image.old) (O.given out.old) (O.faults out.old) in
+        let after = outside (S.left script.new) (S.faults script.new) (M.holds image.new)
+        (M.faults image.new) (M.writes image.new) (O.given out.new) (O.faults out.new) in
+        FailsAt before after result }
     ensures put { PutsLines (O.given out.old) (O.given out.new) result }
 {
     let bytes = match load(alloc, image, layout.mem()) {

@@ -7,6 +7,7 @@ ghost use Rattle.tool_frame.specs.Words.{plan_for, ram_command_seen, texts};
 ghost use Rattle.tool_frame.specs.Ended.{WorkDone};
 ghost use Rattle.image_tool.specs.Runs.{Runs};
 ghost use Rattle.image_tool.specs.Due.{PutsBefore, PutsByPlan};
+ghost use Rattle.image_tool.specs.Asked.{PlanFails};
 
 use crate::blk_script::run_blk_script;
 use crate::images::{blank, show_layout};
@@ -36,6 +37,11 @@ fn do_command<S: Source, M: Store, O: Sink>(
         let after = outside (S.left script.new) (S.faults script.new) (M.holds image.new)
         (M.faults image.new) (M.writes image.new) (O.given out.new) (O.faults out.new) in
         WorkDone (Ok (OfRam (plan_for (ram_command_seen command.entry) layout))) before after result }
+    ensures asked { let before = outside (S.left script.old) (S.faults script.old) (M.holds image.old)
+        (M.faults image.old) (M.writes image.old) (O.given out.old) (O.faults out.old) in
+        let after = outside (S.left script.new) (S.faults script.new) (M.holds image.new)
+        (M.faults image.new) (M.writes image.new) (O.given out.new) (O.faults out.new) in
+        PlanFails (Ok (OfRam (plan_for (ram_command_seen command.entry) layout))) before after result }
     ensures put { PutsBefore (ram_command_seen command.entry) (O.given out.old) (O.given out.new) result }
 {
     match command {
@@ -64,6 +70,11 @@ fn do_work<S: Source, M: Store, O: Sink>(
         let after = outside (S.left script.new) (S.faults script.new) (M.holds image.new)
         (M.faults image.new) (M.writes image.new) (O.given out.new) (O.faults out.new) in
         WorkDone (plan_of (texts words.now)) before after result }
+    ensures asked { let before = outside (S.left script.old) (S.faults script.old) (M.holds image.old)
+        (M.faults image.old) (M.writes image.old) (O.given out.old) (O.faults out.old) in
+        let after = outside (S.left script.new) (S.faults script.new) (M.holds image.new)
+        (M.faults image.new) (M.writes image.new) (O.given out.new) (O.faults out.new) in
+        PlanFails (plan_of (texts words.now)) before after result }
     ensures put { PutsByPlan (plan_of (texts words.now)) (O.given out.old) (O.given out.new) result }
 {
     match read_plan(alloc, words) {

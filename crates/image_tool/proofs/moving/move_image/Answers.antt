@@ -1,11 +1,12 @@
 -- `move_image` ends as wanted at each return: no memory, text not printed, image written whole, or
 -- a front of it. `MoveEnds` has the cases.
-use Rattle.std.proofs.Common.{[], ◌∙◌, ℕ, ap₂, refl, Err}
+use Rattle.std.proofs.Common.{[], ◌∙◌, ℕ, ap₂, refl, Err, inr}
 use Rattle.ramoops_layout.specs.Laid.{zones_of}
 use Rattle.prz_read.specs.Saving.{saved}
 use Rattle.script_spec.specs.Texts.{move_text}
 use Rattle.tool_frame.specs.Words.{move_for}
 use Rattle.image_tool.proofs.MoveEnds.{move_memory, move_unput, move_saved, move_unsaved}
+use Rattle.image_tool.proofs.Asked.{fails_first}
 use Rattle.image_tool.proofs.Due.{first_put, text_put}
 use Rattle.image_tool.proofs.moving.move_image.Goals as goal
 
@@ -44,3 +45,10 @@ returns-in-Err-clause-put g c = first_put (Err c.in-Err.stop) _ _ refl
 
 pub returns-clause-put : goal.returns-clause-put
 returns-clause-put g c = text_put _ _ _ c.in-Ok-put.ensures.bytes
+
+pub returns-in-Err-clause-asked : goal.returns-in-Err-clause-asked
+returns-in-Err-clause-asked g c = λ left f. fails_first _ _ (Err c.in-Err.stop)
+    (record { script = record { left = refl; source = refl }; given = refl; writes = c.in-Err.ensures.unwritten })
+
+pub returns-clause-asked : goal.returns-clause-asked
+returns-clause-asked g c = λ left f. inr (rw c.in-Ok.ensures.unwritten at c.in-Err-save.ensures.asked)

@@ -1,5 +1,5 @@
 -- How each stage of a script on an image ends it
-use Rattle.std.proofs.Common.{refl, ◌∙◌, arith, Err}
+use Rattle.std.proofs.Common.{refl, ◌∙◌, arith, Err, inr}
 use Rattle.ramoops_layout.specs.Laid.{params_of, zones_of}
 use Rattle.command_spec.specs.Commands.{Run}
 use Rattle.tool_frame.specs.Words.{plan_for}
@@ -10,6 +10,7 @@ use Rattle.tool_frame.proofs.BlkScript.{unless_line}
 use Rattle.script_spec.specs.declared.LineStop.TheVariants.{SinkFault}
 use Rattle.image_tool.proofs.ScriptEnds.{scripted, play_caused, play_stopped, play_saved, play_unsaved}
 use Rattle.image_tool.proofs.WorkEnds.{kept_same}
+use Rattle.image_tool.proofs.Asked.{fails_first, fails_never}
 use Rattle.image_tool.proofs.Due.{no_text, text_put, lines_put}
 use Rattle.image_tool.proofs.ram_script.run_script.Goals as goal
 
@@ -170,3 +171,24 @@ returns-clause-put g c =
     let played = c.in-Ok-play.ensures.played (zones_of c.args.layout) (params_of c.args.layout).mem
     c.in-Ok.bytes.items c.in-Ok-fresh_store.ensures in
     text_put _ _ _ played.played.texts
+
+pub returns-in-Err-clause-asked : goal.returns-in-Err-clause-asked
+returns-in-Err-clause-asked g c = fails_first _ _ (Err c.in-Err.stop)
+    (record { script = record { left = refl; source = refl }; given = refl; writes = c.in-Err.ensures.unwritten })
+
+pub returns-in-Err-read_script-clause-asked : goal.returns-in-Err-read_script-clause-asked
+returns-in-Err-read_script-clause-asked g c = fails_never _ _ (Err c.in-Err-read_script.stop) _ _ 0 0
+    (script_caused c.in-Err-read_script.stop (g.S.Source.left c.args.script.now) _ _ 1 0 0 0
+    c.in-Err-read_script.ensures.err)
+
+pub returns-in-Err-lines-clause-asked : goal.returns-in-Err-lines-clause-asked
+returns-in-Err-lines-clause-asked g c = fails_never _ _ (Err c.in-Err-lines.stop) 0 0 0 0
+    (parse_caused c.in-Err-lines.stop _ 0 0 1 0 0 0 c.in-Err-lines.ensures.read)
+
+pub returns-in-Err-play-clause-asked : goal.returns-in-Err-play-clause-asked
+returns-in-Err-play-clause-asked g c = rw c.stop_of.ensures (fails_never _ _ (Err (stop_of c.in-Err-play.stop)) 0 0 _ _
+    (play_caused c.in-Err-play.stop _ _ _ _ _ 0 0 1 0 _ _
+    (c.in-Err-play.ensures.played _ _ _ c.in-Ok-fresh_store.ensures)))
+
+pub returns-clause-asked : goal.returns-clause-asked
+returns-clause-asked g c = inr (rw c.in-Ok.ensures.unwritten at c.in-Err-save.ensures.asked)

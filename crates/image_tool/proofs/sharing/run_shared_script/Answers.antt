@@ -1,11 +1,12 @@
 -- How each stage of a script on a shared zone ends it
-use Rattle.std.proofs.Common.{refl, ◌∙◌, arith, Err}
+use Rattle.std.proofs.Common.{refl, ◌∙◌, arith, Err, inr}
 use Rattle.command_spec.specs.Commands.{SharedRun}
 use Rattle.tool_frame.specs.Words.{plan_for}
 use Rattle.tool_frame.proofs.ReadParts.{read_whole}
 use Rattle.tool_frame.proofs.Script.{load_stopped, script_stopped, parse_stopped, load_caused, script_caused, parse_caused}
 use Rattle.image_tool.proofs.SharedEnds.{shared_scripted, share_ended, share_caused, text_unput, image_saved, image_unsaved}
 use Rattle.image_tool.proofs.WorkEnds.{kept_same}
+use Rattle.image_tool.proofs.Asked.{fails_first, fails_never}
 use Rattle.image_tool.proofs.Due.{first_put, text_put}
 use Rattle.image_tool.proofs.sharing.run_shared_script.Goals as goal
 
@@ -156,3 +157,23 @@ returns-in-Err-share-clause-put g c = first_put (Err c.in-Err-share.stop) _ _ re
 
 pub returns-clause-put : goal.returns-clause-put
 returns-clause-put g c = text_put _ _ _ c.in-Ok-put.ensures.bytes
+
+pub returns-in-Err-clause-asked : goal.returns-in-Err-clause-asked
+returns-in-Err-clause-asked g c = fails_first _ _ (Err c.in-Err.stop)
+    (record { script = record { left = refl; source = refl }; given = refl; writes = c.in-Err.ensures.unwritten })
+
+pub returns-in-Err-read_script-clause-asked : goal.returns-in-Err-read_script-clause-asked
+returns-in-Err-read_script-clause-asked g c = fails_never _ _ (Err c.in-Err-read_script.stop) _ _ 0 0
+    (script_caused c.in-Err-read_script.stop (g.S.Source.left c.args.script.now) _ _ 1 0 0 0
+    c.in-Err-read_script.ensures.err)
+
+pub returns-in-Err-lines-clause-asked : goal.returns-in-Err-lines-clause-asked
+returns-in-Err-lines-clause-asked g c = fails_never _ _ (Err c.in-Err-lines.stop) 0 0 0 0
+    (parse_caused c.in-Err-lines.stop _ 0 0 1 0 0 0 c.in-Err-lines.ensures.read)
+
+pub returns-in-Err-share-clause-asked : goal.returns-in-Err-share-clause-asked
+returns-in-Err-share-clause-asked g c = fails_never _ _ (Err c.in-Err-share.stop) 0 0 0 0
+    (share_caused _ _ 0 0 1 0 0 0 c.in-Err-share.ensures)
+
+pub returns-clause-asked : goal.returns-clause-asked
+returns-clause-asked g c = inr (rw c.in-Ok.ensures.unwritten at c.in-Err-save.ensures.asked)

@@ -6,6 +6,7 @@ use Rattle.tool_frame.specs.Words.{plan_for}
 use Rattle.tool_frame.specs.declared.words.RamCommand.TheVariants.{Run, ListRecords, Extract, Erase, ShowLayout, Blank, Make, Salvage, Rescue}
 use Rattle.image_tool.proofs.WorkEnds.{arm_done, kept_same, count_same, layout_shown, blank_left}
 use Rattle.image_tool.proofs.Due.{arm_put, none_put}
+use Rattle.image_tool.proofs.Asked.{arm_fails}
 use Rattle.image_tool.proofs.work.do_command.Goals as goal
 
 pub returns-in-Run-clause-work : goal.returns-in-Run-clause-work
@@ -155,3 +156,31 @@ returns-in-Salvage-clause-put g c = arm_put _ Salvage _ _ _ c.in-Salvage.is c.sa
 pub returns-in-Rescue-clause-put : goal.returns-in-Rescue-clause-put
 returns-in-Rescue-clause-put g c = arm_put _ (Rescue c.in-Rescue.at c.in-Rescue.name) _ _ _ c.in-Rescue.is
     c.rescue.ensures.put
+
+pub returns-in-Run-clause-asked : goal.returns-in-Run-clause-asked
+returns-in-Run-clause-asked g c = arm_fails _ Run c.args.layout _ _ _ c.in-Run.is c.run_script.ensures.asked
+
+pub returns-in-ListRecords-clause-asked : goal.returns-in-ListRecords-clause-asked
+returns-in-ListRecords-clause-asked g c = arm_fails _ ListRecords c.args.layout _ _ _ c.in-ListRecords.is tt
+
+pub returns-in-Extract-clause-asked : goal.returns-in-Extract-clause-asked
+returns-in-Extract-clause-asked g c = arm_fails _ (Extract c.in-Extract.name) c.args.layout _ _ _ c.in-Extract.is tt
+
+pub returns-in-Erase-clause-asked : goal.returns-in-Erase-clause-asked
+returns-in-Erase-clause-asked g c = arm_fails _ (Erase c.in-Erase.name) c.args.layout _ _ _ c.in-Erase.is tt
+
+pub returns-in-ShowLayout-clause-asked : goal.returns-in-ShowLayout-clause-asked
+returns-in-ShowLayout-clause-asked g c = arm_fails _ ShowLayout c.args.layout _ _ _ c.in-ShowLayout.is tt
+
+pub returns-in-Blank-clause-asked : goal.returns-in-Blank-clause-asked
+returns-in-Blank-clause-asked g c = arm_fails _ Blank c.args.layout _ _ _ c.in-Blank.is tt
+
+pub returns-in-Make-clause-asked : goal.returns-in-Make-clause-asked
+returns-in-Make-clause-asked g c = arm_fails _ (Make c.in-Make.n) c.args.layout _ _ _ c.in-Make.is tt
+
+pub returns-in-Salvage-clause-asked : goal.returns-in-Salvage-clause-asked
+returns-in-Salvage-clause-asked g c = arm_fails _ Salvage c.args.layout _ _ _ c.in-Salvage.is tt
+
+pub returns-in-Rescue-clause-asked : goal.returns-in-Rescue-clause-asked
+returns-in-Rescue-clause-asked g c = arm_fails _ (Rescue c.in-Rescue.at c.in-Rescue.name) c.args.layout _ _ _
+    c.in-Rescue.is tt

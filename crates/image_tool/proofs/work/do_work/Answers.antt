@@ -5,6 +5,7 @@ use Rattle.command_spec.specs.Commands.{OfMove, plan_of}
 use Rattle.tool_frame.specs.Words.{texts, move_for}
 use Rattle.image_tool.proofs.WorkEnds.{none_done, plan_done, count_same}
 use Rattle.image_tool.proofs.Due.{plan_put, plan_same}
+use Rattle.image_tool.proofs.Asked.{plan_fails, none_fails}
 use Rattle.image_tool.proofs.work.do_work.Goals as goal
 
 pub returns-in-Err-clause-work : goal.returns-in-Err-clause-work
@@ -44,3 +45,12 @@ returns-in-Ok-Move-clause-put g c = plan_put (plan_of (texts c.args.words.now))
 
 pub returns-in-Err-clause-put : goal.returns-in-Err-clause-put
 returns-in-Err-clause-put g c = plan_same (plan_of (texts c.args.words.now)) (Err c.in-Err.stop) _
+
+pub returns-in-Ok-Move-clause-asked : goal.returns-in-Ok-Move-clause-asked
+returns-in-Ok-Move-clause-asked g c = plan_fails (plan_of (texts c.args.words.now))
+    (OfMove (move_for c.in-Ok-Move.from c.in-Ok-Move.to)) _ _ _
+    (rw c.in-Ok-Move.field-0-is at c.in-Ok-Move.ensures.plan) (c.move_image.ensures.asked _ _)
+
+pub returns-in-Err-clause-asked : goal.returns-in-Err-clause-asked
+returns-in-Err-clause-asked g c = none_fails (plan_of (texts c.args.words.now)) _ _ (Err c.in-Err.stop)
+    (record { script = record { left = refl; source = refl }; given = refl; writes = refl })

@@ -8,6 +8,7 @@ use Rattle.image_tool.proofs.Completed.{completes}
 use Rattle.image_tool.proofs.HeadlineReads.{run_reads}
 use Rattle.image_tool.proofs.RunEnds.{run_leaves}
 use Rattle.image_tool.proofs.Due.{last_line_put}
+use Rattle.image_tool.proofs.Asked.{image_fails}
 use Rattle.image_tool.proofs.work.run.Goals as goal
 
 pub returns-clause-runs : goal.returns-clause-runs
@@ -21,6 +22,8 @@ returns-clause-runs g c =
     record {
       untouched = leaves.untouched;
       writes = leaves.writes;
+      image_fails = image_fails _ _ _ _ (record { left = refl; source = refl }) refl plan _
+          c.do_work-end.ensures.asked c.finish.ensures;
       faults = leaves.faults;
       answers = answers;
       complete = completes (texts c.args.words.now) _ _ _ answers;
