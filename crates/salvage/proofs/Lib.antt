@@ -8,3 +8,4 @@ pub mod Gathered
 pub mod Listing
 pub mod Asked
 pub mod Sieving
+pub mod Rows

@@ -15,7 +15,7 @@ use Rattle.code_laws.proofs.Words.{pow_turn}
 use Rattle.code_laws.proofs.Ring.{ring, add_self, add_zero, add_assoc, zero_add, mul_zero, zero_mul, mul_one, one_mul, mul_comm, mul_assoc, pow_suc, pow_zero, pow_below, mul_below}
 use Rattle.salvage.specs.declared.sieve.Weight.{Weight}
 use Rattle.salvage.specs.declared.sieve.Block.{Block}
-use Rattle.salvage.specs.Sieves.{product, times_power, none, weighed, dot, AreFactors, IsKnownWord, IsOutside, IsBlock}
+use Rattle.salvage.specs.Sieves.{product, times_power, none, weighed, dot, IsKnownWord, IsOutside, IsBlock}
 use Rattle.salvage_laws.specs.Known.{put_in}
 use Rattle.salvage.proofs.Amends.{item}
 use Rattle.salvage.proofs.Probed.{put_in-append}
@@ -591,17 +591,17 @@ module _ (ks : List (Option ℕ)) (r : ℕ) (b : Block) (is : IsBlock ks r b) (c
 -- the sum of the places of a block, by their weights
 pub block_sum : (ks : List (Option ℕ)) (r : ℕ) (b : Block) (is : IsBlock ks r b) (word base : List ℕ)
     → length word ≡ 12 + r → length base ≡ length word → (i : ℕ) → i < 7
-    → (gs : List Weight) → gs ≡ take (b.to - b.from) b.weights
+    → (gs : List Weight) → gs ≡ take (b.to - b.from) is.weights
     → weighed (λ (g : Weight). get_or g.counts i 0) gs (slice_range word b.from b.to) (slice_range base b.from b.to)
     ≡ between (times_power is.others i) word base b.from b.to
 block_sum ks r b is word base l e i small gs eg =
     ap (λ (xs : List Weight). weighed (λ (g : Weight). get_or g.counts i 0) xs (slice_range word b.from b.to)
     (slice_range base b.from b.to)) eg
-    ∙ weighed_is (λ (g : Weight). get_or g.counts i 0) (times_power is.others i) (b.to - b.from) b.weights
+    ∙ weighed_is (λ (g : Weight). get_or g.counts i 0) (times_power is.others i) (b.to - b.from) is.weights
     (drop b.from word) (drop b.from base)
     (omega (arith, is.len, is.short)) (omega (arith, length-drop b.from word, l, is.within, is.some))
     (length-drop b.from word ∙ ap (λ (k : ℕ). k - b.from) (sym e) ∙ sym (length-drop b.from base))
-    (λ k m. is.weights k (omega (arith, m)) i small
+    (λ k m. is.each k (omega (arith, m)) i small
     ∙ ap (times_power is.others i) (omega (arith, length-drop b.from word, l)))
     ∙ ap₂ (λ (u v : List ℕ). gf_add (sum_of (times_power is.others i) (drop b.from word) (drop b.from base))
     (sum_of (times_power is.others i) u v)) (on word) (on base)
@@ -631,25 +631,22 @@ one_block word c count least end from to e l h t =
     on : (v : List ℕ) → drop (from - end) (drop end v) ≡ drop from v
     on v = drop-drop (from - end) end v ∙ ap (λ (n : ℕ). drop n v) (omega (arith, l))
 
-pub few_told : (ks : List (Option ℕ)) (r i : ℕ) (blocks items : List Block) (b : Block) → items ≡ blocks
-    → All (IsBlock ks r) blocks → i < length items → (get_or items i b).least ≤ 4
-few_told ks r i blocks items b ei each l =
-    (All-get_or (IsBlock ks r) items i b l (subst (All (IsBlock ks r)) (sym ei) each)).four
+pub own_block : (ks : List (Option ℕ)) (r i : ℕ) (blocks items : List Block) (b : Block) → items ≡ blocks
+    → All (IsBlock ks r) blocks → i < length items → b ≡ get_or items i b → IsBlock ks r b
+own_block ks r i blocks items b ei each l eb =
+    subst (IsBlock ks r) (sym eb) (All-get_or (IsBlock ks r) items i b l (subst (All (IsBlock ks r)) (sym ei) each))
 
 -- and of a sieve's blocks
-pub far_more : (ks : List (Option ℕ)) (r i : ℕ) (blocks items : List Block) (b : Block) (word begun base c : List ℕ)
-    (count end : ℕ) → items ≡ blocks → All (IsBlock ks r) blocks → i < length items → begun ≡ base
-    → IsKnownWord ks r base → length word ≡ 12 + r → IsKnownWord ks r c → end ≤ (get_or items i b).from
+pub far_more : (ks : List (Option ℕ)) (r : ℕ) (b : Block) (word begun base c : List ℕ) (count end : ℕ)
+    → IsBlock ks r b → begun ≡ base → IsKnownWord ks r base → length word ≡ 12 + r → IsKnownWord ks r c → end ≤ b.from
     → count + distance (drop end word) (drop end c) ≤ distance word c
-    → ((ks : List (Option ℕ)) (r : ℕ) (c : List ℕ) → length word ≡ 12 + r → IsBlock ks r (get_or items i b)
+    → ((ks : List (Option ℕ)) (r : ℕ) (c : List ℕ) → length word ≡ 12 + r → IsBlock ks r b
     → IsKnownWord ks r begun → IsKnownWord ks r c
-    → (get_or items i b).least + distance (drop (get_or items i b).to word) (drop (get_or items i b).to c)
-    ≤ distance (drop (get_or items i b).from word) (drop (get_or items i b).from c))
-    → count + (get_or items i b).least + distance (drop (get_or items i b).to word) (drop (get_or items i b).to c) ≤ distance word c
-far_more ks r i blocks items b word begun base c count end ei each l eb hb lw hc order far errs =
-    one_block word c count (get_or items i b).least end (get_or items i b).from (get_or items i b).to (lw ∙ sym hc.len) order far
-    (errs ks r c lw (All-get_or (IsBlock ks r) items i b l (subst (All (IsBlock ks r)) (sym ei) each))
-    (subst (IsKnownWord ks r) (sym eb) hb) hc)
+    → b.least + distance (drop b.to word) (drop b.to c) ≤ distance (drop b.from word) (drop b.from c))
+    → count + b.least + distance (drop b.to word) (drop b.to c) ≤ distance word c
+far_more ks r b word begun base c count end is eb hb lw hc order far errs =
+    one_block word c count b.least end b.from b.to (lw ∙ sym hc.len) order far
+    (errs ks r c lw is (subst (IsKnownWord ks r) (sym eb) hb) hc)
 
 -- ---- the codeword of the known bytes
 put_in_twice : (ks : List (Option ℕ)) (w : List ℕ) → put_in ks (put_in ks w) ≡ put_in ks w

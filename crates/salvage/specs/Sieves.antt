@@ -1,8 +1,9 @@
 -- What a sieve of headers' words is made of
-use Rattle.std.specs.Prelude.{◌≡◌, ◌≢◌, ℕ, suc, ◌+◌, ◌*◌, ◌-◌, ◌≤◌, ◌<◌, ◌⊎◌, List, [], ◌∷◌, length, slice_index, slice_index_or, Option, None, All, MatchOption}
+use Rattle.std.specs.Prelude.{◌≡◌, ◌≢◌, ℕ, suc, ◌+◌, ◌*◌, ◌^◌, ◌%◌, if◌then◌else◌, nat_lt, ◌-◌, ◌≤◌, ◌<◌, ◌⊎◌, List, [], ◌∷◌, length, slice_index, slice_index_or, Option, None, All, MatchOption}
 use Rattle.code_spec.specs.Field.{gf_add, gf_mul, gf_pow}
 use Rattle.code_laws.proofs.Symbols.{HasRoots}
 use Rattle.zone_spec.specs.declared.Zone.{Zone}
+use Rattle.rs_encode.specs.Lanes.{IsMultiple}
 use Rattle.salvage_laws.specs.Known.{known, put_in}
 use Rattle.salvage.specs.declared.sieve.Weight.{Weight}
 use Rattle.salvage.specs.declared.sieve.Block.{Block}
@@ -29,6 +30,17 @@ unfoldable pub weighed : (Weight → ℕ) → List Weight → List ℕ → List 
 weighed f (g ∷ gs) (x ∷ w) (y ∷ b) = gf_add (gf_mul (f g) (gf_add x y)) (weighed f gs w b)
 weighed f gs w b = 0
 
+-- the rows of a table: for each place the multiples of its counts by each low and each high half of a byte
+pub record AreRows (gs : List Weight) (rows : List ℕ) : Type 0 where
+  pub low : (k f : ℕ) → k < length gs → f < 16 → IsMultiple (f * 2 ^ 0) (slice_index_or gs k none).counts
+      (slice_index rows (32 * k + f))
+  pub high : (k f : ℕ) → k < length gs → f < 16 → IsMultiple (f * 2 ^ 4) (slice_index_or gs k none).counts
+      (slice_index rows (32 * k + 16 + f))
+
+-- the half of a byte whose multiple stands in a row
+abbrev pub factor_of : ℕ → ℕ
+factor_of row = if nat_lt (row % 32) 16 then row % 32 else (row % 32 - 16) * 16
+
 -- the i-th of a block's sums
 abbrev pub sum_at : ℕ → List Weight → List ℕ → List ℕ → ℕ
 sum_at i gs w b = weighed (λ g. slice_index g.counts i) gs w b
@@ -52,7 +64,7 @@ pub record IsKnownWord (ks : List (Option ℕ)) (r : ℕ) (c : List ℕ) : Type 
 abbrev pub IsOutside : ℕ → ℕ → ℕ → Type 0
 IsOutside from to j = (j < from) ⊎ (to ≤ j)
 
--- the weights of a block are those of powers that are few enough for the sums of codewords to be zero, and among which
+-- the rows of a block are of weights, which are those of powers that are few enough for the sums of codewords to be zero, and among which
 -- are those of all other unknown places. Twice as many sums less one tell of so many errors at least
 pub record IsBlock (ks : List (Option ℕ)) (r : ℕ) (b : Block) : Type 0 where
   pub others : List ℕ
@@ -62,8 +74,11 @@ pub record IsBlock (ks : List (Option ℕ)) (r : ℕ) (b : Block) : Type 0 where
   pub some : b.from < b.to
   pub short : b.to ≤ b.from + 16
   pub within : b.to ≤ 12 + r
-  pub len : length b.weights ≡ 16
-  pub weights : (k : ℕ) → b.from + k < b.to → IsWeight others (11 + r - b.from - k) (slice_index_or b.weights k none)
+  pub weights : List Weight
+  pub len : length weights ≡ 16
+  pub each : (k : ℕ) → b.from + k < b.to → IsWeight others (11 + r - b.from - k) (slice_index_or weights k none)
+  pub rows : AreRows weights b.rows.items
+  pub full : length b.rows.items ≡ 512
   pub outside : (j : ℕ) → j < 12 + r → IsOutside b.from b.to j → slice_index_or ks j None ≡ None
       → product others (11 + r - j) ≡ 0
 

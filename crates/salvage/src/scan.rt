@@ -98,7 +98,7 @@ fn has_ring(dump: &[u8], at: u32, zone: &Zone) -> bool
     requires { IsValidZone zone.now }
     ensures { result ≡ ((at % 2 == 0) && is_some (ring_at dump.now at zone.now)) }
 {
-    let ring = Shape::new(zone).ring_at(dump, at);
+    let ring = Shape::bare(zone).ring_at(dump, at);
     at % 2 == 0 && ring.is_some()
 }
 
@@ -115,7 +115,7 @@ fn read_place(alloc: Global, dump: &[u8], at: u32, zone: &Zone) -> Result<Readin
 }
 
 impl Scan {
-    /// A scan of the image from its first byte on. It makes a table for each of the layout's shapes.
+    /// A scan of the image from its first byte on. It makes tables for each of the layout's shapes.
     pub fn new(alloc: Global, image: Bytes, layout: Layout) -> Result<Scan, AllocError>
         requires { length image ≤ 16777216 }
         ensures { IfOk result (λ scan. scan ≡ record {

@@ -15,8 +15,8 @@ use std::alloc::{AllocError, Global};
 use std::marker::Model;
 use zone_spec::Zone;
 
-/// A shape, by its first zone. It holds the bytes of a ring's header that are known, and the encoder of the zone's
-/// parity, some 4 KiB, none without parity.
+/// A shape, by its first zone. It holds the bytes of a ring's header that are known, and, where there is parity, its
+/// encoder, some 4 KiB, and a sieve of the headers, up to 64 KiB on the heap.
 #[derive(Drop)]
 pub struct Shape {
     zone: Zone,
@@ -48,15 +48,20 @@ fn coder_of(zone: &Zone) -> Option<Parity>
 }
 
 /// The sieve of a zone's headers, none without parity.
-fn sieve_of(zone: &Zone, coder: &Option<Parity>, known: [Option<u8>; 12]) -> Option<Sieve>
+fn sieve_of(
+    alloc: Global,
+    zone: &Zone,
+    coder: &Option<Parity>,
+    known: [Option<u8>; 12],
+) -> Result<Option<Sieve>, AllocError>
     requires valid { IsValidZone zone.now }
     requires coder { coder.now ≡ coder_for zone.now }
     requires known { known ≡ known_of_zone zone.now }
-    ensures { IsSieveOf zone.now result }
+    ensures { IfOk result (IsSieveOf zone.now) }
 {
     match coder {
-        Some(coder) => Some(Sieve::new(coder, known, zone.parity as usize)),
-        None => None,
+        Some(coder) => Sieve::new(alloc, coder, known, zone.parity as usize),
+        None => Ok(None),
     }
 }
 
@@ -71,18 +76,32 @@ fn header_parity(zone: &Zone) -> u32
 }
 
 impl Shape {
-    pub fn new(zone: &Zone) -> Shape
+    /// A shape for a scan.
+    pub fn new(alloc: Global, zone: &Zone) -> Result<Shape, AllocError>
         requires { IsValidZone zone.now }
-        ensures { result ≡ zone.now }
+        ensures { IfOk result (λ shape. shape ≡ zone.now) }
     {
         let known = known_bytes(zone);
         let coder = coder_of(zone);
-        let sieve = sieve_of(zone, &coder, known);
-        Shape {
+        let sieve = sieve_of(alloc, zone, &coder, known)?;
+        Ok(Shape {
             zone: *zone,
             known,
             coder,
             sieve,
+        })
+    }
+
+    /// A shape for a single place, with no sieve. Takes no memory.
+    pub fn bare(zone: &Zone) -> Shape
+        requires { IsValidZone zone.now }
+        ensures { result ≡ zone.now }
+    {
+        Shape {
+            zone: *zone,
+            known: known_bytes(zone),
+            coder: coder_of(zone),
+            sieve: None,
         }
     }
 
@@ -142,14 +161,15 @@ fn has_shape(shapes: &[Shape], zone: &Zone) -> bool
 }
 
 /// Adds the zone's shape, where it is not there.
-fn add_shape(shapes: &mut Vec<Shape>, zone: &Zone) -> Result<(), AllocError>
+fn add_shape(alloc: Global, shapes: &mut Vec<Shape>, zone: &Zone) -> Result<(), AllocError>
     requires { IsValidZone zone.now }
     ensures { OnOk result (shapes.new.items ≡ with_shape shapes.old.items zone.now) }
 {
     if has_shape(shapes, zone) {
         return Ok(());
     }
-    shapes.push(Shape::new(zone))?;
+    let shape = Shape::new(alloc, zone)?;
+    shapes.push(shape)?;
     Ok(())
 }
 
@@ -160,7 +180,7 @@ pub fn shapes_of(alloc: Global, zones: &[Zone]) -> Result<Vec<Shape>, AllocError
 {
     let mut shapes = Vec::new(alloc);
     for zone in zones {
-        add_shape(&mut shapes, zone)?;
+        add_shape(alloc, &mut shapes, zone)?;
     }
     Ok(shapes)
 }

@@ -5,31 +5,34 @@
 // symbols of a codeword add up to 0. So the weighted sum of a word tells of the errors in the block alone. The sums with
 // one, two and more powers of the place's locator as a further weight follow a recurrence that has a term for each
 // error. So 2e - 1 sums tell whether there are fewer than e errors.
-ghost use Rattle.std.specs.Prelude.{◌≡◌, ◌+◌, ◌*◌, ◌-◌, ◌≤◌, ◌<◌, ◌↔◌, ℕ, slice_index, ◌++◌, length, replicate, drop, slice_index_or, List, true, false, IsTrue, Option, None, All, IfSome};
+ghost use Rattle.std.specs.Prelude.{◌≡◌, ◌+◌, ◌*◌, ◌-◌, ◌≤◌, ◌<◌, ◌↔◌, ℕ, slice_index, ◌^◌, bit_xor, ◌++◌, length, replicate, drop, slice_index_or, List, true, false, IsTrue, Option, None, All, IfSome, IfOk};
 ghost use Rattle.code_spec.specs.Field.{gf_add, gf_mul, gf_pow};
 ghost use Rattle.code_spec.specs.Code.{distance};
+ghost use Rattle.rs_encode.specs.Lanes.{IsMultiple, digit};
 ghost use Rattle.salvage_laws.specs.Known.{put_in};
-ghost use Rattle.salvage.specs.Sieves.{AreFactors, IsBlock, IsKnownWord, IsOutside, IsWeight, dot, none, product, sum_at};
+ghost use Rattle.salvage.specs.Sieves.{AreFactors, AreRows, factor_of, IsBlock, IsKnownWord, IsOutside, IsWeight, dot, none, product, sum_at};
 
 use crate::header::amend;
 use arrayvec::ArrayVec;
 use gf256::{add, alpha_pow, mul};
 use rs_encode::Parity;
+use std::alloc::{AllocError, Global};
 use std::marker::Model;
 
 /// What a place's symbol counts in each of a block's sums.
-#[derive(Clone, Copy, Default)]
+#[derive(Clone, Copy)]
 pub struct Weight {
     pub counts: [u8; 7],
 }
 
-/// The places from `from` up to `to`, and their weights. Their sums tell of `least` errors.
-#[derive(Clone, Copy, Default)]
+/// The places from `from` up to `to`, and for each the multiples of its weight by the halves of a byte. Their sums tell
+/// of `least` errors.
+#[derive(Drop)]
 pub struct Block {
     pub from: usize,
     pub to: usize,
     pub least: usize,
-    pub weights: [Weight; 16],
+    pub rows: Vec<u128>,
 }
 
 /// Blocks of the places of a header's word, and a codeword with the known bytes.
@@ -38,7 +41,7 @@ pub struct Sieve {
     known: [Option<u8>; 12],
     parity: usize,
     base: ArrayVec<u8, 139>,
-    blocks: ArrayVec<Block, 16>,
+    blocks: Vec<Block>,
 }
 
 impl Model for Sieve {
@@ -129,32 +132,77 @@ fn weights_of(others: &[u8], power: usize, count: usize) -> [Weight; 16]
     weights
 }
 
+/// The count at `k`, or 0 past the end.
+fn count_or_zero(counts: &[u8], k: usize) -> u8
+    ensures { result ≡ slice_index counts.now k }
+{
+    if k < counts.len() { counts[k] } else { 0 }
+}
+
+/// The lane of `factor` times the counts.
+fn lane_of(factor: u8, counts: &[u8]) -> u128
+    ensures { IsMultiple factor counts.now result }
+{
+    let mut lane = 0u128;
+    for k in 0..16usize {
+        lane = (lane << 8u32) ^ u128::from(mul(factor, count_or_zero(counts, k)));
+    }
+    lane
+}
+
+/// The low or high half of a byte whose multiple stands in a row.
+fn factor_of(row: usize) -> u8
+    ensures { result ≡ factor_of row }
+{
+    let half = row % 32;
+    if half < 16 {
+        half as u8
+    } else {
+        ((half - 16) * 16) as u8
+    }
+}
+
+/// The rows for the places of these weights, 8 KiB.
+fn rows_of(alloc: Global, weights: &[Weight]) -> Result<Vec<u128>, AllocError>
+    requires { length weights.now ≡ 16 }
+    ensures rows { IfOk result (λ rows. AreRows weights.now rows.items) }
+    ensures len { IfOk result (λ rows. length rows.items ≡ 512) }
+{
+    let mut rows = Vec::from_elem(alloc, 0u128, 512)?;
+    for i in 0..512usize {
+        rows[i] = lane_of(factor_of(i), &weights[i / 32].counts);
+    }
+    Ok(rows)
+}
+
 /// The block of these places that tells of so many errors, where there is parity for its sums.
 fn block_of(
+    alloc: Global,
     known: &[Option<u8>],
     parity: usize,
     from: usize,
     to: usize,
     least: usize,
-) -> Option<Block>
+) -> Result<Option<Block>, AllocError>
     requires { parity ≤ 127 }
-    ensures { IfSome result (IsBlock known.now parity) }
+    ensures { IfOk result (λ block. IfSome block (IsBlock known.now parity)) }
 {
     let places = 12 + parity;
     if to <= from || to - from > 16 || places < to || least < 1 || least > 4 {
-        return None;
+        return Ok(None);
     }
     let others = powers_outside(known, places, from, to);
     if parity + 1 < others.len() + 2 * least {
-        return None;
+        return Ok(None);
     }
     let weights = weights_of(others.as_slice(), places - 1 - from, to - from);
-    Some(Block {
+    let rows = rows_of(alloc, &weights)?;
+    Ok(Some(Block {
         from,
         to,
         least,
-        weights,
-    })
+        rows,
+    }))
 }
 
 /// How many unknown places a block has beside two for each error that it tells of: one less than the unknown bytes of
@@ -186,22 +234,27 @@ fn least_from(from: usize, places: usize, most: usize, spare: usize) -> usize
 }
 
 /// The blocks of a word, from place 4 on: each tells of so many errors, but the last one of what its places allow.
-fn blocks_of(known: &[Option<u8>; 12], parity: usize, most: usize) -> ArrayVec<Block, 16>
+fn blocks_of(
+    alloc: Global,
+    known: &[Option<u8>; 12],
+    parity: usize,
+    most: usize,
+) -> Result<Vec<Block>, AllocError>
     requires parity { parity ≤ 127 }
     requires most { most ≤ 4 }
-    ensures { All (IsBlock known.now parity) result.items }
+    ensures { IfOk result (λ blocks. All (IsBlock known.now parity) blocks.items) }
 {
-    let mut blocks: ArrayVec<Block, 16> = ArrayVec::new();
+    let mut blocks = Vec::new(alloc);
     let mut from = 4;
-    for i in 0..16usize {
+    for i in 0..8usize {
         let least = least_from(from, 12 + parity, most, spare(known));
         let to = end_of(from, least, spare(known));
-        if let Some(block) = block_of(known, parity, from, to, least) {
-            blocks.push(block);
+        if let Some(block) = block_of(alloc, known, parity, from, to, least)? {
+            blocks.push(block)?;
         }
         from = to;
     }
-    blocks
+    Ok(blocks)
 }
 
 fn extend(word: &mut ArrayVec<u8, 139>, more: &[u8])
@@ -255,27 +308,27 @@ fn codeword_of(
     joined(header, symbols)
 }
 
-/// The sums with one symbol more.
-fn counted(sums: Weight, weight: Weight, symbol: u8) -> Weight
-    ensures { (i : ℕ) → i < 7 → slice_index result.counts i
-        ≡ gf_add (slice_index sums.counts i) (gf_mul (slice_index weight.counts i) symbol) }
+/// The lane of a symbol's products with the counts of place `k`.
+fn row_for(rows: &[u128], k: usize, symbol: u8) -> u128
+    requires { 32 * k + 32 ≤ length rows.now }
+    ensures { (gs : List Weight) → k < length gs → AreRows gs rows.now
+        → IsMultiple symbol (slice_index_or gs k none).counts result }
 {
-    let mut counts = [0u8; 7];
-    for i in 0..7usize {
-        counts[i] = add(sums.counts[i], mul(weight.counts[i], symbol));
-    }
-    Weight { counts }
+    let low = rows[32 * k + (symbol % 16) as usize];
+    let high = rows[32 * k + 16 + (symbol / 16) as usize];
+    low ^ high
 }
 
-/// The sums of the symbols' sums, by the weights.
-fn sums_of(weights: &[Weight], word: &[u8], base: &[u8]) -> Weight
-    requires word { length word.now ≡ length weights.now }
-    requires base { length base.now ≡ length weights.now }
-    ensures { (i : ℕ) → i < 7 → slice_index result.counts i ≡ sum_at i weights.now word.now base.now }
+/// The sums of the symbols' sums, by the rows, in one lane.
+fn sums_of(rows: &[u128], word: &[u8], base: &[u8]) -> u128
+    requires word { 32 * length word.now ≤ length rows.now }
+    requires base { length base.now ≡ length word.now }
+    ensures { (gs : List Weight) → length gs ≡ length word.now → AreRows gs rows.now → (i p : ℕ) → i + p ≡ 15
+        → digit result p ≡ sum_at i gs word.now base.now }
 {
-    let mut sums = nothing();
-    for k in 0..weights.len() {
-        sums = counted(sums, weights[k], add(word[k], base[k]));
+    let mut sums = 0u128;
+    for k in 0..word.len() {
+        sums ^= row_for(rows, k, add(word[k], base[k]));
     }
     sums
 }
@@ -318,7 +371,7 @@ fn three(a: (u8, u8), b: (u8, u8), c: (u8, u8)) -> u8 {
 }
 
 /// The determinants of the sums' first three rows of four, each without one column.
-fn four_factors(s: &[u8; 7]) -> [u8; 4]
+fn four_factors(s: &[u8; 16]) -> [u8; 4]
     ensures { length result ≡ 4 }
 {
     let front = cross(s[0], s[1], s[1], s[2]);
@@ -336,7 +389,7 @@ fn four_factors(s: &[u8; 7]) -> [u8; 4]
 }
 
 /// Factors for sums of so many errors at least. Which they are is no matter of proof: they are tested.
-fn factors_of(s: &[u8; 7], count: usize) -> [u8; 4]
+fn factors_of(s: &[u8; 16], count: usize) -> [u8; 4]
     ensures { length result ≡ 4 }
 {
     if count == 4 {
@@ -364,46 +417,68 @@ fn errs(block: &Block, word: &[u8], base: &[u8]) -> bool
     requires four { block.now.least ≤ 4 }
     requires within { block.now.to ≤ length word.now }
     requires base { length base.now ≡ length word.now }
+    requires rows { length block.now.rows.items ≡ 512 }
     ensures { IsTrue result → (ks : List (Option ℕ)) (r : ℕ) (c : List ℕ) → length word.now ≡ 12 + r
         → IsBlock ks r block.now → IsKnownWord ks r base.now → IsKnownWord ks r c
         → block.now.least + distance (drop block.now.to word.now) (drop block.now.to c)
         ≤ distance (drop block.now.from word.now) (drop block.now.from c) }
 {
-    let count = block.to - block.from;
     let sums = sums_of(
-        &block.weights[..count],
+        block.rows.as_slice(),
         &word[block.from..block.to],
         &base[block.from..block.to],
     );
-    let factors = factors_of(&sums.counts, block.least);
-    are_factors(&factors[..block.least], &sums.counts)
+    let sums = sums.to_be_bytes();
+    let factors = factors_of(&sums, block.least);
+    are_factors(&factors[..block.least], &sums)
 }
 
-/// Of how many errors a block tells, such that the blocks tell of all that no known byte of random bytes leaves.
+/// The fewest errors of which a sieve must tell: one more than the decoder may mend where all known bytes differed, as
+/// those of random bytes mostly do.
+fn wanted(known: &[Option<u8>; 12], parity: usize) -> usize {
+    (parity / 2 + spare(known)).saturating_sub(10)
+}
+
+/// Of how many errors a block tells, such that the blocks tell of as many as are wanted.
 fn most_told(known: &[Option<u8>; 12], parity: usize) -> usize
     ensures { result ≤ 4 }
 {
-    let spare = spare(known);
-    let wanted = (parity / 2 + spare).saturating_sub(10);
-    let blocks = if spare == 3 { 6 } else { 3 };
-    wanted.div_ceil(blocks).clamp(2, 4)
+    let blocks = if spare(known) == 3 { 6 } else { 3 };
+    wanted(known, parity).div_ceil(blocks).clamp(2, 4)
+}
+
+/// Of how many errors the blocks tell together.
+fn all_told(blocks: &[Block]) -> usize {
+    let mut told = 0usize;
+    for block in blocks {
+        told = told.saturating_add(block.least);
+    }
+    told
 }
 
 impl Sieve {
-    /// A sieve for headers with these known bytes, by the encoder of their parity.
-    pub fn new(coder: &Parity, known: [Option<u8>; 12], parity: usize) -> Sieve
+    /// A sieve for headers with these known bytes, by the encoder of their parity. None where its blocks would tell of
+    /// no word.
+    pub fn new(
+        alloc: Global,
+        coder: &Parity,
+        known: [Option<u8>; 12],
+        parity: usize,
+    ) -> Result<Option<Sieve>, AllocError>
         requires coder { coder.now ≡ parity }
         requires few { parity ≤ 127 }
-        ensures known { result.known ≡ known }
-        ensures parity { result.parity ≡ parity }
+        ensures { IfOk result (λ sieve. IfSome sieve (λ s. (s.known ≡ known) × (s.parity ≡ parity))) }
     {
-        let most = most_told(&known, parity);
-        Sieve {
+        let blocks = blocks_of(alloc, &known, parity, most_told(&known, parity))?;
+        if all_told(blocks.as_slice()) < wanted(&known, parity) {
+            return Ok(None);
+        }
+        Ok(Some(Sieve {
             known,
             parity,
             base: codeword_of(coder, &known, &known_header(&known), parity),
-            blocks: blocks_of(&known, parity, most),
-        }
+            blocks,
+        }))
     }
 
     /// Whether each codeword with the known bytes differs from the word in more than `most` places. Not all words of

@@ -1,7 +1,5 @@
 -- All sums before the last are zero, and the last is not. For `are_factors`.
-use Rattle.std.proofs.Common.{◌≡◌, ◌≢◌, ℕ, ◌-◌, sym, ap, ◌∙◌, arith, below_more, length}
-use Rattle.std.specs.Prelude.{slice_index}
-use Rattle.salvage.specs.Sieves.{dot}
+use Rattle.std.proofs.Common.{sym, ◌∙◌, arith, below_more}
 use Rattle.salvage.proofs.Sieving.{unequal}
 use Rattle.salvage.proofs.sieve.are_factors.Goals as goal
 

@@ -1,5 +1,4 @@
 -- One product more is added. For `dot_at`.
-use Rattle.std.proofs.Common.{arith}
 use Rattle.std.specs.Prelude.{slice_index}
 use Rattle.salvage.proofs.Sieving.{dot_begun, dot_next, dot_done}
 use Rattle.salvage.proofs.sieve.dot_at.Goals as goal

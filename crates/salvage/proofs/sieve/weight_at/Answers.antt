@@ -1,5 +1,5 @@
 -- One count more is the one before times the locator. For `weight_at`.
-use Rattle.std.proofs.Common.{◌≡◌, ◌≢◌, ℕ, suc, ◌+◌, ap, ap₂, ◌∙◌, arith, below_more, get_or-set_same, get_or-set_other, length-set}
+use Rattle.std.proofs.Common.{◌≢◌, ℕ, ap, ap₂, ◌∙◌, arith, below_more, get_or-set_same, get_or-set_other, length-set}
 use Rattle.code_spec.specs.Field.{gf_mul}
 use Rattle.salvage.specs.Sieves.{times_power}
 use Rattle.salvage.proofs.Sieving.{zeroth_is, next_power}
