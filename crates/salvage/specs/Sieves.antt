@@ -64,8 +64,8 @@ pub record IsKnownWord (ks : List (Option ℕ)) (r : ℕ) (c : List ℕ) : Type 
 abbrev pub IsOutside : ℕ → ℕ → ℕ → Type 0
 IsOutside from to j = (j < from) ⊎ (to ≤ j)
 
--- the rows of a block are of weights, which are those of powers that are few enough for the sums of codewords to be zero, and among which
--- are those of all other unknown places. Twice as many sums less one tell of so many errors at least
+-- the rows of a block are of weights. These are of powers that are few enough for the sums of codewords to be zero, and
+-- among which are those of all other unknown places. Twice as many sums less one tell of so many errors at least
 pub record IsBlock (ks : List (Option ℕ)) (r : ℕ) (b : Block) : Type 0 where
   pub others : List ℕ
   pub few : length others + 2 * b.least ≤ r + 1
