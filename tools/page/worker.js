@@ -11,7 +11,7 @@ const compiled = WebAssembly.compile(Uint8Array.from(atob(MODULE), (letter) => l
 // An instance whose memory has grown once to about what the report needs: Firefox moves all of it at each growth.
 async function newInstance(imageLength) {
     const instance = await WebAssembly.instantiate(await compiled, {});
-    const pages = BigInt(Math.ceil((imageLength * 16 + (1 << 22)) / 65536));
+    const pages = BigInt(Math.ceil((imageLength * 40 + (1 << 22)) / 65536));
     try {
         instance.exports.memory.grow(pages);
     } catch (fault) {
