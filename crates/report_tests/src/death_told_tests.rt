@@ -21,15 +21,16 @@ fn assert_told(
     line: &[u8],
 ) -> Result<(), Fail> {
     let report = report_on(alloc, logs)?;
-    let told = death_told(report.records()).ok_or("no record tells")?;
+    assert_teller(rt, report.records(), name, line);
+    Ok(())
+}
+
+fn assert_teller(rt: &impl Abort, records: &[RecordReport], name: Name, line: &[u8]) {
+    let told = death_told(records).expect(rt, "a record tells");
     let teller: &RecordReport = told.teller;
     let telling = told.death.telling;
-    assert_eq!(rt; teller.name, name);
-    assert_eq!(rt;
-        teller.readable().get(telling.text..telling.end),
-        Some(line)
-    );
-    Ok(())
+    let text = teller.readable().get(telling.text..telling.end);
+    assert!(rt; teller.name == name && text == Some(line));
 }
 
 fn assert_none(rt: &impl Abort, alloc: Global, logs: [&[u8]; 4]) -> Result<(), Fail> {
@@ -62,9 +63,8 @@ fn the_newest_dump_tells(rt: HostRuntime) -> Result<(), Fail> {
 #[test]
 fn no_place_of_an_older_oops(rt: HostRuntime) -> Result<(), Fail> {
     let report = report_on(rt.alloc(), [OOPS, PANIC, b"", CONSOLE])?;
-    let told = death_told(report.records()).ok_or("no record tells")?;
-    assert_eq!(rt; told.death.function, None);
-    assert_eq!(rt; told.death.cpu, None);
+    let told = death_told(report.records()).expect(&rt, "a record tells");
+    assert!(rt; told.death.function.is_none() && told.death.cpu.is_none());
     Ok(())
 }
 

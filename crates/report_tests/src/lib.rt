@@ -18,4 +18,6 @@ mod report_text_tests;
 #[cfg(test)]
 mod report_tool_tests;
 #[cfg(test)]
+mod whole_reports;
+#[cfg(test)]
 mod worked_deaths;

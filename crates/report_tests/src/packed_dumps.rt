@@ -1,11 +1,9 @@
 // Images of one compressed dump, for the tests of each crate.
-use outside::Bytes;
-use ramoops_layout::types::Layout;
-use ramoops_layout::{Params, layout};
-use record_report::{Report, report_of};
+use crate::whole_reports;
+use ramoops_layout::Params;
+use record_report::Report;
 use std::alloc::Global;
 use std::test::Fail;
-use symbols::Symbols;
 
 /// What zlib makes of the text `Panic#1 Part1`, a newline, `red `, an escape, `\\<b>` and a newline.
 pub const WHOLE: [u8; 26] = [
@@ -48,15 +46,6 @@ pub fn image_of(alloc: Global, packed: &[u8]) -> Result<Vec<u8>, Fail> {
     Ok(bytes)
 }
 
-pub fn zones_of(alloc: Global) -> Result<Layout, Fail> {
-    Ok(layout(alloc, &PARAMS)?)
-}
-
 pub fn report_on(alloc: Global, packed: &[u8]) -> Result<Report, Fail> {
-    let zones = zones_of(alloc)?;
-    let image = Bytes::from_vec(image_of(alloc, packed)?);
-    if image.len() != zones.mem() as usize {
-        return Err(Fail::from("the image has another size"));
-    }
-    Ok(report_of(alloc, &zones, &Symbols::none(alloc), image)?)
+    whole_reports::report_on(alloc, &PARAMS, image_of(alloc, packed)?)
 }

@@ -1,11 +1,9 @@
 // Android's log and an ftrace log, as people read them.
-use outside::Bytes;
-use ramoops_layout::{Params, layout};
-use record_report::{Report, report_of};
-use report_html::html;
-use report_json::json;
-use report_text::text;
+use crate::whole_reports::{has, line_of, page_of, report_by, text_on};
+use ramoops_layout::Params;
+use record_report::{RecordReport, Report};
 use std::alloc::Global;
+use std::process::Abort;
 use std::test::Fail;
 use symbols::Symbols;
 use zone_spec::Name;
@@ -70,72 +68,58 @@ fn image_of(alloc: Global, signature: u32, log: &[u8]) -> Result<Vec<u8>, Fail> 
 
 // The report of that image.
 fn reported(alloc: Global, params: &Params, signature: u32, log: &[u8]) -> Result<Report, Fail> {
-    let image = Bytes::from_vec(image_of(alloc, signature, log)?);
-    let zones = layout(alloc, params)?;
-    if image.len() != zones.mem() as usize {
-        return Err(Fail::from("the image has another size"));
-    }
     let symbols = Symbols::read(alloc, Vec::from_slice(alloc, MAP)?)?;
-    Ok(report_of(alloc, &zones, &symbols, image)?)
-}
-
-// The text of its report.
-fn shown(alloc: Global, params: &Params, log: &[u8]) -> Result<Bytes, Fail> {
-    let image = Bytes::from_vec(image_of(alloc, 0x4347_4244, log)?);
-    let zones = layout(alloc, params)?;
-    if image.len() != zones.mem() as usize {
-        return Err(Fail::from("the image has another size"));
-    }
-    let report = report_of(alloc, &zones, &Symbols::none(alloc), image)?;
-    Ok(text(alloc, b"a", zones.zones(), &report, 10)?)
+    report_by(alloc, params, image_of(alloc, signature, log)?, &symbols)
 }
 
 #[test]
 fn lines_of_android(rt: HostRuntime) -> Result<(), Fail> {
-    let text = shown(rt.alloc(), &params(4096, 0), PMSG)?;
+    let params = params(4096, 0);
+    let image = image_of(rt.alloc(), 0x4347_4244, PMSG)?;
+    let text = text_on(rt.alloc(), b"a", &params, image)?;
     assert!(rt; str::from_utf8(text.as_slice())?.ends_with(LINES));
     Ok(())
 }
 
 #[test]
 fn log_of_android(rt: HostRuntime) -> Result<(), Fail> {
-    let alloc = rt.alloc();
     let params = params(4096, 0);
-    let zones = layout(alloc, &params)?;
-    let report = reported(alloc, &params, 0x4347_4244, PMSG)?;
-    if report.logs().len() as usize != zones.zones().len()
-        || report.parts().len() != zones.zones().len()
-    {
-        return Err(Fail::from("the report has other zones"));
-    }
-    let line = json(alloc, "a", &params, zones.zones(), &report)?;
+    let report = reported(rt.alloc(), &params, 0x4347_4244, PMSG)?;
+    let line = line_of(rt.alloc(), "a", &params, &report)?;
     assert!(rt; line.as_str().contains(ENTRIES));
     Ok(())
+}
+
+// The first record of a report.
+fn first<'a>(rt: &impl Abort, report: &'a Report) -> &'a RecordReport {
+    report.records().first().expect(rt, "a record")
 }
 
 // Text that is no log of Android's is read as it stands.
 #[test]
 fn other_pmsg(rt: HostRuntime) -> Result<(), Fail> {
     let report = reported(rt.alloc(), &params(4096, 0), 0x4347_4244, b"lll\x12\0")?;
-    let record = report.records().first().ok_or("no record")?;
-    assert!(rt; record.entries.is_empty());
-    assert_eq!(rt; record.readable(), b"lll\x12\0".as_slice());
+    let record = first(&rt, &report);
+    assert!(rt; record.entries.is_empty() && record.readable() == b"lll\x12\0".as_slice());
     Ok(())
 }
 
 #[test]
 fn trace_with_functions(rt: HostRuntime) -> Result<(), Fail> {
     let report = reported(rt.alloc(), &params(0, 4096), 0x4341_4384, FTRACE)?;
-    let record = report.records().first().ok_or("no record")?;
-    assert_eq!(rt; record.name, Name::Ftrace);
-    assert_eq!(rt; str::from_utf8(record.content.as_slice())?, TRACE);
+    let record = first(&rt, &report);
+    assert!(rt; record.name == Name::Ftrace && record.content.as_slice() == TRACE.as_bytes());
     Ok(())
+}
+
+fn page(alloc: Global, params: &Params, signature: u32, log: &[u8]) -> Result<Vec<u8>, Fail> {
+    let report = reported(alloc, params, signature, log)?;
+    page_of(alloc, b"a", params, &report)
 }
 
 // The page of such an image says what a pmsg and an ftrace log are, whatever stands in them.
 #[test]
 fn above_other_records(rt: HostRuntime) -> Result<(), Fail> {
-    let alloc = rt.alloc();
     let panic = b"Kernel panic - not syncing: x\n";
     for (params, signature, log, above) in [
         (
@@ -151,10 +135,8 @@ fn above_other_records(rt: HostRuntime) -> Result<(), Fail> {
             "<pre class=\"say\">function trace</pre>\n<details>\n<summary><b>ftrace-ramoops-0</b>",
         ),
     ] {
-        let zones = layout(alloc, &params)?;
-        let report = reported(alloc, &params, signature, log)?;
-        let page = html(alloc, b"a", &params, zones.zones(), &report)?;
-        assert!(rt; str::from_utf8(page.as_slice())?.contains(above), "{above}");
+        let page = page(rt.alloc(), &params, signature, log)?;
+        assert!(rt; has(&page, above)?, "{above}");
     }
     Ok(())
 }

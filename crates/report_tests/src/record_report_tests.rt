@@ -1,12 +1,12 @@
 // Worked images: what their reports hold.
 use crate::packed_dumps::{DAMAGED, TEXT, WHOLE, report_on};
+use crate::whole_reports;
 use inflate_spec::Fault;
-use outside::Bytes;
-use ramoops_layout::{Params, layout};
+use ramoops_layout::Params;
 use record_report::*;
 use std::alloc::Global;
+use std::process::Abort;
 use std::test::Fail;
-use symbols::Symbols;
 use zone_spec::Name;
 
 const HEADER_OF_3: [u8; 12] = [0x44, 0x42, 0x47, 0x43, 3, 0, 0, 0, 3, 0, 0, 0];
@@ -47,6 +47,10 @@ fn put(bytes: &mut Vec<u8>, at: usize, piece: &[u8]) {
     }
 }
 
+fn dump(packed: bool) -> Name {
+    Name::Dump { index: 0, packed }
+}
+
 // The report of the console zone with this record's text.
 fn reported(alloc: Global, text: &[u8]) -> Result<Report, Fail> {
     let mut bytes = vec![in alloc; 0u8; 4096]?;
@@ -54,12 +58,15 @@ fn reported(alloc: Global, text: &[u8]) -> Result<Report, Fail> {
     put(&mut bytes, 12, text);
     put(&mut bytes, 3616, &PARITY_OF_ABC);
     put(&mut bytes, 4080, &PARITY_OF_3);
-    let zones = layout(alloc, &console())?;
-    let image = Bytes::from_vec(bytes);
-    if image.len() != zones.mem() as usize {
-        return Err(Fail::from("the image has another size"));
-    }
-    Ok(report_of(alloc, &zones, &Symbols::none(alloc), image)?)
+    whole_reports::report_on(alloc, &console(), bytes)
+}
+
+fn assert_blocks(rt: &impl Abort, report: &Report, block: PartState, corrected: u32, bad: u32) {
+    assert!(rt; report.logs().len() == 1 && report.parts().len() == 1);
+    let read = report.parts().first().expect(rt, "one zone");
+    assert!(rt; read.header == PartState::Read(0) && read.blocks.as_slice() == [block].as_slice());
+    let reading = report.logs().reading(0).expect(rt, "one reading");
+    assert!(rt; (reading.corrected, reading.bad) == (corrected, bad));
 }
 
 // A found console zone, its one used block as told or with so many wrong bytes.
@@ -73,33 +80,40 @@ fn blocks_as_they_read(rt: HostRuntime) -> Result<(), Fail> {
     ];
     for (text, block, corrected, bad) in rows {
         let report = reported(rt.alloc(), text)?;
-        let parts = report.parts().first().ok_or("no zone")?;
-        assert_eq!(rt; parts.header, PartState::Read(0));
-        assert_eq!(rt; parts.blocks.as_slice(), [block].as_slice());
-        assert_eq!(rt; report.logs().len(), 1);
-        let reading = report.logs().reading(0).ok_or("no reading")?;
-        assert_eq!(rt; (reading.corrected, reading.bad), (corrected, bad));
+        assert_blocks(&rt, &report, block, corrected, bad);
     }
     Ok(())
+}
+
+// The one record of a report.
+fn only_record<'a>(rt: &impl Abort, report: &'a Report) -> &'a RecordReport {
+    match report.records() {
+        [record] => record,
+        _ => panic!(rt; "there is one record"),
+    }
+}
+
+fn assert_record(rt: &impl Abort, record: &RecordReport, name: Name, content: &[u8]) {
+    assert!(rt; record.name == name && record.content.as_slice() == content);
 }
 
 // Its record, with the notice of one corrected byte.
 #[test]
 fn record_with_its_notice(rt: HostRuntime) -> Result<(), Fail> {
     let report = reported(rt.alloc(), b"abd")?;
-    assert_eq!(rt; report.records().len(), 1);
-    let record = report.records().first().ok_or("no record")?;
-    assert_eq!(rt; record.name, Name::Console);
-    assert_eq!(rt; record.time, None);
+    let record = only_record(&rt, &report);
     let content = b"abc\nECC: 1 Corrected bytes, 0 unrecoverable blocks\n";
-    assert_eq!(rt; record.content.as_slice(), content.as_slice());
+    assert_record(&rt, record, Name::Console, content);
+    assert!(rt; record.time.is_none());
     Ok(())
 }
 
-fn only_record(report: &Report) -> Result<&RecordReport, Fail> {
-    match report.records() {
-        [record] => Ok(record),
-        _ => Err(Fail::from("there is one record")),
+fn assert_whole(rt: &impl Abort, record: &RecordReport, wanted: usize) {
+    assert_record(rt, record, dump(false), TEXT);
+    assert!(rt; record.readable() == TEXT);
+    match record.packing {
+        Packing::Whole { taken } => assert!(rt; taken == wanted),
+        _ => panic!(rt; "the dump inflates"),
     }
 }
 
@@ -109,18 +123,7 @@ fn a_dump_that_inflates(rt: HostRuntime) -> Result<(), Fail> {
         let mut packed = Vec::from_slice(rt.alloc(), &WHOLE)?;
         packed.extend_from_slice(more.as_bytes())?;
         let report = report_on(rt.alloc(), &packed)?;
-        let record = only_record(&report)?;
-        let name = Name::Dump {
-            index: 0,
-            packed: false,
-        };
-        assert_eq!(rt; record.name, name);
-        assert_eq!(rt; record.content.as_slice(), TEXT);
-        assert_eq!(rt; record.readable(), TEXT);
-        let Packing::Whole { taken } = record.packing else {
-            return Err(Fail::from("the dump inflates"));
-        };
-        assert_eq!(rt; taken, 26);
+        assert_whole(&rt, only_record(&rt, &report), 26);
     }
     Ok(())
 }
@@ -142,11 +145,25 @@ fn run_of_letters(last: u8) -> [u8; 34] {
 #[test]
 fn the_longest_text(rt: HostRuntime) -> Result<(), Fail> {
     let report = report_on(rt.alloc(), &run_of_letters(0x6f))?;
-    let record = only_record(&report)?;
+    let record = only_record(&rt, &report);
     assert!(rt; matches!(record.packing, Packing::Whole { taken: 34 }));
-    assert_eq!(rt; record.content.as_slice().len(), 16384);
-    assert!(rt; record.content.as_slice().iter().all(|b| *b == b'a'));
+    assert!(rt; record.content.as_slice() == [b'a'; 16384].as_slice());
     Ok(())
+}
+
+fn assert_part(
+    rt: &impl Abort,
+    record: &RecordReport,
+    packed: &[u8],
+    wanted: TextFault,
+    front: &[u8],
+) {
+    assert_record(rt, record, dump(true), packed);
+    assert!(rt; record.readable() == front);
+    match &record.packing {
+        Packing::Part { fault, text } => assert!(rt; *fault == wanted && text.as_slice() == front),
+        _ => panic!(rt; "the dump breaks off"),
+    }
 }
 
 // Dumps that do not inflate, each with the fault and the text up to it.
@@ -154,7 +171,6 @@ fn the_longest_text(rt: HostRuntime) -> Result<(), Fail> {
 fn dumps_that_break_off(rt: HostRuntime) -> Result<(), Fail> {
     // What lz4 makes of the first twenty bytes of the text: their number, and the bytes.
     let other = b"\xf0\x05Panic#1 Part1\nred \x1b\\";
-    let letters = vec![in rt.alloc(); b'a'; 16256]?;
     let broken = TextFault::Broken;
     let rows: [(&[u8], TextFault, &[u8]); 6] = [
         (&WHOLE[..22], broken(Fault::EndOfInput), &TEXT[..21]),
@@ -162,23 +178,11 @@ fn dumps_that_break_off(rt: HostRuntime) -> Result<(), Fail> {
         (b"", broken(Fault::EndOfInput), b""),
         (&DAMAGED, broken(Fault::ReservedBlock), b"\nred \xc3"),
         (other, broken(Fault::StoredLength), b""),
-        (&run_of_letters(0x77), TextFault::TooLong, &letters),
+        (&run_of_letters(0x77), TextFault::TooLong, &[b'a'; 16256]),
     ];
     for (packed, wanted, front) in rows {
         let report = report_on(rt.alloc(), packed)?;
-        let record = only_record(&report)?;
-        let name = Name::Dump {
-            index: 0,
-            packed: true,
-        };
-        assert_eq!(rt; record.name, name);
-        assert_eq!(rt; record.content.as_slice(), packed);
-        let Packing::Part { fault, text } = &record.packing else {
-            return Err(Fail::from("the dump breaks off"));
-        };
-        assert_eq!(rt; *fault, wanted);
-        assert_eq!(rt; text.as_slice(), front);
-        assert_eq!(rt; record.readable(), front);
+        assert_part(&rt, only_record(&rt, &report), packed, wanted, front);
     }
     Ok(())
 }

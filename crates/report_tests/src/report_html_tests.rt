@@ -1,14 +1,11 @@
 // Pages and escaped bytes.
-use crate::packed_dumps::{self, DAMAGED, WHOLE, report_on, zones_of};
+use crate::packed_dumps::{self, DAMAGED, WHOLE};
+use crate::whole_reports::{has, page_of, report_on};
 use crate::worked_deaths::{self, CONSOLE, FATAL, NAMED, NONE, OOPS, PANIC, SILENT};
-use outside::Bytes;
-use ramoops_layout::types::Layout;
-use ramoops_layout::{Params, layout};
-use record_report::report_of;
+use ramoops_layout::Params;
 use report_html::*;
 use std::alloc::Global;
 use std::test::Fail;
-use symbols::Symbols;
 
 #[test]
 fn escaped_rows(rt: HostRuntime) -> Result<(), Fail> {
@@ -53,13 +50,8 @@ fn one_console(ecc: u64) -> Params {
 /// The page of an image of a console with so many bytes of parity.
 fn console_page(alloc: Global, ecc: u64, bytes: Vec<u8>) -> Result<Vec<u8>, Fail> {
     let params = one_console(ecc);
-    let zones = layout(alloc, &params)?;
-    let image = Bytes::from_vec(bytes);
-    if image.len() != zones.mem() as usize {
-        return Err(Fail::from("the image has another size"));
-    }
-    let report = report_of(alloc, &zones, &Symbols::none(alloc), image)?;
-    Ok(html(alloc, b"a<b", &params, zones.zones(), &report)?)
+    let report = report_on(alloc, &params, bytes)?;
+    page_of(alloc, b"a<b", &params, &report)
 }
 
 // The page of an image of one console record, which would be a script.
@@ -174,30 +166,18 @@ red \\x1b\\x5c&lt;</pre>",
 red \\xc3</pre>",
         ),
     ] {
-        let zones = zones_of(rt.alloc())?;
-        let report = report_on(rt.alloc(), packed)?;
-        let page = html(
-            rt.alloc(),
-            b"a",
-            &packed_dumps::PARAMS,
-            zones.zones(),
-            &report,
-        )?;
-        assert!(rt;
-            str::from_utf8(page.as_slice())?.contains(record),
-            "{record}"
-        );
+        let report = packed_dumps::report_on(rt.alloc(), packed)?;
+        let page = page_of(rt.alloc(), b"a", &packed_dumps::PARAMS, &report)?;
+        assert!(rt; has(&page, record)?, "{record}");
     }
     Ok(())
 }
 
 /// Whether the page of these logs has this text.
 fn shows(rt: HostRuntime, logs: [&[u8]; 4], wanted: &str) -> Result<bool, Fail> {
-    let zones = worked_deaths::zones_of(rt.alloc())?;
     let report = worked_deaths::report_on(rt.alloc(), logs)?;
-    let params = &worked_deaths::PARAMS;
-    let page = html(rt.alloc(), b"a", params, zones.zones(), &report)?;
-    Ok(str::from_utf8(page.as_slice())?.contains(wanted))
+    let page = page_of(rt.alloc(), b"a", &worked_deaths::PARAMS, &report)?;
+    has(&page, wanted)
 }
 
 #[test]
@@ -338,15 +318,8 @@ fn unfolded_dump(rt: HostRuntime) -> Result<(), Fail> {
     Ok(())
 }
 
-/// The page of an image of 36 dumps of 256 bytes and a console, which holds these logs at these zones.
-fn page_of_many(alloc: Global, logs: &[(u16, &[u8])]) -> Result<Vec<u8>, Fail> {
-    let params = Params {
-        mem: 37 * 256,
-        dump: 256,
-        console: 256,
-        ..worked_deaths::PARAMS
-    };
-    let zones = layout(alloc, &params)?;
+/// The image of 36 dumps of 256 bytes and a console, which holds these logs at these zones.
+fn image_of_many(alloc: Global, logs: &[(u16, &[u8])]) -> Result<Vec<u8>, Fail> {
     let mut bytes = Vec::new(alloc);
     for (zone, log) in logs {
         bytes.resize(256 * usize::from(*zone), 0)?;
@@ -357,12 +330,19 @@ fn page_of_many(alloc: Global, logs: &[(u16, &[u8])]) -> Result<Vec<u8>, Fail> {
         bytes.extend_from_slice(log)?;
     }
     bytes.resize(37 * 256, 0)?;
-    let image = Bytes::from_vec(bytes);
-    if image.len() != zones.mem() as usize {
-        return Err(Fail::from("the image has another size"));
-    }
-    let report = report_of(alloc, &zones, &Symbols::none(alloc), image)?;
-    Ok(html(alloc, b"a", &params, zones.zones(), &report)?)
+    Ok(bytes)
+}
+
+/// Its page.
+fn page_of_many(alloc: Global, logs: &[(u16, &[u8])]) -> Result<Vec<u8>, Fail> {
+    let params = Params {
+        mem: 37 * 256,
+        dump: 256,
+        console: 256,
+        ..worked_deaths::PARAMS
+    };
+    let report = report_on(alloc, &params, image_of_many(alloc, logs)?)?;
+    page_of(alloc, b"a", &params, &report)
 }
 
 // Dumps of 32 zones make a group. That of the unfolded dump is open.
@@ -395,17 +375,21 @@ fn groups_of_dumps(rt: HostRuntime) -> Result<(), Fail> {
     ] {
         assert!(rt; text.contains(shown), "{shown}");
     }
+    Ok(())
+}
+
+// One group of dumps, first or last, and no group.
+#[test]
+fn one_group_of_dumps(rt: HostRuntime) -> Result<(), Fail> {
     let page = page_of_many(
         rt.alloc(),
         &[(0, b"====1.0-D\na\n"), (31, b"====2.0-D\nb\n")],
     )?;
-    assert!(rt; str::from_utf8(page.as_slice())?.contains("from 0</b>"));
-    assert!(rt; !str::from_utf8(page.as_slice())?.contains("from 32</b>"));
-    assert!(rt; !shows(rt, [OOPS, PANIC, NONE, CONSOLE], "class=\"group\"")?);
-    // a group at the end of the list
-    let page = page_of_many(rt.alloc(), &[(33, b"====1.0-D\na\n")])?;
+    assert!(rt; has(&page, "from 0</b>")? && !has(&page, "from 32</b>")?);
     let last = "a\n</pre>\n</details>\n</details>\n<h2 id=\"region\">";
-    assert!(rt; str::from_utf8(page.as_slice())?.contains(last));
+    let page = page_of_many(rt.alloc(), &[(33, b"====1.0-D\na\n")])?;
+    assert!(rt; has(&page, last)?);
+    assert!(rt; !shows(rt, [OOPS, PANIC, NONE, CONSOLE], "class=\"group\"")?);
     Ok(())
 }
 

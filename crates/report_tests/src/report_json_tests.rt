@@ -1,16 +1,13 @@
 // Lines of worked images.
-use crate::packed_dumps::{DAMAGED, PARAMS, WHOLE, report_on, zones_of};
+use crate::packed_dumps::{self, DAMAGED, WHOLE};
+use crate::whole_reports::{line_of, report_on};
 use crate::worked_deaths::{self, CONSOLE, FATAL, NAMED, NONE, PANIC};
-use outside::Bytes;
-use ramoops_layout::{Params, layout};
-use record_report::report_of;
-use report_json::*;
+use ramoops_layout::Params;
 use std::alloc::Global;
 use std::test::Fail;
-use symbols::Symbols;
 
 // The line of an image of one console zone, whose record is this text.
-fn line_of(alloc: Global, text: &[u8]) -> Result<String, Fail> {
+fn line_of_console(alloc: Global, text: &[u8]) -> Result<String, Fail> {
     let params = Params {
         mem: 4096,
         dump: 0,
@@ -26,34 +23,24 @@ fn line_of(alloc: Global, text: &[u8]) -> Result<String, Fail> {
         ecc_ftrace: 0,
         ecc_pmsg: 0,
     };
-    let zones = layout(alloc, &params)?;
     let mut bytes = Vec::new(alloc);
     bytes.extend_from_slice(&[0x44, 0x42, 0x47, 0x43, 3, 0, 0, 0, 3, 0, 0, 0])?;
     bytes.extend_from_slice(text)?;
     bytes.resize(4096, 0)?;
-    let image = Bytes::from_vec(bytes);
-    if image.len() != zones.mem() as usize {
-        return Err(Fail::from("the image has another size"));
-    }
-    let report = report_of(alloc, &zones, &Symbols::none(alloc), image)?;
-    if report.logs().len() as usize != zones.zones().len()
-        || report.parts().len() != zones.zones().len()
-    {
-        return Err(Fail::from("the report has other zones"));
-    }
-    Ok(json(alloc, "a\"b", &params, zones.zones(), &report)?)
+    let report = report_on(alloc, &params, bytes)?;
+    line_of(alloc, "a\"b", &params, &report)
 }
 
 #[test]
 fn record_as_text_and_in_base64(rt: HostRuntime) -> Result<(), Fail> {
-    let line = line_of(rt.alloc(), b"abc")?;
+    let line = line_of_console(rt.alloc(), b"abc")?;
     let front =
         "{\"death\":null,\"parameters\":{\"block_size\":128,\"console_size\":4096,\"cpus\":1,\"ecc\":0,\"ecc_console\":0,\
 \"ecc_dump\":0,\"ecc_ftrace\":0,\"ecc_pmsg\":0,\"ftrace_sig\":0,\"ftrace_size\":0,\"mem_size\":4096,\"pmsg_size\":0,\
 \"record_size\":0},\"path\":\"a\\\"b\",\"records\":[{\"bad\":0,\"base64\":null,\"compressed\":false,\
 \"corrected\":0,\"entries\":null,\"fault\":null,\"name\":\"console-ramoops-0\",\"taken\":null,\"text\":\"abc\",\"time\":null}],\"schema\":2,\"zones\":[{\"bad\":0,\"blocks\":[0,null";
     assert!(rt; line.as_str().starts_with(front));
-    let raw = line_of(rt.alloc(), &[0xff, 0xfe, 0xfd])?;
+    let raw = line_of_console(rt.alloc(), &[0xff, 0xfe, 0xfd])?;
     assert!(rt;
         raw.as_str().contains(
             "\"base64\":\"//79\",\"compressed\":false,\"corrected\":0,\"entries\":null,\"fault\":null,\"name\":\"console-ramoops-0\",\
@@ -89,14 +76,8 @@ fn compressed_dumps(rt: HostRuntime) -> Result<(), Fail> {
 \"name\":\"dmesg-ramoops-0\",\"taken\":6,\"text\":null,",
         ),
     ] {
-        let zones = zones_of(rt.alloc())?;
-        let report = report_on(rt.alloc(), packed)?;
-        if report.logs().len() as usize != zones.zones().len()
-            || report.parts().len() != zones.zones().len()
-        {
-            return Err(Fail::from("the report has other zones"));
-        }
-        let line = json(rt.alloc(), "a", &PARAMS, zones.zones(), &report)?;
+        let report = packed_dumps::report_on(rt.alloc(), packed)?;
+        let line = line_of(rt.alloc(), "a", &packed_dumps::PARAMS, &report)?;
         assert!(rt; line.as_str().contains(record), "{record}");
     }
     Ok(())
@@ -125,20 +106,8 @@ fn why_it_died(rt: HostRuntime) -> Result<(), Fail> {
 \"task\":null,\"trace\":[]},\"parameters\":",
         ),
     ] {
-        let zones = worked_deaths::zones_of(rt.alloc())?;
         let report = worked_deaths::report_on(rt.alloc(), logs)?;
-        if report.logs().len() as usize != zones.zones().len()
-            || report.parts().len() != zones.zones().len()
-        {
-            return Err(Fail::from("the report has other zones"));
-        }
-        let line = json(
-            rt.alloc(),
-            "a",
-            &worked_deaths::PARAMS,
-            zones.zones(),
-            &report,
-        )?;
+        let line = line_of(rt.alloc(), "a", &worked_deaths::PARAMS, &report)?;
         assert!(rt; line.as_str().starts_with(death), "{death}");
     }
     Ok(())

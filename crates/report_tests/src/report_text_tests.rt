@@ -1,13 +1,11 @@
 // Texts of worked images, and dates in them.
-use crate::packed_dumps::{DAMAGED, WHOLE, image_of, zones_of};
+use crate::packed_dumps::{self, DAMAGED, WHOLE};
+use crate::whole_reports::{has, text_on};
 use crate::worked_deaths::{self, CONSOLE, NAMED, NONE, OOPS, PANIC};
 use outside::Bytes;
-use ramoops_layout::{Params, layout};
-use record_report::report_of;
-use report_text::text;
+use ramoops_layout::Params;
 use std::alloc::Global;
 use std::test::Fail;
-use symbols::Symbols;
 
 // A dump of 4096 bytes, and a console.
 const PARAMS: Params = Params {
@@ -46,8 +44,8 @@ last lines of the console
   one\\x5c\\xff
 ";
 
-// The text of the two zones, with this time line and an escape sequence in the console.
-fn shown(alloc: Global, line: &[u8]) -> Result<Bytes, Fail> {
+// The image of the two zones, with this time line and an escape sequence in the console.
+fn image_of(alloc: Global, line: &[u8]) -> Result<Vec<u8>, Fail> {
     let used = u8::try_from(line.len().saturating_add(14))?;
     let mut bytes = Vec::new(alloc);
     bytes.extend_from_slice(&[0x44, 0x42, 0x47, 0x43, used, 0, 0, 0, used, 0, 0, 0])?;
@@ -57,31 +55,25 @@ fn shown(alloc: Global, line: &[u8]) -> Result<Bytes, Fail> {
     bytes.extend_from_slice(&[0x44, 0x42, 0x47, 0x43, 15, 0, 0, 0, 15, 0, 0, 0])?;
     bytes.extend_from_slice(b"\x1b[31mred\none\\\xff\n")?;
     bytes.resize(8192, 0)?;
-    let zones = layout(alloc, &PARAMS)?;
-    let image = Bytes::from_vec(bytes);
-    if image.len() != zones.mem() as usize {
-        return Err(Fail::from("the image has another size"));
-    }
-    let report = report_of(alloc, &zones, &Symbols::none(alloc), image)?;
-    Ok(text(alloc, b"a\x1bb", zones.zones(), &report, 10)?)
+    Ok(bytes)
+}
+
+// Its text.
+fn shown(alloc: Global, line: &[u8]) -> Result<Bytes, Fail> {
+    text_on(alloc, b"a\x1bb", &PARAMS, image_of(alloc, line)?)
 }
 
 #[test]
 fn two_records(rt: HostRuntime) -> Result<(), Fail> {
     let text = shown(rt.alloc(), b"====1764201858.836908-D\n")?;
-    assert_eq!(rt; str::from_utf8(text.as_slice())?, TEXT);
+    assert!(rt; text.as_slice() == TEXT.as_bytes());
     Ok(())
 }
 
 // The text of a report on a compressed dump, from the table of its record on.
 fn shown_packed(alloc: Global, packed: &[u8]) -> Result<Bytes, Fail> {
-    let zones = zones_of(alloc)?;
-    let image = Bytes::from_vec(image_of(alloc, packed)?);
-    if image.len() != zones.mem() as usize {
-        return Err(Fail::from("the image has another size"));
-    }
-    let report = report_of(alloc, &zones, &Symbols::none(alloc), image)?;
-    Ok(text(alloc, b"a", zones.zones(), &report, 10)?)
+    let image = packed_dumps::image_of(alloc, packed)?;
+    text_on(alloc, b"a", &packed_dumps::PARAMS, image)
 }
 
 #[test]
@@ -133,13 +125,8 @@ last lines of the newest dump
 
 // The text of a report on these logs.
 fn shown_deaths(alloc: Global, logs: [&[u8]; 4]) -> Result<Bytes, Fail> {
-    let zones = worked_deaths::zones_of(alloc)?;
-    let image = Bytes::from_vec(worked_deaths::image_of(alloc, logs)?);
-    if image.len() != zones.mem() as usize {
-        return Err(Fail::from("the image has another size"));
-    }
-    let report = report_of(alloc, &zones, &Symbols::none(alloc), image)?;
-    Ok(text(alloc, b"a", zones.zones(), &report, 10)?)
+    let image = worked_deaths::image_of(alloc, logs)?;
+    text_on(alloc, b"a", &worked_deaths::PARAMS, image)
 }
 
 #[test]
@@ -163,12 +150,9 @@ fn why_it_died(rt: HostRuntime) -> Result<(), Fail> {
 ",
         ),
     ] {
-        let text = shown_deaths(rt.alloc(), logs)?;
         let wanted = format!(in rt.alloc(); "{died}\nzone ")?;
-        assert!(rt;
-            str::from_utf8(text.as_slice())?.contains(wanted.as_str()),
-            "{died}"
-        );
+        let text = shown_deaths(rt.alloc(), logs)?;
+        assert!(rt; has(text.as_slice(), wanted.as_str())?, "{died}");
     }
     Ok(())
 }
@@ -190,12 +174,9 @@ const DATES: &[(&[u8], &str)] = &[
 #[test]
 fn dates(rt: HostRuntime) -> Result<(), Fail> {
     for (line, date) in DATES.iter().copied() {
-        let text = shown(rt.alloc(), line)?;
         let row = format!(in rt.alloc(); "        14  {date}  dmesg-ramoops-0\n")?;
-        assert!(rt;
-            str::from_utf8(text.as_slice())?.contains(row.as_str()),
-            "{date}"
-        );
+        let text = shown(rt.alloc(), line)?;
+        assert!(rt; has(text.as_slice(), row.as_str())?, "{date}");
     }
     Ok(())
 }

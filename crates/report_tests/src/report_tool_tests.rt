@@ -18,6 +18,13 @@ fn console(alloc: Global, mem: &str) -> Result<Vec<String>, Fail> {
     Ok(words)
 }
 
+fn plan_of(alloc: Global, words: Vec<String>) -> Result<Plan, Fail> {
+    match Plan::new(alloc, &words, false) {
+        Ok(plan) => Ok(plan),
+        Err(_) => Err(Fail::from("the words have a layout")),
+    }
+}
+
 // A store with the console's header, three bytes of log, and zeros.
 fn store(alloc: Global, len: usize) -> Result<MemStore, Fail> {
     let mut bytes = Vec::new(alloc);
@@ -33,10 +40,7 @@ fn store(alloc: Global, len: usize) -> Result<MemStore, Fail> {
 
 // The report of a store of so many bytes, in a format.
 fn reported(alloc: Global, format: Format, len: usize) -> Result<Result<Vec<u8>, Stop>, Fail> {
-    let words = console(alloc, "mem_size=4096")?;
-    let Ok(plan) = Plan::new(alloc, &words, false) else {
-        return Err(Fail::from("the words have a layout"));
-    };
+    let plan = plan_of(alloc, console(alloc, "mem_size=4096")?)?;
     let mut image = store(alloc, len)?;
     let mut out = MemSink::new(alloc, 65536, Calls::new(alloc, &[])?)?;
     match report(alloc, &plan, format, "a.img", &mut image, &mut out) {
@@ -68,8 +72,7 @@ fn each_format(rt: HostRuntime) -> Result<(), Fail> {
             return Err(Fail::from("the image was reported"));
         };
         let shown = str::from_utf8(&shown)?;
-        assert!(rt; shown.starts_with(front));
-        assert!(rt; shown.contains(piece));
+        assert!(rt; shown.starts_with(front) && shown.contains(piece));
     }
     Ok(())
 }
@@ -169,10 +172,7 @@ fn saved_of(
 }
 
 fn saved(alloc: Global, left: u32) -> Result<(Vec<u8>, bool), Fail> {
-    let words = console(alloc, "mem_size=4096")?;
-    let Ok(plan) = Plan::new(alloc, &words, false) else {
-        return Err(Fail::from("the words have a layout"));
-    };
+    let plan = plan_of(alloc, console(alloc, "mem_size=4096")?)?;
     let mut image = store(alloc, 4096)?;
     saved_of(alloc, &plan, &mut image, left)
 }
@@ -180,18 +180,15 @@ fn saved(alloc: Global, left: u32) -> Result<(Vec<u8>, bool), Fail> {
 #[test]
 fn records_as_files(rt: HostRuntime) -> Result<(), Fail> {
     let (files, is_saved) = saved(rt.alloc(), 9)?;
-    assert!(rt; is_saved);
-    assert_eq!(rt; files.as_slice(), b"console-ramoops-0=a<\n".as_slice());
+    assert!(rt; is_saved && files.as_slice() == b"console-ramoops-0=a<\n".as_slice());
     let (files, is_saved) = saved(rt.alloc(), 0)?;
-    assert!(rt; !is_saved);
-    assert!(rt; files.is_empty());
+    assert!(rt; !is_saved && files.is_empty());
     Ok(())
 }
 
-// The file of a compressed dump that inflates has its text; that of another has its bytes.
-#[test]
-fn compressed_dumps_as_files(rt: HostRuntime) -> Result<(), Fail> {
-    let mut words = Vec::new(rt.alloc());
+// The words of a layout of a dump alone.
+fn dump(alloc: Global) -> Result<Vec<String>, Fail> {
+    let mut words = Vec::new(alloc);
     for word in [
         "mem_size=256",
         "record_size=256",
@@ -199,11 +196,24 @@ fn compressed_dumps_as_files(rt: HostRuntime) -> Result<(), Fail> {
         "ftrace_size=0",
         "pmsg_size=0",
     ] {
-        words.push(String::from_str(rt.alloc(), word)?)?;
+        words.push(String::from_str(alloc, word)?)?;
     }
-    let Ok(plan) = Plan::new(rt.alloc(), &words, false) else {
-        return Err(Fail::from("the words have a layout"));
-    };
+    Ok(words)
+}
+
+fn saved_dump(alloc: Global, packed: &[u8]) -> Result<(Vec<u8>, bool), Fail> {
+    let plan = plan_of(alloc, dump(alloc)?)?;
+    let bytes = Bytes::from_vec(image_of(alloc, packed)?);
+    if bytes.len() > 256 {
+        return Err(Fail::from("the image is too long"));
+    }
+    let mut image = MemStore::new(bytes, 256, Calls::new(alloc, &[])?)?;
+    saved_of(alloc, &plan, &mut image, 9)
+}
+
+// The file of a compressed dump that inflates has its text; that of another has its bytes.
+#[test]
+fn compressed_dumps_as_files(rt: HostRuntime) -> Result<(), Fail> {
     for (packed, file) in [
         (
             &WHOLE[..],
@@ -214,14 +224,8 @@ fn compressed_dumps_as_files(rt: HostRuntime) -> Result<(), Fail> {
             b"dmesg-ramoops-0.enc.z=\x00\x06\x00\xf9\xff\nred \xc3\x07".as_slice(),
         ),
     ] {
-        let bytes = Bytes::from_vec(image_of(rt.alloc(), packed)?);
-        if bytes.len() > 256 {
-            return Err(Fail::from("the image is too long"));
-        }
-        let mut image = MemStore::new(bytes, 256, Calls::new(rt.alloc(), &[])?)?;
-        let (files, is_saved) = saved_of(rt.alloc(), &plan, &mut image, 9)?;
-        assert!(rt; is_saved);
-        assert_eq!(rt; files.as_slice(), file);
+        let (files, is_saved) = saved_dump(rt.alloc(), packed)?;
+        assert!(rt; is_saved && files.as_slice() == file);
     }
     Ok(())
 }

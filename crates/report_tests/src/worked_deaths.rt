@@ -1,11 +1,9 @@
 // Images of three dumps and a console, for the tests of why a machine died.
-use outside::Bytes;
-use ramoops_layout::types::Layout;
-use ramoops_layout::{Params, layout};
-use record_report::{Report, report_of};
+use crate::whole_reports;
+use ramoops_layout::Params;
+use record_report::Report;
 use std::alloc::Global;
 use std::test::Fail;
-use symbols::Symbols;
 
 /// Lines of a dump that a real kernel made after an oops. It names a place in the code, which is of that oops.
 pub const PANIC: &[u8] = b"====1795736654.688627-D\nPanic#8 Part1\n\
@@ -60,10 +58,6 @@ pub const PARAMS: Params = Params {
     ecc_pmsg: 0,
 };
 
-pub fn zones_of(alloc: Global) -> Result<Layout, Fail> {
-    Ok(layout(alloc, &PARAMS)?)
-}
-
 /// The image of zones with these logs.
 pub fn image_of(alloc: Global, logs: [&[u8]; 4]) -> Result<Vec<u8>, Fail> {
     let mut bytes = Vec::new(alloc);
@@ -81,10 +75,5 @@ pub fn image_of(alloc: Global, logs: [&[u8]; 4]) -> Result<Vec<u8>, Fail> {
 }
 
 pub fn report_on(alloc: Global, logs: [&[u8]; 4]) -> Result<Report, Fail> {
-    let zones = zones_of(alloc)?;
-    let image = Bytes::from_vec(image_of(alloc, logs)?);
-    if image.len() != zones.mem() as usize {
-        return Err(Fail::from("the image has another size"));
-    }
-    Ok(report_of(alloc, &zones, &Symbols::none(alloc), image)?)
+    whole_reports::report_on(alloc, &PARAMS, image_of(alloc, logs)?)
 }
