@@ -11,41 +11,47 @@ fn with_layout<'a>(alloc: Global, command: Command<'a>) -> Result<Command<'a>, A
         .value_name("KEY=VALUE")
         .action(ArgAction::Append)
         .help("A parameter of the layout, such as mem_size=0x100000; may be given again");
+    let as_given = Arg::new(alloc, "mem-as-given")
+        .long("mem-as-given")
+        .action(ArgAction::SetTrue)
+        .help("Take a mem_size that is no power of two as it is, as the kernel does");
+    with_tree(alloc, with_kernel(alloc, command.arg(param)?)?)?.arg(as_given)
+}
+
+// The kernel's own words and version.
+fn with_kernel<'a>(alloc: Global, command: Command<'a>) -> Result<Command<'a>, AllocError> {
     let cmdline = Arg::new(alloc, "cmdline")
         .long("cmdline")
         .value_name("TEXT")
         .conflicts_with("cmdline-file")?
         .help("A kernel's command line, whose ramoops. words are parameters");
+    let command = command.arg(cmdline)?;
     let file = Arg::new(alloc, "cmdline-file")
         .long("cmdline-file")
         .value_name("FILE")
         .help("A file with a kernel's command line, such as /proc/cmdline");
+    let command = command.arg(file)?;
     let kernel = Arg::new(alloc, "kernel")
         .long("kernel")
         .value_name("X.Y.Z")
         .help("The version of the kernel that wrote the ftrace zones");
+    command.arg(kernel)
+}
+
+// A board's device tree.
+fn with_tree<'a>(alloc: Global, command: Command<'a>) -> Result<Command<'a>, AllocError> {
     let tree = Arg::new(alloc, "dtb")
         .long("dtb")
         .value_name("FILE")
         .conflicts_with("mem-as-given")?
         .help("A board's flattened device tree, such as /sys/firmware/fdt, with a ramoops node");
+    let command = command.arg(tree)?;
     let node = Arg::new(alloc, "node")
         .long("node")
         .value_name("PATH")
         .requires_arg("dtb")?
         .help("The node of the device tree, where it has several");
-    let as_given = Arg::new(alloc, "mem-as-given")
-        .long("mem-as-given")
-        .action(ArgAction::SetTrue)
-        .help("Take a mem_size that is no power of two as it is, as the kernel does");
-    command
-        .arg(param)?
-        .arg(cmdline)?
-        .arg(file)?
-        .arg(kernel)?
-        .arg(tree)?
-        .arg(node)?
-        .arg(as_given)
+    command.arg(node)
 }
 
 // Whether the images are whole memories, and where a region lies in them.
@@ -56,17 +62,19 @@ fn with_memory<'a>(alloc: Global, command: Command<'a>) -> Result<Command<'a>, A
         .help(
             "Each image is a copy of all memory, of any size, and the regions in it are looked for",
         );
+    let command = command.arg(memory)?;
     let at = Arg::new(alloc, "at")
         .long("at")
         .value_name("PLACE")
         .requires_arg("memory")?
         .help("The region begins at this place of the memory");
+    let command = command.arg(at)?;
     let from = Arg::new(alloc, "memory-at")
         .long("memory-at")
         .value_name("ADDRESS")
         .requires_arg("memory")?
         .help("The physical address of the memory's first byte: places are then addresses");
-    command.arg(memory)?.arg(at)?.arg(from)
+    command.arg(from)
 }
 
 // What is done with the images, and the images.
@@ -77,37 +85,39 @@ fn with_work<'a>(alloc: Global, command: Command<'a>) -> Result<Command<'a>, All
         .value_parser(FORMATS.as_slice())
         .default_value("text")
         .help("How the report is written");
+    let command = command.arg(format)?;
     let save = Arg::new(alloc, "save").long("save").value_name("DIR").help(
         "Save each record in this folder under its pstore name; no file is overwritten",
     );
+    let command = command.arg(save)?;
     let symbols = Arg::new(alloc, "symbols")
         .long("symbols")
         .value_name("FILE")
         .help("The System.map of the kernel, or its /proc/kallsyms: names the functions of ftrace");
-    let lines = Arg::new(alloc, "lines")
-        .long("lines")
-        .value_name("N")
-        .default_value("10")
-        .help("How many of the newest dump's last lines a text shows");
-    let color = Arg::new(alloc, "color")
-        .long("color")
-        .value_name("WHEN")
-        .value_parser(["auto", "always", "never"].as_slice())
-        .default_value("auto")
-        .help("Whether a text has colours; auto is on a terminal, unless NO_COLOR is set");
     let images = Arg::new(alloc, "image")
         .value_name("IMAGE")
         .required(true)
         .action(ArgAction::Append)
         .num_args(1..)
         .help("A file or a device with the memory of a ramoops region; - is standard input");
-    command
-        .arg(format)?
-        .arg(save)?
-        .arg(symbols)?
-        .arg(lines)?
-        .arg(color)?
-        .arg(images)
+    with_text(alloc, command.arg(symbols)?)?.arg(images)
+}
+
+// How a text is shown.
+fn with_text<'a>(alloc: Global, command: Command<'a>) -> Result<Command<'a>, AllocError> {
+    let lines = Arg::new(alloc, "lines")
+        .long("lines")
+        .value_name("N")
+        .default_value("10")
+        .help("How many of the newest dump's last lines a text shows");
+    let command = command.arg(lines)?;
+    let color = Arg::new(alloc, "color")
+        .long("color")
+        .value_name("WHEN")
+        .value_parser(["auto", "always", "never"].as_slice())
+        .default_value("auto")
+        .help("Whether a text has colours; auto is on a terminal, unless NO_COLOR is set");
+    command.arg(color)
 }
 
 /// The command, with its help.
