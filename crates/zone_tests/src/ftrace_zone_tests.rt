@@ -1,6 +1,7 @@
 use ftrace_zone::types::Entries;
 use ftrace_zone::{Entry, entries, merge, to_bytes};
 use std::alloc::{AllocError, Global};
+use std::process::Abort;
 use std::test::Fail;
 
 fn entry(word: u64) -> Entry {
@@ -24,19 +25,21 @@ const TEXT: &[u8] = b"\x01\0\0\0\0\0\0\0\x02\0\0\0\0\0\0\0\x01\x05\0\0\0\0\0\0\
     \x01\0\0\0\0\0\0\0\x02\0\0\0\0\0\0\0\0\x05\0\0\0\0\0\0\
     \x01\0\0\0\0\0\0\0\x02\0\0\0\0\0\0\0\0\x07\0\0\0\0\0\0";
 
+fn merged(alloc: Global, first: &[u64], second: &[u64]) -> Result<Entries, AllocError> {
+    let first = list(alloc, first)?;
+    let second = list(alloc, second)?;
+    merge(alloc, &first, &second)
+}
+
 #[test]
 fn two_processors_are_merged(rt: HostRuntime) -> Result<(), Fail> {
-    let alloc = rt.alloc();
-    let first = list(alloc, &[0x500, 0x700])?;
-    let second = list(alloc, &[0x501])?;
-    let merged = merge(alloc, &first, &second)?;
-    let words: [u64; 3] = [0x501, 0x500, 0x700];
-    let wanted = list(alloc, &words)?;
+    let merged = merged(rt.alloc(), &[0x500, 0x700], &[0x501])?;
+    let wanted = [entry(0x501), entry(0x500), entry(0x700)];
     assert!(rt; merged.as_slice() == wanted.as_slice());
-    let bytes = to_bytes(alloc, &merged)?;
+    let bytes = to_bytes(rt.alloc(), &merged)?;
     assert!(rt; bytes.as_slice() == TEXT);
-    let read = entries(alloc, TEXT)?;
-    assert!(rt; read.as_slice() == merged.as_slice());
+    let read = entries(rt.alloc(), TEXT)?;
+    assert!(rt; read.as_slice() == wanted.as_slice());
     Ok(())
 }
 
@@ -49,14 +52,26 @@ fn numbered(alloc: Global, first: u64) -> Result<Entries, AllocError> {
     Ok(Entries::from_vec(items))
 }
 
+// The entries of all but the first four of these 2040 bytes.
+fn entries_behind_four(
+    rt: &(impl Abort + AllocGlobal),
+    appended: &[u8],
+) -> Result<Entries, AllocError> {
+    assert!(rt; appended.len() == 2040);
+    entries(rt.alloc(), &appended[4..])
+}
+
+fn assert_entries(rt: &impl Abort, kept: &[Entry], wanted: &[Entry]) {
+    assert!(rt; kept.len() == 84 && kept == wanted);
+}
+
 #[test]
 fn a_ring_keeps_whole_entries(rt: HostRuntime) -> Result<(), Fail> {
-    let alloc = rt.alloc();
-    let appended = to_bytes(alloc, &numbered(alloc, 0)?)?;
-    assert!(rt; appended.as_slice().len() == 2040);
-    let kept = entries(alloc, &appended.as_slice()[4..])?;
-    assert!(rt; kept.as_slice().len() == 84);
-    assert!(rt; kept.as_slice() == numbered(alloc, 1)?.as_slice());
+    let all = numbered(rt.alloc(), 0)?;
+    let appended = to_bytes(rt.alloc(), &all)?;
+    let kept = entries_behind_four(&rt, appended.as_slice())?;
+    let wanted = numbered(rt.alloc(), 1)?;
+    assert_entries(&rt, kept.as_slice(), wanted.as_slice());
     Ok(())
 }
 
@@ -69,8 +84,7 @@ const WORDS: &[(u64, u64, u8)] = &[
 #[test]
 fn a_word_is_a_time_and_a_processor(rt: HostRuntime) -> Result<(), Fail> {
     for (word, time, cpu) in WORDS.iter().copied() {
-        assert!(rt; entry(word).time() == time);
-        assert!(rt; entry(word).cpu() == cpu);
+        assert!(rt; (entry(word).time(), entry(word).cpu()) == (time, cpu));
     }
     Ok(())
 }

@@ -153,6 +153,25 @@ fn reading_of(alloc: Global, p: &Params, i: usize, bytes: &[u8]) -> Result<Readi
     read(alloc, &layout, &spans, i)
 }
 
+// Settles zone i of these spans.
+fn settle_zone(
+    alloc: Global,
+    layout: &Layout,
+    spans: &mut Spans,
+    i: usize,
+    limit: u64,
+) -> Result<Settled, AllocError> {
+    let zones = layout.zones();
+    if i < zones.len() && i < 4 && i < spans.all().len() {
+        let zone = zones[i];
+        if spans.all()[i].len() == zone.size {
+            let reading = read_zone(alloc, &spans.all()[i], &zone)?;
+            return Ok(settle(spans, i as u32, &zone, &reading, limit));
+        }
+    }
+    Err(AllocError)
+}
+
 // Settles zone i, and gives its bytes then.
 pub(crate) fn settled(
     alloc: Global,
@@ -162,18 +181,11 @@ pub(crate) fn settled(
     limit: u64,
 ) -> Result<(Settled, Vec<u8>), AllocError> {
     let (layout, mut spans) = image(alloc, p, i, bytes)?;
-    let zones = layout.zones();
-    if i < zones.len() && i < 4 && i < spans.all().len() {
-        let zone = zones[i];
-        if spans.all()[i].len() == zone.size {
-            let reading = read_zone(alloc, &spans.all()[i], &zone)?;
-            let settled = settle(&mut spans, i as u32, &zone, &reading, limit);
-            if i < spans.all().len() {
-                return Ok((settled, Vec::from_slice(alloc, spans.all()[i].bytes())?));
-            }
-        }
+    let settled = settle_zone(alloc, &layout, &mut spans, i, limit)?;
+    match spans.all().get(i) {
+        Some(span) => Ok((settled, Vec::from_slice(alloc, span.bytes())?)),
+        None => Err(AllocError),
     }
-    Err(AllocError)
 }
 
 pub(crate) fn put(image: &mut [u8], at: usize, bytes: &[u8]) {
@@ -287,18 +299,12 @@ fn rings_are_turned(rt: HostRuntime) -> Result<(), Fail> {
 
 #[test]
 fn a_full_ring_is_turned(rt: HostRuntime) -> Result<(), Fail> {
-    let mut log = Vec::from_elem(rt.alloc(), 0x61u8, 4083)?;
+    let mut log = [0x61; 4084];
+    log[4083] = 0x62;
     let mut image = ring(rt.alloc(), 1, 4084, b"b")?;
-    put(image.as_mut_slice(), 13, &log);
-    log.push(0x62)?;
-    assert_reads(
-        &rt,
-        (&console(0), 0, &image),
-        State::Found,
-        (1, 4084),
-        (0, 0),
-        &log,
-    );
+    put(image.as_mut_slice(), 13, &log[..4083]);
+    let zone = (&console(0), 0, image.as_slice());
+    assert_reads(&rt, zone, State::Found, (1, 4084), (0, 0), &log);
     Ok(())
 }
 
@@ -337,7 +343,6 @@ fn a_zone_without_its_signature_reads_unsigned(rt: HostRuntime) -> Result<(), Fa
 
 #[test]
 fn damage_within_half_the_parity_is_corrected(rt: HostRuntime) -> Result<(), Fail> {
-    let alloc = rt.alloc();
     // Eight flips in a block, eight in a header, a cut after the size word, and one data and three parity flips.
     let header = [0xbb, 0xbd, 0xb8, 0xbc, 0xfc, 0xff, 0xff, 0xff];
     let block = [0x60, 0x63, 0x62, 1, 1, 1, 1, 1];
@@ -349,55 +354,59 @@ fn damage_within_half_the_parity_is_corrected(rt: HostRuntime) -> Result<(), Fai
         (4, size, 0x1f, 1),
         (12, data, 0x1e, 2),
     ] {
-        let mut image = abc(alloc)?;
+        let mut image = abc(rt.alloc())?;
         put(image.as_mut_slice(), at, bytes.as_slice());
         put(image.as_mut_slice(), 3616, &[par]);
-        let reading = reading_of(alloc, &four(16), 2, image.as_slice())?;
-        assert!(rt;
-            is_reading(
-                &reading,
-                State::Found,
-                (3, 3),
-                (corrected, 0),
-                b"abc".as_slice()
-            )
-        );
+        let zone = (&four(16), 2, image.as_slice());
+        assert_reads(&rt, zone, State::Found, (3, 3), (corrected, 0), b"abc");
     }
     Ok(())
 }
 
-#[test]
-fn nine_flips_in_a_block_are_not_corrected(rt: HostRuntime) -> Result<(), Fail> {
-    let alloc = rt.alloc();
-    let mut log = Vec::from_elem(alloc, 0x61u8, 200)?;
-    let mut image = ring(alloc, 200, 200, log.as_slice())?;
+// A zone with a log of 200 bytes 61, and their parities; then these bytes at the log's front.
+fn damaged_200(alloc: Global, log: &[u8], damaged: &[u8]) -> Result<Vec<u8>, AllocError> {
+    let mut image = ring(alloc, 200, 200, log)?;
     put(image.as_mut_slice(), 3616, PARITY_OF_128.as_slice());
     put(image.as_mut_slice(), 3632, PARITY_OF_72.as_slice());
     put(image.as_mut_slice(), 4080, PARITY_OF_200.as_slice());
+    put(image.as_mut_slice(), 12, damaged);
+    Ok(image)
+}
+
+#[test]
+fn nine_flips_in_a_block_are_not_corrected(rt: HostRuntime) -> Result<(), Fail> {
+    let mut log = [0x61; 200];
     let damaged = [0x60, 0x9e, 0x6a, 0x30, 0x57, 0x8e, 0xcc, 0xa9, 0x79];
-    put(image.as_mut_slice(), 12, damaged.as_slice());
+    let image = damaged_200(rt.alloc(), &log, damaged.as_slice())?;
     put(log.as_mut_slice(), 0, damaged.as_slice());
-    let reading = reading_of(alloc, &four(16), 2, image.as_slice())?;
-    assert!(rt; is_reading(&reading, State::Found, (200, 200), (0, 1), log.as_slice()));
+    let zone = (&four(16), 2, image.as_slice());
+    assert_reads(&rt, zone, State::Found, (200, 200), (0, 1), &log);
     Ok(())
+}
+
+// How zone i of these bytes reads, and its parts.
+fn parts_of(
+    alloc: Global,
+    p: &Params,
+    i: usize,
+    bytes: &[u8],
+) -> Result<(Reading, ZoneParts), AllocError> {
+    let (layout, spans) = image(alloc, p, i, bytes)?;
+    read_with_parts(alloc, &layout, &spans, i)
 }
 
 // Two blocks that read, the first with one wrong byte; the header as it stands.
 #[test]
 fn parts_as_they_read(rt: HostRuntime) -> Result<(), Fail> {
-    let alloc = rt.alloc();
-    let log = Vec::from_elem(alloc, 0x61u8, 200)?;
-    let mut bytes = ring(alloc, 200, 200, log.as_slice())?;
-    put(bytes.as_mut_slice(), 3616, PARITY_OF_128.as_slice());
-    put(bytes.as_mut_slice(), 3632, PARITY_OF_72.as_slice());
-    put(bytes.as_mut_slice(), 4080, PARITY_OF_200.as_slice());
-    put(bytes.as_mut_slice(), 12, &[0x60]);
-    let (layout, spans) = image(alloc, &four(16), 2, bytes.as_slice())?;
-    let (reading, parts) = read_with_parts(alloc, &layout, &spans, 2)?;
-    assert!(rt; is_reading(&reading, State::Found, (200, 200), (1, 0), log.as_slice()));
-    assert_eq!(rt; parts.header, PartState::Read(0));
+    let log = [0x61; 200];
+    let bytes = damaged_200(rt.alloc(), &log, &[0x60])?;
+    let (reading, parts) = parts_of(rt.alloc(), &four(16), 2, bytes.as_slice())?;
     let blocks = [PartState::Read(1), PartState::Read(0)];
-    assert_eq!(rt; parts.blocks.as_slice(), blocks.as_slice());
+    assert!(rt;
+        is_reading(&reading, State::Found, (200, 200), (1, 0), &log)
+            && parts.header == PartState::Read(0)
+            && parts.blocks.as_slice() == blocks.as_slice()
+    );
     Ok(())
 }
 
@@ -434,17 +443,26 @@ fn is_kept(
     Ok(keeps(&zone, &reading))
 }
 
+fn assert_kept(
+    rt: &(impl Abort + AllocGlobal),
+    kind: Kind,
+    state: State,
+    (start, size): (u32, u32),
+    log: &[u8],
+    kept: bool,
+) {
+    assert!(rt; is_kept(rt.alloc(), kind, state, start, size, log).expect(rt, "no memory") == kept);
+}
+
 #[test]
-fn a_dump_with_its_line_is_kept(rt: HostRuntime) -> Result<(), Fail> {
-    let alloc = rt.alloc();
+fn a_dump_with_its_line_is_kept(rt: HostRuntime) {
     let line = b"====1700000001.000000-D\ntwo".as_slice();
-    assert!(rt; is_kept(alloc, Kind::Dump, State::Found, 27, 27, line)?);
-    assert!(rt; is_kept(alloc, Kind::Dump, State::Found, 4084, 4084, line)?);
-    assert!(rt; !is_kept(alloc, Kind::Dump, State::Found, 15, 15, &[0; 15])?);
-    assert!(rt; !is_kept(alloc, Kind::Dump, State::Invalid, 4, 3, &[])?);
-    assert!(rt; !is_kept(alloc, Kind::Console, State::Found, 27, 27, line)?);
-    assert!(rt; !is_kept(alloc, Kind::Pmsg, State::Found, 27, 27, line)?);
-    Ok(())
+    assert_kept(&rt, Kind::Dump, State::Found, (27, 27), line, true);
+    assert_kept(&rt, Kind::Dump, State::Found, (4084, 4084), line, true);
+    assert_kept(&rt, Kind::Dump, State::Found, (15, 15), &[0; 15], false);
+    assert_kept(&rt, Kind::Dump, State::Invalid, (4, 3), &[], false);
+    assert_kept(&rt, Kind::Console, State::Found, (27, 27), line, false);
+    assert_kept(&rt, Kind::Pmsg, State::Found, (27, 27), line, false);
 }
 
 const FTRACE_RINGS: &[(u32, u32, bool)] = &[
@@ -455,16 +473,14 @@ const FTRACE_RINGS: &[(u32, u32, bool)] = &[
 ];
 
 #[test]
-fn an_ftrace_ring_that_is_open_is_kept(rt: HostRuntime) -> Result<(), Fail> {
-    let alloc = rt.alloc();
+fn an_ftrace_ring_that_is_open_is_kept(rt: HostRuntime) {
     for (start, size, kept) in FTRACE_RINGS.iter().copied() {
-        assert!(rt; is_kept(alloc, Kind::Ftrace, State::Found, start, size, &[])? == kept);
+        assert_kept(&rt, Kind::Ftrace, State::Found, (start, size), &[], kept);
     }
     for kind in [Kind::Dump, Kind::Console, Kind::Ftrace, Kind::Pmsg] {
-        assert!(rt; is_kept(alloc, kind, State::Empty, 0, 0, &[])?);
-        assert!(rt; !is_kept(alloc, kind, State::Unsigned, 0, 0, &[])?);
+        assert_kept(&rt, kind, State::Empty, (0, 0), &[], true);
+        assert_kept(&rt, kind, State::Unsigned, (0, 0), &[], false);
     }
-    Ok(())
 }
 
 // One store of up to four bytes.
@@ -487,9 +503,13 @@ fn byte(at: usize, b: u8) -> Store {
     }
 }
 
-// The words of an erasure, and the parity of the header, 16 bytes or none.
-fn erasure(alloc: Global, has_parity: bool) -> Result<Vec<Store>, AllocError> {
-    let mut stores = Vec::new(alloc);
+// These stores, and then an erasure's: its words, and the parity of the header, 16 bytes or none.
+fn erased_behind(
+    alloc: Global,
+    first: &[Store],
+    has_parity: bool,
+) -> Result<Vec<Store>, AllocError> {
+    let mut stores = Vec::from_slice(alloc, first)?;
     stores.push(word(4, [0; 4]))?;
     stores.push(word(8, [0; 4]))?;
     if has_parity {
@@ -535,28 +555,30 @@ fn boots_with(
     Ok(true)
 }
 
+fn assert_boots(
+    rt: &(impl Abort + AllocGlobal),
+    (p, i, bytes): (&Params, usize, &[u8]),
+    fixes: u64,
+    stores: &[Store],
+) {
+    assert!(rt; boots_with(rt.alloc(), p, i, bytes, fixes, stores).expect(rt, "no zone"));
+}
+
 #[test]
 fn boots_without_parity_are_cut(rt: HostRuntime) -> Result<(), Fail> {
     let alloc = rt.alloc();
-    let erased = erasure(alloc, false)?;
-    let mut first = Vec::new(alloc);
-    first.push(word(0, SIGNATURE))?;
-    first.extend_from_slice(erased.as_slice())?;
-    let blank = Vec::from_elem(alloc, 0u8, 4096)?;
-    assert!(rt; boots_with(alloc, &console(0), 0, blank.as_slice(), 0, first.as_slice())?);
+    let signed = erased_behind(alloc, &[word(0, SIGNATURE)], false)?;
+    assert_boots(&rt, (&console(0), 0, &[0; 4096]), 0, signed.as_slice());
+    let erased = erased_behind(alloc, &[], false)?;
     let found = ring(alloc, 3, 3, b"abc".as_slice())?;
-    assert!(rt;
-        boots_with(
-            alloc,
-            &console(0),
-            0,
-            found.as_slice(),
-            0,
-            erased.as_slice()
-        )?
+    assert_boots(
+        &rt,
+        (&console(0), 0, found.as_slice()),
+        0,
+        erased.as_slice(),
     );
     let empty = ring(alloc, 0, 0, b"abc".as_slice())?;
-    assert!(rt; boots_with(alloc, &console(0), 0, empty.as_slice(), 0, &[])?);
+    assert_boots(&rt, (&console(0), 0, empty.as_slice()), 0, &[]);
     Ok(())
 }
 
@@ -564,18 +586,14 @@ fn boots_without_parity_are_cut(rt: HostRuntime) -> Result<(), Fail> {
 fn a_kept_dump_has_no_stores(rt: HostRuntime) -> Result<(), Fail> {
     let alloc = rt.alloc();
     let kept = ring(alloc, 27, 27, b"====1700000001.000000-D\ntwo".as_slice())?;
-    assert!(rt; boots_with(alloc, &four(0), 1, kept.as_slice(), 0, &[])?);
-    let erased = erasure(alloc, false)?;
+    assert_boots(&rt, (&four(0), 1, kept.as_slice()), 0, &[]);
+    let erased = erased_behind(alloc, &[], false)?;
     let lineless = ring(alloc, 15, 15, &[0; 15])?;
-    assert!(rt;
-        boots_with(
-            alloc,
-            &four(0),
-            0,
-            lineless.as_slice(),
-            0,
-            erased.as_slice()
-        )?
+    assert_boots(
+        &rt,
+        (&four(0), 0, lineless.as_slice()),
+        0,
+        erased.as_slice(),
     );
     Ok(())
 }
@@ -583,61 +601,61 @@ fn a_kept_dump_has_no_stores(rt: HostRuntime) -> Result<(), Fail> {
 #[test]
 fn boots_with_parity_are_cut(rt: HostRuntime) -> Result<(), Fail> {
     let alloc = rt.alloc();
-    let erased = erasure(alloc, true)?;
+    let erased = erased_behind(alloc, &[], true)?;
     assert!(rt; erased.len() == 18);
-    let sound = abc(alloc)?;
-    assert!(rt; boots_with(alloc, &four(16), 2, sound.as_slice(), 0, erased.as_slice())?);
-    let mut cut = abc(alloc)?;
-    put(cut.as_mut_slice(), 8, &[6]);
-    let mut stores = Vec::new(alloc);
-    stores.push(byte(8, 3))?;
-    stores.extend_from_slice(erased.as_slice())?;
-    assert!(rt; boots_with(alloc, &four(16), 2, cut.as_slice(), 1, stores.as_slice())?);
+    let mut image = abc(alloc)?;
+    assert_boots(&rt, (&four(16), 2, image.as_slice()), 0, erased.as_slice());
+    put(image.as_mut_slice(), 8, &[6]);
+    let stores = erased_behind(alloc, &[byte(8, 3)], true)?;
+    assert_boots(&rt, (&four(16), 2, image.as_slice()), 1, stores.as_slice());
     Ok(())
 }
 
 #[test]
 fn eight_flips_are_stored_and_parity_is_not(rt: HostRuntime) -> Result<(), Fail> {
-    let alloc = rt.alloc();
-    let mut flipped = abc(alloc)?;
+    let mut flipped = abc(rt.alloc())?;
     put(flipped.as_mut_slice(), 12, &[0x60, 0x63, 0x62, 1, 1, 1, 1]);
     put(flipped.as_mut_slice(), 3616, &[0]);
-    let mut stores = Vec::new(alloc);
-    for (k, b) in [0x61, 0x62, 0x63, 0, 0, 0, 0].iter().enumerate() {
-        stores.push(byte(12_usize.wrapping_add(k), *b))?;
-    }
-    stores.extend_from_slice(erasure(alloc, true)?.as_slice())?;
-    assert!(rt;
-        boots_with(
-            alloc,
-            &four(16),
-            2,
-            flipped.as_slice(),
-            7,
-            stores.as_slice()
-        )?
+    let corrected = [
+        byte(12, 0x61),
+        byte(13, 0x62),
+        byte(14, 0x63),
+        byte(15, 0),
+        byte(16, 0),
+        byte(17, 0),
+        byte(18, 0),
+    ];
+    let stores = erased_behind(rt.alloc(), &corrected, true)?;
+    assert_boots(
+        &rt,
+        (&four(16), 2, flipped.as_slice()),
+        7,
+        stores.as_slice(),
     );
     Ok(())
 }
 
+// The readings of the first three zones of four.
+fn first_three(rt: &(impl Abort + AllocGlobal), layout: &Layout, spans: &Spans) -> Logs {
+    let mut logs = Logs::new(rt.alloc(), layout).expect(rt, "no memory");
+    assert!(rt; logs.len() == 0 && layout.zones().len() == 4);
+    logs.push(read(rt.alloc(), layout, spans, 0).expect(rt, "zone 0"));
+    logs.push(read(rt.alloc(), layout, spans, 1).expect(rt, "zone 1"));
+    logs.push(read(rt.alloc(), layout, spans, 2).expect(rt, "zone 2"));
+    logs
+}
+
+fn forget_the_third(rt: &impl Abort, logs: &mut Logs) {
+    assert!(rt; logs.len() == 3 && logs.parity(0) == 16);
+    assert!(rt; logs.name(1).index == 1 && logs.reading(2).is_some());
+    logs.forget(2);
+    assert!(rt; logs.len() == 3 && logs.reading(2).is_none() && logs.reading(1).is_some());
+}
+
 #[test]
 fn readings_are_saved(rt: HostRuntime) -> Result<(), Fail> {
-    let alloc = rt.alloc();
-    let (layout, spans) = zeros(alloc, &four(16))?;
-    let mut logs = Logs::new(alloc, &layout)?;
-    assert!(rt; logs.len() == 0);
-    if layout.zones().len() == 4 {
-        logs.push(read(alloc, &layout, &spans, 0)?);
-        logs.push(read(alloc, &layout, &spans, 1)?);
-        logs.push(read(alloc, &layout, &spans, 2)?);
-        assert!(rt; logs.len() == 3);
-        assert!(rt; logs.parity(0) == 16);
-        assert!(rt; logs.name(1).index == 1);
-        assert!(rt; logs.reading(2).is_some());
-        logs.forget(2);
-        assert!(rt; logs.reading(2).is_none());
-        assert!(rt; logs.reading(1).is_some());
-        assert!(rt; logs.len() == 3);
-    }
+    let (layout, spans) = zeros(rt.alloc(), &four(16))?;
+    let mut logs = first_three(&rt, &layout, &spans);
+    forget_the_third(&rt, &mut logs);
     Ok(())
 }

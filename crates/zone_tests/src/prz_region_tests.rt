@@ -4,6 +4,7 @@ ghost use Rattle.prz_region.specs.CutRegion.{span};
 use outside::Bytes;
 use prz_region::{Probe, Region, RingWords, Spans};
 use ramoops_layout::{Params, layout};
+use std::process::Abort;
 use std::test::Fail;
 use zone_spec::{Kind, Words, Zone, ZoneName};
 
@@ -55,33 +56,53 @@ fn cuts_stores_and_joins(rt: HostRuntime) -> Result<(), Fail> {
     let bytes = Bytes::from_vec(Vec::from_elem(rt.alloc(), 7u8, mem)?);
     match Region::from_bytes(bytes).cut(&layout) {
         Ok(mut spans) => {
-            assert_eq!(rt; spans.all().len(), 4);
-            assert_eq!(rt; spans.all()[0].len(), 596);
-            assert_eq!(rt; spans.all()[1].len(), 596);
-            assert_eq!(rt; spans.all()[2].len(), 596);
-            assert_eq!(rt; spans.all()[3].len(), 256);
+            assert_lengths(&rt, &spans);
             store_in_all(&mut spans);
-            assert_eq!(rt; spans.all()[1].load(0), 2);
-            assert_eq!(rt; spans.all()[3].word(0), 0x1234_5678);
-            assert!(rt; spans.all()[3].bytes()[..5] == [0x78, 0x56, 0x34, 0x12, 7]);
-            let joined = spans.join().into_bytes();
-            let mut wanted = [7; 2048];
-            wanted[595] = 1;
-            wanted[596] = 2;
-            wanted[1787] = 3;
-            wanted[1788] = 0x78;
-            wanted[1789] = 0x56;
-            wanted[1790] = 0x34;
-            wanted[1791] = 0x12;
-            assert!(rt; joined.as_slice() == wanted.as_slice());
+            assert_stored(&rt, &spans);
+            assert_joined(&rt, spans.join().into_bytes().as_slice());
         }
         Err((region, _refused)) => {
-            let back = region.into_bytes();
-            assert!(rt; back.as_slice() == [7; 2048].as_slice());
+            assert!(rt; region.into_bytes().as_slice() == [7; 2048].as_slice());
             println!(rt; "cut refused")?;
         }
     }
     Ok(())
+}
+
+// The spans of the three dump zones and of the console zone.
+fn assert_lengths(rt: &impl Abort, spans: &Spans)
+    ensures spans { length spans.now.spans ≡ 4 }
+    ensures first { length (span spans.now 0) ≡ 596 }
+    ensures second { length (span spans.now 1) ≡ 596 }
+    ensures third { length (span spans.now 2) ≡ 596 }
+    ensures fourth { length (span spans.now 3) ≡ 256 }
+{
+    let all = spans.all();
+    assert!(rt; all.len() == 4);
+    assert!(rt; all[0].len() == 596 && all[1].len() == 596);
+    assert!(rt; all[2].len() == 596 && all[3].len() == 256);
+}
+
+fn assert_stored(rt: &impl Abort, spans: &Spans)
+    requires spans { length spans.now.spans ≡ 4 }
+    requires second { length (span spans.now 1) ≡ 596 }
+    requires fourth { length (span spans.now 3) ≡ 256 }
+{
+    let all = spans.all();
+    assert!(rt; all[1].load(0) == 2 && all[3].word(0) == 0x1234_5678);
+    assert!(rt; all[3].bytes()[..5] == [0x78, 0x56, 0x34, 0x12, 7]);
+}
+
+fn assert_joined(rt: &impl Abort, joined: &[u8]) {
+    let mut wanted = [7; 2048];
+    wanted[595] = 1;
+    wanted[596] = 2;
+    wanted[1787] = 3;
+    wanted[1788] = 0x78;
+    wanted[1789] = 0x56;
+    wanted[1790] = 0x34;
+    wanted[1791] = 0x12;
+    assert!(rt; joined == wanted.as_slice());
 }
 
 #[tactic(auto, using(prz_region::proofs::Cuts::stores))]
@@ -118,7 +139,7 @@ fn fills_a_probe(rt: HostRuntime) -> Result<(), Fail> {
     let mut probe = Probe::new(rt.alloc(), 8)?;
     probe.fill(2, b"abc");
     assert!(rt; probe.span().bytes() == [0, 0, 97, 98, 99, 0, 0, 0].as_slice());
-    assert_eq!(rt; probe.span().word(1), 0x6362_6100);
+    assert!(rt; probe.span().word(1) == 0x6362_6100);
     let empty = Probe::new(rt.alloc(), 0)?;
     assert!(rt; empty.span().bytes().is_empty());
     Ok(())

@@ -180,16 +180,35 @@ fn has_pairs(flight: &Flight, pairs: &[(u32, u32)]) -> bool {
             .all(|(pair, wanted)| (pair.start, pair.size) == *wanted)
 }
 
+// A call that was stopped after so many of its stores, with these pairs.
+fn assert_stopped(rt: &impl Abort, flight: &Flight, made: u64, total: u64, pairs: &[(u32, u32)]) {
+    assert!(rt; (flight.made(), flight.total()) == (made, total) && has_pairs(flight, pairs));
+}
+
+fn assert_call(rt: &impl Abort, flight: &Flight, kind: CallKind, runs: &[(u32, u32)]) {
+    assert!(rt; flight.kind() == kind && flight.runs().as_slice() == runs);
+}
+
+// The start and the size of the first span.
+fn assert_words(rt: &impl Abort, spans: &Spans, start: u32, size: u32) {
+    assert!(rt; words(rt, spans, 0) == (SIG, start, size));
+}
+
+// These bytes stand in the first span from `at` on.
+fn assert_stands(rt: &impl Abort, spans: &Spans, at: usize, bytes: &[u8]) {
+    assert!(rt; stands(spans, 0, at, bytes));
+}
+
 #[test]
 fn a_first_record_has_its_parity(rt: HostRuntime) {
     let mut spans = signed_spans(&rt);
     make(&rt, zone(&rt, 2), &mut spans, 0, Call::Erase);
-    assert!(rt; stands(&spans, 0, 0, b"DBGC\0\0\0\0\0\0\0\0"));
-    assert!(rt; stands(&spans, 0, 4094, b"\xe1\xe3"));
+    assert_stands(&rt, &spans, 0, b"DBGC\0\0\0\0\0\0\0\0");
+    assert_stands(&rt, &spans, 4094, b"\xe1\xe3");
     make(&rt, zone(&rt, 2), &mut spans, 0, append(&rt, b"abc"));
-    assert!(rt; stands(&spans, 0, 0, b"DBGC\x03\0\0\0\x03\0\0\0abc\0"));
-    assert!(rt; stands(&spans, 0, 4030, b"\xe3\x83"));
-    assert!(rt; stands(&spans, 0, 4094, b"\xfb\xf9"));
+    assert_stands(&rt, &spans, 0, b"DBGC\x03\0\0\0\x03\0\0\0abc\0");
+    assert_stands(&rt, &spans, 4030, b"\xe3\x83");
+    assert_stands(&rt, &spans, 4094, b"\xfb\xf9");
 }
 
 #[test]
@@ -198,13 +217,10 @@ fn an_append_is_stopped_behind_its_size_word(rt: HostRuntime) {
     make(&rt, zone(&rt, 0), &mut spans, 0, append(&rt, b"abc"));
     let mut flight = begin(&rt, zone(&rt, 0), &spans, 0, append(&rt, b"def"));
     steps(&rt, &mut flight, &mut spans, 0, 1);
-    assert!(rt; words(&rt, &spans, 0) == (SIG, 3, 6));
-    assert!(rt; flight.made() == 1);
-    assert!(rt; flight.total() == 5);
-    assert!(rt; flight.kind() == CallKind::Append);
-    assert!(rt; has_pairs(&flight, &[(3, 3), (3, 6), (6, 6)]));
-    assert!(rt; flight.runs().as_slice() == [(0, 0)].as_slice());
-    assert!(rt; stands(&spans, 0, 12, b"abc\0\0\0"));
+    assert_words(&rt, &spans, 3, 6);
+    assert_stopped(&rt, &flight, 1, 5, &[(3, 3), (3, 6), (6, 6)]);
+    assert_call(&rt, &flight, CallKind::Append, &[(0, 0)]);
+    assert_stands(&rt, &spans, 12, b"abc\0\0\0");
 }
 
 #[test]
@@ -213,13 +229,11 @@ fn an_append_with_parity_is_stopped_behind_its_words(rt: HostRuntime) {
     make(&rt, zone(&rt, 2), &mut spans, 0, append(&rt, b"abc"));
     let mut flight = begin(&rt, zone(&rt, 2), &spans, 0, append(&rt, b"def"));
     steps(&rt, &mut flight, &mut spans, 0, 2);
-    assert!(rt; words(&rt, &spans, 0) == (SIG, 6, 6));
-    assert!(rt; flight.made() == 2);
-    assert!(rt; flight.total() == 9);
-    assert!(rt; has_pairs(&flight, &[(3, 3), (3, 6), (6, 6)]));
-    assert!(rt; stands(&spans, 0, 12, b"abc\0\0\0"));
-    assert!(rt; stands(&spans, 0, 4030, b"\xe3\x83"));
-    assert!(rt; stands(&spans, 0, 4094, b"\xfb\xf9"));
+    assert_words(&rt, &spans, 6, 6);
+    assert_stopped(&rt, &flight, 2, 9, &[(3, 3), (3, 6), (6, 6)]);
+    assert_stands(&rt, &spans, 12, b"abc\0\0\0");
+    assert_stands(&rt, &spans, 4030, b"\xe3\x83");
+    assert_stands(&rt, &spans, 4094, b"\xfb\xf9");
 }
 
 #[test]
@@ -230,10 +244,9 @@ fn an_append_is_stopped_before_the_parity_of_the_header(rt: HostRuntime) {
     let mut old = [0; 16];
     old.copy_from_slice(&header_parity(&rt, &spans));
     steps(&rt, &mut flight, &mut spans, 0, 21);
-    assert!(rt; flight.total() == 37);
-    assert!(rt; flight.left() == 16);
-    assert!(rt; words(&rt, &spans, 0) == (SIG, 6, 6));
-    assert!(rt; stands(&spans, 0, 12, b"abcdef"));
+    assert!(rt; (flight.total(), flight.left()) == (37, 16));
+    assert_words(&rt, &spans, 6, 6);
+    assert_stands(&rt, &spans, 12, b"abcdef");
     assert!(rt; header_parity(&rt, &spans) == old);
     steps(&rt, &mut flight, &mut spans, 0, 16);
     assert!(rt; header_parity(&rt, &spans) != old);
@@ -251,17 +264,15 @@ fn header_parity(rt: &impl Abort, spans: &Spans) -> [u8; 16] {
 fn an_erasure_is_stopped_between_its_words(rt: HostRuntime) {
     let mut spans = signed_spans(&rt);
     make(&rt, zone(&rt, 0), &mut spans, 0, append_of(&rt, 0x61, 4084));
-    assert!(rt; words(&rt, &spans, 0) == (SIG, 0, 4084));
+    assert_words(&rt, &spans, 0, 4084);
     make(&rt, zone(&rt, 0), &mut spans, 0, append(&rt, b"!"));
-    assert!(rt; words(&rt, &spans, 0) == (SIG, 1, 4084));
+    assert_words(&rt, &spans, 1, 4084);
     let mut flight = begin(&rt, zone(&rt, 0), &spans, 0, Call::Erase);
     steps(&rt, &mut flight, &mut spans, 0, 1);
-    assert!(rt; words(&rt, &spans, 0) == (SIG, 0, 4084));
-    assert!(rt; flight.total() == 2);
-    assert!(rt; flight.kind() == CallKind::Erase);
-    assert!(rt; has_pairs(&flight, &[(1, 4084), (0, 4084), (0, 0)]));
-    assert!(rt; flight.runs().is_empty());
-    assert!(rt; stands(&spans, 0, 12, b"!a"));
+    assert_words(&rt, &spans, 0, 4084);
+    assert_stopped(&rt, &flight, 1, 2, &[(1, 4084), (0, 4084), (0, 0)]);
+    assert_call(&rt, &flight, CallKind::Erase, &[]);
+    assert_stands(&rt, &spans, 12, b"!a");
 }
 
 #[test]
@@ -270,10 +281,9 @@ fn an_append_to_a_full_ring_makes_a_foreign_header(rt: HostRuntime) {
     make(&rt, zone(&rt, 2), &mut spans, 0, append_of(&rt, 0x61, 4018));
     let mut flight = begin(&rt, zone(&rt, 2), &spans, 0, append_of(&rt, 0x62, 1541));
     steps(&rt, &mut flight, &mut spans, 0, 1);
-    assert!(rt; words(&rt, &spans, 0) == (SIG, 1541, 4018));
-    assert!(rt; flight.total() == 1570);
-    assert!(rt; has_pairs(&flight, &[(0, 4018), (1541, 4018)]));
-    assert!(rt; flight.runs().as_slice() == [(0, 12)].as_slice());
+    assert_words(&rt, &spans, 1541, 4018);
+    assert_stopped(&rt, &flight, 1, 1570, &[(0, 4018), (1541, 4018)]);
+    assert_call(&rt, &flight, CallKind::Append, &[(0, 12)]);
 }
 
 #[test]
@@ -281,13 +291,12 @@ fn a_dump_is_stopped_behind_its_line_s_words(rt: HostRuntime) {
     let mut spans = signed_spans(&rt);
     let mut flight = begin(&rt, zone(&rt, 0), &spans, 0, dump(&rt, 1));
     steps(&rt, &mut flight, &mut spans, 0, 4);
-    assert!(rt; words(&rt, &spans, 0) == (SIG, 15, 15));
+    assert_words(&rt, &spans, 15, 15);
     assert!(rt; flight.total() == 22);
-    assert!(rt; flight.kind() == CallKind::Dump);
-    assert!(rt; flight.runs().as_slice() == [(0, 0)].as_slice());
+    assert_call(&rt, &flight, CallKind::Dump, &[(0, 0)]);
     steps(&rt, &mut flight, &mut spans, 0, 18);
-    assert!(rt; words(&rt, &spans, 0) == (SIG, 16, 16));
-    assert!(rt; stands(&spans, 0, 12, b"====5.000006-D\nx\0"));
+    assert_words(&rt, &spans, 16, 16);
+    assert_stands(&rt, &spans, 12, b"====5.000006-D\nx\0");
 }
 
 // The bytes of a dump's body, its pairs, and its blocks.
@@ -333,25 +342,35 @@ const DUMPS: &[(usize, &[(u32, u32)], (u32, u32))] = &[
     ),
 ];
 
+// A dump of so many bytes on the first span, and its pairs.
+fn dump_with(
+    rt: &(impl Abort + AllocGlobal),
+    spans: &Spans,
+    count: usize,
+    pairs: &[(u32, u32)],
+) -> Flight {
+    let flight = begin(rt, zone(rt, 0), spans, 0, dump(rt, count));
+    assert!(rt; has_pairs(&flight, pairs));
+    flight
+}
+
 #[test]
 fn a_dump_has_seven_pairs(rt: HostRuntime) {
     let mut spans = signed_spans(&rt);
     make(&rt, zone(&rt, 0), &mut spans, 0, append(&rt, b"abc"));
     for (count, pairs, run) in DUMPS.iter().copied() {
-        let flight = begin(&rt, zone(&rt, 0), &spans, 0, dump(&rt, count));
-        assert!(rt; has_pairs(&flight, pairs));
-        assert!(rt; flight.runs().as_slice() == [run].as_slice());
+        let flight = dump_with(&rt, &spans, count, pairs);
+        assert_call(&rt, &flight, CallKind::Dump, &[run]);
     }
-    let flight = begin(&rt, zone(&rt, 0), &spans, 0, dump(&rt, 0));
-    assert!(rt; has_pairs(&flight, &[(3, 3), (0, 3), (0, 0), (0, 15), (15, 15)]));
+    let no_body = [(3, 3), (0, 3), (0, 0), (0, 15), (15, 15)];
+    let _flight = dump_with(&rt, &spans, 0, &no_body);
 }
 
 // Makes a call of so many stores in the first span.
 fn takes(rt: &impl Abort, parity: u32, spans: &mut Spans, call: Call, total: u64) {
     assert!(rt; parity <= 127);
     let mut flight = begin(rt, zone(rt, parity), spans, 0, call);
-    assert!(rt; flight.total() == total);
-    assert!(rt; flight.left() == total);
+    assert!(rt; (flight.total(), flight.left()) == (total, total));
     steps(rt, &mut flight, spans, 0, total);
     assert!(rt; flight.left() == 0);
 }
@@ -382,11 +401,9 @@ fn each_call_makes_its_number_of_stores(rt: HostRuntime) {
 fn an_append_of_no_bytes_has_no_stores(rt: HostRuntime) {
     let spans = signed_spans(&rt);
     let flight = begin(&rt, zone(&rt, 2), &spans, 0, append(&rt, b""));
-    assert!(rt; flight.total() == 0);
-    assert!(rt; flight.left() == 0);
-    assert!(rt; has_pairs(&flight, &[(0, 0)]));
-    assert!(rt; flight.runs().is_empty());
-    assert!(rt; matches!(flight.call(), Call::Append(_)));
+    assert_stopped(&rt, &flight, 0, 0, &[(0, 0)]);
+    assert_call(&rt, &flight, CallKind::Append, &[]);
+    assert!(rt; flight.left() == 0 && matches!(flight.call(), Call::Append(_)));
 }
 
 // How far an append of the three bytes to an empty ring without parity came after so many stores.
@@ -417,6 +434,22 @@ const ORDERS: &[[u32; 10]] = &[
     [0, 1, 0, 1, 0, 1, 0, 1, 0, 1],
 ];
 
+// One store of `abc` in the first span, or of `xyz` in the second.
+fn store_one(rt: &impl Abort, console: &mut Flight, pmsg: &mut Flight, spans: &mut Spans, i: u32)
+    requires console { console.old.zone.size ≡ 4096 }
+    requires pmsg { pmsg.old.zone.size ≡ 4096 }
+    ensures console { console.new.zone.size ≡ 4096 }
+    ensures pmsg { pmsg.new.zone.size ≡ 4096 }
+{
+    if i == 0 {
+        steps(rt, console, spans, 0, 1);
+    } else {
+        steps(rt, pmsg, spans, 1, 1);
+    }
+    assert!(rt; came_so_far(spans, 0, console.made(), *b"abc"));
+    assert!(rt; came_so_far(spans, 1, pmsg.made(), *b"xyz"));
+}
+
 #[test]
 fn two_appends_interleave(rt: HostRuntime) {
     for order in ORDERS.iter().copied() {
@@ -424,13 +457,7 @@ fn two_appends_interleave(rt: HostRuntime) {
         let mut console = begin(&rt, zone(&rt, 0), &spans, 0, append(&rt, b"abc"));
         let mut pmsg = begin(&rt, zone(&rt, 0), &spans, 1, append(&rt, b"xyz"));
         for i in order {
-            if i == 0 {
-                steps(&rt, &mut console, &mut spans, 0, 1);
-            } else {
-                steps(&rt, &mut pmsg, &mut spans, 1, 1);
-            }
-            assert!(rt; came_so_far(&spans, 0, console.made(), *b"abc"));
-            assert!(rt; came_so_far(&spans, 1, pmsg.made(), *b"xyz"));
+            store_one(&rt, &mut console, &mut pmsg, &mut spans, i);
         }
     }
 }

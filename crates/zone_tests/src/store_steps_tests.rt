@@ -126,13 +126,11 @@ fn plays(
     };
     let mut store = Store::new();
     for wanted in expected {
-        assert!(rt; !steps.is_finished());
-        assert!(rt; steps.is_kept(line, payload));
+        assert!(rt; !steps.is_finished() && steps.is_kept(line, payload));
         steps.next(table, image, line, payload, most, &mut store);
         assert!(rt; make(rt, image, line, payload, &store) == *wanted);
     }
-    assert!(rt; steps.is_finished());
-    assert!(rt; steps.is_kept(line, payload));
+    assert!(rt; steps.is_finished() && steps.is_kept(line, payload));
     assert!(rt; steps.made == steps.total(line, payload));
     steps.next(table, image, line, payload, most, &mut store);
     assert!(rt; matches!(store.given, Given::Nothing));
@@ -160,8 +158,7 @@ fn an_append_is_size_start_bytes_parity(rt: HostRuntime) {
         &expected,
     );
     assert!(rt; &image[4..15] == b"\x03\0\0\0\x03\0\0\0abc".as_slice());
-    assert!(rt; &image[4030..4032] == b"\xe3\x83".as_slice());
-    assert!(rt; &image[4094..4096] == b"\xfb\xf9".as_slice());
+    assert_parities(&rt, &image);
 }
 
 #[test]
@@ -186,8 +183,48 @@ fn a_lent_table_makes_the_same_parity(rt: HostRuntime) {
         MOST,
         &expected,
     );
+    assert_parities(&rt, &image);
+}
+
+// The parities of a record of `abc`, of its block and of its header.
+fn assert_parities(rt: &impl Abort, image: &[u8; 4096]) {
     assert!(rt; &image[4030..4032] == b"\xe3\x83".as_slice());
     assert!(rt; &image[4094..4096] == b"\xfb\xf9".as_slice());
+}
+
+// The next store of an append is a word or a run, and wants no image.
+fn assert_data(
+    rt: &impl Abort,
+    steps: &mut Steps,
+    payload: &[u8],
+    image: &mut [u8],
+    store: &mut Store,
+    wanted: Handed,
+)
+    requires kept { IsKept (flying steps.old [] payload.now) }
+    ensures kept { IsKept (flying steps.new [] payload.now) }
+{
+    assert!(rt; !steps.is_parity());
+    steps.next_data(b"", payload, MOST, store);
+    assert!(rt; make(rt, image, b"", payload, store) == wanted);
+}
+
+// The next store is a parity of the bytes that stand.
+fn assert_parity(
+    rt: &impl Abort,
+    steps: &mut Steps,
+    payload: &[u8],
+    stands: &[u8; 4096],
+    image: &mut [u8],
+    store: &mut Store,
+    wanted: Handed,
+)
+    requires kept { IsKept (flying steps.old [] payload.now) }
+    ensures kept { IsKept (flying steps.new [] payload.now) }
+{
+    assert!(rt; steps.is_parity() && steps.zone.size == 4096);
+    steps.next_parity(&[], stands, b"", payload, MOST, store);
+    assert!(rt; make(rt, image, b"", payload, store) == wanted);
 }
 
 #[test]
@@ -197,25 +234,22 @@ fn words_and_runs_want_no_image_and_parities_no_parity(rt: HostRuntime) {
         panic!(rt; "refused");
     };
     let mut store = Store::new();
-    assert!(rt; !steps.is_parity());
-    steps.next_data(b"", b"abc", MOST, &mut store);
-    assert!(rt; make(&rt, &mut image, b"", b"abc", &store) == (Given::Word, 8, 4, 3));
-    assert!(rt; !steps.is_parity());
-    steps.next_data(b"", b"abc", MOST, &mut store);
-    assert!(rt; make(&rt, &mut image, b"", b"abc", &store) == (Given::Word, 4, 4, 3));
-    assert!(rt; !steps.is_parity());
-    steps.next_data(b"", b"abc", MOST, &mut store);
-    assert!(rt; make(&rt, &mut image, b"", b"abc", &store) == (Given::Payload, 12, 3, 0));
+    let (size, start) = ((Given::Word, 8, 4, 3), (Given::Word, 4, 4, 3));
+    assert_data(&rt, &mut steps, b"abc", &mut image, &mut store, size);
+    assert_data(&rt, &mut steps, b"abc", &mut image, &mut store, start);
+    let run = (Given::Payload, 12, 3, 0);
+    assert_data(&rt, &mut steps, b"abc", &mut image, &mut store, run);
     let stands = image;
-    assert!(rt; steps.is_parity());
-    steps.next_parity(&[], &stands, b"", b"abc", MOST, &mut store);
-    assert!(rt; make(&rt, &mut image, b"", b"abc", &store) == (Given::Parity, 4030, 2, 0));
-    assert!(rt; steps.is_parity());
-    steps.next_parity(&[], &stands, b"", b"abc", MOST, &mut store);
-    assert!(rt; make(&rt, &mut image, b"", b"abc", &store) == (Given::Parity, 4094, 2, 0));
+    let block = (Given::Parity, 4030, 2, 0);
+    assert_parity(
+        &rt, &mut steps, b"abc", &stands, &mut image, &mut store, block,
+    );
+    let header = (Given::Parity, 4094, 2, 0);
+    assert_parity(
+        &rt, &mut steps, b"abc", &stands, &mut image, &mut store, header,
+    );
     assert!(rt; steps.is_finished());
-    assert!(rt; &image[4030..4032] == b"\xe3\x83".as_slice());
-    assert!(rt; &image[4094..4096] == b"\xfb\xf9".as_slice());
+    assert_parities(&rt, &image);
 }
 
 #[test]
@@ -296,6 +330,23 @@ fn a_full_ring_keeps_its_size_word(rt: HostRuntime) {
     assert!(rt; &image[4..12] == b"\x06\0\0\0\xb2\x0f\0\0".as_slice());
 }
 
+// The next stores of an append of these bytes, as many as are handed out at once.
+fn assert_next(
+    rt: &impl Abort,
+    steps: &mut Steps,
+    image: &mut [u8; 4096],
+    payload: &[u8],
+    wanted: Handed,
+)
+    requires kept { IsKept (flying steps.old [] payload.now) }
+    ensures kept { IsKept (flying steps.new [] payload.now) }
+{
+    assert!(rt; steps.zone.size == 4096);
+    let mut store = Store::new();
+    steps.next(&[], image, b"", payload, MOST, &mut store);
+    assert!(rt; make(rt, image, b"", payload, &store) == wanted);
+}
+
 #[test]
 fn of_a_long_append_the_last_bytes_are_stored(rt: HostRuntime) {
     let (zone, mut image) = (zone(&rt), image(0, 0));
@@ -303,13 +354,11 @@ fn of_a_long_append_the_last_bytes_are_stored(rt: HostRuntime) {
     let Some(mut steps) = Steps::try_begin(zone, CallKind::Append, &image, b"", &long) else {
         panic!(rt; "refused");
     };
-    let mut store = Store::new();
-    steps.next(&[], &image, b"", &long, MOST, &mut store);
-    assert!(rt; make(&rt, &mut image, b"", &long, &store) == (Given::Word, 8, 4, 4018));
-    steps.next(&[], &image, b"", &long, MOST, &mut store);
-    assert!(rt; make(&rt, &mut image, b"", &long, &store) == (Given::Word, 4, 4, 0));
-    steps.next(&[], &image, b"", &long, MOST, &mut store);
-    assert!(rt; make(&rt, &mut image, b"", &long, &store) == (Given::Payload, 12, 4018, 2));
+    let (size, start) = ((Given::Word, 8, 4, 4018), (Given::Word, 4, 4, 0));
+    assert_next(&rt, &mut steps, &mut image, &long, size);
+    assert_next(&rt, &mut steps, &mut image, &long, start);
+    let run = (Given::Payload, 12, 4018, 2);
+    assert_next(&rt, &mut steps, &mut image, &long, run);
 }
 
 #[test]
@@ -446,7 +495,7 @@ fn numbers_that_are_no_steps_are_seen(rt: HostRuntime) {
             number,
         };
         steps.made = made;
-        assert!(rt; steps.is_kept(b"", b"abc") == is_kept, "{phase:?} {made}");
+        assert!(rt; steps.is_kept(b"", b"abc") == is_kept);
     }
 }
 

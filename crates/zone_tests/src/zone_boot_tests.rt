@@ -1,4 +1,5 @@
 // Zones read in place, and a boot's stores made one by one, against the readings and the stores of `prz_read`.
+ghost use Rattle.std.specs.Prelude.{◌+◌, ◌≤◌, length};
 ghost use Rattle.zone_spec.specs.Zones.{IsValidZone};
 ghost use Rattle.rs_encode.specs.Lanes.{IsLent};
 
@@ -21,11 +22,32 @@ fn assert_summary(rt: &impl Abort, table: &[u128], image: &[u8], zone: &Zone, re
 {
     assert!(rt; image.len() == zone.size as usize);
     let summary = read_summary(table, image, zone);
-    assert!(rt; summary.state == reading.state);
-    assert!(rt; summary.words == reading.words);
+    assert!(rt; summary.state == reading.state && summary.words == reading.words);
     assert!(rt; summary.len as usize == reading.log.as_slice().len());
-    assert!(rt; summary.corrected == reading.corrected);
-    assert!(rt; summary.bad == reading.bad);
+    assert!(rt; (summary.corrected, summary.bad) == (reading.corrected, reading.bad));
+}
+
+// Copies up to `piece` bytes of the log from this place on, and tells how many they were.
+fn assert_piece(
+    rt: &impl Abort,
+    table: &[u128],
+    image: &[u8],
+    zone: &Zone,
+    log: &[u8],
+    from: usize,
+    piece: usize,
+) -> usize
+    requires table { IsLent zone.now.parity table.now }
+    requires valid { IsValidZone zone.now }
+    ensures { from + result ≤ length log.now }
+{
+    assert!(rt; image.len() == zone.size as usize && piece <= 4096);
+    let mut out = [0xee; 4096];
+    let count = copy_log(table, image, zone, from as u64, &mut out[..piece]);
+    assert!(rt; count <= piece && from <= log.len() && count <= log.len() - from);
+    assert!(rt; out[..count] == log[from..from + count]);
+    assert!(rt; out[count..].iter().all(|b| *b == 0xee));
+    count
 }
 
 // Copies the log in pieces of this length, and once from behind its end.
@@ -33,19 +55,13 @@ fn assert_log(rt: &impl Abort, table: &[u128], image: &[u8], zone: &Zone, log: &
     requires table { IsLent zone.now.parity table.now }
     requires valid { IsValidZone zone.now }
 {
-    assert!(rt; image.len() == zone.size as usize);
-    assert!(rt; 0 < piece && piece <= 4096);
+    assert!(rt; image.len() == zone.size as usize && 0 < piece);
     let mut from = 0usize;
     for _ in 0..4100 {
-        let mut out = [0xee; 4096];
-        let count = copy_log(table, image, zone, from as u64, &mut out[..piece]);
-        assert!(rt; count <= piece);
+        let count = assert_piece(rt, table, image, zone, log, from, piece);
         if count == 0 {
             break;
         }
-        assert!(rt; from <= log.len() && count <= log.len() - from);
-        assert!(rt; out[..count] == log[from..from + count]);
-        assert!(rt; out[count..].iter().all(|b| *b == 0xee));
         from += count;
     }
     assert!(rt; from == log.len());
@@ -83,8 +99,7 @@ fn assert_settled(
     image: &[u8],
 ) {
     let (done, left) = settled(rt.alloc(), p, i, bytes, limit).expect(rt, "no zone");
-    assert!(rt; done.made == limit);
-    assert!(rt; left.as_slice() == image);
+    assert!(rt; done.made == limit && left.as_slice() == image);
 }
 
 // Makes the stores of an answer one by one, and looks at the zone after each.
@@ -144,6 +159,48 @@ fn boot_whole(
     panic!(rt; "more than 400 answers");
 }
 
+// Reads the zone, and its log in pieces of each of these lengths.
+fn assert_reads(
+    rt: &impl Abort,
+    table: &[u128],
+    now: &[u8],
+    zone: &Zone,
+    reading: &Reading,
+    pieces: &[usize],
+)
+    requires table { IsLent zone.now.parity table.now }
+    requires valid { IsValidZone zone.now }
+{
+    assert_summary(rt, table, now, zone, reading);
+    for piece in pieces {
+        assert_log(rt, table, now, zone, reading.log.as_slice(), *piece);
+    }
+}
+
+// The length of the pieces of a short log, which is read byte by byte without a table.
+fn bytewise(reading: &Reading) -> &'static [usize] {
+    if reading.log.as_slice().len() < 600 {
+        &[1]
+    } else {
+        &[]
+    }
+}
+
+// Boots a copy of these bytes.
+fn boot_copy(
+    rt: &(impl Abort + AllocGlobal),
+    whole: (&Params, usize, &[u8]),
+    table: &[u128],
+    zone: &Zone,
+    now: &[u8],
+) -> (u64, u32)
+    requires table { IsLent zone.now.parity table.now }
+    requires valid { IsValidZone zone.now }
+{
+    let mut booted = Vec::from_slice(rt.alloc(), now).expect(rt, "no memory");
+    boot_whole(rt, whole, table, zone, &mut booted)
+}
+
 // Reads the zone and boots it, with and without a table. Answers how many stores the boot has, and how many times some
 // were handed out.
 fn same_at(
@@ -156,19 +213,10 @@ fn same_at(
     requires { IsValidZone zone.now }
 {
     let coder = Coder::new(zone);
-    assert_summary(rt, &[], now, zone, reading);
-    assert_summary(rt, coder.table(), now, zone, reading);
-    let log = reading.log.as_slice();
-    for piece in [7, 128, 4096] {
-        assert_log(rt, coder.table(), now, zone, log, piece);
-    }
-    if log.len() < 600 {
-        assert_log(rt, &[], now, zone, log, 1);
-    }
-    let mut booted = Vec::from_slice(rt.alloc(), now).expect(rt, "no memory");
-    let answer = boot_whole(rt, whole, coder.table(), zone, &mut booted);
-    let mut again = Vec::from_slice(rt.alloc(), now).expect(rt, "no memory");
-    assert!(rt; boot_whole(rt, whole, &[], zone, &mut again) == answer);
+    assert_reads(rt, &[], now, zone, reading, bytewise(reading));
+    assert_reads(rt, coder.table(), now, zone, reading, &[7, 128, 4096]);
+    let answer = boot_copy(rt, whole, coder.table(), zone, now);
+    assert!(rt; boot_copy(rt, whole, &[], zone, now) == answer);
     answer
 }
 
@@ -199,55 +247,53 @@ fn same(rt: &(impl Abort + AllocGlobal), p: &Params, i: usize, bytes: &[u8]) -> 
     answer
 }
 
+// The same of a ring of these words and data, whose boot has so many stores, handed out so many times.
+fn assert_ring(
+    rt: &(impl Abort + AllocGlobal),
+    (p, i): (&Params, usize),
+    (start, size): (u32, u32),
+    data: &[u8],
+    wanted: (u64, u32),
+) {
+    let image = ring(rt.alloc(), start, size, data).expect(rt, "no memory");
+    assert!(rt; same(rt, p, i, &image) == wanted);
+}
+
 #[test]
-fn zones_without_parity(rt: HostRuntime) -> Result<(), Fail> {
-    let alloc = rt.alloc();
+fn zones_without_parity(rt: HostRuntime) {
     // A console that was found is erased by two words; an empty one is kept; one without a signature has it stored.
-    let image = ring(alloc, 3, 3, b"abc".as_slice())?;
-    assert!(rt; same(&rt, &console(0), 0, &image) == (2, 2));
-    let image = ring(alloc, 0, 0, &[])?;
-    assert!(rt; same(&rt, &console(0), 0, &image) == (0, 0));
+    let zone = (&console(0), 0);
+    assert_ring(&rt, zone, (3, 3), b"abc", (2, 2));
+    assert_ring(&rt, zone, (0, 0), &[], (0, 0));
     assert!(rt; same(&rt, &console(0), 0, &[]) == (3, 3));
-    for (start, size) in NO_RINGS.iter().copied() {
-        let image = ring(alloc, start, size, b"abc".as_slice())?;
-        assert!(rt; same(&rt, &console(0), 0, &image) == (2, 2));
+    for words in NO_RINGS.iter().copied() {
+        assert_ring(&rt, zone, words, b"abc", (2, 2));
     }
-    Ok(())
 }
 
 #[test]
 fn dumps_and_traces(rt: HostRuntime) -> Result<(), Fail> {
-    let alloc = rt.alloc();
     let line = b"====1234567890123456789.123456789-C\nxyz".as_slice();
-    let image = ring(alloc, 39, 39, line)?;
-    assert!(rt; same(&rt, &four(0), 0, &image) == (0, 0));
-    let image = ring(alloc, 35, 35, line)?;
-    assert!(rt; same(&rt, &four(0), 0, &image) == (2, 2));
-    let image = ring(
-        alloc,
-        5,
-        39,
-        b"-C\nxy====1234567890123456789.123456789".as_slice(),
-    )?;
+    assert_ring(&rt, (&four(0), 0), (39, 39), line, (0, 0));
+    assert_ring(&rt, (&four(0), 0), (35, 35), line, (2, 2));
+    let turned = b"-C\nxy====1234567890123456789.123456789".as_slice();
+    let image = ring(rt.alloc(), 5, 39, turned)?;
     same(&rt, &four(0), 1, &image);
-    let image = ring(alloc, 2, 5, b"\x01\x02\x03\x04\x05".as_slice())?;
-    assert!(rt; same(&rt, &two_cpus(), 0, &image) == (2, 2));
-    let image = ring(alloc, 5, 5, b"\x01\x02\x03\x04\x05".as_slice())?;
-    assert!(rt; same(&rt, &two_cpus(), 1, &image) == (0, 0));
+    let entry = b"\x01\x02\x03\x04\x05".as_slice();
+    assert_ring(&rt, (&two_cpus(), 0), (2, 5), entry, (2, 2));
+    assert_ring(&rt, (&two_cpus(), 1), (5, 5), entry, (0, 0));
     Ok(())
 }
 
 #[test]
-fn wrapped_rings(rt: HostRuntime) -> Result<(), Fail> {
-    let mut data = Vec::from_elem(rt.alloc(), 0u8, 4084)?;
+fn wrapped_rings(rt: HostRuntime) {
+    let mut data = [0; 4084];
     for (k, b) in data.iter_mut().enumerate() {
         *b = (k % 251) as u8;
     }
     for start in [1, 127, 128, 129, 3000, 4083] {
-        let image = ring(rt.alloc(), start, 4084, &data)?;
-        assert!(rt; same(&rt, &console(0), 0, &image) == (2, 2));
+        assert_ring(&rt, (&console(0), 0), (start, 4084), &data, (2, 2));
     }
-    Ok(())
 }
 
 #[test]
