@@ -36,8 +36,7 @@ const FIXED_AGAIN: [u8; 62] = [
 fn assert_text(rt: &(impl Abort + AllocGlobal), stream: &[u8], text: &[u8], taken: usize) {
     match inflate(rt.alloc(), stream, text.len()) {
         Ok(found) => {
-            assert_eq!(rt; &*found.text, text);
-            assert_eq!(rt; found.taken, taken);
+            assert!(rt; found.text.as_slice() == text && found.taken == taken);
         }
         Err(_) => panic!(rt; "no text"),
     }
@@ -51,8 +50,7 @@ fn assert_broken(rt: &(impl Abort + AllocGlobal), stream: &[u8], text: &[u8], fa
                 text: front,
             },
         ) => {
-            assert_eq!(rt; &*front, text);
-            assert_eq!(rt; why, fault);
+            assert!(rt; front.as_slice() == text && why == fault);
         }
         _ => panic!(rt; "not broken"),
     }
@@ -60,7 +58,7 @@ fn assert_broken(rt: &(impl Abort + AllocGlobal), stream: &[u8], text: &[u8], fa
 
 fn assert_too_long(rt: &(impl Abort + AllocGlobal), stream: &[u8], most: usize, text: &[u8]) {
     match inflate(rt.alloc(), stream, most) {
-        Err(InflateError::TooLong { text: front }) => assert_eq!(rt; &*front, text),
+        Err(InflateError::TooLong { text: front }) => assert!(rt; front.as_slice() == text),
         _ => panic!(rt; "not too long"),
     }
 }
@@ -146,7 +144,7 @@ fn texts_that_are_too_long(rt: HostRuntime) {
 
 fn assert_taken_or_memory(rt: &(impl Abort + AllocGlobal), stream: &[u8]) {
     match inflate(rt.alloc(), stream, 100) {
-        Ok(found) => assert_eq!(rt; found.taken, stream.len()),
+        Ok(found) => assert!(rt; found.taken == stream.len()),
         Err(InflateError::Memory) => (),
         _ => panic!(rt; "another fault"),
     }

@@ -1,3 +1,5 @@
+ghost use Rattle.std.specs.Prelude.{◌+◌, ◌≤◌, length};
+
 use crate::rs_encode_tests::ramp;
 use arrayvec::ArrayVec;
 use rs_decode::*;
@@ -13,6 +15,30 @@ fn assert_decoded(
     data: &[u8],
     places: &[(u8, u8)],
 ) {
+    assert_lengths(rt, msg, par);
+    let coder = Parity::new(par.len());
+    let mut buffer = [0u8; 255];
+    let word = &mut buffer[..msg.len()];
+    word.copy_from_slice(msg);
+    let mut fixes = ArrayVec::new();
+    let answer = decode(word, par, &mut fixes);
+    assert!(rt; answer == want && &*word == data, "another answer");
+    assert_places(rt, fixes.as_slice(), places);
+    word.copy_from_slice(msg);
+    let answer = decode_by(coder.rows(), word, par, &mut fixes);
+    assert!(rt;
+        answer == want && &*word == data,
+        "another answer, by a table"
+    );
+    assert_places(rt, fixes.as_slice(), places);
+}
+
+fn assert_lengths(rt: &impl Abort, msg: &[u8], par: &[u8])
+    ensures some { 1 ≤ length par.now }
+    ensures few { length par.now ≤ 127 }
+    ensures data { 1 ≤ length msg.now }
+    ensures fits { length msg.now + length par.now ≤ 255 }
+{
     assert!(rt;
         1 <= par.len() && par.len() <= 127,
         "at most 127 parity symbols"
@@ -21,27 +47,12 @@ fn assert_decoded(
         1 <= msg.len() && msg.len() + par.len() <= 255,
         "at most 255 symbols"
     );
-    let coder = Parity::new(par.len());
-    let mut buffer = [0u8; 255];
-    let word = &mut buffer[..msg.len()];
-    word.copy_from_slice(msg);
-    let mut fixes = ArrayVec::new();
-    let answer = decode(word, par, &mut fixes);
-    assert!(rt; answer == want, "another answer");
-    assert_eq!(rt; &*word, data);
-    assert_places(rt, fixes.as_slice(), places);
-    word.copy_from_slice(msg);
-    let answer = decode_by(coder.rows(), word, par, &mut fixes);
-    assert!(rt; answer == want, "another answer, by a table");
-    assert_eq!(rt; &*word, data);
-    assert_places(rt, fixes.as_slice(), places);
 }
 
 fn assert_places(rt: &impl Abort, fixes: &[Fix], places: &[(u8, u8)]) {
-    assert_eq!(rt; fixes.len(), places.len());
-    for (fix, (place, mask)) in fixes.iter().zip(places) {
-        assert_eq!(rt; fix.place, *place);
-        assert_eq!(rt; fix.mask, *mask);
+    assert!(rt; fixes.len() == places.len());
+    for (fix, place) in fixes.iter().zip(places) {
+        assert!(rt; (fix.place, fix.mask) == *place);
     }
 }
 
@@ -57,22 +68,14 @@ fn two_parity_symbols(rt: HostRuntime) {
 
 /// Decodes the word of `msg` and `par` with a bound, and tells the answer and the data.
 fn assert_within(rt: &impl Abort, most: usize, par: &[u8], msg: &[u8], want: Decoded, data: &[u8]) {
-    assert!(rt;
-        1 <= par.len() && par.len() <= 127,
-        "at most 127 parity symbols"
-    );
+    assert_lengths(rt, msg, par);
     assert!(rt; most <= par.len() / 2, "at most half the parity");
-    assert!(rt;
-        1 <= msg.len() && msg.len() + par.len() <= 255,
-        "at most 255 symbols"
-    );
     let mut buffer = [0u8; 255];
     let word = &mut buffer[..msg.len()];
     word.copy_from_slice(msg);
     let mut fixes = ArrayVec::new();
     let answer = decode_within(&Parity::new(par.len()), most, word, par, &mut fixes);
-    assert!(rt; answer == want, "another answer");
-    assert_eq!(rt; &*word, data);
+    assert!(rt; answer == want && &*word == data, "another answer");
 }
 
 /// The word 0 with the parity 3, 2 is one place from the codeword 1, 3, 2.

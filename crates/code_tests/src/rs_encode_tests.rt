@@ -11,18 +11,18 @@ fn assert_parity(rt: &impl Abort, msg: &[u8], want: &[u8]) {
     let mut out = [7u8; 127];
     let coder = Parity::new(r);
     coder.parity(msg, &mut out[..r]);
-    assert_eq!(rt; &out[..r], want, "at {r}");
-    assert!(rt; coder.is_parity(msg, &out[..r]), "its own parity at {r}");
+    assert!(rt; &out[..r] == want, "its parity");
+    assert!(rt; coder.is_parity(msg, &out[..r]), "its own parity");
     let mut other = [9u8; 127];
     coder.parity_pair(msg, msg, &mut out[..r], &mut other[..r]);
-    assert_eq!(rt; &out[..r], want, "first of two at {r}");
-    assert_eq!(rt; &other[..r], want, "second of two at {r}");
+    assert!(rt; &out[..r] == want, "first of two");
+    assert!(rt; &other[..r] == want, "second of two");
     other[r - 1] ^= 1;
-    assert!(rt; !coder.is_parity(msg, &other[..r]), "other parity at {r}");
+    assert!(rt; !coder.is_parity(msg, &other[..r]), "other parity");
     let pair = coder.are_parity_pair(msg, &out[..r], msg, &other[..r]);
-    assert!(rt; pair.0 && !pair.1, "the second is other at {r}");
+    assert!(rt; pair.0 && !pair.1, "the second is other");
     let pair = coder.are_parity_pair(msg, &other[..r], msg, &out[..r]);
-    assert!(rt; !pair.0 && pair.1, "the first is other at {r}");
+    assert!(rt; !pair.0 && pair.1, "the first is other");
     assert_parity_by(rt, coder.rows(), msg, want);
     assert_parity_by(rt, &[], msg, want);
 }
@@ -37,20 +37,14 @@ fn assert_parity_by(rt: &impl Abort, rows: &[u128], msg: &[u8], want: &[u8])
     let r = want.len();
     let mut out = [7u8; 127];
     parity_by(rows, msg, &mut out[..r]);
-    assert_eq!(rt; &out[..r], want, "lent at {r}");
-    assert!(rt;
-        is_parity_by(rows, msg, want),
-        "its own parity, lent at {r}"
-    );
+    assert!(rt; &out[..r] == want, "its parity, lent");
+    assert!(rt; is_parity_by(rows, msg, want), "its own parity, lent");
     out[r - 1] ^= 1;
-    assert!(rt;
-        !is_parity_by(rows, msg, &out[..r]),
-        "other parity, lent at {r}"
-    );
+    assert!(rt; !is_parity_by(rows, msg, &out[..r]), "other parity, lent");
     let pair = are_parity_pair_by(rows, msg, want, msg, &out[..r]);
-    assert!(rt; pair.0 && !pair.1, "the second is other, lent at {r}");
+    assert!(rt; pair.0 && !pair.1, "the second is other, lent");
     let pair = are_parity_pair_by(rows, msg, &out[..r], msg, want);
-    assert!(rt; !pair.0 && pair.1, "the first is other, lent at {r}");
+    assert!(rt; !pair.0 && pair.1, "the first is other, lent");
 }
 
 /// 11, 48, 85 and so on, each 37 more than the last.
@@ -71,10 +65,8 @@ fn a_table_in_the_place_of_another(rt: HostRuntime) {
     fill_table(127, &mut rows);
     assert!(rt; rows[1] != 0x0302 << 112u32);
     fill_table(2, &mut rows);
-    assert!(rt; rows[0] == 0);
-    assert!(rt; rows[1] == 0x0302 << 112u32);
-    assert!(rt; rows[2] == 0x0604 << 112u32);
-    assert!(rt; rows[255] == 0x1ce3 << 112u32);
+    assert!(rt; (rows[0], rows[1]) == (0, 0x0302 << 112u32));
+    assert!(rt; (rows[2], rows[255]) == (0x0604 << 112u32, 0x1ce3 << 112u32));
     assert!(rt; rows.as_slice() == Parity::new(2).rows());
     let mut out = [7u8; 2];
     parity_by(&rows, &[1], &mut out);
