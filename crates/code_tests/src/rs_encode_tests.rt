@@ -1,4 +1,4 @@
-ghost use Rattle.std.specs.Prelude.{◌+◌, ◌≤◌, length};
+ghost use Rattle.std.specs.Prelude.{◌≡◌, ◌+◌, ◌≤◌, length};
 ghost use Rattle.rs_encode.specs.Lanes.{IsLent};
 
 use rs_encode::*;
@@ -8,42 +8,62 @@ fn assert_parity(rt: &impl Abort, msg: &[u8], want: &[u8]) {
     let r = want.len();
     assert!(rt; 1 <= r && r <= 127, "at most 127 parity symbols");
     assert!(rt; msg.len() + r <= 255, "at most 255 symbols");
-    let mut out = [7u8; 127];
     let coder = Parity::new(r);
+    assert_made(rt, &coder, msg, want);
+    let mut other = [9u8; 127];
+    other[..r].copy_from_slice(want);
+    other[r - 1] ^= 1;
+    assert_told(rt, &coder, msg, want, &other[..r]);
+    assert_parity_by(rt, coder.rows(), msg, want, &other[..r]);
+    assert_parity_by(rt, &[], msg, want, &other[..r]);
+}
+
+/// The parity of one message, and of two at once.
+fn assert_made(rt: &impl Abort, coder: &Parity, msg: &[u8], want: &[u8])
+    requires few { length want.now ≤ 127 }
+    requires fits { length msg.now + length want.now ≤ 255 }
+    requires coder { coder.now ≡ length want.now }
+{
+    let r = want.len();
+    let mut out = [7u8; 127];
     coder.parity(msg, &mut out[..r]);
     assert!(rt; &out[..r] == want, "its parity");
-    assert!(rt; coder.is_parity(msg, &out[..r]), "its own parity");
     let mut other = [9u8; 127];
     coder.parity_pair(msg, msg, &mut out[..r], &mut other[..r]);
     assert!(rt; &out[..r] == want, "first of two");
     assert!(rt; &other[..r] == want, "second of two");
-    other[r - 1] ^= 1;
-    assert!(rt; !coder.is_parity(msg, &other[..r]), "other parity");
-    let pair = coder.are_parity_pair(msg, &out[..r], msg, &other[..r]);
+}
+
+/// The parity is told from another.
+fn assert_told(rt: &impl Abort, coder: &Parity, msg: &[u8], want: &[u8], other: &[u8])
+    requires fits { length msg.now + length want.now ≤ 255 }
+    requires coder { coder.now ≡ length want.now }
+    requires other { length other.now ≡ length want.now }
+{
+    assert!(rt; coder.is_parity(msg, want), "its own parity");
+    assert!(rt; !coder.is_parity(msg, other), "other parity");
+    let pair = coder.are_parity_pair(msg, want, msg, other);
     assert!(rt; pair.0 && !pair.1, "the second is other");
-    let pair = coder.are_parity_pair(msg, &other[..r], msg, &out[..r]);
+    let pair = coder.are_parity_pair(msg, other, msg, want);
     assert!(rt; !pair.0 && pair.1, "the first is other");
-    assert_parity_by(rt, coder.rows(), msg, want);
-    assert_parity_by(rt, &[], msg, want);
 }
 
 /// The same by a lent table, or by none.
-fn assert_parity_by(rt: &impl Abort, rows: &[u128], msg: &[u8], want: &[u8])
+fn assert_parity_by(rt: &impl Abort, rows: &[u128], msg: &[u8], want: &[u8], other: &[u8])
     requires some { 1 ≤ length want.now }
     requires few { length want.now ≤ 127 }
     requires fits { length msg.now + length want.now ≤ 255 }
     requires table { IsLent (length want.now) rows.now }
+    requires other { length other.now ≡ length want.now }
 {
-    let r = want.len();
     let mut out = [7u8; 127];
-    parity_by(rows, msg, &mut out[..r]);
-    assert!(rt; &out[..r] == want, "its parity, lent");
+    parity_by(rows, msg, &mut out[..want.len()]);
+    assert!(rt; &out[..want.len()] == want, "its parity, lent");
     assert!(rt; is_parity_by(rows, msg, want), "its own parity, lent");
-    out[r - 1] ^= 1;
-    assert!(rt; !is_parity_by(rows, msg, &out[..r]), "other parity, lent");
-    let pair = are_parity_pair_by(rows, msg, want, msg, &out[..r]);
+    assert!(rt; !is_parity_by(rows, msg, other), "other parity, lent");
+    let pair = are_parity_pair_by(rows, msg, want, msg, other);
     assert!(rt; pair.0 && !pair.1, "the second is other, lent");
-    let pair = are_parity_pair_by(rows, msg, &out[..r], msg, want);
+    let pair = are_parity_pair_by(rows, msg, other, msg, want);
     assert!(rt; !pair.0 && pair.1, "the first is other, lent");
 }
 
