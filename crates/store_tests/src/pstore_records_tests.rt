@@ -6,6 +6,7 @@ use pstore_records::*;
 use ramoops_layout::types::Layout;
 use ramoops_layout::{Params, layout};
 use std::alloc::{AllocError, Global};
+use std::process::Abort;
 use std::test::Fail;
 
 fn params(dump: u64, console: u64, ftrace: u64, pmsg: u64, ecc: u64) -> Params {
@@ -118,6 +119,18 @@ fn shows(alloc: Global, logs: &Logs, name: Name, bytes: &[u8]) -> bool {
     }
 }
 
+// Looks at the content of a name where the zones read so.
+fn assert_shows(
+    rt: &(impl Abort + AllocGlobal),
+    p: &Params,
+    zones: [Seen; 4],
+    name: Name,
+    bytes: &[u8],
+) {
+    let logs = saved(rt.alloc(), p, zones).expect(rt, "no memory");
+    assert!(rt; shows(rt.alloc(), &logs, name, bytes));
+}
+
 fn is_unlisted(alloc: Global, logs: &Logs, name: Name) -> bool {
     match content(alloc, logs, name) {
         Err(ContentFault::NoRecord) => {
@@ -149,21 +162,25 @@ const UNLISTED: &[Name] = &[
     Name::Ftrace,
 ];
 
+fn assert_unlisted(rt: &(impl Abort + AllocGlobal), logs: &Logs, names: &[Name]) {
+    for name in names.iter().copied() {
+        assert!(rt; is_unlisted(rt.alloc(), logs, name));
+    }
+}
+
 #[test]
 fn a_kept_dump_is_listed(rt: HostRuntime) -> Result<(), Fail> {
     let alloc = rt.alloc();
     let kept = found(b"====1700000001.000000-D\ntwo");
     let logs = saved(alloc, &dumps(0), [empty(), kept, empty(), empty()])?;
-    assert!(rt; lists(alloc, &logs, &[dump(1, false)]));
-    assert!(rt; shows(alloc, &logs, dump(1, false), b"two"));
+    let name = dump(1, false);
+    assert!(rt; lists(alloc, &logs, &[name]) && shows(alloc, &logs, name, b"two"));
     let at = Time {
         secs: 1_700_000_001,
         micros: 0,
     };
-    assert!(rt; time(&logs, dump(1, false)) == Some(at));
-    for name in UNLISTED.iter().copied() {
-        assert!(rt; is_unlisted(alloc, &logs, name));
-    }
+    assert!(rt; time(&logs, name) == Some(at));
+    assert_unlisted(&rt, &logs, UNLISTED);
     Ok(())
 }
 
@@ -212,17 +229,21 @@ fn entries(alloc: Global, words: &[u64]) -> Result<Vec<u8>, AllocError> {
     Ok(bytes)
 }
 
+// The saved readings of two ftrace zones with entries of these words, and of pmsg.
+fn traced(alloc: Global, first: &[u64], second: &[u64]) -> Result<Logs, AllocError> {
+    let first = entries(alloc, first)?;
+    let second = entries(alloc, second)?;
+    let zones = [empty(), found(&first), found(&second), found(b"p")];
+    saved(alloc, &rings(0), zones)
+}
+
 #[test]
 fn ftrace_zones_make_one_record_behind_pmsg(rt: HostRuntime) -> Result<(), Fail> {
     let alloc = rt.alloc();
-    let first = entries(alloc, &[0x500, 0x700])?;
-    let second = entries(alloc, &[0x501])?;
+    let logs = traced(alloc, &[0x500, 0x700], &[0x501])?;
     let merged = entries(alloc, &[0x501, 0x500, 0x700])?;
-    let zones = [empty(), found(&first), found(&second), found(b"p")];
-    let logs = saved(alloc, &rings(0), zones)?;
     assert!(rt; lists(alloc, &logs, &[Name::Pmsg, Name::Ftrace]));
-    assert!(rt; merged.len() == 72);
-    assert!(rt; shows(alloc, &logs, Name::Ftrace, &merged));
+    assert!(rt; merged.len() == 72 && shows(alloc, &logs, Name::Ftrace, &merged));
     assert!(rt; time(&logs, Name::Ftrace).is_none());
     Ok(())
 }
@@ -237,10 +258,9 @@ fn bytes_of_no_whole_entry_are_dropped(rt: HostRuntime) -> Result<(), Fail> {
     assert!(rt; all.len() == 2040);
     let log = &all.as_slice()[4..];
     let kept = &all.as_slice()[24..];
-    let logs = saved(alloc, &rings(0), [empty(), found(log), empty(), empty()])?;
-    assert!(rt; log.len() == 2036);
-    assert!(rt; kept.len() == 2016);
-    assert!(rt; shows(alloc, &logs, Name::Ftrace, kept));
+    assert!(rt; (log.len(), kept.len()) == (2036, 2016));
+    let zones = [empty(), found(log), empty(), empty()];
+    assert_shows(&rt, &rings(0), zones, Name::Ftrace, kept);
     Ok(())
 }
 
@@ -264,19 +284,16 @@ const NOTICES: &[(u32, u32, &[u8])] = &[
 ];
 
 #[test]
-fn a_notice_follows_where_there_is_parity(rt: HostRuntime) -> Result<(), Fail> {
-    let alloc = rt.alloc();
+fn a_notice_follows_where_there_is_parity(rt: HostRuntime) {
     for (corrected, bad, text) in NOTICES.iter().copied() {
         let console = zone_of(State::Found, b"abc", corrected, bad);
-        let logs = saved(alloc, &dumps(16), [empty(), empty(), console, empty()])?;
-        assert!(rt; shows(alloc, &logs, Name::Console, text));
+        let zones = [empty(), empty(), console, empty()];
+        assert_shows(&rt, &dumps(16), zones, Name::Console, text);
     }
-    Ok(())
 }
 
 #[test]
-fn a_notice_counts_the_zones_that_were_found(rt: HostRuntime) -> Result<(), Fail> {
-    let alloc = rt.alloc();
+fn a_notice_counts_the_zones_that_were_found(rt: HostRuntime) {
     let console = zone_of(State::Found, &[], 5, 0);
     let first = zone_of(State::Found, &[], 1, 2);
     let rows: [(Seen, &[u8]); 2] = [
@@ -290,10 +307,9 @@ fn a_notice_counts_the_zones_that_were_found(rt: HostRuntime) -> Result<(), Fail
         ),
     ];
     for (second, text) in rows {
-        let logs = saved(alloc, &rings(16), [console, first, second, empty()])?;
-        assert!(rt; shows(alloc, &logs, Name::Ftrace, text));
+        let zones = [console, first, second, empty()];
+        assert_shows(&rt, &rings(16), zones, Name::Ftrace, text);
     }
-    Ok(())
 }
 
 #[test]
@@ -361,15 +377,17 @@ const TEXTS: &[(Name, &str)] = &[
     (Name::Ftrace, "ftrace-ramoops-0"),
 ];
 
+fn is_written(name: Name, text: &str) -> bool {
+    let mut out = ArrayString::zero_filled();
+    name_text(name, &mut out);
+    out.as_str() == text
+}
+
 #[test]
-fn names_are_written_and_found(rt: HostRuntime) -> Result<(), Fail> {
+fn names_are_written_and_found(rt: HostRuntime) {
     for (name, text) in TEXTS.iter().copied() {
-        let mut out = ArrayString::zero_filled();
-        name_text(name, &mut out);
-        assert!(rt; out.as_str() == text);
-        assert!(rt; find(text) == Some(name));
+        assert!(rt; is_written(name, text) && find(text) == Some(name));
     }
-    Ok(())
 }
 
 const NO_NAMES: &[&str] = &[
@@ -395,11 +413,10 @@ const NO_NAMES: &[&str] = &[
 ];
 
 #[test]
-fn other_texts_are_no_names(rt: HostRuntime) -> Result<(), Fail> {
+fn other_texts_are_no_names(rt: HostRuntime) {
     for text in NO_NAMES.iter().copied() {
         assert!(rt; find(text).is_none());
     }
-    Ok(())
 }
 
 #[test]

@@ -7,6 +7,7 @@ use outside::Bytes;
 use prz_read::Logs;
 use ramoops::*;
 use ramoops_layout::layout;
+use std::alloc::{AllocError, Global};
 use std::process::Abort;
 use std::test::Fail;
 use zone_spec::{Kind, Params, Time, ZoneName};
@@ -102,15 +103,14 @@ fn append(rt: &(impl Abort + AllocGlobal), zone: ZoneName, bytes: &[u8]) -> Ask
     )
 }
 
-fn append_of(rt: &(impl Abort + AllocGlobal), zone: ZoneName, byte: u8, count: usize) -> Ask
-    ensures { CanBeAsked result }
-{
-    let bytes = Vec::from_elem(rt.alloc(), byte, count).expect(rt, "no memory");
-    Ask::Append(zone, Bytes::from_vec(bytes))
-}
-
 fn begin_append(rt: &(impl Abort + AllocGlobal), live: &mut Live, zone: ZoneName, bytes: &[u8]) {
     assert!(rt; begun(live.begin(append(rt, zone, bytes)), zone));
+}
+
+// Begins an append of so many bytes of one value to the console.
+fn begin_append_of(rt: &(impl Abort + AllocGlobal), live: &mut Live, byte: u8, count: usize) {
+    let bytes = Vec::from_elem(rt.alloc(), byte, count).expect(rt, "no memory");
+    begin_append(rt, live, CONSOLE, &bytes);
 }
 
 // Begins a dump that is not compressed, and gives the zone that it goes to.
@@ -249,6 +249,34 @@ fn is_same(a: &Cut, b: &Cut) -> bool {
         && a.runs.as_slice() == b.runs.as_slice()
 }
 
+// Boots a store, looks at what is told and read of a place, and gives the live store.
+fn boots_as(rt: &impl Abort, off: Off, place: u32, verdict: Verdict, log: &[u8]) -> Live {
+    let (live, logs, report) = boot(rt, off);
+    assert!(rt; tells(&report, place as usize, verdict) && reads(&logs, place, log));
+    live
+}
+
+// The same where a call was cut there.
+fn boots_cut(rt: &impl Abort, off: Off, place: u32, verdict: Verdict, cut: &Cut, log: &[u8]) {
+    let (_, logs, report) = boot(rt, off);
+    assert!(rt; tells_cut(&report, place as usize, verdict, cut) && reads(&logs, place, log));
+}
+
+// Boots a store, and looks at the verdict of a place, and at its log: these bytes first, and all others one byte.
+fn boots_front(
+    rt: &impl Abort,
+    off: Off,
+    place: u32,
+    verdict: Verdict,
+    len: usize,
+    front: &[u8],
+    byte: u8,
+) {
+    let (_, logs, report) = boot(rt, off);
+    assert!(rt; tells(&report, place as usize, verdict));
+    assert!(rt; reads_front(&logs, place, len, front, byte));
+}
+
 fn differs(told: u32, seen: u32, first: u32) -> Verdict {
     Verdict::Differs { told, seen, first }
 }
@@ -265,29 +293,34 @@ fn cut(kind: CallKind, made: u64, total: u64, header: HeaderSeen, runs: &[(u32, 
     }
 }
 
-#[test]
-fn an_append_reads_after_a_stop(rt: HostRuntime) -> Result<(), Fail> {
-    let (mut live, logs, report) = boot(&rt, zeros(&rt, &console(0)));
-    assert!(rt; logs.len() == 1);
-    assert!(rt; report.as_slice().len() == 1);
+// The live store of a first boot of one console, which tells nothing.
+fn first_live(rt: &(impl Abort + AllocGlobal)) -> Live {
+    let (live, logs, report) = boot(rt, zeros(rt, &console(0)));
+    assert!(rt; (logs.len(), report.as_slice().len()) == (1, 1));
     assert!(rt; tells(&report, 0, Verdict::NothingTold));
-    assert!(rt; write(&rt, &mut live, CONSOLE, b"abc") == 5);
+    live
+}
+
+// Whether the console's told list is `abc`, in a ring of 4084 bytes.
+fn has_told_abc(live: &Live) -> bool {
     match live.told(CONSOLE) {
         Ok(told) => {
-            assert!(rt; told.len() == 3);
-            assert!(rt; told.ring().capacity() == 4084);
-            assert!(rt; told.ring().get(2) == Some(&0x63));
+            (told.len(), told.ring().capacity()) == (3, 4084) && told.ring().get(2) == Some(&0x63)
         }
-        Err(_) => panic!(rt; "no told list"),
+        Err(_) => false,
     }
+}
+
+#[test]
+fn an_append_reads_after_a_stop(rt: HostRuntime) {
+    let mut live = first_live(&rt);
+    assert!(rt; write(&rt, &mut live, CONSOLE, b"abc") == 5);
+    assert!(rt; has_told_abc(&live));
     let off = live.stop();
     assert!(rt; has(&off, 0, b"DBGC\x03\0\0\0\x03\0\0\0abc"));
-    let (live, logs, report) = boot(&rt, off);
-    assert!(rt; reads(&logs, 0, b"abc"));
-    assert!(rt; tells(&report, 0, Verdict::AsTold));
+    let live = boots_as(&rt, off, 0, Verdict::AsTold, b"abc");
     let image = live.stop().into_image();
     assert!(rt; image.as_slice().starts_with(b"DBGC\0\0\0\0\0\0\0\0a"));
-    Ok(())
 }
 
 #[derive(Clone, Copy)]
@@ -340,108 +373,124 @@ const CUT_APPENDS: &[(
     ),
 ];
 
+// A store that stops after so many stores of its console's second append.
+fn cut_append(rt: &(impl Abort + AllocGlobal), zones: Zones, made: u32) -> Off {
+    let params = match zones {
+        Zones::Console(ecc) => console(ecc),
+        Zones::Four(ecc) => four(ecc),
+    };
+    let mut live = live(rt, &params);
+    let _made = write(rt, &mut live, CONSOLE, b"abc");
+    begin_append(rt, &mut live, CONSOLE, b"def");
+    steps(rt, &mut live, CONSOLE, made);
+    live.stop()
+}
+
 #[test]
-fn a_cut_append_is_reported(rt: HostRuntime) -> Result<(), Fail> {
+fn a_cut_append_is_reported(rt: HostRuntime) {
     for (zones, place, made, told, (total, header), log) in CUT_APPENDS.iter().copied() {
-        let params = match zones {
-            Zones::Console(ecc) => console(ecc),
-            Zones::Four(ecc) => four(ecc),
-        };
-        let mut live = live(&rt, &params);
-        let _made = write(&rt, &mut live, CONSOLE, b"abc");
-        begin_append(&rt, &mut live, CONSOLE, b"def");
-        steps(&rt, &mut live, CONSOLE, made);
-        let (_, logs, report) = boot(&rt, live.stop());
         let wanted = cut(CallKind::Append, made as u64, total, header, &[(0, 0)]);
         let verdict = match told {
             Some((told, seen, first)) => differs(told, seen, first),
             None => Verdict::AsTold,
         };
-        assert!(rt; tells_cut(&report, place as usize, verdict, &wanted));
-        assert!(rt; reads(&logs, place, log));
+        boots_cut(
+            &rt,
+            cut_append(&rt, zones, made),
+            place,
+            verdict,
+            &wanted,
+            log,
+        );
     }
-    Ok(())
 }
 
 #[test]
 fn a_full_ring_keeps_the_last_bytes(rt: HostRuntime) -> Result<(), Fail> {
-    let alloc = rt.alloc();
+    let mut wanted = Vec::from_elem(rt.alloc(), 0x61u8, 4083)?;
+    wanted.push(0x62)?;
     let mut live = live(&rt, &console(0));
-    let zone = live.begin(append_of(&rt, CONSOLE, 0x61, 4084));
-    assert!(rt; begun(zone, CONSOLE));
+    begin_append_of(&rt, &mut live, 0x61, 4084);
     assert!(rt; finish(&mut live, CONSOLE) == 4086);
     assert!(rt; write(&rt, &mut live, CONSOLE, b"b") == 2);
     let off = live.stop();
     assert!(rt; has(&off, 4, b"\x01\0\0\0\xf4\x0f\0\0ba"));
-    let (_, logs, report) = boot(&rt, off);
-    assert!(rt; tells(&report, 0, Verdict::AsTold));
-    let mut wanted = Vec::from_elem(alloc, 0x61u8, 4083)?;
-    wanted.push(0x62)?;
-    assert!(rt; reads(&logs, 0, &wanted));
+    let _live = boots_as(&rt, off, 0, Verdict::AsTold, &wanted);
     Ok(())
 }
 
-#[test]
-fn a_cut_erasure_is_reported(rt: HostRuntime) -> Result<(), Fail> {
-    let alloc = rt.alloc();
-    let mut live = live(&rt, &console(0));
+// The letters from `a` to `z`, over and over, 4084 in all.
+fn letters(alloc: Global) -> Result<Vec<u8>, AllocError> {
     let mut bytes = Vec::with_capacity(alloc, 4084)?;
     for i in 0u32..4084 {
         bytes.push(0x61 + (i % 26) as u8)?;
     }
-    let _made = write(&rt, &mut live, CONSOLE, &bytes);
-    let _made = write(&rt, &mut live, CONSOLE, b"!");
+    Ok(bytes)
+}
+
+// A store that wrote these bytes and `!` to its console, and stops within that zone's erasure.
+fn cut_erasure(rt: &(impl Abort + AllocGlobal), bytes: &[u8]) -> Off {
+    let mut live = live(rt, &console(0));
+    let _made = write(rt, &mut live, CONSOLE, bytes);
+    let _made = write(rt, &mut live, CONSOLE, b"!");
     assert!(rt; begun(live.begin(Ask::Erase(CONSOLE)), CONSOLE));
-    steps(&rt, &mut live, CONSOLE, 1);
-    let (_, logs, report) = boot(&rt, live.stop());
-    let wanted = cut(CallKind::Erase, 1, 2, HeaderSeen::Pair(1), &[]);
-    assert!(rt; tells_cut(&report, 0, differs(4084, 4084, 0), &wanted));
+    steps(rt, &mut live, CONSOLE, 1);
+    live.stop()
+}
+
+#[test]
+fn a_cut_erasure_is_reported(rt: HostRuntime) -> Result<(), Fail> {
+    let mut bytes = letters(rt.alloc())?;
+    let off = cut_erasure(&rt, &bytes);
     if let Some(first) = bytes.get_mut(0) {
         *first = 0x21;
     }
-    assert!(rt; reads(&logs, 0, &bytes));
+    let wanted = cut(CallKind::Erase, 1, 2, HeaderSeen::Pair(1), &[]);
+    boots_cut(&rt, off, 0, differs(4084, 4084, 0), &wanted, &bytes);
     Ok(())
 }
 
 #[test]
-fn a_cut_header_can_be_foreign(rt: HostRuntime) -> Result<(), Fail> {
+fn a_cut_header_can_be_foreign(rt: HostRuntime) {
     let mut live = live(&rt, &console(2));
-    let zone = live.begin(append_of(&rt, CONSOLE, 0x61, 4018));
-    assert!(rt; begun(zone, CONSOLE));
+    begin_append_of(&rt, &mut live, 0x61, 4018);
     let _made = finish(&mut live, CONSOLE);
-    let zone = live.begin(append_of(&rt, CONSOLE, 0x62, 1541));
-    assert!(rt; begun(zone, CONSOLE));
+    begin_append_of(&rt, &mut live, 0x62, 1541);
     steps(&rt, &mut live, CONSOLE, 1);
-    let (_, logs, report) = boot(&rt, live.stop());
     let wanted = cut(CallKind::Append, 1, 1570, HeaderSeen::Foreign, &[(0, 12)]);
-    assert!(rt; tells_cut(&report, 0, differs(4018, 0, 0), &wanted));
-    assert!(rt; reads(&logs, 0, &[]));
-    Ok(())
+    boots_cut(&rt, live.stop(), 0, differs(4018, 0, 0), &wanted, &[]);
+}
+
+// A store that stops within an append to the console and a dump, after one to pmsg.
+fn cut_in_two(rt: &(impl Abort + AllocGlobal)) -> Off {
+    let mut live = live(rt, &four(0));
+    let _made = write(rt, &mut live, PMSG, b"p");
+    begin_append(rt, &mut live, CONSOLE, b"abc");
+    assert!(rt; begin_dump(rt, &mut live, 5, 6, b"x") == dump_zone(0));
+    steps(rt, &mut live, CONSOLE, 3);
+    steps(rt, &mut live, dump_zone(0), 4);
+    live.stop()
+}
+
+// Whether both cuts are told, and the other zones are as told.
+fn tells_both_cuts(report: &Report) -> bool {
+    let dump = cut(CallKind::Dump, 4, 22, HeaderSeen::Pair(4), &[(0, 0)]);
+    let append = cut(CallKind::Append, 3, 5, HeaderSeen::Pair(2), &[(0, 0)]);
+    tells_cut(report, 0, differs(0, 15, 0), &dump)
+        && tells(report, 1, Verdict::AsTold)
+        && tells_cut(report, 2, differs(0, 3, 0), &append)
+        && tells(report, 3, Verdict::AsTold)
 }
 
 #[test]
-fn calls_in_two_zones_are_cut_together(rt: HostRuntime) -> Result<(), Fail> {
-    let mut live = live(&rt, &four(0));
-    let _made = write(&rt, &mut live, PMSG, b"p");
-    begin_append(&rt, &mut live, CONSOLE, b"abc");
-    assert!(rt; begin_dump(&rt, &mut live, 5, 6, b"x") == dump_zone(0));
-    steps(&rt, &mut live, CONSOLE, 3);
-    steps(&rt, &mut live, dump_zone(0), 4);
-    let (live, logs, report) = boot(&rt, live.stop());
-    let dump = cut(CallKind::Dump, 4, 22, HeaderSeen::Pair(4), &[(0, 0)]);
-    assert!(rt; tells_cut(&report, 0, differs(0, 15, 0), &dump));
-    assert!(rt; tells(&report, 1, Verdict::AsTold));
-    let append = cut(CallKind::Append, 3, 5, HeaderSeen::Pair(2), &[(0, 0)]);
-    assert!(rt; tells_cut(&report, 2, differs(0, 3, 0), &append));
-    assert!(rt; tells(&report, 3, Verdict::AsTold));
-    assert!(rt; reads(&logs, 2, b"a\0\0"));
-    assert!(rt; reads(&logs, 3, b"p"));
-    assert!(rt; reads(&logs, 0, &[0; 15]));
+fn calls_in_two_zones_are_cut_together(rt: HostRuntime) {
+    let (live, logs, report) = boot(&rt, cut_in_two(&rt));
+    assert!(rt; tells_both_cuts(&report));
+    assert!(rt; reads(&logs, 2, b"a\0\0") && reads(&logs, 3, b"p") && reads(&logs, 0, &[0; 15]));
     // A dump without its line is erased, and pmsg too.
     let off = live.stop();
     assert!(rt; has(&off, 0, b"DBGC\0\0\0\0\0\0\0\0"));
     assert!(rt; has(&off, 12288, b"DBGC\0\0\0\0\0\0\0\0p"));
-    Ok(())
 }
 
 // What an append of three bytes to an empty ring without parity tells at a boot after so many of its five stores.
@@ -491,53 +540,45 @@ const ORDERS: &[[ZoneName; 10]] = &[
     ],
 ];
 
-#[test]
-fn interleaved_appends_stop_after_each_store(rt: HostRuntime) -> Result<(), Fail> {
-    for order in ORDERS.iter().copied() {
-        for stop in 0..11 {
-            let mut live = live(&rt, &params(8192, 0, 4096, 4096, 0));
-            let (console, pmsg) = interleave(&rt, &mut live, order, stop);
-            let (_, logs, report) = boot(&rt, live.stop());
-            assert!(rt; tells_append(&report, 0, console));
-            assert!(rt; tells_append(&report, 1, pmsg));
-            assert!(rt; console < 5 || reads(&logs, 0, b"abc"));
-            assert!(rt; pmsg < 5 || reads(&logs, 1, b"xyz"));
-        }
-    }
-    Ok(())
+fn assert_interleaved(rt: &(impl Abort + AllocGlobal), order: [ZoneName; 10], stop: usize) {
+    let mut live = live(rt, &params(8192, 0, 4096, 4096, 0));
+    let (console, pmsg) = interleave(rt, &mut live, order, stop);
+    let (_, logs, report) = boot(rt, live.stop());
+    assert!(rt; tells_append(&report, 0, console) && tells_append(&report, 1, pmsg));
+    assert!(rt; console < 5 || reads(&logs, 0, b"abc"));
+    assert!(rt; pmsg < 5 || reads(&logs, 1, b"xyz"));
 }
 
 #[test]
-fn damage_within_half_the_parity_reads_as_told(rt: HostRuntime) -> Result<(), Fail> {
+fn interleaved_appends_stop_after_each_store(rt: HostRuntime) {
+    for order in ORDERS.iter().copied() {
+        for stop in 0..11 {
+            assert_interleaved(&rt, order, stop);
+        }
+    }
+}
+
+#[test]
+fn damage_within_half_the_parity_reads_as_told(rt: HostRuntime) {
     for (at, masks) in [(8204, [1; 8]), (8192, [255; 8])] {
         let mut live = live(&rt, &four(16));
         let _made = write(&rt, &mut live, CONSOLE, b"abc");
         let mut off = live.stop();
         flip_all(&rt, &mut off, at, &masks);
-        let (_, logs, report) = boot(&rt, off);
-        assert!(rt; tells(&report, 2, Verdict::AsTold));
-        assert!(rt; reads(&logs, 2, b"abc"));
+        let _live = boots_as(&rt, off, 2, Verdict::AsTold, b"abc");
     }
-    Ok(())
 }
 
 #[test]
-fn damage_beyond_it_is_told(rt: HostRuntime) -> Result<(), Fail> {
+fn damage_beyond_it_is_told(rt: HostRuntime) {
     let mut live = live(&rt, &four(16));
-    let _zone = live.begin(append_of(&rt, CONSOLE, 0x61, 200));
+    begin_append_of(&rt, &mut live, 0x61, 200);
     let _made = finish(&mut live, CONSOLE);
     let mut off = live.stop();
-    flip_all(
-        &rt,
-        &mut off,
-        8204,
-        &[1, 255, 11, 81, 54, 239, 173, 200, 24],
-    );
-    let (_, logs, report) = boot(&rt, off);
-    assert!(rt; tells(&report, 2, differs(200, 200, 0)));
+    let masks = [1, 255, 11, 81, 54, 239, 173, 200, 24];
+    flip_all(&rt, &mut off, 8204, &masks);
     let front = [0x60, 0x9e, 0x6a, 0x30, 0x57, 0x8e, 0xcc, 0xa9, 0x79];
-    assert!(rt; reads_front(&logs, 2, 200, &front, 0x61));
-    Ok(())
+    boots_front(&rt, off, 2, differs(200, 200, 0), 200, &front, 0x61);
 }
 
 const DUMPS: &[(u64, u32, &[u8], u32)] = &[
@@ -546,134 +587,141 @@ const DUMPS: &[(u64, u32, &[u8], u32)] = &[
     (1_700_000_002, 0, b"six", 0),
 ];
 
-#[test]
-fn dumps_take_the_dump_zones_in_turn(rt: HostRuntime) -> Result<(), Fail> {
-    let alloc = rt.alloc();
-    let mut live = live(&rt, &four(0));
+// Whether a dump of no bytes is refused for this cause, and handed back.
+fn refuses_dump(live: &mut Live, alloc: Global, why: Refusal) -> bool {
+    let time = Time { secs: 0, micros: 0 };
+    let asked = Ask::Dump(time, false, Bytes::empty(alloc));
+    matches!(refused(live.begin(asked), why), Some(Ask::Dump(_, _, _)))
+}
+
+// Makes the three dumps, and stops.
+fn dumped(rt: &(impl Abort + AllocGlobal)) -> Off {
+    let mut live = live(rt, &four(0));
     for (secs, micros, body, zone) in DUMPS.iter().copied() {
-        assert!(rt; begin_dump(&rt, &mut live, secs, micros, body) == dump_zone(zone));
+        assert!(rt; begin_dump(rt, &mut live, secs, micros, body) == dump_zone(zone));
         // The cursor stays until the last store.
-        assert!(rt;
-            refused(
-                live.begin(Ask::Dump(Time { secs: 0, micros: 0 }, false, Bytes::empty(alloc))),
-                Refusal::Busy
-            )
-            .is_some()
-        );
+        assert!(rt; refuses_dump(&mut live, rt.alloc(), Refusal::Busy));
         assert!(rt; finish(&mut live, dump_zone(zone)) > 27);
     }
-    let off = live.stop();
+    live.stop()
+}
+
+#[test]
+fn dumps_take_the_dump_zones_in_turn(rt: HostRuntime) {
+    let off = dumped(&rt);
     assert!(rt; has(&off, 0, b"DBGC\x1b\0\0\0\x1b\0\0\0"));
     assert!(rt; has(&off, 12, b"====1700000002.000000-D\nsix"));
     assert!(rt; has(&off, 4096, b"DBGC\x1b\0\0\0\x1b\0\0\0"));
     assert!(rt; has(&off, 4108, b"====1700000001.000000-D\ntwo"));
     let (_, logs, report) = boot(&rt, off);
-    assert!(rt; tells(&report, 0, Verdict::AsTold));
-    assert!(rt; reads(&logs, 1, b"====1700000001.000000-D\ntwo"));
-    Ok(())
+    assert!(rt;
+        tells(&report, 0, Verdict::AsTold) && reads(&logs, 1, b"====1700000001.000000-D\ntwo")
+    );
 }
 
 #[test]
 fn a_long_dump_keeps_its_front(rt: HostRuntime) -> Result<(), Fail> {
-    let alloc = rt.alloc();
-    let mut live = live(&rt, &four(0));
-    let time = Time {
-        secs: 1_700_000_000,
-        micros: 123,
-    };
-    let mut body = Vec::from_elem(alloc, 0x78u8, 5000)?;
+    let mut body = Vec::from_elem(rt.alloc(), 0x78u8, 5000)?;
     if let Some(first) = body.get_mut(0) {
         *first = 0x79;
     }
-    let zone = live.begin(Ask::Dump(time, false, Bytes::from_vec(body)));
-    assert!(rt; begun(zone, dump_zone(0)));
-    let _made = finish(&mut live, dump_zone(0));
-    let (_, logs, report) = boot(&rt, live.stop());
-    assert!(rt; tells(&report, 0, Verdict::AsTold));
-    assert!(rt; reads_front(&logs, 0, 4084, b"====1700000000.000123-D\ny", 0x78));
+    let mut live = live(&rt, &four(0));
+    let zone = begin_dump(&rt, &mut live, 1_700_000_000, 123, &body);
+    assert!(rt; zone == dump_zone(0));
+    let _made = finish(&mut live, zone);
+    let front = b"====1700000000.000123-D\ny";
+    boots_front(&rt, live.stop(), 0, Verdict::AsTold, 4084, front, 0x78);
     Ok(())
 }
 
+// Whether an append to this zone is refused as to none, and handed back.
+fn refuses_append(rt: &(impl Abort + AllocGlobal), live: &mut Live, zone: ZoneName) -> bool {
+    match refused(live.begin(append(rt, zone, b"abc")), Refusal::NoZone) {
+        Some(Ask::Append(name, payload)) => {
+            name == zone && payload.as_slice() == b"abc".as_slice()
+        }
+        _ => false,
+    }
+}
+
+// Whether an erasure of this zone is refused for this cause, and handed back.
+fn refuses_erase(live: &mut Live, zone: ZoneName, why: Refusal) -> bool {
+    matches!(
+        refused(live.begin(Ask::Erase(zone)), why),
+        Some(Ask::Erase(_))
+    )
+}
+
+// Whether a step of this zone is refused for this cause.
+fn refuses_step(live: &mut Live, zone: ZoneName, why: Refusal) -> bool {
+    match live.step(zone) {
+        Ok(_) => false,
+        Err(refused) => refused == why,
+    }
+}
+
 #[test]
-fn refusals_hand_back_what_was_asked(rt: HostRuntime) -> Result<(), Fail> {
+fn refusals_hand_back_what_was_asked(rt: HostRuntime) {
     let mut live = live(&rt, &four(0));
     for zone in [FTRACE, dump_zone(2), dump_zone(0)] {
-        match refused(live.begin(append(&rt, zone, b"abc")), Refusal::NoZone) {
-            Some(Ask::Append(name, payload)) => {
-                assert!(rt; name == zone);
-                assert!(rt; payload.as_slice() == b"abc".as_slice());
-            }
-            _ => panic!(rt; "not refused"),
-        }
+        assert!(rt; refuses_append(&rt, &mut live, zone));
     }
     begin_append(&rt, &mut live, CONSOLE, b"abc");
-    let busy = refused(live.begin(Ask::Erase(CONSOLE)), Refusal::Busy);
-    assert!(rt; matches!(busy, Some(Ask::Erase(_))));
-    let none = refused(live.begin(Ask::Erase(FTRACE)), Refusal::NoZone);
-    assert!(rt; matches!(none, Some(Ask::Erase(_))));
-    assert!(rt; matches!(live.step(PMSG), Err(Refusal::Idle)));
-    assert!(rt; matches!(live.step(FTRACE), Err(Refusal::NoZone)));
+    assert!(rt; refuses_erase(&mut live, CONSOLE, Refusal::Busy));
+    assert!(rt; refuses_erase(&mut live, FTRACE, Refusal::NoZone));
+    assert!(rt; refuses_step(&mut live, PMSG, Refusal::Idle));
+    assert!(rt; refuses_step(&mut live, FTRACE, Refusal::NoZone));
     assert!(rt; matches!(live.told(FTRACE), Err(Refusal::NoZone)));
     assert!(rt; live.flies(FTRACE) == Err(Refusal::NoZone));
     assert!(rt; finish(&mut live, CONSOLE) == 5);
-    assert!(rt; matches!(live.step(CONSOLE), Err(Refusal::Idle)));
-    Ok(())
+    assert!(rt; refuses_step(&mut live, CONSOLE, Refusal::Idle));
+}
+
+// Whether a dump of `x`, compressed, is refused as busy, and handed back.
+fn hands_back_dump(live: &mut Live, body: Bytes) -> bool {
+    let time = Time { secs: 5, micros: 6 };
+    match refused(live.begin(Ask::Dump(time, true, body)), Refusal::Busy) {
+        Some(Ask::Dump(asked, packed, body)) => {
+            asked == time && packed && body.as_slice() == b"x".as_slice()
+        }
+        _ => false,
+    }
 }
 
 #[test]
 fn a_dump_waits_for_each_dump_zone(rt: HostRuntime) -> Result<(), Fail> {
-    let alloc = rt.alloc();
-    let time = Time { secs: 5, micros: 6 };
+    let body = Bytes::copy_of(rt.alloc(), b"x")?;
     let mut live = live(&rt, &four(0));
     assert!(rt; begun(live.begin(Ask::Erase(dump_zone(1))), dump_zone(1)));
-    match refused(
-        live.begin(Ask::Dump(time, true, Bytes::copy_of(alloc, b"x")?)),
-        Refusal::Busy,
-    ) {
-        Some(Ask::Dump(asked, packed, body)) => {
-            assert!(rt; asked == time);
-            assert!(rt; packed);
-            assert!(rt; body.as_slice() == b"x".as_slice());
-        }
-        _ => panic!(rt; "not refused"),
-    }
+    assert!(rt; hands_back_dump(&mut live, body));
     assert!(rt; finish(&mut live, dump_zone(1)) == 2);
     assert!(rt; begin_dump(&rt, &mut live, 5, 6, b"x") == dump_zone(0));
     Ok(())
 }
 
 #[test]
-fn a_dump_needs_a_dump_zone(rt: HostRuntime) -> Result<(), Fail> {
-    let alloc = rt.alloc();
+fn a_dump_needs_a_dump_zone(rt: HostRuntime) {
     let mut live = live(&rt, &console(0));
-    let time = Time { secs: 0, micros: 0 };
-    let none = refused(
-        live.begin(Ask::Dump(time, false, Bytes::empty(alloc))),
-        Refusal::NoZone,
-    );
-    assert!(rt; matches!(none, Some(Ask::Dump(_, _, _))));
-    Ok(())
+    assert!(rt; refuses_dump(&mut live, rt.alloc(), Refusal::NoZone));
 }
 
 #[test]
-fn an_append_of_no_bytes_does_not_fly(rt: HostRuntime) -> Result<(), Fail> {
+fn an_append_of_no_bytes_does_not_fly(rt: HostRuntime) {
     let mut live = live(&rt, &console(0));
     begin_append(&rt, &mut live, CONSOLE, b"");
     assert!(rt; live.flies(CONSOLE) == Ok(false));
     let (_, _, report) = boot(&rt, live.stop());
     assert!(rt; tells(&report, 0, Verdict::AsTold));
-    Ok(())
 }
 
 #[test]
-fn a_flip_lies_within_the_image(rt: HostRuntime) -> Result<(), Fail> {
+fn a_flip_lies_within_the_image(rt: HostRuntime) {
     let mut off = zeros(&rt, &console(0));
     assert!(rt; off.flip(4095, 0x81) == Ok(()));
     assert!(rt; has(&off, 4094, &[0, 0x81]));
     assert!(rt; off.flip(4096, 1) == Err(Refusal::OutOfImage));
     assert!(rt; off.flip(4095, 0x81) == Ok(()));
     assert!(rt; off.image().iter().all(|b| *b == 0));
-    Ok(())
 }
 
 // How many stores are asked for, how many are made, and what the next boot tells and reads.
@@ -684,28 +732,27 @@ const STOPPED_BOOTS: &[(u64, u64, Option<HeaderSeen>, &[u8])] = &[
     (9, 2, None, b""),
 ];
 
+// Whether the first zone is as told, and its erasure was cut if the boot saw such a header.
+fn tells_erasure(report: &Report, header: Option<HeaderSeen>) -> bool {
+    match header {
+        Some(header) => {
+            let erasure = cut(CallKind::Erase, 1, 2, header, &[]);
+            tells_cut(report, 0, Verdict::AsTold, &erasure)
+        }
+        None => tells(report, 0, Verdict::AsTold),
+    }
+}
+
 #[test]
-fn a_boot_stops_within_its_erasure(rt: HostRuntime) -> Result<(), Fail> {
+fn a_boot_stops_within_its_erasure(rt: HostRuntime) {
     for (limit, stores, header, log) in STOPPED_BOOTS.iter().copied() {
         let mut live = live(&rt, &console(0));
         let _made = write(&rt, &mut live, CONSOLE, b"abc");
         let (off, made) = boot_part(&rt, live.stop(), limit);
         assert!(rt; made == stores);
         let (_, logs, report) = boot(&rt, off);
-        match header {
-            Some(header) => assert!(rt;
-                tells_cut(
-                    &report,
-                    0,
-                    Verdict::AsTold,
-                    &cut(CallKind::Erase, 1, 2, header, &[])
-                )
-            ),
-            None => assert!(rt; tells(&report, 0, Verdict::AsTold)),
-        }
-        assert!(rt; log.is_empty() || reads(&logs, 0, log));
+        assert!(rt; tells_erasure(&report, header) && (log.is_empty() || reads(&logs, 0, log)));
     }
-    Ok(())
 }
 
 const ENTRY: &[u8] = &[
@@ -763,41 +810,42 @@ fn tells_first(report: &Report, i: usize, made: u64) -> bool {
 // Rings that are kept have no stores in a boot, so it stops as a whole one.
 #[test]
 fn a_boot_keeps_the_rings_of_two_processors(rt: HostRuntime) -> Result<(), Fail> {
-    let alloc = rt.alloc();
+    let two = ENTRY.repeat(rt.alloc(), 2)?;
     for limit in [0, 1, 9] {
         let (off, made) = boot_part(&rt, traced(&rt), limit);
         assert!(rt; made == 0);
         let (_, logs, report) = boot(&rt, off);
-        assert!(rt; tells(&report, 0, Verdict::AsTold));
-        assert!(rt; tells(&report, 1, Verdict::AsTold));
-        assert!(rt; reads(&logs, 0, &ENTRY.repeat(alloc, 2)?));
-        assert!(rt; reads(&logs, 1, ENTRY));
+        assert!(rt; tells(&report, 0, Verdict::AsTold) && tells(&report, 1, Verdict::AsTold));
+        assert!(rt; reads(&logs, 0, &two) && reads(&logs, 1, ENTRY));
     }
     Ok(())
 }
 
 #[test]
-fn a_boot_of_two_processors_stops_after_each_store(rt: HostRuntime) -> Result<(), Fail> {
-    let alloc = rt.alloc();
+fn a_first_boot_of_two_processors_stops_after_each_store(rt: HostRuntime) {
     for limit in 0u64..8 {
         let (off, made) = boot_part(&rt, zeros(&rt, &two_processors()), limit);
         assert!(rt; made == limit.min(6));
         let (_, logs, report) = boot(&rt, off);
-        assert!(rt; tells_first(&report, 0, made));
-        assert!(rt; tells_first(&report, 1, made.saturating_sub(3)));
-        assert!(rt; reads(&logs, 0, &[]));
-        assert!(rt; reads(&logs, 1, &[]));
+        assert!(rt;
+            tells_first(&report, 0, made) && tells_first(&report, 1, made.saturating_sub(3))
+        );
+        assert!(rt; reads(&logs, 0, &[]) && reads(&logs, 1, &[]));
     }
+}
+
+#[test]
+fn a_boot_of_two_processors_stops_after_each_store(rt: HostRuntime) -> Result<(), Fail> {
+    let two = ENTRY.repeat(rt.alloc(), 2)?;
     for limit in 0u64..4 {
         let mut off = traced(&rt);
         flip_all(&rt, &mut off, 2052, &[1]);
         let (off, made) = boot_part(&rt, off, limit);
         assert!(rt; made == limit.min(2));
         let (_, logs, report) = boot(&rt, off);
-        assert!(rt; tells(&report, 0, Verdict::AsTold));
-        assert!(rt; tells_erased_ring(&report, made));
-        assert!(rt; reads(&logs, 0, &ENTRY.repeat(alloc, 2)?));
-        assert!(rt; reads(&logs, 1, if made == 1 { ENTRY } else { &[] }));
+        assert!(rt; tells(&report, 0, Verdict::AsTold) && tells_erased_ring(&report, made));
+        let second = if made == 1 { ENTRY } else { &[] };
+        assert!(rt; reads(&logs, 0, &two) && reads(&logs, 1, second));
     }
     Ok(())
 }
@@ -875,8 +923,8 @@ fn a_refused_first_boot_can_be_asked_for_again(rt: HostRuntime) -> Result<(), Fa
         }
     };
     for i in 0u8..4 {
-        assert!(rt; tells(&report, usize::from(i), Verdict::NothingTold));
-        assert!(rt; reads(&logs, u32::from(i), &[]));
+        let place = usize::from(i);
+        assert!(rt; tells(&report, place, Verdict::NothingTold) && reads(&logs, u32::from(i), &[]));
     }
     Ok(())
 }

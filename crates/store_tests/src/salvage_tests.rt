@@ -30,15 +30,20 @@ fn console(ecc: u64) -> Params {
     params(0, 4096, 0, ecc)
 }
 
+// Puts bytes at a place.
+fn put(bytes: &mut [u8], at: usize, patch: &[u8]) {
+    for (i, b) in patch.iter().enumerate() {
+        if let Some(place) = bytes.get_mut(at.saturating_add(i)) {
+            *place = *b;
+        }
+    }
+}
+
 // Zeros, but for these bytes at these places.
 fn dump(alloc: Global, len: usize, patches: &[(usize, &[u8])]) -> Result<Bytes, AllocError> {
     let mut bytes = Vec::from_elem(alloc, 0u8, len)?;
     for (at, patch) in patches {
-        for (i, b) in patch.iter().enumerate() {
-            if let Some(place) = bytes.get_mut(at.saturating_add(i)) {
-                *place = *b;
-            }
-        }
+        put(&mut bytes, *at, patch);
     }
     Ok(Bytes::from_vec(bytes))
 }
@@ -72,52 +77,50 @@ fn assert_rings(
     len: usize,
     patches: &[(usize, &[u8])],
     want: &[FoundRing],
-) -> Result<(), AllocError> {
-    let mut scan = scan(rt, p, dump(rt.alloc(), len, patches)?)?;
+) {
+    let image = dump(rt.alloc(), len, patches).expect(rt, "no memory");
+    let mut scan = scan(rt, p, image).expect(rt, "no memory");
     for wanted in want {
         assert!(rt; scan.next() == Some(*wanted), "another ring");
     }
     assert!(rt; scan.next() == None, "more rings");
     assert!(rt; scan.next() == None, "a ring after the end");
-    Ok(())
 }
 
 const HEADER: &[u8] = &[0x44, 0x42, 0x47, 0x43, 3, 0, 0, 0, 3, 0, 0, 0];
 
 #[test]
-fn rings_without_parity(rt: HostRuntime) -> Result<(), Fail> {
+fn rings_without_parity(rt: HostRuntime) {
     let p = params(4096, 4096, 4096, 0);
     let empty: &[u8] = &[0x44, 0x42, 0x47, 0x43, 0, 0, 0, 0, 0, 0, 0, 0];
     let image: &[(usize, &[u8])] = &[(100, empty), (4196, empty), (8292, HEADER), (12388, empty)];
-    assert_rings(&rt, &p, 16484, image, &[ring(8292, Kind::Dump, 0)])?;
+    assert_rings(&rt, &p, 16484, image, &[ring(8292, Kind::Dump, 0)]);
     // no byte, and too few for a zone
-    assert_rings(&rt, &p, 0, &[], &[])?;
-    assert_rings(&rt, &p, 4095, &[(0, HEADER)], &[])?;
+    assert_rings(&rt, &p, 0, &[], &[]);
+    assert_rings(&rt, &p, 4095, &[(0, HEADER)], &[]);
     // the last even place, one past it, and an odd one
-    assert_rings(&rt, &p, 4103, &[(6, HEADER)], &[ring(6, Kind::Dump, 0)])?;
-    assert_rings(&rt, &p, 4103, &[(8, HEADER)], &[])?;
-    assert_rings(&rt, &p, 4103, &[(7, HEADER)], &[])?;
+    assert_rings(&rt, &p, 4103, &[(6, HEADER)], &[ring(6, Kind::Dump, 0)]);
+    assert_rings(&rt, &p, 4103, &[(8, HEADER)], &[]);
+    assert_rings(&rt, &p, 4103, &[(7, HEADER)], &[]);
     // a start above the size, and a size above the capacity
     let start: &[u8] = &[0x44, 0x42, 0x47, 0x43, 4, 0, 0, 0, 3, 0, 0, 0];
     let size: &[u8] = &[0x44, 0x42, 0x47, 0x43, 3, 0, 0, 0, 0xf5, 0x0f, 0, 0];
-    assert_rings(&rt, &p, 8192, &[(0, start), (512, size)], &[])?;
-    Ok(())
+    assert_rings(&rt, &p, 8192, &[(0, start), (512, size)], &[]);
 }
 
 #[test]
-fn rings_of_two_shapes(rt: HostRuntime) -> Result<(), Fail> {
+fn rings_of_two_shapes(rt: HostRuntime) {
     let p = params(0, 4096, 2048, 0);
     let both = [ring(0, Kind::Console, 0), ring(0, Kind::Pmsg, 0)];
-    assert_rings(&rt, &p, 4096, &[(0, HEADER)], &both)?;
+    assert_rings(&rt, &p, 4096, &[(0, HEADER)], &both);
     // only the smaller one has room
     let small = [ring(2, Kind::Pmsg, 0)];
-    assert_rings(&rt, &p, 4096, &[(2, HEADER)], &small)?;
-    Ok(())
+    assert_rings(&rt, &p, 4096, &[(2, HEADER)], &small);
 }
 
 // With two parity bytes one place is corrected.
 #[test]
-fn rings_with_parity(rt: HostRuntime) -> Result<(), Fail> {
+fn rings_with_parity(rt: HostRuntime) {
     let p = console(2);
     let parity: (usize, &[u8]) = (4094, &[0xfb, 0xf9]);
     for (at, other, corrected) in [(0usize, 0x44u8, 0u8), (0, 0x45, 1), (4, 5, 1), (6, 1, 1)] {
@@ -128,7 +131,7 @@ fn rings_with_parity(rt: HostRuntime) -> Result<(), Fail> {
             4096,
             &[(0, HEADER), (at, &[other]), parity],
             &wanted,
-        )?;
+        );
     }
     // its own parity damaged
     let wanted = [ring(0, Kind::Console, 1)];
@@ -138,7 +141,7 @@ fn rings_with_parity(rt: HostRuntime) -> Result<(), Fail> {
         4096,
         &[(0, HEADER), (4094, &[0xfb, 0xf8])],
         &wanted,
-    )?;
+    );
     // two places
     for patch in [(0usize, [0x45u8, 0x43]), (3, [0x42, 2]), (4, [5, 6])] {
         assert_rings(
@@ -147,14 +150,13 @@ fn rings_with_parity(rt: HostRuntime) -> Result<(), Fail> {
             4096,
             &[(0, HEADER), (patch.0, &patch.1), parity],
             &[],
-        )?;
+        );
     }
-    Ok(())
 }
 
 // The nearest codeword changes the signature.
 #[test]
-fn a_foreign_header_is_no_ring(rt: HostRuntime) -> Result<(), Fail> {
+fn a_foreign_header_is_no_ring(rt: HostRuntime) {
     let header: &[u8] = &[0x44, 0x42, 0x47, 0x43, 5, 6, 0, 0, 178, 15, 0, 0];
     assert_rings(
         &rt,
@@ -162,8 +164,7 @@ fn a_foreign_header_is_no_ring(rt: HostRuntime) -> Result<(), Fail> {
         4096,
         &[(0, header), (4094, &[155, 36])],
         &[],
-    )?;
-    Ok(())
+    );
 }
 
 // The log of a place, or why there is none.
@@ -176,16 +177,23 @@ fn log_at(
     scan.ring_at(rt.alloc(), at, ZoneName { kind, index: 0 })
 }
 
+fn has_log(answer: Result<Reading, RingFault>, log: &[u8]) -> bool {
+    match answer {
+        Ok(reading) => reading.log.as_slice() == log,
+        Err(_) => false,
+    }
+}
+
 #[test]
 fn a_place_is_read(rt: HostRuntime) -> Result<(), Fail> {
     let p = params(4096, 4096, 4096, 0);
     let image = dump(rt.alloc(), 16484, &[(8292, HEADER), (8304, b"abc")])?;
     let mut scan = scan(&rt, &p, image)?;
     assert!(rt; scan.next() == Some(ring(8292, Kind::Dump, 0)), "the ring");
-    match log_at(&rt, &scan, 8292, Kind::Console) {
-        Ok(reading) => assert!(rt; reading.log.as_slice() == b"abc".as_slice(), "its log"),
-        Err(_) => panic!(rt; "no log"),
-    }
+    assert!(rt;
+        has_log(log_at(&rt, &scan, 8292, Kind::Console), b"abc"),
+        "its log"
+    );
     for at in [8294, 8293, 16484, 4294967295] {
         let is_none = matches!(
             log_at(&rt, &scan, at, Kind::Console),

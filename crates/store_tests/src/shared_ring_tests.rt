@@ -254,26 +254,40 @@ fn check_open(rt: &impl Abort, shared: &Shared, stored: [u32; 3]) {
     assert!(rt; calls.len() == seen);
 }
 
+fn reserve_all(rt: &impl Abort, alloc: Global, shared: &mut Shared) {
+    for payload in PAYLOADS {
+        assert!(rt; reserve(rt, alloc, shared, payload) == None);
+    }
+}
+
+fn step_all(rt: &impl Abort, shared: &mut Shared, tickets: &[u64]) {
+    for ticket in tickets.iter().copied() {
+        assert!(rt; shared.step(ticket).is_ok());
+    }
+}
+
+fn check_places(rt: &impl Abort, image: &[u8], places: &[u8], done: usize) {
+    for (i, wanted) in places.iter().enumerate() {
+        let stands = image.get(12 + (240 + i) % 244).copied();
+        let byte = if *wanted == b'.' { 0 } else { *wanted };
+        assert!(rt; stands == Some(byte), "place {i} after {done}");
+    }
+}
+
 #[test]
 fn three_calls_in_four_orders(rt: HostRuntime) -> Result<(), Fail> {
     let alloc = rt.alloc();
     for (order, done, stored, places) in ROWS.iter().copied() {
         let mut shared = opened(&rt, alloc, 256, 241)?;
-        for payload in PAYLOADS {
-            assert!(rt; reserve(&rt, alloc, &mut shared, payload) == None);
-        }
-        for ticket in order.iter().take(done) {
-            assert!(rt; shared.step(*ticket).is_ok());
-        }
+        reserve_all(&rt, alloc, &mut shared);
+        step_all(
+            &rt,
+            &mut shared,
+            order.get(..done).expect(&rt, "at most eight steps"),
+        );
         check_open(&rt, &shared, stored);
-        let words = shared.words();
-        assert!(rt; (words.start, words.size) == (5, 244));
-        let image = shared.close();
-        for (i, wanted) in places.iter().enumerate() {
-            let stands = image.as_slice().get(12 + (240 + i) % 244).copied();
-            let byte = if *wanted == b'.' { 0 } else { *wanted };
-            assert!(rt; stands == Some(byte), "place {i} after {done}");
-        }
+        assert!(rt; stands(&shared, 3, 5, 244));
+        check_places(&rt, shared.close().as_slice(), places, done);
     }
     Ok(())
 }
