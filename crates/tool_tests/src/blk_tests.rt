@@ -1,5 +1,6 @@
 // Whole runs of scripts on the block store, over the objects in memory.
-use crate::run_tests::{Fails, NONE, left_by, outcome};
+use crate::run_tests::{Fails, NONE, assert_untouched, has_at, is_all, left_by, outcome};
+use std::process::Abort;
 use std::test::Fail;
 
 // A page of pmsg, one of console, and two of dumps.
@@ -11,13 +12,6 @@ const FIRST: &str =
 
 const FIRST_TEXT: &str = "records 2\ndmesg-pstore_blk-0 22 5.000006000\nconsole-pstore_blk-0 3\n\
     dmesg-pstore_blk-0 22\nPanic: Total 1 times\nx\n";
-
-fn has_at(image: &[u8], at: usize, bytes: &[u8]) -> bool {
-    match image.get(at..) {
-        Some(rest) => rest.starts_with(bytes),
-        None => false,
-    }
-}
 
 const SESSIONS: &[(&str, &str)] = &[
     (FIRST, FIRST_TEXT),
@@ -41,15 +35,20 @@ fn worked_sessions(rt: HostRuntime) {
     }
 }
 
+// An append to a full ring, cut after so many bytes, and what is listed.
+const FULL_CUTS: &[(&str, &str)] = &[
+    ("13", "records 1\nconsole-pstore_blk-0 1\n"),
+    ("25", "records 1\nconsole-pstore_blk-0 4084\n"),
+];
+
 // An append to a full ring, cut after its shorter header and after its last one.
 #[test]
 fn a_full_ring_is_cut(rt: HostRuntime) -> Result<(), Fail> {
     let full = "61".repeat(rt.alloc(), 4084)?;
-    for (cut, size) in [(13, 1), (25, 4084)] {
+    for (cut, text) in FULL_CUTS.iter().copied() {
         let script = format!(in rt.alloc();
             "boot\nwrite console {full}\ncut {cut}\nwrite console 21\nboot\nlist\n"
         )?;
-        let text = format!(in rt.alloc(); "records 1\nconsole-pstore_blk-0 {size}\n")?;
         let script = script.as_bytes();
         let _image = left_by(&rt, WORDS, script, &[0; 16384], NONE, 0, text.as_bytes());
     }
@@ -60,14 +59,13 @@ fn a_full_ring_is_cut(rt: HostRuntime) -> Result<(), Fail> {
 #[test]
 fn zones_are_written_in_place(rt: HostRuntime) {
     let script = b"boot\nwrite console 616263\nkdump 5 6000 D Panic 78\n".as_slice();
-    let image = left_by(&rt, WORDS, script, &[0xee; 16400], NONE, 0, &[]);
-    assert!(rt; has_at(&image, 0, b"CBGC\0\0\0\0\0\0\0\0\xee\xee"));
-    assert!(rt; has_at(&image, 4096, b"FBGC\x03\0\0\0\x03\0\0\0abc\xee"));
     let dump = b"DBGC\x29\0\0\0\0\0\0\0\xe5\x3a\xfc\x4d\0\0\0\0\x05\0\0\0\0\0\0\0\
         \x70\x17\0\0\0\0\0\0\0\0\0\0\x01\0\0\0\x01\0\0\0\0\0\0\0x\0"
         .as_slice();
-    assert!(rt; has_at(&image, 8192, dump));
-    assert!(rt; image.iter().skip(12288).all(|byte| *byte == 0xee));
+    let image = left_by(&rt, WORDS, script, &[0xee; 16400], NONE, 0, &[]);
+    assert!(rt; has_at(&image, 0, b"CBGC\0\0\0\0\0\0\0\0\xee\xee"));
+    assert!(rt; has_at(&image, 4096, b"FBGC\x03\0\0\0\x03\0\0\0abc\xee"));
+    assert!(rt; has_at(&image, 8192, dump) && is_all(&image, 12288, 0xee));
 }
 
 const REFUSALS: &[(&str, &str, u8, &str)] = &[
@@ -126,17 +124,7 @@ const REFUSALS: &[(&str, &str, u8, &str)] = &[
 #[test]
 fn each_refusal_is_told(rt: HostRuntime) {
     for (line, script, status, text) in REFUSALS.iter().copied() {
-        let script = script.as_bytes();
-        let image = left_by(
-            &rt,
-            line,
-            script,
-            &[0; 16384],
-            NONE,
-            status,
-            text.as_bytes(),
-        );
-        assert!(rt; image.iter().all(|byte| *byte == 0), "{line}");
+        assert_untouched(&rt, line, script, &[0; 16384], status, text);
     }
 }
 
@@ -150,23 +138,31 @@ fn a_refused_line_leaves_the_finished_ones(rt: HostRuntime) {
     assert!(rt; has_at(&image, 4096, b"FBGC\x03\0\0\0\x03\0\0\0abc\0"));
 }
 
+// Runs the first session where this call of the image fails, and tells whether there was such a call.
+fn fails_at(rt: &(impl Abort + AllocGlobal), call: u32) -> Result<bool, Fail> {
+    let fails = Fails {
+        image: &[call],
+        ..NONE
+    };
+    let ran = outcome(rt.alloc(), WORDS, FIRST.as_bytes(), &[0; 16384], fails)?;
+    let failed = ran.status != 0;
+    let (status, text) = if failed {
+        (6, "image fault\n")
+    } else {
+        (0, FIRST_TEXT)
+    };
+    assert!(rt; ran.status == status && ran.text.as_slice() == text.as_bytes());
+    Ok(failed)
+}
+
 // The image fails at each of its calls, until none is left that could.
 #[test]
 fn each_call_of_the_image_can_fail(rt: HostRuntime) -> Result<(), Fail> {
-    let alloc = rt.alloc();
     let mut failed = 0;
     for call in 1..40 {
-        let fails = Fails {
-            image: &[call],
-            ..NONE
-        };
-        let ran = outcome(alloc, WORDS, FIRST.as_bytes(), &[0; 16384], fails)?;
-        if ran.status == 0 {
-            assert!(rt; ran.text.as_slice() == FIRST_TEXT.as_bytes());
+        if !fails_at(&rt, call)? {
             break;
         }
-        assert!(rt; ran.status == 6);
-        assert!(rt; ran.text.as_slice() == b"image fault\n".as_slice());
         failed = call;
     }
     assert!(rt; failed > 10 && failed < 39);
@@ -182,7 +178,7 @@ fn faults_of_the_script_and_the_output_are_told(rt: HostRuntime) {
     };
     let text = b"script fault\n".as_slice();
     let image = left_by(&rt, WORDS, FIRST.as_bytes(), &[0; 16384], fails, 5, text);
-    assert!(rt; image.iter().all(|byte| *byte == 0));
+    assert!(rt; is_all(&image, 0, 0));
     let script = b"boot\nlist\nwrite console 616263\n".as_slice();
     let fails = Fails { out: &[2], ..NONE };
     let image = left_by(
@@ -194,6 +190,6 @@ fn faults_of_the_script_and_the_output_are_told(rt: HostRuntime) {
         7,
         b"recor".as_slice(),
     );
-    assert!(rt; has_at(&image, 0, b"CBGC"));
-    assert!(rt; has_at(&image, 4096, b"FBGC\0\0\0\0\0\0\0\0\0\0"));
+    let console = b"FBGC\0\0\0\0\0\0\0\0\0\0";
+    assert!(rt; has_at(&image, 0, b"CBGC") && has_at(&image, 4096, console));
 }

@@ -1,10 +1,8 @@
 // Crashes of a script's kernel, and its message log.
-use crate::run_tests::{NONE, outcome};
-use std::alloc::{AllocError, Global};
+use crate::run_tests::{Ended, Groups, NONE, joined, outcome};
+use std::alloc::Global;
+use std::process::Abort;
 use std::test::Fail;
-
-/// Bytes that stand so many times, one group after the other.
-type Groups = &'static [(&'static [u8], usize)];
 
 /// The parameters, the size of an image of zeros, the script, the status, and what the text ends with.
 #[derive(Clone, Copy)]
@@ -129,25 +127,27 @@ const CRASHES: &[Crash] = &[
     },
 ];
 
-fn joined(alloc: Global, groups: Groups) -> Result<Vec<u8>, AllocError> {
-    let mut bytes = Vec::new(alloc);
-    for (group, times) in groups.iter().copied() {
-        let all = group.repeat(alloc, times)?;
-        bytes.extend_from_slice(&all)?;
-    }
-    Ok(bytes)
+// What the run of a crash answered, put and left.
+fn outcome_of(alloc: Global, crash: &Crash) -> Result<Ended, Fail> {
+    let line = format!(in alloc; "image run {}", crash.params)?;
+    let script = joined(alloc, crash.script)?;
+    let image = Vec::from_elem(alloc, 0u8, crash.size)?;
+    outcome(alloc, &line, &script, &image, NONE)
+}
+
+fn assert_crash(rt: &(impl Abort + AllocGlobal), i: usize, crash: &Crash) -> Result<(), Fail> {
+    let ran = outcome_of(rt.alloc(), crash)?;
+    assert!(rt;
+        ran.status == crash.status && ran.text.ends_with(crash.ending),
+        "crash {i}"
+    );
+    Ok(())
 }
 
 #[test]
 fn worked_crashes(rt: HostRuntime) -> Result<(), Fail> {
-    let alloc = rt.alloc();
     for (i, crash) in CRASHES.iter().enumerate() {
-        let line = format!(in alloc; "image run {}", crash.params)?;
-        let script = joined(alloc, crash.script)?;
-        let image = Vec::from_elem(alloc, 0u8, crash.size)?;
-        let ran = outcome(alloc, &line, &script, &image, NONE)?;
-        assert!(rt; ran.status == crash.status, "crash {i}");
-        assert!(rt; ran.text.ends_with(crash.ending), "crash {i}");
+        assert_crash(&rt, i, crash)?;
     }
     Ok(())
 }

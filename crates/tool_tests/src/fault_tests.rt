@@ -72,14 +72,12 @@ const BOOT: Case = Case {
 };
 
 fn begin(alloc: Global, begins: Begins) -> Result<Vec<u8>, AllocError> {
-    let mut image = Vec::new(alloc);
-    match begins {
-        Begins::All(size, byte) => image.resize(size, byte)?,
-        Begins::Headed(front) => {
-            image.extend_from_slice(front)?;
-            image.resize(4096, 0)?;
-        }
-    }
+    let (front, size, byte) = match begins {
+        Begins::All(size, byte) => ([].as_slice(), size, byte),
+        Begins::Headed(front) => (front, 4096, 0),
+    };
+    let mut image = Vec::from_slice(alloc, front)?;
+    image.resize(size, byte)?;
     Ok(image)
 }
 
@@ -92,29 +90,20 @@ fn text_of(alloc: Global, script: Script) -> Result<Vec<u8>, AllocError> {
     Ok(text)
 }
 
-fn is_put(alloc: Global, put: &[u8], text: Text) -> Result<bool, AllocError> {
+fn is_put(put: &[u8], text: Text) -> bool {
     match text {
-        Text::Is(text) => Ok(put == text.as_bytes()),
-        Text::FirstAnd(line) => {
-            let text = format!(in alloc; "{FIRST_TEXT}{line}")?;
-            Ok(put == text.as_bytes())
-        }
-        Text::FrontOfFirst => Ok(FIRST_TEXT.as_bytes().starts_with(put)),
+        Text::Is(text) => put == text.as_bytes(),
+        Text::FirstAnd(line) => put.starts_with(FIRST_TEXT.as_bytes())
+            && put.get(FIRST_TEXT.len()..) == Some(line.as_bytes()),
+        Text::FrontOfFirst => FIRST_TEXT.as_bytes().starts_with(put),
     }
 }
 
 fn is_left(before: &[u8], now: &[u8], left: Left) -> bool {
     match left {
         Left::Same => now == before,
-        Left::New(front) => {
-            now.starts_with(front)
-                && now.len() == before.len()
-                && now
-                    .iter()
-                    .zip(before)
-                    .skip(front.len())
-                    .all(|(new, old)| new == old)
-        }
+        Left::New(front) => now.starts_with(front)
+            && now.get(front.len()..) == before.get(front.len()..),
     }
 }
 
@@ -240,8 +229,10 @@ fn assert_case(rt: &(impl Abort + AllocGlobal), i: usize, case: &Case) -> Result
     let image = begin(alloc, case.begins)?;
     let script = text_of(alloc, case.script)?;
     let ran = outcome_by(alloc, CONSOLE, &script, case.per_call, &image, case.fails)?;
-    assert!(rt; ran.status == case.status, "case {i}");
-    assert!(rt; is_put(alloc, &ran.text, case.text)?, "case {i}");
+    assert!(rt;
+        ran.status == case.status && is_put(&ran.text, case.text),
+        "case {i}"
+    );
     assert!(rt; is_left(&image, &ran.image, case.left), "case {i}");
     Ok(())
 }

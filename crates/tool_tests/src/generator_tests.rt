@@ -11,6 +11,13 @@ fn number_after(line: &str, word: &str) -> Option<u32> {
     }
 }
 
+// The sum of the two counts of a line, of zones as told and of others.
+fn sum_of_counts(line: &str) -> Option<u32> {
+    let told = number_after(line, " as-told ")?;
+    let other = number_after(line, " differs ")?;
+    told.checked_add(other)
+}
+
 #[test]
 fn an_image_is_made_with_parity(rt: HostRuntime) {
     let line = "image make 1 mem_size=16384 ftrace_size=0 ecc=1";
@@ -22,20 +29,11 @@ fn an_image_is_made_with_parity(rt: HostRuntime) {
 // The most parity bytes that there are: a decoder that searched sets of places would not end.
 #[test]
 fn an_image_with_most_parity_is_made_in_time(rt: HostRuntime) -> Result<(), Fail> {
-    let alloc = rt.alloc();
     let line = "image make 1 mem_size=16384 ftrace_size=0 ecc=127";
-    let ran = outcome(alloc, line, &[], &[0; 16384], NONE)?;
+    let ran = outcome(rt.alloc(), line, &[], &[0; 16384], NONE)?;
     assert!(rt; ran.status == 0);
     let text = String::from_utf8(ran.text)?;
-    assert!(rt; text.starts_with("make 1 zones 4 calls "));
-    assert!(rt; text.ends_with("\n"));
-    let (told, other) = (
-        number_after(&text, " as-told "),
-        number_after(&text, " differs "),
-    );
-    match (told, other) {
-        (Some(told), Some(other)) => assert!(rt; told.checked_add(other) == Some(32)),
-        _ => panic!(rt; "no counts"),
-    }
+    assert!(rt; text.starts_with("make 1 zones 4 calls ") && text.ends_with("\n"));
+    assert!(rt; sum_of_counts(&text) == Some(32));
     Ok(())
 }

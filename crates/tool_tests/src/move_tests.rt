@@ -1,5 +1,5 @@
 // Images that are moved to other parameters.
-use crate::run_tests::{NONE, left_by, outcome};
+use crate::run_tests::{NONE, assert_untouched, left_by, outcome};
 use std::process::Abort;
 use std::test::Fail;
 
@@ -179,15 +179,6 @@ const FAULTS: &[(&str, u8, &str)] = &[
 #[test]
 fn both_lists_are_read_first(rt: HostRuntime) {
     for (line, status, text) in FAULTS.iter().copied() {
-        let image = left_by(
-            &rt,
-            line,
-            &[],
-            &[0x55; 16384],
-            NONE,
-            status,
-            text.as_bytes(),
-        );
-        assert!(rt; image.iter().all(|byte| *byte == 0x55), "{line}");
+        assert_untouched(&rt, line, "", &[0x55; 16384], status, text);
     }
 }

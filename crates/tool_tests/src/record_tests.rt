@@ -1,5 +1,5 @@
 // The commands that speak of the records of an image, and of one that is made.
-use crate::run_tests::{NONE, left_by};
+use crate::run_tests::{NONE, is_all, left_by};
 use std::alloc::{AllocError, Global};
 use std::process::Abort;
 use std::test::Fail;
@@ -18,6 +18,12 @@ fn answered(
     left_by(rt, &line, b"wipe".as_slice(), image, NONE, status, text)
 }
 
+// Looks at the answer of a command that leaves the image as it is.
+fn assert_shown(rt: &(impl Abort + AllocGlobal), command: &str, image: &[u8], text: &[u8]) {
+    let same = answered(rt, command, image, 0, text);
+    assert!(rt; same.as_slice() == image);
+}
+
 // An image of zeros but for a console record.
 fn recorded(alloc: Global) -> Result<Vec<u8>, AllocError> {
     let mut image = Vec::from_slice(alloc, b"DBGC\x03\0\0\0\x03\0\0\0abc".as_slice())?;
@@ -28,17 +34,8 @@ fn recorded(alloc: Global) -> Result<Vec<u8>, AllocError> {
 #[test]
 fn records_are_listed_extracted_and_erased(rt: HostRuntime) -> Result<(), Fail> {
     let told = recorded(rt.alloc())?;
-    let list = b"records 1\nconsole-ramoops-0 3\n".as_slice();
-    let same = answered(&rt, "list", &told, 0, list);
-    assert!(rt; same.as_slice() == told.as_slice());
-    let same = answered(
-        &rt,
-        "extract console-ramoops-0",
-        &told,
-        0,
-        b"abc".as_slice(),
-    );
-    assert!(rt; same.as_slice() == told.as_slice());
+    assert_shown(&rt, "list", &told, b"records 1\nconsole-ramoops-0 3\n");
+    assert_shown(&rt, "extract console-ramoops-0", &told, b"abc");
     let image = answered(&rt, "erase console-ramoops-0", &told, 0, &[]);
     assert!(rt; image.starts_with(b"DBGC\0\0\0\0\0\0\0\0abc\0".as_slice()));
     let _image = answered(&rt, "list", &image, 0, b"records 0\n".as_slice());
@@ -53,7 +50,7 @@ fn a_record_that_is_not_listed_is_refused(rt: HostRuntime) {
     for command in UNLISTED.iter().copied() {
         let text = b"line 2 refused: no record\n".as_slice();
         let left = answered(&rt, command, &[0x55; 4096], 10, text);
-        assert!(rt; left.iter().all(|byte| *byte == 0x55), "{command}");
+        assert!(rt; is_all(&left, 0, 0x55), "{command}");
     }
 }
 

@@ -38,6 +38,31 @@ pub(crate) struct Ended {
     pub(crate) image: Vec<u8>,
 }
 
+/// Bytes that stand so many times, one group after the other.
+pub(crate) type Groups = &'static [(&'static [u8], usize)];
+
+pub(crate) fn joined(alloc: Global, groups: Groups) -> Result<Vec<u8>, AllocError> {
+    let mut bytes = Vec::new(alloc);
+    for (group, times) in groups.iter().copied() {
+        let all = group.repeat(alloc, times)?;
+        bytes.extend_from_slice(&all)?;
+    }
+    Ok(bytes)
+}
+
+/// Whether these bytes stand at a place.
+pub(crate) fn has_at(image: &[u8], at: usize, bytes: &[u8]) -> bool {
+    match image.get(at..) {
+        Some(rest) => rest.starts_with(bytes),
+        None => false,
+    }
+}
+
+/// Whether all bytes from a place on are this one.
+pub(crate) fn is_all(image: &[u8], from: usize, byte: u8) -> bool {
+    image.iter().skip(from).all(|other| *other == byte)
+}
+
 fn words_of(alloc: Global, line: &str) -> Result<Vec<String>, AllocError> {
     let mut words = Vec::new(alloc);
     for word in line.split(' ') {
@@ -103,6 +128,19 @@ pub(crate) fn outcome_by(
     gathered(alloc, status, out.bytes(), image.bytes())
 }
 
+fn run_to_end(
+    rt: &(impl Abort + AllocGlobal),
+    line: &str,
+    script: &[u8],
+    image: &[u8],
+    fails: Fails,
+) -> Ended {
+    match outcome(rt.alloc(), line, script, image, fails) {
+        Ok(ran) => ran,
+        Err(_) => panic!(rt; "no memory"),
+    }
+}
+
 /// Runs a line, looks at its status and its text, and gives the image that it leaves.
 pub(crate) fn left_by(
     rt: &(impl Abort + AllocGlobal),
@@ -113,14 +151,33 @@ pub(crate) fn left_by(
     status: u8,
     text: &[u8],
 ) -> Vec<u8> {
-    match outcome(rt.alloc(), line, script, image, fails) {
-        Ok(ran) => {
-            assert!(rt; ran.status == status, "{line}");
-            assert!(rt; ran.text.as_slice() == text, "{line}");
-            ran.image
-        }
-        Err(_) => panic!(rt; "no memory"),
-    }
+    let ran = run_to_end(rt, line, script, image, fails);
+    assert!(rt;
+        ran.status == status && ran.text.as_slice() == text,
+        "{line}"
+    );
+    ran.image
+}
+
+/// The same where the image stays as it is.
+pub(crate) fn assert_untouched(
+    rt: &(impl Abort + AllocGlobal),
+    line: &str,
+    script: &str,
+    image: &[u8],
+    status: u8,
+    text: &str,
+) {
+    let left = left_by(
+        rt,
+        line,
+        script.as_bytes(),
+        image,
+        NONE,
+        status,
+        text.as_bytes(),
+    );
+    assert!(rt; left.as_slice() == image, "{line}");
 }
 
 #[test]
@@ -226,9 +283,7 @@ const REFUSALS: &[(&str, &str, u8, &str)] = &[
 #[test]
 fn each_refusal_is_told(rt: HostRuntime) {
     for (line, script, status, text) in REFUSALS.iter().copied() {
-        let script = script.as_bytes();
-        let image = left_by(&rt, line, script, &[0; 4096], NONE, status, text.as_bytes());
-        assert!(rt; image.iter().all(|byte| *byte == 0), "{line}");
+        assert_untouched(&rt, line, script, &[0; 4096], status, text);
     }
 }
 
@@ -263,8 +318,15 @@ const LAYOUTS: &[(&str, &str)] = &[
 #[test]
 fn layouts_are_shown(rt: HostRuntime) {
     for (line, text) in LAYOUTS.iter().copied() {
-        let image = left_by(&rt, line, b"wipe".as_slice(), &[], NONE, 0, text.as_bytes());
-        assert!(rt; image.is_empty(), "{line}");
+        assert_untouched(&rt, line, "wipe", &[], 0, text);
+    }
+}
+
+// Whether an image of sevens is zeros up to a place.
+fn is_made(image: &[u8], size: usize) -> bool {
+    match image.get(..size) {
+        Some(front) => image.len() == 4100 && is_all(front, 0, 0) && is_all(image, size, 7),
+        None => false,
     }
 }
 
@@ -273,8 +335,7 @@ fn layouts_are_shown(rt: HostRuntime) {
 fn an_image_is_made_blank(rt: HostRuntime) {
     let line = "x blank mem_size=4096 record_size=0 ftrace_size=0 pmsg_size=0";
     let image = left_by(&rt, line, b"wipe".as_slice(), &[7; 4100], NONE, 0, &[]);
-    assert!(rt; image.iter().take(4096).all(|byte| *byte == 0));
-    assert!(rt; image.ends_with([7; 4].as_slice()));
+    assert!(rt; is_made(&image, 4096));
     let fails = Fails {
         image: &[1],
         ..NONE
@@ -288,6 +349,5 @@ fn an_image_is_made_blank(rt: HostRuntime) {
         6,
         b"image fault\n".as_slice(),
     );
-    assert!(rt; image.iter().take(2048).all(|byte| *byte == 0));
-    assert!(rt; image.iter().skip(2048).all(|byte| *byte == 7));
+    assert!(rt; is_made(&image, 2048));
 }

@@ -1,5 +1,5 @@
 // Rings in memory dumps.
-use crate::run_tests::{Fails, NONE, outcome};
+use crate::run_tests::{Fails, NONE, assert_untouched, left_by};
 use std::alloc::{AllocError, Global};
 use std::process::Abort;
 use std::test::Fail;
@@ -16,34 +16,41 @@ const EMPTY: &[u8] = b"DBGC\0\0\0\0\0\0\0\0";
 
 const USAGE: &str = "usage: oopsbox IMAGE COMMAND key=value ..\n";
 
+// Puts bytes at a place.
+fn put(bytes: &mut [u8], at: usize, patch: &[u8]) {
+    for (i, b) in patch.iter().enumerate() {
+        if let Some(place) = bytes.get_mut(at.saturating_add(i)) {
+            *place = *b;
+        }
+    }
+}
+
 // Zeros, but for these bytes at these places.
 fn dump(alloc: Global, len: usize, patches: &[(usize, &[u8])]) -> Result<Vec<u8>, AllocError> {
     let mut bytes = Vec::from_elem(alloc, 0u8, len)?;
     for (at, patch) in patches {
-        for (i, b) in patch.iter().enumerate() {
-            if let Some(place) = bytes.get_mut(at.saturating_add(i)) {
-                *place = *b;
-            }
-        }
+        put(&mut bytes, *at, patch);
     }
     Ok(bytes)
 }
 
-// Runs a command on a dump. The script is no script, and the dump is left as it is.
-fn assert_told(
+// Looks at the rings that are found in a dump.
+fn assert_salvaged(rt: &(impl Abort + AllocGlobal), params: &str, image: &[u8], text: &str) {
+    let line = format!(in rt.alloc(); "image salvage {params}").expect(rt, "no memory");
+    assert_untouched(rt, &line, "wipe", image, 0, text);
+}
+
+// Looks at what a place of a dump reads as.
+fn assert_rescued(
     rt: &(impl Abort + AllocGlobal),
-    command: &str,
+    place: &str,
+    params: &str,
     image: &[u8],
     status: u8,
     text: &str,
-) -> Result<(), Fail> {
-    let alloc = rt.alloc();
-    let line = format!(in alloc; "image {command}")?;
-    let ran = outcome(alloc, &line, b"wipe".as_slice(), image, NONE)?;
-    assert!(rt; ran.status == status);
-    assert!(rt; ran.text.as_slice() == text.as_bytes());
-    assert!(rt; ran.image.as_slice() == image, "the dump");
-    Ok(())
+) {
+    let line = format!(in rt.alloc(); "image rescue {place} {params}").expect(rt, "no memory");
+    assert_untouched(rt, &line, "wipe", image, status, text);
 }
 
 const RESCUES: &[(&str, u8, &str)] = &[
@@ -69,12 +76,10 @@ fn a_ring_at_an_odd_distance(rt: HostRuntime) -> Result<(), Fail> {
         16484,
         &[(100, EMPTY), (4196, EMPTY), (8292, RING), (12388, EMPTY)],
     )?;
-    let salvage = format!(in alloc; "salvage {PLAIN}")?;
     let text = "salvage rings 1\nring at 8292 shape dump-0 start 3 size 3 corrected 0\n";
-    assert_told(&rt, &salvage, &image, 0, text)?;
+    assert_salvaged(&rt, PLAIN, &image, text);
     for (place, status, text) in RESCUES.iter().copied() {
-        let rescue = format!(in alloc; "rescue {place} {PLAIN}")?;
-        assert_told(&rt, &rescue, &image, status, text)?;
+        assert_rescued(&rt, place, PLAIN, &image, status, text);
     }
     Ok(())
 }
@@ -83,13 +88,12 @@ fn a_ring_at_an_odd_distance(rt: HostRuntime) -> Result<(), Fail> {
 #[test]
 fn a_ring_with_a_damaged_header(rt: HostRuntime) -> Result<(), Fail> {
     let alloc = rt.alloc();
-    let salvage = format!(in alloc; "salvage {PARITY}")?;
     let parity: (usize, &[u8]) = (4094, &[0xfb, 0xf9]);
     let image = dump(alloc, 4096, &[(0, RING), (0, b"E".as_slice()), parity])?;
     let text = "salvage rings 1\nring at 0 shape console start 3 size 3 corrected 1\n";
-    assert_told(&rt, &salvage, &image, 0, text)?;
+    assert_salvaged(&rt, PARITY, &image, text);
     let image = dump(alloc, 4096, &[(0, RING), (0, b"EC".as_slice()), parity])?;
-    assert_told(&rt, &salvage, &image, 0, "salvage rings 0\n")?;
+    assert_salvaged(&rt, PARITY, &image, "salvage rings 0\n");
     Ok(())
 }
 
@@ -109,30 +113,31 @@ const SALVAGES: &[(usize, usize, &str)] = &[
 
 #[test]
 fn short_files_and_last_places(rt: HostRuntime) -> Result<(), Fail> {
-    let alloc = rt.alloc();
-    let salvage = format!(in alloc; "salvage {TWO_SHAPES}")?;
     for (len, at, text) in SALVAGES.iter().copied() {
-        let image = dump(alloc, len, &[(at, RING)])?;
-        assert_told(&rt, &salvage, &image, 0, text)?;
+        let image = dump(rt.alloc(), len, &[(at, RING)])?;
+        assert_salvaged(&rt, TWO_SHAPES, &image, text);
     }
-    let rescue = format!(in alloc; "rescue 0 console {PLAIN}")?;
-    assert_told(&rt, &rescue, &[], 10, "line 1 refused: no ring\n")?;
-    let rescue = format!(in alloc; "rescue 0 console mem_size=x")?;
-    assert_told(&rt, &rescue, &[], 3, "parameter fault 3 at word 5\n")?;
-    assert_told(&rt, "rescue 0", &[], 2, USAGE)?;
+    let place = "0 console";
+    assert_rescued(&rt, place, PLAIN, &[], 10, "line 1 refused: no ring\n");
+    assert_rescued(
+        &rt,
+        place,
+        "mem_size=x",
+        &[],
+        3,
+        "parameter fault 3 at word 5\n",
+    );
+    assert_untouched(&rt, "image rescue 0", "wipe", &[], 2, USAGE);
     Ok(())
 }
 
 // The file is read before anything else is looked at.
 #[test]
 fn a_dump_that_fails(rt: HostRuntime) -> Result<(), Fail> {
-    let alloc = rt.alloc();
-    let line = format!(in alloc; "image rescue 1 ftrace-0 {PLAIN}")?;
+    let line = format!(in rt.alloc(); "image rescue 1 ftrace-0 {PLAIN}")?;
     for image in [[1].as_slice(), &[2]] {
         let fails = Fails { image, ..NONE };
-        let ran = outcome(alloc, &line, &[], RING, fails)?;
-        assert!(rt; ran.status == 6);
-        assert!(rt; ran.text.as_slice() == b"image fault\n".as_slice());
+        let _image = left_by(&rt, &line, &[], RING, fails, 6, b"image fault\n");
     }
     Ok(())
 }

@@ -1,11 +1,8 @@
 // Worked sessions as whole scripts, and images that fail between their pieces.
-use crate::run_tests::{Ended, Fails, NONE, left_by, outcome_by};
+use crate::run_tests::{Ended, Fails, Groups, NONE, has_at, is_all, joined, left_by, outcome_by};
 use std::alloc::{AllocError, Global};
 use std::process::Abort;
 use std::test::Fail;
-
-/// Bytes that stand so many times, one group after the other.
-type Groups = &'static [(&'static [u8], usize)];
 
 /// The parameters of a session, its script, the text that is put, and bytes at places of the image that is left.
 #[derive(Clone, Copy)]
@@ -520,22 +517,6 @@ const BOOTS: &[Session] = &[
     },
 ];
 
-fn joined(alloc: Global, groups: Groups) -> Result<Vec<u8>, AllocError> {
-    let mut bytes = Vec::new(alloc);
-    for (group, times) in groups.iter().copied() {
-        let all = group.repeat(alloc, times)?;
-        bytes.extend_from_slice(&all)?;
-    }
-    Ok(bytes)
-}
-
-fn has_at(image: &[u8], at: usize, bytes: &[u8]) -> bool {
-    match image.get(at..) {
-        Some(rest) => rest.starts_with(bytes),
-        None => false,
-    }
-}
-
 // The size of the image that these parameters ask for.
 fn zeros(alloc: Global, params: &str) -> Result<Vec<u8>, AllocError> {
     let size = if params.starts_with("mem_size=4096 ") {
@@ -605,28 +586,36 @@ const PIECES_TEXT: &[u8] =
     b"boot console unsigned start 4008636142 size 4008636142 corrected 0 bad 0 nothing told\n\
     boot pmsg unsigned start 4008636142 size 4008636142 corrected 0 bad 0 nothing told\n";
 
-// A console and a pmsg zone, each as large as a piece, over an image of other bytes. The pmsg ring is filled.
+// The pmsg ring is filled.
+const PIECES_SCRIPT: Groups = &[
+    (b"boot\nwrite console 616263\nwrite pmsg ", 1),
+    (b"61", 65_524),
+    (b"\n", 1),
+];
+
+// A console and a pmsg zone, each as large as a piece, over an image of other bytes.
 fn in_two_pieces(alloc: Global, fails: Fails) -> Result<Ended, Fail> {
-    let mut script = Vec::from_slice(alloc, b"boot\nwrite console 616263\nwrite pmsg ".as_slice())?;
-    script.extend_from_slice("61".repeat(alloc, 65_524)?.as_bytes())?;
-    script.push(b'\n')?;
+    let script = joined(alloc, PIECES_SCRIPT)?;
     let image = Vec::from_elem(alloc, 0xeeu8, 131_072)?;
     outcome_by(alloc, TWO_PIECES, &script, 4096, &image, fails)
 }
 
-// Whether all bytes from a place on are this one.
-fn is_all(image: &[u8], from: usize, byte: u8) -> bool {
-    image.iter().skip(from).all(|other| *other == byte)
+// Whether the run ended with this status and this text.
+fn is_told(ran: &Ended, status: u8, text: &[u8]) -> bool {
+    ran.status == status && ran.text.as_slice() == text
+}
+
+// Whether both zones are written.
+fn is_written(image: &[u8]) -> bool {
+    has_at(image, 0, b"DBGC\x03\0\0\0\x03\0\0\0abc\xee")
+        && has_at(image, 65_536, b"DBGC\0\0\0\0\xf4\xff\0\0aa")
+        && is_all(image, 65_548, b'a')
 }
 
 #[test]
 fn an_image_of_two_pieces_is_written(rt: HostRuntime) -> Result<(), Fail> {
     let ran = in_two_pieces(rt.alloc(), NONE)?;
-    assert!(rt; ran.status == 0);
-    assert!(rt; ran.text.as_slice() == PIECES_TEXT);
-    assert!(rt; has_at(&ran.image, 0, b"DBGC\x03\0\0\0\x03\0\0\0abc\xee"));
-    assert!(rt; has_at(&ran.image, 65_536, b"DBGC\0\0\0\0\xf4\xff\0\0aa"));
-    assert!(rt; is_all(&ran.image, 65_548, b'a'));
+    assert!(rt; is_told(&ran, 0, PIECES_TEXT) && is_written(&ran.image));
     Ok(())
 }
 
@@ -645,31 +634,34 @@ fn an_image_fails_at_its_second_piece(rt: HostRuntime) -> Result<(), Fail> {
     };
     for fails in [second, first_and_script] {
         let ran = in_two_pieces(rt.alloc(), fails)?;
-        assert!(rt; ran.status == 6);
-        assert!(rt; ran.text.as_slice() == b"image fault\n".as_slice());
-        assert!(rt; is_all(&ran.image, 0, 0xee));
+        assert!(rt; is_told(&ran, 6, b"image fault\n") && is_all(&ran.image, 0, 0xee));
     }
     Ok(())
+}
+
+// Whether the text of the pieces is put, and then the fault.
+fn is_put_with_fault(text: &[u8]) -> bool {
+    text.starts_with(PIECES_TEXT) && text.ends_with(b"nothing told\nimage fault\n".as_slice())
+}
+
+// Whether an image is that of the whole run up to the half of its second piece, and untouched from there on.
+fn is_taken(image: &[u8], whole: &[u8]) -> bool {
+    match whole.get(..98_304) {
+        Some(front) => image.starts_with(front) && is_all(image, 98_304, 0xee),
+        None => false,
+    }
 }
 
 // The second piece fails when it is written: the first is whole by then, and the store took half of the second.
 #[test]
 fn an_image_is_left_with_its_first_piece(rt: HostRuntime) -> Result<(), Fail> {
-    let alloc = rt.alloc();
-    let whole = in_two_pieces(alloc, NONE)?;
+    let whole = in_two_pieces(rt.alloc(), NONE)?;
     let fails = Fails {
         image: &[5],
         ..NONE
     };
-    let ran = in_two_pieces(alloc, fails)?;
-    assert!(rt; ran.status == 6);
-    assert!(rt; ran.text.starts_with(PIECES_TEXT));
-    assert!(rt;
-        ran.text
-            .ends_with(b"nothing told\nimage fault\n".as_slice())
-    );
-    let mut taken = ran.image.iter().zip(&whole.image).take(98_304);
-    assert!(rt; taken.all(|(left, new)| left == new));
-    assert!(rt; is_all(&ran.image, 98_304, 0xee));
+    let ran = in_two_pieces(rt.alloc(), fails)?;
+    assert!(rt; ran.status == 6 && is_put_with_fault(&ran.text));
+    assert!(rt; is_taken(&ran.image, &whole.image));
     Ok(())
 }

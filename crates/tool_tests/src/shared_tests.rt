@@ -1,5 +1,5 @@
 // Scripts on a shared zone.
-use crate::run_tests::{NONE, outcome};
+use crate::run_tests::{NONE, left_by};
 use std::alloc::{AllocError, Global};
 use std::process::Abort;
 use std::test::Fail;
@@ -14,15 +14,10 @@ fn assert_ends(
     status: u8,
     text: &str,
     front: &[u8],
-) -> Result<(), Fail> {
-    let alloc = rt.alloc();
-    let line = format!(in alloc; "image shared-run {words}")?;
-    let zeros = Vec::from_elem(alloc, 0u8, 4096)?;
-    let ran = outcome(alloc, &line, script, &zeros, NONE)?;
-    assert!(rt; ran.status == status);
-    assert!(rt; ran.text.as_slice() == text.as_bytes());
-    assert!(rt; ran.image.as_slice().starts_with(front), "the image");
-    Ok(())
+) {
+    let line = format!(in rt.alloc(); "image shared-run {words}").expect(rt, "no memory");
+    let image = left_by(rt, &line, script, &[0; 4096], NONE, status, text.as_bytes());
+    assert!(rt; image.starts_with(front), "the image");
 }
 
 const PARITY: &str =
@@ -46,16 +41,15 @@ const REFUSALS: &[(&str, &[u8], u8, &str)] = &[
 ];
 
 #[test]
-fn two_writers_and_refusals(rt: HostRuntime) -> Result<(), Fail> {
+fn two_writers_and_refusals(rt: HostRuntime) {
     let done = "shared calls 2 done 1 open 1 start 4 size 4\nopen 0 place 0 length 2 stored 1\n";
     let script = b"reserve 6161\nreserve 6262\nstore 1 2\nstore 0 1\n".as_slice();
     let front = b"DBGC\x04\0\0\0\x04\0\0\0a\0bb\0\0".as_slice();
-    assert_ends(&rt, PLAIN, script, 0, done, front)?;
+    assert_ends(&rt, PLAIN, script, 0, done, front);
     let zeros = [0u8; 16];
     for (words, script, status, text) in REFUSALS.iter().copied() {
-        assert_ends(&rt, words, script, status, text, &zeros)?;
+        assert_ends(&rt, words, script, status, text, &zeros);
     }
-    Ok(())
 }
 
 // One open byte, and all others of the ring stored.
@@ -78,7 +72,7 @@ fn a_crowded_ring(rt: HostRuntime) -> Result<(), Fail> {
         10,
         "line 4 refused: crowded\n",
         &[0u8; 16],
-    )?;
+    );
     let freed = crowd(rt.alloc(), b"store 0 1\nreserve 61\n".as_slice())?;
     let text = "shared calls 3 done 2 open 1 start 1 size 4084\nopen 2 place 0 length 1 stored 0\n";
     assert_ends(
@@ -88,5 +82,6 @@ fn a_crowded_ring(rt: HostRuntime) -> Result<(), Fail> {
         0,
         text,
         b"DBGC\x01\0\0\0\xf4\x0f\0\0af".as_slice(),
-    )
+    );
+    Ok(())
 }
