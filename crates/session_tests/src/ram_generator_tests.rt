@@ -7,11 +7,10 @@ use std::test::Fail;
 #[test]
 fn first_draws(rt: HostRuntime) -> Result<(), Fail> {
     let mut draws = Draws::new(0);
-    assert_eq!(rt; draws.draw(1000), 563);
-    assert_eq!(rt; draws.draw(1000), 577);
-    assert_eq!(rt; draws.draw(1000), 494);
+    let drawn = [draws.draw(1000), draws.draw(1000), draws.draw(1000)];
+    assert!(rt; drawn == [563, 577, 494]);
     let bytes = draws.draw_bytes(rt.alloc(), 3)?;
-    assert_eq!(rt; bytes.len(), 3);
+    assert!(rt; bytes.len() == 3);
     Ok(())
 }
 
@@ -43,12 +42,21 @@ const SUMMARIES: &[(&str, u32, &str)] = &[
     ),
 ];
 
+fn assert_summary(
+    rt: &(impl Abort + AllocGlobal),
+    line: &str,
+    n: u32,
+    wanted: &str,
+) -> Result<(), Fail> {
+    let (image, text) = generate(rt.alloc(), layout_of(rt.alloc(), line)?, n)?;
+    assert!(rt; image.len() == 16384 && text.as_slice() == wanted.as_bytes());
+    Ok(())
+}
+
 #[test]
 fn small_sessions_are_summed_up(rt: HostRuntime) -> Result<(), Fail> {
     for (line, n, wanted) in SUMMARIES.iter().copied() {
-        let (image, text) = generate(rt.alloc(), layout_of(rt.alloc(), line)?, n)?;
-        assert_eq!(rt; image.len(), 16384);
-        assert_eq!(rt; text.as_slice(), wanted.as_bytes());
+        assert_summary(&rt, line, n, wanted)?;
     }
     Ok(())
 }
@@ -77,33 +85,39 @@ const SESSIONS: &[(&str, u32, u32)] = &[
     ("mem_size=65536 record_size=4096 ecc=16", 192, 1),
 ];
 
-// A session is the same each time; each of eight boots has a verdict of each zone; each of eight cut appends may count.
-fn assert_session(
-    rt: &(impl Abort + AllocGlobal),
-    line: &str,
-    calls: u32,
-    flips: u32,
-) -> Result<(), Fail> {
+// The summary of a session, which is the same each time.
+fn summary_of(rt: &(impl Abort + AllocGlobal), line: &str) -> Result<Vec<u8>, Fail> {
     let alloc = rt.alloc();
     let (image, text) = generate(alloc, layout_of(alloc, line)?, 1)?;
     let (again, same) = generate(alloc, layout_of(alloc, line)?, 1)?;
-    assert_eq!(rt; image.as_slice(), again.as_slice());
-    assert_eq!(rt; text.as_slice(), same.as_slice());
-    let zones = count_of(&text, "zones")?;
-    assert!(rt; zones as usize == layout_of(alloc, line)?.zones().len());
-    let made = count_of(&text, "calls")?;
-    assert!(rt; calls <= made && made <= 200);
-    assert!(rt; flips <= count_of(&text, "flips")?);
-    let told = count_of(&text, "as-told")?;
-    let others = count_of(&text, "differs")?;
-    assert!(rt; told.checked_add(others) == zones.checked_mul(8));
+    assert!(rt; image.as_slice() == again.as_slice() && text.as_slice() == same.as_slice());
+    Ok(text)
+}
+
+// Each of eight boots has a verdict of each zone; each of eight cut appends may count.
+fn assert_counts(
+    rt: &impl Abort,
+    text: &[u8],
+    zones: usize,
+    calls: u32,
+    flips: u32,
+) -> Result<(), Fail> {
+    let named = count_of(text, "zones")?;
+    let made = count_of(text, "calls")?;
+    let flipped = count_of(text, "flips")?;
+    let told = count_of(text, "as-told")?;
+    let others = count_of(text, "differs")?;
+    assert!(rt; named as usize == zones && calls <= made && made <= 200 && flips <= flipped);
+    assert!(rt; told.checked_add(others) == named.checked_mul(8));
     Ok(())
 }
 
 #[test]
 fn a_number_makes_one_session(rt: HostRuntime) -> Result<(), Fail> {
     for (line, calls, flips) in SESSIONS.iter().copied() {
-        assert_session(&rt, line, calls, flips)?;
+        let text = summary_of(&rt, line)?;
+        let zones = layout_of(rt.alloc(), line)?.zones().len();
+        assert_counts(&rt, &text, zones, calls, flips)?;
     }
     Ok(())
 }

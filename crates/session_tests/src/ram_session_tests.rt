@@ -45,18 +45,27 @@ fn append(rt: &(impl Abort + AllocGlobal), live: &mut Live, bytes: &[u8]) {
     assert!(rt; live.left(CONSOLE) == Ok(0));
 }
 
+fn begin_append(rt: &(impl Abort + AllocGlobal), live: &mut Live, bytes: &[u8]) {
+    assert!(rt; begin(live, Ask::Append(CONSOLE, copied(rt, bytes))) == Ok(CONSOLE));
+}
+
+// Whether the console's told list has so many bytes.
+fn has_told(live: &Live, count: u32) -> bool {
+    match live.told(CONSOLE) {
+        Ok(told) => told.len() == count,
+        Err(_) => false,
+    }
+}
+
 #[test]
 fn calls_are_made_by_their_stores(rt: HostRuntime) {
     let mut live = booted(&rt);
     append(&rt, &mut live, b"abc");
-    let def = copied(&rt, b"def");
-    assert!(rt; begin(&mut live, Ask::Append(CONSOLE, def)) == Ok(CONSOLE));
+    begin_append(&rt, &mut live, b"def");
     assert!(rt; live.left(CONSOLE) == Ok(5));
-    assert!(rt; step(&mut live, CONSOLE, 1) == Ok(()));
-    assert!(rt; step(&mut live, CONSOLE, 0) == Ok(()));
+    assert!(rt; step(&mut live, CONSOLE, 1) == Ok(()) && step(&mut live, CONSOLE, 0) == Ok(()));
     assert!(rt; live.left(CONSOLE) == Ok(4));
-    assert!(rt; finish(&mut live, CONSOLE) == Ok(()));
-    assert!(rt; live.told(CONSOLE).map(|told| told.len()) == Ok(6));
+    assert!(rt; finish(&mut live, CONSOLE) == Ok(()) && has_told(&live, 6));
     append(&rt, &mut live, b"");
 }
 
@@ -66,8 +75,7 @@ fn calls_are_refused(rt: HostRuntime) {
     assert!(rt; step(&mut live, CONSOLE, 0) == Err(Refusal::Idle));
     assert!(rt; finish(&mut live, CONSOLE) == Err(Refusal::Idle));
     assert!(rt; step(&mut live, PMSG, 1) == Err(Refusal::NoZone));
-    let abc = copied(&rt, b"abc");
-    assert!(rt; begin(&mut live, Ask::Append(CONSOLE, abc)) == Ok(CONSOLE));
+    begin_append(&rt, &mut live, b"abc");
     assert!(rt; begin(&mut live, Ask::Erase(CONSOLE)) == Err(Refusal::Busy));
 }
 
@@ -146,11 +154,7 @@ const REFUSED: &[(&[u8], LineStop, &[u8])] = &[
 fn lines_are_refused(rt: HostRuntime) -> Result<(), Fail> {
     for (script, why, wanted) in REFUSED.iter().copied() {
         let (end, text) = played(&rt, script)?;
-        assert!(rt; text.strip_prefix(UNSIGNED) == Some(wanted));
-        match end {
-            Ok(_) => panic!(rt; "every line is done"),
-            Err(stop) => assert!(rt; stop == why),
-        }
+        assert!(rt; text.strip_prefix(UNSIGNED) == Some(wanted) && end.err() == Some(why));
     }
     Ok(())
 }
@@ -158,10 +162,8 @@ fn lines_are_refused(rt: HostRuntime) -> Result<(), Fail> {
 #[test]
 fn a_flip_is_made(rt: HostRuntime) -> Result<(), Fail> {
     let mut off = off(rt.alloc(), ONE)?;
-    assert!(rt; off.flip(7, 3) == Ok(()));
-    assert!(rt; off.flip(4096, 1) == Err(Refusal::OutOfImage));
-    assert!(rt; off.image().first() == Some(&0));
-    assert!(rt; off.image().get(7) == Some(&3));
+    assert!(rt; off.flip(7, 3) == Ok(()) && off.flip(4096, 1) == Err(Refusal::OutOfImage));
+    assert!(rt; off.image().first() == Some(&0) && off.image().get(7) == Some(&3));
     Ok(())
 }
 
@@ -180,17 +182,27 @@ fn is_unlisted(rt: &(impl Abort + AllocGlobal), logs: &Logs, name: &[u8]) -> boo
     }
 }
 
+// Whether the record of this name has this content.
+fn holds(rt: &(impl Abort + AllocGlobal), logs: &Logs, name: &[u8], wanted: &[u8]) -> bool {
+    match content_of(rt.alloc(), logs, name) {
+        Ok(content) => content.as_slice() == wanted,
+        Err(_) => false,
+    }
+}
+
 #[test]
 fn a_record_is_found_by_its_name(rt: HostRuntime) -> Result<(), Fail> {
-    let blank = logs_after(&rt, b"boot\n", b"")?;
-    assert!(rt; is_unlisted(&rt, &blank, b"console-ramoops-0"));
     let logs = logs_after(&rt, DONE, DONE_TEXT)?;
-    match content_of(rt.alloc(), &logs, b"console-ramoops-0") {
-        Ok(content) => assert!(rt; content.as_slice() == b"abc".as_slice()),
-        Err(_) => panic!(rt; "no content"),
-    }
+    assert!(rt; holds(&rt, &logs, b"console-ramoops-0", b"abc"));
     for name in NO_NAMES.iter().copied() {
         assert!(rt; is_unlisted(&rt, &logs, name));
     }
+    Ok(())
+}
+
+#[test]
+fn a_blank_store_has_no_record(rt: HostRuntime) -> Result<(), Fail> {
+    let blank = logs_after(&rt, b"boot\n", b"")?;
+    assert!(rt; is_unlisted(&rt, &blank, b"console-ramoops-0"));
     Ok(())
 }
