@@ -100,11 +100,8 @@ fn assert_played(
 ) -> Result<(), Fail> {
     let mut store = zeros(rt.alloc(), 16384, &[])?;
     let mut out = MemSink::new(rt.alloc(), 1000, Calls::new(rt.alloc(), &[])?)?;
-    assert!(rt;
-        played(rt.alloc(), &mut store, script, &mut out)? == end,
-        "{script}"
-    );
-    assert!(rt; was_put(&out, text), "{script}");
+    let ended = played(rt.alloc(), &mut store, script, &mut out)?;
+    assert!(rt; ended == end && was_put(&out, text), "{script}");
     Ok(())
 }
 
@@ -126,6 +123,13 @@ fn holds_at(store: &MemStore, at: usize, bytes: &[u8]) -> bool {
     }
 }
 
+// Whether the store has the console and the dump of the first session.
+fn holds_first(store: &MemStore) -> bool {
+    holds_at(store, 4096, b"\x46\x42\x47\x43\x03\0\0\0\x03\0\0\0abc")
+        && holds_at(store, 8192, b"\x44\x42\x47\x43\x29\0\0\0\0\0\0\0")
+        && store.bytes().get(8244) == Some(&0x78)
+}
+
 #[test]
 fn bytes_of_the_first_session(rt: HostRuntime) -> Result<(), Fail> {
     let alloc = rt.alloc();
@@ -133,25 +137,33 @@ fn bytes_of_the_first_session(rt: HostRuntime) -> Result<(), Fail> {
     let mut out = MemSink::new(alloc, 0, Calls::new(alloc, &[])?)?;
     let script = "boot\nwrite console 616263\nkdump 5 6000 D Panic 78\n";
     assert!(rt; played(alloc, &mut store, script, &mut out)? == Ok(()));
-    assert!(rt; holds_at(&store, 4096, b"\x46\x42\x47\x43\x03\0\0\0\x03\0\0\0abc"));
-    assert!(rt; holds_at(&store, 8192, b"\x44\x42\x47\x43\x29\0\0\0\0\0\0\0"));
-    assert!(rt; store.bytes().get(8244) == Some(&0x78));
+    assert!(rt; holds_first(&store));
     Ok(())
+}
+
+// How the first session ends where these calls of the store and of the output fail. If it fails, it puts this text.
+fn first_end(
+    rt: &(impl Abort + AllocGlobal),
+    store_fails: &[u32],
+    out_fails: &[u32],
+    text: &str,
+) -> Result<Result<(), LineStop>, Fail> {
+    let mut store = zeros(rt.alloc(), 16384, store_fails)?;
+    let mut out = MemSink::new(rt.alloc(), 1000, Calls::new(rt.alloc(), out_fails)?)?;
+    let end = played(rt.alloc(), &mut store, FIRST, &mut out)?;
+    assert!(rt; end.is_ok() || was_put(&out, text));
+    Ok(end)
 }
 
 #[test]
 fn each_call_of_the_store_fails(rt: HostRuntime) -> Result<(), Fail> {
-    let alloc = rt.alloc();
     let mut failed = 0;
     for call in 1..100u32 {
-        let mut store = zeros(alloc, 16384, &[call])?;
-        let mut out = MemSink::new(alloc, 1000, Calls::new(alloc, &[])?)?;
-        match played(alloc, &mut store, FIRST, &mut out)? {
+        match first_end(&rt, &[call], &[], "")? {
             Ok(()) => break,
             Err(stop) => assert!(rt; stop == LineStop::StoreFault, "call {call}"),
         }
         failed = call;
-        assert!(rt; was_put(&out, ""), "call {call}");
     }
     assert!(rt; failed > 4 && failed < 99);
     Ok(())
@@ -159,13 +171,9 @@ fn each_call_of_the_store_fails(rt: HostRuntime) -> Result<(), Fail> {
 
 #[test]
 fn each_put_fails(rt: HostRuntime) -> Result<(), Fail> {
-    let alloc = rt.alloc();
     for (call, text) in [(1, ""), (4, ""), (5, "records 2\ndmesg-pstore_blk-0 22 5")] {
-        let mut store = zeros(alloc, 16384, &[])?;
-        let mut out = MemSink::new(alloc, 1000, Calls::new(alloc, &[call])?)?;
-        let end = played(alloc, &mut store, FIRST, &mut out)?;
+        let end = first_end(&rt, &[], &[call], text)?;
         assert!(rt; end == Err(LineStop::SinkFault), "put {call}");
-        assert!(rt; was_put(&out, text), "put {call}");
     }
     Ok(())
 }

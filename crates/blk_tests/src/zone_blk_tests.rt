@@ -154,6 +154,19 @@ fn lists(rt: &impl Abort, blk: &Blk, name: BlkName, content: &str) -> bool {
     }
 }
 
+// Loads again, and looks at the content of a record.
+fn assert_reloads(
+    rt: &(impl Abort + AllocGlobal),
+    store: &mut MemStore,
+    name: BlkName,
+    content: &str,
+)
+    requires { HasRoom 16384 (Some (store_holds store.old)) }
+{
+    let blk = reload(rt, store);
+    assert!(rt; lists(rt, &blk, name, content));
+}
+
 // Whether these records are listed, and no other.
 fn names(rt: &impl Abort, blk: &Blk, names: &[BlkName]) -> bool {
     match blk.names() {
@@ -173,34 +186,27 @@ fn written(rt: &(impl Abort + AllocGlobal)) -> MemStore
 }
 
 #[test]
-fn first_session_is_stored(rt: HostRuntime) -> Result<(), Fail> {
+fn first_session_is_stored(rt: HostRuntime) {
     let store = written(&rt);
-    assert!(rt; holds_at(&store, 0, b"\x43\x42\x47\x43\0\0\0\0\0\0\0\0"));
-    assert!(rt; holds_at(&store, 4096, b"\x46\x42\x47\x43\x03\0\0\0\x03\0\0\0abc"));
+    let console = b"\x46\x42\x47\x43\x03\0\0\0\x03\0\0\0abc";
     let dump = b"\x44\x42\x47\x43\x29\0\0\0\0\0\0\0\
 \xe5\x3a\xfc\x4d\0\0\0\0\x05\0\0\0\0\0\0\0\
 \x70\x17\0\0\0\0\0\0\0\0\0\0\x01\0\0\0\
 \x01\0\0\0\0\0\0\0\x78";
-    assert!(rt; holds_at(&store, 8192, dump));
+    assert!(rt; holds_at(&store, 0, b"\x43\x42\x47\x43\0\0\0\0\0\0\0\0"));
+    assert!(rt; holds_at(&store, 4096, console) && holds_at(&store, 8192, dump));
     assert!(rt; is_all(store.bytes().get(8245..12288), 0));
-    Ok(())
 }
 
 #[test]
-fn first_session_is_listed(rt: HostRuntime) -> Result<(), Fail> {
+fn first_session_is_listed(rt: HostRuntime) {
     let mut store = written(&rt);
     let blk = reload(&rt, &mut store);
     assert!(rt; names(&rt, &blk, &[DUMP, BlkName::Console]));
     assert!(rt; lists(&rt, &blk, BlkName::Console, "abc"));
     assert!(rt; lists(&rt, &blk, DUMP, "Panic: Total 1 times\nx"));
-    for (name, len) in [
-        (BlkName::Console, Some(3)),
-        (DUMP, Some(22)),
-        (BlkName::Pmsg, None),
-    ] {
-        assert!(rt; blk.content_len(name) == len);
-    }
-    Ok(())
+    assert!(rt; blk.content_len(BlkName::Console) == Some(3) && blk.content_len(DUMP) == Some(22));
+    assert!(rt; blk.content_len(BlkName::Pmsg) == None);
 }
 
 // The store as it is loaded again once only so many bytes of the first session reached it.
@@ -240,18 +246,17 @@ fn lists_both(
 }
 
 #[test]
-fn stopped_after_each_byte(rt: HostRuntime) -> Result<(), Fail> {
+fn stopped_after_each_byte(rt: HostRuntime) {
     for (from, to, console, time, content) in STOPS.iter().copied() {
         for k in from..to {
             let blk = loaded_after(&rt, k);
             assert!(rt; lists_both(&rt, &blk, console, time, content), "after {k}");
         }
     }
-    Ok(())
 }
 
 #[test]
-fn cut_within_data(rt: HostRuntime) -> Result<(), Fail> {
+fn cut_within_data(rt: HostRuntime) {
     let mut store = fresh(&rt, &[]);
     let mut blk = reload(&rt, &mut store);
     append(&rt, &mut blk, &mut store, BlkRing::Console, b"abc", Ok(()));
@@ -271,9 +276,7 @@ fn cut_within_data(rt: HostRuntime) -> Result<(), Fail> {
             b"\x46\x42\x47\x43\x03\0\0\0\x03\0\0\0abcdefgh\0"
         )
     );
-    let blk = reload(&rt, &mut store);
-    assert!(rt; lists(&rt, &blk, BlkName::Console, "abc"));
-    Ok(())
+    assert_reloads(&rt, &mut store, BlkName::Console, "abc");
 }
 
 #[test]
@@ -286,9 +289,13 @@ fn cut_before_further_header(rt: HostRuntime) -> Result<(), Fail> {
     blk.cut_after(13);
     append(&rt, &mut blk, &mut store, BlkRing::Console, b"!", Ok(()));
     assert!(rt; holds_at(&store, 4096, b"\x46\x42\x47\x43\x01\0\0\0\x01\0\0\0!a"));
-    let blk = reload(&rt, &mut store);
-    assert!(rt; lists(&rt, &blk, BlkName::Console, "!"));
+    assert_reloads(&rt, &mut store, BlkName::Console, "!");
     Ok(())
+}
+
+// Whether a full log has one byte behind all others.
+fn is_round(log: &[u8]) -> bool {
+    log.len() == 4084 && log.last().copied() == Some(b'!') && is_all(log.get(0..4083), b'a')
 }
 
 #[test]
@@ -301,14 +308,12 @@ fn full_ring_goes_round(rt: HostRuntime) -> Result<(), Fail> {
     assert!(rt; holds_at(&store, 0, b"\x43\x42\x47\x43\xf4\x0f\0\0\x01\0\0\0!"));
     let blk = reload(&rt, &mut store);
     let log = blk.content(BlkName::Pmsg)?;
-    assert!(rt; log.as_slice().len() == 4084);
-    assert!(rt; log.as_slice().last().copied() == Some(b'!'));
-    assert!(rt; is_all(log.as_slice().get(0..4083), b'a'));
+    assert!(rt; is_round(log.as_slice()));
     Ok(())
 }
 
 #[test]
-fn refusals(rt: HostRuntime) -> Result<(), Fail> {
+fn refusals(rt: HostRuntime) {
     let mut store = fresh(&rt, &[]);
     let layout = BlkLayout {
         total: 16384,
@@ -338,11 +343,10 @@ fn refusals(rt: HostRuntime) -> Result<(), Fail> {
         Err(BlkFault::NoRecord),
     );
     assert!(rt; names(&rt, &blk, &[]));
-    Ok(())
 }
 
 #[test]
-fn erasures_are_listed_no_more(rt: HostRuntime) -> Result<(), Fail> {
+fn erasures_are_listed_no_more(rt: HostRuntime) {
     let mut store = written(&rt);
     let mut blk = reload(&rt, &mut store);
     erase(&rt, &mut blk, &mut store, DUMP, Ok(()));
@@ -358,7 +362,6 @@ fn erasures_are_listed_no_more(rt: HostRuntime) -> Result<(), Fail> {
     assert!(rt; names(&rt, &blk, &[]));
     let blk = reload(&rt, &mut store);
     assert!(rt; names(&rt, &blk, &[]));
-    Ok(())
 }
 
 const TEXTS: &[(&str, Option<BlkName>)] = &[
@@ -414,17 +417,16 @@ fn is_done(rt: &(impl Abort + AllocGlobal), call: u32) -> bool {
 
 // A load reads four zones' headers and writes two, an append writes two pieces, a dump three and its zeros in one.
 #[test]
-fn a_failing_store_is_told(rt: HostRuntime) -> Result<(), Fail> {
+fn a_failing_store_is_told(rt: HostRuntime) {
     for call in 1..13 {
         assert!(rt; !is_done(&rt, call), "of call {call}");
     }
     assert!(rt; is_done(&rt, 13));
-    Ok(())
 }
 
 // The header of the second append is torn: its new length stands beside the old start.
 #[test]
-fn append_that_fails_in_its_header(rt: HostRuntime) -> Result<(), Fail> {
+fn append_that_fails_in_its_header(rt: HostRuntime) {
     let mut store = fresh(&rt, &[10]);
     let mut blk = reload(&rt, &mut store);
     append(&rt, &mut blk, &mut store, BlkRing::Console, b"abc", Ok(()));
@@ -437,14 +439,12 @@ fn append_that_fails_in_its_header(rt: HostRuntime) -> Result<(), Fail> {
         Err(BlkFault::StoreFault),
     );
     assert!(rt; holds_at(&store, 4096, b"\x46\x42\x47\x43\x05\0\0\0\x03\0\0\0abcde\0"));
-    let blk = reload(&rt, &mut store);
-    assert!(rt; lists(&rt, &blk, BlkName::Console, "deabc"));
-    Ok(())
+    assert_reloads(&rt, &mut store, BlkName::Console, "deabc");
 }
 
 // Of 13 bytes the failed write of three has three, the next data two, and their header eight.
 #[test]
-fn cut_after_a_failed_write(rt: HostRuntime) -> Result<(), Fail> {
+fn cut_after_a_failed_write(rt: HostRuntime) {
     let mut store = fresh(&rt, &[7]);
     let mut blk = reload(&rt, &mut store);
     blk.cut_after(13);
@@ -459,14 +459,12 @@ fn cut_after_a_failed_write(rt: HostRuntime) -> Result<(), Fail> {
     assert!(rt; holds_at(&store, 4096, b"\x46\x42\x47\x43\0\0\0\0\0\0\0\0a\0\0"));
     append(&rt, &mut blk, &mut store, BlkRing::Console, b"de", Ok(()));
     assert!(rt; holds_at(&store, 4096, b"\x46\x42\x47\x43\x02\0\0\0\0\0\0\0de\0"));
-    let blk = reload(&rt, &mut store);
-    assert!(rt; lists(&rt, &blk, BlkName::Console, "de"));
-    Ok(())
+    assert_reloads(&rt, &mut store, BlkName::Console, "de");
 }
 
 // The first header is written, the second torn; what was loaded before goes on. The second load reads two logs too.
 #[test]
-fn load_that_fails_in_its_second_write(rt: HostRuntime) -> Result<(), Fail> {
+fn load_that_fails_in_its_second_write(rt: HostRuntime) {
     let mut store = fresh(&rt, &[18]);
     let mut blk = reload(&rt, &mut store);
     append(&rt, &mut blk, &mut store, BlkRing::Console, b"abc", Ok(()));
@@ -478,27 +476,27 @@ fn load_that_fails_in_its_second_write(rt: HostRuntime) -> Result<(), Fail> {
     let blk = reload(&rt, &mut store);
     assert!(rt; lists(&rt, &blk, BlkName::Console, "abcf"));
     assert!(rt; blk.content_len(BlkName::Pmsg) == None);
-    Ok(())
+}
+
+// Whether the store has a pmsg append, a console append and a dump.
+fn holds_written(store: &MemStore) -> bool {
+    holds_at(store, 0, b"\x43\x42\x47\x43\x02\0\0\0\x02\0\0\0de")
+        && holds_at(store, 4096, b"\x46\x42\x47\x43\x03\0\0\0\x03\0\0\0abc")
+        && holds_at(store, 8192, b"\x44\x42\x47\x43\x29\0\0\0\0\0\0\0")
 }
 
 // A load whose growth is refused says so and leaves the store; one that finds memory lists what was written.
 #[test]
-fn a_refused_growth_leaves_the_store(rt: HostRuntime) -> Result<(), Fail> {
+fn a_refused_growth_leaves_the_store(rt: HostRuntime) {
     let mut store = fresh(&rt, &[]);
     let mut blk = reload(&rt, &mut store);
     assert!(rt; write_both(&mut blk, &mut store) == Ok(()));
     append(&rt, &mut blk, &mut store, BlkRing::Pmsg, b"de", Ok(()));
     match load(rt.alloc(), &mut store, LAYOUT) {
         Ok(blk) => {
-            assert!(rt; blk.time(0) == Some(TIME));
-            assert!(rt; holds_at(&store, 4096, b"\x46\x42\x47\x43\0\0\0\0\0\0\0\0abc"));
+            let erased = b"\x46\x42\x47\x43\0\0\0\0\0\0\0\0abc";
+            assert!(rt; blk.time(0) == Some(TIME) && holds_at(&store, 4096, erased));
         }
-        Err(fault) => {
-            assert!(rt; fault == BlkFault::Memory);
-            assert!(rt; holds_at(&store, 0, b"\x43\x42\x47\x43\x02\0\0\0\x02\0\0\0de"));
-            assert!(rt; holds_at(&store, 4096, b"\x46\x42\x47\x43\x03\0\0\0\x03\0\0\0abc"));
-            assert!(rt; holds_at(&store, 8192, b"\x44\x42\x47\x43\x29\0\0\0\0\0\0\0"));
-        }
+        Err(fault) => assert!(rt; fault == BlkFault::Memory && holds_written(&store)),
     }
-    Ok(())
 }
