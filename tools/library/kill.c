@@ -38,12 +38,15 @@ struct page {
 	volatile uint32_t ready;
 };
 
-/* A zone, and what its data and words must be after all lines that were applied. */
+/*
+ * A zone, and what its data and words must be after all lines that were applied. A block is stale if a line was cut in
+ * it: its parity is still that of its settled data.
+ */
 struct model {
 	struct zone zone;
 	uint32_t start, size;
 	uint64_t applied;
-	uint8_t data[MOST], stale[BLOCKS];
+	uint8_t data[MOST], settled[MOST], stale[BLOCKS];
 };
 
 /* The bytes of a line that a zone keeps, and the ring's places that they go to. */
@@ -123,6 +126,15 @@ static uint32_t size_after(const struct model *m, const struct run *run)
 	return m->size + run->len < cap ? m->size + run->len : cap;
 }
 
+/* The parity of a block is that of its data now. */
+static void settle(struct model *m, uint32_t b)
+{
+	uint32_t at = b * m->zone.place.block, cap = m->zone.place.cap;
+	uint32_t left = at < cap ? cap - at : 0;
+	memcpy(m->settled + at, m->data + at, left < m->zone.place.block ? left : m->zone.place.block);
+	m->stale[b] = 0;
+}
+
 static void apply(struct model *m, const struct run *run)
 {
 	uint32_t cap = m->zone.place.cap;
@@ -130,7 +142,7 @@ static void apply(struct model *m, const struct run *run)
 		m->data[(m->start + i) % cap] = run->bytes[i];
 	for (uint32_t b = 0; b < m->zone.place.blocks; b++)
 		if (run->touches[b])
-			m->stale[b] = 0;
+			settle(m, b);
 	m->size = size_after(m, run);
 	m->start = (m->start + run->len) % cap;
 	m->applied++;
@@ -251,7 +263,10 @@ static unsigned long *check_words(unsigned z, int flies, const struct oopsbox_zo
 	return &counts.new;
 }
 
-/* Each byte of the log is the model's; at the places of the line in flight it may be the line's. */
+/*
+ * Each byte of the log is the model's; at the places of the line in flight it may be the line's. A stale block can come
+ * within half the parity of its settled data again, by the line in flight or by damage. Then it reads so.
+ */
 static void check_bytes(unsigned z, int flies, const struct reading *reading)
 {
 	const struct model *m = &models[z];
@@ -265,6 +280,8 @@ static void check_bytes(unsigned z, int flies, const struct reading *reading)
 		place -= place >= log ? log : 0;
 		uint32_t in_run = (place + cap - m->start) % cap;
 		if (reading->log[i] == m->data[place] || (flies && in_run < run->len && reading->log[i] == run->bytes[in_run]))
+			continue;
+		if (m->stale[place / m->zone.place.block] && reading->log[i] == m->settled[place])
 			continue;
 		fails("zone %u: byte %u of the log is %02x, not %02x", z, i, reading->log[i], m->data[place]);
 	}
@@ -480,6 +497,9 @@ static void take_over(unsigned z, int flies)
 	for (uint32_t b = 0; flies && b < m->zone.place.blocks; b++)
 		m->stale[b] |= runs[z].touches[b];
 	memcpy(m->data, m->zone.bytes + 12, m->zone.place.cap);
+	for (uint32_t b = 0; b < m->zone.place.blocks; b++)
+		if (!m->stale[b])
+			settle(m, b);
 	m->start = now.answer.start;
 	m->size = now.answer.size;
 	m->applied = page->done[z] = page->begun[z];
