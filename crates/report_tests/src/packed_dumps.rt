@@ -1,5 +1,5 @@
 // Images of one compressed dump, for the tests of each crate.
-use crate::whole_reports;
+use crate::whole_reports::{self, BARE};
 use ramoops_layout::Params;
 use record_report::Report;
 use std::alloc::Global;
@@ -22,17 +22,7 @@ pub const DAMAGED: [u8; 12] = [
 pub const PARAMS: Params = Params {
     mem: 256,
     dump: 256,
-    console: 0,
-    ftrace: 0,
-    pmsg: 0,
-    ecc: 0,
-    cpus: 1,
-    ftrace_sig: 0,
-    block: 128,
-    ecc_dump: 0,
-    ecc_console: 0,
-    ecc_ftrace: 0,
-    ecc_pmsg: 0,
+    ..BARE
 };
 
 /// The image of a dump of these bytes, whose time line says that they are compressed.

@@ -1,5 +1,5 @@
 // Android's log and an ftrace log, as people read them.
-use crate::whole_reports::{has, line_of, page_of, report_by, text_on};
+use crate::whole_reports::{BARE, has, line_of, page_of, report_by, text_on};
 use ramoops_layout::Params;
 use record_report::{RecordReport, Report};
 use std::alloc::Global;
@@ -39,19 +39,10 @@ CPU:3 ts:4712 00000010  00000000  0x10 <- 0x0
 
 fn params(pmsg: u64, ftrace: u64) -> Params {
     Params {
-        mem: 4096,
-        dump: 0,
-        console: 0,
         ftrace,
         pmsg,
-        ecc: 0,
-        cpus: 1,
         ftrace_sig: 0x601c0,
-        block: 128,
-        ecc_dump: 0,
-        ecc_console: 0,
-        ecc_ftrace: 0,
-        ecc_pmsg: 0,
+        ..BARE
     }
 }
 

@@ -1,8 +1,7 @@
 // Worked images: what their reports hold.
 use crate::packed_dumps::{DAMAGED, TEXT, WHOLE, report_on};
-use crate::whole_reports;
+use crate::whole_reports::{self, console};
 use inflate_spec::Fault;
-use ramoops_layout::Params;
 use record_report::*;
 use std::alloc::Global;
 use std::process::Abort;
@@ -20,25 +19,6 @@ const PARITY_OF_ABC: [u8; 16] = [
     0x1f, 0x26, 0x9b, 0x69, 0xe2, 0x69, 0x57, 0x21, 0x4c, 0x75, 0xf6, 0x85, 0xb7, 0xc5, 0x2c, 0x42,
 ];
 
-// One console zone of 4096 bytes: 29 blocks, their parity from 3616 on, the header's from 4080 on.
-fn console() -> Params {
-    Params {
-        mem: 4096,
-        dump: 0,
-        console: 4096,
-        ftrace: 0,
-        pmsg: 0,
-        ecc: 16,
-        cpus: 1,
-        ftrace_sig: 0,
-        block: 128,
-        ecc_dump: 16,
-        ecc_console: 16,
-        ecc_ftrace: 16,
-        ecc_pmsg: 16,
-    }
-}
-
 fn put(bytes: &mut Vec<u8>, at: usize, piece: &[u8]) {
     for (i, b) in piece.iter().enumerate() {
         if let Some(place) = bytes.get_mut(at.wrapping_add(i)) {
@@ -51,14 +31,15 @@ fn dump(packed: bool) -> Name {
     Name::Dump { index: 0, packed }
 }
 
-// The report of the console zone with this record's text.
+// The report of the console zone with this record's text. It has 29 blocks, their parity from 3616 on, the header's
+// from 4080 on.
 fn reported(alloc: Global, text: &[u8]) -> Result<Report, Fail> {
     let mut bytes = vec![in alloc; 0u8; 4096]?;
     put(&mut bytes, 0, &HEADER_OF_3);
     put(&mut bytes, 12, text);
     put(&mut bytes, 3616, &PARITY_OF_ABC);
     put(&mut bytes, 4080, &PARITY_OF_3);
-    whole_reports::report_on(alloc, &console(), bytes)
+    whole_reports::report_on(alloc, &console(16), bytes)
 }
 
 fn assert_blocks(rt: &impl Abort, report: &Report, block: PartState, corrected: u32, bad: u32) {

@@ -1,6 +1,6 @@
 // Pages and escaped bytes.
 use crate::packed_dumps::{self, DAMAGED, WHOLE};
-use crate::whole_reports::{has, page_of, report_on};
+use crate::whole_reports::{console, has, page_of, report_on};
 use crate::worked_deaths::{self, CONSOLE, FATAL, NAMED, NONE, OOPS, PANIC, SILENT};
 use ramoops_layout::Params;
 use report_html::*;
@@ -28,28 +28,9 @@ fn escaped_rows(rt: HostRuntime) -> Result<(), Fail> {
     Ok(())
 }
 
-// One console zone, with so many bytes of parity.
-fn one_console(ecc: u64) -> Params {
-    Params {
-        mem: 4096,
-        dump: 0,
-        console: 4096,
-        ftrace: 0,
-        pmsg: 0,
-        ecc,
-        cpus: 1,
-        ftrace_sig: 0,
-        block: 128,
-        ecc_dump: ecc,
-        ecc_console: ecc,
-        ecc_ftrace: ecc,
-        ecc_pmsg: ecc,
-    }
-}
-
 /// The page of an image of a console with so many bytes of parity.
 fn console_page(alloc: Global, ecc: u64, bytes: Vec<u8>) -> Result<Vec<u8>, Fail> {
-    let params = one_console(ecc);
+    let params = console(ecc);
     let report = report_on(alloc, &params, bytes)?;
     page_of(alloc, b"a<b", &params, &report)
 }

@@ -1,28 +1,13 @@
 // Lines of worked images.
 use crate::packed_dumps::{self, DAMAGED, WHOLE};
-use crate::whole_reports::{line_of, report_on};
+use crate::whole_reports::{console, line_of, report_on};
 use crate::worked_deaths::{self, CONSOLE, FATAL, NAMED, NONE, PANIC};
-use ramoops_layout::Params;
 use std::alloc::Global;
 use std::test::Fail;
 
 // The line of an image of one console zone, whose record is this text.
 fn line_of_console(alloc: Global, text: &[u8]) -> Result<String, Fail> {
-    let params = Params {
-        mem: 4096,
-        dump: 0,
-        console: 4096,
-        ftrace: 0,
-        pmsg: 0,
-        ecc: 0,
-        cpus: 1,
-        ftrace_sig: 0,
-        block: 128,
-        ecc_dump: 0,
-        ecc_console: 0,
-        ecc_ftrace: 0,
-        ecc_pmsg: 0,
-    };
+    let params = console(0);
     let mut bytes = Vec::new(alloc);
     bytes.extend_from_slice(&[0x44, 0x42, 0x47, 0x43, 3, 0, 0, 0, 3, 0, 0, 0])?;
     bytes.extend_from_slice(text)?;

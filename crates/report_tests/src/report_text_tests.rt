@@ -1,6 +1,6 @@
 // Texts of worked images, and dates in them.
 use crate::packed_dumps::{self, DAMAGED, WHOLE};
-use crate::whole_reports::{has, text_on};
+use crate::whole_reports::{BARE, has, text_on};
 use crate::worked_deaths::{self, CONSOLE, NAMED, NONE, OOPS, PANIC};
 use outside::Bytes;
 use ramoops_layout::Params;
@@ -12,16 +12,7 @@ const PARAMS: Params = Params {
     mem: 8192,
     dump: 4096,
     console: 4096,
-    ftrace: 0,
-    pmsg: 0,
-    ecc: 0,
-    cpus: 1,
-    ftrace_sig: 0,
-    block: 128,
-    ecc_dump: 0,
-    ecc_console: 0,
-    ecc_ftrace: 0,
-    ecc_pmsg: 0,
+    ..BARE
 };
 
 const TEXT: &str = "a\\x1bb

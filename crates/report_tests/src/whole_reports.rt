@@ -9,6 +9,36 @@ use std::alloc::Global;
 use std::test::Fail;
 use symbols::Symbols;
 
+/// Memory of 4096 bytes in blocks of 128, without parity and without a zone.
+pub const BARE: Params = Params {
+    mem: 4096,
+    dump: 0,
+    console: 0,
+    ftrace: 0,
+    pmsg: 0,
+    ecc: 0,
+    cpus: 1,
+    ftrace_sig: 0,
+    block: 128,
+    ecc_dump: 0,
+    ecc_console: 0,
+    ecc_ftrace: 0,
+    ecc_pmsg: 0,
+};
+
+/// A console of 4096 bytes, with so many bytes of parity.
+pub fn console(ecc: u64) -> Params {
+    Params {
+        console: 4096,
+        ecc,
+        ecc_dump: ecc,
+        ecc_console: ecc,
+        ecc_ftrace: ecc,
+        ecc_pmsg: ecc,
+        ..BARE
+    }
+}
+
 /// The report on an image of this layout.
 pub fn report_by(
     alloc: Global,

@@ -1,5 +1,5 @@
 // Images of three dumps and a console, for the tests of why a machine died.
-use crate::whole_reports;
+use crate::whole_reports::{self, BARE};
 use ramoops_layout::Params;
 use record_report::Report;
 use std::alloc::Global;
@@ -43,19 +43,9 @@ pub const NAMED: &[u8] = b"====1764201858.836908-D\nPanic#1 Part1\n\
 
 // Three dumps of 1024 bytes and a console of 1024.
 pub const PARAMS: Params = Params {
-    mem: 4096,
     dump: 1024,
     console: 1024,
-    ftrace: 0,
-    pmsg: 0,
-    ecc: 0,
-    cpus: 1,
-    ftrace_sig: 0,
-    block: 128,
-    ecc_dump: 0,
-    ecc_console: 0,
-    ecc_ftrace: 0,
-    ecc_pmsg: 0,
+    ..BARE
 };
 
 /// The image of zones with these logs.
