@@ -1,7 +1,8 @@
 -- What the decoder answers of a word, by its nearest codeword
-use Rattle.std.specs.Prelude.{ℕ, zero, suc, ◌==◌, if◌then◌else◌, nat_le, List, [], ◌∷◌, Option, Some, None}
+use Rattle.std.specs.Prelude.{ℕ, zero, suc, ◌==◌, if◌then◌else◌, nat_le, List, [], ◌∷◌, length, Option, Some, None}
 use Rattle.code_spec.specs.Field.{gf_add}
-use Rattle.code_spec.specs.Code.{distance}
+use Rattle.code_spec.specs.Code.{distance, parity_of}
+use Rattle.code_laws.proofs.Symbols.{IsAdded}
 use Rattle.rs_decode.specs.declared.Fix.{Fix}
 use Rattle.rs_decode.specs.declared.Decoded.{Decoded}
 use Rattle.rs_decode.specs.declared.Decoded.TheVariants.{Clean, Fixed, Bad}
@@ -29,3 +30,7 @@ fixes_by w (Some c) = differences 0 w c
 unfoldable pub within : ℕ → List ℕ → Option (List ℕ) → Option (List ℕ)
 within most w None = None
 within most w (Some c) = if nat_le (distance w c) most then Some c else None
+
+-- the sum of the parity p and that of the message m: all zero exactly where the two are a codeword
+abbrev pub IsExcess : List ℕ → List ℕ → List ℕ → Type 0
+IsExcess m p e = IsAdded 1 e (parity_of (length p) m) p

@@ -1,5 +1,5 @@
 -- The words of the decoder's own functions: lists of fixes, and what they make of a word
-use Rattle.std.specs.Prelude.{ℕ, ◌≡◌, ◌+◌, ◌-◌, ◌<◌, ◌==◌, if◌then◌else◌, List, [], ◌∷◌, length, slice_index, slice_set}
+use Rattle.std.specs.Prelude.{ℕ, suc, ◌≡◌, ◌+◌, ◌-◌, ◌<◌, ◌==◌, if◌then◌else◌, List, [], ◌∷◌, length, slice_index, slice_set}
 use Rattle.code_spec.specs.Field.{gf_add, gf_mul, gf_pow}
 use Rattle.code_spec.specs.Code.{value_of}
 pub use Rattle.code_laws.proofs.Symbols.{Symbols}
@@ -40,3 +40,7 @@ fix_sum n (f ∷ fs) x = gf_add (gf_mul f.mask (gf_pow x (n - 1 - f.place))) (fi
 -- the differing places with their masks
 abbrev pub fixes_between : List ℕ → List ℕ → List Fix
 fixes_between w c = fixes_from (length w) (word_sum w c)
+
+-- the values of v at the reciprocals of the powers below n, from the highest on, as far as they go
+pub record AreValues (v : List ℕ) (n : ℕ) (values : List ℕ) : Type 0 where
+  pub at : (k m : ℕ) → k < length values → k + suc m ≡ n → slice_index values k ≡ value_of v (gf_pow 2 (255 - m))

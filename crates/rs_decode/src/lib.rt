@@ -6,22 +6,25 @@
 
 ghost use Rattle.std.specs.Prelude.{◌≡◌, ◌≢◌, ◌+◌, ◌-◌, ◌/◌, ◌≤◌, ◌<◌, ◌↔◌, ℕ, ◌++◌, length, slice_index, slice_set, take, drop, reverse, List, true, false, IsTrue, None, unwrap_or};
 ghost use Rattle.code_spec.specs.Field.{gf_add, gf_mul, gf_pow};
-ghost use Rattle.code_spec.specs.Code.{value_of, distance, nearest, parity_of};
+ghost use Rattle.code_spec.specs.Code.{IsCodeword, value_of, distance, nearest};
 ghost use Rattle.decoder_laws.specs.Polynomials.{poly, LeadingZeros};
 ghost use Rattle.decoder_laws.specs.Series.{shift, one, Bytes};
-ghost use Rattle.code_laws.proofs.Symbols.{HasRoots, IsAdded};
+ghost use Rattle.code_laws.proofs.Symbols.{HasRoots};
 ghost use Rattle.rs_encode.specs.Lanes.{IsLent};
-ghost use Rattle.rs_decode.specs.Decoding.{decoded_by, fixes_by, within};
+ghost use Rattle.rs_decode.specs.Decoding.{decoded_by, fixes_by, within, IsExcess};
 ghost use Rattle.decoder_laws.specs.Chien.{roots_of, PowersBelow};
 ghost use Rattle.decoder_laws.specs.Forney.{gap_ratio, Below255};
-ghost use Rattle.rs_decode.specs.Fixes.{AreFixes, AllInside, fixes_from, applied, fixes_between, fix_sum};
+ghost use Rattle.rs_decode.specs.Fixes.{AreFixes, AreValues, AllInside, fixes_from, applied, fixes_between, fix_sum};
 ghost use Rattle.decoder_laws.specs.Damage.{IsDamage, IsWithin};
 ghost use Rattle.decoder_laws.specs.Euclid.{IsStep, IsSolution};
+
+mod lanes;
 
 use arrayvec::ArrayVec;
 use gf_poly::{rising_values, syndromes, values_at};
 use gf256::{add, alpha_pow, antilog, inv, log, mul, mul_pow_by_bits, pow_ratio};
-use rs_encode::{Parity, is_parity_by, parity_by};
+use lanes::{move_on, scale, value_bytes};
+use rs_encode::{Parity, is_parity_by, parity_by, parity_pair_by};
 
 /// A place of a word, from 0 at its first symbol on, and the mask that corrects it by exclusive-or, which is not 0.
 #[derive(Clone, Copy, Debug, Default, PartialEq, Eq)]
@@ -248,10 +251,9 @@ fn solve(t: usize, syndromes: &[u8]) -> Solution
     euclid(t, rest_a, factor_a, rest_b, factor_b)
 }
 
-/// The powers of the word's own places at which the locator is zero, from the highest on: Chien's search,
-/// on 64 places at once.
+/// As [`own_roots`], for a locator of any length: by Horner's rule on 64 places at once.
 #[inline(never)]
-fn own_roots(locator: &[u8], places: usize, powers: &mut ArrayVec<u8, 63>)
+fn many_roots(locator: &[u8], places: usize, powers: &mut ArrayVec<u8, 63>)
     requires some { 0 < length locator.now }
     requires fits { length locator.now ≤ 64 }
     requires places { places ≤ 255 }
@@ -271,6 +273,80 @@ fn own_roots(locator: &[u8], places: usize, powers: &mut ArrayVec<u8, 63>)
         if values[place % 64] == 0 {
             powers.push(power);
         }
+    }
+}
+
+/// Adds to the first `count` of `found` the powers below `left` at whose reciprocals a polynomial is zero, from the highest
+/// on, of as many as there are values of it, and returns how many there are then. It stores before it counts, with no
+/// branch that a root would turn.
+fn take_roots(values: &[u8], left: usize, found: &mut [u8], count: usize) -> usize
+    requires some { length values.now ≤ left }
+    requires few { left ≤ 255 }
+    requires room { count + length values.now ≤ length found.old }
+    ensures more { result ≤ count + length values.now }
+    ensures roots { (v : List ℕ) → AreValues v left values.now
+        → take result found.new ++ roots_of v (left - length values.now) ≡ take count found.old ++ roots_of v left }
+{
+    let mut n = count;
+    for k in 0..values.len() {
+        found[n] = (left - 1 - k) as u8;
+        if values[k] == 0 {
+            n += 1;
+        }
+    }
+    n
+}
+
+/// As [`own_roots`], for a locator of few symbols: its values at 16 places at once, by a table.
+#[inline(never)]
+fn few_roots(locator: &[u8], places: usize, powers: &mut ArrayVec<u8, 63>)
+    requires some { 0 < length locator.now }
+    requires few { length locator.now ≤ 16 }
+    requires places { places ≤ 255 }
+    ensures { powers.new.items ≡ take (length locator.now - 1) (roots_of locator.now places) }
+{
+    let degree = locator.len() - 1;
+    let mut buffer = [0u8; 16];
+    let terms = &mut buffer[..locator.len()];
+    scale(locator, 256 - places, terms);
+    let mut found = [0u8; 256];
+    let mut count = 0usize;
+    for block in 0..places / 16 {
+        if count >= degree {
+            take_front(&found, degree, powers);
+            return;
+        }
+        count = take_roots(&value_bytes(terms), places - 16 * block, &mut found, count);
+        move_on(terms);
+    }
+    if count < degree {
+        let left = places % 16;
+        count = take_roots(&value_bytes(terms)[..left], left, &mut found, count);
+    }
+    take_front(&found, count.min(degree), powers);
+}
+
+/// Makes `powers` the first `count` of `found`.
+fn take_front(found: &[u8], count: usize, powers: &mut ArrayVec<u8, 63>)
+    requires few { count ≤ 63 }
+    requires within { count ≤ length found.now }
+    ensures { powers.new.items ≡ take count found.now }
+{
+    powers.clear();
+    let _room = powers.try_extend_from_slice(&found[..count]);
+}
+
+/// The powers of the word's own places at which the locator is zero, from the highest on: Chien's search.
+fn own_roots(locator: &[u8], places: usize, powers: &mut ArrayVec<u8, 63>)
+    requires some { 0 < length locator.now }
+    requires fits { length locator.now ≤ 64 }
+    requires places { places ≤ 255 }
+    ensures { powers.new.items ≡ take (length locator.now - 1) (roots_of locator.now places) }
+{
+    if locator.len() <= 16 {
+        few_roots(locator, places, powers);
+    } else {
+        many_roots(locator, places, powers);
     }
 }
 
@@ -422,13 +498,79 @@ fn excess(rows: &[u128], msg: &[u8], par: &[u8], out: &mut [u8])
     requires fits { length msg.now + length par.now ≤ 255 }
     requires table { IsLent (length par.now) rows.now }
     requires len { length out.old ≡ length par.now }
-    ensures { IsAdded 1 out.new (parity_of (length par.now) msg.now) par.now }
+    ensures { IsExcess msg.now par.now out.new }
 {
     parity_by(rows, msg, out);
     add_symbols(out, par);
 }
 
-/// Tells whether the word is no codeword, and then makes `values` its syndromes, which are those of the excess alone.
+/// Makes `out_a` the sum of `par_a` and the parity of `a`, and `out_b` that of `par_b` and the parity of `b`, and tells of
+/// each whether all is zero: the two are a codeword. [`decode_excess`] goes on from there. Up to 16 parity symbols, and
+/// by a table, the two are worked out side by side.
+pub fn excess_pair_by(
+    rows: &[u128],
+    a: &[u8],
+    par_a: &[u8],
+    b: &[u8],
+    par_b: &[u8],
+    out_a: &mut [u8],
+    out_b: &mut [u8],
+) -> (bool, bool)
+    requires some { 1 ≤ length par_a.now }
+    requires few { length par_a.now ≤ 127 }
+    requires same_par { length par_b.now ≡ length par_a.now }
+    requires same { length b.now ≡ length a.now }
+    requires fits { length a.now + length par_a.now ≤ 255 }
+    requires table { IsLent (length par_a.now) rows.now }
+    requires len_a { length out_a.old ≡ length par_a.now }
+    requires len_b { length out_b.old ≡ length par_a.now }
+    ensures a { IsTrue result.0 ↔ IsCodeword (length par_a.now) (a.now ++ par_a.now) }
+    ensures b { IsTrue result.1 ↔ IsCodeword (length par_a.now) (b.now ++ par_b.now) }
+    ensures excess_a { IsExcess a.now par_a.now out_a.new }
+    ensures excess_b { IsExcess b.now par_b.now out_b.new }
+{
+    parity_pair_by(rows, a, b, out_a, out_b);
+    add_symbols(out_a, par_a);
+    add_symbols(out_b, par_b);
+    let is_a = all_zero(out_a);
+    let is_b = all_zero(out_b);
+    (is_a, is_b)
+}
+
+/// The values of the excess: few by a table.
+fn excess_values(excess: &[u8], values: &mut [u8])
+    requires few { length excess.now ≤ 127 }
+    requires len { length values.old ≡ length excess.now }
+    ensures { (k : ℕ) → k < length values.new → slice_index values.new k ≡ value_of excess.now (gf_pow 2 k) }
+{
+    if excess.len() <= 16 {
+        values.copy_from_slice(&value_bytes(excess)[..excess.len()]);
+    } else {
+        syndromes(&excess[..0], excess, values);
+    }
+}
+
+/// Tells whether the word with this excess is no codeword, and then makes `values` its syndromes, which are those of the
+/// excess alone.
+fn has_values_of(excess: &[u8], msg: &[u8], par: &[u8], values: &mut [u8]) -> bool
+    requires some { 1 ≤ length par.now }
+    requires few { length par.now ≤ 127 }
+    requires fits { length msg.now + length par.now ≤ 255 }
+    requires excess { IsExcess msg.now par.now excess.now }
+    requires len { length values.old ≡ length par.now }
+    ensures clean { result ≡ false → HasRoots (length par.now) (msg.now ++ par.now) }
+    ensures damaged { result ≡ true → ¬ HasRoots (length par.now) (msg.now ++ par.now) }
+    ensures values { result ≡ true → (k : ℕ) → k < length par.now
+        → slice_index values.new k ≡ value_of (msg.now ++ par.now) (gf_pow 2 k) }
+{
+    if all_zero(excess) {
+        return false;
+    }
+    excess_values(excess, values);
+    true
+}
+
+/// Tells whether the word is no codeword, and then makes `values` its syndromes: by a table.
 #[inline(never)]
 fn has_excess(rows: &[u128], msg: &[u8], par: &[u8], values: &mut [u8]) -> bool
     requires some { 1 ≤ length par.now }
@@ -444,11 +586,7 @@ fn has_excess(rows: &[u128], msg: &[u8], par: &[u8], values: &mut [u8]) -> bool
     let mut buffer = [0u8; 127];
     let out = &mut buffer[..par.len()];
     excess(rows, msg, par, out);
-    if all_zero(out) {
-        return false;
-    }
-    syndromes(&msg[..0], out, values);
-    true
+    has_values_of(out, msg, par, values)
 }
 
 /// Tells whether the word is no codeword, and makes `values` its syndromes: without a table.
@@ -728,6 +866,74 @@ pub fn decode_within(
     decode_within_by(coder.rows(), most, msg, par, fixes)
 }
 
+/// Corrects `msg` where `damaged` tells that the word is no codeword, whose values are given.
+fn decode_values(
+    rows: &[u128],
+    most: usize,
+    msg: &mut [u8],
+    par: &[u8],
+    damaged: bool,
+    values: &mut [u8],
+    fixes: &mut ArrayVec<Fix, 63>,
+) -> Decoded
+    requires some_par { 1 ≤ length par.now }
+    requires few_par { length par.now ≤ 127 }
+    requires some_msg { 1 ≤ length msg.old }
+    requires fits { length msg.old + length par.now ≤ 255 }
+    requires table { IsLent (length par.now) rows.now }
+    requires most { most + most ≤ length par.now }
+    requires clean { damaged ≡ false → HasRoots (length par.now) (msg.old ++ par.now) }
+    requires wrong { damaged ≡ true → ¬ HasRoots (length par.now) (msg.old ++ par.now) }
+    requires len { length values.old ≡ length par.now }
+    requires values { damaged ≡ true → (k : ℕ) → k < length par.now
+        → slice_index values.old k ≡ value_of (msg.old ++ par.now) (gf_pow 2 k) }
+    ensures answer { let word = msg.old ++ par.now in
+        result ≡ decoded_by word (within most word (nearest (length par.now) word)) }
+    ensures data { let word = msg.old ++ par.now in msg.new
+        ≡ take (length msg.old) (unwrap_or (within most word (nearest (length par.now) word)) word) }
+    ensures fixes { let word = msg.old ++ par.now in
+        fixes.new.items ≡ fixes_by word (within most word (nearest (length par.now) word)) }
+{
+    fixes.clear();
+    if !damaged {
+        return Decoded::Clean;
+    }
+    if corrected(rows, most, msg, par, values, fixes) {
+        apply(msg, fixes.as_slice());
+        let count = fixes.len() as u8;
+        Decoded::Fixed(count)
+    } else {
+        fixes.clear();
+        Decoded::Bad
+    }
+}
+
+/// As [`decode_by`], from the sum of `par` and the parity of `msg`, as [`excess_pair_by`] makes it: nothing is encoded
+/// again.
+pub fn decode_excess(
+    rows: &[u128],
+    excess: &[u8],
+    msg: &mut [u8],
+    par: &[u8],
+    fixes: &mut ArrayVec<Fix, 63>,
+) -> Decoded
+    requires some_par { 1 ≤ length par.now }
+    requires few_par { length par.now ≤ 127 }
+    requires some_msg { 1 ≤ length msg.old }
+    requires fits { length msg.old + length par.now ≤ 255 }
+    requires table { IsLent (length par.now) rows.now }
+    requires excess { IsExcess msg.old par.now excess.now }
+    ensures answer { let word = msg.old ++ par.now in result ≡ decoded_by word (nearest (length par.now) word) }
+    ensures data { let word = msg.old ++ par.now in msg.new
+        ≡ take (length msg.old) (unwrap_or (nearest (length par.now) word) word) }
+    ensures fixes { let word = msg.old ++ par.now in fixes.new.items ≡ fixes_by word (nearest (length par.now) word) }
+{
+    let mut buffer = [0u8; 127];
+    let values = &mut buffer[..par.len()];
+    let damaged = has_values_of(excess, msg, par, values);
+    decode_values(rows, par.len() / 2, msg, par, damaged, values, fixes)
+}
+
 /// As [`decode_by`], but no more than `most` places are corrected.
 fn decode_within_by(
     rows: &[u128],
@@ -749,18 +955,8 @@ fn decode_within_by(
     ensures fixes { let word = msg.old ++ par.now in
         fixes.new.items ≡ fixes_by word (within most word (nearest (length par.now) word)) }
 {
-    fixes.clear();
     let mut buffer = [0u8; 127];
     let values = &mut buffer[..par.len()];
-    if !is_damaged(rows, msg, par, values) {
-        return Decoded::Clean;
-    }
-    if corrected(rows, most, msg, par, values, fixes) {
-        apply(msg, fixes.as_slice());
-        let count = fixes.len() as u8;
-        Decoded::Fixed(count)
-    } else {
-        fixes.clear();
-        Decoded::Bad
-    }
+    let damaged = is_damaged(rows, msg, par, values);
+    decode_values(rows, most, msg, par, damaged, values, fixes)
 }

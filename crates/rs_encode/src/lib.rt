@@ -429,6 +429,28 @@ pub fn are_parity_pair_by(
     }
 }
 
+/// Makes `out_a` the parity of `a` and `out_b` that of `b`. Up to 16 parity symbols, and by a table, this is faster than
+/// two calls of [`parity_by`].
+pub fn parity_pair_by(rows: &[u128], a: &[u8], b: &[u8], out_a: &mut [u8], out_b: &mut [u8])
+    requires some { 1 ≤ length out_a.old }
+    requires few { length out_a.old ≤ 127 }
+    requires same_out { length out_b.old ≡ length out_a.old }
+    requires same { length b.now ≡ length a.now }
+    requires fits { length a.now + length out_a.old ≤ 255 }
+    requires table { IsLent (length out_a.old) rows.now }
+    ensures a { out_a.new ≡ parity_of (length out_a.old) a.now }
+    ensures b { out_b.new ≡ parity_of (length out_b.old) b.now }
+{
+    if !rows.is_empty() && out_a.len() <= 16 {
+        let rests = rest_pair(rows, a, b);
+        write_lanes(&[rests.0], out_a);
+        write_lanes(&[rests.1], out_b);
+    } else {
+        parity_by(rows, a, out_a);
+        parity_by(rows, b, out_b);
+    }
+}
+
 /// The encoder for `r` parity symbols: the owner of their table. It holds 4 KiB; a caller with many messages keeps one.
 #[derive(Drop)]
 pub struct Parity {
@@ -484,14 +506,7 @@ impl Parity {
         ensures a { out_a.new ≡ parity_of self.now a.now }
         ensures b { out_b.new ≡ parity_of self.now b.now }
     {
-        if self.r <= 16 {
-            let rests = rest_pair(self.rows(), a, b);
-            write_lanes(&[rests.0], out_a);
-            write_lanes(&[rests.1], out_b);
-        } else {
-            self.parity(a, out_a);
-            self.parity(b, out_b);
-        }
+        parity_pair_by(self.rows(), a, b, out_a, out_b);
     }
 
     /// Whether `par` is the parity of `msg`.

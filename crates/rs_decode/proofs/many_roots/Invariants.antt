@@ -1,10 +1,10 @@
 -- The roots so far, and those of the places left, are the roots; the block's values stand ready.
--- For the loop of `own_roots`.
+-- For the loop of `many_roots`.
 use Rattle.std.proofs.Common.{◌≡◌, ◌≢◌, ◌≤◌, ◌<◌, ◌+◌, ◌-◌, ◌*◌, ◌/◌, ◌%◌, ◌++◌, ℕ, length, get_or, take}
 use Rattle.code_spec.specs.Field.{gf_pow}
 use Rattle.code_spec.specs.Code.{value_of}
 use Rattle.decoder_laws.specs.Chien.{roots_of}
-use Rattle.rs_decode.proofs.own_roots.Given as goal
+use Rattle.rs_decode.proofs.many_roots.Given as goal
 
 abbrev pub invariant-loop-place : goal.invariant-loop-place
 invariant-loop-place l = record {

@@ -1,5 +1,5 @@
 -- A codeword is clean, a mended word fixed and any other bad, with bytes and fixes as defined. For
--- `decode_within_by`.
+-- `decode_values`.
 use Rattle.std.proofs.Common.{ℕ, List, length, refl, sym, ap, ◌∙◌, ◌++◌}
 use Rattle.code_spec.specs.Code.{nearest}
 use Rattle.decoder_laws.specs.Damage.{IsWithin}
@@ -8,26 +8,26 @@ use Rattle.rs_decode.specs.declared.Fix.{Fix}
 use Rattle.rs_decode.specs.Decoding.{within}
 use Rattle.rs_decode.proofs.Applied.{length-fixes_between, take-applied}
 use Rattle.rs_decode.proofs.Decoding.{within_codeword, within_near, decoded_clean, decoded_fixed, decoded_bad, data_clean, data_fixed, data_bad, fixes_clean, fixes_fixed, fixes_bad}
-use Rattle.rs_decode.proofs.decode_within_by.Goals as goal
+use Rattle.rs_decode.proofs.decode_values.Goals as goal
 
-pub returns-then-not-is_damaged-clause-answer : goal.returns-then-not-is_damaged-clause-answer
-returns-then-not-is_damaged-clause-answer c =
+pub returns-then-not-damaged-clause-answer : goal.returns-then-not-damaged-clause-answer
+returns-then-not-damaged-clause-answer c =
     let W : List ℕ = c.args.msg.now ++ c.args.par.now in
     decoded_clean W (within c.args.most W (nearest (length c.args.par.now) W))
     (within_codeword c.args.most (length c.args.par.now) W
-    (c.is_damaged.ensures.clean c.if-not-is_damaged.true))
+    (c.requires.clean c.if-not-damaged.true))
 
-pub returns-then-not-is_damaged-clause-data : goal.returns-then-not-is_damaged-clause-data
-returns-then-not-is_damaged-clause-data c =
+pub returns-then-not-damaged-clause-data : goal.returns-then-not-damaged-clause-data
+returns-then-not-damaged-clause-data c =
     let W : List ℕ = c.args.msg.now ++ c.args.par.now in
     data_clean c.args.msg.now c.args.par.now (within c.args.most W (nearest (length c.args.par.now) W))
-    (within_codeword c.args.most (length c.args.par.now) W (c.is_damaged.ensures.clean c.if-not-is_damaged.true))
+    (within_codeword c.args.most (length c.args.par.now) W (c.requires.clean c.if-not-damaged.true))
 
-pub returns-then-not-is_damaged-clause-fixes : goal.returns-then-not-is_damaged-clause-fixes
-returns-then-not-is_damaged-clause-fixes c =
+pub returns-then-not-damaged-clause-fixes : goal.returns-then-not-damaged-clause-fixes
+returns-then-not-damaged-clause-fixes c =
     let W : List ℕ = c.args.msg.now ++ c.args.par.now in
     fixes_clean W c.clear.new.self.items (within c.args.most W (nearest (length c.args.par.now) W))
-    (within_codeword c.args.most (length c.args.par.now) W (c.is_damaged.ensures.clean c.if-not-is_damaged.true))
+    (within_codeword c.args.most (length c.args.par.now) W (c.requires.clean c.if-not-damaged.true))
     c.clear.ensures
 
 pub returns-then-corrected-clause-answer : goal.returns-then-corrected-clause-answer
