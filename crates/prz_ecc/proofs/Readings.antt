@@ -1,5 +1,5 @@
 -- A part's reading, by what the decoder answers of its word
-use Rattle.std.proofs.Common.{◌≡◌, ℕ, zero, suc, ◌+◌, ◌-◌, ◌≤◌, List, [], ◌++◌, length, take, drop, refl, sym, ap, subst, ◌∙◌, arith, Option, Some, None, unwrap_or, length-drop, length-take, Bool, true, eqb, IsTrue}
+use Rattle.std.proofs.Common.{◌≡◌, ℕ, zero, suc, ◌+◌, ◌-◌, ◌≤◌, List, [], ◌++◌, length, take, drop, refl, sym, ap, subst, subst₂, ◌∙◌, arith, Option, Some, None, unwrap_or, length-drop, length-take, Bool, true, eqb, IsTrue}
 use Rattle.std.proofs.lemmas.Bool.{eqb-true}
 use Rattle.std.specs.Prelude.{slice_range}
 use Rattle.std.proofs.Math.Seq.{take-append_seam}
@@ -7,10 +7,10 @@ use Rattle.code_spec.specs.Code.{IsCodeword, nearest, is_codeword, distance, par
 use Rattle.zone_spec.specs.declared.Zone.{Zone}
 use Rattle.zone_spec.specs.Parts.{Part, part_at, part_len, part_parity_at, part_bytes, part_word}
 use Rattle.zone_spec.specs.PartReadings.{part_reading, reading_by}
-use Rattle.rs_decode.specs.Decoding.{decoded_by, decoded_at, fixes_by}
+use Rattle.rs_decode.specs.Decoding.{decoded_by, decoded_at, fixes_by, IsExcess}
 use Rattle.rs_decode.specs.declared.Fix.{Fix}
 use Rattle.rs_decode.specs.declared.Decoded.{Decoded}
-use Rattle.prz_ecc.specs.Outcomes.{outcome, part_word_fixes, CountsAre}
+use Rattle.prz_ecc.specs.Outcomes.{outcome, part_word_fixes, CountsAre, IsPartExcess}
 
 -- ---- without parity
 pub parity_of-none : (r : ℕ) (m : List ℕ) → r ≡ 0 → parity_of r m ≡ []
@@ -131,3 +131,24 @@ pub codeword_is : (z : Zone) (image : List ℕ) (p : Part) (bytes par : List ℕ
 codeword_is z image p bytes par r t h e k =
     subst (λ (w : List ℕ). (IsTrue t → IsCodeword z.parity w) × (IsCodeword z.parity w → IsTrue t)) h.word
     (codeword_by (bytes ++ par) r z.parity t e k)
+
+-- ---- the excess of a part
+pub excess_to : (z : Zone) (image : List ℕ) (p : Part) (at : ℕ) (bytes par e : List ℕ) → bytes ≡ part_bytes z image p
+    → at ≡ part_parity_at z p → par ≡ slice_range image at (at + z.parity) → IsExcess bytes par e → IsPartExcess z image p e
+excess_to z image p at bytes par e own there is h =
+    subst₂ (λ (m q : List ℕ). IsExcess m q e) own
+    (is ∙ ap (λ (n : ℕ). slice_range image n (n + z.parity)) there) h
+
+pub excess_from : (z : Zone) (image : List ℕ) (p : Part) (at : ℕ) (bytes par e : List ℕ) → bytes ≡ part_bytes z image p
+    → at ≡ part_parity_at z p → par ≡ slice_range image at (at + z.parity) → IsPartExcess z image p e → IsExcess bytes par e
+excess_from z image p at bytes par e own there is h =
+    subst₂ (λ (m q : List ℕ). IsExcess m q e) (sym own)
+    (sym (is ∙ ap (λ (n : ℕ). slice_range image n (n + z.parity)) there)) h
+
+-- without parity the excess is empty
+pub excess-none : (m p e : List ℕ) → length p ≡ 0 → length e ≡ 0 → IsExcess m p e
+excess-none m p e lp le = record {
+  length_m = le ∙ sym (ap length (parity_of-none (length p) m lp));
+  length_b = le ∙ sym lp;
+  at = λ k l. absurd (omega arith);
+}

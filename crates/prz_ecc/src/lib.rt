@@ -5,18 +5,18 @@
 ghost use Rattle.std.specs.Prelude.{◌≡◌, ◌+◌, ◌*◌, ◌-◌, ◌<◌, ◌≤◌, ◌↔◌, ℕ, ◌++◌, length, take, min, slice_range, unwrap_or, IsTrue};
 ghost use Rattle.code_spec.specs.Code.{IsCodeword, nearest, parity_of};
 ghost use Rattle.rs_encode.specs.Lanes.{IsLent};
-ghost use Rattle.rs_decode.specs.Decoding.{decoded_by, fixes_by};
+ghost use Rattle.rs_decode.specs.Decoding.{decoded_by, fixes_by, IsExcess};
 ghost use Rattle.zone_spec.specs.Zones.{IsValidZone};
 ghost use Rattle.zone_spec.specs.Parts.{Header, Block, part_at, part_len, part_parity_at, part_bytes, part_word, words_in};
 ghost use Rattle.std.specs.Int.{from_le_bytes};
 ghost use Rattle.std.proofs.Common.{w32};
 ghost use Rattle.zone_spec.specs.PartReadings.{part_reading, words_read};
-ghost use Rattle.prz_ecc.specs.Outcomes.{outcome, part_word_fixes, CountsAre};
+ghost use Rattle.prz_ecc.specs.Outcomes.{outcome, part_word_fixes, CountsAre, IsPartExcess};
 
 use arrayvec::ArrayVec;
-use rs_decode::decode_by;
+use rs_decode::{decode_by, decode_excess, excess_pair_by};
 pub use rs_decode::{Decoded, Fix};
-use rs_encode::{Parity, are_parity_pair_by, parity_by};
+use rs_encode::{Parity, parity_by};
 use std::marker::Model;
 use zone_spec::{Words, Zone};
 
@@ -183,20 +183,62 @@ fn parity(table: &[u128], bytes: &[u8], r: u32, out: &mut ArrayVec<u8, 127>)
     }
 }
 
-/// Whether each of two lists of bytes has its parity. Without parity they have.
-fn is_parity_pair(table: &[u128], a: &[u8], par_a: &[u8], b: &[u8], par_b: &[u8]) -> (bool, bool)
+/// As [`correct`], from the sum of `par` and the parity of the bytes.
+fn correct_by(
+    table: &[u128],
+    excess: &[u8],
+    out: &mut ArrayVec<u8, 255>,
+    par: &[u8],
+    fixes: &mut ArrayVec<Fix, 63>,
+) -> Decoded
+    requires table { IsLent (length par.now) table.now }
+    requires few_par { length par.now ≤ 127 }
+    requires some { 1 ≤ length out.old.items }
+    requires few { length out.old.items ≤ 128 }
+    requires excess { IsExcess out.old.items par.now excess.now }
+    ensures len { length out.new.items ≡ length out.old.items }
+    ensures answer { let word = out.old.items ++ par.now in
+        result ≡ decoded_by word (nearest (length par.now) word) }
+    ensures data { let word = out.old.items ++ par.now in
+        out.new.items ≡ take (length out.old.items) (unwrap_or (nearest (length par.now) word) word) }
+    ensures fixes { let word = out.old.items ++ par.now in
+        fixes.new.items ≡ fixes_by word (nearest (length par.now) word) }
+{
+    if excess.is_empty() {
+        fixes.clear();
+        Decoded::Clean
+    } else {
+        decode_excess(table, excess, out.as_mut_slice(), par, fixes)
+    }
+}
+
+/// Makes `out_a` and `out_b` the sums of each parity and that of its bytes, and tells of each whether all is zero: the
+/// bytes have their parity. Without parity they have.
+fn sum_pair(
+    table: &[u128],
+    a: &[u8],
+    par_a: &[u8],
+    b: &[u8],
+    par_b: &[u8],
+    out_a: &mut [u8],
+    out_b: &mut [u8],
+) -> (bool, bool)
     requires table { IsLent (length par_a.now) table.now }
     requires few { length par_a.now ≤ 127 }
     requires same_par { length par_b.now ≡ length par_a.now }
     requires same { length b.now ≡ length a.now }
     requires fits { length a.now + length par_a.now ≤ 255 }
+    requires len_a { length out_a.old ≡ length par_a.now }
+    requires len_b { length out_b.old ≡ length par_a.now }
     ensures a { IsTrue result.0 ↔ IsCodeword (length par_a.now) (a.now ++ par_a.now) }
     ensures b { IsTrue result.1 ↔ IsCodeword (length par_a.now) (b.now ++ par_b.now) }
+    ensures excess_a { IsExcess a.now par_a.now out_a.new }
+    ensures excess_b { IsExcess b.now par_b.now out_b.new }
 {
     if par_a.is_empty() {
         (true, true)
     } else {
-        are_parity_pair_by(table, a, par_a, b, par_b)
+        excess_pair_by(table, a, par_a, b, par_b, out_a, out_b)
     }
 }
 
@@ -252,25 +294,65 @@ pub fn read_block(
     correct(table, out, par, fixes)
 }
 
-/// Whether block `b` and the one after it, two whole blocks, stand as codewords. Such a block reads as it stands.
-/// Up to 16 parity bytes, and by a table, this is faster than two reads.
-pub fn are_codewords(table: &[u128], image: &[u8], zone: &Zone, b: u32) -> (bool, bool)
+/// As [`read_block`], from the block's excess, as [`excess_pair`] makes it.
+pub fn read_block_by(
+    table: &[u128],
+    excess: &[u8],
+    image: &[u8],
+    zone: &Zone,
+    b: u32,
+    out: &mut ArrayVec<u8, 255>,
+    fixes: &mut ArrayVec<Fix, 63>,
+) -> Decoded
+    requires table { IsLent zone.now.parity table.now }
+    requires valid { IsValidZone zone.now }
+    requires size { length image.now ≡ zone.now.size }
+    requires block { zone.now.block * b < zone.now.cap }
+    requires excess { IsPartExcess zone.now image.now (Block b) excess.now }
+    ensures data { out.new.items ≡ (part_reading zone.now image.now (Block b)).bytes }
+    ensures outcome { result ≡ outcome zone.now image.now (Block b) }
+    ensures counts { CountsAre result (part_reading zone.now image.now (Block b)) }
+    ensures fixes { fixes.new.items ≡ part_word_fixes zone.now image.now (Block b) }
+{
+    let place = block_place(zone, b);
+    copy(bytes_at(image, place.at, place.len), out);
+    let par = bytes_at(image, place.parity_at, zone.parity);
+    correct_by(table, excess, out, par, fixes)
+}
+
+/// Whether block `b` and the one after it, two whole blocks, stand as codewords: such a block reads as it stands. `first`
+/// and `second` become their excesses, from which [`read_block_by`] goes on. Up to 16 parity bytes, and by a table, this
+/// is faster than two reads.
+pub fn excess_pair(
+    table: &[u128],
+    image: &[u8],
+    zone: &Zone,
+    b: u32,
+    first: &mut [u8],
+    second: &mut [u8],
+) -> (bool, bool)
     requires table { IsLent zone.now.parity table.now }
     requires valid { IsValidZone zone.now }
     requires size { length image.now ≡ zone.now.size }
     requires blocks { zone.now.block * (b + 2) ≤ zone.now.cap }
+    requires len_first { length first.old ≡ zone.now.parity }
+    requires len_second { length second.old ≡ zone.now.parity }
     ensures first { IsTrue result.0 ↔ IsCodeword zone.now.parity (part_word zone.now image.now (Block b)) }
     ensures second { IsTrue result.1
         ↔ IsCodeword zone.now.parity (part_word zone.now image.now (Block (b + 1))) }
+    ensures first_excess { IsPartExcess zone.now image.now (Block b) first.new }
+    ensures second_excess { IsPartExcess zone.now image.now (Block (b + 1)) second.new }
 {
-    let first = block_place(zone, b);
-    let second = block_place(zone, b + 1);
-    is_parity_pair(
+    let one = block_place(zone, b);
+    let other = block_place(zone, b + 1);
+    sum_pair(
         table,
-        bytes_at(image, first.at, first.len),
-        bytes_at(image, first.parity_at, zone.parity),
-        bytes_at(image, second.at, second.len),
-        bytes_at(image, second.parity_at, zone.parity),
+        bytes_at(image, one.at, one.len),
+        bytes_at(image, one.parity_at, zone.parity),
+        bytes_at(image, other.at, other.len),
+        bytes_at(image, other.parity_at, zone.parity),
+        first,
+        second,
     )
 }
 

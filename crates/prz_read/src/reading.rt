@@ -2,6 +2,8 @@
 ghost use Rattle.std.specs.Prelude.{◌≡◌, ◌+◌, ◌*◌, ◌≤◌, ◌<◌, ◌↔◌, length, true, IsTrue, IfOk};
 ghost use Rattle.code_spec.specs.Code.{IsCodeword};
 ghost use Rattle.zone_spec.specs.Parts.{Block, part_word};
+ghost use Rattle.zone_spec.specs.PartReadings.{part_reading};
+ghost use Rattle.prz_ecc.specs.Outcomes.{CountsAre, IsPartExcess};
 ghost use Rattle.zone_spec.specs.Zones.{IsValidZone};
 ghost use Rattle.zone_spec.specs.Reading.{zone_reading, state_of as state_for, log_read, IsRing};
 ghost use Rattle.zone_spec.specs.Boot.{keeps as keeps_zone, is_kept as is_kept_zone};
@@ -9,7 +11,7 @@ ghost use Rattle.report_spec.specs.Parts.{part_states};
 ghost use Rattle.prz_read.specs.Reads.{bytes_read, corrected_of, bad_of, corrected_below, bad_below, states_below};
 
 use crate::parts::{BlockStates, ZoneParts, part_state};
-use crate::span_parts::{are_codewords, read_block, read_header};
+use crate::span_parts::{excess_pair, read_block, read_block_by, read_header};
 use arrayvec::ArrayVec;
 use dump_records::read_line;
 use outside::Bytes;
@@ -126,6 +128,37 @@ impl Front {
         Ok(())
     }
 
+    /// Appends block `b`, which reads as these bytes with this outcome, after the blocks before it, as far as it lies below
+    /// `size`.
+    fn push_decoded(
+        &mut self,
+        span: &Span,
+        zone: &Zone,
+        b: u32,
+        size: u32,
+        block: &[u8],
+        outcome: Decoded,
+    ) -> Result<(), AllocError>
+        requires valid { IsValidZone zone.now }
+        requires len { length span.now ≡ zone.now.size }
+        requires within { size ≤ zone.now.cap }
+        requires block { zone.now.block * b < size }
+        requires data { block.now ≡ (part_reading zone.now span.now (Block b)).bytes }
+        requires counts { CountsAre outcome (part_reading zone.now span.now (Block b)) }
+        requires before { ReadsTo zone.now span.now size b self.old }
+        ensures reads { IfOk result (λ _. ReadsTo zone.now span.now size (b + 1) self.new) }
+        ensures wanted { IfOk result (λ _. self.new.states.are_wanted ≡ self.old.states.are_wanted) }
+    {
+        let _len = span.len();
+        let len = zone.block.min(size - zone.block * b);
+        self.bytes.extend_from_slice(&block[..len as usize])?;
+        let more = counts_of(outcome);
+        self.counts.corrected += more.corrected;
+        self.counts.bad += more.bad;
+        self.states.push(part_state(outcome))?;
+        Ok(())
+    }
+
     /// Appends block `b` as it reads after the blocks before it, as far as it lies below `size`.
     fn push_read(
         &mut self,
@@ -144,24 +177,43 @@ impl Front {
         ensures reads { IfOk result (λ _. ReadsTo zone.now span.now size (b + 1) self.new) }
         ensures wanted { IfOk result (λ _. self.new.states.are_wanted ≡ self.old.states.are_wanted) }
     {
-        let _len = span.len();
         let mut block: ArrayVec<u8, 255> = ArrayVec::new();
         let mut fixes: ArrayVec<Fix, 63> = ArrayVec::new();
         let outcome = read_block(coder, span, zone, b, &mut block, &mut fixes);
-        let len = zone.block.min(size - zone.block * b);
-        self.bytes
-            .extend_from_slice(&block.as_slice()[..len as usize])?;
-        let more = counts_of(outcome);
-        self.counts.corrected += more.corrected;
-        self.counts.bad += more.bad;
-        self.states.push(part_state(outcome))?;
-        Ok(())
+        self.push_decoded(span, zone, b, size, block.as_slice(), outcome)
+    }
+
+    /// As [`Front::push_read`], from the block's excess.
+    fn push_damaged(
+        &mut self,
+        coder: &Coder,
+        excess: &[u8],
+        span: &Span,
+        zone: &Zone,
+        b: u32,
+        size: u32,
+    ) -> Result<(), AllocError>
+        requires coder { coder.now ≡ zone.now.parity }
+        requires valid { IsValidZone zone.now }
+        requires len { length span.now ≡ zone.now.size }
+        requires within { size ≤ zone.now.cap }
+        requires block { zone.now.block * b < size }
+        requires excess { IsPartExcess zone.now span.now (Block b) excess.now }
+        requires before { ReadsTo zone.now span.now size b self.old }
+        ensures reads { IfOk result (λ _. ReadsTo zone.now span.now size (b + 1) self.new) }
+        ensures wanted { IfOk result (λ _. self.new.states.are_wanted ≡ self.old.states.are_wanted) }
+    {
+        let mut block: ArrayVec<u8, 255> = ArrayVec::new();
+        let mut fixes: ArrayVec<Fix, 63> = ArrayVec::new();
+        let outcome = read_block_by(coder, excess, span, zone, b, &mut block, &mut fixes);
+        self.push_decoded(span, zone, b, size, block.as_slice(), outcome)
     }
 
     /// Appends block `b`, of which `is_clean` tells whether it stands as a codeword.
     fn push(
         &mut self,
         coder: &Coder,
+        excess: &[u8],
         span: &Span,
         zone: &Zone,
         b: u32,
@@ -174,6 +226,7 @@ impl Front {
         requires within { size ≤ zone.now.cap }
         requires block { zone.now.block * b < size }
         requires clean { IsTrue is_clean ↔ IsCodeword zone.now.parity (part_word zone.now span.now (Block b)) }
+        requires excess { IsPartExcess zone.now span.now (Block b) excess.now }
         requires before { ReadsTo zone.now span.now size b self.old }
         ensures reads { IfOk result (λ _. ReadsTo zone.now span.now size (b + 1) self.new) }
         ensures wanted { IfOk result (λ _. self.new.states.are_wanted ≡ self.old.states.are_wanted) }
@@ -181,7 +234,7 @@ impl Front {
         if is_clean {
             self.push_standing(span, zone, b, size)
         } else {
-            self.push_read(coder, span, zone, b, size)
+            self.push_damaged(coder, excess, span, zone, b, size)
         }
     }
 
@@ -203,11 +256,21 @@ impl Front {
         ensures reads { IfOk result (λ _. ReadsTo zone.now span.now size (2 * count) self.new) }
         ensures wanted { IfOk result (λ _. self.new.states.are_wanted ≡ self.old.states.are_wanted) }
     {
+        let mut one = [0u8; 127];
+        let mut other = [0u8; 127];
+        let parity = zone.parity as usize;
         for pair in 0..count {
             let b = 2 * pair;
-            let (first, second) = are_codewords(coder, span, zone, b);
-            self.push(coder, span, zone, b, size, first)?;
-            self.push(coder, span, zone, b + 1, size, second)?;
+            let (first, second) = excess_pair(
+                coder,
+                span,
+                zone,
+                b,
+                &mut one[..parity],
+                &mut other[..parity],
+            );
+            self.push(coder, &one[..parity], span, zone, b, size, first)?;
+            self.push(coder, &other[..parity], span, zone, b + 1, size, second)?;
         }
         Ok(())
     }

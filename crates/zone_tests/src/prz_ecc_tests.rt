@@ -6,7 +6,7 @@ ghost use Rattle.rs_encode.specs.Lanes.{IsLent};
 
 use arrayvec::ArrayVec;
 use prz_ecc::{
-    Coder, Decoded, Fix, are_codewords, block_parity, header_parity, read_block, read_header,
+    Coder, Decoded, Fix, block_parity, excess_pair, header_parity, read_block, read_header,
 };
 use ramoops_layout::types::Layout;
 use ramoops_layout::{Params, layout};
@@ -154,8 +154,27 @@ fn assert_codewords(rt: &impl Abort, table: &[u128], image: &[u8; 4096], zone: &
     requires cap { zone.now.cap ≡ 4018 }
     requires block { zone.now.block ≡ 128 }
 {
-    assert!(rt; are_codewords(table, image, zone, 0) == (false, true));
-    assert!(rt; are_codewords(table, image, zone, 1) == (true, true));
+    let mut one = [0u8; 127];
+    let mut other = [0u8; 127];
+    let parity = zone.parity as usize;
+    let (first, second) = excess_pair(
+        table,
+        image,
+        zone,
+        0,
+        &mut one[..parity],
+        &mut other[..parity],
+    );
+    assert!(rt; !first && second);
+    let (first, second) = excess_pair(
+        table,
+        image,
+        zone,
+        1,
+        &mut one[..parity],
+        &mut other[..parity],
+    );
+    assert!(rt; first && second);
 }
 
 #[test]

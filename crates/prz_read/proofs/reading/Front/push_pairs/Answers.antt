@@ -5,8 +5,8 @@ use Rattle.ring_laws.proofs.PartsLaw.{block_some}
 use Rattle.prz_read.proofs.Pushing.{pair-room, next-pair}
 use Rattle.prz_read.proofs.reading.Front.push_pairs.Goals as goal
 
-pub are_codewords-first-requires-clause-blocks : goal.are_codewords-first-requires-clause-blocks
-are_codewords-first-requires-clause-blocks c =
+pub excess_pair-first-requires-clause-blocks : goal.excess_pair-first-requires-clause-blocks
+excess_pair-first-requires-clause-blocks c =
     let room = pair-room c.args.zone.now.block c.args.size c.loop-pair.pair c.args.count
     (block_some c.args.zone.now c.requires.valid) c.loop-pair-test.true c.requires.whole in
     let within = c.requires.within in
