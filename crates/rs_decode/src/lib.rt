@@ -22,7 +22,7 @@ mod lanes;
 
 use arrayvec::ArrayVec;
 use gf_poly::{rising_values, syndromes, values_at};
-use gf256::{add, alpha_pow, antilog, inv, log, mul, mul_pow_by_bits, pow_ratio};
+use gf256::{add, alpha_pow, antilog, inv, log, mul, mul_pow, mul_pow_by_bits, pow_ratio};
 use lanes::{move_on, scale, value_bytes};
 use rs_encode::{Parity, is_parity_by, parity_by, parity_pair_by};
 
@@ -84,6 +84,20 @@ fn add_shifted_multiple(word: &mut [u8], shift: usize, power: u8, other: &[u8], 
     }
 }
 
+/// As [`add_shifted_multiple`], symbol by symbol: faster where few are left.
+fn add_shifted_few(word: &mut [u8], shift: usize, power: u8, other: &[u8], start: usize)
+    requires len { length other.now ≡ length word.old }
+    requires inside { start ≤ length other.now }
+    requires room { shift ≤ start }
+    requires zeros { LeadingZeros start other.now }
+    ensures { (k : ℕ) → k < length word.new → slice_index word.new k
+        ≡ gf_add (slice_index word.old k) (gf_mul (slice_index other.now (k + shift)) (gf_pow 2 power)) }
+{
+    for i in start..other.len() {
+        word[i - shift] = add(word[i - shift], mul_pow(other[i], power));
+    }
+}
+
 /// Adds `factor` times `other`, shifted to the left by `shift`, to `word`; `other` has `start` leading zeros.
 fn add_shifted(word: &mut [u8], shift: usize, factor: u8, other: &[u8], start: usize)
     requires len { length other.now ≡ length word.old }
@@ -96,7 +110,11 @@ fn add_shifted(word: &mut [u8], shift: usize, factor: u8, other: &[u8], start: u
     if factor == 0 {
         return;
     }
-    add_shifted_multiple(word, shift, log(factor), other, start);
+    if other.len() - start <= 16 {
+        add_shifted_few(word, shift, log(factor), other, start);
+    } else {
+        add_shifted_multiple(word, shift, log(factor), other, start);
+    }
 }
 
 fn symbol(word: &[u8], place: usize) -> u8
