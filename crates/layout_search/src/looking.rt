@@ -2,7 +2,7 @@
 ghost use Rattle.std.specs.Prelude.{◌≡◌, ◌+◌, ◌<◌, ◌≤◌, ◌&&◌, ◌||◌, ◌==◌, nat_lt, nat_le, not, false, true, length, slice_index, bit_xor, IfSome, MatchOption};
 ghost use Rattle.zone_spec.specs.Zones.{IsValidZone};
 ghost use Rattle.zone_spec.specs.TimeLines.{has_line as line_in};
-ghost use Rattle.report_spec.specs.Parts.{zone_bytes as bytes_of};
+ghost use Rattle.zone_spec.specs.PartStates.{zone_bytes as bytes_of};
 ghost use Rattle.prz_ecc.specs.Outcomes.{CountsAre};
 ghost use Rattle.layout_spec.specs.Marks.{is_readable, header_of, words_of, state_in, is_ring_or_empty, is_found, log_place, log_front, is_odd_log};
 ghost use Rattle.layout_spec.specs.Family.{is_ftrace as is_ftrace_kind, is_tag as is_tag_number};

@@ -12,7 +12,7 @@ use Rattle.zone_spec.specs.Parts.{Header}
 use Rattle.zone_spec.specs.PartReadings.{PartReading, part_reading, words_read}
 use Rattle.zone_spec.specs.Reading.{state_of}
 use Rattle.zone_spec.specs.TimeLines.{has_line}
-use Rattle.report_spec.specs.Parts.{zone_bytes}
+use Rattle.zone_spec.specs.PartStates.{zone_bytes}
 
 abbrev pub flag : Bool → ℕ
 flag b = if b then 1 else 0

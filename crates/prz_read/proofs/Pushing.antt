@@ -14,8 +14,8 @@ use Rattle.zone_spec.specs.Parts.{AreBytes, Part, Block, part_bytes, part_word}
 use Rattle.zone_spec.specs.PartReadings.{part_reading, reading_by}
 use Rattle.ring_laws.proofs.PartsLaw.{block_some}
 use Rattle.ring_laws.proofs.PartWords.{part_bytes-word, reading_near}
-use Rattle.report_spec.specs.declared.PartState.{PartState}
-use Rattle.report_spec.specs.Parts.{part_state}
+use Rattle.zone_spec.specs.declared.PartState.{PartState}
+use Rattle.zone_spec.specs.PartStates.{part_state}
 use Rattle.prz_read.specs.declared.reading.Front.{Front}
 use Rattle.prz_read.specs.Reads.{bytes_read, corrected_below, bad_below, states_below}
 use Rattle.prz_read.specs.Fronts.{ReadsTo}

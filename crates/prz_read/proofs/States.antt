@@ -8,9 +8,9 @@ use Rattle.zone_spec.specs.declared.State.TheVariants.{Unsigned, Empty, Invalid,
 use Rattle.zone_spec.specs.Parts.{Header, Block}
 use Rattle.zone_spec.specs.PartReadings.{PartReading, part_reading}
 use Rattle.zone_spec.specs.Reading.{ZoneReading, zone_reading}
-use Rattle.report_spec.specs.declared.PartState.{PartState}
-use Rattle.report_spec.specs.declared.PartState.TheVariants.{Read, Bad}
-use Rattle.report_spec.specs.Parts.{part_state, PartStates, used_blocks, part_states}
+use Rattle.zone_spec.specs.declared.PartState.{PartState}
+use Rattle.zone_spec.specs.declared.PartState.TheVariants.{Read, Bad}
+use Rattle.zone_spec.specs.PartStates.{part_state, PartStates, used_blocks, part_states}
 use Rattle.prz_read.specs.Reads.{states_below}
 
 -- a clean part

@@ -4,7 +4,7 @@ use Rattle.std.specs.List.{range_with_len}
 use Rattle.zone_spec.specs.declared.Zone.{Zone}
 use Rattle.zone_spec.specs.Parts.{Block}
 use Rattle.zone_spec.specs.PartReadings.{part_reading}
-use Rattle.report_spec.specs.Parts.{part_state}
+use Rattle.zone_spec.specs.PartStates.{part_state}
 use Rattle.prz_read.specs.Reads.{bytes_read}
 use Rattle.prz_read.specs.declared.reading.Front.{Front}
 

@@ -5,8 +5,8 @@ use Rattle.zone_spec.specs.declared.Zone.{Zone}
 use Rattle.zone_spec.specs.Parts.{Block}
 use Rattle.zone_spec.specs.PartReadings.{part_reading}
 use Rattle.zone_spec.specs.Reading.{byte_read, blocks_below}
-use Rattle.report_spec.specs.declared.PartState.{PartState}
-use Rattle.report_spec.specs.Parts.{part_state}
+use Rattle.zone_spec.specs.declared.PartState.{PartState}
+use Rattle.zone_spec.specs.PartStates.{part_state}
 use Rattle.rs_decode.specs.declared.Decoded.{Decoded}
 use Rattle.rs_decode.specs.declared.Decoded.TheVariants.{Clean, Fixed, Bad}
 

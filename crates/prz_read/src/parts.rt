@@ -2,12 +2,12 @@
 ghost use Rattle.std.specs.Prelude.{◌≡◌, ◌++◌, ◌∷◌, [], true, IfOk};
 ghost use Rattle.zone_spec.specs.PartReadings.{PartReading};
 ghost use Rattle.prz_ecc.specs.Outcomes.{CountsAre};
-ghost use Rattle.report_spec.specs.Parts.{part_state};
+ghost use Rattle.zone_spec.specs.PartStates.{part_state};
 
 use prz_ecc::Decoded;
-use report_spec::PartState;
 use std::alloc::{AllocError, Global};
 use std::marker::Model;
+use zone_spec::PartState;
 
 /// How a zone's header reads, and its blocks from block 0 on that hold bytes of the log. All further blocks are unused.
 #[derive(Drop)]
@@ -17,7 +17,7 @@ pub struct ZoneParts {
 }
 
 impl Model for ZoneParts {
-    ghost use Rattle.report_spec.specs.Parts.{PartStates};
+    ghost use Rattle.zone_spec.specs.PartStates.{PartStates};
 
     ghost Value = { PartStates };
 

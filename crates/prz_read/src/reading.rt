@@ -7,7 +7,7 @@ ghost use Rattle.prz_ecc.specs.Outcomes.{CountsAre, IsPartExcess};
 ghost use Rattle.zone_spec.specs.Zones.{IsValidZone};
 ghost use Rattle.zone_spec.specs.Reading.{zone_reading, state_of as state_for, log_read, IsRing};
 ghost use Rattle.zone_spec.specs.Boot.{keeps as keeps_zone, is_kept as is_kept_zone};
-ghost use Rattle.report_spec.specs.Parts.{part_states};
+ghost use Rattle.zone_spec.specs.PartStates.{part_states};
 ghost use Rattle.prz_read.specs.Reads.{bytes_read, corrected_of, bad_of, corrected_below, bad_below, states_below};
 
 use crate::parts::{BlockStates, ZoneParts, part_state};
@@ -17,10 +17,9 @@ use dump_records::read_line;
 use outside::Bytes;
 use prz_ecc::{Coder, Decoded, Fix};
 use prz_region::Span;
-use report_spec::PartState;
 use std::alloc::{AllocError, Global};
 use std::marker::Model;
-use zone_spec::{Kind, State, Words, Zone};
+use zone_spec::{Kind, PartState, State, Words, Zone};
 
 /// What a boot reads of a zone: its state, the words of its header, its log, and how many bytes of header and blocks
 /// were corrected (of their parity too) and how many of these parts could not be.

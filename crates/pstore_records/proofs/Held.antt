@@ -11,7 +11,7 @@ use Rattle.zone_spec.specs.Reading.{ZoneReading}
 use Rattle.zone_spec.specs.TimeLines.{read_line}
 use Rattle.zone_spec.specs.Records.{Saved, Listed, is_of, found, logs_of, dump_of, dumps_of, plain}
 use Rattle.zone_spec.specs.Notices.{notice}
-use Rattle.report_spec.specs.Records.{RecordHeld, record_held}
+use Rattle.zone_spec.specs.RecordsHeld.{RecordHeld, record_held}
 use Rattle.pstore_records.specs.Tables.{numbers_rise, zones_counted}
 use Rattle.pstore_records.specs.Holding.{noted}
 use Rattle.pstore_records.proofs.Additive.{dumps_of-append, logs_of-append}

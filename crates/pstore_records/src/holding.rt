@@ -2,7 +2,7 @@
 ghost use Rattle.std.specs.Prelude.{◌≡◌, ◌<◌, ◌++◌, [], ◌∷◌, length, map, slice_get, Some, IfOk, OnOk};
 ghost use Rattle.zone_spec.specs.Records.{Saved, dumps_of, plain, ftrace_of, logs_of};
 ghost use Rattle.prz_read.specs.Saving.{saved};
-ghost use Rattle.report_spec.specs.Records.{record_held, records_held};
+ghost use Rattle.zone_spec.specs.RecordsHeld.{record_held, records_held};
 ghost use Rattle.pstore_records.specs.Counts.{notice_with};
 ghost use Rattle.pstore_records.specs.Tables.{zones_counted};
 ghost use Rattle.pstore_records.specs.Holding.{noted};
@@ -30,7 +30,7 @@ pub struct HeldRecord {
 
 impl Model for HeldRecord {
     ghost use Rattle.std.specs.Prelude.{◌≤◌, length, take, drop};
-    ghost use Rattle.report_spec.specs.Records.{RecordHeld};
+    ghost use Rattle.zone_spec.specs.RecordsHeld.{RecordHeld};
 
     ghost Value = { RecordHeld };
 

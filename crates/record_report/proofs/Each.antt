@@ -1,7 +1,7 @@
 -- One record more is shown
 use Rattle.std.proofs.Common.{ℕ, List, [], ◌∷◌, ◌++◌}
 use Rattle.zone_spec.specs.declared.Zone.{Zone}
-use Rattle.report_spec.specs.Records.{RecordHeld}
+use Rattle.zone_spec.specs.RecordsHeld.{RecordHeld}
 use Rattle.report_spec.specs.Packed.{RecordShown, IsShown, AreShown}
 
 pub shown-more : (zones : List Zone) (names : List ℕ) (rs : List RecordHeld) (ss : List RecordShown) (r : RecordHeld)

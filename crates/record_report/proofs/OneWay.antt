@@ -9,7 +9,7 @@ use Rattle.report_spec.specs.declared.TextFault.{TextFault}
 use Rattle.report_spec.specs.declared.TextFault.TheVariants.{Broken, TooLong}
 use Rattle.report_spec.specs.declared.Packing.{Packing}
 use Rattle.report_spec.specs.declared.Packing.TheVariants.{Plain, Whole, Part}
-use Rattle.report_spec.specs.Records.{RecordHeld}
+use Rattle.zone_spec.specs.RecordsHeld.{RecordHeld}
 use Rattle.report_spec.specs.Packed.{RecordShown, StopsAt, IsUnpacked, IsShownBy, inflated, as_it_stands, most_of}
 use Rattle.record_report.specs.Laws.{OneShown}
 

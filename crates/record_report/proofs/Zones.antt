@@ -11,10 +11,10 @@ use Rattle.zone_spec.specs.Reading.{zone_reading}
 use Rattle.zone_spec.specs.Layouts.{zones_end, IsLayout}
 use Rattle.prz_read.specs.Saving.{SavedLogs, saved}
 use Rattle.prz_region.specs.CutRegion.{cut_at}
-use Rattle.report_spec.specs.Parts.{part_states, zone_bytes}
+use Rattle.zone_spec.specs.PartStates.{part_states, zone_bytes}
 use Rattle.record_report.specs.declared.report.Readings.{Readings}
 use Rattle.record_report.specs.Reports.{SpansFit, Adds, ReadsTo, IsReport}
-use Rattle.report_spec.specs.Records.{records_held}
+use Rattle.zone_spec.specs.RecordsHeld.{records_held}
 use Rattle.report_spec.specs.Packed.{RecordShown, AreShown}
 
 get-map : {X Y : Type 0} (f : X → Y) (xs : List X) (i : ℕ) (x : X) → slice_get xs i ≡ Some x

@@ -1,7 +1,7 @@
 -- The law of what is shown of a record
 use Rattle.std.specs.Prelude.{◌≡◌, ℕ, List}
 use Rattle.zone_spec.specs.declared.Zone.{Zone}
-use Rattle.report_spec.specs.Records.{RecordHeld}
+use Rattle.zone_spec.specs.RecordsHeld.{RecordHeld}
 use Rattle.report_spec.specs.Packed.{RecordShown, IsShown}
 
 abbrev pub OneShown : Type 0

@@ -3,8 +3,8 @@ use Rattle.std.specs.Prelude.{◌≡◌, ℕ, ◌<◌, List, [], ◌∷◌, ◌+
 use Rattle.zone_spec.specs.declared.Zone.{Zone}
 use Rattle.zone_spec.specs.Reading.{zone_reading}
 use Rattle.prz_read.specs.Saving.{SavedLogs, saved}
-use Rattle.report_spec.specs.Parts.{PartStates, part_states, zone_bytes}
-use Rattle.report_spec.specs.Records.{records_held}
+use Rattle.zone_spec.specs.PartStates.{PartStates, part_states, zone_bytes}
+use Rattle.zone_spec.specs.RecordsHeld.{records_held}
 use Rattle.report_spec.specs.Packed.{RecordShown, AreShown}
 use Rattle.record_report.specs.declared.report.Readings.{Readings}
 

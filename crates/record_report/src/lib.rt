@@ -15,5 +15,6 @@ pub use laws::one_shown;
 pub use newest::{android_log, console, is_newer, newest_dump};
 pub use prz_read::ZoneParts;
 pub use report::{Report, report_of, report_of_zones};
-pub use report_spec::{Packing, PartState, TextFault};
+pub use report_spec::{Packing, TextFault};
 pub use shown::RecordReport;
+pub use zone_spec::PartState;

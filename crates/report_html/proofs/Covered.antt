@@ -2,8 +2,8 @@
 use Rattle.std.proofs.Common.{◌≡◌, ℕ, suc, ◌+◌, ◌-◌, ◌<◌, Bool, true, false, cond, List, [], ◌∷◌, ◌++◌, length, refl, sym, ap, ◌∙◌, subst, arith}
 use Rattle.std.specs.Prelude.{replicate}
 use Rattle.std.proofs.lemmas.Bool.Decides.{nat_tests}
-use Rattle.report_spec.specs.declared.PartState.{PartState}
-use Rattle.report_spec.specs.declared.PartState.TheVariants.{Read, Bad}
+use Rattle.zone_spec.specs.declared.PartState.{PartState}
+use Rattle.zone_spec.specs.declared.PartState.TheVariants.{Read, Bad}
 use Rattle.report_html.specs.Pictures.{Run, is_alike, with_block, runs}
 use Rattle.report_html.specs.Covers.{IsUnlikeNext, Cover, states_of}
 

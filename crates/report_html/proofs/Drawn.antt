@@ -7,8 +7,8 @@ use Rattle.zone_spec.specs.declared.Kind.TheVariants.{Dump}
 use Rattle.zone_spec.specs.declared.Zone.{Zone}
 use Rattle.zone_spec.specs.Reading.{ZoneReading}
 use Rattle.zone_spec.specs.Records.{Saved}
-use Rattle.report_spec.specs.declared.PartState.{PartState}
-use Rattle.report_spec.specs.Parts.{PartStates}
+use Rattle.zone_spec.specs.declared.PartState.{PartState}
+use Rattle.zone_spec.specs.PartStates.{PartStates}
 use Rattle.std.proofs.lemmas.Slice.Zip.{length-zip}
 use Rattle.prz_read.specs.Saving.{SavedLogs}
 use Rattle.prz_read.proofs.Saves.{zip-at}

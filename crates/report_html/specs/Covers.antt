@@ -1,6 +1,6 @@
 -- Runs of blocks that cover a stretch of them
 use Rattle.std.specs.Prelude.{◌≡◌, ℕ, ◌-◌, ◌<◌, ⊤, false, List, [], ◌∷◌, flat_map, replicate}
-use Rattle.report_spec.specs.declared.PartState.{PartState}
+use Rattle.zone_spec.specs.declared.PartState.{PartState}
 use Rattle.report_html.specs.Pictures.{Run, is_alike}
 
 -- a run does not read as the first of those after it

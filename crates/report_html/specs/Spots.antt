@@ -2,9 +2,9 @@
 use Rattle.std.specs.Prelude.{ℕ, ◌+◌, ◌-◌, Bool, false, ◌==◌, nat_lt, if◌then◌else◌, List, [], ◌∷◌, ◌++◌, length, flat_map, codes}
 use Rattle.std.specs.List.{zip}
 use Rattle.zone_spec.specs.declared.Zone.{Zone}
-use Rattle.report_spec.specs.declared.PartState.{PartState}
-use Rattle.report_spec.specs.declared.PartState.TheVariants.{Read, Bad}
-use Rattle.report_spec.specs.Parts.{PartStates}
+use Rattle.zone_spec.specs.declared.PartState.{PartState}
+use Rattle.zone_spec.specs.declared.PartState.TheVariants.{Read, Bad}
+use Rattle.zone_spec.specs.PartStates.{PartStates}
 use Rattle.report_html.specs.declared.spots.Stretch.{Stretch}
 use Rattle.report_html.specs.declared.spots.Stretch.TheVariants.{Header, Blocks}
 use Rattle.report_html.specs.declared.spots.Spot.{Spot}

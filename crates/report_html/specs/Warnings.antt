@@ -4,9 +4,9 @@ use Rattle.std.specs.List.{list_any, count_by}
 use Rattle.zone_spec.specs.declared.Name.{Name}
 use Rattle.zone_spec.specs.Records.{Saved}
 use Rattle.pstore_records.specs.Counts.{bad_in}
-use Rattle.report_spec.specs.declared.PartState.{PartState}
-use Rattle.report_spec.specs.declared.PartState.TheVariants.{Read, Bad}
-use Rattle.report_spec.specs.Parts.{PartStates}
+use Rattle.zone_spec.specs.declared.PartState.{PartState}
+use Rattle.zone_spec.specs.declared.PartState.TheVariants.{Read, Bad}
+use Rattle.zone_spec.specs.PartStates.{PartStates}
 use Rattle.report_spec.specs.Packed.{RecordShown}
 use Rattle.report_spec.specs.Newest.{newest, is_console}
 use Rattle.report_spec.specs.Deaths.{DeathTold}

@@ -1,6 +1,6 @@
 // Neighbouring blocks of a zone that read alike.
 ghost use Rattle.std.specs.Prelude.{◌≡◌, ◌<◌, ◌≤◌, ◌^◌, ◌∷◌, ◌++◌, length, drop, slice_get, Some, OnOk};
-ghost use Rattle.report_spec.specs.declared.PartState.{PartState as StateValue};
+ghost use Rattle.zone_spec.specs.declared.PartState.{PartState as StateValue};
 ghost use Rattle.report_html.specs.Pieces.{parts};
 ghost use Rattle.report_html.specs.Pictures.{block_at, is_alike, numbers_parts, runs};
 

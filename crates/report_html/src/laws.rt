@@ -4,8 +4,8 @@ ghost use Rattle.std.specs.Prelude.{◌≡◌, ℕ, ◌+◌, List, [], ◌∷◌
 ghost use Rattle.std.specs.List.{sum_by};
 ghost use Rattle.zone_spec.specs.Parts.{AreBytes};
 ghost use Rattle.report_spec.specs.Escaped.{IsText, escaped};
-ghost use Rattle.report_spec.specs.declared.PartState.{PartState};
-ghost use Rattle.report_spec.specs.declared.PartState.TheVariants.{Read, Bad};
+ghost use Rattle.zone_spec.specs.declared.PartState.{PartState};
+ghost use Rattle.zone_spec.specs.declared.PartState.TheVariants.{Read, Bad};
 ghost use Rattle.death_spec.specs.Lines.{lines_from};
 ghost use Rattle.report_html.specs.Logs.{line_bytes};
 ghost use Rattle.report_html.specs.Pictures.{runs};

@@ -8,7 +8,7 @@ use Rattle.serde_json.specs.Data.{Data}
 use Rattle.zone_spec.specs.declared.Zone.{Zone}
 use Rattle.zone_spec.specs.Reading.{ZoneReading}
 use Rattle.zone_spec.specs.Records.{Saved}
-use Rattle.report_spec.specs.Parts.{PartStates}
+use Rattle.zone_spec.specs.PartStates.{PartStates}
 use Rattle.report_json.specs.Schema.{IsZoneAt, AreZones}
 
 -- the reading beside a zone

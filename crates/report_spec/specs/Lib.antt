@@ -1,5 +1,3 @@
-pub mod Parts
-pub mod Records
 pub mod Packed
 pub mod Newest
 pub mod Deaths

@@ -16,7 +16,7 @@ use Rattle.report_spec.specs.declared.TextFault.{TextFault}
 use Rattle.report_spec.specs.declared.TextFault.TheVariants.{Broken, TooLong}
 use Rattle.report_spec.specs.declared.Packing.{Packing}
 use Rattle.report_spec.specs.declared.Packing.TheVariants.{Plain, Whole, Part}
-use Rattle.report_spec.specs.Records.{RecordHeld}
+use Rattle.zone_spec.specs.RecordsHeld.{RecordHeld}
 
 -- a record's name and content as its file has them, the content with its notice, and how many bytes that has; whether
 -- its bytes were packed; and of a pmsg the entries of Android's log, if it has such, with their lines

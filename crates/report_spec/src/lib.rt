@@ -7,15 +7,6 @@ ghost use Rattle.report_spec.specs.Packed.{stream_words, fault_words};
 
 use inflate_spec::Fault;
 
-/// How the header or a block reads.
-#[derive(Clone, Copy, Debug, PartialEq, Eq)]
-pub enum PartState {
-    /// As the nearest codeword, which differs in so many bytes, of parity too; 0 where the part is clean.
-    Read(u32),
-    /// No codeword is near enough: the bytes are taken as they stand.
-    Bad,
-}
-
 /// Why a packed dump's text is not shown to its end.
 #[derive(Clone, Copy, Debug, PartialEq, Eq)]
 pub enum TextFault {

@@ -3,6 +3,7 @@ pub mod Zones
 pub mod Parts
 pub mod PartReadings
 pub mod Reading
+pub mod PartStates
 pub mod Told
 pub mod Stores
 pub mod Stages
@@ -20,6 +21,7 @@ pub mod Ftrace
 pub mod Names
 pub mod Records
 pub mod Notices
+pub mod RecordsHeld
 pub mod Listing
 pub mod Layout
 pub mod Layouts

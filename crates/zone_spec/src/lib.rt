@@ -60,6 +60,15 @@ pub enum State {
     Found,
 }
 
+/// How the header or a block reads.
+#[derive(Clone, Copy, Debug, PartialEq, Eq)]
+pub enum PartState {
+    /// As the nearest codeword, which differs in so many bytes, of parity too; 0 where the part is clean.
+    Read(u32),
+    /// No codeword is near enough: the bytes are taken as they stand.
+    Bad,
+}
+
 /// The calls that store into a zone.
 #[derive(Clone, Copy, Debug, PartialEq, Eq)]
 pub enum CallKind {

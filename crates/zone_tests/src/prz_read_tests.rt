@@ -4,11 +4,10 @@ use prz_read::*;
 use prz_region::{Region, Spans};
 use ramoops_layout::types::Layout;
 use ramoops_layout::{Params, layout};
-use report_spec::PartState;
 use std::alloc::{AllocError, Global};
 use std::process::Abort;
 use std::test::Fail;
-use zone_spec::{Kind, Zone, ZoneName};
+use zone_spec::{Kind, PartState, Zone, ZoneName};
 
 const SIGNATURE: [u8; 4] = [0x44, 0x42, 0x47, 0x43];
 

@@ -1,6 +1,6 @@
 -- Each zone adds its dump, and all zones add all dumps
 use Rattle.std.proofs.Common.{◌<◌, ◌∙◌, ◌++◌, ap, length, arith, List}
-use Rattle.report_spec.specs.Records.{RecordHeld}
+use Rattle.zone_spec.specs.RecordsHeld.{RecordHeld}
 use Rattle.prz_read.specs.Saving.{saved}
 use Rattle.pstore_records.proofs.Held.{held_dumps, held_dumps-append, counted-held, added-each}
 use Rattle.pstore_records.proofs.Steps.{collected-all}

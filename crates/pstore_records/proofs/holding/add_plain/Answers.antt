@@ -1,7 +1,7 @@
 -- Each zone adds its log with the notice, and all zones add all records of the kind
 use Rattle.std.proofs.Common.{◌<◌, ◌∙◌, ◌++◌, ap, length, arith, List}
 use Rattle.zone_spec.specs.Records.{logs_of}
-use Rattle.report_spec.specs.Records.{RecordHeld}
+use Rattle.zone_spec.specs.RecordsHeld.{RecordHeld}
 use Rattle.prz_read.specs.Saving.{saved}
 use Rattle.pstore_records.specs.Counts.{notice_with}
 use Rattle.pstore_records.proofs.Alone.{notice-counted}

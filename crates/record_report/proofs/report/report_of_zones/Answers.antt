@@ -1,7 +1,7 @@
 -- The spans of the image are its zones' bytes
 use Rattle.std.proofs.Common.{List, length, sym, ap, subst, ◌∙◌, refl}
 use Rattle.prz_region.specs.CutRegion.{CutRegion, cut_at}
-use Rattle.report_spec.specs.Records.{RecordHeld}
+use Rattle.zone_spec.specs.RecordsHeld.{RecordHeld}
 use Rattle.report_spec.specs.Packed.{AreShown}
 use Rattle.record_report.specs.Reports.{SpansFit}
 use Rattle.record_report.proofs.Zones.{spans-fit, report-is}

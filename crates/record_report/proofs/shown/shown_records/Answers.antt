@@ -1,7 +1,7 @@
 -- Each record is shown, and all records in the end
 use Rattle.std.proofs.Common.{◌≡◌, ◌∙◌, ◌++◌, ◌∷◌, [], List, ap, sym, subst, length, append_assoc, arith}
 use Rattle.std.specs.Vec.Iter.{into_iter_items}
-use Rattle.report_spec.specs.Records.{RecordHeld}
+use Rattle.zone_spec.specs.RecordsHeld.{RecordHeld}
 use Rattle.report_spec.specs.Packed.{RecordShown, AreShown}
 use Rattle.record_report.proofs.Each.{shown-more}
 use Rattle.record_report.proofs.shown.shown_records.Goals as goal

@@ -1,6 +1,6 @@
 -- The run ends before the first block that reads otherwise
 use Rattle.std.proofs.Common.{◌≡◌, true, false, arith}
-use Rattle.report_spec.specs.declared.PartState.TheVariants.{Read}
+use Rattle.zone_spec.specs.declared.PartState.TheVariants.{Read}
 use Rattle.report_html.proofs.Blocks.{alike-next, ends-before, ends-last}
 use Rattle.report_html.proofs.block_runs.run_end.Goals as goal
 

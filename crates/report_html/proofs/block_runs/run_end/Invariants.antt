@@ -1,7 +1,7 @@
 -- The blocks so far read alike
 use Rattle.std.proofs.Common.{◌≡◌, ◌<◌, ◌≤◌, length, Some}
 use Rattle.std.specs.Prelude.{slice_get}
-use Rattle.report_spec.specs.declared.PartState.{PartState}
+use Rattle.zone_spec.specs.declared.PartState.{PartState}
 use Rattle.report_html.proofs.Blocks.{AlikeTo}
 use Rattle.report_html.proofs.block_runs.run_end.Given as goal
 

@@ -2,7 +2,7 @@
 use Rattle.std.proofs.Common.{◌≡◌, ◌∙◌, ◌++◌, ◌∷◌, [], ℕ, List, ap, codes}
 use Rattle.report_html.specs.Pieces.{Part, Words, parts}
 use Rattle.std.specs.Prelude.{false, true, length}
-use Rattle.report_spec.specs.Parts.{PartStates}
+use Rattle.zone_spec.specs.PartStates.{PartStates}
 use Rattle.report_html.specs.declared.spots.Spot.{Spot}
 use Rattle.report_html.specs.Spots.{spots_of, spots_parts}
 use Rattle.report_html.specs.Pictures.{region_opening, width_of, all_drawn, key_words, table_words}

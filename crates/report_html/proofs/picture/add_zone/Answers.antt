@@ -1,7 +1,7 @@
 -- The zone's row, its header, and then its blocks
 use Rattle.std.proofs.Common.{◌≡◌, ◌∙◌, ap}
 use Rattle.std.specs.Option.{option_copied}
-use Rattle.report_spec.specs.Parts.{PartStates}
+use Rattle.zone_spec.specs.PartStates.{PartStates}
 use Rattle.report_html.specs.Pieces.{parts}
 use Rattle.report_html.proofs.Drawn.{zone-added}
 use Rattle.report_html.proofs.picture.add_zone.Goals as goal

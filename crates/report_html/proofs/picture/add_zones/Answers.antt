@@ -8,7 +8,7 @@ use Rattle.std.proofs.lemmas.Option.{slice_get-get_or}
 use Rattle.zone_spec.specs.declared.Zone.{Zone}
 use Rattle.zone_spec.specs.Reading.{ZoneReading}
 use Rattle.zone_spec.specs.Records.{Saved}
-use Rattle.report_spec.specs.Parts.{PartStates}
+use Rattle.zone_spec.specs.PartStates.{PartStates}
 use Rattle.prz_read.specs.Saving.{SavedLogs, saved}
 use Rattle.pstore_records.proofs.Steps.{collected-more, collected-all}
 use Rattle.report_html.specs.Pieces.{Part, parts}

@@ -2,8 +2,8 @@
 use Rattle.std.proofs.Common.{◌++◌, get_or, arith}
 use Rattle.std.specs.Prelude.{flat_map}
 use Rattle.std.proofs.lemmas.Option.{slice_get-get_or}
-use Rattle.report_spec.specs.declared.PartState.{PartState}
-use Rattle.report_spec.specs.declared.PartState.TheVariants.{Read}
+use Rattle.zone_spec.specs.declared.PartState.{PartState}
+use Rattle.zone_spec.specs.declared.PartState.TheVariants.{Read}
 use Rattle.report_html.specs.Pictures.{runs}
 use Rattle.report_html.specs.Spots.{run_spots}
 use Rattle.report_html.proofs.Blocks.{run-more, runs-done}

@@ -6,7 +6,7 @@ use Rattle.std.proofs.lemmas.List.{take_all}
 use Rattle.std.proofs.lemmas.Option.{slice_get-get_or}
 use Rattle.std.proofs.lemmas.Slice.Zip.{length-zip}
 use Rattle.zone_spec.specs.declared.Zone.{Zone}
-use Rattle.report_spec.specs.Parts.{PartStates}
+use Rattle.zone_spec.specs.PartStates.{PartStates}
 use Rattle.report_html.specs.Spots.{zone_spots}
 use Rattle.report_html.proofs.Drawn.{no_zone}
 use Rattle.report_html.proofs.Spotted.{spotted}

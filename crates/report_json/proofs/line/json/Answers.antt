@@ -4,7 +4,7 @@ use Rattle.serde_json.specs.Data.{Data, array}
 use Rattle.serde_json.specs.View.{view, items_of}
 use Rattle.serde_json.specs.Written.{IsInOrder}
 use Rattle.prz_read.specs.Saving.{SavedLogs, saved}
-use Rattle.report_spec.specs.Parts.{PartStates}
+use Rattle.zone_spec.specs.PartStates.{PartStates}
 use Rattle.report_spec.specs.Packed.{RecordShown}
 use Rattle.report_spec.specs.Deaths.{death_told}
 use Rattle.report_json.specs.Schema.{line_with, parameters_data, record_data, death_data, AreZones}

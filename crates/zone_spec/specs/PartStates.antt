@@ -6,8 +6,8 @@ use Rattle.zone_spec.specs.declared.State.TheVariants.{Found}
 use Rattle.zone_spec.specs.Parts.{Header, Block}
 use Rattle.zone_spec.specs.PartReadings.{PartReading, part_reading}
 use Rattle.zone_spec.specs.Reading.{ZoneReading, zone_reading, blocks_below}
-use Rattle.report_spec.specs.declared.PartState.{PartState}
-use Rattle.report_spec.specs.declared.PartState.TheVariants.{Read, Bad}
+use Rattle.zone_spec.specs.declared.PartState.{PartState}
+use Rattle.zone_spec.specs.declared.PartState.TheVariants.{Read, Bad}
 
 -- a zone's own bytes of an image
 abbrev pub zone_bytes : Zone → List ℕ → List ℕ
