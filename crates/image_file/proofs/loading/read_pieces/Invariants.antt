@@ -1,7 +1,7 @@
 -- The first `at` bytes of the buffer are those of the image, which is as before. For the loop of
 -- `read_pieces`.
 use Rattle.std.proofs.Common.{◌≡◌, ◌≤◌, ◌-◌, vec_len, take, IfSome}
-use Rattle.tool_frame.proofs.stages.read_pieces.Given as goal
+use Rattle.image_file.proofs.loading.read_pieces.Given as goal
 
 abbrev pub invariant-pieces : goal.invariant-pieces
 invariant-pieces g l = (l.at ≤ l.size) × (vec_len l.bytes ≡ l.size)

@@ -2,8 +2,8 @@
 -- shorter front, and the image was asked to be written.
 use Rattle.std.proofs.Common.{[], arith, refl, replicate, ℕ, ◌∙◌, inl, inr}
 use Rattle.std.proofs.lemmas.List.{length-replicate}
-use Rattle.tool_frame.proofs.Pieces.{written_reach, zeros_short, zeros_next, written_none, asked_on}
-use Rattle.tool_frame.proofs.stages.fill.Goals as goal
+use Rattle.image_file.proofs.Pieces.{written_reach, zeros_short, zeros_next, written_none, asked_on}
+use Rattle.image_file.proofs.saving.fill.Goals as goal
 
 pub returns-in-Err-clause-bytes : goal.returns-in-Err-clause-bytes
 returns-in-Err-clause-bytes g c =

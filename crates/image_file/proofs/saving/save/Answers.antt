@@ -2,8 +2,8 @@
 -- asked for. For `save`.
 use Rattle.std.proofs.Common.{arith, ◌∙◌, inr}
 use Rattle.std.proofs.lemmas.Grind.{common_steps}
-use Rattle.tool_frame.proofs.Pieces.{written_next, asked_on}
-use Rattle.tool_frame.proofs.stages.save.Goals as goal
+use Rattle.image_file.proofs.Pieces.{written_next, asked_on}
+use Rattle.image_file.proofs.saving.save.Goals as goal
 
 pub pieces-preserved : goal.pieces-preserved
 pieces-preserved g c = (

@@ -2,8 +2,8 @@
 -- reads.
 use Rattle.std.proofs.Common.{◌≡◌, ◌+◌, ◌-◌, ◌∙◌, arith, length, take, drop}
 use Rattle.std.proofs.lemmas.Grind.{common_steps}
-use Rattle.tool_frame.proofs.Pieces.{read_into}
-use Rattle.tool_frame.proofs.stages.read_piece.Goals as goal
+use Rattle.image_file.proofs.Pieces.{read_into}
+use Rattle.image_file.proofs.loading.read_piece.Goals as goal
 
 pub returns-clause-read : goal.returns-clause-read
 returns-clause-read g c =

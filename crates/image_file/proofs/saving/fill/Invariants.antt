@@ -2,7 +2,7 @@
 -- asked for or none was needed. For the loop of `fill`.
 use Rattle.std.proofs.Common.{◌≡◌, ◌⊎◌, ◌≤◌, ◌-◌, replicate}
 use Rattle.outside.specs.Outside.{Rose, Writes}
-use Rattle.tool_frame.proofs.stages.fill.Given as goal
+use Rattle.image_file.proofs.saving.fill.Given as goal
 
 abbrev pub invariant-pieces : goal.invariant-pieces
 invariant-pieces g l = (l.at ≤ l.size) × Writes (g.M.Load.holds l.initial.image) (g.M.Load.holds l.image) 0

@@ -2,7 +2,7 @@
 use Rattle.std.proofs.Common.{ℕ, List, Option}
 use Rattle.command_spec.specs.declared.Stop.{Stop}
 use Rattle.command_spec.specs.declared.Stop.TheVariants.{Memory, Short, ImageFault}
-use Rattle.tool_frame.specs.Stages.{SizeStop, FrontStop, LoadStop}
+use Rattle.image_file.specs.Loading.{SizeStop, FrontStop, LoadStop}
 
 pub size_load : (s : Stop) (mem : ℕ) (holds : Option (List ℕ)) (before now : ℕ) → SizeStop s mem holds before now
     → LoadStop s mem holds before now

@@ -2,7 +2,7 @@
 -- was needed. For the loop of `save`.
 use Rattle.std.proofs.Common.{◌≡◌, ◌⊎◌, ◌≤◌, ◌-◌, length, take}
 use Rattle.outside.specs.Outside.{Rose, Writes}
-use Rattle.tool_frame.proofs.stages.save.Given as goal
+use Rattle.image_file.proofs.saving.save.Given as goal
 
 abbrev pub invariant-pieces : goal.invariant-pieces
 invariant-pieces g l = (l.at ≤ length l.bytes) × Writes (g.M.Load.holds l.initial.image) (g.M.Load.holds l.image) 0
