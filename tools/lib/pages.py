@@ -56,6 +56,7 @@ def texts(path):
 
 def plain(text):
     """A text without code, emphasis, pictures and the targets of links."""
+    text = re.sub(r"</?a\b[^>]*>", "", text)
     text = re.sub(r"(`+).+?\1", CODE, text)
     text = re.sub(r"!?\[([^\]]*)\]\([^)]*\)", r"\1", text)
     return text.replace("**", "").replace("*", "")
