@@ -3,8 +3,8 @@
 use Rattle.std.proofs.Common.{◌<◌, length, sym, ◌∙◌, arith}
 use Rattle.prz_read.specs.Saving.{saved}
 use Rattle.pstore_records.proofs.Alone.{rise-fails, rise-more, rise-passes, rise-ends}
-use Rattle.pstore_records.proofs.table.numbers_rise.Goals as goal
-use Rattle.pstore_records.proofs.table.numbers_rise.Goals.{then-is_kind+else-from-least, else-is_kind}
+use Rattle.pstore_records.proofs.walk.numbers_rise.Goals as goal
+use Rattle.pstore_records.proofs.walk.numbers_rise.Goals.{then-is_kind+else-from-least, else-is_kind}
 
 pub returns-then-from-least : goal.returns-then-from-least
 returns-then-from-least c =

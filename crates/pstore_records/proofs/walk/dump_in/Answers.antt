@@ -1,7 +1,7 @@
 -- The time line lies within the log
 use Rattle.std.proofs.Common.{arith}
 use Rattle.pstore_records.proofs.Lengths.{line-within}
-use Rattle.pstore_records.proofs.zones.dump_in.Goals as goal
+use Rattle.pstore_records.proofs.walk.dump_in.Goals as goal
 
 pub slice_bounds-result-count : goal.slice_bounds-result-count
 slice_bounds-result-count c = omega (

@@ -3,7 +3,7 @@
 use Rattle.std.proofs.Common.{◌≡◌, drop}
 use Rattle.prz_read.specs.Saving.{saved}
 use Rattle.pstore_records.specs.Tables.{numbers_rise}
-use Rattle.pstore_records.proofs.table.numbers_rise.Given as goal
+use Rattle.pstore_records.proofs.walk.numbers_rise.Given as goal
 
 -- the numbers rise where those of the zones that are left do
 abbrev pub invariant-loop-i : goal.invariant-loop-i
