@@ -9,7 +9,7 @@ use Rattle.core.specs.declared.slots.Slots.{Slots}
 use Rattle.prz_region.specs.declared.pieces.Piece.{Piece}
 use Rattle.prz_region.specs.Chain.{Chain, all_bytes, all_len, piece_bytes}
 use Rattle.prz_region.proofs.Chains.{len-append, chain-front, chain-last, bytes-append, concat-more}
-use Rattle.prz_region.proofs.spans.CountedSpans.join.Goals as goal
+use Rattle.prz_region.proofs.spans.Spans.join.Goals as goal
 
 pub glue-rest-requires : goal.glue-rest-requires
 glue-rest-requires c =

@@ -2,7 +2,7 @@
 use Rattle.std.proofs.Common.{lit<, subst, sym}
 use Rattle.zone_spec.specs.Parts.{AreBytes}
 use Rattle.prz_region.proofs.Stores.{AreBytes-word, AreBytes-eight}
-use Rattle.prz_region.proofs.spans.CountedSpans.store_pair.Goals as goal
+use Rattle.prz_region.proofs.spans.Spans.store_pair.Goals as goal
 
 pub store_array-requires : goal.store_array-requires
 store_array-requires c =
