@@ -10,7 +10,7 @@ use Rattle.zone_spec.specs.PartReadings.{part_reading}
 use Rattle.zone_spec.specs.Stores.{Store, after_stores}
 use Rattle.zone_spec.specs.Stages.{Stage, SigWord, SizeWord, ParityOf, stage_count, stores_in_turn}
 use Rattle.zone_spec.specs.Calls.{erase_stages}
-use Rattle.zone_spec.specs.Boot.{fix_stores, part_fixes}
+use Rattle.zone_spec.specs.Boot.{fix_stores, part_fixes, boot_fixes, boot_erasure, boot_stores}
 use Rattle.ring_laws.proofs.BootLaw.{length-reading}
 use Rattle.ring_laws.proofs.StoreBytes.{IsStore, HasBytes, after-bytes, all-take, one-byte}
 use Rattle.ring_laws.proofs.StoreCounts.{length-stores}
@@ -125,3 +125,14 @@ module _ (z : Zone) (valid : IsValidZone z) where
         ap length (none-next y),
         sums,
       )
+
+-- corrections and erasure are all stores of a boot
+pub boot-long : (z : Zone) (x : List ℕ) (e : Erasure) → IsValidZone z → AreBytes x → stages_of z e ≡ boot_erasure z x
+    → length (boot_stores z x) ≡ length (boot_fixes z x) + sum_by (stage_count z) (stages_of z e)
+unfolding boot_stores boot_fixes then_stages
+boot-long z x e valid h is =
+    ap (λ (gs : List Stage). length (boot_fixes z x ++ stores_in_turn z gs (after_stores x (boot_fixes z x)))) (sym is)
+    ∙ then-long z valid x (boot_fixes z x) (stages_of z e) h
+    (AllByRecursion-append IsStore (part_fixes z x Header) _ (fix-all _ _ _ (length-reading z x Header h).1)
+    (others-all z x h _))
+    (stages-of-have z e)

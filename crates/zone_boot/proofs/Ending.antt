@@ -135,8 +135,11 @@ module _ (old : Boot) (x : List ℕ) (new : Boot) (out : BootStore) where
       → IsKept new → out.place + handed_len out ≤ old.zone.size → IsPlain out → Gives old x new out
   unfolding after_stores
   gives-nothing h left zone made kept inside plain = gives [] h left
-      (λ m. ap length left ∙ ap (λ (l : List Store). length (left_of new (after_stores x l)))
-      (sym (take_all m [] (omega arith)))) zone (omega (arith, made)) kept inside plain
+      (λ m. let f : x ≡ after_stores x (take m []) = ap (λ (l : List Store). after_stores x l)
+      (sym (take_all m [] (omega arith))) in
+      let e : length (left_of new x) ≡ length (left_of new (after_stores x (take m []))) =
+      ap (λ (y : List ℕ). length (left_of new y)) f in
+      omega (arith, ap length left, e)) zone (omega (arith, made)) kept inside plain
 
   -- nothing was handed out
   pub gives-none : Gives old x new out → handed out ≡ [] → left_of old x ≡ left_of new x

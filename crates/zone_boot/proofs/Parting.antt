@@ -16,7 +16,7 @@ use Rattle.ring_laws.proofs.Fixes.{Fixes, Fixed, IsMended, fix_stores-all, some_
 use Rattle.zone_boot.specs.Handed.{IsRun}
 use Rattle.zone_boot.specs.Left.{part_left, blocks_left}
 
-byte-take : (m p : ℕ) (bs : List ℕ) → take m (byte_stores p bs) ≡ byte_stores p (take m bs)
+pub byte-take : (m p : ℕ) (bs : List ℕ) → take m (byte_stores p bs) ≡ byte_stores p (take m bs)
 unfolding byte_stores
 byte-take zero p bs = refl
 byte-take (suc m) p [] = refl

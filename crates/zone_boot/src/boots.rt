@@ -1,5 +1,5 @@
 // A boot between its stores.
-ghost use Rattle.std.specs.Prelude.{◌≡◌, ◌+◌, ◌-◌, ◌*◌, ◌≤◌, ◌<◌, ◌^◌, ◌↔◌, ◌++◌, List, ℕ, [], length, take, drop, slice_range, sum_by, if◌then◌else◌, IsTrue};
+ghost use Rattle.std.specs.Prelude.{◌≡◌, ◌+◌, ◌-◌, ◌*◌, ◌/◌, ◌≤◌, ◌<◌, ◌^◌, ◌↔◌, ◌++◌, List, ℕ, [], length, take, drop, slice_range, sum_by, if◌then◌else◌, IsTrue};
 ghost use Rattle.zone_spec.specs.Zones.{IsValidZone};
 ghost use Rattle.zone_spec.specs.Stores.{after_stores};
 ghost use Rattle.zone_spec.specs.Boot.{boot_fixes, boot_stores, signing, keeps as keeps_zone};
@@ -69,6 +69,7 @@ impl Boot {
     ghost use Rattle.zone_boot.specs.declared.boots.Phase.TheVariants.{Header, Blocks, Parity, Finished};
     ghost use Rattle.zone_boot.specs.Left.{stages_of};
     ghost use Rattle.zone_boot.specs.declared.handing.Given.TheVariants.{Nothing};
+    ghost use Rattle.zone_spec.specs.declared.State.TheVariants.{Found};
 
     /// A boot of the zone before its first store.
     pub fn begin(table: &[u128], image: &[u8], zone: &Zone) -> Boot
@@ -98,6 +99,9 @@ impl Boot {
             ≡ (if is_kept then [] else signing zone.now state ++ erase_stages) }
         ensures stands { (image : List ℕ) → words ≡ words_read zone.now image
             → is_kept ≡ keeps_zone zone.now (zone_reading zone.now image) → IsBooting result image image }
+        ensures found { state ≡ Found → result.count ≡ (words.size + zone.now.block - 1) / zone.now.block }
+        ensures none { (state ≡ Found → ⊥) → result.count ≡ 0 }
+        ensures phase { result.phase ≡ Header }
     {
         Boot {
             zone: *zone,
@@ -121,6 +125,8 @@ impl Boot {
         ensures stands { (image : List ℕ) → state ≡ (zone_reading zone.now image).state
             → is_kept ≡ keeps_zone zone.now (zone_reading zone.now image)
             → boot_fixes zone.now image ≡ [] → IsBooting result image image }
+        ensures count { result.count ≡ 0 }
+        ensures phase { result.phase ≡ Blocks }
     {
         Boot {
             zone: *zone,
@@ -240,6 +246,7 @@ impl Boot {
         ensures erasure { self.new.erasure ≡ self.old.erasure }
         ensures phase { self.new.phase ≡ Blocks }
         ensures count { self.new.count ≡ self.old.count }
+        ensures rising { self.old.block ≤ self.new.block }
         ensures next { handed out.new ≡ [] → self.new.block ≡ self.old.block + 1 }
     {
         let zone = self.zone;
@@ -328,6 +335,7 @@ impl Boot {
         ensures some { handed out.new ≡ [] → left_of self.old image.now ≡ [] }
         ensures ends { handed out.new ≡ [] → self.new.phase ≡ Finished }
         ensures erasure { self.new.erasure ≡ self.old.erasure }
+        ensures count { self.new.count ≡ self.old.count }
         ensures not_header { self.new.phase ≡ Header → ⊥ }
         ensures not_blocks { self.new.phase ≡ Blocks → ⊥ }
     {
@@ -338,6 +346,13 @@ impl Boot {
             }
             _ => self.erase(table, image, out),
         }
+    }
+
+    /// Whether no store is left.
+    pub fn is_finished(&self) -> bool
+        ensures { IsTrue result ↔ (self.now.phase ≡ Finished) }
+    {
+        matches!(self.phase, Phase::Finished)
     }
 
     /// How many stores the erasure has.
@@ -361,6 +376,7 @@ impl Boot {
         ensures made { self.new.made ≡ self.old.made }
         ensures kept { IsKept self.new }
         ensures erasure { self.new.erasure ≡ self.old.erasure }
+        ensures count { self.new.count ≡ self.old.count }
         ensures not_header { self.new.phase ≡ Header → ⊥ }
         ensures not_blocks { self.new.phase ≡ Blocks → ⊥ }
     {
@@ -383,6 +399,7 @@ impl Boot {
         ensures some { handed out.new ≡ [] → left_of self.old image.now ≡ [] }
         ensures ends { handed out.new ≡ [] → self.new.phase ≡ Finished }
         ensures erasure { self.new.erasure ≡ self.old.erasure }
+        ensures count { self.new.count ≡ self.old.count }
         ensures not_header { self.new.phase ≡ Header → ⊥ }
         ensures not_blocks { self.new.phase ≡ Blocks → ⊥ }
     {
@@ -418,6 +435,7 @@ impl Boot {
         ensures some { handed out.new ≡ [] → left_of self.old image.now ≡ [] }
         ensures phase { self.new.phase ≡ Finished }
         ensures erasure { self.new.erasure ≡ self.old.erasure }
+        ensures count { self.new.count ≡ self.old.count }
     {
         let mut parity: ArrayVec<u8, 127> = ArrayVec::new();
         header_parity(table, image, &self.zone, &mut parity);

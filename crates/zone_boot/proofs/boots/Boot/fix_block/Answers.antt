@@ -192,3 +192,14 @@ returns-else-is_empty-clause-keeps c =
 pub returns-else-is_empty-clause-next : goal.returns-else-is_empty-clause-next
 returns-else-is_empty-clause-next c = λ e. absurd
     (let t : false ≡ true = sym c.if-is_empty.false ∙ c.is_empty.ensures.1 e in cc)
+
+pub overflow_cast-reads : goal.overflow_cast-reads
+overflow_cast-reads c =
+    let s = c.args.self.now in
+    let z = s.zone in
+    let x = c.args.image.now in
+    let bytes : AreBytes x = (λ k. (c.type_inv.image k).fits) in
+    let p = block-part z x s.block c.args.reads.now c.requires.valid c.requires.size bytes
+    (block-inside z.block s.block s.count z.cap c.requires.kept.count c.requires.block) c.requires.reads in
+    let most = p.1 in
+    omega (arith, most)
