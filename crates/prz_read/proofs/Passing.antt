@@ -1,22 +1,29 @@
 -- A boot that is made up to a limit, step by step
-use Rattle.std.proofs.Common.{◌≡◌, ℕ, ◌+◌, ◌-◌, ◌<◌, ◌≤◌, List, [], ◌++◌, length, take, drop, inl, inr, refl, sym, ap, ap₂, ◌∙◌, subst, arith, take_all, length-take, length-append, append-nil, take-add, take-take}
+use Rattle.std.proofs.Common.{◌≡◌, ℕ, ◌+◌, ◌-◌, ◌<◌, ◌≤◌, List, [], ◌∷◌, ◌++◌, length, get_or, if◌then◌else◌, take, drop, inl, inr, refl, sym, ap, ap₂, ◌∙◌, subst, arith, take_all, length-take, length-append, append-nil, take-add, take-take}
 use Rattle.std.proofs.lemmas.Bool.{cases_lt}
+use Rattle.std.proofs.lemmas.List.{get_or_default}
 use Rattle.list_laws.proofs.Elements.{take-append}
 use Rattle.zone_spec.specs.declared.Zone.{Zone}
-use Rattle.zone_spec.specs.Parts.{Part}
+use Rattle.zone_spec.specs.Parts.{Part, Block}
 use Rattle.zone_spec.specs.PartReadings.{part_reading}
 use Rattle.zone_spec.specs.Stores.{Store, after_stores}
-use Rattle.zone_spec.specs.Boot.{boot_stores}
+use Rattle.zone_spec.specs.Boot.{boot_erasure, boot_stores, keeps, signing}
+use Rattle.zone_spec.specs.Stages.{Stage, stores_in_turn}
+use Rattle.zone_spec.specs.Calls.{erase_stages}
+use Rattle.zone_spec.specs.Reading.{ZoneReading, zone_reading}
 use Rattle.ring_laws.proofs.Images.{length-after_stores}
 use Rattle.prz_region.specs.CutRegion.{CutRegion, span, stored}
 use Rattle.prz_region.proofs.Cuts.{stored-again, span-stored, spans-length}
 use Rattle.zone_boot.specs.declared.boots.Boot.{Boot}
 use Rattle.zone_boot.specs.declared.deciding.Erasure.{Erasure}
 use Rattle.zone_boot.specs.declared.handing.BootStore.{BootStore}
+use Rattle.zone_boot.specs.declared.boots.Phase.{Phase}
+use Rattle.zone_boot.specs.declared.boots.Phase.TheVariants.{Finished}
+use Rattle.zone_boot.specs.Left.{left_at, then_stages}
 use Rattle.zone_boot.specs.Handed.{handed}
 use Rattle.zone_boot.specs.Booting.{left_of, IsBooting, Gives, KeepsReadings}
 use Rattle.zone_boot.proofs.Ending.{gives-stands, gives-handed}
-use Rattle.prz_read.specs.Sources.{IsFixing}
+use Rattle.prz_read.specs.Sources.{HasBlock, IsFixing, rank}
 use Rattle.prz_read.specs.Steps.{IsSettling}
 
 -- the stores made so far, and those of the next ones that are within the limit
@@ -37,6 +44,27 @@ takes all given limit made left el most is = elim (cases_lt limit made) [
       ∙ ap (λ (l : List Store). take limit l) (sym (take-add made (length given) all)))
 ]
 
+pub span-is : (c : CutRegion) (i : ℕ) (xs : List (List ℕ)) (r : List ℕ) → xs ≡ c.spans → r ≡ get_or xs i r
+    → i < length c.spans → r ≡ span c i
+span-is c i xs r e at lt = at ∙ ap (λ (l : List (List ℕ)). get_or l i r) e ∙ get_or_default c.spans i r [] lt
+
+none-left : (b : Boot) (y : List ℕ) → b.phase ≡ Finished → left_of b y ≡ []
+unfolding then_stages stores_in_turn after_stores
+none-left b y h = ap (λ (p : Phase). left_at b.zone y b.block b.within b.count b.erasure p) h
+
+-- the stages of the erasure, by the reading
+pub erasure-by : (z : Zone) (x : List ℕ) (r : ZoneReading) (gs : List Stage) → r ≡ zone_reading z x
+    → gs ≡ (if keeps z r then [] else signing z r.state ++ erase_stages) → gs ≡ boot_erasure z x
+unfolding boot_erasure
+erasure-by z x r gs e is = is ∙ ap (λ (q : ZoneReading). if keeps z q then [] else signing z q.state ++ erase_stages) e
+
+-- a block of an image that reads as another one
+pub block-moved : (z v : Zone) (x y : List ℕ) (b start : ℕ) (log tail : List ℕ) → v ≡ z
+    → (part_reading z y (Block b)).bytes ≡ (part_reading z x (Block b)).bytes → HasBlock z x b start log tail
+    → HasBlock v y b start log tail
+block-moved z v x y b start log tail e r h = subst (λ (u : Zone). HasBlock u y b start log tail) (sym e)
+    (record { turned = h.turned; few = h.few; bytes = h.bytes ∙ sym r })
+
 module _ (z : Zone) (before : List ℕ) (first : CutRegion) (i limit n : ℕ) (e : Erasure) (lt : i < length first.spans)
     (old : Boot) (now : CutRegion) (was : IsSettling z before first i limit n e old now) where
   pub settling-spans : length now.spans ≡ length first.spans
@@ -48,6 +76,36 @@ module _ (z : Zone) (before : List ℕ) (first : CutRegion) (i limit n : ℕ) (e
 
   pub settling-length : length (span now i) ≡ length (span first i)
   settling-length = ap length settling-span ∙ length-after_stores (span first i) _
+
+  -- a span that is lent
+  pub settling-lent : (xs : List (List ℕ)) (r : List ℕ) → xs ≡ now.spans → r ≡ get_or xs i r → r ≡ span now i
+  settling-lent xs r e at = span-is now i xs r e at (omega (arith, settling-spans, lt))
+
+  -- at the end all are handed out
+  pub settling-done : old.phase ≡ Finished → old.made ≡ length (boot_stores z before)
+  settling-done h = (let t = was.total in omega (arith, t, ap length (none-left old (span now i) h)))
+
+  pub settling-all : old.phase ≡ Finished → now ≡ stored first i (take limit (boot_stores z before))
+  settling-all h =
+      let all : List Store = boot_stores z before in
+      was.spans ∙ ap (λ (k : ℕ). stored first i (take limit (take k all))) (settling-done h)
+      ∙ ap (λ (l : List Store). stored first i (take limit l)) (take_all (length all) all (omega arith))
+
+  -- each turn leaves less
+  pub settling-smaller : (new : Boot) (out : BootStore) (then : CutRegion) (left : ℕ) → Gives old (span now i) new out
+      → rank new ≤ rank old → (handed out ≡ [] → rank new < rank old) → then ≡ stored now i (take left (handed out))
+      → length (left_of new (span then i)) + rank new < length (left_of old (span now i)) + rank old
+  settling-smaller new out then left g most some is =
+      let y : span then i ≡ after_stores (span now i) (take left (handed out)) =
+      ap (λ (c : CutRegion). span c i) is
+      ∙ span-stored now i (take left (handed out)) (omega (arith, settling-spans, lt)) in
+      by (handed out) refl (omega (arith, g.counts left, ap (λ (v : List ℕ). length (left_of new v)) y))
+    where
+      by : (ss : List Store) → handed out ≡ ss
+          → length (left_of old (span now i)) ≡ length (handed out) + length (left_of new (span then i))
+          → length (left_of new (span then i)) + rank new < length (left_of old (span now i)) + rank old
+      by [] h e = (let l = some h in omega (arith, e, l))
+      by (s ∷ ss) h e = omega (arith, e, ap length h, most)
 
   pub settling-step : (new : Boot) (out : BootStore) (then : CutRegion) (left : ℕ) → Gives old (span now i) new out
       → new.erasure ≡ old.erasure → new.count ≡ old.count → (IsFixing new.phase → IsFixing old.phase)

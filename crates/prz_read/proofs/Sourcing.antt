@@ -11,34 +11,21 @@ use Rattle.zone_spec.specs.Zones.{IsValidZone}
 use Rattle.zone_spec.specs.Parts.{AreBytes, Block}
 use Rattle.zone_spec.specs.PartReadings.{part_reading}
 use Rattle.zone_spec.specs.Reading.{byte_read, log_read, IsRing}
+use Rattle.zone_spec.specs.Stores.{byte_stores}
 use Rattle.ring_laws.proofs.PartsLaw.{block_some}
 use Rattle.ring_laws.proofs.BootLaw.{length-reading}
 use Rattle.ring_laws.proofs.States.{below_count}
 use Rattle.zone_boot.specs.Reads.{bytes_at}
 use Rattle.zone_boot.proofs.Rows.{drop-append}
+use Rattle.zone_boot.proofs.Parting.{byte-take}
 use Rattle.zone_boot.proofs.Blocks.{bytes_at-drop, bytes_at-take}
 use Rattle.prz_read.specs.Reads.{bytes_read, read_end}
 use Rattle.prz_read.specs.Sources.{unturned, HasBlock}
 use Rattle.prz_read.proofs.Images.{block-length}
 use Rattle.prz_read.proofs.Fronts.{block-byte}
-use Rattle.prz_read.proofs.DataFixes.{log-unturned}
+use Rattle.prz_read.proofs.Tails.{log-unturned}
 
 -- ---- pieces
-pub piece-is : (bs : List ℕ) (from k a n : ℕ) → a ≡ min from (length bs) → n ≡ min (length (drop a bs)) k
-    → take n (drop a bs) ≡ take k (drop from bs)
-piece-is bs from k a n ea en = elim (cases_lt from (length bs)) [
-  | inl less ↦ cut (drop a bs) n k en ∙ ap (λ (m : ℕ). take k (drop m bs))
-      (let e : a ≡ from = omega (arith, ea, less) in e)
-  | inr past ↦ cut (drop a bs) n k en ∙ ap (λ (l : List ℕ). take k l) (drop_all a bs (omega (arith, ea, past))
-      ∙ sym (drop_all from bs (omega (arith, past))))
-]
-  where
-    cut : (xs : List ℕ) (n k : ℕ) → n ≡ min (length xs) k → take n xs ≡ take k xs
-    cut xs n k e = elim (cases_lt k (length xs)) [
-      | inl less ↦ ap (λ (m : ℕ). take m xs) (let f : n ≡ k = omega (arith, e, less) in f)
-      | inr most ↦ take_all n xs (omega (arith, e, most)) ∙ sym (take_all k xs (omega (arith, most)))
-    ]
-
 -- what lies from a place on in two lists, end to end
 pub cut-append : (n at m : ℕ) (xs ys out : List ℕ) → out ≡ take n (drop at xs) → m ≡ at - length xs
     → out ++ take (n - length out) (drop m ys) ≡ take n (drop at (xs ++ ys))
@@ -88,7 +75,7 @@ source-block z x w log tail b n valid size bytes ring e tails count less =
     let k : ℕ = min z.block (end - z.block * b) in
     let same : k ≡ length (part_reading z x (Block b)).bytes = omega (arith, long, next, up, within) in
     record {
-      start = omega (arith, held.1, start);
+      turned = omega (arith, held.1, start);
       few = within;
       bytes = ap (λ (l : List ℕ). take z.block (drop (z.block * b) l))
           (ap (λ (l : List ℕ). l ++ tail) held.0 ∙ tails ∙ read-at z x end)
@@ -97,3 +84,14 @@ source-block z x w log tail b n valid size bytes ring e tails count less =
           ∙ block-at z x b k (omega arith) (omega (arith, same))
           ∙ take_all k (part_reading z x (Block b)).bytes (omega (arith, same));
     }
+
+-- as many stores of a run as the limit lets
+pub run-taken : (p : ℕ) (items bytes : List ℕ) (left n : ℕ) → bytes ≡ items → n ≡ min left (length items)
+    → byte_stores p (take n bytes) ≡ take left (byte_stores p items)
+run-taken p items bytes left n e en =
+    ap (λ (l : List ℕ). byte_stores p (take n l)) e
+    ∙ ap (λ (l : List ℕ). byte_stores p l) (elim (cases_lt left (length items)) [
+      | inl less ↦ ap (λ (m : ℕ). take m items) (let f : n ≡ left = omega (arith, en, less) in f)
+      | inr most ↦ take_all n items (omega (arith, en, most)) ∙ sym (take_all left items (omega (arith, most)))
+    ])
+    ∙ sym (byte-take left p items)

@@ -15,7 +15,7 @@ unturned start turned = drop (length turned - start) turned ++ take (length turn
 
 -- the log of these words and the tail after it have what the block reads
 pub record HasBlock (z : Zone) (image : List ℕ) (b start : ℕ) (log tail : List ℕ) : Type 0 where
-  pub start : start ≤ length log
+  pub turned : start ≤ length log
   pub few : z.block * b < z.cap
   pub bytes : take z.block (drop (z.block * b) (unturned start log ++ tail)) ≡ (part_reading z image (Block b)).bytes
 
@@ -39,4 +39,4 @@ rank b = rank_in b.block b.count b.phase
 pub record IsRead (z : Zone) (reading : ZoneReading) (count : ℕ) : Type 0 where
   pub found : reading.state ≡ Found
   pub corrected : 0 < reading.corrected
-  pub count : count ≡ (reading.words.size + z.block - 1) / z.block
+  pub blocks : count ≡ (reading.words.size + z.block - 1) / z.block
