@@ -92,29 +92,29 @@ module _ (z : Zone) (before : List ℕ) (first : CutRegion) (i limit n : ℕ) (e
       ∙ ap (λ (l : List Store). stored first i (take limit l)) (take_all (length all) all (omega arith))
 
   -- each turn leaves less
-  pub settling-smaller : (new : Boot) (out : BootStore) (then : CutRegion) (left : ℕ) → Gives old (span now i) new out
-      → rank new ≤ rank old → (handed out ≡ [] → rank new < rank old) → then ≡ stored now i (take left (handed out))
-      → length (left_of new (span then i)) + rank new < length (left_of old (span now i)) + rank old
-  settling-smaller new out then left g most some is =
-      let y : span then i ≡ after_stores (span now i) (take left (handed out)) =
+  pub settling-smaller : (new : Boot) (out : BootStore) (after : CutRegion) (left : ℕ) → Gives old (span now i) new out
+      → rank new ≤ rank old → (handed out ≡ [] → rank new < rank old) → after ≡ stored now i (take left (handed out))
+      → length (left_of new (span after i)) + rank new < length (left_of old (span now i)) + rank old
+  settling-smaller new out after left g most some is =
+      let y : span after i ≡ after_stores (span now i) (take left (handed out)) =
       ap (λ (c : CutRegion). span c i) is
       ∙ span-stored now i (take left (handed out)) (omega (arith, settling-spans, lt)) in
       by (handed out) refl (omega (arith, g.counts left, ap (λ (v : List ℕ). length (left_of new v)) y))
     where
       by : (ss : List Store) → handed out ≡ ss
-          → length (left_of old (span now i)) ≡ length (handed out) + length (left_of new (span then i))
-          → length (left_of new (span then i)) + rank new < length (left_of old (span now i)) + rank old
+          → length (left_of old (span now i)) ≡ length (handed out) + length (left_of new (span after i))
+          → length (left_of new (span after i)) + rank new < length (left_of old (span now i)) + rank old
       by [] h e = (let l = some h in omega (arith, e, l))
       by (s ∷ ss) h e = omega (arith, e, ap length h, most)
 
-  pub settling-step : (new : Boot) (out : BootStore) (then : CutRegion) (left : ℕ) → Gives old (span now i) new out
+  pub settling-step : (new : Boot) (out : BootStore) (after : CutRegion) (left : ℕ) → Gives old (span now i) new out
       → new.erasure ≡ old.erasure → new.count ≡ old.count → (IsFixing new.phase → IsFixing old.phase)
       → (IsFixing new.phase → KeepsReadings old.zone (span now i) (handed out)) → left ≡ limit - old.made
-      → then ≡ stored now i (take left (handed out)) → IsSettling z before first i limit n e new then
-  settling-step new out then left g er bl fx kp el is =
+      → after ≡ stored now i (take left (handed out)) → IsSettling z before first i limit n e new after
+  settling-step new out after left g er bl fx kp el is =
       let x : List ℕ = span now i in
       let given : List Store = handed out in
-      let y : span then i ≡ after_stores x (take left given) =
+      let y : span after i ≡ after_stores x (take left given) =
       ap (λ (c : CutRegion). span c i) is ∙ span-stored now i (take left given) (omega (arith, settling-spans, lt)) in
       let all : List Store = boot_stores z before in
       let t = was.total in
