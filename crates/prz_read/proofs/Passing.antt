@@ -1,10 +1,10 @@
 -- A boot that is made up to a limit, step by step
-use Rattle.std.proofs.Common.{◌≡◌, ℕ, ◌+◌, ◌-◌, ◌<◌, ◌≤◌, List, [], ◌∷◌, ◌++◌, length, get_or, if◌then◌else◌, take, drop, inl, inr, refl, sym, ap, ap₂, ◌∙◌, subst, arith, take_all, length-take, length-append, append-nil, take-add, take-take}
+use Rattle.std.proofs.Common.{◌≡◌, ℕ, ◌+◌, ◌-◌, ◌<◌, ◌≤◌, List, [], ◌∷◌, ◌++◌, length, get_or, if◌then◌else◌, take, drop, inl, inr, refl, sym, ap, ap₂, ◌∙◌, subst, arith, take_all, length-take, append-nil, take-add, take-take}
 use Rattle.std.proofs.lemmas.Bool.{cases_lt}
 use Rattle.std.proofs.lemmas.List.{get_or_default}
 use Rattle.list_laws.proofs.Elements.{take-append}
 use Rattle.zone_spec.specs.declared.Zone.{Zone}
-use Rattle.zone_spec.specs.Parts.{Part, Block}
+use Rattle.zone_spec.specs.Parts.{Block}
 use Rattle.zone_spec.specs.PartReadings.{part_reading}
 use Rattle.zone_spec.specs.Stores.{Store, after_stores}
 use Rattle.zone_spec.specs.Boot.{boot_erasure, boot_stores, keeps, signing}

@@ -1,7 +1,6 @@
 -- A block as the log and the tail after it have it, and pieces of lists
-use Rattle.std.proofs.Common.{◌≡◌, ℕ, ◌+◌, ◌-◌, ◌*◌, ◌/◌, ◌<◌, ◌≤◌, min, List, [], ◌++◌, length, take, drop, inl, inr, refl, sym, ap, ap₂, ◌∙◌, arith, take_all, length-take, length-drop, length-append}
+use Rattle.std.proofs.Common.{◌≡◌, ℕ, ◌+◌, ◌-◌, ◌*◌, ◌/◌, ◌<◌, ◌≤◌, min, List, ◌++◌, length, take, drop, inl, inr, refl, sym, ap, ap₂, ◌∙◌, arith, take_all, length-take}
 use Rattle.std.proofs.lemmas.Bool.{cases_lt}
-use Rattle.std.proofs.lemmas.List.{drop_all}
 use Rattle.std.proofs.Math.Nat.{mul-le-mul_left}
 use Rattle.list_laws.proofs.Elements.{take-append}
 use Rattle.list_laws.proofs.Ranges.{map-range_from_places}
@@ -20,7 +19,7 @@ use Rattle.zone_boot.proofs.Rows.{drop-append}
 use Rattle.zone_boot.proofs.Parting.{byte-take}
 use Rattle.zone_boot.proofs.Blocks.{bytes_at-drop, bytes_at-take}
 use Rattle.prz_read.specs.Reads.{bytes_read, read_end}
-use Rattle.prz_read.specs.Sources.{unturned, HasBlock}
+use Rattle.prz_read.specs.Sources.{HasBlock}
 use Rattle.prz_read.proofs.Images.{block-length}
 use Rattle.prz_read.proofs.Fronts.{block-byte}
 use Rattle.prz_read.proofs.Tails.{log-unturned}

@@ -1,11 +1,8 @@
 -- The bytes after a log that its last block reads, and the log turned back
-use Rattle.std.proofs.Common.{◌≡◌, ℕ, zero, suc, ◌+◌, ◌-◌, ◌*◌, ◌/◌, ◌%◌, ◌<◌, ◌≤◌, min, List, [], ◌++◌, length, take, drop, slice_range, flat_map, refl, sym, ap, ap₂, ◌∙◌, subst, arith, length-take, length-drop, length-append, take-append-drop, take_all, append_assoc}
-use Rattle.std.specs.List.{range_with_len}
-use Rattle.std.proofs.Math.Seq.{take-add, take-append_seam, drop-append_seam}
-use Rattle.std.proofs.lemmas.List.{append-nil, drop-drop}
+use Rattle.std.proofs.Common.{◌≡◌, ℕ, ◌+◌, ◌-◌, ◌*◌, ◌/◌, ◌%◌, ◌<◌, ◌≤◌, min, List, [], ◌++◌, length, take, drop, sym, ap, ap₂, ◌∙◌, subst, arith, length-take, length-drop, length-append, take-append-drop, take_all, append_assoc}
+use Rattle.std.proofs.Math.Seq.{take-append_seam, drop-append_seam}
+use Rattle.std.proofs.lemmas.List.{append-nil}
 use Rattle.std.proofs.lemmas.Grind.{div_ceil_times}
-use Rattle.std.proofs.Math.Nat.{min-le_right}
-use Rattle.list_laws.proofs.Slices.{length-slice_range}
 use Rattle.list_laws.proofs.RoundingUp.{div_ceil_is}
 use Rattle.zone_spec.specs.declared.Zone.{Zone}
 use Rattle.zone_spec.specs.declared.Words.{Words}
@@ -14,16 +11,14 @@ use Rattle.zone_spec.specs.declared.State.TheVariants.{Found}
 use Rattle.zone_spec.specs.Zones.{IsValidZone}
 use Rattle.zone_spec.specs.Parts.{AreBytes, Block}
 use Rattle.zone_spec.specs.PartReadings.{part_reading, words_read}
-use Rattle.zone_spec.specs.Reading.{log_read, IsRing, blocks_below, zone_reading, reading_in}
-use Rattle.zone_spec.specs.Stores.{Store}
-use Rattle.zone_spec.specs.Boot.{fix_stores, part_fixes}
+use Rattle.zone_spec.specs.Reading.{log_read, IsRing, zone_reading, reading_in}
 use Rattle.ring_laws.proofs.PartsLaw.{block_some}
 use Rattle.ring_laws.proofs.BootLaw.{length-reading}
 use Rattle.ring_laws.proofs.States.{reading_words, reading_state}
 use Rattle.prz_read.specs.Reads.{bytes_read, read_end}
 use Rattle.prz_read.specs.Sources.{unturned}
 use Rattle.prz_read.proofs.Images.{block-length}
-use Rattle.prz_read.proofs.Fronts.{bytes_read-length, bytes_read-next, bytes_read-none, log-turned, ring-found}
+use Rattle.prz_read.proofs.Fronts.{bytes_read-length, bytes_read-next, log-turned, ring-found}
 
 -- ---- blocks
 module _ (z : Zone) (x : List ℕ) (valid : IsValidZone z) (size : length x ≡ z.size) (bytes : AreBytes x) where

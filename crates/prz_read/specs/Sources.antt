@@ -7,7 +7,7 @@ use Rattle.zone_spec.specs.Parts.{Block}
 use Rattle.zone_spec.specs.PartReadings.{part_reading}
 use Rattle.zone_boot.specs.declared.boots.Boot.{Boot}
 use Rattle.zone_boot.specs.declared.boots.Phase.{Phase}
-use Rattle.zone_boot.specs.declared.boots.Phase.TheVariants.{Header as HeaderPhase, Blocks, Signature, Start, Size, Parity, Finished}
+use Rattle.zone_boot.specs.declared.boots.Phase.TheVariants.{Header as HeaderPhase, Blocks, Finished}
 
 -- a list that was turned to begin at start, as it was before
 abbrev pub unturned : ℕ → List ℕ → List ℕ

@@ -1,5 +1,5 @@
 -- How many stores are left, whatever the zone's bytes are
-use Rattle.std.proofs.Common.{◌≡◌, ℕ, zero, suc, ◌+◌, ◌==◌, Bool, true, false, if◌then◌else◌, List, [], ◌∷◌, ◌++◌, length, take, drop, flat_map, refl, sym, ap, ap₂, ◌∙◌, subst, arith, length-append, get_or-drop}
+use Rattle.std.proofs.Common.{◌≡◌, ℕ, suc, ◌+◌, ◌==◌, Bool, true, false, if◌then◌else◌, List, [], ◌∷◌, ◌++◌, length, take, drop, flat_map, sym, ap, ◌∙◌, arith, length-append, get_or-drop}
 use Rattle.std.specs.Prelude.{sum_by}
 use Rattle.std.specs.List.{AllByRecursion, range_with_len}
 use Rattle.list_laws.proofs.Elements.{AllByRecursion-append}
@@ -8,7 +8,7 @@ use Rattle.zone_spec.specs.Zones.{IsValidZone}
 use Rattle.zone_spec.specs.Parts.{AreBytes, Part, Header, Block}
 use Rattle.zone_spec.specs.PartReadings.{part_reading}
 use Rattle.zone_spec.specs.Stores.{Store, after_stores}
-use Rattle.zone_spec.specs.Stages.{Stage, SigWord, SizeWord, ParityOf, stage_count, stores_in_turn}
+use Rattle.zone_spec.specs.Stages.{Stage, stage_count, stores_in_turn}
 use Rattle.zone_spec.specs.Calls.{erase_stages}
 use Rattle.zone_spec.specs.Boot.{fix_stores, part_fixes, boot_fixes, boot_erasure, boot_stores}
 use Rattle.ring_laws.proofs.BootLaw.{length-reading}

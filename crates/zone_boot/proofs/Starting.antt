@@ -15,7 +15,7 @@ use Rattle.zone_spec.specs.Reading.{ZoneReading, zone_reading, state_of}
 use Rattle.zone_spec.specs.Stores.{Store, after_stores}
 use Rattle.zone_spec.specs.Stages.{Stage, stores_in_turn}
 use Rattle.zone_spec.specs.Calls.{erase_stages}
-use Rattle.zone_spec.specs.Boot.{part_fixes, boot_fixes, boot_erasure, boot_stores, blocks_read, keeps, keeps_in, is_kept, signing}
+use Rattle.zone_spec.specs.Boot.{part_fixes, boot_fixes, boot_erasure, boot_stores, blocks_read, keeps, keeps_in, signing}
 use Rattle.ring_laws.proofs.PartsLaw.{slice_range-bytes}
 use Rattle.ring_laws.proofs.BootLaw.{length-reading}
 use Rattle.ring_laws.proofs.States.{reading_words, reading_state}

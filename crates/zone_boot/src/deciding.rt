@@ -57,13 +57,7 @@ fn is_found_kept(table: &[u128], image: &[u8], zone: &Zone, words: Words) -> boo
 }
 
 /// Whether a boot leaves a zone with these words, which make this state, without erasing it.
-pub(crate) fn keeps(
-    table: &[u128],
-    image: &[u8],
-    zone: &Zone,
-    words: Words,
-    state: State,
-) -> bool
+pub(crate) fn keeps(table: &[u128], image: &[u8], zone: &Zone, words: Words, state: State) -> bool
     requires table { IsLent zone.now.parity table.now }
     requires valid { IsValidZone zone.now }
     requires size { length image.now ≡ zone.now.size }

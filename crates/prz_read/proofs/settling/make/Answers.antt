@@ -1,5 +1,5 @@
 -- A word, a run or nothing, as far as the limit lets. For `make`.
-use Rattle.std.proofs.Common.{◌≡◌, List, ℕ, [], length, min, take, refl, sym, ap, ◌∙◌, arith, take_all}
+use Rattle.std.proofs.Common.{◌≡◌, List, ℕ, [], length, min, take, sym, ap, ◌∙◌, arith, take_all}
 use Rattle.zone_spec.specs.Stores.{Store}
 use Rattle.prz_region.specs.CutRegion.{stored}
 use Rattle.prz_region.proofs.Cuts.{stored-none}

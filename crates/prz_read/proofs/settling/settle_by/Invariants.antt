@@ -1,5 +1,5 @@
 -- The stores handed out so far are made up to the limit, and each turn leaves fewer. For the loop of `settle_by`.
-use Rattle.std.proofs.Common.{◌≡◌, ◌+◌, ℕ, length}
+use Rattle.std.proofs.Common.{◌+◌, length}
 use Rattle.prz_region.specs.CutRegion.{span}
 use Rattle.zone_boot.specs.Booting.{left_of}
 use Rattle.prz_read.specs.Sources.{rank}
