@@ -1,9 +1,9 @@
 -- The stores left are those of the start: no block passed over had a correction. For the loop of
--- `fix_blocks`.
+-- `correct_blocks`.
 use Rattle.std.proofs.Common.{◌≡◌, ◌-◌}
 use Rattle.zone_boot.specs.declared.boots.Phase.TheVariants.{Blocks}
 use Rattle.zone_boot.specs.Booting.{left_of, IsKept}
-use Rattle.zone_boot.proofs.boots.Boot.fix_blocks.Given as goal
+use Rattle.zone_boot.proofs.boots.Boot.correct_blocks.Given as goal
 
 -- the same stores are left
 abbrev pub invariant-loop-self : goal.invariant-loop-self
