@@ -78,7 +78,7 @@ zones_short d has = step (layout_of (params_of d)) refl has
     step (Err fault) e h = absurd (true≢false (sym h))
 
 -- no layout has more faults than this
-few_faults : (known : Known) (image : List ℕ) (d : Candidate) → marks image < 2 ^ 62
+pub few_faults : (known : Known) (image : List ℕ) (d : Candidate) → marks image < 2 ^ 62
     → is_of_family known image d ≡ true → faults image (zones_of d) ≤ 2 ^ 62 + 2 ^ 32
 few_faults known image d few family = omega (
   arith,

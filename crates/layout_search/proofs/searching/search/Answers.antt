@@ -16,16 +16,16 @@ returns c =
     let whole = nat_lt 0 others.work in
     let state = c.in_ok-state.state in
     let work : 0 < state.work = omega arith in
-    let kept = rw c.in-Some-2.is at c.in_ok-state.ensures.sound in
-    let first = rw c.in-Some-2.is at (c.in_ok-state.ensures.first work) in
+    let kept = rw c.in-Some-best.is at c.in_ok-state.ensures.sound in
+    let first = rw c.in-Some-best.is at (c.in_ok-state.ensures.first work) in
     subst (λ (f : Found). IsAnswer c.args.known.now c.args.image.now f) (sym c.answer-2.ensures)
     (subst (λ (r : Option Candidate). IsAnswer c.args.known.now c.args.image.now (record {
-      candidate = c.in-Some-2.best.candidate;
-      tally = c.in-Some-2.best.tally;
-      taken = is_taken c.in-Some-2.best.tally;
+      candidate = c.in-Some-best.best.candidate;
+      tally = c.in-Some-best.best.tally;
+      taken = is_taken c.in-Some-best.best.tally;
       rival = r;
       whole = whole;
     })) (sym c.candidate_of-rival.ensures)
-    (wholly c.args.known.now c.args.image.now c.in-Some-2.best others.best whole kept first c.in_ok-others.ensures.sound
+    (wholly c.args.known.now c.args.image.now c.in-Some-best.best others.best whole kept first c.in_ok-others.ensures.sound
     (λ e. c.in_ok-others.ensures.settled (ltb-true 0 others.work e))
     (λ e. c.in_ok-others.ensures.given_up (omega (arith, ltb-false 0 others.work e)))))
