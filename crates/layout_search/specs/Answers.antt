@@ -1,5 +1,5 @@
 -- What a search answers
-use Rattle.std.specs.Prelude.{◌≡◌, ◌≢◌, ◌≤◌, ◌<◌, ℕ, Bool, true, false, ◌&&◌, is_some, List, MatchOption}
+use Rattle.std.specs.Prelude.{◌≡◌, ◌≢◌, ◌≤◌, ◌<◌, ℕ, Bool, true, false, ◌&&◌, is_some, List, Option, MatchOption}
 use Rattle.layout_spec.specs.declared.Candidate.{Candidate}
 use Rattle.layout_spec.specs.declared.Known.{Known}
 use Rattle.layout_spec.specs.Family.{is_of_family}
@@ -47,3 +47,7 @@ pub record IsAnswer (known : Known) (image : List ℕ) (f : Found) : Type 0 wher
   pub first : f.whole ≡ true → (d : Candidate) → is_of_family known image d ≡ true
       → is_before (key image d) (key image f.candidate) ≡ false
   pub next : f.whole ≡ true → MatchOption f.rival (IsAlone known image f.candidate) (IsNext known image f.candidate)
+
+-- no layout is answered only where none agrees with what is known
+abbrev pub IsSearched : Known → List ℕ → Option Found → Type 0
+IsSearched known image found = MatchOption found (IsEmpty known image) (IsAnswer known image)

@@ -10,7 +10,7 @@ ghost use Rattle.layout_search.specs.declared.progress.Best.{Best as BestValue};
 ghost use Rattle.layout_search.specs.declared.progress.Effort.TheVariants.{All};
 ghost use Rattle.layout_spec.specs.Laid.{zones_of};
 ghost use Rattle.layout_spec.specs.Taken.{is_taken};
-ghost use Rattle.layout_search.specs.Answers.{IsAnswer, IsEmpty, AreFaulty, MayGiveUp, is_narrow};
+ghost use Rattle.layout_search.specs.Answers.{IsEmpty, IsSearched, AreFaulty, MayGiveUp, is_narrow};
 
 use crate::lists::{Lists, make_lists};
 use crate::marks::count_marks;
@@ -246,7 +246,7 @@ fn find_rival(
 /// The layout of the family that comes first for these bytes, of those that agree with what is known. `None` only if
 /// none agrees. It does not write. Where it may give up it does so after so much work, and says so.
 pub fn search(alloc: Global, image: &[u8], known: &Known) -> Result<Option<Found>, AllocError>
-    ensures { IfOk result (λ found. MatchOption found (IsEmpty known.now image.now) (IsAnswer known.now image.now)) }
+    ensures { IfOk result (IsSearched known.now image.now) }
 {
     let lists = make_lists(alloc, known, image.len() as u64)?;
     let marks = count_marks(image);
