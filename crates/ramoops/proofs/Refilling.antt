@@ -153,7 +153,7 @@ log_started v x i log call zs d all bytes h g e running fit below blank ezs eall
     let w : LiveSeen = record v { zones = set v.zones i g } in
     let f = blank_here v x i log zs d all bytes h e running fit below blank ezs eall eb eh in
     let b : LogBegun v w i z h g log = record {
-      changes = record { layout = refl; mem = refl; spans = sym (same_span v.spans i); zones = refl };
+      changes = record { layout = refl; mem = refl; spans = sym (same_span v.spans i); rest = refl; zones = refl };
       cursor = refl;
       told = told;
       flies = λ k n. flies k n ∙ ec;
