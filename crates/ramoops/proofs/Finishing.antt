@@ -14,6 +14,7 @@ use Rattle.ramoops.specs.LiveSeen.{LiveSeen, StandsLive, Leaves, ChangesZone, St
 use Rattle.ramoops.specs.Places.{unless_dump, ring_at, place_asked}
 use Rattle.ramoops.specs.Storing.{stores_left_of}
 use Rattle.std.proofs.lemmas.Bool.Decides.{nat_tests}
+use Rattle.std.proofs.lemmas.List.{nil_from_length}
 use Rattle.std.proofs.lemmas.Option.{slice_get_within}
 use Rattle.std.proofs.Math.Seq.{take-length}
 use Rattle.circular_buffer.proofs.Places.{slice_get-set_same}

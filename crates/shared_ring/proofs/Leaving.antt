@@ -25,6 +25,7 @@ use Rattle.shared_ring.specs.Seats.{is_of, call_of, shown_seat, one_more, seats_
 use Rattle.shared_ring.specs.Seen.{SharedSeen, bytes_of, words_of, StandsFor, IsLeftBy, seated, stepped, words_store, byte_store, IsStepped}
 use Rattle.shared_ring.proofs.SeatLists.{more_cases, each_stepped, set_pieces}
 use Rattle.shared_ring.proofs.Tickets.{AreRising, after_own}
+use Rattle.prz_region.proofs.Cuts.{spans-length}
 use Rattle.shared_ring.proofs.Regions.{before_stored, after_stored, one_stored}
 use Rattle.shared_ring.proofs.Standing.{shown_at, rising, seat_place, no_call, the_seat}
 
@@ -50,7 +51,7 @@ reserved_stands z image os can whole v payload s some =
     ap (λ (bytes : List ℕ). (standing_words bytes).start) s.bytes in
     record {
       zone = s.zone;
-      there = omega (arith, s.there, length-set v.region.spans v.place _);
+      there = omega (arith, s.there, spans-length v.region v.place (n ∷ []));
       bytes = one_stored v.region v.place n s.there
           ∙ ap (λ (y : Zone). put (bytes_of v) 4 (to_le_bytes w32 (((words_of v).start + length payload) % y.cap)
           ++ to_le_bytes w32 (min y.cap ((words_of v).size + length payload)))) s.zone
@@ -139,7 +140,7 @@ stepped_stands z whole shared v i x s e =
     let f : slice_get (open_calls z shared) i ≡ Some (shown_seat x) = shown_at z whole shared v s i x e in
     record {
       zone = s.zone;
-      there = omega (arith, s.there, length-set v.region.spans v.place _);
+      there = omega (arith, s.there, spans-length v.region v.place (n ∷ []));
       bytes = one_stored v.region v.place n s.there
           ∙ ap (λ (y : Zone). put (bytes_of v) (12 + (x.place + x.stored) % y.cap)
           (slice_index x.payload x.stored ∷ []))

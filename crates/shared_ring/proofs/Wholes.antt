@@ -12,6 +12,7 @@ use Rattle.prz_region.specs.CutRegion.{span, stored}
 use Rattle.shared_ring.specs.declared.seats.Seat.{Seat}
 use Rattle.shared_ring.specs.Seats.{one_more}
 use Rattle.shared_ring.specs.Seen.{SharedSeen, bytes_of, words_of, IsWhole, seated, stepped, words_store, byte_store}
+use Rattle.prz_region.proofs.Cuts.{spans-length}
 use Rattle.shared_ring.proofs.Regions.{one_stored}
 use Rattle.shared_ring.proofs.SeatLists.{are_stepped, are_more}
 
@@ -28,7 +29,7 @@ seated_whole v payload w seat some room =
     let cap : v.zone.cap < 2 ^ 32 = omega (arith, w.room, w.short) in
     let new : Seat = record { ticket = v.reserved; place = (words_of v).start; stored = 0; payload = payload } in
     record {
-      there = omega (arith, w.there, length-set v.region.spans v.place _);
+      there = omega (arith, w.there, spans-length v.region v.place (s ∷ []));
       sized = ap length at
           ∙ length-put (bytes_of v) 4 (to_le_bytes w32 start ++ to_le_bytes w32 size) ∙ w.sized;
       short = w.short;
@@ -63,7 +64,7 @@ stepped_whole v i s w e =
     let same : standing_words (span (stored v.region v.place (byte ∷ [])) v.place) ≡ words_of v =
     ap standing_words at ∙ byte_words (bytes_of v) p (slice_index s.payload s.stored) in
     record {
-      there = omega (arith, w.there, length-set v.region.spans v.place _);
+      there = omega (arith, w.there, spans-length v.region v.place (byte ∷ []));
       sized = ap length at ∙ length-put (bytes_of v) (12 + p) (slice_index s.payload s.stored ∷ []) ∙ w.sized;
       short = w.short;
       room = w.room;

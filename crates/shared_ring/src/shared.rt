@@ -1,9 +1,5 @@
 // The shared zone.
 ghost use Rattle.std.specs.Prelude.{◌≡◌, ◌<◌, ◌≤◌, ◌+◌, ◌^◌, ◌++◌, [], length, slice_get, IfOk, IfErr, MatchResult, OnOk, OnErr, IfNone, is_some, Some, None};
-ghost use Rattle.std.specs.Int.{to_le_bytes};
-ghost use Rattle.std.proofs.Common.{w32};
-ghost use Rattle.zone_spec.specs.Stores.{put};
-ghost use Rattle.prz_region.specs.CutRegion.{span, with_span};
 ghost use Rattle.zone_spec.specs.Parts.{standing_words};
 ghost use Rattle.ramoops_layout.specs.Laid.{params_of, zones_of};
 ghost use Rattle.zone_spec.specs.Reading.{zone_reading};

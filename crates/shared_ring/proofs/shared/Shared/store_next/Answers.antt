@@ -1,6 +1,6 @@
 -- The byte stored is the seat's next, at its next place, and the zone stays whole. For
 -- `store_next`.
-use Rattle.std.proofs.Common.{◌≡◌, ℕ, ◌+◌, ◌%◌, List, length, set, arith, sym, ap, ap₂, ◌∙◌, subst, Some}
+use Rattle.std.proofs.Common.{◌≡◌, ℕ, ◌+◌, ◌%◌, List, [], ◌∷◌, length, arith, sym, ap, ap₂, ◌∙◌, subst, Some}
 use Rattle.std.specs.Prelude.{slice_get, slice_index}
 use Rattle.prz_region.specs.CutRegion.{CutRegion, stored}
 use Rattle.shared_ring.specs.declared.seats.Seat.{Seat}
