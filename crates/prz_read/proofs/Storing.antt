@@ -2,14 +2,14 @@
 use Rattle.std.proofs.Common.{◌≡◌, ℕ, suc, ◌+◌, ◌-◌, ◌<◌, ◌≤◌, List, [], ◌∷◌, ◌++◌, length, take, drop, get_or, Bool, true, false, ◌==◌, if◌then◌else◌, refl, sym, ap, ap₂, ◌∙◌, subst, arith, inl, inr, length-take, length-append, get_or-drop, append_assoc}
 use Rattle.std.specs.List.{AllByRecursion}
 use Rattle.std.proofs.lemmas.Bool.{cases_lt}
-use Rattle.std.proofs.lemmas.List.{get_or_default, set-get_or, drop-set-lt, take-append-le, take_all, take_more}
+use Rattle.std.proofs.lemmas.List.{get_or_default, drop-set-lt, take-append-le, take_all, take_more}
 use Rattle.std.proofs.lemmas.Bool.Decides.{nat_tests}
-use Rattle.ring_laws.proofs.Images.{after_stores-append, length-after_stores}
+use Rattle.ring_laws.proofs.Images.{length-after_stores}
 use Rattle.list_laws.proofs.Elements.{AllByRecursion-append, take-append}
 use Rattle.zone_spec.specs.Stores.{Store, put, after_stores, byte_stores}
 use Rattle.zone_spec.specs.Boot.{fix_stores}
-use Rattle.prz_region.specs.CutRegion.{CutRegion, span, with_span}
-use Rattle.prz_region.proofs.Cuts.{with_span-again, span-with_span, spans-length}
+use Rattle.prz_region.specs.CutRegion.{CutRegion, span, stored}
+use Rattle.prz_region.proofs.Cuts.{stored-again, stored-none, span-stored, spans-length}
 use Rattle.prz_read.specs.declared.settling.Tally.{Tally}
 use Rattle.ring_laws.proofs.StoreBytes.{all-take}
 use Rattle.prz_read.specs.Making.{Makes}
@@ -19,11 +19,9 @@ use Rattle.prz_read.specs.Making.{Makes}
 -- ---- stores up to a limit
 module _ (i : ℕ) (t : Tally) (c : CutRegion) where
   pub makes-none : Makes [] i t c t c
-  unfolding after_stores
   makes-none = record {
-    spans = ap (λ (l : List (List ℕ)). record { spans = l; rest = c.rest }) (sym (set-get_or c.spans i []))
-        ∙ ap (λ (ss : List Store). with_span c i (after_stores (span c i) ss))
-        (sym (take_all (t.limit - t.count) [] (omega arith)));
+    spans = sym (stored-none c i)
+        ∙ ap (λ (ss : List Store). stored c i ss) (sym (take_all (t.limit - t.count) [] (omega arith)));
     limit = refl;
     count = omega arith;
   }
@@ -34,7 +32,7 @@ module _ {i : ℕ} {t t' : Tally} {c c' : CutRegion} {ss : List Store} where
 
   pub makes-span : Makes ss i t c t' c' → i < length c.spans
       → span c' i ≡ after_stores (span c i) (take (t.limit - t.count) ss)
-  makes-span m lt = ap (λ (d : CutRegion). span d i) m.spans ∙ span-with_span c i _ lt
+  makes-span m lt = ap (λ (d : CutRegion). span d i) m.spans ∙ span-stored c i _ lt
 
   pub makes-length : Makes ss i t c t' c' → i < length c.spans → length (span c' i) ≡ length (span c i)
   makes-length m lt = ap length (makes-span m lt) ∙ length-after_stores (span c i) _
@@ -44,18 +42,14 @@ module _ {i : ℕ} {t t' t'' : Tally} {c c' c'' : CutRegion} {ss ts : List Store
       → Makes (ss ++ ts) i t c t'' c''
   makes-append lt m k =
       let n : ℕ = t.limit - t.count in
-      let x : List ℕ = span c i in
       let left : t'.limit - t'.count ≡ n - length ss = (let a = m.limit in let b = m.count in omega (arith, a, b)) in
       record {
         spans =
             k.spans
-            ∙ ap (λ (y : List ℕ). with_span c' i (after_stores y (take (t'.limit - t'.count) ts))) (makes-span m lt)
-            ∙ ap (λ (d : CutRegion). with_span d i (after_stores (after_stores x (take n ss))
-            (take (t'.limit - t'.count) ts))) m.spans
-            ∙ with_span-again c i _ _
-            ∙ ap (λ (m : ℕ). with_span c i (after_stores (after_stores x (take n ss)) (take m ts))) left
-            ∙ ap (λ (y : List ℕ). with_span c i y) (sym (after_stores-append x (take n ss) (take (n - length ss) ts)))
-            ∙ ap (λ (l : List Store). with_span c i (after_stores x l)) (sym (take-append n ss ts));
+            ∙ ap (λ (d : CutRegion). stored d i (take (t'.limit - t'.count) ts)) m.spans
+            ∙ stored-again c i (take n ss) (take (t'.limit - t'.count) ts) lt
+            ∙ ap (λ (m : ℕ). stored c i (take n ss ++ take m ts)) left
+            ∙ ap (λ (l : List Store). stored c i l) (sym (take-append n ss ts));
         limit = k.limit ∙ m.limit;
         count = (let a = m.count in let b = k.count in omega (arith, a, b, length-append ss ts));
       }
@@ -66,7 +60,7 @@ module _ {i : ℕ} {t t' t'' : Tally} {c c' c'' : CutRegion} {ss ts : List Store
       → Makes (ss ++ P (after_stores (span c i) ss)) i t c t'' c''
   makes-then P lt m is same k = elim (cases_lt (t.limit - t.count) (length ss)) [
     | inl few ↦ (let all = makes-append lt m k in record {
-      spans = all.spans ∙ ap (λ (l : List Store). with_span c i (after_stores (span c i) l))
+      spans = all.spans ∙ ap (λ (l : List Store). stored c i l)
           (take-append-le (t.limit - t.count) ss ts (omega arith)
           ∙ sym (take-append-le (t.limit - t.count) ss (P (after_stores (span c i) ss)) (omega arith)));
       limit = all.limit;
@@ -92,23 +86,20 @@ module _ {i : ℕ} {t t' : Tally} {c c' : CutRegion} where
 -- one store, made or only counted
 module _ (i : ℕ) (t t' : Tally) (c c' : CutRegion) (s : Store) where
   pub makes-one : t.count < t.limit → t' ≡ record t { count = t.count + 1 }
-      → c' ≡ with_span c i (put (span c i) s.place s.bytes) → Makes (s ∷ []) i t c t' c'
-  unfolding after_stores
+      → c' ≡ stored c i (s ∷ []) → Makes (s ∷ []) i t c t' c'
   makes-one lt e f = record {
-    spans = f ∙ ap (λ (l : List Store). with_span c i (after_stores (span c i) l))
+    spans = f ∙ ap (λ (l : List Store). stored c i l)
         (sym (take_all (t.limit - t.count) (s ∷ []) (omega arith)));
     limit = ap (λ (u : Tally). u.limit) e;
     count = ap (λ (u : Tally). u.count) e;
   }
 
   pub makes-past : t.limit ≤ t.count → t' ≡ record t { count = t.count + 1 } → c' ≡ c → Makes (s ∷ []) i t c t' c'
-  unfolding after_stores
   makes-past le e f = record {
     spans =
         f ∙ (makes-none i t c).spans
-        ∙ ap (λ (l : List Store). with_span c i (after_stores (span c i) l))
-        (take_all (t.limit - t.count) [] (omega arith))
-        ∙ ap (λ (n : ℕ). with_span c i (after_stores (span c i) (take n (s ∷ []))))
+        ∙ ap (λ (l : List Store). stored c i l) (take_all (t.limit - t.count) [] (omega arith))
+        ∙ ap (λ (n : ℕ). stored c i (take n (s ∷ [])))
         (let z : 0 ≡ t.limit - t.count = omega arith in z);
     limit = ap (λ (u : Tally). u.limit) e;
     count = ap (λ (u : Tally). u.count) e;

@@ -4,11 +4,11 @@ ghost use Rattle.std.specs.Int.{to_le_bytes};
 ghost use Rattle.std.proofs.Common.{w32};
 ghost use Rattle.zone_spec.specs.Zones.{IsValidZone};
 ghost use Rattle.zone_spec.specs.Reading.{zone_reading};
-ghost use Rattle.zone_spec.specs.Stores.{after_stores, byte_stores, word_store};
+ghost use Rattle.zone_spec.specs.Stores.{byte_stores, word_store};
 ghost use Rattle.zone_spec.specs.Stages.{stores_in_turn};
 ghost use Rattle.zone_spec.specs.Calls.{erase_stages};
 ghost use Rattle.zone_spec.specs.Boot.{fix_stores, boot_fixes, boot_stores, signing, keeps as keeps_zone};
-ghost use Rattle.prz_region.specs.CutRegion.{span, with_span};
+ghost use Rattle.prz_region.specs.CutRegion.{span, stored};
 ghost use Rattle.prz_read.specs.Reads.{bytes_read, read_end};
 
 use crate::reading::{Reading, keeps};
@@ -278,8 +278,7 @@ pub fn settle_by(
     requires span { i < length spans.old.spans }
     requires size { length (span spans.old i) ≡ zone.now.size }
     requires reading { reading.now ≡ zone_reading zone.now (span spans.old i) }
-    ensures stores { spans.new ≡ with_span spans.old i (after_stores (span spans.old i)
-        (take limit (boot_stores zone.now (span spans.old i)))) }
+    ensures stores { spans.new ≡ stored spans.old i (take limit (boot_stores zone.now (span spans.old i))) }
     ensures made { result.made ≡ min limit (length (boot_stores zone.now (span spans.old i))) }
     ensures all { result.all ≡ length (boot_stores zone.now (span spans.old i)) }
     ensures erase_at { result.erase_at ≡ length (boot_fixes zone.now (span spans.old i)) }
@@ -302,8 +301,7 @@ pub fn settle(spans: &mut Spans, i: u32, zone: &Zone, reading: &Reading, limit: 
     requires span { i < length spans.old.spans }
     requires size { length (span spans.old i) ≡ zone.now.size }
     requires reading { reading.now ≡ zone_reading zone.now (span spans.old i) }
-    ensures stores { spans.new ≡ with_span spans.old i (after_stores (span spans.old i)
-        (take limit (boot_stores zone.now (span spans.old i)))) }
+    ensures stores { spans.new ≡ stored spans.old i (take limit (boot_stores zone.now (span spans.old i))) }
     ensures made { result.made ≡ min limit (length (boot_stores zone.now (span spans.old i))) }
     ensures all { result.all ≡ length (boot_stores zone.now (span spans.old i)) }
     ensures erase_at { result.erase_at ≡ length (boot_fixes zone.now (span spans.old i)) }

@@ -6,7 +6,7 @@ use Rattle.zone_spec.specs.Stores.{Store, after_stores}
 use Rattle.zone_spec.specs.Stages.{stores_in_turn}
 use Rattle.zone_spec.specs.Calls.{erase_stages}
 use Rattle.zone_spec.specs.Boot.{boot_fixes, boot_stores, signing, keeps}
-use Rattle.prz_region.specs.CutRegion.{span, with_span}
+use Rattle.prz_region.specs.CutRegion.{span, stored}
 use Rattle.prz_read.proofs.Storing.{makes-same, makes-then, makes-length, makes-span, span-is}
 use Rattle.ring_laws.proofs.StoreBytes.{all-take}
 use Rattle.prz_read.proofs.Erasures.{HasBytes, after-bytes, unkept-long, boot_stores-are, fixes-bytes}
@@ -36,8 +36,8 @@ returns c =
     let n = all.count in
     let k = corrected.count in
     record {
-      stores = all.spans ∙ ap (λ (m : ℕ). with_span c.args.spans.now c.args.i
-          (after_stores x (take m (boot_stores z x)))) (let e : c.args.limit - 0 ≡ c.args.limit = omega arith in e);
+      stores = all.spans ∙ ap (λ (m : ℕ). stored c.args.spans.now c.args.i
+          (take m (boot_stores z x))) (let e : c.args.limit - 0 ≡ c.args.limit = omega arith in e);
       made = c.min.ensures ∙ ap (λ (m : ℕ). min c.args.limit m)
           (let e : c.erase_unless_kept.new.self.count ≡ length (boot_stores z x) = omega (arith, n) in e);
       all = omega (arith, n);
