@@ -4,6 +4,7 @@ use Rattle.std.proofs.lemmas.Bool.{cases_lt}
 use Rattle.std.proofs.lemmas.Bool.Decides.{nat_tests}
 use Rattle.std.proofs.lemmas.Option.{slice_get_within}
 use Rattle.std.specs.List.{take-map}
+use Rattle.list_laws.proofs.Elements.{take-append}
 use Rattle.std.proofs.lemmas.List.{take_all, length-map}
 use Rattle.prz_region.proofs.Cuts.{span-stored, span-other}
 use Rattle.zone_spec.specs.declared.Zone.{Zone}
@@ -30,12 +31,6 @@ before_next layout cut n z e =
 pub before_none : (layout : List Zone) (cut : CutRegion) → stores_before layout cut 0 ≡ 0
 unfolding stores_before
 before_none layout cut = refl
-
--- the first stores of two lists, end to end
-take-append : {X : Type 0} (n : ℕ) (xs ys : List X) → take n (xs ++ ys) ≡ take n xs ++ take (n - length xs) ys
-take-append n [] ys = refl
-take-append zero (x ∷ xs) ys = refl
-take-append (suc n) (x ∷ xs) ys = ap (λ zs. x ∷ zs) (take-append n xs ys)
 
 -- as many as are counted
 writes_length : (layout : List Zone) (cut : CutRegion) (n : ℕ) → length (boot_writes layout cut n)
