@@ -1,5 +1,5 @@
 -- All stores of a flight made in the machine, and a call begun and finished
-use Rattle.std.proofs.Common.{◌≡◌, ℕ, ◌<◌, ◌==◌, ◌||◌, Bool, true, false, cond, is_some, List, [], length, slice_get, get_or, refl, sym, ap, ◌∙◌, subst, arith, Option, Some, None, Result, Ok, Err, true≢false}
+use Rattle.std.proofs.Common.{◌≡◌, ℕ, ◌-◌, ◌<◌, ◌==◌, ◌||◌, Bool, true, false, cond, is_some, List, [], length, take, slice_get, get_or, refl, sym, ap, ◌∙◌, subst, arith, Option, Some, None, Result, Ok, Err, true≢false}
 use Rattle.zone_spec.specs.declared.Zone.{Zone}
 use Rattle.zone_spec.specs.declared.Kind.TheVariants.{Dump as DumpKind}
 use Rattle.zone_spec.specs.declared.Refusal.{Refusal}
@@ -109,7 +109,10 @@ whole_call : (z : Zone) (call : Call) (live : LiveZone) (b : Bool) → is_some l
 whole_call z call live true idle e =
     let none : length (call_stores z call live.image) ≡ 0 = grind (arith, nat_tests) in
     idle_left z live.flight idle ∙ sym (nil_from_length (call_stores z call live.image) none)
-whole_call z call live false idle e = take-length (call_stores z call live.image)
+whole_call z call live false idle e =
+    let all : List Store = call_stores z call live.image in
+    let n : length all - 0 ≡ length all = omega arith in
+    ap (λ (k : ℕ). take k all) n ∙ take-length all
 
 or_none : (a b : Bool) → (a || b) ≡ false → b ≡ false
 or_none true b e = absurd (true≢false e)

@@ -15,7 +15,7 @@ use Rattle.store_steps.specs.Counts.{total_of}
 use Rattle.store_steps.specs.Machine.{StandsFor}
 use Rattle.store_steps.proofs.Standing.{stands_image}
 use Rattle.store_steps.proofs.Stepping.{total_same}
-use Rattle.prz_region.specs.CutRegion.{CutRegion, span, stored as stored_in}
+use Rattle.prz_region.specs.CutRegion.{CutRegion, span, stored as region_stored}
 use Rattle.prz_region.proofs.Cuts.{stored-none}
 use Rattle.ramoops.specs.Made.{next_of}
 use Rattle.ramoops.specs.LiveSeen.{StandsForFlight, StandsForSome, StandsForZone}
@@ -196,17 +196,18 @@ module _ (k : ℕ) (z : Zone) (f g : Flying) (old new : List ℕ) (steps : Steps
 pub next_made : (z : Zone) (k i : ℕ) (old new : CutRegion) (f : Flying) (p : Option Flight)
     → StandsForSome z (span old i) (Some f) p
     → ((before : List ℕ) → StandsFor f (span old i) before
-    → new ≡ stored_in old i (take k (drop f.made (call_stores f.zone f.call before))))
-    → new ≡ stored_in old i (next_of p z k)
+    → new ≡ region_stored old i (take k (drop f.made (call_stores f.zone f.call before))))
+    → new ≡ region_stored old i (next_of p z k)
 next_made z k i old new f None s made = absurd s
 next_made z k i old new f (Some h) s made =
     made h.image s.image
-    ∙ ap₂ (λ (y : Zone) (c : Call). stored_in old i (take k (drop f.made (call_stores y c h.image)))) s.zone s.call
-    ∙ ap (λ (n : ℕ). stored_in old i (take k (drop n (call_stores z h.call h.image)))) s.made
+    ∙ ap₂ (λ (y : Zone) (c : Call). region_stored old i (take k (drop f.made (call_stores y c h.image)))) s.zone s.call
+    ∙ ap (λ (n : ℕ). region_stored old i (take k (drop n (call_stores z h.call h.image)))) s.made
 
 -- and none where no flight stands
-pub none_made : (z : Zone) (k i : ℕ) (old : CutRegion) (o : Option Flying) (p : Option Flight) → o ≡ None
-    → StandsForSome z (span old i) o p → old ≡ stored_in old i (next_of p z k)
+pub none_made : (z : Zone) (k i : ℕ) (old : CutRegion) (o : Option Flying) (p : Option Flight)
+    → ((f : Flying) → o ≡ Some f → ⊥)
+    → StandsForSome z (span old i) o p → old ≡ region_stored old i (next_of p z k)
 none_made z k i old None None e s = sym (stored-none old i)
 none_made z k i old None (Some f) e s = absurd s
-none_made z k i old (Some f) p e s = let n : ◌≡◌ {A = ℕ} 0 1 = cc in absurd (omega (arith, n))
+none_made z k i old (Some f) p e s = absurd (e f refl)

@@ -77,10 +77,11 @@ returns-clause-stores c zone live stands =
     (subst (λ (o : Option Flying). StandsForSome zone (span c.args.spans.now c.args.i) o live.flight)
     c.in-Some.is stands.flight) c.advance.ensures.stores
 
-pub returns-in-None-clause-others : goal.returns-in-None-clause-others
-returns-in-None-clause-others c =
+pub returns-in_default-clause-others : goal.returns-in_default-clause-others
+returns-in_default-clause-others c =
     record { stores = []; made = sym (stored-none c.args.spans.now c.args.i) }
 
-pub returns-in-None-clause-stores : goal.returns-in-None-clause-stores
-returns-in-None-clause-stores c zone live stands =
-    none_made zone c.args.count c.args.i c.args.spans.now c.args.held.now.flight live.flight c.in-None.is stands.flight
+pub returns-in_default-clause-stores : goal.returns-in_default-clause-stores
+returns-in_default-clause-stores c zone live stands =
+    none_made zone c.args.count c.args.i c.args.spans.now c.args.held.now.flight live.flight
+    c.in_default.not-Some stands.flight

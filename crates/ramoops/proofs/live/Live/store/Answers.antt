@@ -113,4 +113,5 @@ returns-clause-stored c =
 pub returns-clause-stores : goal.returns-clause-stores
 returns-clause-stores c =
     stores_made c.args.count _ c.args.self.now c.args.i c.index_mut.result.now c.advance-stored.new.spans
-    c.self.view_is c.self.invariant.0 c.requires c.index_mut.ensures.value c.advance-stored.ensures.stores _ refl
+    c.self.view_is c.self.invariant.0 c.requires c.index_mut.ensures.value c.advance-stored.ensures.stores
+    (record c.args.self.now { spans = c.advance-stored.new.spans }) refl
