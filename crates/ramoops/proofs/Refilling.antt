@@ -18,7 +18,7 @@ use Rattle.machine_spec.specs.Moved.{is_blank, with_log}
 use Rattle.machine_spec.specs.Sound.{IsLiveZone}
 use Rattle.machine_laws.proofs.Zones.{begun-sound}
 use Rattle.machine_laws.proofs.LiveStates.{with_zone-sound}
-use Rattle.prz_read.proofs.Storing.{span-is}
+use Rattle.prz_read.proofs.Passing.{span-is}
 use Rattle.prz_region.specs.CutRegion.{span}
 use Rattle.store_steps.specs.Flying.{Flying}
 use Rattle.ramoops.specs.declared.zones.HeldZone.{HeldZone}

@@ -10,7 +10,7 @@ use Rattle.zone_spec.specs.Layouts.{IsLayout}
 use Rattle.machine_spec.specs.Zones.{dump_zones}
 use Rattle.machine_spec.specs.ZoneCalls.{begun}
 use Rattle.machine_laws.proofs.Lists.{get-set}
-use Rattle.prz_read.proofs.Storing.{span-is}
+use Rattle.prz_read.proofs.Passing.{span-is}
 use Rattle.zone_spec.specs.declared.Zone.{Zone}
 use Rattle.zone_spec.specs.declared.ZoneName.{ZoneName}
 use Rattle.zone_spec.specs.declared.Kind.{Kind}
