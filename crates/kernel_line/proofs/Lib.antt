@@ -4,6 +4,6 @@ mod Lines
 mod Plain
 mod Adding
 mod Among
-mod Places
+pub mod Places
 mod Digits
 mod Behind

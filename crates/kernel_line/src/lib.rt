@@ -10,4 +10,5 @@ mod words;
 
 pub use layout::add_layout_words;
 pub use line::KernelLine;
+pub use region::long_digits;
 pub use words::LineFault;

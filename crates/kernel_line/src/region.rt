@@ -39,7 +39,8 @@ fn parsed(digits: &str, base: u32) -> Option<u64>
     u64::from_str_radix(digits, base).ok()
 }
 
-fn long_digits(digits: &[u8], base: u32) -> Option<u64>
+/// The number below 2^64 that digits write in a base from 2 to 16: at least one, and no other byte.
+pub fn long_digits(digits: &[u8], base: u32) -> Option<u64>
     requires low { 2 ≤ base }
     requires high { base ≤ 16 }
     ensures { result ≡ long_digits base digits.now }

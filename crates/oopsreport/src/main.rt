@@ -1,7 +1,6 @@
 //! `oopsreport`: what images of ramoops regions hold, as text, as lines of JSON or as a page. Images are only read.
 #![tactic(auto)]
 
-mod colour;
 mod command;
 mod folder;
 mod image;
@@ -12,7 +11,6 @@ mod messages;
 use anyhow::{Context, Result, anyhow, bail};
 use clap::ArgMatches;
 use clap::error::ErrorKind;
-use colour::ColourSink;
 use command::command;
 use folder::Dir;
 use image::Image;
@@ -22,6 +20,7 @@ use messages::Messages;
 use outside::{FileLoad, Load, WriterSink};
 use record_report::Report;
 use report_calls::{best_hint, taken_hint};
+use report_colours::ColourSink;
 use report_tool::{Format, Known, Plan, Stop, find, report, save};
 use std::alloc::{AllocError, Global};
 use std::io::{IsTerminal, Read};
@@ -114,7 +113,7 @@ fn report_by<R: Runtime, M: Load>(
 ) -> Result<Report> {
     let mut out = WriterSink::new(io::writer(rt));
     let done = if asked.is_coloured && format == Format::Text {
-        let mut out = ColourSink::new(alloc, out);
+        let mut out = ColourSink::new(out);
         report(alloc, plan, format, path, image, &mut out)
     } else {
         report(alloc, plan, format, path, image, &mut out)
