@@ -21,6 +21,13 @@ impl<W> ColourSink<W> {
     {
         ColourSink { inner }
     }
+
+    /// The sink below.
+    pub fn into_inner(self) -> W
+        ensures { result ≡ self.inner }
+    {
+        self.inner
+    }
 }
 
 fn put_line<W: Sink>(out: &mut W, line: &[u8]) -> Result<(), Failed>
