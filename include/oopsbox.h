@@ -98,9 +98,16 @@ struct oopsbox_zone_answer {
  * proof says what a call does.
  */
 
-/* Parameters of a layout, in bytes. Nothing is assumed: set each. The words of oopsbox_layout are the module's, and
-   read in two ways of their own: the word ecc=1 is 16 parity bytes, and mem_size is rounded down to a power of two.
-   104 bytes. */
+/*
+ * Parameters of a layout, in bytes, such as those of a region of 1 MiB whose four kinds of zones have 4096 bytes each,
+ * and 16 bytes of parity for each block and header:
+ *
+ *     static const struct oopsbox_params params = OOPSBOX_PARAMS(1048576, 4096, 4096, 4096, 4096, 16);
+ *
+ * Who fills the struct by hand sets each member: nothing is assumed, and `ecc` alone gives no zone any parity. The
+ * words of oopsbox_layout are the module's, and read in two ways of their own: the word ecc=1 is 16 parity bytes, and
+ * mem_size is rounded down to a power of two. 104 bytes.
+ */
 struct oopsbox_params {
 	uint64_t mem;         /* the image, taken as it is; 1 to 16777216 */
 	uint64_t dump;        /* a dump zone (record_size); 0 for none */
@@ -117,6 +124,11 @@ struct oopsbox_params {
 	uint32_t ftrace_sig;  /* the tag in the signature of ftrace zones */
 	uint32_t unused;      /* not read */
 };
+
+/* An initializer: the module's first six parameters in their order, the parity in bytes and for each kind of zone; one
+   ftrace zone without a tag, and blocks of 128 bytes, as the kernel has them. */
+#define OOPSBOX_PARAMS(mem, record_size, console_size, ftrace_size, pmsg_size, ecc) \
+	{(mem), (record_size), (console_size), (ftrace_size), (pmsg_size), (ecc), 1, 128, (ecc), (ecc), (ecc), (ecc), 0, 0}
 
 /*
  * The zone of this kind (OOPSBOX_DUMP .. OOPSBOX_PMSG) and this number among the zones of its kind, from 0, in the

@@ -1,7 +1,8 @@
 """The crash log store of Linux (ramoops), read and written by the proved library.
 
-The module loads the shared object liboopsbox.so: the one that OOPSBOX_LIBRARY names if that is set, else one in this
-module's folder, else the package's. `tools/build-library FOLDER` makes it.
+The module loads the library's shared object: the one that OOPSBOX_LIBRARY names if that is set, else liboopsbox.so in
+this module's folder, else liboopsbox.so.0 as the system finds it (package liboopsbox0). `tools/build-library FOLDER`
+makes it.
 
     >>> import oopsbox
     >>> region = open("region.bin", "rb").read()
@@ -20,7 +21,6 @@ images and scripts are bytes, or anything that has bytes: a bytearray, a memoryv
 import ctypes
 import mmap
 import os
-import sysconfig
 from collections import namedtuple
 
 __all__ = ["Error", "Record", "Report", "Ring", "Run", "Zone", "boot", "layout", "records", "report", "rs_decode",
@@ -95,8 +95,12 @@ class _Stores(ctypes.Structure):
 
 def _load():
     beside = os.path.join(os.path.dirname(os.path.abspath(__file__)), "liboopsbox.so")
-    packaged = "/usr/lib/%s/oopsbox/liboopsbox.so" % sysconfig.get_config_var("MULTIARCH")
-    library = ctypes.CDLL(os.environ.get("OOPSBOX_LIBRARY") or (beside if os.path.exists(beside) else packaged))
+    name = os.environ.get("OOPSBOX_LIBRARY") or (beside if os.path.exists(beside) else "liboopsbox.so.0")
+    try:
+        library = ctypes.CDLL(name)
+    except OSError as error:
+        raise ImportError("the library of oopsbox cannot be loaded (%s). Install the package liboopsbox0, or set "
+                          "OOPSBOX_LIBRARY to the liboopsbox.so that tools/build-library makes" % error) from error
     piece, number = [ctypes.c_void_p, ctypes.c_size_t], ctypes.c_uint32
     zone = [ctypes.POINTER(_Place)] + piece
     shapes = {

@@ -15,8 +15,7 @@
 #include <unistd.h>
 
 /* One console zone, with 16 bytes of parity for each 128 bytes of the log. */
-static const struct oopsbox_params params = {
-	.mem = 65536, .console = 65536, .ecc = 16, .ecc_console = 16, .cpus = 1, .block = 128};
+static const struct oopsbox_params params = OOPSBOX_PARAMS(65536, 0, 65536, 0, 0, 16);
 
 struct ring {
 	struct oopsbox_zone_place place;

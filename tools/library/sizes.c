@@ -19,6 +19,17 @@ HAS(oopsbox_boot, 64);
 HAS(oopsbox_lengths, 16);
 HAS(oopsbox_report_answer, 32);
 
+/* The parity that is named once is that of each kind. */
+static const struct oopsbox_params params = OOPSBOX_PARAMS(32768, 4096, 8192, 2048, 1024, 16);
+
+static int are_as_named(void)
+{
+	return params.mem == 32768 && params.dump == 4096 && params.console == 8192 && params.ftrace == 2048 &&
+	       params.pmsg == 1024 && params.ecc == 16 && params.ecc_dump == 16 && params.ecc_console == 16 &&
+	       params.ecc_ftrace == 16 && params.ecc_pmsg == 16 && params.cpus == 1 && params.block == 128 &&
+	       params.ftrace_sig == 0;
+}
+
 /* Prints them, for the Python module to be compared. */
 #include <stdio.h>
 
@@ -28,5 +39,5 @@ int main(void)
 	       sizeof(struct oopsbox_lengths), sizeof(struct oopsbox_params), sizeof(struct oopsbox_zone_answer),
 	       sizeof(struct oopsbox_flight), sizeof(struct oopsbox_boot), sizeof(struct oopsbox_stores),
 	       sizeof(struct oopsbox_report_answer));
-	return 0;
+	return !are_as_named();
 }

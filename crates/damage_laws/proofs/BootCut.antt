@@ -25,7 +25,7 @@ use Rattle.zone_spec.specs.Cut.{cut_parts, cut_stages, cut_pairs}
 use Rattle.zone_spec.specs.Windows.{words_after}
 use Rattle.machine_spec.specs.BootPart.{boot_cut}
 use Rattle.damage_laws.specs.CutErasures.{BootCutZoneReads, BootCutReads, after_boot_stores}
-use Rattle.damage_laws.specs.Idle.{BlocksWithinBounds}
+use Rattle.zone_spec.specs.Damage.{BlocksWithinBounds}
 use Rattle.ring_laws.proofs.Images.{length-put, after_stores-append}
 use Rattle.ring_laws.proofs.PartsLaw.{block_some, SamePart, put-bytes}
 use Rattle.ring_laws.proofs.EveryParity.{block_has, word-bytes}

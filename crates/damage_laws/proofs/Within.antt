@@ -16,9 +16,9 @@ use Rattle.zone_spec.specs.Parts.{AreBytes, Part, Header, Block, part_bytes, par
 use Rattle.zone_spec.specs.PartReadings.{part_reading, words_read}
 use Rattle.zone_spec.specs.Reading.{ZoneReading, byte_read, log_places, state_of, reading_in, zone_reading}
 use Rattle.zone_spec.specs.Ring.{IsRingForm}
-use Rattle.zone_spec.specs.Damage.{IsWithinBounds}
+use Rattle.zone_spec.specs.Damage.{IsWithinBounds, BlocksWithinBounds}
 use Rattle.zone_spec.specs.Verdicts.{verdict_of}
-use Rattle.damage_laws.specs.Idle.{PartReadsAsAtStop, IdleZoneReadsTold, BlocksWithinBounds}
+use Rattle.damage_laws.specs.Idle.{PartReadsAsAtStop, IdleZoneReadsTold}
 use Rattle.code_laws.proofs.Nearest.{nearest-IsNear}
 use Rattle.code_laws.proofs.Laws.{nearest_law}
 use Rattle.ring_laws.proofs.PartsLaw.{block_some}

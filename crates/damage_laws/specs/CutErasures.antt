@@ -12,12 +12,11 @@ use Rattle.zone_spec.specs.PartReadings.{words_read}
 use Rattle.zone_spec.specs.Reading.{ZoneReading, zone_reading, byte_read}
 use Rattle.zone_spec.specs.Stores.{after_stores}
 use Rattle.zone_spec.specs.Boot.{boot_fixes, boot_stores}
-use Rattle.zone_spec.specs.Damage.{IsNotDamagedFurther}
+use Rattle.zone_spec.specs.Damage.{IsNotDamagedFurther, BlocksWithinBounds}
 use Rattle.zone_spec.specs.Pairs.{header_seen}
 use Rattle.zone_spec.specs.Cut.{Cut, cut_pairs, cut_report, words_before}
 use Rattle.machine_spec.specs.BootPart.{IsWithinErasure, boot_cut}
 use Rattle.damage_laws.specs.Exact.{IsExactReport}
-use Rattle.damage_laws.specs.Idle.{BlocksWithinBounds}
 use Rattle.damage_laws.specs.CutCalls.{HeaderReads}
 
 -- the zone's bytes after the boot

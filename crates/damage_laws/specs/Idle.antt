@@ -9,7 +9,7 @@ use Rattle.zone_spec.specs.Parts.{Part, Header, Block, IsImage, IsPartOf}
 use Rattle.zone_spec.specs.PartReadings.{part_reading, words_read}
 use Rattle.zone_spec.specs.Reading.{zone_reading, log_places}
 use Rattle.zone_spec.specs.Ring.{IsRingForm}
-use Rattle.zone_spec.specs.Damage.{IsWithinBounds}
+use Rattle.zone_spec.specs.Damage.{IsWithinBounds, BlocksWithinBounds}
 use Rattle.zone_spec.specs.Verdicts.{verdict_of}
 
 -- a part within bounds reads as at its zone's stop
@@ -17,10 +17,6 @@ abbrev pub PartReadsAsAtStop : Type 0
 PartReadsAsAtStop = (z : Zone) (stop now : List ℕ) (part : Part) → IsValidZone z → IsImage z stop → IsImage z now
     → IsPartOf z part
     → IsWithinBounds z stop now part → (part_reading z now part).bytes ≡ (part_reading z stop part).bytes
-
--- the blocks that begin below x are within bounds
-abbrev pub BlocksWithinBounds : Zone → List ℕ → List ℕ → ℕ → Type 0
-BlocksWithinBounds z stop now x = (b : ℕ) → z.block * b < x → IsWithinBounds z stop now (Block b)
 
 -- the log has the told length, its places in blocks within bounds read their told bytes, and the whole
 -- is as told where the blocks within the told length are within bounds

@@ -7,8 +7,10 @@ ghost use Rattle.code_spec.specs.Field.{gf_add, gf_mul, gf_pow};
 ghost use Rattle.code_spec.specs.Code.{value_of};
 
 pub mod laws;
+mod products;
 
 use gf256::{add, log, mul, mul_pow, mul_pow_by_bits};
+pub use products::{divide, product};
 
 /// The value of `word` at `x`.
 pub fn value(word: &[u8], x: u8) -> u8

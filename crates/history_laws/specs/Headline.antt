@@ -5,7 +5,7 @@ use Rattle.zone_spec.specs.declared.Zone.{Zone}
 use Rattle.zone_spec.specs.Parts.{AreBytes, words_in}
 use Rattle.zone_spec.specs.Reading.{zone_reading}
 use Rattle.zone_spec.specs.Told.{Call, last_items}
-use Rattle.zone_spec.specs.Damage.{IsZoneWithinBounds}
+use Rattle.zone_spec.specs.Damage.{IsLogWithinBounds}
 use Rattle.zone_spec.specs.Cut.{Cut, ByCall}
 use Rattle.zone_spec.specs.Layouts.{IsLayout}
 use Rattle.machine_spec.specs.Zones.{zone_bytes}
@@ -18,10 +18,11 @@ use Rattle.damage_laws.specs.Exact.{ReportsCall}
 use Rattle.history_spec.specs.Written.{written}
 
 -- What a boot reads now of a zone that stood so at its stop, with this cut, when these bytes had been written to it. An
--- idle zone within bounds reads the last of them, as many as it holds, in order. In a zone whose call a stop cut only
--- touched blocks and the header make a difference
+-- idle zone whose log is within bounds reads the last of them, as many as it holds, in order. In a zone whose call a
+-- stop cut only touched blocks and the header make a difference
 pub record ReadsWritten (z : Zone) (cut : Option Cut) (stop now bytes : List ℕ) : Type 0 where
-  pub idle : cut ≡ None → IsZoneWithinBounds z stop now → (zone_reading z now).log ≡ last_items z.cap bytes
+  pub idle : cut ≡ None → IsLogWithinBounds z stop now (length (last_items z.cap bytes))
+      → (zone_reading z now).log ≡ last_items z.cap bytes
   pub places : (c : Cut) (call : Call) → cut ≡ Some c → c.by ≡ ByCall call
       → OldPlacesRead z (words_in c.header) call (last_items z.cap bytes) stop now
       × NoOtherPlaces z (words_in c.header) call now

@@ -17,7 +17,7 @@ use Rattle.command_spec.specs.Answers.{Outside, IfHolds, NoScript}
 use Rattle.command_spec.specs.PlanAnswers.{ram_statuses, IsAmong}
 use Rattle.command_spec.specs.declared.Stop.{Stop}
 use Rattle.command_spec.specs.declared.Stop.TheVariants.{Memory, ImageFault, SinkFault}
-use Rattle.tool_frame.specs.Stages.{FrontStop}
+use Rattle.image_file.specs.Loading.{FrontStop}
 use Rattle.tool_frame.specs.Ended.{Ended, CanEnd, RamReadEnds}
 use Rattle.tool_frame.proofs.Script.{Quiet, quiet_memory, put_nothing, ended_as}
 use Rattle.image_tool.specs.Dumps.{ScansFrom, ring_stop}

@@ -14,7 +14,7 @@ use Rattle.command_spec.specs.Answers.{Outside, IfHolds, NoScript}
 use Rattle.command_spec.specs.PlanAnswers.{statuses}
 use Rattle.command_spec.specs.declared.Stop.{Stop}
 use Rattle.command_spec.specs.declared.Stop.TheVariants.{Memory, Short, ImageFault, SinkFault}
-use Rattle.tool_frame.specs.Stages.{LoadStop}
+use Rattle.image_file.specs.Loading.{LoadStop}
 use Rattle.tool_frame.specs.Ended.{Ended, ImageEnds}
 use Rattle.tool_frame.proofs.Script.{Quiet, quiet_memory, put_nothing, ended_as, nat_lt-true, nat_lt-false}
 use Rattle.tool_frame.proofs.StageStops.{load_stops}

@@ -24,7 +24,7 @@ use Rattle.script_spec.specs.declared.Cause.TheVariants.{IsOff, IsLive, NoZone, 
 use Rattle.command_spec.specs.declared.Stop.{Stop}
 use Rattle.command_spec.specs.declared.Stop.TheVariants.{Memory as MemoryStop, ImageFault, SinkFault, Refused as RefusedStop}
 use Rattle.tool_frame.specs.Ended.{Ended, CanEnd, RamReadEnds, RamImageEnds}
-use Rattle.tool_frame.specs.Stages.{LoadStop}
+use Rattle.image_file.specs.Loading.{LoadStop}
 use Rattle.tool_frame.proofs.Image.{load_can, image_stopped, image_done}
 use Rattle.tool_frame.proofs.Script.{Quiet, quiet_memory, put_nothing}
 use Rattle.ram_session.specs.Records.{IsContent}

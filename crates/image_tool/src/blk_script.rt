@@ -7,9 +7,10 @@ ghost use Rattle.tool_frame.specs.Ended.{WorkDone};
 ghost use Rattle.image_tool.specs.Due.{PutsLines};
 
 use blk_session::play;
+use image_file::check_size;
 use outside::{Sink, Source, Store};
 use std::alloc::Global;
-use tool_frame::{Stop, check_size, end_of, lines, read_script};
+use tool_frame::{Stop, end_of, lines, read_script};
 use zone_blk::BlkLayout;
 
 /// Does a script on the block store, which is written as the lines are done.

@@ -12,10 +12,11 @@ ghost use Rattle.ramoops_layout.specs.Laid.{params_of, zones_of};
 ghost use Rattle.image_tool.specs.Due.{PutsNone};
 
 use crate::layout_text::layout_text;
+use image_file::fill;
 use outside::{Failed, Sink, Store};
 use ramoops_layout::types::Layout;
 use std::alloc::{AllocError, Global};
-use tool_frame::{Stop, fill};
+use tool_frame::Stop;
 
 /// Puts a layout.
 #[tactic(auto, using(crate::proofs::Shown::put_all, crate::proofs::Shown::put_none, crate::proofs::Shown::put_front))]

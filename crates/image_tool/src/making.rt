@@ -7,11 +7,12 @@ ghost use Rattle.tool_frame.specs.Ended.{CausedAt, KeptAt, FailsAsked, MakeEnds}
 ghost use Rattle.image_tool.specs.Plans.{plan_for};
 ghost use Rattle.image_tool.specs.Due.{PutsFirst};
 
+use image_file::save;
 use outside::{Failed, Sink, Store};
 use ram_generator::generate;
 use ramoops_layout::types::Layout;
 use std::alloc::{AllocError, Global};
-use tool_frame::{Stop, save};
+use tool_frame::Stop;
 
 /// Puts the summary of the session of n, and writes the image that it leaves.
 pub fn make<M: Store, O: Sink>(

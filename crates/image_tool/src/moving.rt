@@ -13,6 +13,7 @@ ghost use Rattle.image_tool.specs.Due.{PutsFirst};
 ghost use Rattle.image_tool.specs.Asked.{FailsAt};
 
 use crate::records::read_logs;
+use image_file::save;
 use outside::{Failed, Sink, Store};
 use prz_read::Logs;
 use pstore_records::forget_unfit;
@@ -20,7 +21,7 @@ use ram_session::move_text;
 use ramoops::Off;
 use ramoops_layout::types::Layout;
 use std::alloc::{AllocError, Global};
-use tool_frame::{Stop, save};
+use tool_frame::Stop;
 
 // The image of this layout with the logs of the records that fit.
 fn moved(alloc: Global, layout: Layout, mut logs: Logs) -> Result<Off, AllocError>

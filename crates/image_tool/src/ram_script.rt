@@ -8,11 +8,12 @@ ghost use Rattle.image_tool.specs.Due.{PutsLines};
 ghost use Rattle.image_tool.specs.Asked.{FailsAt};
 
 use crate::stores::fresh_store;
+use image_file::{load, save};
 use outside::{Failed, Sink, Source, Store};
 use ram_session::play;
 use ramoops_layout::types::Layout;
 use std::alloc::{AllocError, Global};
-use tool_frame::{Stop, lines, load, read_script, save, stop_of};
+use tool_frame::{Stop, lines, read_script, stop_of};
 
 /// Does a script on an image, and writes that back.
 pub fn run_script<S: Source, M: Store, O: Sink>(

@@ -7,16 +7,17 @@ ghost use Rattle.tool_frame.specs.Ended.{CausedAt, KeptAt, RamReadEnds, RamImage
 ghost use Rattle.image_tool.specs.Plans.{plan_for};
 ghost use Rattle.image_tool.specs.Due.{PutsNone};
 ghost use Rattle.script_spec.specs.Playing.{KeptUnless};
-ghost use Rattle.tool_frame.specs.Stages.{LoadStop};
+ghost use Rattle.image_file.specs.Loading.{LoadStop};
 ghost use Rattle.image_tool.specs.Records.{SavedFrom, stop_for};
 
 use crate::stores::{boot_store, fresh_store};
+use image_file::{load, save};
 use outside::{Failed, Load, Sink, Store};
 use prz_read::Logs;
 use ram_session::{LineError, content_of, listing};
 use ramoops_layout::types::Layout;
 use std::alloc::{AllocError, Global};
-use tool_frame::{Stop, load, save};
+use tool_frame::Stop;
 
 // The line that a command's refusal names: the one after the boot.
 const LINE: u32 = 2;

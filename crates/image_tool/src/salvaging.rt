@@ -6,17 +6,18 @@ ghost use Rattle.command_spec.specs.Commands.{Salvage, Rescue};
 ghost use Rattle.command_spec.specs.Answers.{outside};
 ghost use Rattle.tool_frame.specs.Ended.{CausedAt, RamReadEnds};
 ghost use Rattle.script_spec.specs.Playing.{KeptUnless};
-ghost use Rattle.tool_frame.specs.Stages.{FrontStop};
+ghost use Rattle.image_file.specs.Loading.{FrontStop};
 ghost use Rattle.image_tool.specs.Plans.{plan_for};
 ghost use Rattle.image_tool.specs.Due.{PutsNone};
 ghost use Rattle.image_tool.specs.Dumps.{ScansFrom, ring_stop as stop_for};
 
+use image_file::load_front;
 use outside::{Bytes, Failed, Load, Sink};
 use ramoops_layout::types::Layout;
 use salvage::{FoundRing, RingFault, Scan};
 use script::pieces::{push_number, push_zone};
 use std::alloc::{AllocError, Global};
-use tool_frame::{Cause, Stop, load_front};
+use tool_frame::{Cause, Stop};
 use zone_spec::ZoneName;
 
 // The bytes that a dump has at most.

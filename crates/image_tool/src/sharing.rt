@@ -11,6 +11,7 @@ ghost use Rattle.image_tool.specs.Due.{PutsFirst};
 ghost use Rattle.image_tool.specs.Asked.{FailsAt};
 
 use crate::stores::fresh_store;
+use image_file::{load, save};
 use outside::{Bytes, Failed, Sink, Source, Store};
 use ramoops_layout::types::Layout;
 use ramoops_layout::{Kind, ZoneName};
@@ -18,7 +19,7 @@ use script::Lines;
 use shared_ring::Shared;
 use shared_session::{play, shared_text};
 use std::alloc::{AllocError, Global};
-use tool_frame::{Stop, lines, load, read_script, save, stop_of};
+use tool_frame::{Stop, lines, read_script, stop_of};
 
 const FTRACE: ZoneName = ZoneName {
     kind: Kind::Ftrace,

@@ -3,15 +3,16 @@ ghost use Rattle.std.specs.Prelude.{◌≡◌, ◌≤◌, vec_len, IfOk, IfErr};
 ghost use Rattle.ramoops_layout.specs.Laid.{params_of, zones_of};
 ghost use Rattle.ram_session.specs.Playing.{StandsFresh};
 ghost use Rattle.script_spec.specs.Playing.{KeptUnless};
-ghost use Rattle.tool_frame.specs.Stages.{LoadStop};
+ghost use Rattle.image_file.specs.Loading.{LoadStop};
 ghost use Rattle.image_tool.specs.Stores.{BootedFrom};
 
+use image_file::load;
 use outside::{Bytes, Load};
 use prz_read::Logs;
 use ramoops::{Live, Off};
 use ramoops_layout::types::Layout;
 use std::alloc::{AllocError, Global};
-use tool_frame::{Stop, load};
+use tool_frame::Stop;
 
 /// The store of an image of which nothing is known.
 #[tactic(auto, using(crate::proofs::Alike::dumps_alike))]

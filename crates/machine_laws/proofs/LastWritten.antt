@@ -24,8 +24,7 @@ pub zone_reads : (z : Zone) (zone : OffZone) (now : List ℕ) → IsValidZone z 
 zone_reads z zone now valid sound hn = record {
   idle = λ told t c within.
       let ring : IsRingForm z zone.stop told = sound.idle told t c in
-      idle_log z zone.stop now told valid sound.size hn ring (within Header tt)
-      (λ b h. within (Block b) (omega (arith, ring.told_length, ring.ring.1)));
+      idle_log z zone.stop now told valid sound.size hn ring within.0 within.1;
   places = λ told cut call t c own.
       let f = sound.in_flight cut call c own in
       let same : f.0 ≡ told = (let e : Some f.0 ≡ Some told = sym f.2.told_is ∙ t in cc) in

@@ -1,6 +1,6 @@
 -- What a boot reads of what was told. Of one zone: its stop, what it was told, its cut, and its bytes as
 -- they stand now
-use Rattle.std.specs.Prelude.{◌≡◌, ℕ, ◌/◌, Bool, false, ◌==◌, List, slice_get, Contains, Some, None}
+use Rattle.std.specs.Prelude.{◌≡◌, ℕ, ◌/◌, Bool, false, ◌==◌, List, length, slice_get, Contains, Some, None}
 use Rattle.std.specs.List.{list_any}
 use Rattle.zone_spec.specs.declared.Zone.{Zone}
 use Rattle.zone_spec.specs.declared.Words.{Words}
@@ -8,7 +8,7 @@ use Rattle.zone_spec.specs.Parts.{Block}
 use Rattle.zone_spec.specs.PartReadings.{words_read}
 use Rattle.zone_spec.specs.Reading.{zone_reading, log_places, byte_read}
 use Rattle.zone_spec.specs.Told.{Call}
-use Rattle.zone_spec.specs.Damage.{IsWithinBounds, IsZoneWithinBounds}
+use Rattle.zone_spec.specs.Damage.{IsWithinBounds, IsLogWithinBounds}
 use Rattle.zone_spec.specs.Calls.{call_stages}
 use Rattle.zone_spec.specs.Pairs.{pairs_from, pair_of}
 use Rattle.zone_spec.specs.Touched.{touched_by}
@@ -33,11 +33,11 @@ NoOtherPlaces z w call now =
     → Contains (log_places (words_read z now).start (words_read z now).size) place → is_met z w call place ≡ false
     → Contains (log_places w.start w.size) place
 
--- an idle zone within bounds reads what it was told; in a zone whose call a stop cut, only touched blocks and the
+-- an idle zone whose log is within bounds reads what it was told; in a zone whose call a stop cut, only touched blocks and the
 -- header make a difference, whatever became of the header
 pub record ReadsLastWritten (z : Zone) (zone : OffZone) (now : List ℕ) : Type 0 where
-  pub idle : (told : List ℕ) → zone.told ≡ Some told → zone.cut ≡ None → IsZoneWithinBounds z zone.stop now
-      → (zone_reading z now).log ≡ told
+  pub idle : (told : List ℕ) → zone.told ≡ Some told → zone.cut ≡ None
+      → IsLogWithinBounds z zone.stop now (length told) → (zone_reading z now).log ≡ told
   pub places : (told : List ℕ) (cut : Cut) (call : Call) → zone.told ≡ Some told → zone.cut ≡ Some cut
       → cut.by ≡ ByCall call → OldPlacesRead z (words_before cut) call told zone.stop now
       × NoOtherPlaces z (words_before cut) call now

@@ -7,7 +7,7 @@ use Rattle.zone_spec.specs.Zones.{IsValidZone}
 use Rattle.zone_spec.specs.Parts.{AreBytes}
 use Rattle.zone_spec.specs.Reading.{ZoneReading, zone_reading}
 use Rattle.zone_spec.specs.Records.{Saved}
-use Rattle.zone_spec.specs.Damage.{IsZoneWithinBounds}
+use Rattle.zone_spec.specs.Damage.{IsLogWithinBounds}
 use Rattle.zone_spec.specs.Layouts.{IsLayout}
 use Rattle.machine_spec.specs.States.{OffZone, OffState, Off, LiveZone}
 use Rattle.machine_spec.specs.Boot.{booted_zone}
@@ -66,10 +66,10 @@ abbrev pub MovedImageReads : Type 0
 MovedImageReads = (layout : List Zone) (mem : ℕ) (zones : List Saved) → IsLayout layout mem → LogsFit layout zones
     → EachOffZone layout (moved layout mem zones) (λ z zone now. ReadsLog zones z now)
 
--- after any damage to a moved image each zone that is within bounds reads its log
+-- after any damage to a moved image each zone whose log is within bounds reads it
 abbrev pub MovedZonesRead : Type 0
 MovedZonesRead = (layout : List Zone) (mem : ℕ) (zones : List Saved) (off : OffState) → IsLayout layout mem
     → LogsFit layout zones
     → off.zones ≡ (moved layout mem zones).zones → IsMemory mem off.image
-    → EachOffZone layout off (λ z zone now. IsZoneWithinBounds z zone.stop now
+    → EachOffZone layout off (λ z zone now. IsLogWithinBounds z zone.stop now (length (log_of zones z))
     → (zone_reading z now).log ≡ log_of zones z)

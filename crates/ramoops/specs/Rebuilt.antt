@@ -1,9 +1,9 @@
 -- What holds of a store that was told logs for which its zones have room
-use Rattle.std.specs.Prelude.{◌≡◌, ℕ, List}
+use Rattle.std.specs.Prelude.{◌≡◌, ℕ, List, length}
 use Rattle.zone_spec.specs.declared.Zone.{Zone}
 use Rattle.zone_spec.specs.Reading.{zone_reading}
 use Rattle.zone_spec.specs.Records.{Saved, listed_of}
-use Rattle.zone_spec.specs.Damage.{IsZoneWithinBounds}
+use Rattle.zone_spec.specs.Damage.{IsLogWithinBounds}
 use Rattle.machine_spec.specs.States.{OffState, Off}
 use Rattle.machine_spec.specs.Boot.{booted}
 use Rattle.machine_spec.specs.Erasures.{saved_logs}
@@ -21,7 +21,7 @@ pub record ReadsAsTold (layout : List Zone) (mem : ℕ) (zones : List Saved) : T
   pub told : EachOffZone layout (moved layout mem zones) (IsToldLog zones)
   pub clean : EachOffZone layout (moved layout mem zones) (λ z zone now. ReadsLog zones z now)
   pub damaged : (off : OffState) → off.zones ≡ (moved layout mem zones).zones → IsMemory mem off.image
-      → EachOffZone layout off (λ z zone now. IsZoneWithinBounds z zone.stop now
+      → EachOffZone layout off (λ z zone now. IsLogWithinBounds z zone.stop now (length (log_of zones z))
       → (zone_reading z now).log ≡ log_of zones z)
   pub lists : TakesInOrder layout zones
       → listed_of (saved_logs layout (booted layout (moved layout mem zones))) ≡ listed_of zones

@@ -5,7 +5,7 @@ use Rattle.outside.specs.Outside.{Rose, AppendsFront}
 use Rattle.record_report.specs.Reports.{ReportHeld, IsReport}
 use Rattle.command_spec.specs.declared.Stop.{Stop}
 use Rattle.command_spec.specs.declared.Stop.TheVariants.{Memory, ImageFault, Short, SinkFault}
-use Rattle.tool_frame.specs.Stages.{LoadStop}
+use Rattle.image_file.specs.Loading.{LoadStop}
 use Rattle.report_tool.specs.declared.plan.Plan.{Plan}
 use Rattle.report_tool.specs.declared.showing.Format.{Format}
 use Rattle.report_tool.specs.Shown.{Shows}

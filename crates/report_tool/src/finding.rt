@@ -7,18 +7,18 @@ ghost use Rattle.layout_spec.specs.Laid.{params_of};
 ghost use Rattle.layout_search.specs.Answers.{IsAnswer};
 ghost use Rattle.command_spec.specs.declared.Stop.TheVariants.{ImageFault};
 ghost use Rattle.script_spec.specs.Playing.{KeptUnless};
-ghost use Rattle.tool_frame.specs.Stages.{FrontStop};
+ghost use Rattle.image_file.specs.Loading.{FrontStop};
 ghost use Rattle.grammar_spec.specs.Words.{texts};
 ghost use Rattle.grammar_spec.specs.ZoneWords.{given as given_by};
 ghost use Rattle.report_tool.specs.Finding.{known_by};
 ghost use Rattle.report_tool.specs.Plans.{IsLaid};
 
 use crate::{Plan, Stop};
+use image_file::load_front;
 use layout_search::{Candidate, Found, Known, params, search};
 use outside::Load;
 use ramoops_layout::{LayoutError, given, parity_given};
 use std::alloc::Global;
-use tool_frame::load_front;
 
 /// A layout has at most so many bytes.
 const MOST: u32 = 16_777_216;

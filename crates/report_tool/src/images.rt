@@ -2,15 +2,15 @@
 ghost use Rattle.std.specs.Prelude.{◌≡◌, ◌≤◌, IfOk, IfErr, MatchResult};
 ghost use Rattle.command_spec.specs.declared.Stop.TheVariants.{ImageFault, SinkFault};
 ghost use Rattle.script_spec.specs.Playing.{KeptUnless};
-ghost use Rattle.tool_frame.specs.Stages.{LoadStop};
+ghost use Rattle.image_file.specs.Loading.{LoadStop};
 ghost use Rattle.report_tool.specs.Images.{IsRead, IsReported, IsNotReported};
 
 use crate::showing::{Format, shown};
 use crate::{Plan, Stop};
+use image_file::load;
 use outside::{Bytes, Failed, Load, Sink};
 use record_report::{Report, report_of_zones};
 use std::alloc::Global;
-use tool_frame::load;
 
 // Reads an image.
 fn read<M: Load>(alloc: Global, plan: &Plan, image: &mut M) -> Result<Report, Stop>

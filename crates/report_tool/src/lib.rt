@@ -12,12 +12,12 @@ mod showing;
 mod tree;
 mod version;
 
+pub use command_spec::Stop;
 pub use finding::{find, known};
 pub use images::report;
 pub use layout_search::{Candidate, Found, Known};
 pub use plan::{Plan, PlanFault};
 pub use saving::{Folder, save};
 pub use showing::Format;
-pub use tool_frame::Stop;
 pub use tree::TreeFault;
 pub use version::{add_tag, ftrace_tag};

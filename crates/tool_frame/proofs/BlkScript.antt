@@ -13,12 +13,13 @@ use Rattle.script_spec.specs.BlkStops.{EndsAt}
 use Rattle.script_spec.specs.declared.Cause.{Cause}
 use Rattle.command_spec.specs.declared.Stop.{Stop}
 use Rattle.command_spec.specs.declared.Stop.TheVariants.{Memory, Short, ScriptFault, ImageFault, SinkFault, TooLong, BadLine, Refused}
-use Rattle.tool_frame.specs.Stages.{SizeStop, ScriptStop, ParseStop}
+use Rattle.image_file.specs.Loading.{SizeStop}
+use Rattle.tool_frame.specs.Stages.{ScriptStop, ParseStop}
 use Rattle.tool_frame.specs.Ended.{CausedAt, ScriptEnds, LinesEnded, LinesOrStopEnded, KeptBefore, LinesAsk, BlkEnds}
 use Rattle.tool_frame.proofs.ReadParts.{Read, read_of, room_of, unread_memory, unread_fault, unread_short, read_memory, read_fault, read_long, read_bad, read_unput, read_unsaved, read_refused, read_done}
 use Rattle.tool_frame.proofs.Script.{Quiet, nat_lt-true, nat_lt-false, quiet_memory, put_nothing}
 use Rattle.tool_frame.proofs.StageStops.{load_stops, script_stops, parse_stops}
-use Rattle.tool_frame.proofs.Sizes.{size_load}
+use Rattle.image_file.proofs.Sizes.{size_load}
 use Rattle.script_spec.specs.Playing.{LinesEnd, KeptUnless, BlkPlayCaused}
 use Rattle.script_spec.specs.declared.LineStop.{LineStop}
 use Rattle.script_spec.specs.declared.LineStop.TheVariants.{Memory as MemoryThere, StoreFault, SinkFault as SinkFaultThere, Refused as RefusedThere}

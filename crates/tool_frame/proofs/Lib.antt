@@ -1,7 +1,6 @@
--- Lemmas on the words, the pieces of image and script, and how a run answers. The crate's
--- functions and image_tool cite them.
+-- Lemmas on the words, the script, and how a run answers. The crate's functions and
+-- image_tool cite them.
 pub mod Consumed
-pub mod Pieces
 pub mod Parted
 pub mod Answered
 pub mod Image
@@ -11,7 +10,6 @@ pub mod ReadParts
 pub mod Tool
 pub mod Few
 pub mod FewWords
-pub mod Sizes
 pub mod BlkScript
 pub mod BlkAnswered
 pub mod AnyWords

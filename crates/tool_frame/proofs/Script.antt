@@ -11,7 +11,8 @@ use Rattle.command_spec.specs.Answers.{Outside, NoScript}
 use Rattle.command_spec.specs.PlanAnswers.{ram_statuses, IsAmong}
 use Rattle.command_spec.specs.declared.Stop.{Stop}
 use Rattle.command_spec.specs.declared.Stop.TheVariants.{Memory, Short, TooLong, BadLine}
-use Rattle.tool_frame.specs.Stages.{LoadStop, ScriptStop, ParseStop}
+use Rattle.image_file.specs.Loading.{LoadStop}
+use Rattle.tool_frame.specs.Stages.{ScriptStop, ParseStop}
 use Rattle.tool_frame.specs.Ended.{Ended, RunEnds, ScriptEnds, CausedAt, WrittenAt}
 use Rattle.tool_frame.proofs.ReadParts.{Read, read_of, unread_memory, unread_fault, unread_short, read_memory, read_fault, read_long, read_bad}
 use Rattle.tool_frame.proofs.StageStops.{load_stops, script_stops, parse_stops}

@@ -5,7 +5,8 @@ use Rattle.grammar_spec.specs.declared.line.Line.{Line}
 use Rattle.command_spec.specs.Commands.{script_limit}
 use Rattle.command_spec.specs.declared.Stop.{Stop}
 use Rattle.command_spec.specs.declared.Stop.TheVariants.{Memory, Short, ScriptFault, ImageFault, TooLong, BadLine}
-use Rattle.tool_frame.specs.Stages.{LoadStop, ScriptStop, ParseStop}
+use Rattle.image_file.specs.Loading.{LoadStop}
+use Rattle.tool_frame.specs.Stages.{ScriptStop, ParseStop}
 
 module _ (P : Stop → Type 0) where
   -- reading an image

@@ -4,7 +4,7 @@ use Rattle.outside.specs.Outside.{Rose}
 use Rattle.grammar_spec.specs.declared.line.Line.{Line}
 use Rattle.command_spec.specs.Commands.{script_limit}
 use Rattle.command_spec.specs.declared.Stop.{Stop}
-use Rattle.command_spec.specs.declared.Stop.TheVariants.{Memory, ScriptFault, ImageFault, TooLong, Short, BadLine}
+use Rattle.command_spec.specs.declared.Stop.TheVariants.{Memory, ScriptFault, TooLong, BadLine}
 
 -- reading a script
 abbrev pub ScriptStop : Stop → Option (List ℕ) → ℕ → ℕ → Type 0
@@ -12,25 +12,6 @@ ScriptStop Memory left before now = ⊤
 ScriptStop ScriptFault left before now = Rose before now
 ScriptStop TooLong left before now = IfSome left (λ bs. script_limit < length bs)
 ScriptStop s left before now = ⊥
-
--- looking at an image's size
-abbrev pub SizeStop : Stop → ℕ → Option (List ℕ) → ℕ → ℕ → Type 0
-SizeStop ImageFault mem holds before now = Rose before now
-SizeStop (Short has needed) mem holds before now = (needed ≡ mem) × (has < mem) × IfSome holds (λ bs. has ≡ length bs)
-SizeStop s mem holds before now = ⊥
-
--- reading so many bytes that a store has
-abbrev pub FrontStop : Stop → ℕ → ℕ → Type 0
-FrontStop Memory before now = ⊤
-FrontStop ImageFault before now = Rose before now
-FrontStop s before now = ⊥
-
--- reading an image of this size
-abbrev pub LoadStop : Stop → ℕ → Option (List ℕ) → ℕ → ℕ → Type 0
-LoadStop Memory mem holds before now = ⊤
-LoadStop ImageFault mem holds before now = Rose before now
-LoadStop (Short has needed) mem holds before now = (needed ≡ mem) × (has < mem) × IfSome holds (λ bs. has ≡ length bs)
-LoadStop s mem holds before now = ⊥
 
 -- reading the lines of a script
 abbrev pub ParseStop : Stop → Result (List Line) ℕ → Type 0

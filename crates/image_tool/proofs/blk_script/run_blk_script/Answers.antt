@@ -1,7 +1,7 @@
 -- How each stage of a script on the block store ends it
 use Rattle.std.proofs.Common.{refl, arith, Err}
 use Rattle.tool_frame.proofs.ReadParts.{read_whole}
-use Rattle.tool_frame.proofs.Sizes.{size_load}
+use Rattle.image_file.proofs.Sizes.{size_load}
 use Rattle.tool_frame.proofs.Script.{load_caused, script_caused, parse_caused}
 use Rattle.tool_frame.proofs.BlkScript.{size_stopped, script_stopped, parse_stopped, play_ended, played_caused, played_asks, unless_line}
 use Rattle.command_spec.specs.Ends.{end_of}

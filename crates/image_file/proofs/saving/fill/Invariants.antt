@@ -1,0 +1,14 @@
+-- The first `at` bytes of the image are zeros that were written, no fault came, and a write was
+-- asked for or none was needed. For the loop of `fill`.
+use Rattle.std.proofs.Common.{◌≡◌, ◌⊎◌, ◌≤◌, ◌-◌, replicate}
+use Rattle.outside.specs.Outside.{Rose, Writes}
+use Rattle.image_file.proofs.saving.fill.Given as goal
+
+abbrev pub invariant-pieces : goal.invariant-pieces
+invariant-pieces g l = (l.at ≤ l.size) × Writes (g.M.Load.holds l.initial.image) (g.M.Load.holds l.image) 0
+    (replicate l.at 0) × (g.M.Load.faults l.image ≡ g.M.Load.faults l.initial.image)
+    × ((g.M.Load.writes l.image ≡ g.M.Load.writes l.initial.image)
+    ⊎ Rose (g.M.Load.writes l.initial.image) (g.M.Load.writes l.image))
+
+abbrev pub decreases-pieces : goal.decreases-pieces
+decreases-pieces g l = l.size - l.at

@@ -1,0 +1,21 @@
+# Completion of oopsreport for fish: its options and what they take, and files.
+set -l keys mem_size= record_size= console_size= ftrace_size= pmsg_size= ecc= cpus= ftrace_sig= block_size= \
+    ecc_dump= ecc_console= ecc_ftrace= ecc_pmsg=
+
+complete -c oopsreport -l param -x -a "$keys" -d "A parameter of the layout"
+complete -c oopsreport -l cmdline -x -d "A kernel's command line"
+complete -c oopsreport -l cmdline-file -r -F -d "A file with a kernel's command line"
+complete -c oopsreport -l kernel -x -d "The version of the kernel that wrote the ftrace zones"
+complete -c oopsreport -l dtb -r -F -d "A board's flattened device tree"
+complete -c oopsreport -l node -x -d "The ramoops node of the device tree"
+complete -c oopsreport -l mem-as-given -d "Do not round mem_size down to a power of two"
+complete -c oopsreport -l memory -d "Each image is a copy of all memory"
+complete -c oopsreport -l at -x -d "The region at this place of the memory"
+complete -c oopsreport -l memory-at -x -d "The physical address of the memory's first byte"
+complete -c oopsreport -l symbols -r -F -d "A System.map, for the functions of ftrace"
+complete -c oopsreport -l lines -x -d "Last lines of the newest dump"
+complete -c oopsreport -l color -x -a "auto always never" -d "Colours of a text"
+complete -c oopsreport -l format -x -a "text json html" -d "What a report is made as"
+complete -c oopsreport -l save -x -a "(__fish_complete_directories)" -d "A folder for the records"
+complete -c oopsreport -l help -d "Print the options"
+complete -c oopsreport -l version -d "Print the version"

@@ -1,0 +1,23 @@
+#compdef oopsreport
+# Completion of oopsreport for zsh: its options and what they take, and files.
+local -a keys=(mem_size= record_size= console_size= ftrace_size= pmsg_size= ecc= cpus= ftrace_sig= block_size=
+    ecc_dump= ecc_console= ecc_ftrace= ecc_pmsg=)
+_arguments \
+    "*--param[a parameter of the layout]:parameter:compadd -S '' $keys" \
+    '--cmdline[a command line of a kernel]:words:' \
+    '--cmdline-file[a file with a command line of a kernel]:file:_files' \
+    '--kernel[the version of the kernel that wrote the ftrace zones]:version:' \
+    '--dtb[a flattened device tree of a board]:file:_files' \
+    '--node[the ramoops node of the device tree]:path:' \
+    '--mem-as-given[do not round mem_size down to a power of two]' \
+    '--memory[each image is a copy of all memory]' \
+    '--at[the region at this place of the memory]:place:' \
+    '--memory-at[the physical address of the first byte of the memory]:address:' \
+    '--symbols[a System.map, for the functions of ftrace]:file:_files' \
+    '--lines[last lines of the newest dump]:number:' \
+    '--color[colours of a text]:when:(auto always never)' \
+    '--format[what a report is made as]:format:(text json html)' \
+    '--save[a folder for the records]:folder:_files -/' \
+    '--help[print the options]' \
+    '--version[print the version]' \
+    '*:image:_files'
