@@ -56,12 +56,7 @@ fn told(stop: Stop) -> anyhow::Error {
 const MOST: u32 = 16_777_216;
 
 // Lines about the layout: above a text, and else to standard error, so that no layout is taken in silence.
-fn tell<R: Runtime>(
-    rt: &R,
-    errors: &mut Messages<R>,
-    format: Format,
-    lines: &str,
-) -> Result<()> {
+fn tell<R: Runtime>(rt: &R, errors: &mut Messages<R>, format: Format, lines: &str) -> Result<()> {
     if format == Format::Text {
         print!(rt; "{lines}")?;
     } else {
@@ -220,7 +215,12 @@ fn tell_region<R: Runtime>(
     let place = named(alloc, base, region.place)?;
     let name = format!(in alloc; "{path}@{place}")?;
     let size = region.found.candidate.mem;
-    tell(rt, errors, format, &taken_hint(alloc, &name, size, &region.found)?)?;
+    tell(
+        rt,
+        errors,
+        format,
+        &taken_hint(alloc, &name, size, &region.found)?,
+    )?;
     if let Some(size) = region.larger {
         let line = format!(in alloc; "a region of {size} bytes explains as much\n")?;
         tell(rt, errors, format, &line)?;
@@ -396,7 +396,15 @@ fn run<R: Runtime, S: Read>(
     match asked_by(rt, alloc, &matches, terminal.is_output) {
         Ok(asked) => {
             let mut errors = Messages::new(rt.clone()?);
-            Ok(all_images(rt, &mut errors, alloc, input, &asked, &matches, terminal.is_errors))
+            Ok(all_images(
+                rt,
+                &mut errors,
+                alloc,
+                input,
+                &asked,
+                &matches,
+                terminal.is_errors,
+            ))
         }
         Err(NoPlan::Memory) => Err(AllocError.into()),
         Err(NoPlan::Words(e)) => {

@@ -114,7 +114,9 @@ pub fn regions<R: Runtime>(
         }
         if tries >= TRIES {
             let place = named(alloc, base, place)?;
-            let line = format!(in alloc; "oopsreport: {path}: what stands from {place} on was not looked at\n")?;
+            let line = format!(in alloc;
+                "oopsreport: {path}: what stands from {place} on was not looked at\n"
+            )?;
             errors.tell(&line);
             break;
         }
@@ -126,7 +128,9 @@ pub fn regions<R: Runtime>(
             None => {
                 tries = tries.saturating_add(1);
                 let place = named(alloc, base, place)?;
-                let line = format!(in alloc; "oopsreport: {path}@{place}: a header seems to stand there, and no layout explains it\n")?;
+                let line = format!(in alloc;
+                    "oopsreport: {path}@{place}: a header seems to stand there, and no layout explains it\n"
+                )?;
                 errors.tell(&line);
             }
         }

@@ -54,8 +54,11 @@ first_coloured text end is_end inside =
     (ap (λ ls. join_with_byte 10 (map coloured_line ls)) (slice_split_first is_newline text 0 (rw (← is_end) inside))
     ∙ joined (coloured_line (before_first is_newline text))
     (map coloured_line (slice_split is_newline (after_first is_newline text)))
-    (omega (arith, length-map (slice_split is_newline (after_first is_newline text)) coloured_line,
-    length-slice_split is_newline (after_first is_newline text))))
+    (omega (
+      arith,
+      length-map (slice_split is_newline (after_first is_newline text)) coloured_line,
+      length-slice_split is_newline (after_first is_newline text),
+    )))
 
 -- the last line
 pub last_coloured : (text : List ℕ) (end : ℕ) → end ≡ position_or_len is_newline text → end ≡ length text

@@ -108,7 +108,11 @@ fn lines_that_are_refused(rt: HostRuntime) {
 fn places_of_the_region(rt: HostRuntime) {
     for (line, address, reserved) in [
         (b"".as_slice(), None, None),
-        (b"ramoops.mem_address=0x100000".as_slice(), Some(0x100000), None),
+        (
+            b"ramoops.mem_address=0x100000".as_slice(),
+            Some(0x100000),
+            None,
+        ),
         (
             b"ramoops.mem_address=0x100000 -- ramoops.mem_address=0x200000".as_slice(),
             Some(0x100000),
@@ -127,11 +131,18 @@ fn places_of_the_region(rt: HostRuntime) {
             Some(u64::MAX),
             None,
         ),
-        (b"ramoops.mem_address=0x10000000000000000".as_slice(), None, None),
-        (b"reserve_mem=64K:4096:oops ramoops.mem_name=oops".as_slice(), None, Some(65536)),
         (
-            b"reserve_mem=1M::log \"reserve-mem=2m:4k:oops\" reserve_mem=4M:4096:trace ramoops.mem-name=oops"
-                .as_slice(),
+            b"ramoops.mem_address=0x10000000000000000".as_slice(),
+            None,
+            None,
+        ),
+        (
+            b"reserve_mem=64K:4096:oops ramoops.mem_name=oops".as_slice(),
+            None,
+            Some(65536),
+        ),
+        (
+            b"reserve_mem=1M::log \"reserve-mem=2m:4k:oops\" reserve_mem=4M:4096:trace ramoops.mem-name=oops".as_slice(),
             None,
             Some(2097152),
         ),
@@ -145,10 +156,22 @@ fn places_of_the_region(rt: HostRuntime) {
             None,
             Some(1048576),
         ),
-        (b"reserve_mem=1M:4096:oops ramoops.mem_name=log".as_slice(), None, None),
-        (b"reserve_mem=1M:oops ramoops.mem_name=oops".as_slice(), None, None),
+        (
+            b"reserve_mem=1M:4096:oops ramoops.mem_name=log".as_slice(),
+            None,
+            None,
+        ),
+        (
+            b"reserve_mem=1M:oops ramoops.mem_name=oops".as_slice(),
+            None,
+            None,
+        ),
         (b"reserve_mem=1M ramoops.mem_name=".as_slice(), None, None),
-        (b"reserve_mem=1X:4096:oops ramoops.mem_name=oops".as_slice(), None, None),
+        (
+            b"reserve_mem=1X:4096:oops ramoops.mem_name=oops".as_slice(),
+            None,
+            None,
+        ),
     ] {
         match KernelLine::read(rt.alloc(), line) {
             Ok(read) => {

@@ -3,7 +3,8 @@ use outside::{Calls, Failed, MemSink, Sink};
 use report_colours::ColourSink;
 use std::test::Fail;
 
-const TEXT: &[u8] = b"died: BUG\nconsole     0 found 0 3\nconsole     0 found 0 0\n  <4>[ 1.0] a\n  <3>b\n  <30>c\n  <1234>d";
+const TEXT: &[u8] =
+    b"died: BUG\nconsole     0 found 0 3\nconsole     0 found 0 0\n  <4>[ 1.0] a\n  <3>b\n  <30>c\n  <1234>d";
 
 const COLOURED: &[u8] = b"\x1b[1;31mdied: BUG\x1b[0m\n\x1b[31mconsole     0 found 0 3\x1b[0m\n\
 console     0 found 0 0\n\x1b[33m  <4>[ 1.0] a\x1b[0m\n\x1b[31m  <3>b\x1b[0m\n  <30>c\n  <1234>d";
