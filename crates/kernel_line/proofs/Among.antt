@@ -33,6 +33,6 @@ one_refused read i word NoText inside is_word h = record {
       ∙ ap (λ w. take i read ++ w ∷ drop (suc i) read) (sym is_word))
       ∙ filter-append is_of_layout (take i read) (word ∷ drop (suc i) read)
       ∙ ap (λ t. filter is_of_layout (take i read)
-          ++ cond t (word ∷ filter is_of_layout (drop (suc i) read)) (filter is_of_layout (drop (suc i) read))) h.0;
+      ++ cond t (word ∷ filter is_of_layout (drop (suc i) read)) (filter is_of_layout (drop (suc i) read))) h.0;
   no_text = h.1;
 }

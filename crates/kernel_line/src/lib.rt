@@ -2,8 +2,8 @@
 //! that the memory lies.
 #![tactic(auto)]
 
-mod layout;
 pub mod laws;
+mod layout;
 mod line;
 mod region;
 mod words;
