@@ -1,4 +1,5 @@
 // Regions in a copy of all of a machine's memory.
+use crate::messages::Messages;
 use anyhow::{Result, anyhow, bail};
 use memory_regions::{Part, Unread, Watch, best, larger, marked_pages, readings, window};
 use outside::{FileLoad, Load};
@@ -91,7 +92,7 @@ pub fn region_at<R: Runtime>(
 /// The regions of a file, in the order of their places: each begins at a page at which a header seems to stand, and not
 /// within the one before it. A page whose bytes no layout explains is told.
 pub fn regions<R: Runtime>(
-    rt: &R,
+    errors: &mut Messages<R>,
     alloc: Global,
     file: &mut FileLoad<R>,
     known: &Known,
@@ -113,7 +114,10 @@ pub fn regions<R: Runtime>(
         }
         if tries >= TRIES {
             let place = named(alloc, base, place)?;
-            eprintln!(rt; "oopsreport: {path}: what stands from {place} on was not looked at")?;
+            let line = format!(in alloc;
+                "oopsreport: {path}: what stands from {place} on was not looked at\n"
+            )?;
+            errors.tell(&line);
             break;
         }
         match region_at(alloc, file, known, place)? {
@@ -124,9 +128,10 @@ pub fn regions<R: Runtime>(
             None => {
                 tries = tries.saturating_add(1);
                 let place = named(alloc, base, place)?;
-                eprintln!(rt;
-                    "oopsreport: {path}@{place}: a header seems to stand there, and no layout explains it"
+                let line = format!(in alloc;
+                    "oopsreport: {path}@{place}: a header seems to stand there, and no layout explains it\n"
                 )?;
+                errors.tell(&line);
             }
         }
     }
