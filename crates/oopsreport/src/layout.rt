@@ -2,6 +2,7 @@
 use anyhow::anyhow;
 use clap::ArgMatches;
 use dtb::{Fault, ramoops_nodes};
+use found_regions::{first_address, place_asked};
 use grammar_spec::ParamFault;
 use kernel_line::{KernelLine, LineFault};
 use ramoops_layout::given;
@@ -323,28 +324,26 @@ fn memory_by<R: Runtime>(
     line: &KernelLine,
 ) -> Result<Memory, NoPlan> {
     let first = number(matches, "memory-at")?;
-    let base = first.unwrap_or(0);
-    let address = match (number(matches, "at")?, matches.get_str("dtb")) {
-        (Some(at), _) => Some(at),
-        (None, _) if first.is_none() => None,
-        (None, Some(path)) => {
+    let at = number(matches, "at")?;
+    let said = match (at, first, matches.get_str("dtb")) {
+        (None, Some(_), Some(path)) => {
             node_address(alloc, &read_file(rt, path)?, matches.get_str("node"))
         }
-        (None, None) => line.address(),
+        (None, Some(_), None) => line.address(),
+        _ => None,
     };
-    let place = match address {
-        Some(address) if address < base => {
+    let base = first_address(first);
+    match place_asked(first, at, said) {
+        Ok(place) => Ok(Memory {
+            base,
+            place,
+            reserved: line.reserved_size(),
+        }),
+        Err(address) => {
             let fault = anyhow!("the region at {address:#x} lies before the memory, at {base:#x}");
-            return Err(NoPlan::Words(fault));
+            Err(NoPlan::Words(fault))
         }
-        Some(address) => Some(address - base),
-        None => None,
-    };
-    Ok(Memory {
-        base,
-        place,
-        reserved: line.reserved_size(),
-    })
+    }
 }
 
 // How the images are laid out by the words alone, without a device tree. In a whole memory in which no place is named a

@@ -13,9 +13,10 @@ use clap::ArgMatches;
 use clap::error::ErrorKind;
 use command::command;
 use folder::Dir;
+use found_regions::Region;
 use image::Image;
 use layout::{Asked, Layouts, Memory, NoPlan, asked_by};
-use memory::{Progress, Region, named, part_at, region_at, regions};
+use memory::{Progress, named, part_at, region, regions};
 use messages::Messages;
 use outside::{FileLoad, Load, WriterSink};
 use record_report::Report;
@@ -240,7 +241,7 @@ fn regions_of<R: Runtime>(
 ) -> Result<Vec<Region>> {
     let mut file = FileLoad::new(rt, alloc, path)?;
     if let Some(place) = memory.place {
-        return match region_at(alloc, &mut file, known, place)? {
+        return match region(alloc, &mut file, known, place)? {
             Some(region) => Ok(vec![in alloc; region]?),
             None => bail!("no layout explains what stands at that place; give it by --param"),
         };
