@@ -1,6 +1,7 @@
 -- Lemmas on lines, levels, marks, reports and traces of a crash log. The functions of death cite
 -- them.
 mod Ends
+mod Fronts
 mod Places
 mod Levels
 mod Steps

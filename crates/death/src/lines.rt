@@ -1,8 +1,10 @@
 // Lines of a text, and their parts.
 ghost use Rattle.std.specs.Prelude.{◌≡◌, ◌≤◌, ◌<◌, ◌+◌, ◌^◌, ℕ, [], ◌∷◌, length, IfSome, IfNone};
-ghost use Rattle.death_spec.specs.Lines.{bracket_end, level_len, stamp_len, caller_len, content_len, line_of, lines_from, part, digits_level, level_of, is_kernels, said, is_a};
+ghost use Rattle.death_spec.specs.Marks.{rows};
+ghost use Rattle.death.specs.Rows.{Covers};
+ghost use Rattle.death_spec.specs.Lines.{bracket_end, level_len, stamp_len, caller_len, content_len, line_of, lines_from, part, digits_level, level_of, is_kernels, said, kind, is_a};
 
-use crate::marks::{begins, byte_at, line_len, run_from, tail};
+use crate::marks::{byte_at, is_mark, line_len, mark_by, mark_of, run_from, tail};
 use death_spec::{Class, Line, Mark};
 
 fn bracket_end(text: &[u8], opening: u8, from: usize, to: usize, close: u8) -> usize
@@ -143,9 +145,24 @@ pub fn said(text: &[u8], line: Line) -> &[u8]
     }
 }
 
+/// What `kind` answers, faster where most lines begin with no words.
+pub fn kind_by(firsts: &[bool; 256], text: &[u8], line: Line) -> Option<Mark>
+    requires { Covers rows firsts.now }
+    ensures { result ≡ kind text.now line }
+{
+    mark_by(firsts, said(text, line))
+}
+
+/// What a line is, by the words at its front.
+pub fn kind(text: &[u8], line: Line) -> Option<Mark>
+    ensures { result ≡ kind text.now line }
+{
+    mark_of(said(text, line))
+}
+
 /// Whether the kernel says words of a mark at the front of a line.
 pub fn is_a(text: &[u8], mark: Mark, line: Line) -> bool
     ensures { result ≡ is_a text.now mark line }
 {
-    begins(said(text, line), mark)
+    is_mark(kind(text, line), mark)
 }

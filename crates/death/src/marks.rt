@@ -1,179 +1,140 @@
 // Words at the front of a text, and runs of bytes.
-ghost use Rattle.std.specs.Prelude.{◌≡◌, ◌≤◌, ◌<◌, ◌+◌, [], ◌∷◌, nat_lt, length, drop, slice_index};
-ghost use Rattle.death_spec.specs.Marks.{front_of, front_len, begins, place_of, is_in, is_blank, run, words_of};
+ghost use Rattle.std.specs.Prelude.{◌≡◌, ◌≤◌, ◌<◌, ◌+◌, ℕ, List, ◌∷◌, true, false, nat_eq, slice_index_or, length, drop, slice_index};
+ghost use Rattle.std.specs.List.{starts_with};
+ghost use Rattle.death_spec.specs.Marks.{rows, number_of, is_same, front_in, front_of, front_len, mark_of, is_mark, begins, place_of, is_in, is_blank, run};
 ghost use Rattle.death_spec.specs.declared.Class.TheVariants.{Line};
-ghost use Rattle.death_spec.specs.declared.Mark.TheVariants.{Fault, Oops, Warning, Place, Trace, Kernel, Offset};
+ghost use Rattle.death.specs.Rows.{plain, Covers};
 
-use death_spec::{Class, Mark};
+use death_spec::{Class, Mark, WORDS};
 use memchr::memchr;
 
-// The length of a word where the text begins with it, or 0.
-#[tactic(auto, unfolding(death_spec::specs::Marks::front_of))]
-fn word_len(text: &[u8], word: &[u8]) -> usize
-    ensures { result ≡ front_of (word.now ∷ []) text.now }
+fn number_of(mark: Mark) -> u8
+    ensures { result ≡ number_of mark }
 {
-    if text.starts_with(word) {
-        word.len()
-    } else {
-        0
+    mark as u8
+}
+
+fn is_same(a: Mark, b: Mark) -> bool
+    ensures { result ≡ is_same a b }
+{
+    number_of(a) == number_of(b)
+}
+
+// The first byte mostly decides.
+fn starts_with(text: &[u8], words: &[u8]) -> bool
+    ensures { result ≡ starts_with nat_eq text.now words.now }
+{
+    match (text.first(), words.first()) {
+        (Some(a), Some(b)) => *a == *b && text.starts_with(words),
+        _ => text.starts_with(words),
     }
 }
 
-// A fault whose line has the oops's head in front.
-#[tactic(auto, unfolding(death_spec::specs::Marks::front_of))]
-fn fault_of_oops_len(text: &[u8]) -> usize
-    ensures { result ≡ front_of (drop 10 (words_of Fault)) text.now }
+fn front_in(rows: &[(Mark, &[u8])], text: &[u8]) -> Option<(Mark, usize)>
+    ensures { result ≡ front_in (plain rows.now) text.now }
 {
-    if text.starts_with(b"Oops: general protection fault") {
-        30
-    } else if text.starts_with(b"Oops: divide error") {
-        18
-    } else if text.starts_with(b"Oops: double fault") {
-        18
-    } else {
-        word_len(text, b"Oops: stack segment")
+    for row in rows {
+        if starts_with(text, row.1) {
+            return Some((row.0, row.1.len()));
+        }
+    }
+    None
+}
+
+/// The mark of the first row whose words the text begins with, and how many bytes these have.
+#[tactic(auto, unfolding(death_spec::specs::Marks::front_of))]
+fn front_of(text: &[u8]) -> Option<(Mark, usize)>
+    ensures { result ≡ front_of text.now }
+{
+    front_in(WORDS, text)
+}
+
+fn add_all(firsts: &mut [bool])
+    ensures { (b : ℕ) → b < length firsts.old → slice_index_or firsts.new b false ≡ true }
+{
+    let mut at = 0;
+    'bytes: while at < firsts.len() {
+        firsts[at] = true;
+        at += 1;
     }
 }
 
-#[tactic(auto, unfolding(death_spec::specs::Marks::front_of))]
-fn fault_len(text: &[u8]) -> usize
-    ensures { result ≡ front_len Fault text.now }
+// Adds the byte by which these words begin.
+fn add_first(firsts: &mut [bool], words: &[u8])
+    requires { length firsts.old ≡ 256 }
+    ensures others { (b : ℕ) → b < 256 → slice_index_or firsts.new b false ≡ false
+        → slice_index_or firsts.old b false ≡ false }
+    ensures words { (b : ℕ) (bs : List ℕ) → b < 256 → slice_index_or firsts.new b false ≡ false
+        → starts_with nat_eq (b ∷ bs) words.now ≡ false }
 {
-    if text.starts_with(b"BUG: ") {
-        5
-    } else if text.starts_with(b"kernel BUG at ") {
-        14
-    } else if text.starts_with(b"Unable to handle kernel") {
-        23
-    } else if text.starts_with(b"general protection fault") {
-        24
-    } else if text.starts_with(b"divide error") {
-        12
-    } else if text.starts_with(b"double fault") {
-        12
-    } else if text.starts_with(b"stack segment") {
-        13
-    } else if text.starts_with(b"Unhandled fault") {
-        15
-    } else if text.starts_with(b"watchdog: BUG:") {
-        14
-    } else if text.starts_with(b"SError Interrupt") {
-        16
-    } else {
-        fault_of_oops_len(text)
+    match words.first() {
+        Some(b) => firsts[usize::from(*b)] = true,
+        None => add_all(firsts),
     }
 }
 
-#[tactic(auto, unfolding(death_spec::specs::Marks::front_of))]
-fn oops_len(text: &[u8]) -> usize
-    ensures { result ≡ front_len Oops text.now }
+fn firsts_of(rows: &[(Mark, &[u8])]) -> [bool; 256]
+    ensures { Covers (plain rows.now) result }
 {
-    if text.starts_with(b"Oops: ") {
-        6
-    } else if text.starts_with(b"Oops - ") {
-        7
-    } else if text.starts_with(b"Oops [") {
-        6
-    } else if text.starts_with(b"Internal error: ") {
-        16
+    let mut firsts = [false; 256];
+    for row in rows {
+        add_first(&mut firsts, row.1);
+    }
+    firsts
+}
+
+/// The bytes by which the words begin: most lines begin with none of them.
+pub fn firsts() -> [bool; 256]
+    ensures { Covers rows result }
+{
+    firsts_of(WORDS)
+}
+
+/// What `mark_of` answers, by the first byte if no words begin with it.
+pub fn mark_by(firsts: &[bool; 256], text: &[u8]) -> Option<Mark>
+    requires { Covers rows firsts.now }
+    ensures { result ≡ mark_of text.now }
+{
+    if 0 < text.len() && !firsts[usize::from(text[0])] {
+        None
     } else {
-        word_len(text, b"invalid opcode")
+        mark_of(text)
     }
 }
 
-#[tactic(auto, unfolding(death_spec::specs::Marks::front_of))]
-fn warning_len(text: &[u8]) -> usize
-    ensures { result ≡ front_len Warning text.now }
+/// How many bytes the words have that the text begins with, or 0.
+pub fn front_len(text: &[u8]) -> usize
+    ensures { result ≡ front_len text.now }
 {
-    if text.starts_with(b"WARNING: CPU:") {
-        13
-    } else if text.starts_with(b"rcu: INFO: rcu_") {
-        15
-    } else if text.starts_with(b"INFO: task ") {
-        11
-    } else {
-        word_len(text, b"Out of memory: ")
+    match front_of(text) {
+        Some((_, len)) => len,
+        None => 0,
     }
 }
 
-#[tactic(auto, unfolding(death_spec::specs::Marks::front_of))]
-fn place_len(text: &[u8]) -> usize
-    ensures { result ≡ front_len Place text.now }
+pub fn is_mark(found: Option<Mark>, mark: Mark) -> bool
+    ensures { result ≡ is_mark mark found }
 {
-    if text.starts_with(b"RIP: 0010:") {
-        10
-    } else if text.starts_with(b"pc : ") {
-        5
-    } else if text.starts_with(b"PC is at ") {
-        9
-    } else {
-        word_len(text, b"epc : ")
+    match found {
+        Some(found) => is_same(found, mark),
+        None => false,
     }
 }
 
-#[tactic(auto, unfolding(death_spec::specs::Marks::front_of))]
-fn trace_len(text: &[u8]) -> usize
-    ensures { result ≡ front_len Trace text.now }
+/// The mark of the first row whose words the text begins with.
+pub fn mark_of(text: &[u8]) -> Option<Mark>
+    ensures { result ≡ mark_of text.now }
 {
-    if text.starts_with(b"Call Trace:") {
-        11
-    } else if text.starts_with(b"Call trace:") {
-        11
-    } else {
-        word_len(text, b"Backtrace:")
-    }
-}
-
-#[tactic(auto, unfolding(death_spec::specs::Marks::front_of))]
-fn kernel_len(text: &[u8]) -> usize
-    ensures { result ≡ front_len Kernel text.now }
-{
-    if text.starts_with(b" Not tainted") {
-        12
-    } else if text.starts_with(b" Tainted: ") {
-        10
-    } else {
-        word_len(text, b" Kdump: ")
-    }
-}
-
-#[tactic(auto, unfolding(death_spec::specs::Marks::front_of))]
-fn offset_len(text: &[u8]) -> usize
-    ensures { result ≡ front_len Offset text.now }
-{
-    if text.starts_with(b"+0x") {
-        3
-    } else {
-        word_len(text, b" from ")
-    }
-}
-
-/// The length of the first word of a mark that the text begins with, or 0.
-pub fn front_len(text: &[u8], mark: Mark) -> usize
-    ensures { result ≡ front_len mark text.now }
-{
-    match mark {
-        Mark::Panic => word_len(text, b"Kernel panic - not syncing"),
-        Mark::Fault => fault_len(text),
-        Mark::Oops => oops_len(text),
-        Mark::Warning => warning_len(text),
-        Mark::End => word_len(text, b"---[ end "),
-        Mark::Processor => word_len(text, b"CPU: "),
-        Mark::Place => place_len(text),
-        Mark::Trace => trace_len(text),
-        Mark::Kernel => kernel_len(text),
-        Mark::Fatal => word_len(text, b"Fatal exception"),
-        Mark::Offset => offset_len(text),
-        Mark::Unsure => word_len(text, b"? "),
-        Mark::Stack => word_len(text, b"<"),
-        Mark::Address => word_len(text, b"[<"),
+    match front_of(text) {
+        Some((mark, _)) => Some(mark),
+        None => None,
     }
 }
 
 pub fn begins(text: &[u8], mark: Mark) -> bool
     ensures { result ≡ begins mark text.now }
 {
-    0 < front_len(text, mark)
+    is_mark(mark_of(text), mark)
 }
 
 /// What stands from a place on.

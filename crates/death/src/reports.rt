@@ -1,33 +1,64 @@
 // What the report below the telling line names.
-ghost use Rattle.std.specs.Prelude.{◌≡◌, ◌≤◌, ◌<◌, ◌+◌, length, map, IfOk};
+ghost use Rattle.std.specs.Prelude.{◌≡◌, ◌≤◌, ◌<◌, ◌+◌, if◌then◌else◌, length, map, IfOk, Some, None};
 ghost use Rattle.death_spec.specs.Lines.{said};
 ghost use Rattle.std.specs.Option.{option_or};
-ghost use Rattle.death_spec.specs.Reports.{report, first_of, span, number_end, task_at, task_end, cpu_in, task_in, kernel_in, place_in, entry_in, trace_in, function_in, death_with, death_at};
+ghost use Rattle.death_spec.specs.Reports.{report, first_of, span, number_end, task_at, task_end, cpu_in, task_in, kernel_in, place_in, entry_in, trace_below, trace_in, function_in, death_with, death_at};
+ghost use Rattle.death_spec.specs.declared.Mark.TheVariants.{Processor, Place, Trace};
 ghost use Rattle.death_spec.specs.Traces.{name_in, caller_of_panic};
 
-use crate::lines::{is_a, next_line, said};
-use crate::marks::{front_len, place_of, run_from};
+use crate::lines::{is_a, kind_by, next_line, said};
+use crate::marks::{firsts, front_len, is_mark, place_of, run_from};
 use crate::telling::{ends_report, is_of_oops};
 use crate::traces;
 use death_spec::{Class, Death, Line, Mark, Span};
 use std::alloc::{AllocError, Global};
 
-// The first line with a mark in the report below the telling line.
-fn first_in(text: &[u8], telling: Line, mark: Mark) -> Option<Line>
-    ensures { result ≡ first_of text.now mark (report text.now telling) }
+/// The lines of a report that name something, each the first of its kind.
+#[derive(Clone, Copy)]
+struct Named {
+    processor: Option<Line>,
+    place: Option<Line>,
+    // Above a call trace.
+    trace: Option<Line>,
+}
+
+// The earlier of two lines, the second of them if it counts.
+fn earlier(found: Option<Line>, counts: bool, line: Line) -> Option<Line>
+    ensures { result ≡ option_or found (if counts then Some line else None) }
 {
-    let is_open = is_of_oops(text, telling);
+    match found {
+        Some(found) => Some(found),
+        None => { if counts { Some(line) } else { None } }
+    }
+}
+
+// The heads in the report below the telling line.
+fn heads(text: &[u8], telling: Line) -> Named
+    ensures processor { result.processor ≡ first_of text.now Processor (report text.now telling) }
+    ensures place { result.place ≡ first_of text.now Place (report text.now telling) }
+    ensures trace { result.trace ≡ first_of text.now Trace (report text.now telling) }
+{
+    let firsts = firsts();
+    let is_open = is_of_oops(kind_by(&firsts, text, telling));
+    let mut processor = None;
+    let mut place = None;
+    let mut trace = None;
     let mut at = telling.next;
     'lines: while let Some(line) = next_line(text, at) {
-        if ends_report(text, is_open, line) {
-            return None;
+        let mark = kind_by(&firsts, text, line);
+        if ends_report(is_open, mark) {
+            break;
         }
-        if is_a(text, mark, line) {
-            return Some(line);
-        }
+        processor = earlier(processor, is_mark(mark, Mark::Processor), line);
+        place = earlier(place, is_mark(mark, Mark::Place), line);
+        trace = earlier(trace, is_mark(mark, Mark::Trace), line);
         at = line.next;
     }
-    None
+    Named {
+        processor,
+        place,
+        trace,
+    }
 }
 
 // The part of a line between two places of what it says, if it has a byte.
@@ -98,7 +129,7 @@ fn place_in(text: &[u8], line: Option<Line>) -> Option<Span>
 {
     let line = line?;
     let words = said(text, line);
-    span(line, front_len(words, Mark::Place), words.len())
+    span(line, front_len(words), words.len())
 }
 
 fn entry_in(text: &[u8], line: Option<Line>) -> Option<Span>
@@ -111,21 +142,23 @@ fn entry_in(text: &[u8], line: Option<Line>) -> Option<Span>
 
 // The entry below that of `panic`, in the trace of a panic's report.
 #[tactic(auto, unfolding(death_spec::specs::Traces::caller_of_panic))]
-fn caller_in(text: &[u8], telling: Line) -> Option<Line>
-    ensures { result ≡ caller_of_panic text.now (trace_in text.now telling) }
+fn caller_in(text: &[u8], head: Option<Line>) -> Option<Line>
+    ensures { result ≡ caller_of_panic text.now (trace_below text.now head) }
 {
-    let head = first_in(text, telling, Mark::Trace)?;
+    let head = head?;
     traces::caller_of_panic(text, head.next)
 }
 
-fn function_in(text: &[u8], telling: Line) -> Option<Span>
+fn function_in(text: &[u8], telling: Line, heads: Named) -> Option<Span>
+    requires place { heads.place ≡ first_of text.now Place (report text.now telling) }
+    requires trace { heads.trace ≡ first_of text.now Trace (report text.now telling) }
     ensures { result ≡ function_in text.now telling }
 {
-    match place_in(text, first_in(text, telling, Mark::Place)) {
+    match place_in(text, heads.place) {
         Some(place) => Some(place),
         None => {
             if is_a(text, Mark::Panic, telling) {
-                entry_in(text, caller_in(text, telling))
+                entry_in(text, caller_in(text, heads.trace))
             } else {
                 None
             }
@@ -137,14 +170,14 @@ fn function_in(text: &[u8], telling: Line) -> Option<Span>
 pub fn death_at(text: &[u8], telling: Line, second: Option<Line>) -> Death
     ensures { result ≡ death_at text.now telling second }
 {
-    let processor = first_in(text, telling, Mark::Processor);
+    let heads = heads(text, telling);
     Death {
         telling,
         second,
-        cpu: cpu_in(text, processor),
-        task: task_in(text, processor),
-        kernel: kernel_in(text, processor),
-        function: function_in(text, telling),
+        cpu: cpu_in(text, heads.processor),
+        task: task_in(text, heads.processor),
+        kernel: kernel_in(text, heads.processor),
+        function: function_in(text, telling, heads),
     }
 }
 
@@ -152,7 +185,7 @@ pub fn death_at(text: &[u8], telling: Line, second: Option<Line>) -> Death
 pub fn trace_in(alloc: Global, text: &[u8], telling: Line) -> Result<Vec<Span>, AllocError>
     ensures { IfOk result (λ v. v.items ≡ map (name_in text.now) (trace_in text.now telling)) }
 {
-    match first_in(text, telling, Mark::Trace) {
+    match heads(text, telling).trace {
         Some(head) => traces::names(alloc, text, head.next),
         None => Ok(Vec::new(alloc)),
     }

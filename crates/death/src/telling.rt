@@ -1,79 +1,92 @@
 // The line that tells why the machine died.
-ghost use Rattle.std.specs.Prelude.{◌≡◌};
+ghost use Rattle.std.specs.Prelude.{◌≡◌, if◌then◌else◌, Some};
 ghost use Rattle.death_spec.specs.Telling.{last_in, is_of_oops, opens, ends_report, open_behind, last_oops, telling_line, is_fatal, cause_of};
+ghost use Rattle.death_spec.specs.declared.Mark.TheVariants.{Panic, Warning};
 
-use crate::lines::{is_a, next_line, part, said};
-use crate::marks::place_of;
+use crate::lines::{is_a, kind_by, next_line, part, said};
+use crate::marks::{firsts, is_mark, place_of};
 use death_spec::{Line, Mark};
 
-// The last line with a mark.
-fn last_in(text: &[u8], mark: Mark) -> Option<Line>
-    ensures { result ≡ last_in text.now mark }
+pub fn is_of_oops(kind: Option<Mark>) -> bool
+    ensures { result ≡ is_of_oops kind }
 {
-    let mut last = None;
-    let mut at = 0;
-    'lines: while let Some(line) = next_line(text, at) {
-        if is_a(text, mark, line) {
-            last = Some(line);
-        }
-        at = line.next;
-    }
-    last
+    is_mark(kind, Mark::Fault) || is_mark(kind, Mark::Oops)
 }
 
-pub fn is_of_oops(text: &[u8], line: Line) -> bool
-    ensures { result ≡ is_of_oops text.now line }
+fn opens(is_open: bool, kind: Option<Mark>) -> bool
+    ensures { result ≡ opens is_open kind }
 {
-    is_a(text, Mark::Fault, line) || is_a(text, Mark::Oops, line)
+    is_mark(kind, Mark::Fault) || (is_mark(kind, Mark::Oops) && !is_open)
 }
 
-fn opens(text: &[u8], is_open: bool, line: Line) -> bool
-    ensures { result ≡ opens text.now is_open line }
+pub fn ends_report(is_open: bool, kind: Option<Mark>) -> bool
+    ensures { result ≡ ends_report is_open kind }
 {
-    is_a(text, Mark::Fault, line) || (is_a(text, Mark::Oops, line) && !is_open)
+    opens(is_open, kind)
+        || is_mark(kind, Mark::Panic)
+        || is_mark(kind, Mark::Warning)
+        || is_mark(kind, Mark::End)
 }
 
-pub fn ends_report(text: &[u8], is_open: bool, line: Line) -> bool
-    ensures { result ≡ ends_report text.now is_open line }
+fn open_behind(is_open: bool, kind: Option<Mark>) -> bool
+    ensures { result ≡ open_behind is_open kind }
 {
-    opens(text, is_open, line)
-        || is_a(text, Mark::Panic, line)
-        || is_a(text, Mark::Warning, line)
-        || is_a(text, Mark::End, line)
+    is_of_oops(kind) || (is_open && !ends_report(is_open, kind))
 }
 
-fn open_behind(text: &[u8], is_open: bool, line: Line) -> bool
-    ensures { result ≡ open_behind text.now is_open line }
-{
-    is_of_oops(text, line) || (is_open && !ends_report(text, is_open, line))
+// The lines that can tell.
+#[derive(Clone, Copy)]
+struct LastLines {
+    panic: Option<Line>,
+    // It opens the report of an oops.
+    oops: Option<Line>,
+    warning: Option<Line>,
 }
 
-// The last line that opens the report of an oops.
-fn last_oops(text: &[u8]) -> Option<Line>
-    ensures { result ≡ last_oops text.now }
+// The later of two lines, the first of them if it counts.
+fn later(counts: bool, line: Line, found: Option<Line>) -> Option<Line>
+    ensures { result ≡ (if counts then Some line else found) }
 {
-    let mut opening = None;
+    if counts { Some(line) } else { found }
+}
+
+// The last line of each kind that can tell.
+fn last_of_each(text: &[u8]) -> LastLines
+    ensures panic { result.panic ≡ last_in text.now Panic }
+    ensures oops { result.oops ≡ last_oops text.now }
+    ensures warning { result.warning ≡ last_in text.now Warning }
+{
+    let firsts = firsts();
+    let mut panic = None;
+    let mut oops = None;
+    let mut warning = None;
     let mut is_open = false;
     let mut at = 0;
     'lines: while let Some(line) = next_line(text, at) {
-        if opens(text, is_open, line) {
-            opening = Some(line);
-        }
-        is_open = open_behind(text, is_open, line);
+        let mark = kind_by(&firsts, text, line);
+        panic = later(is_mark(mark, Mark::Panic), line, panic);
+        oops = later(opens(is_open, mark), line, oops);
+        warning = later(is_mark(mark, Mark::Warning), line, warning);
+        is_open = open_behind(is_open, mark);
         at = line.next;
     }
-    opening
+    LastLines {
+        panic,
+        oops,
+        warning,
+    }
 }
 
 #[tactic(auto, unfolding(death_spec::specs::Telling::telling_line))]
 pub fn telling_line(text: &[u8]) -> Option<Line>
     ensures { result ≡ telling_line text.now }
 {
-    match last_in(text, Mark::Panic) {
+    let last = last_of_each(text);
+    match last.panic {
         Some(line) => Some(line),
-        None => match last_oops(text) {
+        None => match last.oops {
             Some(line) => Some(line),
-            None => last_in(text, Mark::Warning),
+            None => last.warning,
         },
     }
 }
@@ -90,7 +103,7 @@ pub fn cause_of(text: &[u8], line: Line) -> Option<Line>
     ensures { result ≡ cause_of text.now line }
 {
     if is_fatal(text, line) {
-        last_oops(part(text, 0, line.start))
+        last_of_each(part(text, 0, line.start)).oops
     } else {
         None
     }

@@ -4,7 +4,7 @@ use Rattle.std.specs.List.{slice_split}
 use Rattle.death_spec.specs.declared.Line.{Line}
 use Rattle.death_spec.specs.declared.Class.TheVariants.{Blank, Digit, Number}
 use Rattle.death_spec.specs.declared.Mark.{Mark}
-use Rattle.death_spec.specs.Marks.{run, begins}
+use Rattle.death_spec.specs.Marks.{run, mark_of, is_mark}
 
 -- where a bracket ends that opens at the front and has the bytes between two places in it; 0 if it is none
 abbrev pub bracket_end : ℕ → ℕ → ℕ → ℕ → List ℕ → ℕ
@@ -80,5 +80,9 @@ is_kernels text line =
 abbrev pub said : List ℕ → Line → List ℕ
 said text line = if is_kernels text line then part text line.text line.end else []
 
+-- what a line is
+abbrev pub kind : List ℕ → Line → Option Mark
+kind text line = mark_of (said text line)
+
 abbrev pub is_a : List ℕ → Mark → Line → Bool
-is_a text mark line = begins mark (said text line)
+is_a text mark line = is_mark mark (kind text line)

@@ -1,46 +1,61 @@
 -- The words by which a kernel's lines are told apart, and runs of bytes
-use Rattle.std.specs.Prelude.{ℕ, ◌+◌, Bool, not, ◌&&◌, ◌||◌, ◌==◌, nat_eq, nat_lt, nat_le, if◌then◌else◌, List, [], ◌∷◌, length, codes}
+use Rattle.std.specs.Prelude.{ℕ, ◌+◌, Bool, not, ◌&&◌, ◌||◌, ◌==◌, nat_eq, nat_le, if◌then◌else◌, List, [], ◌∷◌, length, map, Option, Some, None, false}
 use Rattle.std.specs.List.{starts_with, prefix_len}
+use Rattle.std.specs.Option.{option_map, option_map_or}
 use Rattle.death_spec.specs.declared.Mark.{Mark}
 use Rattle.death_spec.specs.declared.Mark.TheVariants.{Panic, Fault, Oops, Warning, End, Processor, Place, Trace, Kernel, Fatal, Offset, Unsure, Stack, Address}
+use Rattle.death_spec.specs.declared.words.TheConstants.{WORDS}
 use Rattle.death_spec.specs.declared.Class.{Class}
 use Rattle.death_spec.specs.declared.Class.TheVariants.{Line, Blank, Word, Name, Digit, Number}
 
--- kernel/panic.c; arch/*/kernel/traps.c and arch/*/mm/fault.c; lib/dump_stack.c; the call trace of each architecture
-abbrev pub words_of : Mark → List (List ℕ)
-words_of Panic = codes "Kernel panic - not syncing" ∷ []
-words_of Fault =
-    codes "BUG: " ∷ codes "kernel BUG at " ∷ codes "Unable to handle kernel" ∷ codes "general protection fault"
-    ∷ codes "divide error" ∷ codes "double fault" ∷ codes "stack segment" ∷ codes "Unhandled fault"
-    ∷ codes "watchdog: BUG:" ∷ codes "SError Interrupt" ∷ codes "Oops: general protection fault"
-    ∷ codes "Oops: divide error" ∷ codes "Oops: double fault" ∷ codes "Oops: stack segment" ∷ []
-words_of Oops =
-    codes "Oops: " ∷ codes "Oops - " ∷ codes "Oops [" ∷ codes "Internal error: " ∷ codes "invalid opcode" ∷ []
-words_of Warning =
-    codes "WARNING: CPU:" ∷ codes "rcu: INFO: rcu_" ∷ codes "INFO: task " ∷ codes "Out of memory: " ∷ []
-words_of End = codes "---[ end " ∷ []
-words_of Processor = codes "CPU: " ∷ []
-words_of Place = codes "RIP: 0010:" ∷ codes "pc : " ∷ codes "PC is at " ∷ codes "epc : " ∷ []
-words_of Trace = codes "Call Trace:" ∷ codes "Call trace:" ∷ codes "Backtrace:" ∷ []
-words_of Kernel = codes " Not tainted" ∷ codes " Tainted: " ∷ codes " Kdump: " ∷ []
-words_of Fatal = codes "Fatal exception" ∷ []
-words_of Offset = codes "+0x" ∷ codes " from " ∷ []
-words_of Unsure = codes "? " ∷ []
-words_of Stack = codes "<" ∷ []
-words_of Address = codes "[<" ∷ []
+-- marks are told apart by their place in the list of marks
+abbrev pub number_of : Mark → ℕ
+number_of Panic = 0
+number_of Fault = 1
+number_of Oops = 2
+number_of Warning = 3
+number_of End = 4
+number_of Processor = 5
+number_of Place = 6
+number_of Trace = 7
+number_of Kernel = 8
+number_of Fatal = 9
+number_of Offset = 10
+number_of Unsure = 11
+number_of Stack = 12
+number_of Address = 13
 
--- the length of the first of the words that the text begins with, or 0
-unfoldable pub front_of : List (List ℕ) → List ℕ → ℕ
-front_of [] text = 0
-front_of (word ∷ words) text = if starts_with nat_eq text word then length word else front_of words text
+abbrev pub is_same : Mark → Mark → Bool
+is_same a b = number_of a == number_of b
 
-abbrev pub front_len : Mark → List ℕ → ℕ
-front_len mark text = front_of (words_of mark) text
+-- the rows of `WORDS`
+abbrev pub rows : List (Mark × List ℕ)
+rows = map (λ (row : Mark × record { now : List ℕ }). (row.0, row.1.now)) WORDS.now
 
+-- the mark of the first row whose words the text begins with, and how many bytes these have
+unfoldable pub front_in : List (Mark × List ℕ) → List ℕ → Option (Mark × ℕ)
+front_in [] text = None
+front_in (row ∷ rows) text =
+    if starts_with nat_eq text row.1 then Some (row.0, length row.1) else front_in rows text
+
+unfoldable pub front_of : List ℕ → Option (Mark × ℕ)
+front_of text = front_in rows text
+
+abbrev pub front_len : List ℕ → ℕ
+front_len text = option_map_or (λ front. front.1) (front_of text) 0
+
+abbrev pub mark_of : List ℕ → Option Mark
+mark_of text = option_map (λ front. front.0) (front_of text)
+
+abbrev pub is_mark : Mark → Option Mark → Bool
+is_mark mark None = false
+is_mark mark (Some found) = is_same found mark
+
+-- whether the text begins with words of a mark
 abbrev pub begins : Mark → List ℕ → Bool
-begins mark text = nat_lt 0 (front_len mark text)
+begins mark text = is_mark mark (mark_of text)
 
--- the first place at which one of the words stands, or the length
+-- the first place at which words of a mark stand, or the length
 unfoldable pub place_of : Mark → List ℕ → ℕ
 place_of mark [] = 0
 place_of mark (b ∷ bs) = if begins mark (b ∷ bs) then 0 else 1 + place_of mark bs

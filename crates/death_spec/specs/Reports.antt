@@ -9,14 +9,14 @@ use Rattle.death_spec.specs.declared.Class.TheVariants.{Blank, Digit}
 use Rattle.death_spec.specs.declared.Mark.{Mark}
 use Rattle.death_spec.specs.declared.Mark.TheVariants.{Panic, Processor, Place, Trace, Kernel}
 use Rattle.death_spec.specs.Marks.{run, front_len, place_of}
-use Rattle.death_spec.specs.Lines.{lines_from, said, is_a}
+use Rattle.death_spec.specs.Lines.{lines_from, said, kind, is_a}
 use Rattle.death_spec.specs.Telling.{is_of_oops, ends_report, telling_line, cause_of}
 use Rattle.death_spec.specs.Traces.{name_at, name_in, entries, caller_of_panic}
 
 -- the lines of the report below a line
 abbrev pub report : List ℕ → Line → List Line
 report text telling =
-    take_while (λ line. not (ends_report text (is_of_oops text telling) line)) (lines_from text telling.next)
+    take_while (λ line. not (ends_report (is_of_oops (kind text telling)) (kind text line))) (lines_from text telling.next)
 
 unfoldable pub first_of : List ℕ → Mark → List Line → Option Line
 first_of text mark [] = None
@@ -53,7 +53,7 @@ kernel_in text (Some line) = span line (task_end (said text line) + 1) (length (
 -- what follows `RIP: 0010:`
 abbrev pub place_in : List ℕ → Option Line → Option Span
 place_in text None = None
-place_in text (Some line) = span line (front_len Place (said text line)) (length (said text line))
+place_in text (Some line) = span line (front_len (said text line)) (length (said text line))
 
 -- an entry of a trace from its name on
 abbrev pub entry_in : List ℕ → Option Line → Option Span

@@ -2,7 +2,11 @@
 //! a crash log that tells it, and of what the report below that line names.
 #![tactic(auto)]
 
-/// What words at the front of a text say (`words_of` has them).
+pub mod words;
+
+pub use words::WORDS;
+
+/// What words at the front of a text say (`WORDS` has them).
 #[derive(Clone, Copy, Debug, PartialEq, Eq)]
 pub enum Mark {
     /// The kernel gave up.

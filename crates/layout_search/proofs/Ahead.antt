@@ -1,5 +1,5 @@
 -- The best so far
-use Rattle.std.proofs.Common.{◌≡◌, ℕ, ◌+◌, ◌<◌, ◌≤◌, Bool, true, false, ◌&&◌, ◌||◌, ◌==◌, nat_lt, if◌then◌else◌, List, [], ◌∷◌, length, get_or, Option, Some, None, sym, ap, ◌∙◌, subst, arith, true≢false}
+use Rattle.std.proofs.Common.{◌≡◌, ℕ, ◌+◌, ◌<◌, ◌≤◌, Bool, true, false, ◌&&◌, ◌||◌, ◌==◌, nat_lt, if◌then◌else◌, List, [], ◌∷◌, length, get_or, Option, Some, None, refl, sym, ap, ◌∙◌, subst, arith, true≢false}
 use Rattle.std.specs.Prelude.{nat_le, sum_by}
 use Rattle.std.proofs.lemmas.Bool.{and_parts, or_parts, false_from_ne_true, ltb-false, le-leb, lt-leb}
 use Rattle.layout_spec.specs.declared.Candidate.{Candidate}
@@ -35,10 +35,24 @@ unfolding is_of_family
 family_layout known image c h = (and_parts _ (has_layout c) h).1
 
 pub advances_refl : (s : Progress) → Advances s s
-advances_refl s = record { best = λ k h. h; work = omega arith }
+advances_refl s = record {
+  best = λ k h. h;
+  some = λ e. e;
+  effort = refl;
+  work = omega arith;
+  all = λ e. refl;
+  first = λ e n. refl;
+}
 
 pub advances_trans : {a b c : Progress} → Advances a b → Advances b c → Advances a c
-advances_trans p q = record { best = λ k h. q.best k (p.best k h); work = omega (arith, p.work, q.work) }
+advances_trans p q = record {
+  best = λ k h. q.best k (p.best k h);
+  some = λ e. p.some (q.some e);
+  effort = q.effort ∙ p.effort;
+  work = omega (arith, p.work, q.work);
+  all = λ e. q.all (p.effort ∙ e) ∙ p.all e;
+  first = λ e n. q.first (p.effort ∙ e) n ∙ p.first e (q.some n);
+}
 
 pub later : {known : Known} {image : List ℕ} {aim : Aim} {c : Candidate} {a b : Progress} → Advances a b
     → IsSettled known image aim c a → IsSettled known image aim c b

@@ -53,7 +53,7 @@ split x y xs ys h = step (nat_lt x y) refl h
     step true e k = inl (ltb-true x y e)
     step false e k = let parts = and_parts (x == y) (is_before xs ys) k in inr (eqb-true x y parts.0, parts.1)
 
-less_before : (x y : ℕ) (xs ys : List ℕ) → x < y → is_before (x ∷ xs) (y ∷ ys) ≡ true
+pub less_before : (x y : ℕ) (xs ys : List ℕ) → x < y → is_before (x ∷ xs) (y ∷ ys) ≡ true
 unfolding is_before
 less_before x y xs ys h = ap (λ b. b || ((x == y) && is_before xs ys)) (lt-ltb x y h)
 

@@ -13,6 +13,10 @@ of_faultless : (f : Option LayoutFault) (zones found : List Zone) → ok_unless 
 of_faultless None zones found e = cc
 of_faultless (Some fault) zones found e = cc
 
+pub found_zones : (c : Candidate) (found : List Zone) → layout_of (params_of c) ≡ Ok found → found ≡ zones_of c
+unfolding layout_of
+found_zones c found e = of_faultless _ (zones_of c) found e
+
 pub laid : (c : Candidate) (found : List Zone) → layout_of (params_of c) ≡ Ok found
     → IsLayout found c.mem → c.mem ≤ 2 ^ 24 → length found < 2 ^ 32 → IsLaid c found
 unfolding layout_of

@@ -1,5 +1,5 @@
 -- What a search answers
-use Rattle.std.specs.Prelude.{◌≡◌, ◌≢◌, ◌≤◌, ℕ, true, false, List, MatchOption}
+use Rattle.std.specs.Prelude.{◌≡◌, ◌≢◌, ◌≤◌, ◌<◌, ℕ, Bool, true, false, ◌&&◌, is_some, List, Option, MatchOption}
 use Rattle.layout_spec.specs.declared.Candidate.{Candidate}
 use Rattle.layout_spec.specs.declared.Known.{Known}
 use Rattle.layout_spec.specs.Family.{is_of_family}
@@ -21,10 +21,33 @@ IsAlone known image c =
     (d : Candidate) → is_of_family known image d ≡ true → c ≢ d
     → faults image (zones_of d) ≤ faults image (zones_of c) → ⊥
 
+-- each layout of the family has more faults than so many
+abbrev pub AreFaulty : Known → List ℕ → ℕ → Type 0
+AreFaulty known image n = (d : Candidate) → is_of_family known image d ≡ true → n < faults image (zones_of d)
+
+-- no layout agrees with what is known
+abbrev pub IsEmpty : Known → List ℕ → Type 0
+IsEmpty known image = (d : Candidate) → is_of_family known image d ≡ false
+
+-- the four sizes and the parity are known: at most the memory, the processors and the tag are looked for
+abbrev pub is_narrow : Known → Bool
+is_narrow known =
+    is_some known.dump && is_some known.console && is_some known.ftrace && is_some known.pmsg && is_some known.parity
+
+-- a search may give up only if more is looked for, and no layout has fewer than two faults
+pub record MayGiveUp (known : Known) (image : List ℕ) : Type 0 where
+  pub wide : is_narrow known ≡ false
+  pub faulty : AreFaulty known image 1
+
 pub record IsAnswer (known : Known) (image : List ℕ) (f : Found) : Type 0 where
   pub of_family : is_of_family known image f.candidate ≡ true
   pub tally_is : f.tally ≡ tally_of image f.candidate
   pub taken_is : f.taken ≡ is_taken (tally_of image f.candidate)
+  pub part : f.whole ≡ false → MayGiveUp known image
   pub first : f.whole ≡ true → (d : Candidate) → is_of_family known image d ≡ true
       → is_before (key image d) (key image f.candidate) ≡ false
   pub next : f.whole ≡ true → MatchOption f.rival (IsAlone known image f.candidate) (IsNext known image f.candidate)
+
+-- no layout is answered only where none agrees with what is known
+abbrev pub IsSearched : Known → List ℕ → Option Found → Type 0
+IsSearched known image found = MatchOption found (IsEmpty known image) (IsAnswer known image)

@@ -9,12 +9,13 @@ use Rattle.layout_spec.specs.Order.{faults, tally_of, key, is_before}
 use Rattle.layout_search.specs.declared.progress.Best.{Best}
 use Rattle.layout_search.specs.declared.progress.Progress.{Progress}
 use Rattle.layout_search.specs.declared.progress.Aim.{Aim}
+use Rattle.layout_search.specs.declared.progress.Effort.TheVariants.{First, All}
 
 -- an aim for this image
 pub record IsAim (image : List ℕ) (aim : Aim) : Type 0 where
   pub marks_are : aim.marks ≡ marks image
   pub few : aim.marks < 2 ^ 63
-  pub limit : aim.limit < 2 ^ 62
+  pub limit : aim.limit < 2 ^ 63
 
 -- whether a key is before that of the best so far; before none is each
 abbrev pub is_ahead : List ℕ → Option Best → Bool
@@ -32,10 +33,15 @@ abbrev pub IsSound : Known → List ℕ → Option Candidate → Option Best →
 IsSound known image besides None = Unit {0}
 IsSound known image besides (Some b) = IsKept known image besides b
 
--- nothing is lost: what was not ahead is not ahead, and no work comes back
+-- nothing is lost: what was not ahead is not ahead, and no work comes back. Where all are tried the work is not
+-- counted, and where the first layout is wanted it ends with that alone
 pub record Advances (old new : Progress) : Type 0 where
   pub best : (k : List ℕ) → is_ahead k old.best ≡ false → is_ahead k new.best ≡ false
+  pub some : new.best ≡ None → old.best ≡ None
+  pub effort : new.effort ≡ old.effort
   pub work : new.work ≤ old.work
+  pub all : old.effort ≡ All → new.work ≡ old.work
+  pub first : old.effort ≡ First → new.best ≡ None → new.work ≡ old.work
 
 -- unless the search has given up, the candidate is not ahead of the best, if it is looked for
 pub record IsSettled (known : Known) (image : List ℕ) (aim : Aim) (c : Candidate) (s : Progress) : Type 0 where
@@ -80,3 +86,8 @@ pub record MemsSettled (known : Known) (image : List ℕ) (aim : Aim) (c : Candi
 abbrev pub HasFew : ℕ → Option Best → Type 0
 HasFew limit None = ⊥
 HasFew limit (Some b) = b.tally.faults ≤ limit
+
+-- the best, if there is one, has more
+abbrev pub HasMore : ℕ → Option Best → Type 0
+HasMore limit None = Unit {0}
+HasMore limit (Some b) = limit < b.tally.faults

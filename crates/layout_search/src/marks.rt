@@ -59,7 +59,7 @@ pub fn seems_to_begin(kind: Kind, image: &[u8], at: usize) -> bool
 /// How many marks the image has.
 pub fn count_marks(image: &[u8]) -> u64
     ensures value { result ≡ marks_of image.now }
-    ensures few { result < 2 ^ 63 }
+    ensures few { result < 2 ^ 62 }
 {
     let mut count = 0;
     for i in 0..image.len().saturating_sub(10) / 2 {

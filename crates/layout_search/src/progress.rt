@@ -9,10 +9,22 @@ pub struct Best {
     pub key: [u64; 18],
 }
 
-/// The best so far, and how much more work may be done. At 0 the search has given up.
+/// When a search ends.
+#[derive(Clone, Copy)]
+pub enum Effort {
+    /// With the first layout.
+    First,
+    /// When all were tried.
+    All,
+    /// When all were tried, or as much work was done as it may do.
+    Bounded,
+}
+
+/// The best so far, and how much more work may be done. At 0 the search has ended before all were tried.
 #[derive(Clone, Copy)]
 pub struct Progress {
     pub best: Option<Best>,
+    pub effort: Effort,
     pub work: u64,
 }
 

@@ -1,29 +1,30 @@
 // The search.
-ghost use Rattle.std.specs.Prelude.{◌≡◌, ◌≢◌, ◌<◌, ◌≤◌, ◌^◌, true, false, None, Some, length, option_map, IfOk, OnOk, IfSome};
+ghost use Rattle.std.specs.Prelude.{◌≡◌, ◌≢◌, ◌<◌, ◌≤◌, ◌^◌, true, false, None, Some, length, option_map, IfOk, OnOk, MatchOption};
 ghost use Rattle.layout_spec.specs.declared.Candidate.{Candidate as CandidateValue};
 ghost use Rattle.layout_spec.specs.Family.{is_of_family};
 ghost use Rattle.layout_spec.specs.Marks.{marks as marks_of};
 ghost use Rattle.layout_spec.specs.Order.{key as key_of, faults};
 ghost use Rattle.layout_search.specs.Placed.{AreLists};
-ghost use Rattle.layout_search.specs.Tried.{IsSound, HasFew, is_ahead};
+ghost use Rattle.layout_search.specs.Tried.{IsKept, IsSound, Advances, HasFew, HasMore, is_ahead};
 ghost use Rattle.layout_search.specs.declared.progress.Best.{Best as BestValue};
+ghost use Rattle.layout_search.specs.declared.progress.Effort.TheVariants.{All};
 ghost use Rattle.layout_spec.specs.Laid.{zones_of};
 ghost use Rattle.layout_spec.specs.Taken.{is_taken};
-ghost use Rattle.layout_search.specs.Answers.{IsAnswer};
+ghost use Rattle.layout_search.specs.Answers.{IsEmpty, IsSearched, AreFaulty, MayGiveUp, is_narrow};
 
 use crate::lists::{Lists, make_lists};
 use crate::marks::count_marks;
-use crate::progress::{Aim, Best, Progress};
+use crate::progress::{Aim, Best, Effort, Progress};
 use crate::sweeping::sweep;
 use layout_spec::{Candidate, Known, Tally};
 use std::alloc::{AllocError, Global};
 
-// How much work a search may do: laying out a zone costs 64, a header without parity 4, one with
+// How much work a search may do where it may give up: laying out a zone costs 64, a header without parity 4, one with
 // parity 512.
 const WORK: u64 = 1 << 30;
 
-// More faults than this are not told apart.
-const LAST: u64 = 1 << 61;
+// No layout has more faults.
+const LAST: u64 = (1 << 62) + (1 << 32);
 
 /// The layout that comes first.
 #[derive(Clone, Copy, Debug, PartialEq, Eq)]
@@ -39,7 +40,8 @@ pub struct Found {
 }
 
 fn is_done(best: &Option<Best>, limit: u64) -> bool
-    ensures { result ≡ true → HasFew limit best.now }
+    ensures done { result ≡ true → HasFew limit best.now }
+    ensures more { result ≡ false → HasMore limit best.now }
 {
     match best {
         Some(best) => best.tally.faults <= limit,
@@ -47,8 +49,60 @@ fn is_done(best: &Option<Best>, limit: u64) -> bool
     }
 }
 
-/// Finds the first layout of all. At no work left it may be another.
-fn find_first(
+/// Tries all layouts with at most so many faults, and tells whether the best has no more.
+fn try_limit(
+    alloc: Global,
+    image: &[u8],
+    known: &Known,
+    lists: &Lists,
+    marks: u64,
+    limit: u64,
+    state: &mut Progress,
+) -> Result<bool, AllocError>
+    requires marks { marks ≡ marks_of image.now }
+    requires few { marks < 2 ^ 63 }
+    requires limit { limit < 2 ^ 63 }
+    requires lists { AreLists known.now (length image.now) lists.now }
+    requires sound { IsSound known.now image.now None state.old.best }
+    ensures sound { OnOk result (IsSound known.now image.now None state.new.best) }
+    ensures advances { OnOk result (Advances state.old state.new) }
+    ensures first { IfOk result (λ done. done ≡ true → 0 < state.new.work → (d : CandidateValue)
+        → is_of_family known.now image.now d ≡ true → is_ahead (key_of image.now d) state.new.best ≡ false) }
+    ensures more { IfOk result (λ done. done ≡ false → 0 < state.new.work → AreFaulty known.now image.now limit) }
+{
+    let aim = Aim {
+        marks,
+        limit,
+        besides: None,
+    };
+    sweep(alloc, image, known, lists, &aim, state)?;
+    Ok(is_done(&state.best, limit))
+}
+
+/// Some layout, if there is one.
+fn find_some(
+    alloc: Global,
+    image: &[u8],
+    known: &Known,
+    lists: &Lists,
+    marks: u64,
+) -> Result<Option<Best>, AllocError>
+    requires marks { marks ≡ marks_of image.now }
+    requires few { marks < 2 ^ 62 }
+    requires lists { AreLists known.now (length image.now) lists.now }
+    ensures { IfOk result (λ best. MatchOption best (IsEmpty known.now image.now) (IsKept known.now image.now None)) }
+{
+    let mut state = Progress {
+        best: None,
+        effort: Effort::First,
+        work: 1,
+    };
+    try_limit(alloc, image, known, lists, marks, LAST, &mut state)?;
+    Ok(state.best)
+}
+
+/// Finds the first layout of those with more than one fault. At no work left it may be another.
+fn find_faulty(
     alloc: Global,
     image: &[u8],
     known: &Known,
@@ -57,22 +111,17 @@ fn find_first(
     state: &mut Progress,
 ) -> Result<(), AllocError>
     requires marks { marks ≡ marks_of image.now }
-    requires few { marks < 2 ^ 63 }
+    requires few { marks < 2 ^ 62 }
     requires lists { AreLists known.now (length image.now) lists.now }
     requires sound { IsSound known.now image.now None state.old.best }
     ensures sound { OnOk result (IsSound known.now image.now None state.new.best) }
+    ensures advances { OnOk result (Advances state.old state.new) }
     ensures first { OnOk result (0 < state.new.work → (d : CandidateValue) → is_of_family known.now image.now d ≡ true
         → is_ahead (key_of image.now d) state.new.best ≡ false) }
 {
-    let mut limit = 0;
-    for _ in 0..64 {
-        let aim = Aim {
-            marks,
-            limit,
-            besides: None,
-        };
-        sweep(alloc, image, known, lists, &aim, state)?;
-        if is_done(&state.best, limit) {
+    let mut limit = 3;
+    while limit < LAST {
+        if try_limit(alloc, image, known, lists, marks, limit, state)? {
             return Ok(());
         }
         if state.work == 0 {
@@ -80,8 +129,80 @@ fn find_first(
         }
         limit = LAST.min(2 * limit + 1);
     }
-    state.work = 0;
+    try_limit(alloc, image, known, lists, marks, LAST, state)?;
     Ok(())
+}
+
+fn is_narrow(known: &Known) -> bool
+    ensures { result ≡ is_narrow known.now }
+{
+    known.dump.is_some()
+        && known.console.is_some()
+        && known.ftrace.is_some()
+        && known.pmsg.is_some()
+        && known.parity.is_some()
+}
+
+// Where few layouts are looked for, all are tried.
+fn effort_for(known: &Known) -> Effort
+    ensures { is_narrow known.now ≡ true → result ≡ All }
+{
+    if is_narrow(known) {
+        Effort::All
+    } else {
+        Effort::Bounded
+    }
+}
+
+/// Finds the first layout of all, from some layout on. At no work left it may be another.
+fn find_first(
+    alloc: Global,
+    image: &[u8],
+    known: &Known,
+    lists: &Lists,
+    marks: u64,
+    some: Best,
+) -> Result<Progress, AllocError>
+    requires marks { marks ≡ marks_of image.now }
+    requires few { marks < 2 ^ 62 }
+    requires lists { AreLists known.now (length image.now) lists.now }
+    requires sound { IsKept known.now image.now None some }
+    ensures sound { IfOk result (λ state. IsSound known.now image.now None state.best) }
+    ensures some { IfOk result (λ state. state.best ≢ None) }
+    ensures first { IfOk result (λ state. 0 < state.work → (d : CandidateValue) → is_of_family known.now image.now d ≡ true
+        → is_ahead (key_of image.now d) state.best ≡ false) }
+    ensures given_up { IfOk result (λ state. state.work ≡ 0 → MayGiveUp known.now image.now) }
+{
+    let mut state = Progress {
+        best: Some(some),
+        effort: Effort::All,
+        work: WORK,
+    };
+    if try_limit(alloc, image, known, lists, marks, 0, &mut state)? {
+        return Ok(state);
+    }
+    if try_limit(alloc, image, known, lists, marks, 1, &mut state)? {
+        return Ok(state);
+    }
+    let mut rest = Progress {
+        best: state.best,
+        effort: effort_for(known),
+        work: WORK,
+    };
+    find_faulty(alloc, image, known, lists, marks, &mut rest)?;
+    Ok(rest)
+}
+
+// With at most one fault too.
+fn effort_beside(known: &Known, best: &Best) -> Effort
+    ensures narrow { is_narrow known.now ≡ true → result ≡ All }
+    ensures few { best.now.tally.faults ≤ 1 → result ≡ All }
+{
+    if best.tally.faults <= 1 {
+        Effort::All
+    } else {
+        effort_for(known)
+    }
 }
 
 /// Finds the first layout of those that have at most as many faults as the best, but for that one.
@@ -95,16 +216,24 @@ fn find_rival(
     work: u64,
 ) -> Result<Progress, AllocError>
     requires marks { marks ≡ marks_of image.now }
-    requires few { marks < 2 ^ 63 }
-    requires limit { best.now.tally.faults < 2 ^ 62 }
+    requires few { marks < 2 ^ 62 }
     requires lists { AreLists known.now (length image.now) lists.now }
+    requires sound { IsKept known.now image.now None best.now }
+    requires first { (d : CandidateValue) → is_of_family known.now image.now d ≡ true
+        → is_ahead (key_of image.now d) (Some best.now) ≡ false }
+    requires work { 0 < work }
     ensures sound { IfOk result (λ state. IsSound known.now image.now (Some best.now.candidate) state.best) }
     ensures settled { IfOk result (λ state. 0 < state.work → (d : CandidateValue)
         → is_of_family known.now image.now d ≡ true → best.now.candidate ≢ d
         → faults image.now (zones_of d) ≤ best.now.tally.faults
         → is_ahead (key_of image.now d) state.best ≡ false) }
+    ensures given_up { IfOk result (λ state. state.work ≡ 0 → MayGiveUp known.now image.now) }
 {
-    let mut state = Progress { best: None, work };
+    let mut state = Progress {
+        best: None,
+        effort: effort_beside(known, best),
+        work,
+    };
     let aim = Aim {
         marks,
         limit: best.tally.faults,
@@ -114,25 +243,21 @@ fn find_rival(
     Ok(state)
 }
 
-/// The layout of the family that comes first for these bytes, of those that agree with what is known. `None` if none
-/// was found. It does not write, and its time is bounded: it gives up after so much work, and says so.
+/// The layout of the family that comes first for these bytes, of those that agree with what is known. `None` only if
+/// none agrees. It does not write. Where it may give up it does so after so much work, and says so.
 pub fn search(alloc: Global, image: &[u8], known: &Known) -> Result<Option<Found>, AllocError>
-    ensures { IfOk result (λ found. IfSome found (IsAnswer known.now image.now)) }
+    ensures { IfOk result (IsSearched known.now image.now) }
 {
     let lists = make_lists(alloc, known, image.len() as u64)?;
     let marks = count_marks(image);
-    let mut state = Progress {
-        best: None,
-        work: WORK,
+    let Some(some) = find_some(alloc, image, known, &lists, marks)? else {
+        return Ok(None);
     };
-    find_first(alloc, image, known, &lists, marks, &mut state)?;
+    let state = find_first(alloc, image, known, &lists, marks, some)?;
     let Some(best) = state.best else {
         return Ok(None);
     };
     if state.work == 0 {
-        return Ok(Some(answer(&best, None, false)));
-    }
-    if best.tally.faults > LAST {
         return Ok(Some(answer(&best, None, false)));
     }
     let others = find_rival(alloc, image, known, &lists, marks, &best, state.work)?;

@@ -78,15 +78,20 @@ pub fn may_begin(
 ) -> bool
     requires marks { marks ≡ marks_of image.now }
     requires few { marks < 2 ^ 63 }
-    requires limit { limit < 2 ^ 62 }
+    requires limit { limit < 2 ^ 63 }
     requires more { more ≤ 2 ^ 25 }
     requires dumps { IsSmallRow dumps }
     requires console { IsSmallRow console }
     ensures { result ≡ false → (p : Params) (rest : List RowValue) → sum_by (λ (row : RowValue). row.count) rest ≤ more
         → limit < faults image.now (zones_from p 0 (dumps ∷ console ∷ rest)) }
 {
-    if marks > limit + dumps.count + console.count + more {
+    let most = dumps.count + console.count + more;
+    if marks > limit + most {
         return false;
+    }
+    // no layout of them has more faults
+    if marks + most <= limit {
+        return true;
     }
     let Some(first) = see(image, dumps, 0, limit, NOTHING, looked) else {
         return false;
@@ -113,7 +118,7 @@ pub fn may_fit(
 ) -> bool
     requires marks { marks ≡ marks_of image.now }
     requires few { marks < 2 ^ 63 }
-    requires limit { limit < 2 ^ 62 }
+    requires limit { limit < 2 ^ 63 }
     requires dumps { IsSmallRow dumps }
     requires console { IsSmallRow console }
     requires ftrace { IsSmallRow ftrace }
@@ -121,8 +126,12 @@ pub fn may_fit(
     ensures { result ≡ false → (p : Params)
         → limit < faults image.now (zones_from p 0 (dumps ∷ console ∷ ftrace ∷ pmsg ∷ [])) }
 {
-    if marks > limit + dumps.count + console.count + ftrace.count + pmsg.count {
+    let most = dumps.count + console.count + ftrace.count + pmsg.count;
+    if marks > limit + most {
         return false;
+    }
+    if marks + most <= limit {
+        return true;
     }
     // the few zones at the end first: they are tried with each number of processors
     let second = end_of(dumps, 0);

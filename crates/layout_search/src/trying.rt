@@ -1,17 +1,18 @@
 // One candidate tried.
-ghost use Rattle.std.specs.Prelude.{◌≡◌, ◌≢◌, ◌≤◌, ℕ, List, true, false, length, Option, Some, OnOk};
+ghost use Rattle.std.specs.Prelude.{◌≡◌, ◌≢◌, ◌≤◌, ℕ, List, true, false, length, Option, None, Some, OnOk};
 ghost use Rattle.layout_spec.specs.declared.Known.{Known as KnownValue};
 ghost use Rattle.layout_spec.specs.declared.Candidate.{Candidate as CandidateValue};
 ghost use Rattle.layout_spec.specs.Laid.{zones_of as zones_as_laid, has_layout};
 ghost use Rattle.layout_spec.specs.Order.{faults, key as key_of};
 ghost use Rattle.layout_spec.specs.Family.{is_of_family};
 ghost use Rattle.layout_search.specs.Laid.{IsLaid};
+ghost use Rattle.layout_search.specs.declared.progress.Effort.TheVariants.{First, All};
 ghost use Rattle.layout_search.specs.Tried.{IsAim, IsKept, IsSound, Advances, IsSettled, is_ahead as is_ahead_of};
 
 use crate::counting::count_zones;
 use crate::laying::zones_of;
 use crate::order::{is_before, key, tally};
-use crate::progress::{Aim, Best, Progress};
+use crate::progress::{Aim, Best, Effort, Progress};
 use layout_spec::Candidate;
 use std::alloc::{AllocError, Global};
 use zone_spec::Zone;
@@ -29,6 +30,7 @@ fn is_ahead(key: &[u64; 18], best: &Option<Best>) -> bool
 fn better(this: Best, best: Option<Best>) -> Option<Best>
     ensures kept { (k : List ℕ) → is_ahead_of k best ≡ false → is_ahead_of k result ≡ false }
     ensures this { is_ahead_of this.key result ≡ false }
+    ensures some { result ≡ None → best ≡ None }
     ensures sound { (known : KnownValue) (image : List ℕ) (besides : Option CandidateValue)
         → IsKept known image besides this → IsSound known image besides best → IsSound known image besides result }
 {
@@ -52,6 +54,7 @@ fn judge(
     requires aim { IsAim image.now aim.now }
     requires within { c.now.mem ≤ length image.now }
     ensures kept { (k : List ℕ) → is_ahead_of k best ≡ false → is_ahead_of k result ≡ false }
+    ensures some { result ≡ None → best ≡ None }
     ensures settled { faults image.now (zones_as_laid c.now) ≤ aim.now.limit
         → is_ahead_of (key_of image.now c.now) result ≡ false }
     ensures sound { (known : KnownValue) (besides : Option CandidateValue)
@@ -93,6 +96,26 @@ fn price(c: &Candidate, zones: usize, looked: u64) -> u64 {
         .saturating_add(looked.saturating_mul(each))
 }
 
+/// How far a search has come with this best, for so much work more.
+fn after(state: &Progress, best: Option<Best>, spent: u64) -> Progress
+    ensures best { result.best ≡ best }
+    ensures effort { result.effort ≡ state.now.effort }
+    ensures work { result.work ≤ state.now.work }
+    ensures all { state.now.effort ≡ All → result.work ≡ state.now.work }
+    ensures first { state.now.effort ≡ First → best ≡ None → result.work ≡ state.now.work }
+{
+    let work = match (state.effort, best) {
+        (Effort::Bounded, _) => state.work.saturating_sub(spent),
+        (Effort::First, Some(_)) => 0,
+        (Effort::First, None) | (Effort::All, _) => state.work,
+    };
+    Progress {
+        best,
+        effort: state.effort,
+        work,
+    }
+}
+
 /// Tries one candidate.
 pub fn try_candidate(
     alloc: Global,
@@ -118,7 +141,6 @@ pub fn try_candidate(
     };
     let mut looked = 0;
     let best = judge(image, aim, c, &zones, state.best, &mut looked);
-    let work = state.work.saturating_sub(price(c, zones.len(), looked));
-    *state = Progress { best, work };
+    *state = after(state, best, price(c, zones.len(), looked));
     Ok(())
 }

@@ -8,19 +8,22 @@ ghost use Rattle.layout_spec.specs.Laid.{zones_of};
 ghost use Rattle.layout_spec.specs.Order.{faults};
 
 use crate::peeking::first_fits;
-use crate::progress::{Aim, Progress};
+use crate::progress::{Aim, Effort, Progress};
 use crate::rows::{console_row, dump_memory, dump_row, ftrace_row, has_room, pmsg_row};
 use crate::seeing::{may_begin, may_fit};
 use crate::tagging::try_tags;
 use layout_spec::{Candidate, Known};
 use std::alloc::{AllocError, Global};
 
-/// So much less work may be done.
+/// So much less work may be done, where it is bounded.
 pub fn spend(state: &mut Progress, work: u64)
     ensures advances { Advances state.old state.new }
     ensures best { state.new.best ≡ state.old.best }
 {
-    state.work = state.work.saturating_sub(work);
+    match state.effort {
+        Effort::Bounded => state.work = state.work.saturating_sub(work),
+        Effort::First | Effort::All => (),
+    }
 }
 
 /// Whether the first dump zone does not fit, and this alone makes too many faults.

@@ -76,6 +76,47 @@ fn known_words_are_kept(rt: HostRuntime) -> Result<(), Fail> {
     Ok(())
 }
 
+// Two signatures within the first zone's log are no headers of zones: two faults.
+#[test]
+fn two_faults_are_found(rt: HostRuntime) -> Result<(), Fail> {
+    let mut image = zones(rt.alloc(), 4, 512, &FRESH_PARITY)?;
+    for at in [100, 200] {
+        image[at] = b'D';
+        image[at + 1] = b'B';
+    }
+    let known = Known {
+        ftrace: Some(0),
+        parity: Some(16),
+        ..Known::default()
+    };
+    let found = search(rt.alloc(), &image, &known)?.ok_or("none")?;
+    let layout = found.candidate;
+    assert_eq!(rt; (layout.mem, layout.dump, layout.console), (2048, 512, 512));
+    assert_eq!(rt; (found.tally.faults, found.tally.fits), (2, 4));
+    assert!(rt; found.taken && found.whole);
+    Ok(())
+}
+
+// Where the words leave one layout it is the answer, and whole, though no zone of it fits.
+#[test]
+fn the_only_layout_is_told(rt: HostRuntime) -> Result<(), Fail> {
+    let zeros = filled(rt.alloc(), 2048, &[0])?;
+    let known = Known {
+        mem: Some(2048),
+        dump: Some(512),
+        console: Some(512),
+        ftrace: Some(0),
+        pmsg: Some(0),
+        parity: Some(16),
+        ..Known::default()
+    };
+    let found = search(rt.alloc(), &zeros, &known)?.ok_or("none")?;
+    assert_eq!(rt; (found.candidate.dump, found.candidate.parity), (512, 16));
+    assert_eq!(rt; (found.tally.faults, found.tally.fits), (4, 0));
+    assert!(rt; found.whole && !found.taken && found.rival.is_none());
+    Ok(())
+}
+
 // Nothing is a header, or text is full of the signature: no layout is taken.
 #[test]
 fn what_no_one_can_read_is_refused(rt: HostRuntime) -> Result<(), Fail> {

@@ -1,15 +1,15 @@
 -- The region that begins at a place
-use Rattle.std.specs.Prelude.{◌≡◌, ℕ, Bool, true, false, ◌&&◌, nat_lt, nat_le, List, [], ◌∷◌, map, take, IfSome, Option, Some, None}
+use Rattle.std.specs.Prelude.{◌≡◌, ℕ, Bool, true, false, ◌&&◌, nat_lt, nat_le, List, [], ◌∷◌, map, take, Option, Some, None}
 use Rattle.std.specs.List.{AllByRecursion}
 use Rattle.layout_spec.specs.declared.Known.{Known}
 use Rattle.layout_search.specs.declared.searching.Found.{Found}
-use Rattle.layout_search.specs.Answers.{IsAnswer}
+use Rattle.layout_search.specs.Answers.{IsSearched}
 use Rattle.memory_spec.specs.Sizes.{sizes, comes_first}
 use Rattle.memory_regions.specs.declared.choosing.Reading.{Reading}
 
 -- its layout is what the search answers for so many bytes
 abbrev pub IsReading : Known → List ℕ → Reading → Type 0
-IsReading known bytes r = IfSome r.found (IsAnswer known (take r.size bytes))
+IsReading known bytes r = IsSearched known (take r.size bytes) r.found
 
 -- each size that is tried was read, in order
 pub record AreReadings (known : Known) (bytes : List ℕ) (readings : List Reading) : Type 0 where

@@ -1,5 +1,5 @@
 // The region that begins at a place.
-ghost use Rattle.std.specs.Prelude.{◌≡◌, None, map, IfOk};
+ghost use Rattle.std.specs.Prelude.{◌≡◌, None, map, take, IfOk};
 ghost use Rattle.std.specs.List.{AllByRecursion, find};
 ghost use Rattle.memory_spec.specs.Sizes.{comes_first};
 ghost use Rattle.memory_regions.specs.declared.choosing.Reading.{Reading as ReadingValue};
@@ -102,15 +102,22 @@ pub fn larger(readings: &[Reading], best: &Reading) -> Option<Reading>
     None
 }
 
+// The first `size` bytes, or as many as there are.
+fn front(bytes: &[u8], size: u64) -> &[u8]
+    ensures { result.now ≡ take size bytes.now }
+{
+    match bytes.get(..size as usize) {
+        Some(front) => front,
+        None => bytes,
+    }
+}
+
 // The layout that the first `size` bytes show.
 fn read_size(alloc: Global, known: &Known, bytes: &[u8], size: u64) -> Result<Reading, AllocError>
     ensures size { IfOk result (λ r. r.size ≡ size) }
     ensures answer { IfOk result (IsReading known.now bytes.now) }
 {
-    let found = match bytes.get(..size as usize) {
-        Some(front) => search(alloc, front, known)?,
-        None => None,
-    };
+    let found = search(alloc, front(bytes, size), known)?;
     Ok(Reading { size, found })
 }
 

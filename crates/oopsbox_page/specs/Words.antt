@@ -1,7 +1,7 @@
 -- The words that the page's call reads: those of a kernel's command line, and then those of a text
 use Rattle.std.specs.Prelude.{◌≡◌, ℕ, true, false, ◌⊎◌, List, ◌++◌, IsUtf8}
 use Rattle.grammar_spec.specs.Fields.{Text}
-use Rattle.report_tool.specs.Cmdline.{layout_words, is_closed, HasNoText}
+use Rattle.kernel_line.specs.Line.{layout_words, is_closed, HasNoText}
 use Rattle.report_calls.specs.Words.{words_of as text_words}
 use Rattle.oopsbox_page.specs.declared.words.NoWords.{NoWords}
 use Rattle.oopsbox_page.specs.declared.words.NoWords.TheVariants.{Unreadable, Memory}

@@ -3,8 +3,8 @@ ghost use Rattle.std.specs.Prelude.{◌≡◌, [], ◌++◌, MatchResult, OnOk};
 ghost use Rattle.grammar_spec.specs.Words.{texts};
 ghost use Rattle.oopsbox_page.specs.Words.{IsReadable, IsUnread, words_of};
 
+use kernel_line::{LineFault, add_layout_words};
 use report_calls::{WordsFault, read_some_words};
-use report_tool::{LineFault, add_layout_words};
 use std::alloc::{AllocError, Global};
 
 /// Why there are no words.

@@ -2,12 +2,12 @@
 use anyhow::anyhow;
 use clap::ArgMatches;
 use dtb::{Fault, ramoops_nodes};
+use found_regions::{first_address, place_asked};
 use grammar_spec::ParamFault;
+use kernel_line::{KernelLine, LineFault};
 use ramoops_layout::given;
 use report_calls::{NoLayouts, sought};
-use report_tool::{
-    Found, Known, LineFault, Plan, PlanFault, TreeFault, add_layout_words, add_tag, ftrace_tag,
-};
+use report_tool::{Found, Known, Plan, PlanFault, TreeFault, add_tag, ftrace_tag};
 use std::alloc::{AllocError, Global};
 use std::io::ErrorKind;
 use std::rt::Runtime;
@@ -35,17 +35,16 @@ impl From<AllocError> for NoPlan {
     }
 }
 
-// The words of one command line of a kernel.
-fn add_line(alloc: Global, words: &mut Vec<String>, line: &[u8]) -> Result<(), NoPlan> {
-    match add_layout_words(alloc, words, line) {
-        Ok(()) => Ok(()),
-        Err(LineFault::Memory) => Err(NoPlan::Memory),
-        Err(LineFault::OpenQuote) => Err(NoPlan::Words(anyhow!(
-            "a quote of the kernel's command line has no end"
-        ))),
-        Err(LineFault::NoText) => Err(NoPlan::Words(anyhow!(
-            "a word ramoops. of the kernel's command line is no text"
-        ))),
+// What is wrong with a kernel's command line.
+fn no_line(fault: LineFault) -> NoPlan {
+    match fault {
+        LineFault::Memory => NoPlan::Memory,
+        LineFault::OpenQuote => {
+            NoPlan::Words(anyhow!("a quote of the kernel's command line has no end"))
+        }
+        LineFault::NoText => {
+            NoPlan::Words(anyhow!("a word ramoops. of the kernel's command line is no text"))
+        }
     }
 }
 
@@ -58,21 +57,18 @@ fn read_file<R: Runtime>(rt: &R, path: &str) -> Result<Vec<u8, R::A>, NoPlan> {
     }
 }
 
-// The words of a kernel's command line, given as text or in a file.
-fn add_cmdline<R: Runtime>(
+// The kernel's command line, given as text or in a file; without one an empty line.
+fn read_line<R: Runtime>(
     rt: &R,
     alloc: Global,
-    words: &mut Vec<String>,
     matches: &ArgMatches<'_>,
-) -> Result<(), NoPlan> {
-    if let Some(text) = matches.get_str("cmdline") {
-        add_line(alloc, words, text.as_bytes())?;
-    }
-    if let Some(path) = matches.get_str("cmdline-file") {
-        let line = read_file(rt, path)?;
-        add_line(alloc, words, &line)?;
-    }
-    Ok(())
+) -> Result<KernelLine, NoPlan> {
+    let read = match (matches.get_str("cmdline"), matches.get_str("cmdline-file")) {
+        (Some(text), _) => KernelLine::read(alloc, text.as_bytes()),
+        (None, Some(path)) => KernelLine::read(alloc, &read_file(rt, path)?),
+        (None, None) => KernelLine::read(alloc, b""),
+    };
+    read.map_err(no_line)
 }
 
 fn add_params(
@@ -306,54 +302,6 @@ fn number(matches: &ArgMatches<'_>, option: &str) -> Result<Option<u64>, NoPlan>
     }
 }
 
-// The last value behind this front of a word of a kernel's command line.
-fn last_value<'a>(line: &'a [u8], front: &[u8]) -> Option<&'a [u8]> {
-    let mut last = None;
-    for word in line.split(|b| b.is_ascii_whitespace()) {
-        if let Some(value) = word.strip_prefix(front) {
-            last = Some(value);
-        }
-    }
-    last
-}
-
-// A size with or without its unit, as the kernel reads it (`lib/cmdline.c`, memparse).
-fn size_of(text: &[u8]) -> Option<u64> {
-    let (digits, unit) = match text.split_last() {
-        Some((b'K' | b'k', digits)) => (digits, 1 << 10),
-        Some((b'M' | b'm', digits)) => (digits, 1 << 20),
-        Some((b'G' | b'g', digits)) => (digits, 1 << 30),
-        _ => (text, 1),
-    };
-    let number = number_of(std::str::from_utf8(digits).ok()?)?;
-    number.checked_mul(unit)
-}
-
-// The size in `SIZE:ALIGN:NAME`, if it has this name.
-fn size_named(value: &[u8], name: &[u8]) -> Option<u64> {
-    let mut fields = value.split(|b| *b == b':');
-    let size = fields.next()?;
-    let _align = fields.next()?;
-    if fields.next()? == name {
-        size_of(size)
-    } else {
-        None
-    }
-}
-
-// The bytes that a kernel's command line reserves under the name that it gives ramoops. The kernel picks their place at
-// each boot, so no word tells it.
-fn reserved_size(line: &[u8]) -> Option<u64> {
-    let name = last_value(line, b"ramoops.mem_name=")?;
-    size_named(last_value(line, b"reserve_mem=")?, name)
-}
-
-// The address that a kernel's command line gives the region, the last if it gives several.
-fn line_address(line: &[u8]) -> Option<u64> {
-    let value = last_value(line, b"ramoops.mem_address=")?;
-    number_of(std::str::from_utf8(value).ok()?)
-}
-
 // The address of the node of this path, or of the only one.
 fn node_address(alloc: Global, tree: &[u8], path: Option<&str>) -> Option<u64> {
     let Ok(nodes) = ramoops_nodes(alloc, tree) else {
@@ -368,49 +316,34 @@ fn node_address(alloc: Global, tree: &[u8], path: Option<&str>) -> Option<u64> {
     None
 }
 
-// The address and the size that a kernel's command line gives the region.
-fn line_says<R: Runtime>(
-    rt: &R,
-    matches: &ArgMatches<'_>,
-) -> Result<(Option<u64>, Option<u64>), NoPlan> {
-    if let Some(path) = matches.get_str("cmdline-file") {
-        let line = read_file(rt, path)?;
-        return Ok((line_address(&line), reserved_size(&line)));
-    }
-    let line = matches.get_str("cmdline").unwrap_or("").as_bytes();
-    Ok((line_address(line), reserved_size(line)))
-}
-
 // Where the words say that a memory and the region in it lie.
 fn memory_by<R: Runtime>(
     rt: &R,
     alloc: Global,
     matches: &ArgMatches<'_>,
+    line: &KernelLine,
 ) -> Result<Memory, NoPlan> {
     let first = number(matches, "memory-at")?;
-    let base = first.unwrap_or(0);
-    let (said, reserved) = line_says(rt, matches)?;
-    let address = match (number(matches, "at")?, matches.get_str("dtb")) {
-        (Some(at), _) => Some(at),
-        (None, _) if first.is_none() => None,
-        (None, Some(path)) => {
+    let at = number(matches, "at")?;
+    let said = match (at, first, matches.get_str("dtb")) {
+        (None, Some(_), Some(path)) => {
             node_address(alloc, &read_file(rt, path)?, matches.get_str("node"))
         }
-        (None, None) => said,
+        (None, Some(_), None) => line.address(),
+        _ => None,
     };
-    let place = match address {
-        Some(address) if address < base => {
+    let base = first_address(first);
+    match place_asked(first, at, said) {
+        Ok(place) => Ok(Memory {
+            base,
+            place,
+            reserved: line.reserved_size(),
+        }),
+        Err(address) => {
             let fault = anyhow!("the region at {address:#x} lies before the memory, at {base:#x}");
-            return Err(NoPlan::Words(fault));
+            Err(NoPlan::Words(fault))
         }
-        Some(address) => Some(address - base),
-        None => None,
-    };
-    Ok(Memory {
-        base,
-        place,
-        reserved,
-    })
+    }
 }
 
 // How the images are laid out by the words alone, without a device tree. In a whole memory in which no place is named a
@@ -447,10 +380,11 @@ pub fn asked_by<R: Runtime>(
     is_terminal: bool,
 ) -> Result<Asked, NoPlan> {
     let mut words = Vec::new(alloc);
-    add_cmdline(rt, alloc, &mut words, matches)?;
+    let line = read_line(rt, alloc, matches)?;
+    line.add_layout_words(alloc, &mut words).map_err(no_line)?;
     add_params(alloc, &mut words, matches)?;
     let memory = match matches.get_flag("memory") {
-        true => Some(memory_by(rt, alloc, matches)?),
+        true => Some(memory_by(rt, alloc, matches, &line)?),
         false => None,
     };
     let layouts = match (matches.get_str("dtb"), memory) {

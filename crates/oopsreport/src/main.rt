@@ -1,25 +1,27 @@
 //! `oopsreport`: what images of ramoops regions hold, as text, as lines of JSON or as a page. Images are only read.
 #![tactic(auto)]
 
-mod colour;
 mod command;
 mod folder;
 mod image;
 mod layout;
 mod memory;
+mod messages;
 
 use anyhow::{Context, Result, anyhow, bail};
 use clap::ArgMatches;
 use clap::error::ErrorKind;
-use colour::ColourSink;
 use command::command;
 use folder::Dir;
+use found_regions::Region;
 use image::Image;
 use layout::{Asked, Layouts, Memory, NoPlan, asked_by};
-use memory::{Progress, Region, named, part_at, region_at, regions};
+use memory::{Progress, named, part_at, region, regions};
+use messages::Messages;
 use outside::{FileLoad, Load, WriterSink};
 use record_report::Report;
 use report_calls::{best_hint, taken_hint};
+use report_colours::ColourSink;
 use report_tool::{Format, Known, Plan, Stop, find, report, save};
 use std::alloc::{AllocError, Global};
 use std::io::{IsTerminal, Read};
@@ -55,11 +57,11 @@ fn told(stop: Stop) -> anyhow::Error {
 const MOST: u32 = 16_777_216;
 
 // Lines about the layout: above a text, and else to standard error, so that no layout is taken in silence.
-fn tell<R: Runtime>(rt: &R, format: Format, lines: &str) -> Result<()> {
+fn tell<R: Runtime>(rt: &R, errors: &mut Messages<R>, format: Format, lines: &str) -> Result<()> {
     if format == Format::Text {
         print!(rt; "{lines}")?;
     } else {
-        eprint!(rt; "{lines}")?;
+        errors.tell(lines);
     }
     Ok(())
 }
@@ -67,6 +69,7 @@ fn tell<R: Runtime>(rt: &R, format: Format, lines: &str) -> Result<()> {
 // The plan of the layout that an image shows, which is told.
 fn found_plan<R: Runtime, M: Load>(
     rt: &R,
+    errors: &mut Messages<R>,
     alloc: Global,
     asked: &Asked,
     known: &Known,
@@ -84,13 +87,13 @@ fn found_plan<R: Runtime, M: Load>(
     };
     if !found.taken || !found.whole {
         let best = best_hint(alloc, path, size, &found)?;
-        eprint!(rt; "oopsreport: {best}")?;
+        errors.tell(&format!(in alloc; "oopsreport: {best}")?);
         match found.whole {
             true => bail!("no layout explains it; give it by --param, --cmdline or --dtb"),
             false => bail!("not all layouts were tried; give it by --param, --cmdline or --dtb"),
         }
     }
-    tell(rt, format, &taken_hint(alloc, path, size, &found)?)?;
+    tell(rt, errors, format, &taken_hint(alloc, path, size, &found)?)?;
     Ok(asked.plan_of(alloc, &found)?)
 }
 
@@ -106,7 +109,7 @@ fn report_by<R: Runtime, M: Load>(
 ) -> Result<Report> {
     let mut out = WriterSink::new(io::writer(rt));
     let done = if asked.is_coloured && format == Format::Text {
-        let mut out = ColourSink::new(alloc, out);
+        let mut out = ColourSink::new(out);
         report(alloc, plan, format, path, image, &mut out)
     } else {
         report(alloc, plan, format, path, image, &mut out)
@@ -120,6 +123,7 @@ fn report_by<R: Runtime, M: Load>(
 // The report of an image.
 fn report_image<R: Runtime, M: Load>(
     rt: &R,
+    errors: &mut Messages<R>,
     alloc: Global,
     asked: &Asked,
     format: Format,
@@ -129,7 +133,7 @@ fn report_image<R: Runtime, M: Load>(
     match &asked.layouts {
         Layouts::Given(plan) => report_by(rt, alloc, plan, asked, format, path, image),
         Layouts::Sought(known) => {
-            let plan = found_plan(rt, alloc, asked, known, format, path, image)?;
+            let plan = found_plan(rt, errors, alloc, asked, known, format, path, image)?;
             report_by(rt, alloc, &plan, asked, format, path, image)
         }
     }
@@ -138,6 +142,7 @@ fn report_image<R: Runtime, M: Load>(
 // One image: its report, and its records saved where a folder is named.
 fn one_image<R: Runtime, S: Read>(
     rt: &R,
+    errors: &mut Messages<R>,
     alloc: Global,
     input: &mut S,
     asked: &Asked,
@@ -150,8 +155,12 @@ fn one_image<R: Runtime, S: Read>(
         Layouts::Sought(_) => MOST,
     };
     let report = match image::open(rt, alloc, input, path, most)? {
-        Image::File(mut file) => report_image(rt, alloc, asked, format, path, &mut file)?,
-        Image::Front(mut front) => report_image(rt, alloc, asked, format, path, &mut front)?,
+        Image::File(mut file) => {
+            report_image(rt, errors, alloc, asked, format, path, &mut file)?
+        }
+        Image::Front(mut front) => {
+            report_image(rt, errors, alloc, asked, format, path, &mut front)?
+        }
     };
     save_records(rt, alloc, folder, &report)
 }
@@ -197,6 +206,7 @@ fn report_region<R: Runtime>(
 // What was found of a region.
 fn tell_region<R: Runtime>(
     rt: &R,
+    errors: &mut Messages<R>,
     alloc: Global,
     format: Format,
     path: &str,
@@ -206,10 +216,15 @@ fn tell_region<R: Runtime>(
     let place = named(alloc, base, region.place)?;
     let name = format!(in alloc; "{path}@{place}")?;
     let size = region.found.candidate.mem;
-    tell(rt, format, &taken_hint(alloc, &name, size, &region.found)?)?;
+    tell(
+        rt,
+        errors,
+        format,
+        &taken_hint(alloc, &name, size, &region.found)?,
+    )?;
     if let Some(size) = region.larger {
         let line = format!(in alloc; "a region of {size} bytes explains as much\n")?;
-        tell(rt, format, &line)?;
+        tell(rt, errors, format, &line)?;
     }
     Ok(())
 }
@@ -217,6 +232,7 @@ fn tell_region<R: Runtime>(
 // The regions of a memory.
 fn regions_of<R: Runtime>(
     rt: &R,
+    errors: &mut Messages<R>,
     alloc: Global,
     known: &Known,
     path: &str,
@@ -225,14 +241,14 @@ fn regions_of<R: Runtime>(
 ) -> Result<Vec<Region>> {
     let mut file = FileLoad::new(rt, alloc, path)?;
     if let Some(place) = memory.place {
-        return match region_at(alloc, &mut file, known, place)? {
+        return match region(alloc, &mut file, known, place)? {
             Some(region) => Ok(vec![in alloc; region]?),
             None => bail!("no layout explains what stands at that place; give it by --param"),
         };
     }
     let mut progress = Progress::new(rt.clone()?, shows_progress);
     let regions = regions(
-        rt,
+        errors,
         alloc,
         &mut file,
         known,
@@ -259,6 +275,7 @@ fn choose_one(alloc: Global, base: u64, regions: &[Region]) -> Result<anyhow::Er
 // A whole memory: the report of each region, and the records of one saved.
 fn one_memory<R: Runtime>(
     rt: &R,
+    errors: &mut Messages<R>,
     alloc: Global,
     asked: &Asked,
     memory: Memory,
@@ -277,12 +294,12 @@ fn one_memory<R: Runtime>(
         (Layouts::Given(_), None) => bail!("no place is named"),
         (Layouts::Sought(known), _) => known,
     };
-    let regions = regions_of(rt, alloc, known, path, memory, shows_progress)?;
+    let regions = regions_of(rt, errors, alloc, known, path, memory, shows_progress)?;
     if regions.len() > 1 && (format == Format::Html || folder.is_some()) {
         return Err(choose_one(alloc, memory.base, &regions)?);
     }
     for region in &regions {
-        tell_region(rt, alloc, format, path, memory.base, region)?;
+        tell_region(rt, errors, alloc, format, path, memory.base, region)?;
         let plan = asked.plan_of(alloc, &region.found)?;
         report_region(
             rt,
@@ -302,6 +319,7 @@ fn one_memory<R: Runtime>(
 // All images, one after another, and the status. A line that standard error does not take ends nothing.
 fn all_images<R: Runtime, S: Read>(
     rt: &R,
+    errors: &mut Messages<R>,
     alloc: Global,
     input: &mut S,
     asked: &Asked,
@@ -321,6 +339,7 @@ fn all_images<R: Runtime, S: Read>(
             Some(memory) => {
                 one_memory(
                     rt,
+                    errors,
                     alloc,
                     asked,
                     memory,
@@ -330,7 +349,7 @@ fn all_images<R: Runtime, S: Read>(
                     shows_progress,
                 )
             }
-            None => one_image(rt, alloc, input, asked, format, folder, path),
+            None => one_image(rt, errors, alloc, input, asked, format, folder, path),
         };
         match done {
             Ok(()) => (),
@@ -343,7 +362,7 @@ fn all_images<R: Runtime, S: Read>(
     if shows_progress && count > 1 && eprintln!(rt; "\r{count} of {count} ").is_err() {
         status = NOT_DONE;
     }
-    status
+    if errors.is_lost() { NOT_DONE } else { status }
 }
 
 // Which of the two outputs is a terminal.
@@ -376,7 +395,18 @@ fn run<R: Runtime, S: Read>(
         return Ok(WRONG_WORDS);
     }
     match asked_by(rt, alloc, &matches, terminal.is_output) {
-        Ok(asked) => Ok(all_images(rt, alloc, input, &asked, &matches, terminal.is_errors)),
+        Ok(asked) => {
+            let mut errors = Messages::new(rt.clone()?);
+            Ok(all_images(
+                rt,
+                &mut errors,
+                alloc,
+                input,
+                &asked,
+                &matches,
+                terminal.is_errors,
+            ))
+        }
         Err(NoPlan::Memory) => Err(AllocError.into()),
         Err(NoPlan::Words(e)) => {
             eprintln!(rt; "error: {e:#}")?;

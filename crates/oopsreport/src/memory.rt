@@ -1,27 +1,11 @@
 // Regions in a copy of all of a machine's memory.
+use crate::messages::Messages;
 use anyhow::{Result, anyhow, bail};
-use memory_regions::{Part, Unread, Watch, best, larger, marked_pages, readings, window};
+use found_regions::{Finding, Part, Region, Unread, Watch, findings, region_at};
 use outside::{FileLoad, Load};
-use report_tool::{Found, Known};
+use report_tool::Known;
 use std::alloc::{AllocError, Global};
 use std::rt::Runtime;
-
-const PAGE: u64 = 4_096;
-
-/// A region has at most so many bytes.
-const MOST: u32 = 16_777_216;
-
-/// At so many pages a layout is looked for and none is found, then no more.
-const TRIES: u32 = 64;
-
-/// A region, by its place in the file.
-#[derive(Clone, Copy)]
-pub struct Region {
-    pub place: u64,
-    pub found: Found,
-    /// A larger size that explains as much.
-    pub larger: Option<u64>,
-}
 
 /// A line of a terminal that tells how far a file was read.
 #[derive(Drop)]
@@ -60,38 +44,21 @@ fn told(unread: Unread) -> anyhow::Error {
 }
 
 /// The region that begins at a place of the file, if one explains what is there.
-pub fn region_at<R: Runtime>(
+pub fn region<R: Runtime>(
     alloc: Global,
     file: &mut FileLoad<R>,
     known: &Known,
     place: u64,
 ) -> Result<Option<Region>> {
-    let bytes = match window(alloc, file, place, MOST) {
-        Ok(bytes) => bytes,
-        Err(unread) => return Err(told(unread)),
-    };
-    let readings = readings(alloc, known, &bytes)?;
-    let Some(first) = best(&readings) else {
-        return Ok(None);
-    };
-    let Some(found) = first.found else {
-        return Ok(None);
-    };
-    let larger = match larger(&readings, &first) {
-        Some(reading) => Some(reading.size),
-        None => None,
-    };
-    Ok(Some(Region {
-        place,
-        found,
-        larger,
-    }))
+    match region_at(alloc, file, known, place) {
+        Ok(region) => Ok(region),
+        Err(unread) => Err(told(unread)),
+    }
 }
 
-/// The regions of a file, in the order of their places: each begins at a page at which a header seems to stand, and not
-/// within the one before it. A page whose bytes no layout explains is told.
+/// The regions of a file, in the order of their places. What is no region is told.
 pub fn regions<R: Runtime>(
-    rt: &R,
+    errors: &mut Messages<R>,
     alloc: Global,
     file: &mut FileLoad<R>,
     known: &Known,
@@ -99,34 +66,27 @@ pub fn regions<R: Runtime>(
     base: u64,
     progress: &mut Progress<R>,
 ) -> Result<Vec<Region>> {
-    let pages = match marked_pages(alloc, file, progress) {
-        Ok(pages) => pages,
+    let found = match findings(alloc, file, known, progress) {
+        Ok(found) => found,
         Err(unread) => return Err(told(unread)),
     };
     let mut regions = Vec::new(alloc);
-    let mut from = 0;
-    let mut tries = 0;
-    for page in &pages {
-        let place = page.saturating_mul(PAGE);
-        if place < from {
-            continue;
-        }
-        if tries >= TRIES {
-            let place = named(alloc, base, place)?;
-            eprintln!(rt; "oopsreport: {path}: what stands from {place} on was not looked at")?;
-            break;
-        }
-        match region_at(alloc, file, known, place)? {
-            Some(region) => {
-                from = place.saturating_add(region.found.candidate.mem);
-                regions.push(region)?;
-            }
-            None => {
-                tries = tries.saturating_add(1);
-                let place = named(alloc, base, place)?;
-                eprintln!(rt;
-                    "oopsreport: {path}@{place}: a header seems to stand there, and no layout explains it"
+    for finding in &found {
+        match finding {
+            Finding::Shown(region) => regions.push(*region)?,
+            Finding::Unexplained(place) => {
+                let place = named(alloc, base, *place)?;
+                let line = format!(in alloc;
+                    "oopsreport: {path}@{place}: a header seems to stand there, and no layout explains it\n"
                 )?;
+                errors.tell(&line);
+            }
+            Finding::Unseen(place) => {
+                let place = named(alloc, base, *place)?;
+                let line = format!(in alloc;
+                    "oopsreport: {path}: what stands from {place} on was not looked at\n"
+                )?;
+                errors.tell(&line);
             }
         }
     }

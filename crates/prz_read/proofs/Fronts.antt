@@ -32,7 +32,7 @@ range-front n k = range_with_len-add 0 n k ∙ ap (λ (m : ℕ). range_with_len 
 -- ---- rounding up
 
 -- ---- bytes of blocks
-block-byte : (z : Zone) (x : List ℕ) (b j : ℕ) → j < z.block
+pub block-byte : (z : Zone) (x : List ℕ) (b j : ℕ) → j < z.block
     → byte_read z x (z.block * b + j) ≡ get_or (part_reading z x (Block b)).bytes j 0
 block-byte z x b j h =
     ap (λ (p : ℕ). byte_read z x p) (ap (λ (n : ℕ). n + j) (mul_comm z.block b))

@@ -4,10 +4,9 @@ pub mod Images
 pub mod Fronts
 pub mod States
 pub mod Saves
-pub mod Storing
-pub mod Corrections
-pub mod DataFixes
-pub mod Erasures
+pub mod Tails
+pub mod Sourcing
+pub mod Passing
 pub mod Uncorrected
 pub mod Pushing
 pub mod Numbered

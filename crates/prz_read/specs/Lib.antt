@@ -1,4 +1,5 @@
 pub mod Reads
 pub mod Fronts
 pub mod Saving
-pub mod Making
+pub mod Sources
+pub mod Steps

@@ -1,5 +1,5 @@
 -- Spans side by side: one is written, one is added behind, the last is taken.
-use Rattle.std.proofs.Common.{◌≡◌, ℕ, zero, suc, ◌+◌, ◌-◌, ◌*◌, ◌<◌, ◌≤◌, List, [], ◌∷◌, ◌++◌, length, get_or, set, take, drop, refl, sym, ap, subst, ◌∙◌, arith, append_assoc}
+use Rattle.std.proofs.Common.{◌≡◌, ℕ, zero, suc, ◌+◌, ◌-◌, ◌*◌, ◌<◌, ◌≤◌, List, [], ◌∷◌, ◌++◌, length, get_or, set, take, drop, refl, sym, ap, ap₂, subst, ◌∙◌, arith, append_assoc}
 use mathlib.Core.List.{append-nil}
 use Rattle.std.proofs.Common.{◌⊎◌, inl, inr, lit<, length-take}
 use Rattle.std.proofs.lemmas.List.{get_or-take, get_or-drop}
@@ -13,7 +13,9 @@ use Rattle.core.specs.declared.slots.Slots.{Slots}
 use Rattle.std.specs.Prelude.{slice_range}
 use Rattle.zone_spec.specs.Parts.{AreBytes}
 use Rattle.prz_region.specs.Chain.{piece_bytes, all_bytes, all_len, SamePlace, Chain, Laid}
-use Rattle.prz_region.specs.CutRegion.{CutRegion, span, with_span}
+use Rattle.zone_spec.specs.Stores.{Store, after_stores}
+use Rattle.prz_region.specs.Made.{Write, in_span}
+use Rattle.prz_region.specs.CutRegion.{CutRegion, span, stored}
 
 pub chain-set : (p q : Ptr) (ss : List Piece) (i : ℕ) (s s' : Piece) → i < length ss → s ≡ get_or ss i s
     → SamePlace s s' → Chain p ss q → Chain p (set ss i s') q
@@ -50,38 +52,43 @@ bytes-length [] = refl
 bytes-length (x ∷ xs) = let e = bytes-length xs in omega (arith, e)
 
 -- a piece of a region that is written in its place, where the region is seen as `cut`
-pub record IsWritten (ss : List Piece) (rest : List ℕ) (cut : CutRegion) (i : ℕ) (s s' : Piece) : Type 0 where
-  pub seen : record { spans = all_bytes ss; rest = rest } ≡ cut
+pub record IsWritten (ss : List Piece) (rest : List ℕ) (made : List (Write ℕ)) (cut : CutRegion) (i : ℕ)
+    (s s' : Piece) : Type 0 where
+  pub seen : record { spans = all_bytes ss; rest = rest; made = made } ≡ cut
   pub within : i < length cut.spans
   pub at : s ≡ get_or ss i s
   pub place : SamePlace s s'
 
-piece-within : (ss : List Piece) (rest : List ℕ) (cut : CutRegion) (i : ℕ) (s s' : Piece) → IsWritten ss rest cut i s s'
-    → i < length ss
-piece-within ss rest cut i s s' w =
+piece-within : (ss : List Piece) (rest : List ℕ) (made : List (Write ℕ)) (cut : CutRegion) (i : ℕ) (s s' : Piece)
+    → IsWritten ss rest made cut i s s' → i < length ss
+piece-within ss rest made cut i s s' w =
     let spans = ap (λ (v : CutRegion). length v.spans) w.seen in
     omega (arith, bytes-length ss, spans, w.within)
 
 -- the pieces lie as before
-pub written-laid : (p : Ptr) (n : ℕ) (ss : List Piece) (rest : Slots ℕ) (cut : CutRegion) (i : ℕ) (s s' : Piece)
-    → IsWritten ss (slots_items rest) cut i s s' → Laid p n ss rest → Laid p n (set ss i s') rest
-written-laid p n ss rest cut i s s' w laid =
-    let lt = piece-within ss (slots_items rest) cut i s s' w in
+pub written-laid : (p : Ptr) (n : ℕ) (ss : List Piece) (rest : Slots ℕ) (made : List (Write ℕ)) (cut : CutRegion) (i : ℕ)
+    (s s' : Piece)
+    → IsWritten ss (slots_items rest) made cut i s s' → Laid p n ss rest → Laid p n (set ss i s') rest
+written-laid p n ss rest made cut i s s' w laid =
+    let lt = piece-within ss (slots_items rest) made cut i s s' w in
     record {
       chain = chain-set p (slots_ptr rest) ss i s s' lt w.at w.place laid.chain;
       full = laid.full;
       long = ap (λ (m : ℕ). m + slots_len rest) (len-set ss i s s' lt w.at w.place) ∙ laid.long;
     }
 
--- and only the span's bytes are others
-pub written-seen : (ss : List Piece) (rest : List ℕ) (cut : CutRegion) (i : ℕ) (s s' : Piece) (f : List ℕ → List ℕ)
-    → IsWritten ss rest cut i s s' → piece_bytes s' ≡ f (piece_bytes s)
-    → record { spans = all_bytes (set ss i s'); rest = rest } ≡ with_span cut i (f (span cut i))
-written-seen ss rest cut i s s' f w e =
-    let old = bytes-at ss i s (piece-within ss rest cut i s s' w) w.at in
-    ap (λ (l : List (List ℕ)). record { spans = l; rest = rest })
-    (bytes-set ss i s' ∙ ap (λ (b : List ℕ). set (all_bytes ss) i b) (e ∙ ap f (sym old)))
-    ∙ ap (λ (v : CutRegion). with_span v i (f (span v i))) w.seen
+-- and only the span's bytes are others, with the stores that made them so in the list
+pub written-seen : (ss : List Piece) (rest : List ℕ) (made made' : List (Write ℕ)) (cut : CutRegion) (i : ℕ)
+    (s s' : Piece) (ts : List Store)
+    → IsWritten ss rest made cut i s s' → piece_bytes s' ≡ after_stores (piece_bytes s) ts
+    → made' ≡ made ++ in_span i ts
+    → record { spans = all_bytes (set ss i s'); rest = rest; made = made' } ≡ stored cut i ts
+written-seen ss rest made made' cut i s s' ts w e m =
+    let old = bytes-at ss i s (piece-within ss rest made cut i s s' w) w.at in
+    ap₂ (λ (l : List (List ℕ)) (k : List (Write ℕ)). record { spans = l; rest = rest; made = k })
+    (bytes-set ss i s' ∙ ap (λ (b : List ℕ). set (all_bytes ss) i b)
+    (e ∙ ap (λ (b : List ℕ). after_stores b ts) (sym old))) m
+    ∙ ap (λ (v : CutRegion). stored v i ts) w.seen
 
 pub bytes-append : (ss ts : List Piece) → all_bytes (ss ++ ts) ≡ all_bytes ss ++ all_bytes ts
 bytes-append [] ts = refl

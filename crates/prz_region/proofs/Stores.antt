@@ -7,7 +7,7 @@ use Rattle.std.proofs.Math.ListN.{drop_of_length-le}
 use Rattle.std.proofs.Math.Seq.{take-suc-set}
 use Rattle.std.specs.Int.{to_le_bytes}
 use Rattle.zone_spec.specs.Parts.{AreBytes}
-use Rattle.zone_spec.specs.Stores.{put}
+use Rattle.zone_spec.specs.Stores.{put, after_stores, byte_stores}
 
 -- bytes put at a place within the list
 pub put-parts : (xs : List ℕ) (at : ℕ) (bs : List ℕ) → at + length bs ≤ length xs
@@ -63,10 +63,23 @@ AreBytes-eight xs ys h k (suc (suc (suc (suc (suc (suc zero)))))) = k 2
 AreBytes-eight xs ys h k (suc (suc (suc (suc (suc (suc (suc zero))))))) = k 3
 AreBytes-eight xs ys h k (suc (suc (suc (suc (suc (suc (suc (suc i)))))))) = lit< tt
 
--- one byte put is that byte set
-pub put-one : (xs : List ℕ) (at b : ℕ) → put xs at (b ∷ []) ≡ set xs at b
-unfolding put
-put-one xs at b = refl
+-- a store for each byte puts them all
+pub put-stores : (xs : List ℕ) (at : ℕ) (bs : List ℕ) → after_stores xs (byte_stores at bs) ≡ put xs at bs
+unfolding put after_stores byte_stores
+put-stores xs at [] = refl
+put-stores xs at (b ∷ bs) = put-stores (set xs at b) (at + 1) bs
+
+-- the next of the stores of bytes, before the others
+pub stores-next : (at : ℕ) (bs : List ℕ) (i : ℕ) → i < length bs
+    → record { place = at; bytes = get_or bs i 0 ∷ [] } ∷ byte_stores (at + 1) (drop (i + 1) bs)
+    ≡ byte_stores at (drop i bs)
+unfolding byte_stores
+stores-next at bs i lt = ap (λ (l : List ℕ). byte_stores at l) (sym (drop_more bs i 0 lt))
+
+-- behind the last byte there is none
+pub stores-end : (at : ℕ) (bs : List ℕ) (i : ℕ) → length bs ≤ i → byte_stores at (drop i bs) ≡ []
+unfolding byte_stores
+stores-end at bs i le = ap (λ (l : List ℕ). byte_stores at l) (drop_of_length-le bs le)
 
 -- the next of the bytes put before the others
 pub put-next : (xs : List ℕ) (at : ℕ) (bs : List ℕ) (i : ℕ) → i < length bs

@@ -1,3 +1,4 @@
+pub mod Made
 pub mod CutRegion
 pub mod Row
 pub mod Chain

@@ -1,11 +1,12 @@
 // The one block: a `Vec` taken apart and put together, a row of places cut, glued and lent, and each store into it.
-ghost use Rattle.std.specs.Prelude.{◌≡◌, ℕ, ◌+◌, ◌-◌, ◌*◌, ◌^◌, ◌<◌, ◌≤◌, ◌++◌, length, take, drop};
+ghost use Rattle.std.specs.Prelude.{◌≡◌, ℕ, ◌+◌, ◌-◌, ◌*◌, ◌^◌, ◌<◌, ◌≤◌, ◌++◌, ◌∷◌, [], List, length, take, drop};
 ghost use base.Fml.{ftrue};
 ghost use denote.RawPtr.{◌+ₚ◌};
 ghost use Rattle.std.specs.Vec.{vec_ptr, vec_len};
 ghost use Rattle.core.specs.Mem.Slots.{slots_items, slots_ptr, slots_len, IsFull, SamePlaces};
 ghost use Rattle.core.specs.Mem.Slots.Ownership.{bytes_of};
 ghost use Rattle.std.specs.Prelude.{map};
+ghost use Rattle.prz_region.specs.Made.{Write};
 ghost use Rattle.prz_region.specs.Chain.{piece_bytes};
 
 use crate::pieces::Piece;
@@ -35,20 +36,21 @@ impl<T, A: Allocator> Move for Shell<T, A> {
     ghost own_val = { shell_owns T.row A.row A.Allocator };
 }
 
-/// The number of stores into a block. It takes no room and no time, and only a store raises it.
+/// The stores made into a block, the first one first, each with the number of its span. The list is for proofs alone:
+/// it takes no room and no time, and only `store_array` adds to it.
 #[derive(Drop)]
-pub struct Stores {
-    marker: PhantomData<()>,
-    pub ghost count: { ℕ },
+pub struct Stores<T> {
+    marker: PhantomData<T>,
+    pub ghost made: { List (Write T) },
 }
 
-impl Model for Stores {
+impl<T> Model for Stores<T> {
     ghost also_owns = { λ _. ftrue };
 }
 
-impl Stores {
-    fn none() -> Stores
-        ensures { result.count ≡ 0 }
+impl<T> Stores<T> {
+    fn none() -> Stores<T>
+        ensures { result.made ≡ [] }
     {
         Stores {
             marker: PhantomData,
@@ -56,36 +58,40 @@ impl Stores {
     }
 }
 
-/// Stores an array over the values from `at` of a row on, in one store. The row begins at `base`.
+/// Stores an array over the values from `at` of a row on, in one store, and adds this store to the list. The row begins
+/// at `base`, and is that of the span with this number. The prover sees what the bytes become; that the list gets one
+/// entry for the one write is to be read here.
 pub(crate) fn store_array<T, const N: usize>(
     row: &mut Slots<T>,
     base: *mut T,
     at: usize,
     values: [T; N],
-    stores: &mut Stores,
+    span: u32,
+    stores: &mut Stores<T>,
 )
     requires { (slots_ptr row.old ≡ base) × (at + N ≤ slots_len row.old) × IsFull row.old }
     ensures items { slots_items row.new ≡ take at (slots_items row.old) ++ values ++ drop (at + N) (slots_items row.old) }
     ensures full { IsFull row.new }
     ensures places { SamePlaces row.old row.new }
-    ensures count { stores.new.count ≡ stores.old.count + 1 }
+    ensures made { stores.new.made ≡ stores.old.made ++ record { span = span; place = at; values = values } ∷ [] }
     ensures sized { length values ≡ N }
 {
+    let _ = span;
     let _ = stores;
     unsafe { (base.add(at) as *mut [T; N]).write(values) }
 }
 
-/// Takes the elements out of the `Vec`, as a row of places in its block, with the number of stores into it so far.
+/// Takes the elements out of the `Vec`, as a row of places in its block, with the stores made into it so far.
 pub(crate) fn open<T, A: Allocator>(
     vec: Vec<T, A>,
     ptr: *mut T,
     len: usize,
-) -> (Slots<T>, Shell<T, A>, Stores)
+) -> (Slots<T>, Shell<T, A>, Stores<T>)
     requires { (ptr ≡ vec_ptr vec) × (len ≡ vec_len vec) }
     ensures row { (slots_items result.0 ≡ vec.items) × IsFull result.0 × (slots_ptr result.0 ≡ vec_ptr vec)
         × (slots_len result.0 ≡ vec_len vec) }
     ensures shell { result.1 ≡ vec }
-    ensures stores { result.2.count ≡ 0 }
+    ensures stores { result.2.made ≡ [] }
 {
     let (row, shell) = take_apart(vec, ptr, len);
     (row, shell, Stores::none())

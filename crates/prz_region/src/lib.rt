@@ -12,4 +12,4 @@ mod spans;
 
 pub use header::{Places, RingWords};
 pub use probe::Probe;
-pub use spans::{CountedSpans, Region, Span, Spans};
+pub use spans::{Region, Span, Spans};

@@ -1,14 +1,15 @@
-// The pieces of a block. All that is stored into one goes through `store_array`, which counts it.
-ghost use Rattle.std.specs.Prelude.{◌≡◌, ◌+◌, ◌≤◌, length};
+// The pieces of a block. All that is stored into one goes through `store_array`, which adds it to the list.
+ghost use Rattle.std.specs.Prelude.{◌≡◌, ◌+◌, ◌≤◌, ◌++◌, ◌∷◌, [], length};
 ghost use Rattle.core.specs.Mem.Slots.{IsFull};
 ghost use Rattle.zone_spec.specs.Parts.{AreBytes};
-ghost use Rattle.zone_spec.specs.Stores.{put};
+ghost use Rattle.zone_spec.specs.Stores.{put, byte_stores};
 ghost use Rattle.prz_region.specs.Row.{IsRow};
+ghost use Rattle.prz_region.specs.Made.{in_span};
 
 use crate::block::{Stores, store_array};
 use core::slots::Slots;
 
-/// A part of a block: where it begins, and its places, which it owns. Each store into it is counted.
+/// A part of a block: where it begins, and its places, which it owns. Each store into it is listed.
 #[repr(C)]
 pub struct Piece {
     base: *mut u8,
@@ -33,28 +34,34 @@ impl Piece {
         slots
     }
 
-    /// Stores bytes from `at` on, in one store.
-    pub(crate) fn store<const N: usize>(&mut self, at: u32, bytes: [u8; N], stores: &mut Stores)
+    /// Stores bytes from `at` on, in one store. The piece is the span with this number.
+    pub(crate) fn store<const N: usize>(
+        &mut self,
+        at: u32,
+        bytes: [u8; N],
+        span: u32,
+        stores: &mut Stores<u8>,
+    )
         requires place { at + N ≤ length (piece_bytes self.old) }
         requires bytes { AreBytes bytes }
         ensures bytes { piece_bytes self.new ≡ put (piece_bytes self.old) at bytes.entry }
         ensures place { SamePlace self.old self.new }
-        ensures count { stores.new.count ≡ stores.old.count + 1 }
+        ensures made { stores.new.made ≡ stores.old.made ++ in_span span (record { place = at; bytes = bytes.entry } ∷ []) }
     {
-        store_array(&mut self.slots, self.base, at as usize, bytes, stores);
+        store_array(&mut self.slots, self.base, at as usize, bytes, span, stores);
     }
 
     /// Stores bytes from `at` on, rising, in a store for each.
-    pub(crate) fn store_bytes(&mut self, at: u32, bytes: &[u8], stores: &mut Stores)
+    pub(crate) fn store_bytes(&mut self, at: u32, bytes: &[u8], span: u32, stores: &mut Stores<u8>)
         requires { at + length bytes.now ≤ length (piece_bytes self.old) }
         ensures bytes { piece_bytes self.new ≡ put (piece_bytes self.old) at bytes.now }
         ensures place { SamePlace self.old self.new }
-        ensures count { stores.new.count ≡ stores.old.count + length bytes.now }
+        ensures made { stores.new.made ≡ stores.old.made ++ in_span span (byte_stores at bytes.now) }
     {
         let mut place = at;
         for byte in bytes {
             let byte = *byte;
-            self.store(place, [byte], stores);
+            self.store(place, [byte], span, stores);
             place += 1;
         }
     }

@@ -12,7 +12,7 @@ use std::marker::Model;
 pub struct Probe {
     piece: Piece,
     shell: Shell<u8, Global>,
-    stores: Stores,
+    stores: Stores<u8>,
 }
 
 impl Model for Probe {
@@ -50,7 +50,7 @@ impl Probe {
         requires { at + length bytes.now ≤ length self.old }
         ensures { self.new ≡ put self.old at bytes.now }
     {
-        self.piece.store_bytes(at, bytes, &mut self.stores);
+        self.piece.store_bytes(at, bytes, 0, &mut self.stores);
     }
 
     /// The span, as it is lent for reading.

@@ -1,11 +1,11 @@
 // A region, and the spans that it is cut into.
-ghost use Rattle.std.specs.Prelude.{◌≡◌, ℕ, ◌+◌, ◌<◌, ◌≤◌, ◌++◌, List, length, drop, slice_index, slice_range, slice_set, Some, MatchResult};
+ghost use Rattle.std.specs.Prelude.{◌≡◌, ℕ, ◌+◌, ◌<◌, ◌≤◌, ◌++◌, ◌∷◌, [], List, length, drop, slice_index, slice_range, slice_set, Some, MatchResult};
 ghost use Rattle.std.specs.Int.{to_le_bytes, from_le_bytes};
 ghost use Rattle.std.proofs.Common.{w32};
 ghost use Rattle.std.specs.List.{concat};
 ghost use Rattle.core.specs.Mem.Slots.{IsFull, slots_items};
 ghost use Rattle.zone_spec.specs.Parts.{AreBytes};
-ghost use Rattle.zone_spec.specs.Stores.{put};
+ghost use Rattle.zone_spec.specs.Stores.{byte_stores, word_store};
 ghost use Rattle.prz_region.specs.Row.{IsRow};
 
 use crate::block::{Shell, Stores, as_spans, based, close, glue, lend, open, split};
@@ -89,41 +89,28 @@ impl Model for Region {
     ghost view = { λ r. r.bytes };
 }
 
-/// A region that is cut into spans. It owns the allocation, and frees it where it is dropped.
-#[derive(Drop)]
+/// A region that is cut into spans, with the stores made into it. It owns the allocation, and frees it where it is
+/// dropped. The list of stores is for proofs alone, and takes no room.
 pub struct Spans {
-    counted: CountedSpans,
+    list: Vec<Piece>,
+    rest: Slots<u8>,
+    shell: Shell<u8, Global>,
+    stores: Stores<u8>,
 }
 
 impl Model for Spans {
+    ghost use Rattle.core.specs.Mem.Slots.{slots_items};
+    ghost use Rattle.std.specs.Vec.{vec_ptr, vec_len};
     ghost use Rattle.prz_region.specs.CutRegion.{CutRegion};
 
     ghost Value = { CutRegion };
 
-    ghost view = { λ s. s.counted.region };
-}
-
-/// A region that is cut into spans, with the number of stores into it. The number is for proofs alone, and takes no
-/// room: it rises by one at the instruction that stores, and at nothing else.
-pub struct CountedSpans {
-    list: Vec<Piece>,
-    rest: Slots<u8>,
-    shell: Shell<u8, Global>,
-    stores: Stores,
-}
-
-impl Model for CountedSpans {
-    ghost use Rattle.core.specs.Mem.Slots.{slots_items};
-    ghost use Rattle.std.specs.Vec.{vec_ptr, vec_len};
-    ghost use Rattle.prz_region.specs.CutRegion.{CountedRegion};
-
-    ghost Value = { CountedRegion };
-
     ghost use Rattle.prz_region.specs.Chain.{all_bytes, Laid};
 
     ghost view = { λ s. record {
-      region = record { spans = all_bytes s.list.items; rest = slots_items s.rest };
-      stores = s.stores.count;
+      spans = all_bytes s.list.items;
+      rest = slots_items s.rest;
+      made = s.stores.made;
     } };
 
     ghost invariant = { λ s. Laid (vec_ptr s.shell) (vec_len s.shell) s.list.items s.rest };
@@ -178,102 +165,49 @@ impl Region {
             list.push_reserved(Piece::over(base, slots));
             rest = back;
         }
-        let counted = CountedSpans {
+        Ok(Spans {
             list,
             rest,
             shell,
             stores,
-        };
-        Ok(Spans { counted })
+        })
     }
 }
 
 impl Spans {
-    ghost use Rattle.prz_region.specs.CutRegion.{span, with_span};
+    ghost use Rattle.prz_region.specs.CutRegion.{span, stored};
 
     /// The spans in the order of the zones.
     pub fn all(&self) -> &[Span]
         ensures { result.now ≡ self.now.spans }
-    {
-        self.counted.all()
-    }
-
-    /// Stores a byte at `at` of span `i`.
-    pub fn store(&mut self, i: u32, at: u32, b: u8)
-        requires span { i < length self.old.spans }
-        requires place { at < length (span self.old i) }
-        ensures { self.new ≡ with_span self.old i (slice_set (span self.old i) at b) }
-    {
-        self.counted.store(i, at, b);
-    }
-
-    /// Stores a 32-bit word, little-endian, from `at` of span `i` on, in one store.
-    pub fn store_word(&mut self, i: u32, at: u32, w: u32)
-        requires span { i < length self.old.spans }
-        requires place { at + 4 ≤ length (span self.old i) }
-        ensures { self.new ≡ with_span self.old i (put (span self.old i) at (to_le_bytes w32 w)) }
-    {
-        self.counted.store_word(i, at, w);
-    }
-
-    /// Stores bytes from `at` of span `i` on, rising.
-    pub fn store_bytes(&mut self, i: u32, at: u32, bytes: &[u8])
-        requires span { i < length self.old.spans }
-        requires place { at + length bytes.now ≤ length (span self.old i) }
-        ensures { self.new ≡ with_span self.old i (put (span self.old i) at bytes.now) }
-    {
-        self.counted.store_bytes(i, at, bytes);
-    }
-
-    /// The whole region again. Takes no memory.
-    pub fn join(self) -> Region
-        ensures { result ≡ concat self.spans ++ self.rest }
-    {
-        self.counted.join()
-    }
-
-    /// The same spans, where clauses count the stores.
-    pub fn counted(self) -> CountedSpans
-        ensures { result.region ≡ self }
-    {
-        self.counted
-    }
-}
-
-impl CountedSpans {
-    ghost use Rattle.prz_region.specs.CutRegion.{span, with_span, stored};
-
-    /// The spans in the order of the zones.
-    pub fn all(&self) -> &[Span]
-        ensures { result.now ≡ self.now.region.spans }
     {
         as_spans(self.list.as_slice())
     }
 
     /// Stores a byte at `at` of span `i`.
     pub fn store(&mut self, i: u32, at: u32, b: u8)
-        requires span { i < length self.old.region.spans }
-        requires place { at < length (span self.old.region i) }
-        ensures { self.new ≡ stored self.old i (slice_set (span self.old.region i) at b) }
+        requires span { i < length self.old.spans }
+        requires place { at < length (span self.old i) }
+        ensures { self.new ≡ stored self.old i (record { place = at; bytes = b ∷ [] } ∷ []) }
     {
         self.store_array(i, at, [b]);
     }
 
     /// Stores a 32-bit word, little-endian, from `at` of span `i` on, in one store.
     pub fn store_word(&mut self, i: u32, at: u32, w: u32)
-        requires span { i < length self.old.region.spans }
-        requires place { at + 4 ≤ length (span self.old.region i) }
-        ensures { self.new ≡ stored self.old i (put (span self.old.region i) at (to_le_bytes w32 w)) }
+        requires span { i < length self.old.spans }
+        requires place { at + 4 ≤ length (span self.old i) }
+        ensures { self.new ≡ stored self.old i (word_store at w) }
     {
         self.store_array(i, at, w.to_le_bytes());
     }
 
     /// Stores two 32-bit words, little-endian, from `at` of span `i` on, in one store of eight bytes.
     pub fn store_pair(&mut self, i: u32, at: u32, first: u32, second: u32)
-        requires span { i < length self.old.region.spans }
-        requires place { at + 8 ≤ length (span self.old.region i) }
+        requires span { i < length self.old.spans }
+        requires place { at + 8 ≤ length (span self.old i) }
         ensures { self.new ≡ stored self.old i
-            (put (span self.old.region i) at (to_le_bytes w32 first ++ to_le_bytes w32 second)) }
+            (record { place = at; bytes = to_le_bytes w32 first ++ to_le_bytes w32 second } ∷ []) }
     {
         let [a, b, c, d] = first.to_le_bytes();
         let [e, f, g, h] = second.to_le_bytes();
@@ -281,29 +215,28 @@ impl CountedSpans {
     }
 
     fn store_array<const N: usize>(&mut self, i: u32, at: u32, bytes: [u8; N])
-        requires span { i < length self.old.region.spans }
-        requires place { at + N ≤ length (span self.old.region i) }
+        requires span { i < length self.old.spans }
+        requires place { at + N ≤ length (span self.old i) }
         requires bytes { AreBytes bytes }
-        ensures { self.new ≡ stored self.old i (put (span self.old.region i) at bytes.entry) }
+        ensures { self.new ≡ stored self.old i (record { place = at; bytes = bytes.entry } ∷ []) }
     {
-        self.list[i as usize].store(at, bytes, &mut self.stores);
+        self.list[i as usize].store(at, bytes, i, &mut self.stores);
     }
 
     /// Stores bytes from `at` of span `i` on, rising, in a store for each.
     pub fn store_bytes(&mut self, i: u32, at: u32, bytes: &[u8])
-        requires span { i < length self.old.region.spans }
-        requires place { at + length bytes.now ≤ length (span self.old.region i) }
-        ensures region { self.new.region ≡ with_span self.old.region i (put (span self.old.region i) at bytes.now) }
-        ensures stores { self.new.stores ≡ self.old.stores + length bytes.now }
+        requires span { i < length self.old.spans }
+        requires place { at + length bytes.now ≤ length (span self.old i) }
+        ensures { self.new ≡ stored self.old i (byte_stores at bytes.now) }
     {
-        self.list[i as usize].store_bytes(at, bytes, &mut self.stores);
+        self.list[i as usize].store_bytes(at, bytes, i, &mut self.stores);
     }
 
     /// The whole region again. Takes no memory.
     pub fn join(self) -> Region
-        ensures { result ≡ concat self.region.spans ++ self.region.rest }
+        ensures { result ≡ concat self.spans ++ self.rest }
     {
-        let CountedSpans {
+        let Spans {
             mut list,
             mut rest,
             shell,
@@ -317,7 +250,7 @@ impl CountedSpans {
     }
 }
 
-impl Drop for CountedSpans {
+impl Drop for Spans {
     fn drop(self) {
         let _region = self.join();
     }

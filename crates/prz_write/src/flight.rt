@@ -1,12 +1,13 @@
 // One call on one zone.
-ghost use Rattle.std.specs.Prelude.{◌≡◌, ◌+◌, ◌<◌, ◌≤◌, List, ℕ, length, min, ◌↔◌};
+ghost use Rattle.std.specs.Prelude.{◌≡◌, ◌+◌, ◌-◌, ◌<◌, ◌≤◌, List, ℕ, length, min, take, drop, ◌↔◌};
 ghost use Rattle.std.specs.Option.{ForSome};
 ghost use Rattle.zone_spec.specs.Zones.{IsValidZone};
 ghost use Rattle.zone_spec.specs.Parts.{standing_words};
 ghost use Rattle.zone_spec.specs.Reading.{IsRing};
 ghost use Rattle.zone_spec.specs.Told.{kind_of};
 ghost use Rattle.zone_spec.specs.Calls.{call_stores, image_after};
-ghost use Rattle.prz_region.specs.CutRegion.{span, with_span};
+ghost use Rattle.prz_region.specs.CutRegion.{span, stored};
+ghost use Rattle.prz_write.specs.Made.{HasStored};
 ghost use Rattle.store_steps.specs.Calls.{IsOpenFor};
 ghost use Rattle.store_steps.specs.Counts.{pairs_of, touched_runs, total_of};
 ghost use Rattle.store_steps.specs.Machine.{StandsFor};
@@ -66,8 +67,10 @@ impl Flight {
         ensures made { self.new.made ≡ self.old.made + 1 }
         ensures stands { (before : List ℕ) → StandsFor self.old (span spans.old i) before
             → StandsFor self.new (span spans.new i) before }
-        ensures others { spans.new ≡ with_span spans.old i (span spans.new i) }
-        ensures len { length (span spans.new i) ≡ length (span spans.old i) }
+        ensures stores { (before : List ℕ) → StandsFor self.old (span spans.old i) before
+            → spans.new ≡ stored spans.old i
+            (take 1 (drop self.old.made (call_stores self.old.zone self.old.call before))) }
+        ensures count { HasStored i 1 spans.old spans.new }
         ensures done { (result ≡ Step.Done) ↔ (self.new.made ≡ total_of self.new) }
     {
         self.advance(spans, i, 1, None)
@@ -83,8 +86,10 @@ impl Flight {
         ensures made { self.new.made ≡ min (self.old.made + count) (total_of self.old) }
         ensures stands { (before : List ℕ) → StandsFor self.old (span spans.old i) before
             → StandsFor self.new (span spans.new i) before }
-        ensures others { spans.new ≡ with_span spans.old i (span spans.new i) }
-        ensures len { length (span spans.new i) ≡ length (span spans.old i) }
+        ensures stores { (before : List ℕ) → StandsFor self.old (span spans.old i) before
+            → spans.new ≡ stored spans.old i
+            (take count (drop self.old.made (call_stores self.old.zone self.old.call before))) }
+        ensures count { HasStored i (self.new.made - self.old.made) spans.old spans.new }
         ensures done { (result ≡ Step.Done) ↔ (self.new.made ≡ total_of self.new) }
     {
         let zone = self.progress.steps.zone;

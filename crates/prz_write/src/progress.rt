@@ -1,9 +1,11 @@
 // A call with its steps, and the loop over them.
-ghost use Rattle.std.specs.Prelude.{◌≡◌, ◌+◌, ◌<◌, ◌≤◌, List, ℕ, length, min};
+ghost use Rattle.std.specs.Prelude.{◌≡◌, ◌+◌, ◌-◌, ◌<◌, ◌≤◌, List, ℕ, length, min, take, drop};
 ghost use Rattle.zone_spec.specs.Parts.{standing_words};
 ghost use Rattle.zone_spec.specs.Zones.{IsValidZone};
 ghost use Rattle.zone_spec.specs.Reading.{IsRing};
-ghost use Rattle.prz_region.specs.CutRegion.{span, with_span};
+ghost use Rattle.zone_spec.specs.Calls.{call_stores};
+ghost use Rattle.prz_region.specs.CutRegion.{span, stored};
+ghost use Rattle.prz_write.specs.Made.{HasStored};
 ghost use Rattle.rs_encode.specs.Lanes.{IsLent};
 ghost use Rattle.store_steps.specs.Calls.{IsOpenFor};
 ghost use Rattle.prz_write.specs.Calls.{call_seen};
@@ -67,8 +69,10 @@ impl Progress {
         ensures made { self.new.steps.made ≡ self.old.steps.made + result }
         ensures stands { (before : List ℕ) → StandsFor (seen self.old) (span spans.old i) before
             → StandsFor (seen self.new) (span spans.new i) before }
-        ensures others { spans.new ≡ with_span spans.old i (span spans.new i) }
-        ensures len { length (span spans.new i) ≡ length (span spans.old i) }
+        ensures stores { (before : List ℕ) → StandsFor (seen self.old) (span spans.old i) before
+            → spans.new ≡ stored spans.old i (take result
+            (drop self.old.steps.made (call_stores self.old.steps.zone (seen self.old).call before))) }
+        ensures count { HasStored i result spans.old spans.new }
     {
         let made = self.steps.made;
         let line = self.call.line();
@@ -91,8 +95,10 @@ impl Progress {
         ensures made { self.new.steps.made ≡ min (self.old.steps.made + count) (total_of (seen self.old)) }
         ensures stands { (before : List ℕ) → StandsFor (seen self.old) (span spans.old i) before
             → StandsFor (seen self.new) (span spans.new i) before }
-        ensures others { spans.new ≡ with_span spans.old i (span spans.new i) }
-        ensures len { length (span spans.new i) ≡ length (span spans.old i) }
+        ensures stores { (before : List ℕ) → StandsFor (seen self.old) (span spans.old i) before
+            → spans.new ≡ stored spans.old i (take count
+            (drop self.old.steps.made (call_stores self.old.steps.zone (seen self.old).call before))) }
+        ensures count { HasStored i (self.new.steps.made - self.old.steps.made) spans.old spans.new }
     {
         let mut out = Store::new();
         let mut left = count;

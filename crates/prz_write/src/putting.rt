@@ -1,7 +1,6 @@
 // Handed-out stores, made in a span.
 ghost use Rattle.std.specs.Prelude.{◌≡◌, ◌<◌, ◌^◌, ◌+◌, ◌≤◌, List, ℕ, length, take, drop};
-ghost use Rattle.zone_spec.specs.Stores.{after_stores};
-ghost use Rattle.prz_region.specs.CutRegion.{span, with_span};
+ghost use Rattle.prz_region.specs.CutRegion.{span, stored};
 ghost use Rattle.store_steps.specs.Handed.{handed, IsInside};
 
 use prz_region::Spans;
@@ -19,8 +18,7 @@ fn part_of(bytes: &[u8], from: u64, len: u32) -> &[u8]
 pub(crate) fn make(store: &Store, line: &[u8], payload: &[u8], spans: &mut Spans, i: u32)
     requires has { i < length spans.old.spans }
     requires inside { IsInside (length (span spans.old i)) store.now line.now payload.now }
-    ensures { spans.new ≡ with_span spans.old i (after_stores (span spans.old i)
-        (handed store.now line.now payload.now)) }
+    ensures { spans.new ≡ stored spans.old i (handed store.now line.now payload.now) }
 {
     match store.given {
         Given::Word => spans.store_word(i, store.place, store.word),

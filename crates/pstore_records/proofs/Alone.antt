@@ -1,9 +1,7 @@
--- Where the numbers of dump zones rise, a dump's notice counts its own zone alone
-use Rattle.std.proofs.Common.{◌≡◌, ℕ, zero, suc, ◌+◌, ◌<◌, ◌≤◌, ◌==◌, Bool, true, false, ◌&&◌, nat_lt, List, [], ◌∷◌, ◌++◌, map, length, refl, sym, ap, ap₂, ◌∙◌, drop, drop-cons, get_or, add-one, subst, arith, append-nil, Option, Some, None}
-use Rattle.std.specs.Prelude.{filter, flat_map, sum_by, slice_get, nat_le, if◌then◌else◌}
-use Rattle.std.specs.List.{list_any}
+-- Where the numbers of dump zones rise, a dump's record has its own zone alone. For `numbers_rise`, `source_in` and `stays`.
+use Rattle.std.proofs.Common.{◌≡◌, ℕ, zero, suc, ◌+◌, ◌<◌, ◌≤◌, ◌==◌, Bool, true, false, ◌&&◌, List, [], ◌∷◌, length, refl, sym, ap, ap₂, ◌∙◌, drop, drop-cons, get_or, add-one, subst, arith, Some}
+use Rattle.std.specs.Prelude.{filter, slice_get, nat_le, if◌then◌else◌}
 use Rattle.std.proofs.lemmas.Bool.{and_parts, leb-true, le-leb, lt-leb}
-use Rattle.std.proofs.lemmas.List.{map-append}
 use Rattle.std.proofs.lemmas.Option.{slice_get_within, slice_get-get_or}
 use Rattle.std.proofs.Math.ListN.{drop_of_length-le}
 use Rattle.std.specs.Option.{option_map}
@@ -11,14 +9,10 @@ use Rattle.zone_spec.specs.declared.ZoneName.{ZoneName}
 use Rattle.zone_spec.specs.declared.Kind.TheVariants.{Dump}
 use Rattle.zone_spec.specs.declared.Name.{Name}
 use Rattle.zone_spec.specs.declared.Name.TheVariants.{Dump as DumpName}
-use Rattle.zone_spec.specs.declared.TimeLine.{TimeLine}
-use Rattle.zone_spec.specs.Reading.{ZoneReading}
-use Rattle.zone_spec.specs.TimeLines.{read_line}
-use Rattle.zone_spec.specs.Records.{Saved, is_of, found, dump_of, dumps_of}
-use Rattle.zone_spec.specs.Notices.{is_in, notice, notice_text}
-use Rattle.pstore_records.specs.declared.table.Entry.{Entry}
+use Rattle.zone_spec.specs.Records.{Saved, is_of}
+use Rattle.zone_spec.specs.Notices.{is_in, notice}
 use Rattle.pstore_records.specs.Counts.{has_parity, corrected_in, bad_in, notice_with}
-use Rattle.pstore_records.specs.Tables.{entry_of, numbers_rise, zones_counted}
+use Rattle.pstore_records.specs.Tables.{numbers_rise}
 
 differs : (i j : ℕ) → i < j → (i == j) ≡ false
 differs i j h = grind (arith, h)
@@ -136,69 +130,6 @@ only-zone packed least (x ∷ zones) (suc i) s e at is = by (is_of Dump x.0.name
     by false other rest =
         left-away s.0.name.index packed x zones (other-kind s.0.name.index packed x other)
         ∙ rest least ((rising least x zones e).other other)
-
--- a notice is that of the zones in its record
-abbrev notice_over : List Saved → List ℕ
-notice_over own =
-    let readings = flat_map (λ (zone : Saved). found zone.1) own in
-    if list_any (λ (zone : Saved). nat_lt 0 zone.0.parity) own
-    then notice_text (sum_by (λ (r : ZoneReading). r.corrected) readings) (sum_by (λ (r : ZoneReading). r.bad) readings)
-    else []
-
-pub own-notice : (packed : Bool) (zones : List Saved) (i : ℕ) (s : Saved) → numbers_rise 0 zones ≡ true
-    → slice_get zones i ≡ Some s → is_of Dump s.0.name.kind ≡ true
-    → notice (s ∷ []) (DumpName s.0.name.index packed) ≡ notice zones (DumpName s.0.name.index packed)
-own-notice packed zones i s e at is =
-    let own : is_in (DumpName s.0.name.index packed) s.0 ≡ true = cc (is, equals s.0.name.index) in
-    ap notice_over (taken-in s.0.name.index packed s [] own ∙ sym (only-zone packed 0 zones i s e at is))
-
--- the entries of dumps of one number go by their notices
-entries-of-line : (a b : List Saved) (n : ℕ) (log : List ℕ) (line : Option TimeLine)
-    → ((packed : Bool) → notice a (DumpName n packed) ≡ notice b (DumpName n packed))
-    → map (entry_of a) (dump_of n log line) ≡ map (entry_of b) (dump_of n log line)
-entries-of-line a b n log None same = refl
-entries-of-line a b n log (Some line) same =
-    let entry : List ℕ → Entry = λ text. record {
-      name = DumpName n line.packed;
-      len = length (drop line.len log ++ text);
-      time = Some line.time;
-    } in
-    ap (λ (text : List ℕ). entry text ∷ []) (same line.packed)
-
-entries-of-readings : (a b : List Saved) (n : ℕ) (rs : List ZoneReading)
-    → ((packed : Bool) → notice a (DumpName n packed) ≡ notice b (DumpName n packed))
-    → map (entry_of a) (flat_map (λ (r : ZoneReading). dump_of n r.log (read_line r.log)) rs)
-    ≡ map (entry_of b) (flat_map (λ (r : ZoneReading). dump_of n r.log (read_line r.log)) rs)
-entries-of-readings a b n [] same = refl
-entries-of-readings a b n (r ∷ rs) same =
-    let own = dump_of n r.log (read_line r.log) in
-    let rest = flat_map (λ (q : ZoneReading). dump_of n q.log (read_line q.log)) rs in
-    map-append (entry_of a) own rest
-    ∙ ap₂ (λ (xs ys : List Entry). xs ++ ys) (entries-of-line a b n r.log (read_line r.log) same)
-    (entries-of-readings a b n rs same) ∙ sym (map-append (entry_of b) own rest)
-
-own-entries : (zones : List Saved) (i : ℕ) (s : Saved) → numbers_rise 0 zones ≡ true → slice_get zones i ≡ Some s
-    → map (entry_of (s ∷ [])) (dumps_of (s ∷ [])) ≡ map (entry_of zones) (dumps_of (s ∷ []))
-own-entries zones i s e at = by (is_of Dump s.0.name.kind) refl
-  where
-    by : (b : Bool) → is_of Dump s.0.name.kind ≡ b
-        → map (entry_of (s ∷ [])) ((if b then flat_map
-        (λ (r : ZoneReading). dump_of s.0.name.index r.log (read_line r.log)) (found s.1) else []) ++ [])
-        ≡ map (entry_of zones) ((if b then flat_map
-        (λ (r : ZoneReading). dump_of s.0.name.index r.log (read_line r.log)) (found s.1) else []) ++ [])
-    by true is =
-        let all = flat_map (λ (r : ZoneReading). dump_of s.0.name.index r.log (read_line r.log)) (found s.1) in
-        ap (map (entry_of (s ∷ []))) (append-nil all)
-        ∙ entries-of-readings (s ∷ []) zones s.0.name.index (found s.1) (λ packed. own-notice packed zones i s e at is)
-        ∙ sym (ap (map (entry_of zones)) (append-nil all))
-    by false other = refl
-
--- the same, by whether the numbers rise
-pub counted-entries : (zones : List Saved) (i : ℕ) (s : Saved) (is_alone : Bool) → is_alone ≡ numbers_rise 0 zones
-    → slice_get zones i ≡ Some s
-    → map (entry_of (zones_counted is_alone s zones)) (dumps_of (s ∷ [])) ≡ map (entry_of zones) (dumps_of (s ∷ []))
-counted-entries zones i s true e at = own-entries zones i s (sym e) at
-counted-entries zones i s false e at = refl
 
 -- ---- zone by zone
 

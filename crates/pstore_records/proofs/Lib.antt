@@ -10,6 +10,5 @@ pub mod Forgetting
 pub mod Named
 pub mod Finding
 pub mod Given
-pub mod Tabled
 pub mod Alone
-pub mod Held
+pub mod Sources

@@ -3,4 +3,4 @@ pub mod Counts
 pub mod Contents
 pub mod Tables
 pub mod Moves
-pub mod Holding
+pub mod Walks

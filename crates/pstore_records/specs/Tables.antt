@@ -16,6 +16,6 @@ numbers_rise least (zone ∷ zones) =
     if is_of Dump zone.0.name.kind then (nat_le least zone.0.name.index && numbers_rise (zone.0.name.index + 1) zones)
     else numbers_rise least zones
 
--- the zones that a dump's notice is counted over: its own alone, or all
+-- the zones that a dump's record is asked of: its own alone, or all
 abbrev pub zones_counted : Bool → Saved → List Saved → List Saved
 zones_counted is_alone zone zones = if is_alone then zone ∷ [] else zones

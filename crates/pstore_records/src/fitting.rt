@@ -8,7 +8,7 @@ ghost use Rattle.pstore_records.specs.Tables.{numbers_rise, zones_counted};
 ghost use Rattle.pstore_records.specs.Moves.{stays};
 
 use crate::notices::is_in;
-use crate::table::numbers_rise;
+use crate::walk::numbers_rise;
 use crate::zones::{found_at, is_kind};
 use dump_records::read_line;
 use prz_read::Logs;
@@ -70,7 +70,7 @@ fn record_name(zone: ZoneName, log: &[u8]) -> Option<Name>
 }
 
 /// Whether the record of a name fits, by zone `i` alone or by all zones.
-pub fn fits_by(logs: &Logs, layout: &Layout, i: u32, name: Name, is_alone: bool) -> bool
+fn fits_by(logs: &Logs, layout: &Layout, i: u32, name: Name, is_alone: bool) -> bool
     requires { i < length logs.now.readings }
     ensures { (s : Saved) → slice_get (saved logs.now) i ≡ Some s
         → result ≡ fits (zones_of layout.now) (zones_counted is_alone s (saved logs.now)) name }

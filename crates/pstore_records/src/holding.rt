@@ -1,22 +1,19 @@
 // The listed records with their contents, in time linear in the zones.
-ghost use Rattle.std.specs.Prelude.{◌≡◌, ◌<◌, ◌++◌, [], ◌∷◌, length, map, slice_get, Some, IfOk, OnOk};
-ghost use Rattle.zone_spec.specs.Records.{Saved, dumps_of, plain, ftrace_of, logs_of};
+ghost use Rattle.std.specs.Prelude.{◌≡◌, ◌++◌, IfOk};
 ghost use Rattle.prz_read.specs.Saving.{saved};
 ghost use Rattle.zone_spec.specs.RecordsHeld.{record_held, records_held};
 ghost use Rattle.pstore_records.specs.Counts.{notice_with};
-ghost use Rattle.pstore_records.specs.Tables.{zones_counted};
-ghost use Rattle.pstore_records.specs.Holding.{noted};
+ghost use Rattle.pstore_records.specs.Walks.{IsCounted, content_in, listed_in};
 
 use crate::merging::merged_entries;
-use crate::notices::{Counts, counts_of, write_counted};
-use crate::table::{dump_counts, numbers_rise};
-use crate::zones::{dump_in, first_log, log_at};
+use crate::notices::{Counts, write_counted};
+use crate::walk::{Source, counts_by, walk};
 use arrayvec::ArrayString;
 use outside::Bytes;
 use prz_read::Logs;
 use std::alloc::{AllocError, Global};
 use std::marker::Model;
-use zone_spec::{Kind, Name, Time};
+use zone_spec::{Name, Time};
 
 /// A listed record: its name, a dump's time, and its content with its notice.
 #[derive(Drop)]
@@ -93,93 +90,23 @@ fn with_notice(
     })
 }
 
-/// Adds the record of zone `i`, where it is a dump's, by the counts of the zone alone or of all zones.
-fn add_dump(
-    alloc: Global,
-    logs: &Logs,
-    i: u32,
-    is_alone: bool,
-    records: &mut Vec<HeldRecord>,
-) -> Result<(), AllocError>
-    requires { i < length logs.now.readings }
-    ensures { OnOk result ((s : Saved) → slice_get (saved logs.now) i ≡ Some s → records.new.items
-        ≡ records.old.items ++ map (record_held (zones_counted is_alone s (saved logs.now))) (dumps_of (s ∷ []))) }
+/// The record's content without its notice.
+fn content_of(alloc: Global, logs: &Logs, source: &Source<'_>) -> Result<Bytes, AllocError>
+    ensures { IfOk result (λ bytes. bytes ≡ content_in (saved logs.now) source.now.content) }
 {
-    match dump_in(logs, i) {
-        Some(dump) => {
-            let counts = dump_counts(logs, i, dump.name, is_alone);
-            let content = Bytes::copy_of(alloc, dump.content)?;
-            records.push(with_notice(dump.name, Some(dump.time), content, counts)?)?;
-            Ok(())
-        }
-        None => Ok(()),
+    match source.content {
+        Some(log) => Bytes::copy_of(alloc, log),
+        None => merged_entries(alloc, logs),
     }
 }
 
-fn add_dumps(alloc: Global, logs: &Logs, records: &mut Vec<HeldRecord>) -> Result<(), AllocError>
-    ensures { OnOk result (records.new.items
-        ≡ records.old.items ++ map (record_held (saved logs.now)) (dumps_of (saved logs.now))) }
+fn held(alloc: Global, logs: &Logs, source: &Source<'_>) -> Result<HeldRecord, AllocError>
+    requires { IsCounted (saved logs.now) source.now }
+    ensures { IfOk result (λ r. r ≡ record_held (saved logs.now) (listed_in (saved logs.now) source.now)) }
 {
-    let is_alone = numbers_rise(logs);
-    for i in 0..logs.len() {
-        add_dump(alloc, logs, i, is_alone, records)?;
-    }
-    Ok(())
-}
-
-/// Adds the record of zone `i`, where its log is one of this kind, with the notice of these counts.
-fn add_log(
-    alloc: Global,
-    logs: &Logs,
-    i: u32,
-    kind: Kind,
-    name: Name,
-    counts: Counts,
-    records: &mut Vec<HeldRecord>,
-) -> Result<(), AllocError>
-    requires { i < length logs.now.readings }
-    ensures { OnOk result ((s : Saved) → slice_get (saved logs.now) i ≡ Some s → records.new.items ≡ records.old.items
-        ++ noted name (notice_with counts.has_parity counts.corrected counts.bad) (logs_of kind (s ∷ []))) }
-{
-    match log_at(logs, i, kind) {
-        Some(log) => {
-            let content = Bytes::copy_of(alloc, log)?;
-            records.push(with_notice(name, None, content, counts)?)?;
-            Ok(())
-        }
-        None => Ok(()),
-    }
-}
-
-/// Adds the records of a kind whose content is its zone's log.
-fn add_plain(
-    alloc: Global,
-    logs: &Logs,
-    kind: Kind,
-    name: Name,
-    records: &mut Vec<HeldRecord>,
-) -> Result<(), AllocError>
-    ensures { OnOk result (records.new.items
-        ≡ records.old.items ++ map (record_held (saved logs.now)) (plain name (logs_of kind (saved logs.now)))) }
-{
-    let counts = counts_of(logs, name);
-    for i in 0..logs.len() {
-        add_log(alloc, logs, i, kind, name, counts, records)?;
-    }
-    Ok(())
-}
-
-fn add_ftrace(alloc: Global, logs: &Logs, records: &mut Vec<HeldRecord>) -> Result<(), AllocError>
-    ensures { OnOk result (records.new.items
-        ≡ records.old.items ++ map (record_held (saved logs.now)) (ftrace_of (logs_of Kind.Ftrace (saved logs.now)))) }
-{
-    if first_log(logs, Kind::Ftrace).is_none() {
-        return Ok(());
-    }
-    let content = merged_entries(alloc, logs)?;
-    let counts = counts_of(logs, Name::Ftrace);
-    records.push(with_notice(Name::Ftrace, None, content, counts)?)?;
-    Ok(())
+    let counts = counts_by(logs, source);
+    let content = content_of(alloc, logs, source)?;
+    with_notice(source.name, source.time, content, counts)
 }
 
 /// The listed records in order, each zone's own, with their contents: dumps by rising number, console, pmsg, ftrace
@@ -187,10 +114,10 @@ fn add_ftrace(alloc: Global, logs: &Logs, records: &mut Vec<HeldRecord>) -> Resu
 pub fn held_records(alloc: Global, logs: &Logs) -> Result<Vec<HeldRecord>, AllocError>
     ensures { IfOk result (λ records. records.items ≡ records_held (saved logs.now)) }
 {
+    let sources = walk(alloc, logs)?;
     let mut records = Vec::new(alloc);
-    add_dumps(alloc, logs, &mut records)?;
-    add_plain(alloc, logs, Kind::Console, Name::Console, &mut records)?;
-    add_plain(alloc, logs, Kind::Pmsg, Name::Pmsg, &mut records)?;
-    add_ftrace(alloc, logs, &mut records)?;
+    for source in &sources {
+        records.push(held(alloc, logs, source)?)?;
+    }
     Ok(records)
 }

@@ -4,16 +4,20 @@
 
 mod fitting;
 mod holding;
+mod listing;
 mod merging;
 mod moving;
 mod naming;
 mod notices;
 mod records;
 mod table;
+pub mod types;
+mod walk;
 mod zones;
 
 pub use fitting::{fits, forget_unfit};
 pub use holding::{HeldRecord, held_records};
+pub use listing::names;
 pub use moving::{Move, moves};
 pub use naming::{find, name_text};
 pub use notices::{Counts, counts_at, counts_of, is_in};

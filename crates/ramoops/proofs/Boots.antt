@@ -41,6 +41,7 @@ use Rattle.ramoops.specs.Reports.{report_seen, report_cut, report_zone}
 use Rattle.ramoops_layout.specs.Laid.{params_of, zones_of}
 use Rattle.ramoops.specs.declared.off.OpenOff.{OpenOff}
 use Rattle.ramoops.specs.declared.booting.Prepared.{Prepared}
+use Rattle.ramoops.specs.Made.{boot_writes}
 use Rattle.ramoops.specs.Booting.{SpansFit, held_after, PreparesTo, AreLogs, SettlesTo, IsOpen, seen_off}
 use Rattle.ramoops.specs.Booted.{Booted}
 use Rattle.ramoops.specs.Resting.{IsResting}
@@ -302,3 +303,12 @@ module _ (v : OffSeen) (o : OpenOff) (is : IsOpen v o) where
         (record { layout = L; mem = M; image = v.image; zones = K }) s) (sym st.same_layout)
         (subst (λ (m : ℕ). StandsOff layout m (record { layout = L; mem = M; image = v.image; zones = K })
         s) (sym st.same_mem) st))))
+
+-- the stores of a boot, from the image as it was
+pub boot_writes_all : (v : OffSeen) (o : OpenOff) → IsOpen v o → (new : CutRegion)
+    → SettlesTo (zones_of o.layout) o.spans new (length (zones_of o.layout))
+    → new.made ≡ boot_writes v.layout (cut_at v.layout v.image) (length v.layout)
+boot_writes_all v o is new settled =
+    settled.stores
+    ∙ ap (λ (c : CutRegion). c.made ++ boot_writes (zones_of o.layout) c (length (zones_of o.layout))) is.spans
+    ∙ ap (λ (l : List Zone). boot_writes l (cut_at l v.image) (length l)) (sym (ap (λ (x : OffSeen). x.layout) is.seen))

@@ -1,9 +1,10 @@
 -- A change of one zone of the machine is that of the zone of the state for which it stands
-use Rattle.std.proofs.Common.{◌≡◌, ℕ, suc, ◌+◌, ◌%◌, Bool, cond, ◌&&◌, ◌||◌, not, is_some, List, [], ◌∷◌, length, slice_get, set, refl, sym, ap, ◌∙◌, subst, arith, inl, inr, Some, length-set}
+use Rattle.std.proofs.Common.{◌≡◌, ℕ, suc, ◌+◌, ◌%◌, ◌<◌, Bool, cond, ◌&&◌, ◌||◌, not, is_some, List, [], ◌∷◌, length, slice_get, set, refl, sym, ap, ◌∙◌, subst, arith, inl, inr, Some, length-set}
 use Rattle.std.specs.Prelude.{zip}
 use Rattle.std.specs.List.{list_any}
 use Rattle.zone_spec.specs.declared.Zone.{Zone}
-use Rattle.prz_region.specs.CutRegion.{CutRegion, with_span}
+use Rattle.prz_region.specs.CutRegion.{CutRegion, span, stored}
+use Rattle.prz_region.proofs.Cuts.{span-stored}
 use Rattle.machine_spec.specs.Zones.{dump_zones}
 use Rattle.machine_spec.specs.States.{LiveZone, LiveState}
 use Rattle.machine_spec.specs.LiveZones.{flies_dump, with_zone}
@@ -11,12 +12,14 @@ use Rattle.machine_laws.proofs.Lists.{get-set}
 use Rattle.ramoops.proofs.Lists.{get-same, get-other}
 use Rattle.ramoops.specs.declared.zones.HeldZone.{HeldZone}
 use Rattle.ramoops.specs.LiveSeen.{LiveSeen, StandsForZone, StandsLive}
+use Rattle.ramoops.specs.Made.{StoresIn}
 
 -- the machine after a change of its i-th zone
 pub record Changes (v w : LiveSeen) (i : ℕ) (bytes : List ℕ) (held : HeldZone) : Type 0 where
   pub layout : w.layout ≡ v.layout
   pub mem : w.mem ≡ v.mem
-  pub spans : w.spans ≡ with_span v.spans i bytes
+  pub spans : w.spans.spans ≡ set v.spans.spans i bytes
+  pub rest : w.spans.rest ≡ v.spans.rest
   pub zones : w.zones ≡ set v.zones i held
 
 pub changed_stands : (layout : List Zone) (mem : ℕ) (v w : LiveSeen) (s : LiveState) (i : ℕ) (z : Zone)
@@ -28,12 +31,12 @@ pub changed_stands : (layout : List Zone) (mem : ℕ) (v w : LiveSeen) (s : Live
 changed_stands layout mem v w s i z bytes held old new stands hz hs ch zone turn = record {
   same_layout = ch.layout ∙ stands.same_layout;
   same_mem = ch.mem ∙ stands.same_mem;
-  spans = ap (λ (c : CutRegion). length c.spans) ch.spans ∙ length-set v.spans.spans i bytes ∙ stands.spans;
+  spans = ap length ch.spans ∙ length-set v.spans.spans i bytes ∙ stands.spans;
   kept = ap length ch.zones ∙ length-set v.zones i held ∙ stands.kept;
   count = length-set s.zones i new ∙ stands.count;
-  zones = λ j y b h l gy gb gh gl. by j y b h l gy (subst (λ (c : CutRegion). slice_get c.spans j ≡ Some b)
+  zones = λ j y b h l gy gb gh gl. by j y b h l gy (subst (λ (xs : List (List ℕ)). slice_get xs j ≡ Some b)
       ch.spans gb) (subst (λ (hs : List HeldZone). slice_get hs j ≡ Some h) ch.zones gh) gl;
-  rest = stands.rest ∙ ap (λ (c : CutRegion). c.rest) (sym ch.spans);
+  rest = stands.rest ∙ sym ch.rest;
   cursor = ap (λ (n : ℕ). cond (flies_dump old.flight && not (is_some new.flight)) ((n + 1) % dump_zones layout) n)
       stands.cursor ∙ sym turn;
 }
@@ -52,6 +55,12 @@ changed_stands layout mem v w s i z bytes held old new stands hz hs ch zone turn
       | inr o ↦ stands.zones j y b h l gy (get-other v.spans.spans i j bytes b o.0 gb)
           (get-other v.zones i j held h o.0 gh) o.1
     ]
+
+-- stores in one span are a change of it alone
+pub only_span : (old new : CutRegion) (i : ℕ) → i < length old.spans → StoresIn i old new
+    → new.spans ≡ set old.spans i (span new i)
+only_span old new i lt s = ap (λ (c : CutRegion). c.spans) s.made
+    ∙ ap (set old.spans i) (sym (ap (λ (c : CutRegion). span c i) s.made ∙ span-stored old i s.stores lt))
 
 -- a test of flights is the same of the machine and of the state
 pub any_flies : (test : Zone → Bool) (layout : List Zone) (held : List HeldZone) (live : List LiveZone)

@@ -15,15 +15,16 @@ use Rattle.machine_spec.specs.LiveZones.{is_dump, flies_dump, with_zone}
 use Rattle.machine_spec.specs.Sound.{Stands, IsLiveZone}
 use Rattle.machine_laws.proofs.Zones.{stepped-sound}
 use Rattle.machine_laws.proofs.LiveStates.{with_zone-sound}
-use Rattle.prz_region.specs.CutRegion.{CutRegion, span, with_span}
+use Rattle.prz_region.specs.CutRegion.{CutRegion, span, stored}
 use Rattle.store_steps.specs.Flying.{Flying}
 use Rattle.ramoops.specs.declared.zones.HeldZone.{HeldZone}
 use Rattle.ramoops.specs.declared.zones.Stored.{Stored}
 use Rattle.ramoops.specs.LiveSeen.{LiveSeen, StandsForSome, StandsForZone, StandsLive, StoresNext}
+use Rattle.ramoops.specs.Made.{StoresIn, MakesStores, next_stores}
 use Rattle.ramoops.specs.Running.{IsHeld, IsRunning}
 use Rattle.ramoops.specs.Storing.{CanStore, HasParity, is_next, is_last_of_dump}
 use Rattle.ramoops.specs.Cursors.{cursor_after}
-use Rattle.ramoops.proofs.Changes.{Changes, changed_stands}
+use Rattle.ramoops.proofs.Changes.{Changes, changed_stands, only_span}
 use Rattle.ramoops.proofs.Begun.{here}
 use Rattle.ramoops.proofs.Storing.{flight_total}
 use Rattle.ramoops.proofs.Running.{own, over, runs_after}
@@ -208,7 +209,7 @@ idle_same v spans i h g cursor es eg eh ec =
 pub stored_by : (k : ℕ) (v x : LiveSeen) (i : ℕ) (h g : HeldZone) (new : CutRegion) (r : Option Stored) (cursor : ℕ)
     → v ≡ x
     → IsRunning v → i < length x.layout → h ≡ get_or v.zones i h
-    → new ≡ with_span v.spans i (span new i) → is_some h.flight ≡ is_some r → is_some g.flight ≡ is_next r
+    → StoresIn i v.spans new → is_some h.flight ≡ is_some r → is_some g.flight ≡ is_next r
     → ((f m : Flying) → h.flight ≡ Some f → g.flight ≡ Some m → m.call ≡ f.call)
     → g.told.capacity ≡ h.told.capacity
     → ((y : Zone) (live : LiveZone) → h.told.capacity ≡ y.cap → StandsForZone y (span v.spans i) h live
@@ -222,7 +223,14 @@ stored_by k v x i h g new r cursor e running below eh others flies goes_on same_
     let z = zone_at v x i h e running below eh in
     let w : LiveSeen = record v { spans = new; zones = set v.zones i g; cursor = cursor } in
     let st : Stores v running i z.0 h z.1 z.2 k w (span new i) g r = record {
-      changes = record { layout = refl; mem = refl; spans = others; zones = refl };
+      changes = record {
+        layout = refl;
+        mem = refl;
+        spans = only_span v.spans new i
+            (let n = running.stands.spans in let w = slice_get_within v.layout i z.0 z.1 in omega (arith, n, w)) others;
+        rest = ap (λ (c : CutRegion). c.rest) others.made;
+        zones = refl;
+      };
       flies = flies;
       goes_on = goes_on;
       same_call = same_call;
@@ -235,6 +243,20 @@ stored_by k v x i h g new r cursor e running below eh others flies goes_on same_
       subst (λ (y : LiveSeen). StoresNext k i y w) e
           (stores_next v running i z.0 h z.1 z.2 k w (span new i) g r st),
     )
+
+-- and which stores they are
+pub stores_made : (k : ℕ) (v x : LiveSeen) (i : ℕ) (h : HeldZone) (new : CutRegion) → v ≡ x → IsRunning v
+    → i < length x.layout → h ≡ get_or v.zones i h
+    → ((y : Zone) (live : LiveZone) → StandsForZone y (span v.spans i) h live
+    → new ≡ stored v.spans i (next_stores k y live))
+    → (w : LiveSeen) → w.spans ≡ new → MakesStores (next_stores k) i x w
+stores_made k v x i h new e running below eh made w ew layout mem s y live stands ey el =
+    let own_stands : StandsLive layout mem v s = subst (λ (u : LiveSeen). StandsLive layout mem u s) (sym e) stands in
+    let z = zone_at v x i h e running below eh in
+    let within : i < length v.spans.spans = (let n = own_stands.spans in let m = slice_get_within layout i y ey in
+    omega (arith, n, m)) in
+    ew ∙ made y live (own_stands.zones i y (span v.spans i) h live ey (slice_get-get_or v.spans.spans i [] within) z.2 el)
+    ∙ ap (λ (u : LiveSeen). stored u.spans i (next_stores k y live)) e
 
 -- a zone that is read of the layout
 pub zone_read : (layout zs : List Zone) (i : ℕ) (d z : Zone) → zs ≡ layout → slice_get layout i ≡ Some z

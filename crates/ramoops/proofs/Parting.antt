@@ -1,19 +1,24 @@
 -- The stores of a cut boot, zone by zone
-use Rattle.std.proofs.Common.{◌≡◌, ℕ, suc, ◌+◌, ◌-◌, min, nat_le, Bool, true, false, ◌&&◌, List, [], ◌∷◌, ◌++◌, length, take, slice_get, refl, sym, ap, ◌∙◌, subst, arith, inl, inr, Some, length-set, length-append}
+use Rattle.std.proofs.Common.{◌≡◌, ℕ, zero, suc, Option, None, append_assoc, append-nil, ◌+◌, ◌-◌, min, nat_le, Bool, true, false, ◌&&◌, List, [], ◌∷◌, ◌++◌, length, take, slice_get, refl, sym, ap, ◌∙◌, subst, arith, inl, inr, Some, length-set, length-append}
 use Rattle.std.proofs.lemmas.Bool.{cases_lt}
 use Rattle.std.proofs.lemmas.Bool.Decides.{nat_tests}
 use Rattle.std.proofs.lemmas.Option.{slice_get_within}
-use Rattle.prz_region.proofs.Cuts.{span-with_span}
+use Rattle.std.specs.List.{take-map}
+use Rattle.list_laws.proofs.Elements.{take-append}
+use Rattle.std.proofs.lemmas.List.{take_all, length-map}
+use Rattle.prz_region.proofs.Cuts.{span-stored, span-other}
 use Rattle.zone_spec.specs.declared.Zone.{Zone}
 use Rattle.zone_spec.specs.Reading.{zone_reading}
-use Rattle.zone_spec.specs.Stores.{after_stores}
+use Rattle.zone_spec.specs.Stores.{Store, after_stores}
 use Rattle.zone_spec.specs.Boot.{boot_stores, boot_fixes}
-use Rattle.prz_region.specs.CutRegion.{CutRegion, span, with_span}
+use Rattle.prz_region.specs.CutRegion.{CutRegion, span, stored}
+use Rattle.prz_region.specs.Made.{Write, in_span}
+use Rattle.ramoops.specs.Made.{boot_writes, boot_stores_in}
 use Rattle.ramoops.specs.declared.booting.Passed.{Passed}
 use Rattle.ramoops.specs.declared.booting.BootProgress.{BootProgress}
 use Rattle.ramoops.specs.Parting.{stores_in, stores_before, left_for, Passes, PartsTo}
 use Rattle.ramoops.proofs.Lists.{get-pushed}
-use Rattle.ramoops.proofs.Settling.{span-other}
+use Rattle.ramoops.proofs.Settling.{writes_next, writes_none}
 
 -- the stores before a zone and its own are those before the next
 pub before_next : (layout : List Zone) (cut : CutRegion) (n : ℕ) (z : Zone) → slice_get layout n ≡ Some z
@@ -27,6 +32,22 @@ pub before_none : (layout : List Zone) (cut : CutRegion) → stores_before layou
 unfolding stores_before
 before_none layout cut = refl
 
+-- as many as are counted
+writes_length : (layout : List Zone) (cut : CutRegion) (n : ℕ) → length (boot_writes layout cut n)
+    ≡ stores_before layout cut n
+unfolding boot_writes stores_before
+writes_length layout cut zero = refl
+writes_length layout cut (suc n) =
+    let own = own_length (slice_get layout n) in
+    let more = writes_length layout cut n in
+    length-append (boot_writes layout cut n) (in_span n (boot_stores_in (slice_get layout n) (span cut n)))
+    ∙ omega (arith, own, more)
+  where
+    own_length : (o : Option Zone) → length (in_span n (boot_stores_in o (span cut n))) ≡ stores_in o (span cut n)
+    own_length None = refl
+    own_length (Some z) = length-map (boot_stores z (span cut n))
+        (λ (s : Store). record { span = n; place = s.place; values = s.bytes })
+
 pub parts_none : (layout : List Zone) (cut : CutRegion) (limit : ℕ)
     → PartsTo layout cut cut limit 0 (record { left = limit; is_whole = true }) []
 parts_none layout cut limit = record {
@@ -34,6 +55,9 @@ parts_none layout cut limit = record {
   rest = refl;
   made = λ i z below e. absurd (omega (arith, below));
   others = λ i above. refl;
+  stores = sym (append-nil cut.made)
+      ∙ ap (λ (ws : List (Write ℕ)). cut.made ++ ws) (sym (take_all limit [] (omega arith)))
+      ∙ ap (λ (ws : List (Write ℕ)). cut.made ++ take limit ws) (sym (writes_none layout cut));
   left_is = (let b = before_none layout cut in omega (arith, b));
   whole = (let b = before_none layout cut in grind (arith, nat_tests, b));
   passed_len = refl;
@@ -58,7 +82,7 @@ whole_next whole before next own all left limit w a s l = ap (λ (t : Bool). t &
 pub parts_next : (layout : List Zone) (old mid new : CutRegion) (limit n : ℕ) (progress : BootProgress)
     (passed after : List Passed) (z : Zone) (p : Passed) → PartsTo layout old mid limit n progress passed
     → length old.spans ≡ length layout → slice_get layout n ≡ Some z
-    → new ≡ with_span mid n (after_stores (span mid n) (take progress.left (boot_stores z (span mid n))))
+    → new ≡ stored mid n (take progress.left (boot_stores z (span mid n)))
     → p.left ≡ progress.left
     → p.words ≡ (zone_reading z (span mid n)).words → p.settled.made
     ≡ min progress.left (length (boot_stores z (span mid n))) → p.settled.all ≡ length (boot_stores z (span mid n))
@@ -81,7 +105,7 @@ parts_next layout old mid new limit n progress passed after z p to len ez e left
         | inr g ↦ (let at : i ≡ n = omega (arith, below, g) in
             let zy : z ≡ y = (let s : Some z ≡ Some y = sym ez ∙ ap (slice_get layout) (sym at) ∙ ey in cc) in
             ap (λ (k : ℕ). span new k) at ∙ ap (λ (c : CutRegion). span c n) e
-            ∙ span-with_span mid n _ (let a = slice_get_within layout n z ez in let b = to.count in
+            ∙ span-stored mid n _ (let a = slice_get_within layout n z ez in let b = to.count in
             omega (arith, a, b, len))
             ∙ ap (λ b. after_stores b (take progress.left (boot_stores z b))) same
             ∙ ap (λ k. after_stores (span old n) (take k (boot_stores z (span old n)))) to.left_is
@@ -92,6 +116,18 @@ parts_next layout old mid new limit n progress passed after z p to len ez e left
       ];
       others = λ i above. ap (λ (c : CutRegion). span c i) e ∙ span-other mid n i _ (λ k. omega (arith, above, k))
           ∙ to.others i (omega (arith, above));
+      stores = ap (λ (c : CutRegion). c.made) e
+          ∙ ap (λ (b : List ℕ). mid.made ++ in_span n (take progress.left (boot_stores z b))) same
+          ∙ ap (λ (ws : List (Write ℕ)). ws ++ in_span n (take progress.left (boot_stores z (span old n)))) to.stores
+          ∙ append_assoc old.made (take limit (boot_writes layout old n)) _
+          ∙ ap (λ (ws : List (Write ℕ)). old.made ++ (take limit (boot_writes layout old n) ++ ws))
+          (sym (take-map (λ (s : Store). record { span = n; place = s.place; values = s.bytes }) progress.left
+          (boot_stores z (span old n)))
+          ∙ ap (λ (k : ℕ). take k (in_span n (boot_stores z (span old n)))) (to.left_is
+          ∙ ap (λ (k : ℕ). limit - k) (sym (writes_length layout old n))))
+          ∙ ap (λ (ws : List (Write ℕ)). old.made ++ ws)
+          (sym (take-append limit (boot_writes layout old n) (in_span n (boot_stores z (span old n))))
+          ∙ ap (λ (ws : List (Write ℕ)). take limit ws) (sym (writes_next layout old n z ez)));
       left_is = (let l = to.left_is in omega (arith, l, made, count, next));
       whole = whole_next progress.is_whole (stores_before layout old n) (stores_before layout old (n + 1))
           (length (boot_stores z (span old n))) p.settled.all progress.left limit to.whole (all ∙ count)

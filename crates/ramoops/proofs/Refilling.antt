@@ -18,7 +18,7 @@ use Rattle.machine_spec.specs.Moved.{is_blank, with_log}
 use Rattle.machine_spec.specs.Sound.{IsLiveZone}
 use Rattle.machine_laws.proofs.Zones.{begun-sound}
 use Rattle.machine_laws.proofs.LiveStates.{with_zone-sound}
-use Rattle.prz_read.proofs.Storing.{span-is}
+use Rattle.prz_read.proofs.Passing.{span-is}
 use Rattle.prz_region.specs.CutRegion.{span}
 use Rattle.store_steps.specs.Flying.{Flying}
 use Rattle.ramoops.specs.declared.zones.HeldZone.{HeldZone}
@@ -153,7 +153,7 @@ log_started v x i log call zs d all bytes h g e running fit below blank ezs eall
     let w : LiveSeen = record v { zones = set v.zones i g } in
     let f = blank_here v x i log zs d all bytes h e running fit below blank ezs eall eb eh in
     let b : LogBegun v w i z h g log = record {
-      changes = record { layout = refl; mem = refl; spans = sym (same_span v.spans i); zones = refl };
+      changes = record { layout = refl; mem = refl; spans = sym (same_span v.spans i); rest = refl; zones = refl };
       cursor = refl;
       told = told;
       flies = λ k n. flies k n ∙ ec;

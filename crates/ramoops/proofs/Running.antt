@@ -10,7 +10,7 @@ use Rattle.zone_spec.specs.Layouts.{IsLayout}
 use Rattle.machine_spec.specs.Zones.{dump_zones}
 use Rattle.machine_spec.specs.ZoneCalls.{begun}
 use Rattle.machine_laws.proofs.Lists.{get-set}
-use Rattle.prz_read.proofs.Storing.{span-is}
+use Rattle.prz_read.proofs.Passing.{span-is}
 use Rattle.zone_spec.specs.declared.Zone.{Zone}
 use Rattle.zone_spec.specs.declared.ZoneName.{ZoneName}
 use Rattle.zone_spec.specs.declared.Kind.{Kind}
@@ -32,7 +32,7 @@ use Rattle.machine_spec.specs.Sound.{Stands, IsLiveZone, IsState, IsAsk}
 use Rattle.machine_laws.proofs.Targets.{open_ring}
 use Rattle.machine_laws.proofs.TimeLines.{line_fits}
 use Rattle.machine_laws.proofs.Operations.{operation-sound}
-use Rattle.prz_region.specs.CutRegion.{CutRegion, span, with_span}
+use Rattle.prz_region.specs.CutRegion.{CutRegion, span}
 use Rattle.store_steps.specs.Flying.{Flying}
 use Rattle.ramoops.specs.declared.zones.HeldZone.{HeldZone}
 use Rattle.ramoops.specs.LiveSeen.{LiveSeen, StandsForSome, StandsForZone, StandsLive, Leaves}
@@ -235,8 +235,8 @@ runs_after v w i z bytes g running ez ch held next stands sound = record {
     ]
 
 -- a span put in its own place changes nothing
-pub same_span : (c : CutRegion) (i : ℕ) → with_span c i (span c i) ≡ c
-same_span c i = ap (λ (xs : List (List ℕ)). record { spans = xs; rest = c.rest }) (set-get_or c.spans i [])
+pub same_span : (c : CutRegion) (i : ℕ) → set c.spans i (span c i) ≡ c.spans
+same_span c i = set-get_or c.spans i []
 
 -- ---- the machine after a call was begun
 pub record Begun (v w : LiveSeen) (i : ℕ) (z : Zone) (h g : HeldZone) (ask : Ask) : Type 0 where
@@ -315,7 +315,7 @@ started v x i ask call zs d all bytes h g e running fit place below free ezs eal
     subst (λ (y : LiveSeen). (barred y.layout y.zones ask || flies_at (slice_get y.zones i)) ≡ false) (sym e)
     free in
     let b : Begun v w i z h g ask = record {
-      changes = record { layout = refl; mem = refl; spans = sym (same_span v.spans i); zones = refl };
+      changes = record { layout = refl; mem = refl; spans = sym (same_span v.spans i); rest = refl; zones = refl };
       cursor = refl;
       told = told;
       flies = λ k n. flies k n ∙ ec;

@@ -14,6 +14,8 @@ use Rattle.ramoops.specs.Storing.{stores_left_of}
 use Rattle.ramoops.specs.declared.zones.HeldZone.{HeldZone}
 use Rattle.ramoops.proofs.Storing.{flight_total}
 use Rattle.ramoops.specs.LiveSeen.{LiveSeen, StandsLive, StandsForSome, Leaves, ChangesZone}
+use Rattle.zone_spec.specs.Stores.{Store}
+use Rattle.ramoops.specs.Made.{MakesStores, MadeAt}
 use Rattle.ramoops.specs.Places.{flies_at, held_at, flies_in}
 use Rattle.ramoops.specs.Running.{IsRunning}
 use Rattle.prz_region.specs.CutRegion.{span}
@@ -65,6 +67,17 @@ module _ (v : LiveSeen) (i : ℕ) (name : ZoneName) (place : zone_place v.layout
         done = goes s o change true flies;
         stands = next v.layout v.mem s at.zone at.live o at.of_layout at.of_state;
       })
+
+  -- and makes its stores there
+  pub made_there : (stores : Zone → LiveZone → List Store) (w : LiveSeen) → MakesStores stores i v w
+      → (layout : List Zone) (mem : ℕ) (s : LiveState) → StandsLive layout mem v s
+      → MadeAt (target layout s name) stores v.spans w.spans
+  made_there stores w makes layout mem s stands =
+      over layout mem v s (λ l m. MadeAt (target l s name) stores v.spans w.spans) stands
+      (let o = own layout mem v s stands in
+      let at = here v.layout v.mem v s o i below in
+      subst (λ (t : Option Target). MadeAt t stores v.spans w.spans) (sym (target_here s o))
+      (makes v.layout v.mem s at.zone at.live o at.of_layout at.of_state))
 
   -- where none stands there is none to go on
   pub goes_idle : (change : Zone → LiveZone → LiveZone) → flies_at (slice_get v.zones i) ≡ false

@@ -1,5 +1,5 @@
 -- A flight's next stores are those of the flight for which it stands
-use Rattle.std.proofs.Common.{◌≡◌, ◌≢◌, ℕ, ◌+◌, ◌<◌, ◌≤◌, min, Bool, true, false, cond, nat_lt, ◌&&◌, not, is_some, List, length, refl, sym, ap, ◌∙◌, arith, Option, Some, None}
+use Rattle.std.proofs.Common.{◌≡◌, ◌≢◌, ℕ, ◌+◌, ◌<◌, ◌≤◌, min, Bool, true, false, cond, nat_lt, ◌&&◌, not, is_some, List, length, take, drop, refl, sym, ap, ap₂, ◌∙◌, arith, Option, Some, None}
 use Rattle.std.proofs.lemmas.Bool.Decides.{nat_tests}
 use Rattle.std.proofs.Math.Bool.{and-false}
 use Rattle.circular_buffer.specs.Buffer.{Buffer, buffer}
@@ -15,6 +15,9 @@ use Rattle.store_steps.specs.Counts.{total_of}
 use Rattle.store_steps.specs.Machine.{StandsFor}
 use Rattle.store_steps.proofs.Standing.{stands_image}
 use Rattle.store_steps.proofs.Stepping.{total_same}
+use Rattle.prz_region.specs.CutRegion.{CutRegion, span, stored as region_stored}
+use Rattle.prz_region.proofs.Cuts.{stored-none}
+use Rattle.ramoops.specs.Made.{next_of}
 use Rattle.ramoops.specs.LiveSeen.{StandsForFlight, StandsForSome, StandsForZone}
 use Rattle.ramoops.specs.Storing.{is_dump_kind}
 
@@ -188,3 +191,23 @@ module _ (k : ℕ) (z : Zone) (f g : Flying) (old new : List ℕ) (steps : Steps
       → kind ≡ kind_of g.call
       → (flies_dump live.flight && not (is_some (stepped z k live).flight)) ≡ is_dump_kind kind
   last_is live kind s all e = is_last live kind live.flight s all e
+
+-- the next stores of a flight are those of the flight for which it stands
+pub next_made : (z : Zone) (k i : ℕ) (old new : CutRegion) (f : Flying) (p : Option Flight)
+    → StandsForSome z (span old i) (Some f) p
+    → ((before : List ℕ) → StandsFor f (span old i) before
+    → new ≡ region_stored old i (take k (drop f.made (call_stores f.zone f.call before))))
+    → new ≡ region_stored old i (next_of p z k)
+next_made z k i old new f None s made = absurd s
+next_made z k i old new f (Some h) s made =
+    made h.image s.image
+    ∙ ap₂ (λ (y : Zone) (c : Call). region_stored old i (take k (drop f.made (call_stores y c h.image)))) s.zone s.call
+    ∙ ap (λ (n : ℕ). region_stored old i (take k (drop n (call_stores z h.call h.image)))) s.made
+
+-- and none where no flight stands
+pub none_made : (z : Zone) (k i : ℕ) (old : CutRegion) (o : Option Flying) (p : Option Flight)
+    → ((f : Flying) → o ≡ Some f → ⊥)
+    → StandsForSome z (span old i) o p → old ≡ region_stored old i (next_of p z k)
+none_made z k i old None None e s = sym (stored-none old i)
+none_made z k i old None (Some f) e s = absurd s
+none_made z k i old (Some f) p e s = absurd (e f refl)

@@ -14,6 +14,7 @@ use Rattle.ramoops_layout.specs.Laid.{params_of, zones_of}
 use Rattle.ramoops.specs.OffSeen.{OffSeen, known_all}
 use Rattle.ramoops.specs.Resting.{IsResting}
 use Rattle.ramoops.specs.LiveSeen.{LiveSeen}
+use Rattle.ramoops.specs.Made.{boot_writes}
 use Rattle.ramoops.specs.declared.off.OpenOff.{OpenOff}
 use Rattle.ramoops.specs.declared.booting.Prepared.{Prepared}
 use Rattle.ramoops.specs.declared.known.KnownZone.{KnownZone}
@@ -70,13 +71,14 @@ pub record AreLogs (layout : List Zone) (spans : List (List ℕ)) (logs : SavedL
   pub readings : (i : ℕ) (z : Zone) (bytes : List ℕ) → slice_get layout i ≡ Some z → slice_get spans i ≡ Some bytes
       → slice_get logs.readings i ≡ Some (Some (zone_reading z bytes))
 
--- of the first n zones all boot stores are made, and no other store
+-- of the first n zones all boot stores are made, one zone after the other, and no other store
 pub record SettlesTo (layout : List Zone) (old new : CutRegion) (n : ℕ) : Type 0 where
   pub count : length new.spans ≡ length old.spans
   pub rest : new.rest ≡ old.rest
   pub made : (i : ℕ) (z : Zone) → i < n → slice_get layout i ≡ Some z
       → span new i ≡ after_stores (span old i) (boot_stores z (span old i))
   pub others : (i : ℕ) → n ≤ i → span new i ≡ span old i
+  pub stores : new.made ≡ old.made ++ boot_writes layout old n
 
 abbrev pub Settles : List Zone → CutRegion → CutRegion → Type 0
 Settles layout old new = SettlesTo layout old new (length layout)

@@ -1,4 +1,5 @@
 pub mod LiveSeen
+pub mod Made
 pub mod Storing
 pub mod Asks
 pub mod Running

@@ -1,10 +1,11 @@
 -- A boot that is cut after some of its stores, zone by zone
-use Rattle.std.specs.Prelude.{◌≡◌, ℕ, zero, suc, ◌+◌, ◌-◌, ◌<◌, ◌≤◌, nat_le, List, length, take, slice_get, Option, Some, None}
+use Rattle.std.specs.Prelude.{◌≡◌, ℕ, zero, suc, ◌+◌, ◌-◌, ◌<◌, ◌≤◌, nat_le, List, ◌++◌, length, take, slice_get, Option, Some, None}
 use Rattle.zone_spec.specs.declared.Zone.{Zone}
 use Rattle.zone_spec.specs.Reading.{zone_reading}
 use Rattle.zone_spec.specs.Stores.{after_stores}
 use Rattle.zone_spec.specs.Boot.{boot_stores, boot_fixes}
 use Rattle.prz_region.specs.CutRegion.{CutRegion, span}
+use Rattle.ramoops.specs.Made.{boot_writes}
 use Rattle.ramoops.specs.declared.booting.Passed.{Passed}
 use Rattle.ramoops.specs.declared.booting.BootProgress.{BootProgress}
 
@@ -29,7 +30,7 @@ pub record Passes (z : Zone) (bytes : List ℕ) (left : ℕ) (p : Passed) : Type
   pub all : p.settled.all ≡ length (boot_stores z bytes)
   pub erase_at : p.settled.erase_at ≡ length (boot_fixes z bytes)
 
--- of the first n zones as many boot stores are made as the limit leaves, and no other store
+-- of the first n zones as many boot stores are made as the limit leaves, one zone after the other, and no other store
 pub record PartsTo (layout : List Zone) (old new : CutRegion) (limit n : ℕ) (progress : BootProgress)
     (passed : List Passed) : Type 0 where
   pub count : length new.spans ≡ length old.spans
@@ -37,6 +38,7 @@ pub record PartsTo (layout : List Zone) (old new : CutRegion) (limit n : ℕ) (p
   pub made : (i : ℕ) (z : Zone) → i < n → slice_get layout i ≡ Some z
       → span new i ≡ after_stores (span old i) (take (left_for layout old limit i) (boot_stores z (span old i)))
   pub others : (i : ℕ) → n ≤ i → span new i ≡ span old i
+  pub stores : new.made ≡ old.made ++ take limit (boot_writes layout old n)
   pub left_is : progress.left ≡ left_for layout old limit n
   pub whole : progress.is_whole ≡ nat_le (stores_before layout old n) limit
   pub passed_len : length passed ≡ n

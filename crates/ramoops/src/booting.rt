@@ -2,10 +2,9 @@
 ghost use Rattle.std.specs.Prelude.{◌≡◌, ◌≤◌, ◌<◌, ◌^◌, if◌then◌else◌, [], length, take, min, slice_get, Some, None, IfOk};
 ghost use Rattle.zone_spec.specs.Zones.{IsValidZone};
 ghost use Rattle.zone_spec.specs.Reading.{zone_reading};
-ghost use Rattle.zone_spec.specs.Stores.{after_stores};
 ghost use Rattle.zone_spec.specs.Boot.{keeps as keeps_zone, boot_stores, boot_fixes};
 ghost use Rattle.ramoops_layout.specs.Laid.{zones_of};
-ghost use Rattle.prz_region.specs.CutRegion.{span, with_span};
+ghost use Rattle.prz_region.specs.CutRegion.{span, stored};
 ghost use Rattle.circular_buffer.specs.Buffer.{buffer};
 ghost use Rattle.ramoops.specs.OffSeen.{known_all};
 ghost use Rattle.ramoops.specs.Booting.{SpansFit, Prepares, AreLogs, Settles};
@@ -156,8 +155,7 @@ fn settle_with(
     requires span { i < length spans.old.spans }
     requires size { length (span spans.old i) ≡ zone.now.size }
     requires reading { reading.now ≡ zone_reading zone.now (span spans.old i) }
-    ensures stores { spans.new ≡ with_span spans.old i (after_stores (span spans.old i)
-        (take limit (boot_stores zone.now (span spans.old i)))) }
+    ensures stores { spans.new ≡ stored spans.old i (take limit (boot_stores zone.now (span spans.old i))) }
     ensures made { result.made ≡ min limit (length (boot_stores zone.now (span spans.old i))) }
     ensures all { result.all ≡ length (boot_stores zone.now (span spans.old i)) }
     ensures few { result.all < 2 ^ 64 }
@@ -176,8 +174,7 @@ fn pass(coders: &Coders, spans: &mut Spans, i: u32, zone: &Zone, logs: &Logs, le
     requires size { length (span spans.old i) ≡ zone.now.size }
     requires zones { i < length logs.now.zones }
     requires reading { slice_get logs.now.readings i ≡ Some (Some (zone_reading zone.now (span spans.old i))) }
-    ensures stores { spans.new ≡ with_span spans.old i (after_stores (span spans.old i)
-        (take left (boot_stores zone.now (span spans.old i)))) }
+    ensures stores { spans.new ≡ stored spans.old i (take left (boot_stores zone.now (span spans.old i))) }
     ensures left { result.left ≡ left }
     ensures words { result.words ≡ (zone_reading zone.now (span spans.old i)).words }
     ensures made { result.settled.made ≡ min left (length (boot_stores zone.now (span spans.old i))) }

@@ -20,6 +20,9 @@ ghost use Rattle.std.specs.Vec.{vec_capacity};
 ghost use Rattle.ramoops.specs.Stopped.{stop_zone};
 ghost use Rattle.ramoops.specs.OffSeen.{StandsOff};
 ghost use Rattle.ramoops.specs.Running.{IsRunning};
+ghost use Rattle.zone_spec.specs.Calls.{call_stores};
+ghost use Rattle.machine_spec.specs.LiveCalls.{call_of, asked_zone};
+ghost use Rattle.ramoops.specs.Made.{MakesStores, MadeAt, next_stores, left_stores};
 ghost use Rattle.ramoops.specs.LiveSeen.{StandsLive, Leaves, ChangesZone, StoresNext, IsLeftAt, RingOf};
 
 use crate::coders::Coders;
@@ -243,6 +246,7 @@ impl Live {
         ensures layout { self.new.layout ≡ self.old.layout }
         ensures begun { (layout : List Zone) (mem : ℕ) (s : LiveState) → StandsLive layout mem self.old s
             → Leaves layout mem (begins layout s (ask_seen ask)) self.new }
+        ensures stores { self.new.spans ≡ self.old.spans }
     {
         ask.check();
         let zone = self.layout.zones()[i as usize];
@@ -268,6 +272,7 @@ impl Live {
         ensures layout { self.new.layout ≡ self.old.layout }
         ensures begun { OnOk result ((layout : List Zone) (mem : ℕ) (s : LiveState)
             → StandsLive layout mem self.old s → Leaves layout mem (begins layout s (ask_seen ask)) self.new) }
+        ensures stores { self.new.spans ≡ self.old.spans }
         ensures refused { IfErr result (λ r. (layout : List Zone) (mem : ℕ) (s : LiveState)
             → StandsLive layout mem self.old s → begins layout s (ask_seen ask) ≡ Err r.why) }
         ensures unchanged { IfErr result (λ r. (r.ask ≡ ask) × (self.new ≡ self.old)) }
@@ -295,6 +300,7 @@ impl Live {
         ensures begun { IfOk result (λ name. (layout : List Zone) (mem : ℕ) (s : LiveState)
             → StandsLive layout mem self.old s
             → (name ≡ asked_name s (ask_seen ask)) × Leaves layout mem (begins layout s (ask_seen ask)) self.new) }
+        ensures stores { self.new.spans ≡ self.old.spans }
         ensures refused { IfErr result (λ r. (layout : List Zone) (mem : ℕ) (s : LiveState)
             → StandsLive layout mem self.old s → begins layout s (ask_seen ask) ≡ Err r.why) }
         ensures unchanged { IfErr result (λ r. (r.ask ≡ ask) × (self.new ≡ self.old)) }
@@ -312,6 +318,9 @@ impl Live {
         requires { CanBeAsked ask }
         ensures made { OnOk result ((layout : List Zone) (mem : ℕ) (s : LiveState)
             → StandsLive layout mem self.old s → Leaves layout mem (makes layout s (ask_seen ask)) self.new) }
+        ensures stores { OnOk result ((layout : List Zone) (mem : ℕ) (s : LiveState)
+            → StandsLive layout mem self.old s → MadeAt (asked_zone layout s (ask_seen ask))
+            (λ z live. call_stores z (call_of (ask_seen ask)) live.image) self.old.spans self.new.spans) }
         ensures refused { IfErr result (λ r. (layout : List Zone) (mem : ℕ) (s : LiveState)
             → StandsLive layout mem self.old s → makes layout s (ask_seen ask) ≡ Err r.why) }
         ensures unchanged { IfErr result (λ r. (r.ask ≡ ask) × (self.new ≡ self.old)) }
@@ -333,6 +342,7 @@ impl Live {
         ensures flies { flies_at (slice_get self.old.zones i) ≡ is_some result }
         ensures goes_on { flies_at (slice_get self.new.zones i) ≡ is_next result }
         ensures stored { StoresNext count i self.old self.new }
+        ensures stores { MakesStores (next_stores count) i self.old self.new }
     {
         let zone = self.layout.zones()[i as usize];
         let coder = self.coders.for_zone(&zone);
@@ -354,6 +364,7 @@ impl Live {
         ensures idle { result ≡ None → self.new ≡ self.old }
         ensures flies { flies_at (slice_get self.old.zones i) ≡ is_some result }
         ensures stored { ChangesZone (λ z live. finished z live) i self.old self.new }
+        ensures stores { MakesStores left_stores i self.old self.new }
     {
         let left = self.left_at(i);
         self.store(i, left)
@@ -380,6 +391,9 @@ impl Live {
     pub fn step(&mut self, zone: ZoneName) -> Result<Step, Refusal>
         ensures stepped { IfOk result (λ step. (layout : List Zone) (mem : ℕ) (s : LiveState)
             → StandsLive layout mem self.old s → Leaves layout mem (steps layout s zone 1) self.new) }
+        ensures stores { IfOk result (λ step. (layout : List Zone) (mem : ℕ) (s : LiveState)
+            → StandsLive layout mem self.old s
+            → MadeAt (target layout s zone) (next_stores 1) self.old.spans self.new.spans) }
         ensures done { IfOk result (λ step. (step ≡ Step.Done) ↔ (flies_in self.new zone ≡ false)) }
         ensures refused { IfErr result (λ why. (layout : List Zone) (mem : ℕ) (s : LiveState)
             → StandsLive layout mem self.old s → steps layout s zone 1 ≡ Err why) }
@@ -399,6 +413,9 @@ impl Live {
     pub fn advance(&mut self, zone: ZoneName, count: u64) -> Result<(), Refusal>
         ensures advanced { OnOk result ((layout : List Zone) (mem : ℕ) (s : LiveState)
             → StandsLive layout mem self.old s → Leaves layout mem (steps layout s zone count) self.new) }
+        ensures stores { OnOk result ((layout : List Zone) (mem : ℕ) (s : LiveState)
+            → StandsLive layout mem self.old s
+            → MadeAt (target layout s zone) (next_stores count) self.old.spans self.new.spans) }
         ensures refused { IfErr result (λ why. (layout : List Zone) (mem : ℕ) (s : LiveState)
             → StandsLive layout mem self.old s → steps layout s zone count ≡ Err why) }
         ensures unchanged { OnErr result (self.new ≡ self.old) }
@@ -416,6 +433,9 @@ impl Live {
     pub fn finish(&mut self, zone: ZoneName) -> Result<(), Refusal>
         ensures finished { OnOk result ((layout : List Zone) (mem : ℕ) (s : LiveState)
             → StandsLive layout mem self.old s → Leaves layout mem (finishes layout s zone) self.new) }
+        ensures stores { OnOk result ((layout : List Zone) (mem : ℕ) (s : LiveState)
+            → StandsLive layout mem self.old s
+            → MadeAt (target layout s zone) left_stores self.old.spans self.new.spans) }
         ensures refused { IfErr result (λ why. (layout : List Zone) (mem : ℕ) (s : LiveState)
             → StandsLive layout mem self.old s → finishes layout s zone ≡ Err why) }
         ensures unchanged { OnErr result (self.new ≡ self.old) }

@@ -11,6 +11,8 @@ ghost use Rattle.ramoops.specs.OffSeen.{OffSeen, StandsOff};
 ghost use Rattle.ramoops.specs.Booting.{IsOpen, SpansFit, PreparesOpen, AreLogs, seen_off, seen_booted};
 ghost use Rattle.std.specs.List.{concat};
 ghost use Rattle.prz_read.specs.Saving.{saved};
+ghost use Rattle.prz_region.specs.CutRegion.{cut_at};
+ghost use Rattle.ramoops.specs.Made.{boot_writes};
 ghost use Rattle.ramoops.specs.Running.{IsRunning};
 ghost use Rattle.ramoops.specs.Resting.{IsResting};
 ghost use Rattle.ramoops.specs.Reports.{report_seen};
@@ -272,6 +274,8 @@ impl Off {
     pub fn boot(self) -> Result<(Live, Logs, Report), (Off, AllocError)>
         ensures booted { IfOk result (λ r. (layout : List AZone) (mem : ℕ) (s : OffState)
             → StandsOff layout mem self s → Booted layout mem s r.0 (saved r.1) (map report_seen r.2)) }
+        ensures stores { IfOk result (λ r. r.0.spans.made
+            ≡ boot_writes self.layout (cut_at self.layout self.image) (length self.layout)) }
         ensures sound { IsResting self }
         ensures refused { IfErr result (λ e. e.0 ≡ self) }
     {

@@ -6,11 +6,12 @@ ghost use Rattle.zone_spec.specs.Ring.{IsRingForm};
 ghost use Rattle.zone_spec.specs.Calls.{CanBegin};
 ghost use Rattle.prz_write.specs.Calls.{call_seen};
 ghost use Rattle.store_steps.specs.Flying.{Flying};
-ghost use Rattle.prz_region.specs.CutRegion.{span, with_span};
+ghost use Rattle.prz_region.specs.CutRegion.{span, stored as stored_in};
 ghost use Rattle.machine_spec.specs.States.{LiveZone};
 ghost use Rattle.machine_spec.specs.ZoneCalls.{begun, stepped};
 ghost use Rattle.machine_spec.specs.LiveZones.{flies_dump};
 ghost use Rattle.ramoops.specs.LiveSeen.{StandsForZone};
+ghost use Rattle.ramoops.specs.Made.{StoresIn, next_stores};
 ghost use Rattle.ramoops.specs.Storing.{CanStore, HasParity, is_next, is_last_of_dump};
 ghost use Rattle.std.specs.Option.{ForSome};
 
@@ -101,8 +102,9 @@ pub(crate) fn advance(
     ensures goes_on { is_some held.new.flight ≡ is_next result }
     ensures same_call { (f g : Flying) → held.old.flight ≡ Some f → held.new.flight ≡ Some g → g.call ≡ f.call }
     ensures capacity { held.new.told.capacity ≡ held.old.told.capacity }
-    ensures others { spans.new ≡ with_span spans.old i (span spans.new i) }
-    ensures len { length (span spans.new i) ≡ length (span spans.old i) }
+    ensures others { StoresIn i spans.old spans.new }
+    ensures stores { (zone : Zone) (live : LiveZone) → StandsForZone zone (span spans.old i) held.old live
+        → spans.new ≡ stored_in spans.old i (next_stores count zone live) }
     ensures stored { (zone : Zone) (live : LiveZone) → held.old.told.capacity ≡ zone.cap
         → StandsForZone zone (span spans.old i) held.old live
         → StandsForZone zone (span spans.new i) held.new (stepped zone count live) }

@@ -5,5 +5,4 @@ pub mod Finding
 pub mod Shown
 pub mod Images
 pub mod Saved
-pub mod Cmdline
 pub mod Version

@@ -4,7 +4,7 @@ ghost use Rattle.zone_spec.specs.Layout.{layout_of};
 ghost use Rattle.zone_spec.specs.Numbers.{most_memory};
 ghost use Rattle.ramoops_layout.specs.Layouts.{IsCause};
 ghost use Rattle.layout_spec.specs.Laid.{params_of};
-ghost use Rattle.layout_search.specs.Answers.{IsAnswer};
+ghost use Rattle.layout_search.specs.Answers.{IsSearched};
 ghost use Rattle.command_spec.specs.declared.Stop.TheVariants.{ImageFault};
 ghost use Rattle.script_spec.specs.Playing.{KeptUnless};
 ghost use Rattle.image_file.specs.Loading.{FrontStop};
@@ -50,8 +50,8 @@ pub fn known(words: &[String]) -> Known
 
 /// The layout that the image's first 16 MiB show, of those that agree with what is known.
 pub fn find<M: Load>(alloc: Global, image: &mut M, known: &Known) -> Result<Option<Found>, Stop>
-    ensures found { IfOk result (λ found. IfSome (M.holds image.old) (λ bs. IfSome found
-        (IsAnswer known.now (take most_memory bs)))) }
+    ensures found { IfOk result (λ found. IfSome (M.holds image.old) (λ bs.
+        IsSearched known.now (take most_memory bs) found)) }
     ensures err { IfErr result (λ s. FrontStop s (M.faults image.old) (M.faults image.new)) }
     ensures same { M.holds image.new ≡ M.holds image.old }
     ensures counts { KeptUnless ImageFault result (M.faults image.old) (M.faults image.new) }

@@ -1,20 +1,17 @@
-//! Reports of images: the words of a kernel's command line that say how an image is laid out, the plan by which images
-//! are read, the report of an image written as text, JSON or HTML, and its records saved as files.
+//! Reports of images: the plan by which images are read, the report of an image written as text, JSON or HTML, and its
+//! records saved as files.
 //!
 //! Nothing here writes an image: what holds it has no call to write.
 #![tactic(auto)]
 
-mod cmdline;
 mod finding;
 mod images;
-pub mod laws;
 mod plan;
 mod saving;
 mod showing;
 mod tree;
 mod version;
 
-pub use cmdline::{LineFault, add_layout_words};
 pub use command_spec::Stop;
 pub use finding::{find, known};
 pub use images::report;

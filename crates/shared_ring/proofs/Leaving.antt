@@ -5,10 +5,9 @@ use Rattle.std.proofs.lemmas.List.{map-append, take-map, drop-map}
 use Rattle.std.proofs.lemmas.Option.{slice_get_within}
 use Rattle.std.specs.Prelude.{slice_get, slice_index, flat_map, position, is_some}
 use Rattle.std.specs.Int.{to_le_bytes}
-use Rattle.prz_region.proofs.Cuts.{span-with_span}
 use Rattle.zone_spec.specs.declared.Zone.{Zone}
 use Rattle.zone_spec.specs.Parts.{standing_words}
-use Rattle.zone_spec.specs.Stores.{put}
+use Rattle.zone_spec.specs.Stores.{Store, put}
 use Rattle.shared_spec.specs.declared.Next.{Next}
 use Rattle.shared_spec.specs.declared.OpenCall.{OpenCall}
 use Rattle.shared_spec.specs.declared.SharedRefusal.{SharedRefusal}
@@ -23,10 +22,11 @@ use Rattle.shared_laws.proofs.Counts.{open_call-some, open_call-is}
 use Rattle.shared_laws.proofs.Seats.{one_more_operation, places_follow_first, shown_after_reservation, shown_after_step}
 use Rattle.shared_ring.specs.declared.seats.Seat.{Seat}
 use Rattle.shared_ring.specs.Seats.{is_of, call_of, shown_seat, one_more, seats_stepped, next_of}
-use Rattle.shared_ring.specs.Seen.{SharedSeen, bytes_of, words_of, StandsFor, IsLeftBy, seated, stepped, words_stored, IsStepped}
+use Rattle.shared_ring.specs.Seen.{SharedSeen, bytes_of, words_of, StandsFor, IsLeftBy, seated, stepped, words_store, byte_store, IsStepped}
 use Rattle.shared_ring.proofs.SeatLists.{more_cases, each_stepped, set_pieces}
 use Rattle.shared_ring.proofs.Tickets.{AreRising, after_own}
-use Rattle.shared_ring.proofs.Regions.{before_stored, after_stored}
+use Rattle.prz_region.proofs.Cuts.{spans-length}
+use Rattle.shared_ring.proofs.Regions.{before_stored, after_stored, one_stored}
 use Rattle.shared_ring.proofs.Standing.{shown_at, rising, seat_place, no_call, the_seat}
 
 -- ---- a reservation
@@ -45,21 +45,21 @@ pub reserved_stands : (z : Zone) (image : List ℕ) (os : List SharedOperation) 
 reserved_stands z image os can whole v payload s some =
     let shared : SharedZone = shared_after z (opened image) os in
     let new : SharedCall = record { payload = payload; stored = 0 } in
-    let n : List ℕ = words_stored v (((words_of v).start + length payload) % v.zone.cap)
+    let n : Store = words_store (((words_of v).start + length payload) % v.zone.cap)
     (min v.zone.cap ((words_of v).size + length payload)) in
     let start : (words_of v).start ≡ (standing_words shared.image).start =
     ap (λ (bytes : List ℕ). (standing_words bytes).start) s.bytes in
     record {
       zone = s.zone;
-      there = omega (arith, s.there, length-set v.region.spans v.place n);
-      bytes = span-with_span v.region v.place n s.there
-          ∙ ap (λ (y : Zone). words_stored v (((words_of v).start + length payload) % y.cap)
-          (min y.cap ((words_of v).size + length payload))) s.zone
+      there = omega (arith, s.there, spans-length v.region v.place (n ∷ []));
+      bytes = one_stored v.region v.place n s.there
+          ∙ ap (λ (y : Zone). put (bytes_of v) 4 (to_le_bytes w32 (((words_of v).start + length payload) % y.cap)
+          ++ to_le_bytes w32 (min y.cap ((words_of v).size + length payload)))) s.zone
           ∙ ap (λ (bytes : List ℕ). put bytes 4
           (to_le_bytes w32 (((standing_words bytes).start + length payload) % z.cap)
           ++ to_le_bytes w32 (min z.cap ((standing_words bytes).size + length payload)))) s.bytes;
-      before = before_stored v.region v.place n ∙ s.before;
-      after = after_stored v.region v.place n ∙ s.after;
+      before = before_stored v.region v.place (n ∷ []) ∙ s.before;
+      after = after_stored v.region v.place (n ∷ []) ∙ s.after;
       reserved = omega (arith, s.reserved, length-append shared.calls (new ∷ []));
       shown = map-append shown_seat v.seats _
           ∙ ap₂ (λ (xs : List OpenCall) (o : OpenCall). xs ++ o ∷ []) s.shown
@@ -133,21 +133,21 @@ pub stepped_stands : (z : Zone) (whole : List ℕ) (shared : SharedZone) (v : Sh
     → StandsFor z whole shared v → slice_get v.seats i ≡ Some x
     → StandsFor z whole (next_stored z shared x.ticket (call_of x)) (stepped v i x)
 stepped_stands z whole shared v i x s e =
-    let n : List ℕ = put (bytes_of v) (12 + (x.place + x.stored) % v.zone.cap) (slice_index x.payload x.stored ∷ []) in
+    let n : Store = byte_store ((x.place + x.stored) % v.zone.cap) (slice_index x.payload x.stored) in
     let place : (x.place + x.stored) % z.cap ≡ call_place z shared x.ticket x.stored =
     ap (λ p. (p + x.stored) % z.cap) (sym (seat_place z whole shared v s i x e))
     ∙ sym (places_follow_first z shared x.ticket x.stored) in
     let f : slice_get (open_calls z shared) i ≡ Some (shown_seat x) = shown_at z whole shared v s i x e in
     record {
       zone = s.zone;
-      there = omega (arith, s.there, length-set v.region.spans v.place n);
-      bytes = span-with_span v.region v.place n s.there
+      there = omega (arith, s.there, spans-length v.region v.place (n ∷ []));
+      bytes = one_stored v.region v.place n s.there
           ∙ ap (λ (y : Zone). put (bytes_of v) (12 + (x.place + x.stored) % y.cap)
           (slice_index x.payload x.stored ∷ []))
           s.zone
           ∙ ap₂ (λ (bytes : List ℕ) p. put bytes (12 + p) (slice_index x.payload x.stored ∷ [])) s.bytes place;
-      before = before_stored v.region v.place n ∙ s.before;
-      after = after_stored v.region v.place n ∙ s.after;
+      before = before_stored v.region v.place (n ∷ []) ∙ s.before;
+      after = after_stored v.region v.place (n ∷ []) ∙ s.after;
       reserved = s.reserved ∙ sym (length-set shared.calls x.ticket (call_more (call_of x)));
       shown = seats_shown v.seats (open_calls z shared) x.ticket i x s.shown e f refl (rising z whole shared v s)
           ∙ sym (shown_after_step z shared x.ticket (call_of x) (s.seated i x e));

@@ -85,11 +85,10 @@ module _ (image : List ℕ) where
 -- ---- the opening
 
 module _ (zones : List Zone) (mem : ℕ) (image : List ℕ) (lies : IsLayout zones mem) (place : ℕ) (z : Zone)
-    (there : slice_get zones place ≡ Some z) (can : CanShare z (zone_bytes z image)) (stores : ℕ) where
+    (there : slice_get zones place ≡ Some z) (can : CanShare z (zone_bytes z image)) where
   abbrev pub just_opened : SharedSeen
   just_opened = record {
     region = cut_at zones image;
-    stores = stores;
     place = place;
     zone = z;
     reserved = 0;

@@ -2,19 +2,27 @@
 use Rattle.std.proofs.Common.{◌≡◌, ℕ, zero, suc, ◌+◌, ◌<◌, List, [], ◌∷◌, ◌++◌, length, take, drop, get_or, refl, sym, ap, ◌∙◌, arith, append_assoc}
 use Rattle.std.specs.List.{concat}
 use Rattle.std.proofs.lemmas.List.{take-set, drop-set-lt}
-use Rattle.prz_region.specs.CutRegion.{CutRegion, span, with_span}
+use Rattle.zone_spec.specs.Stores.{Store, put, after_stores}
+use Rattle.prz_region.specs.CutRegion.{CutRegion, span, stored}
+use Rattle.prz_region.proofs.Cuts.{span-stored}
 
 -- ---- one span stored into
 
-pub before_stored : (cut : CutRegion) (i : ℕ) (bytes : List ℕ)
-    → concat (take i (with_span cut i bytes).spans) ≡ concat (take i cut.spans)
-before_stored cut i bytes = ap concat (take-set cut.spans i bytes)
+pub before_stored : (cut : CutRegion) (i : ℕ) (ss : List Store)
+    → concat (take i (stored cut i ss).spans) ≡ concat (take i cut.spans)
+before_stored cut i ss = ap concat (take-set cut.spans i _)
 
-pub after_stored : (cut : CutRegion) (i : ℕ) (bytes : List ℕ)
-    → concat (drop (i + 1) (with_span cut i bytes).spans) ++ (with_span cut i bytes).rest
+pub after_stored : (cut : CutRegion) (i : ℕ) (ss : List Store)
+    → concat (drop (i + 1) (stored cut i ss).spans) ++ (stored cut i ss).rest
     ≡ concat (drop (i + 1) cut.spans) ++ cut.rest
-after_stored cut i bytes =
-    ap (λ (xs : List (List ℕ)). concat xs ++ cut.rest) (drop-set-lt (i + 1) cut.spans i bytes (omega arith))
+after_stored cut i ss =
+    ap (λ (xs : List (List ℕ)). concat xs ++ cut.rest) (drop-set-lt (i + 1) cut.spans i _ (omega arith))
+
+-- the span after one store
+pub one_stored : (cut : CutRegion) (i : ℕ) (s : Store) → i < length cut.spans
+    → span (stored cut i (s ∷ [])) i ≡ put (span cut i) s.place s.bytes
+unfolding after_stores
+one_stored cut i s lt = span-stored cut i (s ∷ []) lt
 
 -- ---- all spans, in three pieces
 

@@ -3,16 +3,17 @@ use Rattle.std.proofs.Common.{◌≡◌, ℕ, ◌+◌, ◌%◌, ◌^◌, ◌<◌
 use Rattle.std.proofs.lemmas.List.{length-take, length-drop}
 use Rattle.std.specs.Prelude.{slice_get, slice_index}
 use Rattle.std.specs.Int.{to_le_bytes}
-use Rattle.prz_region.proofs.Cuts.{span-with_span}
 use Rattle.zone_spec.specs.declared.Words.{Words}
 use Rattle.zone_spec.specs.Parts.{standing_words}
-use Rattle.zone_spec.specs.Stores.{put}
+use Rattle.zone_spec.specs.Stores.{Store, put}
 use Rattle.ring_laws.proofs.Images.{length-put}
 use Rattle.shared_laws.proofs.PlainZones.{put_start, put_size, byte_words}
-use Rattle.prz_region.specs.CutRegion.{span, with_span}
+use Rattle.prz_region.specs.CutRegion.{span, stored}
 use Rattle.shared_ring.specs.declared.seats.Seat.{Seat}
 use Rattle.shared_ring.specs.Seats.{one_more}
-use Rattle.shared_ring.specs.Seen.{SharedSeen, bytes_of, words_of, IsWhole, seated, stepped, words_stored}
+use Rattle.shared_ring.specs.Seen.{SharedSeen, bytes_of, words_of, IsWhole, seated, stepped, words_store, byte_store}
+use Rattle.prz_region.proofs.Cuts.{spans-length}
+use Rattle.shared_ring.proofs.Regions.{one_stored}
 use Rattle.shared_ring.proofs.SeatLists.{are_stepped, are_more}
 
 pub seated_whole : (v : SharedSeen) (payload : List ℕ) → IsWhole v → length v.seats < 64 → 0 < length payload
@@ -20,14 +21,15 @@ pub seated_whole : (v : SharedSeen) (payload : List ℕ) → IsWhole v → lengt
 seated_whole v payload w seat some room =
     let start : ℕ = ((words_of v).start + length payload) % v.zone.cap in
     let size : ℕ = min v.zone.cap ((words_of v).size + length payload) in
-    let n : List ℕ = words_stored v start size in
+    let s : Store = words_store start size in
+    let n : List ℕ = put (bytes_of v) s.place s.bytes in
     let below : start < v.zone.cap = mod-lt _ (omega (arith, w.start)) in
-    let at : span (with_span v.region v.place n) v.place ≡ n = span-with_span v.region v.place n w.there in
+    let at : span (stored v.region v.place (s ∷ [])) v.place ≡ n = one_stored v.region v.place s w.there in
     let wide : 12 ≤ length (bytes_of v) = omega (arith, w.room, w.sized) in
     let cap : v.zone.cap < 2 ^ 32 = omega (arith, w.room, w.short) in
     let new : Seat = record { ticket = v.reserved; place = (words_of v).start; stored = 0; payload = payload } in
     record {
-      there = omega (arith, w.there, length-set v.region.spans v.place n);
+      there = omega (arith, w.there, spans-length v.region v.place (s ∷ []));
       sized = ap length at
           ∙ length-put (bytes_of v) 4 (to_le_bytes w32 start ++ to_le_bytes w32 size) ∙ w.sized;
       short = w.short;
@@ -56,12 +58,13 @@ pub stepped_whole : (v : SharedSeen) (i : ℕ) (s : Seat) → IsWhole v → slic
     → IsWhole (stepped v i s)
 stepped_whole v i s w e =
     let p : ℕ = (s.place + s.stored) % v.zone.cap in
-    let n : List ℕ = put (bytes_of v) (12 + p) (slice_index s.payload s.stored ∷ []) in
-    let at : span (with_span v.region v.place n) v.place ≡ n = span-with_span v.region v.place n w.there in
-    let same : standing_words (span (with_span v.region v.place n) v.place) ≡ words_of v =
+    let byte : Store = byte_store p (slice_index s.payload s.stored) in
+    let n : List ℕ = put (bytes_of v) byte.place byte.bytes in
+    let at : span (stored v.region v.place (byte ∷ [])) v.place ≡ n = one_stored v.region v.place byte w.there in
+    let same : standing_words (span (stored v.region v.place (byte ∷ [])) v.place) ≡ words_of v =
     ap standing_words at ∙ byte_words (bytes_of v) p (slice_index s.payload s.stored) in
     record {
-      there = omega (arith, w.there, length-set v.region.spans v.place n);
+      there = omega (arith, w.there, spans-length v.region v.place (byte ∷ []));
       sized = ap length at ∙ length-put (bytes_of v) (12 + p) (slice_index s.payload s.stored ∷ []) ∙ w.sized;
       short = w.short;
       room = w.room;

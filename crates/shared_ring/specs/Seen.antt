@@ -6,9 +6,9 @@ use Rattle.std.proofs.Common.{w32}
 use Rattle.zone_spec.specs.declared.Zone.{Zone}
 use Rattle.zone_spec.specs.declared.Words.{Words}
 use Rattle.zone_spec.specs.Parts.{standing_words}
-use Rattle.zone_spec.specs.Stores.{put}
+use Rattle.zone_spec.specs.Stores.{Store}
 use Rattle.machine_spec.specs.Zones.{zone_bytes}
-use Rattle.prz_region.specs.CutRegion.{CutRegion, span, with_span}
+use Rattle.prz_region.specs.CutRegion.{CutRegion, span, stored}
 use Rattle.shared_spec.specs.declared.NoCall.{NoCall}
 use Rattle.shared_spec.specs.declared.Next.{Next}
 use Rattle.shared_spec.specs.declared.SharedRefusal.{SharedRefusal}
@@ -18,11 +18,10 @@ use Rattle.shared_spec.specs.Histories.{History, shared_zone}
 use Rattle.shared_ring.specs.declared.seats.Seat.{Seat}
 use Rattle.shared_ring.specs.Seats.{call_of, shown_seat, AreSeats, seats_stepped}
 
--- the spans of the image's zones, how many stores were made into them, the shared zone and its place among them, how
--- many calls were reserved, and the seats of the open ones
+-- the spans of the image's zones with the stores made into them, the shared zone and its place among them, how many
+-- calls were reserved, and the seats of the open ones
 pub record SharedSeen : Type 0 where
   pub region : CutRegion
-  pub stores : ℕ
   pub place : ℕ
   pub zone : Zone
   pub reserved : ℕ
@@ -64,20 +63,23 @@ pub record IsLeftBy (h : History) (v : SharedSeen) : Type 0 where
   pub can : CanShare h.zone (zone_bytes h.zone h.image)
   pub stands : StandsFor h.zone h.image (shared_zone h) v
 
--- with these bytes for the zone
-abbrev pub with_bytes : SharedSeen → List ℕ → CutRegion
-with_bytes v bytes = with_span v.region v.place bytes
+-- how many stores were made
+abbrev pub stores : SharedSeen → ℕ
+stores v = length v.region.made
 
--- the zone's bytes with these words for start and size
-abbrev pub words_stored : SharedSeen → ℕ → ℕ → List ℕ
-words_stored v start size = put (bytes_of v) 4 (to_le_bytes w32 start ++ to_le_bytes w32 size)
+-- one store of both words, start and size
+abbrev pub words_store : ℕ → ℕ → Store
+words_store start size = record { place = 4; bytes = to_le_bytes w32 start ++ to_le_bytes w32 size }
+
+-- one store of a data byte
+abbrev pub byte_store : ℕ → ℕ → Store
+byte_store place b = record { place = 12 + place; bytes = b ∷ [] }
 
 -- after a reservation, which is one store
 abbrev pub seated : SharedSeen → List ℕ → SharedSeen
 seated v payload = record {
-  region = with_bytes v (words_stored v (((words_of v).start + length payload) % v.zone.cap)
-      (min v.zone.cap ((words_of v).size + length payload)));
-  stores = v.stores + 1;
+  region = stored v.region v.place (words_store (((words_of v).start + length payload) % v.zone.cap)
+      (min v.zone.cap ((words_of v).size + length payload)) ∷ []);
   place = v.place;
   zone = v.zone;
   reserved = v.reserved + 1;
@@ -92,9 +94,8 @@ seated v payload = record {
 -- after a step of the call in this seat, which is one store
 abbrev pub stepped : SharedSeen → ℕ → Seat → SharedSeen
 stepped v i s = record {
-  region = with_bytes v
-      (put (bytes_of v) (12 + (s.place + s.stored) % v.zone.cap) (slice_index s.payload s.stored ∷ []));
-  stores = v.stores + 1;
+  region = stored v.region v.place
+      (byte_store ((s.place + s.stored) % v.zone.cap) (slice_index s.payload s.stored) ∷ []);
   place = v.place;
   zone = v.zone;
   reserved = v.reserved;

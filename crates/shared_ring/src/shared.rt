@@ -1,9 +1,5 @@
 // The shared zone.
 ghost use Rattle.std.specs.Prelude.{◌≡◌, ◌<◌, ◌≤◌, ◌+◌, ◌^◌, ◌++◌, [], length, slice_get, IfOk, IfErr, MatchResult, OnOk, OnErr, IfNone, is_some, Some, None};
-ghost use Rattle.std.specs.Int.{to_le_bytes};
-ghost use Rattle.std.proofs.Common.{w32};
-ghost use Rattle.zone_spec.specs.Stores.{put};
-ghost use Rattle.prz_region.specs.CutRegion.{span, with_span};
 ghost use Rattle.zone_spec.specs.Parts.{standing_words};
 ghost use Rattle.ramoops_layout.specs.Laid.{params_of, zones_of};
 ghost use Rattle.zone_spec.specs.Reading.{zone_reading};
@@ -14,12 +10,12 @@ ghost use Rattle.shared_spec.specs.Runs.{Reserve, StoreNext};
 ghost use Rattle.shared_spec.specs.Histories.{History, CanOpen, shared_zone, and_then, image_left};
 ghost use Rattle.shared_ring.specs.declared.seats.Seat.{Seat as ASeat};
 ghost use Rattle.shared_ring.specs.Seats.{next_of};
-ghost use Rattle.shared_ring.specs.Seen.{IsLeftBy, words_of, seated, stepped, IsReserved, IsStepped};
+ghost use Rattle.shared_ring.specs.Seen.{IsLeftBy, stores, words_of, seated, stepped, IsReserved, IsStepped};
 
 use crate::seats::{Seat, count_stored, find, held, next_byte, show};
 use arrayvec::ArrayVec;
 use outside::Bytes;
-use prz_region::{CountedSpans, Region, RingWords};
+use prz_region::{Region, RingWords, Spans};
 use ramoops_layout::types::Layout;
 use shared_spec::{Next, NoCall, OpenCall, SharedRefusal};
 use std::alloc::AllocError;
@@ -33,7 +29,7 @@ const SEATS: usize = 64;
 ///
 /// It is spent by `close`, which gives the image back. Only `open` takes memory.
 pub struct Shared {
-    spans: CountedSpans,
+    spans: Spans,
     place: u32,
     zone: Zone,
     reserved: u64,
@@ -48,8 +44,7 @@ impl Model for Shared {
     ghost Value = { SharedSeen };
 
     ghost view = { λ s. record {
-      region = s.spans.region;
-      stores = s.spans.stores;
+      region = s.spans;
       place = s.place;
       zone = s.zone;
       reserved = s.reserved;
@@ -57,8 +52,7 @@ impl Model for Shared {
     } };
 
     ghost invariant = { λ s. (64 ≤ vec_capacity s.seats) × IsWhole (record {
-      region = s.spans.region;
-      stores = s.spans.stores;
+      region = s.spans;
       place = s.place;
       zone = s.zone;
       reserved = s.reserved;
@@ -90,7 +84,7 @@ impl Shared {
         };
         match Region::from_bytes(image).cut(&layout) {
             Ok(spans) => Ok(Shared {
-                spans: spans.counted(),
+                spans,
                 place,
                 zone,
                 reserved: 0,
@@ -184,7 +178,7 @@ impl Shared {
         ensures answer { (h : History) → IsLeftBy h self.old
             → IsReserved (refusal_of h.zone (shared_zone h).calls (length payload)) (length (shared_zone h).calls)
             payload result }
-        ensures stores { OnOk result (self.new.stores ≡ self.old.stores + 1) }
+        ensures stores { OnOk result (stores self.new ≡ stores self.old + 1) }
         ensures refused { OnErr result (self.new ≡ self.old) }
     {
         match self.refusal(payload.len()) {
@@ -209,7 +203,7 @@ impl Shared {
         ensures left { (h : History) → IsLeftBy h self.old → IsLeftBy (and_then h (StoreNext ticket)) self.new }
         ensures answer { (h : History) → IsLeftBy h self.old
             → IsStepped (step_answer (open_call (shared_zone h).calls ticket)) result }
-        ensures stores { OnOk result (self.new.stores ≡ self.old.stores + 1) }
+        ensures stores { OnOk result (stores self.new ≡ stores self.old + 1) }
         ensures refused { OnErr result (self.new ≡ self.old) }
     {
         match find(&self.seats, ticket) {

@@ -98,11 +98,15 @@ fn saved(alloc: Global, p: &Params, zones: [Seen; 4]) -> Result<Logs, AllocError
     Ok(logs)
 }
 
+// Whether these names are listed, in this order, alone and in the table.
 fn lists(alloc: Global, logs: &Logs, wanted: &[Name]) -> bool {
+    let Ok(found) = names(alloc, logs) else {
+        return false;
+    };
     let Ok(table) = listed(alloc, logs) else {
         return false;
     };
-    let mut are_same = table.len() == wanted.len();
+    let mut are_same = found.as_slice() == wanted && table.len() == wanted.len();
     for (entry, name) in table.iter().zip(wanted) {
         are_same &= entry.name == *name;
     }

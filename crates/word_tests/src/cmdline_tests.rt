@@ -1,4 +1,5 @@
 // Worked command lines and versions.
+use kernel_line::*;
 use report_tool::*;
 use std::alloc::Global;
 use std::test::Fail;
@@ -99,6 +100,86 @@ fn lines_that_are_refused(rt: HostRuntime) {
         (b"ramoops.ecc=1\xc2\xa0ro".as_slice(), LineFault::NoText),
     ] {
         assert_eq!(rt; shown(rt.alloc(), line).err(), Some(fault));
+    }
+}
+
+// Each line, and where it puts the region: as `memparse`, `kstrtoull` and `reserve_mem` of the kernel read it.
+#[test]
+fn places_of_the_region(rt: HostRuntime) {
+    for (line, address, reserved) in [
+        (b"".as_slice(), None, None),
+        (
+            b"ramoops.mem_address=0x100000".as_slice(),
+            Some(0x100000),
+            None,
+        ),
+        (
+            b"ramoops.mem_address=0x100000 -- ramoops.mem_address=0x200000".as_slice(),
+            Some(0x100000),
+            None,
+        ),
+        (
+            b"ramoops.mem_address=1 ramoops.mem-address=\"0X2f\" ro".as_slice(),
+            Some(0x2f),
+            None,
+        ),
+        (b"ramoops.mem_address=010".as_slice(), Some(8), None),
+        (b"ramoops.mem_address=1M".as_slice(), None, None),
+        (b"xramoops.mem_address=1".as_slice(), None, None),
+        (
+            b"ramoops.mem_address=0xffffffffffffffff".as_slice(),
+            Some(u64::MAX),
+            None,
+        ),
+        (
+            b"ramoops.mem_address=0x10000000000000000".as_slice(),
+            None,
+            None,
+        ),
+        (
+            b"reserve_mem=64K:4096:oops ramoops.mem_name=oops".as_slice(),
+            None,
+            Some(65536),
+        ),
+        (
+            b"reserve_mem=1M::log \"reserve-mem=2m:4k:oops\" reserve_mem=4M:4096:trace ramoops.mem-name=oops".as_slice(),
+            None,
+            Some(2097152),
+        ),
+        (
+            b"reserve_mem=1M:4096:oops reserve_mem=2M:4096:oops ramoops.mem_name=oops".as_slice(),
+            None,
+            Some(1048576),
+        ),
+        (
+            b"reserve_mem=1M:4096:oops ramoops.mem_name=oops -- ramoops.mem_name=log".as_slice(),
+            None,
+            Some(1048576),
+        ),
+        (
+            b"reserve_mem=1M:4096:oops ramoops.mem_name=log".as_slice(),
+            None,
+            None,
+        ),
+        (
+            b"reserve_mem=1M:oops ramoops.mem_name=oops".as_slice(),
+            None,
+            None,
+        ),
+        (b"reserve_mem=1M ramoops.mem_name=".as_slice(), None, None),
+        (
+            b"reserve_mem=1X:4096:oops ramoops.mem_name=oops".as_slice(),
+            None,
+            None,
+        ),
+    ] {
+        match KernelLine::read(rt.alloc(), line) {
+            Ok(read) => {
+                assert!(rt; read.address() == address, "{line:?}");
+                assert!(rt; read.reserved_size() == reserved, "{line:?}");
+            }
+            Err(fault) => panic!(rt; "{fault:?}"),
+        }
     }
 }
 

@@ -4,6 +4,8 @@
 #[cfg(test)]
 mod cmdline_tests;
 #[cfg(test)]
+mod colours_tests;
+#[cfg(test)]
 mod keys_tests;
 #[cfg(test)]
 mod outside_tests;

@@ -136,3 +136,13 @@ block-facts z x b n out stands valid size bytes count less reads e =
 pub header-stands : (z : Zone) (x : List ℕ) (s : List ℕ) → s ≡ slice_range x 0 (0 + 12) → s ≡ part_bytes z x Header
 unfolding part_bytes
 header-stands z x s e = e
+
+-- the header's bytes where they stand, by those that it reads
+pub header-facts : (z : Zone) (x out stands : List ℕ) → IsValidZone z → length x ≡ z.size → AreBytes x
+    → out ≡ (part_reading z x Header).bytes → stands ≡ slice_range x 0 (0 + 12)
+    → (length out ≡ length stands) × (length stands ≡ 12) × (stands ≡ part_bytes z x Header)
+    × (length (part_bytes z x Header) ≡ 12)
+header-facts z x out stands valid size bytes reads e =
+    let is : stands ≡ part_bytes z x Header = header-stands z x stands e in
+    let long = header-length z x valid size in
+    (ap length reads ∙ (length-reading z x Header bytes).0 ∙ sym (ap length is), ap length is ∙ long, is, long)

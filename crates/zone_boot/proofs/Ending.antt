@@ -1,5 +1,7 @@
 -- What is handed out, against the stores of the boot
-use Rattle.std.proofs.Common.{◌≡◌, ℕ, ◌+◌, ◌<◌, ◌≤◌, List, [], ◌∷◌, ◌++◌, length, take, drop, refl, sym, ap, ◌∙◌, subst, arith, append_assoc, length-append}
+use Rattle.std.proofs.Common.{◌≡◌, ℕ, ◌+◌, ◌<◌, ◌≤◌, List, [], ◌∷◌, ◌++◌, length, take, drop, refl, sym, ap, ◌∙◌, subst, arith, append_assoc, take_all, length-append}
+use Rattle.std.specs.List.{AllByRecursion}
+use Rattle.std.proofs.lemmas.List.Sums.{sum_by-cons}
 use Rattle.std.proofs.Math.Seq.{drop-append_seam, take-append_seam}
 use Rattle.code_spec.specs.Code.{parity_of}
 use Rattle.zone_spec.specs.declared.Zone.{Zone}
@@ -8,7 +10,12 @@ use Rattle.ring_laws.proofs.PartsLaw.{slice_range-bytes}
 use Rattle.ring_laws.proofs.PartWords.{bytes-all}
 use Rattle.zone_spec.specs.Parts.{AreBytes, Header, part_bytes, part_parity_at}
 use Rattle.zone_spec.specs.Stores.{Store, after_stores, byte_stores, word_store}
-use Rattle.zone_spec.specs.Stages.{stores_in_turn, stage_stores}
+use Rattle.zone_spec.specs.Zones.{IsValidZone}
+use Rattle.zone_spec.specs.Stages.{SigWord, StartWord, SizeWord, ParityOf, stage_count, stores_in_turn, stage_stores}
+use Rattle.zone_spec.specs.Calls.{erase_stages}
+use Rattle.ring_laws.proofs.EveryParity.{word-bytes}
+use Rattle.ring_laws.proofs.StoreBytes.{IsStore, stage_stores-all}
+use Rattle.zone_boot.proofs.Counting.{erasure-count}
 use Rattle.zone_spec.specs.Boot.{boot_stores}
 use Rattle.ring_laws.proofs.Images.{after_stores-append}
 use Rattle.zone_boot.specs.declared.boots.Boot.{Boot}
@@ -78,20 +85,61 @@ unfolding part_bytes
 parity-long z x h = (parity_made z.parity (part_bytes z x Header)
     (refl, bytes-all _ (slice_range-bytes x 0 (0 + 12) h))).0.0
 
+-- ---- handing out, in each phase of an erasure
+module _ (z : Zone) (valid : IsValidZone z) (x : List ℕ) (h : AreBytes x) (b w n : ℕ) (e : Erasure) where
+  abbrev next-counts : Phase → Phase → List Store → Type 0
+  next-counts p q given = (m : ℕ) → length (left_at z x b w n e p)
+      ≡ length given + length (left_at z (after_stores x (take m given)) b w n e q)
+
+  pub counts-signature : next-counts Signature Start (word_store 0 z.sig)
+  counts-signature = erasure-count z valid x b w n e Signature Start h (word_store 0 z.sig) (word-bytes z.sig, tt) refl
+      (λ y. refl) (sum_by-cons (stage_count z) (SigWord z.sig) erase_stages)
+
+  pub counts-start : next-counts Start Size (word_store 4 0)
+  counts-start = erasure-count z valid x b w n e Start Size h (word_store 4 0) (word-bytes 0, tt) refl (λ y. refl)
+      (sum_by-cons (stage_count z) (StartWord 0) (SizeWord 0 ∷ ParityOf Header ∷ []))
+
+  pub counts-size : next-counts Size Parity (word_store 8 0)
+  counts-size = erasure-count z valid x b w n e Size Parity h (word_store 8 0) (word-bytes 0, tt) refl (λ y. refl)
+      (sum_by-cons (stage_count z) (SizeWord 0) (ParityOf Header ∷ []))
+
+  pub counts-parity : (given : List Store)
+      → given ≡ byte_stores (part_parity_at z Header) (parity_of z.parity (part_bytes z x Header))
+      → length given ≡ z.parity → next-counts Parity Finished given
+  unfolding stage_stores
+  counts-parity given is long = erasure-count z valid x b w n e Parity Finished h given
+      (subst (λ (l : List Store). AllByRecursion IsStore l) (sym is) (stage_stores-all z valid (ParityOf Header) x h tt))
+      refl (λ y. refl) (let s = sum_by-cons (stage_count z) (ParityOf Header) [] in omega (arith, s, long))
+
 -- ---- handing out
 module _ (old : Boot) (x : List ℕ) (new : Boot) (out : BootStore) where
   pub gives : (given : List Store) → handed out ≡ given
-      → left_of old x ≡ given ++ left_of new (after_stores x given) → new.zone ≡ old.zone
+      → left_of old x ≡ given ++ left_of new (after_stores x given)
+      → ((m : ℕ) → length (left_of old x) ≡ length given + length (left_of new (after_stores x (take m given))))
+      → new.zone ≡ old.zone
       → new.made ≡ old.made + length given → IsKept new → out.place + handed_len out ≤ old.zone.size → IsPlain out
       → Gives old x new out
-  gives given h left zone made kept inside plain = record {
+  gives given h left counts zone made kept inside plain = record {
     left = subst (λ (l : List Store). left_of old x ≡ l ++ left_of new (after_stores x l)) (sym h) left;
+    counts = subst (λ (l : List Store). (m : ℕ) → length (left_of old x)
+        ≡ length l + length (left_of new (after_stores x (take m l)))) (sym h) counts;
     zone = zone;
     made = made ∙ ap (λ (l : List Store). old.made + length l) (sym h);
     kept = kept;
     inside = inside;
     plain = plain;
   }
+
+  -- nothing is handed out
+  pub gives-nothing : handed out ≡ [] → left_of old x ≡ left_of new x → new.zone ≡ old.zone → new.made ≡ old.made
+      → IsKept new → out.place + handed_len out ≤ old.zone.size → IsPlain out → Gives old x new out
+  unfolding after_stores
+  gives-nothing h left zone made kept inside plain = gives [] h left
+      (λ m. let f : x ≡ after_stores x (take m []) = ap (λ (l : List Store). after_stores x l)
+      (sym (take_all m [] (omega arith))) in
+      let e : length (left_of new x) ≡ length (left_of new (after_stores x (take m []))) =
+      ap (λ (y : List ℕ). length (left_of new y)) f in
+      omega (arith, ap length left, e)) zone (omega (arith, made)) kept inside plain
 
   -- nothing was handed out
   pub gives-none : Gives old x new out → handed out ≡ [] → left_of old x ≡ left_of new x
@@ -106,6 +154,7 @@ module _ (old : Boot) (x : List ℕ) (new : Boot) (out : BootStore) where
       → Gives old x new out → Gives first x new out
   gives-after first left zone made g = record {
     left = left ∙ g.left;
+    counts = λ m. ap length left ∙ g.counts m;
     zone = g.zone ∙ zone;
     made = g.made ∙ ap (λ (n : ℕ). n + length (handed out)) made;
     kept = g.kept;

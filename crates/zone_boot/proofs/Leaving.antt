@@ -1,5 +1,5 @@
 -- The stores that a boot leaves for later
-use Rattle.std.proofs.Common.{◌≡◌, ℕ, suc, ◌+◌, ◌-◌, ◌<◌, ◌≤◌, List, [], ◌∷◌, ◌++◌, length, drop, min, inl, inr, flat_map, refl, sym, ap, ap₂, ◌∙◌, arith, append_assoc}
+use Rattle.std.proofs.Common.{◌≡◌, ℕ, suc, ◌+◌, ◌-◌, ◌<◌, ◌≤◌, List, [], ◌∷◌, ◌++◌, length, take, drop, min, inl, inr, flat_map, refl, sym, ap, ap₂, ◌∙◌, subst, arith, append_assoc, take_all}
 use Rattle.std.specs.List.{range_with_len}
 use Rattle.std.proofs.lemmas.Bool.{cases_lt}
 use Rattle.zone_spec.specs.declared.Zone.{Zone}
@@ -16,7 +16,8 @@ use Rattle.zone_boot.specs.declared.boots.Phase.TheVariants.{Header as HeaderPha
 use Rattle.zone_boot.specs.declared.deciding.Erasure.{Erasure}
 use Rattle.zone_boot.specs.Left.{part_left, blocks_left, then_stages, fixes_left, stages_left, stages_of, left_at}
 use Rattle.zone_boot.proofs.Fixing.{fix-end}
-use Rattle.zone_boot.proofs.Parting.{run-left, others-fixes, others-left}
+use Rattle.zone_boot.proofs.Parting.{run-image, run-left, others-fixes, others-left}
+use Rattle.zone_boot.proofs.Counting.{fixes-count}
 
 pub after-none : (x : List ℕ) → after_stores x [] ≡ x
 unfolding after_stores
@@ -69,36 +70,39 @@ module _ (z : Zone) (valid : IsValidZone z) (x : List ℕ) (im : IsImage z x) (g
   header-apart b h f = (let n : ◌≡◌ {A = ℕ} 0 1 = cc in omega (arith, n))
 
   -- a run of the header
-  pub header-run : (w e count : ℕ) → w ≤ length (part_bytes z x Header)
+  pub header-more : (w e count : ℕ) → w ≤ length (part_bytes z x Header)
       → part_left z x Header w ≡ given ++ part_left z x Header e
-      → IsRun (part_at z Header + w) (part_at z Header + e) given
-      → part_left z x Header w ++ blocks_left z x 0 (range_with_len 0 count)
-      ≡ given ++ (part_left z (after_stores x given) Header e
-      ++ blocks_left z (after_stores x given) 0 (range_with_len 0 count))
-  header-run w e count h s run =
-      ap (λ (l : List Store). l ++ blocks_left z x 0 (range_with_len 0 count)) s
-      ∙ append_assoc given (part_left z x Header e) (blocks_left z x 0 (range_with_len 0 count))
-      ∙ ap₂ (λ (u v : List Store). given ++ (u ++ v)) (sym (run-left z valid x im Header w e given h s run))
-      (sym (others-left z valid x im Header w e given h s run 0 count 0 header-apart))
+      → IsRun (part_at z Header + w) (part_at z Header + e) given → (m : ℕ)
+      → part_left z (after_stores x (take m given)) Header e
+      ++ blocks_left z (after_stores x (take m given)) 0 (range_with_len 0 count)
+      ≡ part_left z x Header e ++ blocks_left z x 0 (range_with_len 0 count)
+  header-more w e count h s run m = ap₂ (λ (u v : List Store). u ++ v)
+      (run-left z valid x im Header w e given h s run m)
+      (others-left z valid x im Header w e given h s run m 0 count 0 header-apart)
 
   -- a run of a block
-  pub block-run : (w e b count : ℕ) → b < count → w ≤ length (part_bytes z x (Block b))
+  pub block-more : (w e b count : ℕ) → b < count → w ≤ length (part_bytes z x (Block b))
       → part_left z x (Block b) w ≡ given ++ part_left z x (Block b) e
-      → IsRun (part_at z (Block b) + w) (part_at z (Block b) + e) given
-      → blocks_left z x w (range_with_len b (count - b))
-      ≡ given ++ blocks_left z (after_stores x given) e (range_with_len b (count - b))
-  block-run w e b count less h s run =
-      let y : List ℕ = after_stores x given in
-      let rest : List Store = flat_map (λ k. part_fixes z x (Block k)) (range_with_len (b + 1) (count - (b + 1))) in
-      blocks-first z x w b count less
-      ∙ ap (λ (l : List Store). l ++ rest) s ∙ append_assoc given (part_left z x (Block b) e) rest
-      ∙ ap₂ (λ (u v : List Store). given ++ (u ++ v)) (sym (run-left z valid x im (Block b) w e given h s run))
-      (sym (others-fixes z valid x im (Block b) w e given h s run (count - (b + 1)) (b + 1)
-      (λ k l f. (let n : k ≡ b = number f in omega (arith, n, l)))))
-      ∙ ap (λ (l : List Store). given ++ l) (sym (blocks-first z y e b count less))
+      → IsRun (part_at z (Block b) + w) (part_at z (Block b) + e) given → (m : ℕ)
+      → blocks_left z (after_stores x (take m given)) e (range_with_len b (count - b))
+      ≡ blocks_left z x e (range_with_len b (count - b))
+  block-more w e b count less h s run m =
+      blocks-first z (after_stores x (take m given)) e b count less
+      ∙ ap₂ (λ (u v : List Store). u ++ v) (run-left z valid x im (Block b) w e given h s run m)
+      (others-fixes z valid x im (Block b) w e given h s run m (count - (b + 1)) (b + 1)
+      (λ k l f. (let n : k ≡ b = number f in omega (arith, n, l))))
+      ∙ sym (blocks-first z x e b count less)
     where
       number : {k : ℕ} → Block k ≡ Block b → k ≡ b
       number {k} f = cc
+
+  pub block-run : (w e b count : ℕ) → b < count → part_left z x (Block b) w ≡ given ++ part_left z x (Block b) e
+      → blocks_left z x w (range_with_len b (count - b)) ≡ given ++ blocks_left z x e (range_with_len b (count - b))
+  block-run w e b count less s =
+      let rest : List Store = flat_map (λ k. part_fixes z x (Block k)) (range_with_len (b + 1) (count - (b + 1))) in
+      blocks-first z x w b count less
+      ∙ ap (λ (l : List Store). l ++ rest) s ∙ append_assoc given (part_left z x (Block b) e) rest
+      ∙ ap (λ (l : List Store). given ++ l) (sym (blocks-first z x e b count less))
 
 -- all corrections are made, and the erasure begins
 pub entered : (z : Zone) (x : List ℕ) (b w n : ℕ) (e : Erasure) (p q : Phase) → p ≡ Blocks → n ≤ b
@@ -138,21 +142,13 @@ module _ (z : Zone) (x : List ℕ) (b w count : ℕ) (e : Erasure) where
 
   -- a block is passed that has none left
   pub passed-left : (p : Phase) → p ≡ Blocks → b < count → part_left z x (Block b) w ≡ []
-      → left_at z x b w count e p ≡ [] ++ left_at z (after_stores x []) (b + 1) 0 count e p
+      → left_at z x b w count e p ≡ left_at z x (b + 1) 0 count e p
   passed-left p h less none =
       in-phase x b w p Blocks h
-      ∙ then-given z x [] (blocks_left z x w (range_with_len b (count - b)))
-      (blocks_left z x 0 (range_with_len (b + 1) (count - (b + 1)))) (stages_of z e)
-      (blocks-first z x w b count less
+      ∙ ap (λ (l : List Store). then_stages z x l (stages_of z e)) (blocks-first z x w b count less
       ∙ ap (λ (l : List Store). l ++ flat_map (λ k. part_fixes z x (Block k)) (range_with_len (b + 1)
       (count - (b + 1)))) none ∙ sym (blocks-whole z x (range_with_len (b + 1) (count - (b + 1)))))
-      ∙ ap (λ (y : List ℕ). then_stages z y (blocks_left z x 0 (range_with_len (b + 1) (count - (b + 1))))
-      (stages_of z e)) none-after
-      ∙ ap (λ (y : List ℕ). left_at z y (b + 1) 0 count e Blocks) (sym none-after)
-      ∙ sym (in-phase (after_stores x []) (b + 1) 0 p Blocks h)
-    where
-      none-after : after_stores x [] ≡ x
-      none-after = after-none x
+      ∙ sym (in-phase x (b + 1) 0 p Blocks h)
 
   -- the header is passed
   pub header-left : (p : Phase) → p ≡ HeaderPhase → part_left z x Header w ≡ []
@@ -163,25 +159,62 @@ module _ (z : Zone) (x : List ℕ) (b w count : ℕ) (e : Erasure) where
       (let f : count ≡ count - 0 = omega arith in f))
 
   module _ (valid : IsValidZone z) (im : IsImage z x) (given : List Store) (end : ℕ) where
-    pub block-given : (p : Phase) → p ≡ Blocks → b < count → w ≤ length (part_bytes z x (Block b))
-        → part_left z x (Block b) w ≡ given ++ part_left z x (Block b) end
-        → IsRun (part_at z (Block b) + w) (part_at z (Block b) + end) given
-        → left_at z x b w count e p ≡ given ++ left_at z (after_stores x given) b end count e p
-    block-given p h less within s run =
-        in-phase x b w p Blocks h
-        ∙ then-given z x given (blocks_left z x w (range_with_len b (count - b)))
-        (blocks_left z (after_stores x given) end (range_with_len b (count - b))) (stages_of z e)
-        (block-run z valid x im given w end b count less within s run)
-        ∙ ap (λ (l : List Store). given ++ l) (sym (in-phase (after_stores x given) b end p Blocks h))
+    at-all : (f : List Store → List Store) (r : List Store) → f (take (length given) given) ≡ r → f given ≡ r
+    at-all f r h = subst (λ (g : List Store). f g ≡ r) (take_all (length given) given (omega arith)) h
 
-    pub header-given : (p : Phase) → p ≡ HeaderPhase → w ≤ length (part_bytes z x Header)
-        → part_left z x Header w ≡ given ++ part_left z x Header end
-        → IsRun (part_at z Header + w) (part_at z Header + end) given
-        → left_at z x b w count e p ≡ given ++ left_at z (after_stores x given) b end count e p
-    header-given p h within s run =
-        in-phase x b w p HeaderPhase h
-        ∙ then-given z x given (part_left z x Header w ++ blocks_left z x 0 (range_with_len 0 count))
-        (part_left z (after_stores x given) Header end ++ blocks_left z (after_stores x given) 0
-        (range_with_len 0 count)) (stages_of z e)
-        (header-run z valid x im given w end count within s run)
-        ∙ ap (λ (l : List Store). given ++ l) (sym (in-phase (after_stores x given) b end p HeaderPhase h))
+    module _ (p : Phase) (h : p ≡ Blocks) (less : b < count) (within : w ≤ length (part_bytes z x (Block b)))
+        (s : part_left z x (Block b) w ≡ given ++ part_left z x (Block b) end)
+        (run : IsRun (part_at z (Block b) + w) (part_at z (Block b) + end) given) where
+      pub block-given : left_at z x b w count e p ≡ given ++ left_at z (after_stores x given) b end count e p
+      block-given =
+          in-phase x b w p Blocks h
+          ∙ then-given z x given (blocks_left z x w (range_with_len b (count - b)))
+          (blocks_left z x end (range_with_len b (count - b))) (stages_of z e)
+          (block-run z valid x im given w end b count less s)
+          ∙ ap (λ (l : List Store). given ++ then_stages z (after_stores x given) l (stages_of z e))
+          (sym (at-all (λ g. blocks_left z (after_stores x g) end (range_with_len b (count - b)))
+          (blocks_left z x end (range_with_len b (count - b)))
+          (block-more z valid x im given w end b count less within s run (length given))))
+          ∙ ap (λ (l : List Store). given ++ l) (sym (in-phase (after_stores x given) b end p Blocks h))
+
+      pub block-counts : (m : ℕ) → length (left_at z x b w count e p)
+          ≡ length given + length (left_at z (after_stores x (take m given)) b end count e p)
+      block-counts m =
+          let y : List ℕ = after_stores x (take m given) in
+          ap length (in-phase x b w p Blocks h)
+          ∙ fixes-count z valid x y b w end count e Blocks im.1
+          (run-image z valid x im (Block b) w end given within s run m).1 given
+          (blocks_left z x end (range_with_len b (count - b)))
+          (block-run z valid x im given w end b count less s)
+          (block-more z valid x im given w end b count less within s run m)
+          ∙ ap (λ (l : List Store). length given + length l) (sym (in-phase y b end p Blocks h))
+
+    module _ (p : Phase) (h : p ≡ HeaderPhase) (within : w ≤ length (part_bytes z x Header))
+        (s : part_left z x Header w ≡ given ++ part_left z x Header end)
+        (run : IsRun (part_at z Header + w) (part_at z Header + end) given) where
+      abbrev more : List ℕ → List Store
+      more y = part_left z y Header end ++ blocks_left z y 0 (range_with_len 0 count)
+
+      header-run : part_left z x Header w ++ blocks_left z x 0 (range_with_len 0 count) ≡ given ++ more x
+      header-run = ap (λ (l : List Store). l ++ blocks_left z x 0 (range_with_len 0 count)) s
+          ∙ append_assoc given (part_left z x Header end) (blocks_left z x 0 (range_with_len 0 count))
+
+      pub header-given : left_at z x b w count e p ≡ given ++ left_at z (after_stores x given) b end count e p
+      header-given =
+          in-phase x b w p HeaderPhase h
+          ∙ then-given z x given (part_left z x Header w ++ blocks_left z x 0 (range_with_len 0 count)) (more x)
+          (stages_of z e) header-run
+          ∙ ap (λ (l : List Store). given ++ then_stages z (after_stores x given) l (stages_of z e))
+          (sym (at-all (λ g. more (after_stores x g)) (more x)
+          (header-more z valid x im given w end count within s run (length given))))
+          ∙ ap (λ (l : List Store). given ++ l) (sym (in-phase (after_stores x given) b end p HeaderPhase h))
+
+      pub header-counts : (m : ℕ) → length (left_at z x b w count e p)
+          ≡ length given + length (left_at z (after_stores x (take m given)) b end count e p)
+      header-counts m =
+          let y : List ℕ = after_stores x (take m given) in
+          ap length (in-phase x b w p HeaderPhase h)
+          ∙ fixes-count z valid x y b w end count e HeaderPhase im.1
+          (run-image z valid x im Header w end given within s run m).1 given (more x) header-run
+          (header-more z valid x im given w end count within s run m)
+          ∙ ap (λ (l : List Store). length given + length l) (sym (in-phase y b end p HeaderPhase h))

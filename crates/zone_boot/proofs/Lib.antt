@@ -6,6 +6,7 @@ pub mod Logs
 pub mod Summing
 pub mod Fixing
 pub mod Parting
+pub mod Counting
 pub mod Leaving
 pub mod Ending
 pub mod Starting

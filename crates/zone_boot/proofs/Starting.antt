@@ -15,31 +15,22 @@ use Rattle.zone_spec.specs.Reading.{ZoneReading, zone_reading, state_of}
 use Rattle.zone_spec.specs.Stores.{Store, after_stores}
 use Rattle.zone_spec.specs.Stages.{Stage, stores_in_turn}
 use Rattle.zone_spec.specs.Calls.{erase_stages}
-use Rattle.zone_spec.specs.Boot.{part_fixes, boot_fixes, boot_erasure, boot_stores, blocks_read, keeps, keeps_in, is_kept, signing}
+use Rattle.zone_spec.specs.Boot.{part_fixes, boot_fixes, boot_erasure, boot_stores, blocks_read, keeps, keeps_in, signing}
 use Rattle.ring_laws.proofs.PartsLaw.{slice_range-bytes}
 use Rattle.ring_laws.proofs.BootLaw.{length-reading}
 use Rattle.ring_laws.proofs.States.{reading_words, reading_state}
 use Rattle.zone_boot.specs.declared.deciding.Erasure.{Erasure}
-use Rattle.zone_boot.specs.declared.boots.Phase.TheVariants.{Header as HeaderPhase}
+use Rattle.zone_boot.specs.declared.boots.Phase.TheVariants.{Header as HeaderPhase, Blocks}
 use Rattle.zone_boot.specs.Left.{part_left, blocks_left, then_stages, stages_of, left_at}
 use Rattle.zone_boot.proofs.Blocks.{header-length}
-use Rattle.zone_boot.proofs.Leaving.{left-whole, blocks-whole}
+use Rattle.zone_boot.proofs.Leaving.{left-whole, blocks-whole, blocks-none}
 
 -- ---- the erasure, by the state
 module _ (z : Zone) (x : List ℕ) where
-  abbrev unless : State → List Stage
-  unless s = if keeps_in z (zone_reading z x) s then [] else signing z s ++ erase_stages
-
-  pub erasure-in : (w : Words) (s t : State) → w ≡ words_read z x → s ≡ state_of z w → s ≡ t
-      → unless t ≡ (if keeps z (zone_reading z x) then [] else signing z (zone_reading z x).state ++ erase_stages)
-  erasure-in w s t ew es et = ap unless (sym et ∙ es ∙ ap (state_of z) ew ∙ sym (reading_state z x))
-
-  pub erasure-found : (w : Words) (s : State) (k b : Bool) → w ≡ words_read z x → s ≡ state_of z w → s ≡ Found
-      → k ≡ is_kept z (zone_reading z x) z.name.kind → k ≡ b
-      → (if b then [] else erase_stages)
-      ≡ (if keeps z (zone_reading z x) then [] else signing z (zone_reading z x).state ++ erase_stages)
-  erasure-found w s k b ew es et ek eb = ap (λ (c : Bool). if c then [] else erase_stages) (sym eb ∙ ek)
-      ∙ erasure-in w s Found ew es et
+  -- whether it is kept, by its state
+  pub keeps-in : (w : Words) (s t : State) → w ≡ words_read z x → s ≡ state_of z w → s ≡ t
+      → keeps_in z (zone_reading z x) t ≡ keeps z (zone_reading z x)
+  keeps-in w s t ew es et = ap (keeps_in z (zone_reading z x)) (sym et ∙ es ∙ ap (state_of z) ew ∙ sym (reading_state z x))
 
   -- ---- all stores
   fixes-found : (s : State) (n : ℕ) → (zone_reading z x).state ≡ s
@@ -70,6 +61,29 @@ module _ (z : Zone) (x : List ℕ) where
       (λ f. none (λ h. f (state ∙ h))))) in
       ap (λ (gs : List Stage). boot_fixes z x ++ stores_in_turn z gs (after_stores x (boot_fixes z x))) (sym stages)
       ∙ ap (λ (l : List Store). l ++ stores_in_turn z (stages_of z e) (after_stores x l)) fixes
+
+  -- the stages of an erasure, by what was found
+  pub stages-by : (s : State) (k : Bool) (e : Erasure) → s ≡ (zone_reading z x).state → k ≡ keeps z (zone_reading z x)
+      → stages_of z e ≡ (if k then [] else signing z s ++ erase_stages) → stages_of z e
+      ≡ (if keeps z (zone_reading z x) then [] else signing z (zone_reading z x).state ++ erase_stages)
+  stages-by s k e es ek is = is ∙ ap₂ (λ (b : Bool) (t : State). if b then [] else signing z t ++ erase_stages) ek es
+
+  -- without corrections the erasure is all
+  pub starts-clean : (e : Erasure) → boot_fixes z x ≡ []
+      → stages_of z e ≡ (if keeps z (zone_reading z x) then [] else signing z (zone_reading z x).state ++ erase_stages)
+      → boot_stores z x ≡ left_at z x 0 0 0 e Blocks
+  unfolding boot_stores boot_erasure then_stages
+  starts-clean e none stages =
+      ap (λ (gs : List Stage). boot_fixes z x ++ stores_in_turn z gs (after_stores x (boot_fixes z x))) (sym stages)
+      ∙ ap (λ (l : List Store). l ++ stores_in_turn z (stages_of z e) (after_stores x l))
+      (none ∙ sym (blocks-none z x 0 0 0 (omega arith)))
+
+-- a zone that is signed is erased without a signature
+pub erased-other : (z : Zone) (s : State) → (s ≡ Unsigned → ⊥) → erase_stages ≡ signing z s ++ erase_stages
+erased-other z Unsigned h = absurd (h refl)
+erased-other z Empty h = refl
+erased-other z Invalid h = refl
+erased-other z Found h = refl
 
 -- ---- the header's bytes
 

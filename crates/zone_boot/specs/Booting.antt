@@ -1,6 +1,8 @@
 -- A boot of a zone between its stores
-use Rattle.std.specs.Prelude.{◌≡◌, ℕ, ◌+◌, ◌*◌, ◌<◌, ◌≤◌, List, ◌++◌, length}
+use Rattle.std.specs.Prelude.{◌≡◌, ℕ, ◌+◌, ◌*◌, ◌<◌, ◌≤◌, List, ◌++◌, length, take}
 use Rattle.zone_spec.specs.declared.Zone.{Zone}
+use Rattle.zone_spec.specs.Parts.{Part}
+use Rattle.zone_spec.specs.PartReadings.{part_reading}
 use Rattle.zone_spec.specs.Stores.{Store, after_stores}
 use Rattle.zone_spec.specs.Boot.{boot_stores}
 use Rattle.zone_boot.specs.declared.boots.Boot.{Boot}
@@ -52,8 +54,16 @@ pub record IsBooting (b : Boot) (before now : List ℕ) : Type 0 where
 -- a boot that handed out these stores of those that it had to make
 pub record Gives (old : Boot) (image : List ℕ) (new : Boot) (out : BootStore) : Type 0 where
   pub left : left_of old image ≡ handed out ++ left_of new (after_stores image (handed out))
+  -- where only the first m of them are made there are as many to come
+  pub counts : (m : ℕ) → length (left_of old image)
+      ≡ length (handed out) + length (left_of new (after_stores image (take m (handed out))))
   pub zone : new.zone ≡ old.zone
   pub made : new.made ≡ old.made + length (handed out)
   pub kept : IsKept new
   pub inside : out.place + handed_len out ≤ old.zone.size
   pub plain : IsPlain out
+
+-- each part reads as before where the first of these stores are made
+abbrev pub KeepsReadings : Zone → List ℕ → List Store → Type 0
+KeepsReadings z image stores = (m : ℕ) (p : Part)
+    → (part_reading z (after_stores image (take m stores)) p).bytes ≡ (part_reading z image p).bytes

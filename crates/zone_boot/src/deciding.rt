@@ -6,7 +6,7 @@ ghost use Rattle.zone_spec.specs.PartReadings.{words_read};
 ghost use Rattle.zone_spec.specs.Reading.{zone_reading, state_of as state_for};
 ghost use Rattle.zone_spec.specs.TimeLines.{has_line};
 ghost use Rattle.zone_spec.specs.Calls.{erase_stages};
-ghost use Rattle.zone_spec.specs.Boot.{is_kept, keeps, signing};
+ghost use Rattle.zone_spec.specs.Boot.{is_kept, keeps as keeps_zone, signing};
 ghost use Rattle.rs_encode.specs.Lanes.{IsLent};
 ghost use Rattle.zone_boot.specs.Left.{stages_of};
 
@@ -56,33 +56,33 @@ fn is_found_kept(table: &[u128], image: &[u8], zone: &Zone, words: Words) -> boo
     }
 }
 
-/// What a boot does after its corrections of a zone with these words, which make this state.
-pub(crate) fn erasure_of(
-    table: &[u128],
-    image: &[u8],
-    zone: &Zone,
-    words: Words,
-    state: State,
-) -> Erasure
+/// Whether a boot leaves a zone with these words, which make this state, without erasing it.
+pub(crate) fn keeps(table: &[u128], image: &[u8], zone: &Zone, words: Words, state: State) -> bool
     requires table { IsLent zone.now.parity table.now }
     requires valid { IsValidZone zone.now }
     requires size { length image.now ≡ zone.now.size }
     requires words { words ≡ words_read zone.now image.now }
     requires state { state ≡ state_for zone.now words }
-    ensures { stages_of zone.now result ≡ (if keeps zone.now (zone_reading zone.now image.now) then []
-        else signing zone.now (zone_reading zone.now image.now).state ++ erase_stages) }
+    ensures { result ≡ keeps_zone zone.now (zone_reading zone.now image.now) }
 {
     match state {
-        State::Found => {
-            if is_found_kept(table, image, zone, words) {
-                Erasure::Kept
-            } else {
-                Erasure::Erased
-            }
-        }
-        State::Empty => Erasure::Kept,
-        State::Invalid => Erasure::Erased,
+        State::Found => is_found_kept(table, image, zone, words),
+        State::Empty => true,
+        State::Invalid => false,
+        State::Unsigned => false,
+    }
+}
+
+/// What a boot does after its corrections of a zone in this state.
+pub(crate) fn erasure_of(zone: &Zone, state: State, is_kept: bool) -> Erasure
+    ensures { stages_of zone.now result ≡ (if is_kept then [] else signing zone.now state ++ erase_stages) }
+{
+    if is_kept {
+        return Erasure::Kept;
+    }
+    match state {
         State::Unsigned => Erasure::Signed,
+        _ => Erasure::Erased,
     }
 }
 

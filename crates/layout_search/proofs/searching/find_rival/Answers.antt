@@ -1,7 +1,30 @@
--- The sweep settles each layout of the family with as few faults, other than the best. For
--- `find_rival`.
+-- The sweep settles each layout of the family with as few faults, other than the best. It gives up only where it may.
+-- For `find_rival`.
+use Rattle.std.proofs.Common.{◌≡◌, ◌<◌, ◌≤◌, ◌+◌, ◌^◌, ap, arith}
+use Rattle.layout_spec.specs.declared.Tally.{Tally}
+use Rattle.layout_spec.specs.Laid.{zones_of}
+use Rattle.layout_spec.specs.Marks.{marks}
+use Rattle.layout_spec.specs.Order.{faults}
+use Rattle.layout_search.proofs.Answered.{few_faults, gives_up, tally_faults}
 use Rattle.layout_search.proofs.searching.find_rival.Goals as goal
+
+pub sweep-requires-clause-aim : goal.sweep-requires-clause-aim
+sweep-requires-clause-aim c =
+    let image = c.args.image.now in
+    let b = c.args.best.now in
+    let few : marks image < 2 ^ 62 = omega (arith, c.requires.few, c.requires.marks) in
+    let most : faults image (zones_of b.candidate) ≤ 2 ^ 62 + 2 ^ 32 =
+    few_faults c.args.known.now image b.candidate few c.requires.sound.of_family in record {
+      marks_are = c.requires.marks;
+      few = omega (arith, c.requires.few);
+      limit = omega (arith, most, ap (λ (t : Tally). t.faults) c.requires.sound.tally_is, tally_faults image b.candidate);
+    }
 
 pub returns-clause-settled : goal.returns-clause-settled
 returns-clause-settled c = λ work d family differs few.
     (c.in_ok-sweep.ensures.settled d).settled work family few (λ e. differs cc)
+
+pub returns-clause-given_up : goal.returns-clause-given_up
+returns-clause-given_up c = λ ended. gives_up c.args.known.now c.args.image.now c.args.best.now c.effort_beside.result
+    c.args.work c.sweep.new.state.work c.requires.sound c.requires.first c.effort_beside.ensures.narrow
+    c.effort_beside.ensures.few c.in_ok-sweep.ensures.advances.all c.requires.work ended

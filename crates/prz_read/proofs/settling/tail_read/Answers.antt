@@ -1,7 +1,7 @@
 -- The bytes of the last block behind the log
 use Rattle.std.proofs.Common.{ℕ, ◌++◌, List, refl, ap, ◌∙◌, arith}
 use Rattle.prz_read.specs.Reads.{bytes_read}
-use Rattle.prz_read.proofs.DataFixes.{end-whole, end-block, tail-none, tail-some}
+use Rattle.prz_read.proofs.Tails.{end-whole, end-block, tail-none, tail-some}
 use Rattle.prz_read.proofs.settling.tail_read.Goals as goal
 
 pub returns-then-size-zone : goal.returns-then-size-zone

@@ -1,15 +1,15 @@
--- `store_array` takes the places of an array out of a row, writes them in one assignment, and puts them back. The count
--- of stores rises beside it. Assumes `Logic`.
+-- `store_array` takes the places of an array out of a row, writes them in one assignment, and puts them back. The list
+-- of stores grows beside it. Assumes `Logic`.
 use mathlib.Core.Path.{◌≡◌, refl, sym, subst, ap, ◌∙◌}
 use mathlib.Core.Bool.{Bool, true, false}
 use mathlib.Core.Logic.{⊎_elim, inl, inr}
-use mathlib.Core.List.{List, [], ◌∷◌, append_assoc}
+use mathlib.Core.List.{List, [], ◌∷◌, ◌++◌, append_assoc}
 use Prim.Native.Nat.{ℕ, ◌+◌, ◌-◌, ◌*◌, ◌≤◌, ◌<◌, ◌^◌}
 use native.Mathlib.Omega.{arith}
 use lib.Dec.{T}
 use lib.ListN.{length, take, drop, replicate, get_or, length-replicate, get_or-replicate}
 use base.Fraction.{full_share}
-use mir.Syntax.{Fn, Args, Ty, a_type, a_number, w64, ty_array, ty_ptr}
+use mir.Syntax.{Fn, Args, Ty, a_type, a_number, w32, w64, ty_array, ty_ptr}
 use mir.Val.{Val, vunit, vint, vptr, has_ty, WT}
 use base.Fml.{ftrue, fat, froom, flft}
 use seplogic.Ra.Ura.{Ura}
@@ -34,7 +34,7 @@ use types.Kit.{‵, raw, ◌⊛◌, at_ret, ◌$◌, ◌∵◌, !, qed, move, ke
 use types.Run.{init, stop, size_word, unit_lit, of_opd, bin, assigns_last, first, blocks, exec, returns, enter}
 use types.ByLocal.{alloc_all, pass_all, free_all, look_at, get, is, through, sets, take_at, give_at, env}
 use denote.Array.{Array}
-use denote.Builtin.{usize}
+use denote.Builtin.{u32, usize}
 use denote.Exit.{yes, no, Entries, all_last, all_rest}
 use denote.Laws.{Typed}
 use denote.Index.{row}
@@ -55,6 +55,7 @@ use Rattle.core.proofs.str.Laws.{order}
 use Rattle.core.proofs.slots.Opens.{Sr, el_d, places, row_opens, row_closes}
 use Rattle.core.proofs.slots.Leases.{uncapped}
 use Rattle.core.proofs.slots.Runs.{run as part, spliced, run_long, spliced_long, inside, outside, Around, run_out, run_in, to_space}
+use Rattle.prz_region.specs.Made.{Write}
 use Rattle.prz_region.specs.contracts.block.Stores as St
 use Rattle.prz_region.specs.contracts.block.store_array as F
 use Rattle.prz_region.specs.contracts.block.store_array.Key.{name as #self}
@@ -99,6 +100,9 @@ module _ (E : El) (n : ℕ) where
   abbrev Arr : RattleType
   Arr = ArrayAt (R E) (param 1 (number n))
 
+  abbrev Made : RattleType
+  Made = St.the_row (R E)
+
   abbrev stayed : Stays ended.signature.params ended.kept
   stayed = (
     stay_ref (0 ∷ []) tt (plain (λ _. Sr E)),
@@ -106,7 +110,10 @@ module _ (E : El) (n : ℕ) where
       stay_dropped (plain (λ _. RawPtr)) yes,
       (
         stay_dropped (plain (λ _. usize)) yes,
-        (stay_dropped (plain (λ _. Arr)) no, (stay_ref (1 ∷ []) tt (plain (λ _. St.the_row)), tt)),
+        (
+          stay_dropped (plain (λ _. Arr)) no,
+          (stay_dropped (plain (λ _. u32)) yes, (stay_ref (1 ∷ []) tt (plain (λ _. Made)), tt)),
+        ),
       ),
     ),
   )
@@ -135,20 +142,27 @@ module _ (E : El) (n : ℕ) where
         ptr_val z.0.3.1.0 ∷ [],
         (
           vint w64 z.0.3.1.1.0 ∷ [],
-          (v ∷ [], (vptr z.0.3.1.1.1.1.0.ref_ptr.0 z.0.3.1.1.1.1.0.ref_ptr.1 ∷ [], tt)),
+          (
+            v ∷ [],
+            (
+              vint w32 z.0.3.1.1.1.1.0 ∷ [],
+              (vptr z.0.3.1.1.1.1.1.0.ref_ptr.0 z.0.3.1.1.1.1.1.0.ref_ptr.1 ∷ [], tt),
+            ),
+          ),
         ),
       ),
     )
 
-    walk : (z : Bound) → z.0.3.1.1.0 < 2 ^ 64 → (v : Val) → T (has_ty (ty_array (elτ E) n) v) × WT v → Goes (spelled z v)
-    walk z fi v tv =
+    walk : (z : Bound) → z.0.3.1.1.0 < 2 ^ 64 → z.0.3.1.1.1.1.0 < 2 ^ 32 → (v : Val) → T (has_ty (ty_array (elτ E) n) v) × WT v → Goes (spelled z v)
+    walk z fi fj v tv =
         let κ = z.0.0.0 in let κ₁ = z.0.0.1.0 in let κT = z.0.0.1.1.0 in let κN = z.0.0.1.1.1.0 in
         let q = z.0.1.0 in let q₁ = z.0.1.1.0 in let qT = z.0.1.1.1.0 in let qN = z.0.1.1.1.1.0 in
         let a = z.0.3 in
         let rb : ℕ = a.0.ref_ptr.0 in let ro : ℕ = a.0.ref_ptr.1 in let h : el_d E = a.0.now in
         let base : Ptr = a.1.0 in let i : ℕ = a.1.1.0 in let ws : List (el_x E) = a.1.1.1.0 in
-        let cb : ℕ = a.1.1.1.1.0.ref_ptr.0 in let co : ℕ = a.1.1.1.1.0.ref_ptr.1 in
-        let count : ℕ = a.1.1.1.1.0.now.count in
+        let number : ℕ = a.1.1.1.1.0 in
+        let cb : ℕ = a.1.1.1.1.1.0.ref_ptr.0 in let co : ℕ = a.1.1.1.1.1.0.ref_ptr.1 in
+        let made : List (Write (el_x E)) = a.1.1.1.1.1.0.now.made in
         let s : ℕ = sz E in let τ : Ty = ty_array (elτ E) n in
         let Post : Val → SProp 𝓤 = (walk_of 𝓛 ended stayed held).post (spelled z v) in
         let Ok : Type 0 = (h.ptr ≡ base) × (i + n ≤ h.len) × IsFull h in
@@ -160,23 +174,26 @@ module _ (E : El) (n : ℕ) where
         heard ! Ok (λ ok.
         let lx : h.len ≡ length h.items = h.ok.0 in let lf : h.len ≡ length h.filled = h.ok.1 in
         let fx : i + n ≤ length h.items = omega (arith, ok.1, lx) in let ff : i + n ≤ length h.filled = omega (arith, ok.1, lf) in
-        let more : St.the_row.Denot = record { marker = record {}; count = count + 1 } in
+        let more : Made.Denot = record {
+          marker = record {};
+          made = made ++ record { span = number; place = i; values = ws } ∷ [];
+        } in
         split ! $ split ! $ move ! (2 ∷ []) $ fsplit3 ! $ move ! (2 ∷ []) $ fsplit3 ! $
-        keep ! (2 ∷ 3 ∷ 1 ∷ 5 ∷ 6 ∷ []) $ fsplit ! $ fsplit3 ! $ move ! (4 ∷ []) $ fsplit3 ! $
+        keep ! (2 ∷ 3 ∷ 1 ∷ 5 ∷ 6 ∷ []) $ fsplit3 ! $ leave ! $ fsplit3 ! $ move ! (4 ∷ []) $ fsplit3 ! $
         keep ! (1 ∷ 2 ∷ 8 ∷ 4 ∷ 5 ∷ 7 ∷ 9 ∷ []) $ move ! (6 ∷ []) $ split ! $
         keep ! (2 ∷ 3 ∷ 4 ∷ 5 ∷ 6 ∷ 0 ∷ 7 ∷ 1 ∷ []) $
-        -- [the row's borrow and its token; the count's borrow and its token; the array; the other tokens]
-        enter ! 𝓣.C 𝓣.Λ here (vptr rb ro ∷ ptr_val base ∷ vint w64 i ∷ v ∷ vptr cb co ∷ []) _ $ alloc_all !
+        -- [the row's borrow and its token; the list's borrow and its token; the array; the other tokens]
+        enter ! 𝓣.C 𝓣.Λ here (vptr rb ro ∷ ptr_val base ∷ vint w64 i ∷ v ∷ vint w32 number ∷ vptr cb co ∷ []) _ $ alloc_all !
         (λ l. pass_all ! refl (
           (tt, tt),
           (
             ((rawptr_Lawful 𝓛).typed base (ptr_val base ∷ []) refl).0,
-            ((tt, record { fits = fi }), (tv, ((tt, tt), tt))),
+            ((tt, record { fits = fi }), (tv, ((tt, record { fits = fj }), ((tt, tt), tt)))),
           ),
         ) $
         let En : Env 𝓤 H = env here.locals l in
-        move ! (3 ∷ 4 ∷ 5 ∷ []) $ opens ! tt St.the_row cb co (λ cs.
-        closes ! tt St.the_row more cs cb co $ move ! (3 ∷ 4 ∷ 5 ∷ []) $
+        move ! (3 ∷ 4 ∷ 5 ∷ []) $ opens ! tt Made cb co (λ cs.
+        closes ! tt Made more cs cb co $ move ! (3 ∷ 4 ∷ 5 ∷ []) $
         row_opens E ! tt h rb ro (λ b o at_b fl fit.
         let dst : ℕ = i * s + o in
         let part_fits : i * s < 2 ^ 63 = times_below i h.len s (2 ^ 63) (omega (arith, ok.1)) fit in
@@ -186,7 +203,7 @@ module _ (E : El) (n : ℕ) where
         use1 𝓛 (‵ (slots (R E) (block_ptr b dst) (part h.items i n) (part h.filled i n)) ⊛ ‵
         (Around E 𝓛 b o h.items h.filled i n)) (run_out E 𝓛 b o h.items h.filled i n fx (sym lf ∙ lx)) $ split ! $
         use1 𝓛 (‵ (froom τ b dst)) (to_space E 𝓛 b dst n _ (run_long h.items i n fx) _ (run_long h.filled i n ff)) $
-        -- [the room; the other places; the row's words, open borrow, obs and auth; the count's borrow and its token; the
+        -- [the room; the other places; the row's words, open borrow, obs and auth; the list's borrow and its token; the
         -- array; the other tokens]
         first ! $ blocks ! $
         sets ! (is ! (bin ! (get ! refl) (size_word !)
@@ -216,10 +233,10 @@ module _ (E : El) (n : ℕ) where
         use1 𝓛 (‵ (slots (R E) (block_ptr b dst) ws filled)) (of_row E 𝓛 b ws dst) $
         use2 𝓛 (‵ (places E g b o)) (run_in E 𝓛 b o h.items h.filled i n fx (sym lf ∙ lx) ws filled long (marks ∙ long)) $
         row_closes E ! tt g b o rb ro at_b fl fit $
-        -- [the row's borrow and its token; the count's borrow and its token; the other tokens]
+        -- [the row's borrow and its token; the list's borrow and its token; the other tokens]
         returns ! (look_at ! 0 refl) $ free_all ! refl $
         suffices ! _ (ends_at 𝓛 ended stayed held (spelled z v) vunit tt
-        (g, (tt, (tt, (all_rest (λ _. Unit {0}) (λ _. tt) ws, (more, tt))))) (tt, (tt, (tt, (tt, (tt, tt)))))) $
+        (g, (tt, (tt, (all_rest (λ _. Unit {0}) (λ _. tt) ws, (tt, (more, tt)))))) (tt, (tt, (tt, (tt, (tt, (tt, tt))))))) $
         says_five ! (
           sym (append_assoc (take i h.items) ws (drop (i + n) h.items)),
           stays_full h.filled filled i n ff (marks ∙ long)
@@ -230,7 +247,7 @@ module _ (E : El) (n : ℕ) where
         ) $
         feq_i ! (List Val) (vptr rb ro ∷ []) (vptr rb ro ∷ []) refl $ fjoin3 ! $ move ! (2 ∷ 3 ∷ []) $
         feq_i ! (List Val) (vptr cb co ∷ []) (vptr cb co ∷ []) refl $ fjoin3 ! $ nothing ! $ move ! (1 ∷ 0 ∷ []) $
-        fjoin ! $ nothing ! $ fjoin ! $ nothing ! $ fjoin ! $ nothing ! $ fjoin ! $ move ! (1 ∷ 0 ∷ []) $ fjoin ! $
+        fjoin ! $ nothing ! $ fjoin ! $ nothing ! $ fjoin ! $ nothing ! $ fjoin ! $ nothing ! $ fjoin ! $ move ! (1 ∷ 0 ∷ []) $ fjoin ! $
         move ! (2 ∷ 3 ∷ []) $ join ! $ move ! (2 ∷ 0 ∷ []) $ join ! $
         feq_i ! (List Val) (vunit ∷ []) (vunit ∷ []) refl $ keep ! (1 ∷ 2 ∷ 0 ∷ []) $ done !))))))
 
@@ -244,7 +261,10 @@ module _ (E : El) (n : ℕ) where
               Goes-dropped 𝓛 4 (plain (λ _. usize)) yes (λ κs x f. refl),
               (
                 λ κs x f vs ok. via 𝓤 _ (nothing_left 𝓛 x f) (𝓛.laws.⇛_intro _),
-                (Goes-ref 𝓛 4 1 tt (plain (λ _. St.the_row)), tt),
+                (
+                  Goes-dropped 𝓛 4 (plain (λ _. u32)) yes (λ κs x f. refl),
+                  (Goes-ref 𝓛 4 1 tt (plain (λ _. Made)), tt),
+                ),
               ),
             ),
           ),
@@ -254,8 +274,8 @@ module _ (E : El) (n : ℕ) where
         let got = one_of (ty_array (elτ E) n) vss.1.1.1.0
         (((array_laws (R E) (param_laws 0 E.row E.laws) n).lawful 𝓛).typed a.1.1.1.0 vss.1.1.1.0 are.1.1.1.0) in
         subst (λ (uss : Vals ended.signature z.0.0). Goes (at z uss))
-        (sym (λ k. (are.0.0 k, (are.1.0 k, (are.1.1.0.0 k, (got.1 k, (are.1.1.1.1.0.0 k, tt)))))))
-        (walk z are.1.1.0.1 got.0 got.2)))
+        (sym (λ k. (are.0.0 k, (are.1.0 k, (are.1.1.0.0 k, (got.1 k, (are.1.1.1.1.0.0 k, (are.1.1.1.1.1.0.0 k, tt))))))))
+        (walk z are.1.1.0.1 are.1.1.1.1.0.1 got.0 got.2)))
 
 pub store_array_spec : {M : Type 1} → stated.statement M
 unfolding tables_of

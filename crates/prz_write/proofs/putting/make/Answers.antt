@@ -1,17 +1,17 @@
--- A word, a run of line or payload, parity or nothing: the span has these bytes put in. For
+-- A word, a run of line or payload, parity or nothing: just these stores are made in the span. For
 -- `make`.
-use Rattle.std.proofs.Common.{◌≡◌, ℕ, List, [], sym, ap, ◌∙◌, take, drop}
-use Rattle.std.proofs.lemmas.List.{set-get_or}
-use Rattle.zone_spec.specs.Stores.{after_stores}
-use Rattle.prz_region.specs.CutRegion.{span, with_span}
+use Rattle.std.proofs.Common.{[], sym, ap, ◌∙◌, take, drop}
+use Rattle.zone_spec.specs.Stores.{word_store}
+use Rattle.prz_region.proofs.Cuts.{stored-none}
 use Rattle.store_steps.specs.Handed.{handed_by}
-use Rattle.prz_write.proofs.Making.{made, made_word, made_bytes}
+use Rattle.prz_write.proofs.Making.{made, made_bytes}
 use Rattle.prz_write.proofs.putting.make.Goals as goal
 
 pub returns-in-Word : goal.returns-in-Word
 returns-in-Word c =
-    made_word c.args.store.now c.args.line.now c.args.payload.now c.args.spans.now c.args.i _ c.args.store.now.place
-    c.args.store.now.word (ap (λ g. handed_by g c.args.store.now c.args.line.now c.args.payload.now) c.in-Word.is)
+    made c.args.store.now c.args.line.now c.args.payload.now c.args.spans.now c.args.i _
+    (word_store c.args.store.now.place c.args.store.now.word)
+    (ap (λ g. handed_by g c.args.store.now c.args.line.now c.args.payload.now) c.in-Word.is)
     c.store_word.ensures
 
 pub returns-in-Line : goal.returns-in-Line
@@ -37,9 +37,7 @@ returns-in-Parity c =
     c.as_slice-parity.ensures.value) c.store_bytes-in-Parity.ensures
 
 pub returns-in-Nothing : goal.returns-in-Nothing
-unfolding after_stores
 returns-in-Nothing c =
     made c.args.store.now c.args.line.now c.args.payload.now c.args.spans.now c.args.i _ []
     (ap (λ g. handed_by g c.args.store.now c.args.line.now c.args.payload.now) c.in-Nothing.is)
-    (ap (λ (l : List (List ℕ)). record { spans = l; rest = c.args.spans.now.rest })
-    (sym (set-get_or c.args.spans.now.spans c.args.i [])))
+    (sym (stored-none c.args.spans.now c.args.i))

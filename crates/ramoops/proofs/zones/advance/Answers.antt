@@ -1,13 +1,14 @@
 -- The stores of a flight that are made at once
-use Rattle.std.proofs.Common.{ℕ, Option, None, ap, sym, subst}
+use Rattle.std.proofs.Common.{ℕ, Option, None, [], ap, sym, subst}
 use Rattle.machine_spec.specs.ZoneCalls.{stepped}
 use Rattle.circular_buffer.specs.Buffer.{Buffer}
 use Rattle.store_steps.specs.Flying.{Flying}
 use Rattle.zone_spec.specs.Told.{Call, told_after}
 use Rattle.prz_region.specs.CutRegion.{span}
+use Rattle.prz_region.proofs.Cuts.{stored-none}
 use Rattle.ramoops.specs.LiveSeen.{StandsForZone, StandsForSome}
 use Rattle.ramoops.specs.Storing.{CanStore, HasParity}
-use Rattle.ramoops.proofs.Storing.{Steps, stored, ended, no_last, last_is}
+use Rattle.ramoops.proofs.Storing.{Steps, stored, ended, no_last, last_is, next_made, none_made}
 use Rattle.ramoops.proofs.zones.advance.Goals as goal
 use Rattle.ramoops.proofs.zones.advance.Goals.{After-advance}
 
@@ -55,3 +56,32 @@ returns-clause-last c zone live stands =
     (subst (λ (o : Option Flying). StandsForSome zone (span c.args.spans.now c.args.i) o live.flight)
     c.in-Some.is stands.flight)
     (c.advance.ensures.done.0 c.in-Done.is) c.kind-kind.ensures
+
+pub returns-in_default-advance-clause-others : goal.returns-in_default-advance-clause-others
+returns-in_default-advance-clause-others c =
+    record { stores = c.advance.ensures.count.stores; made = c.advance.ensures.count.made }
+
+pub returns-clause-others : goal.returns-clause-others
+returns-clause-others c =
+    record { stores = c.advance.ensures.count.stores; made = c.advance.ensures.count.made }
+
+pub returns-in_default-advance-clause-stores : goal.returns-in_default-advance-clause-stores
+returns-in_default-advance-clause-stores c zone live stands =
+    next_made zone c.args.count c.args.i c.args.spans.now c.advance.new.spans c.in-Some.flight live.flight
+    (subst (λ (o : Option Flying). StandsForSome zone (span c.args.spans.now c.args.i) o live.flight)
+    c.in-Some.is stands.flight) c.advance.ensures.stores
+
+pub returns-clause-stores : goal.returns-clause-stores
+returns-clause-stores c zone live stands =
+    next_made zone c.args.count c.args.i c.args.spans.now c.advance.new.spans c.in-Some.flight live.flight
+    (subst (λ (o : Option Flying). StandsForSome zone (span c.args.spans.now c.args.i) o live.flight)
+    c.in-Some.is stands.flight) c.advance.ensures.stores
+
+pub returns-in_default-clause-others : goal.returns-in_default-clause-others
+returns-in_default-clause-others c =
+    record { stores = []; made = sym (stored-none c.args.spans.now c.args.i) }
+
+pub returns-in_default-clause-stores : goal.returns-in_default-clause-stores
+returns-in_default-clause-stores c zone live stands =
+    none_made zone c.args.count c.args.i c.args.spans.now c.args.held.now.flight live.flight
+    c.in_default.not-Some stands.flight

@@ -1,5 +1,5 @@
 -- The bytes copied are those of one block from `place` on, one at least. For `copy_piece`.
-use Rattle.std.proofs.Common.{◌≡◌, ℕ, List, ◌+◌, ◌-◌, ◌%◌, ◌++◌, length, take, drop, sym, ap, ◌∙◌, arith, length-drop}
+use Rattle.std.proofs.Common.{ℕ, List, ◌+◌, ◌%◌, ◌++◌, length, take, drop, sym, ap, ◌∙◌, arith, length-drop}
 use Rattle.zone_boot.proofs.Rows.{put-is}
 use Rattle.zone_boot.proofs.Blocks.{piece-long, piece-is}
 use Rattle.zone_boot.proofs.copying.copy_piece.Goals as goal

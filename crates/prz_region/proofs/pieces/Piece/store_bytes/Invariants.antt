@@ -1,7 +1,8 @@
--- The bytes so far are put in, the piece has its place and length, and a store is counted for
+-- The bytes so far are put in, the piece has its place and length, and a store is listed for
 -- each. For the loop of `store_bytes`.
-use Rattle.std.proofs.Common.{◌≡◌, ◌+◌, drop, length}
-use Rattle.zone_spec.specs.Stores.{put}
+use Rattle.std.proofs.Common.{◌≡◌, ◌+◌, ◌++◌, drop, length}
+use Rattle.zone_spec.specs.Stores.{put, byte_stores}
+use Rattle.prz_region.specs.Made.{in_span}
 use Rattle.prz_region.specs.Chain.{piece_bytes, SamePlace}
 use Rattle.prz_region.proofs.pieces.Piece.store_bytes.Given as goal
 
@@ -12,5 +13,6 @@ invariant-loop-byte l = record {
       ≡ put (piece_bytes l.fn.self) l.fn.at l.bytes;
   long : length (piece_bytes l.self) ≡ length (piece_bytes l.fn.self);
   same : SamePlace l.fn.self l.self;
-  count : l.stores.count ≡ l.fn.stores.count + l.byte-index;
+  made : l.stores.made ++ in_span l.span (byte_stores l.place (drop l.byte-index l.bytes))
+      ≡ l.fn.stores.made ++ in_span l.span (byte_stores l.fn.at l.bytes);
 }

@@ -3,7 +3,8 @@
 use Rattle.std.proofs.Common.{Some, true, false, is_some, sym, ap, ◌∙◌, true≢false, refl}
 use Rattle.machine_spec.specs.ZoneCalls.{stepped}
 use Rattle.ramoops.specs.Storing.{is_next}
-use Rattle.ramoops.proofs.Stepped.{goes_leaves, goes_idle, flies_after}
+use Rattle.ramoops.specs.Made.{next_stores}
+use Rattle.ramoops.proofs.Stepped.{goes_leaves, made_there, goes_idle, flies_after}
 use Rattle.ramoops.proofs.live.Live.step.Goals as goal
 
 pub returns-in-None-clause-refused : goal.returns-in-None-clause-refused
@@ -41,3 +42,13 @@ returns-in-Some-Last-clause-done c =
     (sym c.in-Some.ensures.place)
     (c.store.ensures.goes_on ∙ ap is_next (c.in-Some-Last.is ∙ ap Some c.in-Some-Last.field-0-is)) in
     (λ e. flies, λ e. refl)
+
+pub returns-in-Some-Next-clause-stores : goal.returns-in-Some-Next-clause-stores
+returns-in-Some-Next-clause-stores c layout mem s stands =
+    made_there c.args.self.now c.in-Some.i c.args.zone (sym c.in-Some.ensures.place) c.in-Some.ensures.within.0
+    (next_stores 1) c.store.new.self c.store.ensures.stores layout mem s stands
+
+pub returns-in-Some-Last-clause-stores : goal.returns-in-Some-Last-clause-stores
+returns-in-Some-Last-clause-stores c layout mem s stands =
+    made_there c.args.self.now c.in-Some.i c.args.zone (sym c.in-Some.ensures.place) c.in-Some.ensures.within.0
+    (next_stores 1) c.store.new.self c.store.ensures.stores layout mem s stands

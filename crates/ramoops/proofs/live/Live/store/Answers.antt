@@ -1,6 +1,6 @@
 -- The zone's flight can store, and the stores change that zone, the cursor and the count of flying
 -- dumps alone. For `Live::store`.
-use Rattle.std.proofs.Common.{◌≡◌, ◌+◌, ◌≤◌, Option, is_some, slice_get, sym, subst, ap, ◌∙◌}
+use Rattle.std.proofs.Common.{◌≡◌, ◌+◌, ◌≤◌, Option, is_some, slice_get, refl, sym, subst, ap, ◌∙◌}
 use Rattle.ramoops.specs.LiveSeen.{LiveSeen}
 use Rattle.ramoops_layout.specs.Laid.{zones_of}
 use Rattle.ramoops.specs.declared.zones.Stored.{Stored}
@@ -8,7 +8,7 @@ use Rattle.ramoops.specs.Places.{dump_flight, flies_at}
 use Rattle.ramoops.specs.Storing.{is_next}
 use Rattle.zone_spec.specs.declared.Zone.{Zone}
 use Rattle.ramoops.specs.Cursors.{cursor_at, cursor_after}
-use Rattle.ramoops.proofs.Flown.{zone_at, zone_read, can_store, has_parity, dumps, flies_here, flies_set, idle_same, stored_by}
+use Rattle.ramoops.proofs.Flown.{zone_at, zone_read, can_store, has_parity, dumps, flies_here, flies_set, idle_same, stored_by, stores_made}
 use Rattle.ramoops.proofs.DumpFlights.{flights_flew, flights_stored}
 use Rattle.prz_region.proofs.Cutting.{no_zone}
 use Rattle.ramoops.proofs.live.Live.store.Goals as goal
@@ -109,3 +109,9 @@ returns-clause-stored c =
     c.advance-stored.ensures.last (c.turn.ensures (zones_of c.self.inside.layout) c.self.invariant.1
     (dumps _ c.self.invariant.0 c.args.i z.0 c.index_mut.result.now z.1 z.2 c.args.count c.advance-stored.result
     c.advance-stored.ensures.last)).0).1
+
+pub returns-clause-stores : goal.returns-clause-stores
+returns-clause-stores c =
+    stores_made c.args.count _ c.args.self.now c.args.i c.index_mut.result.now c.advance-stored.new.spans
+    c.self.view_is c.self.invariant.0 c.requires c.index_mut.ensures.value c.advance-stored.ensures.stores
+    (record c.args.self.now { spans = c.advance-stored.new.spans }) refl

@@ -7,7 +7,7 @@ use Rattle.ramoops.specs.declared.report.ZoneReport.{ZoneReport}
 use Rattle.ramoops.specs.Reports.{report_seen}
 use Rattle.ramoops.specs.LiveSeen.{LiveSeen}
 use Rattle.ramoops.specs.Booted.{Booted}
-use Rattle.ramoops.proofs.Boots.{open_fits, open_whole, open_closed, open_rests, logs_from, boot_runs, boot_is}
+use Rattle.ramoops.proofs.Boots.{open_fits, open_whole, open_closed, open_rests, logs_from, boot_runs, boot_is, boot_writes_all}
 use Rattle.ramoops.proofs.off.Off.boot.Goals as goal
 
 pub prepare-requires-clause-spans : goal.prepare-requires-clause-spans
@@ -56,3 +56,9 @@ returns-in-Ok-clause-booted c layout mem s stands =
     (boot_is c.args.self c.prepare.new.self (c.prepare.ensures.same c.args.self c.in_ok-open.ensures.«open»)
     c.in-Ok.prepared c.in-Ok.ensures.prepared
     c.settle_all.new.spans c.settle_all.ensures layout mem s stands))
+
+pub returns-in-Ok-clause-stores : goal.returns-in-Ok-clause-stores
+returns-in-Ok-clause-stores c =
+    ap (λ (v : LiveSeen). v.spans.made) c.live.ensures
+    ∙ boot_writes_all c.args.self c.prepare.new.self
+    (c.prepare.ensures.same c.args.self c.in_ok-open.ensures.«open») c.settle_all.new.spans c.settle_all.ensures

@@ -4,27 +4,25 @@ use Rattle.std.specs.Prelude.{slice_get}
 use Rattle.zone_spec.specs.declared.Zone.{Zone}
 use Rattle.zone_spec.specs.Layouts.{IsLayout}
 use Rattle.ramoops_layout.specs.Laid.{params_of, zones_of}
-use Rattle.prz_region.specs.CutRegion.{CutRegion, CountedRegion, cut_at}
+use Rattle.prz_region.specs.CutRegion.{CutRegion, cut_at}
 use Rattle.shared_ring.specs.declared.seats.Seat.{Seat}
 use Rattle.shared_ring.specs.Seen.{SharedSeen, IsWhole, IsLeftBy}
 use Rattle.shared_ring.proofs.Opened.{opened_whole, opened_left, zone_there, zone_read}
 use Rattle.shared_ring.proofs.shared.Shared.open.Goals as goal
 
 -- what was made is what stands for a zone that was just opened
-made : (zones : List Zone) (image : List ℕ) (place : ℕ) (z d : Zone) (spans : CountedRegion) (seats : List Seat)
+made : (zones : List Zone) (image : List ℕ) (place : ℕ) (z d : Zone) (spans : CutRegion) (seats : List Seat)
     (taken : List ℕ)
-    → slice_get zones place ≡ Some z → spans.region ≡ cut_at zones taken → taken ≡ image → seats ≡ []
+    → slice_get zones place ≡ Some z → spans ≡ cut_at zones taken → taken ≡ image → seats ≡ []
     → (read : List Zone) → read ≡ zones
     → ◌≡◌ {A = SharedSeen} (record {
       region = cut_at zones image;
-      stores = spans.stores;
       place = place;
       zone = z;
       reserved = 0;
       seats = [];
     }) (record {
-      region = spans.region;
-      stores = spans.stores;
+      region = spans;
       place = place;
       zone = get_or read place d;
       reserved = 0;
@@ -33,7 +31,6 @@ made : (zones : List Zone) (image : List ℕ) (place : ℕ) (z d : Zone) (spans 
 made zones image place z d spans seats taken there cut same none read is =
     ap₂ (λ (c : CutRegion) (y : Zone). let v : SharedSeen = record {
       region = c;
-      stores = spans.stores;
       place = place;
       zone = y;
       reserved = 0;
@@ -41,8 +38,7 @@ made zones image place z d spans seats taken there cut same none read is =
     } in v) (sym (cut ∙ ap (cut_at zones) same))
     (sym (ap (λ (zs : List Zone). get_or zs place d) is ∙ zone_read zones place z d there))
     ∙ ap (λ (xs : List Seat). let v : SharedSeen = record {
-      region = spans.region;
-      stores = spans.stores;
+      region = spans;
       place = place;
       zone = get_or read place d;
       reserved = 0;
@@ -60,12 +56,12 @@ invariant_of-result c =
     let some : Unit {0} = tt in (
       c.in-Ok.ensures.capacity,
       subst IsWhole
-          (made zones c.args.image c.in-Some.place c.requires.zone.zone _ c.counted.result c.in-Ok.seats.items
-          c.from_bytes.result there (c.counted.ensures ∙ c.in-Ok-cut.ensures {u = some})
+          (made zones c.args.image c.in-Some.place c.requires.zone.zone _ c.in-Ok-cut.spans c.in-Ok.seats.items
+          c.from_bytes.result there (c.in-Ok-cut.ensures {u = some})
           (c.from_bytes.ensures ∙ c.from_vec-image.ensures ∙ c.into_vec-bytes.ensures)
           c.in-Ok.ensures.items c.zones.result.now c.zones.ensures.value)
           (opened_whole zones (params_of c.args.layout).mem c.args.image lies c.in-Some.place
-          c.requires.zone.zone there c.requires.zone.can c.counted.result.stores),
+          c.requires.zone.zone there c.requires.zone.can),
     )
 
 pub returns-in-Ok-cut-clause-ok : goal.returns-in-Ok-cut-clause-ok
@@ -78,8 +74,8 @@ returns-in-Ok-cut-clause-ok c = λ can.
     c.zones.ensures.laid_out in
     let some : Unit {0} = tt in
     subst (λ (v : SharedSeen). IsLeftBy (record { image = c.args.image; zone = can.zone; operations = [] }) v)
-    (made zones c.args.image c.in-Some.place can.zone _ c.counted.result c.in-Ok.seats.items
-    c.from_bytes.result there (c.counted.ensures ∙ c.in-Ok-cut.ensures {u = some})
+    (made zones c.args.image c.in-Some.place can.zone _ c.in-Ok-cut.spans c.in-Ok.seats.items
+    c.from_bytes.result there (c.in-Ok-cut.ensures {u = some})
     (c.from_bytes.ensures ∙ c.from_vec-image.ensures ∙ c.into_vec-bytes.ensures)
     c.in-Ok.ensures.items c.zones.result.now c.zones.ensures.value)
-    (opened_left zones (params_of c.args.layout).mem c.args.image lies c.in-Some.place can.zone there can.can c.counted.result.stores)
+    (opened_left zones (params_of c.args.layout).mem c.args.image lies c.in-Some.place can.zone there can.can)

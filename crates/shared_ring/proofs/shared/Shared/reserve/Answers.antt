@@ -1,9 +1,9 @@
 -- A reservation made or refused is the history's operation. For `Shared::reserve`.
-use Rattle.std.proofs.Common.{sym, ap, ◌∙◌, subst}
+use Rattle.std.proofs.Common.{sym, ap, ◌∙◌, subst, length-append}
 use Rattle.shared_spec.specs.Machine.{refusal}
 use Rattle.shared_spec.specs.Runs.{Reserve}
 use Rattle.shared_spec.specs.Histories.{shared_zone, and_then}
-use Rattle.shared_ring.specs.Seen.{SharedSeen, IsLeftBy}
+use Rattle.shared_ring.specs.Seen.{SharedSeen, IsLeftBy, stores}
 use Rattle.shared_ring.proofs.Leaving.{left_reserved, left_refused}
 use Rattle.shared_ring.proofs.shared.Shared.reserve.Goals as goal
 
@@ -19,3 +19,7 @@ returns-in-None-clause-left c = λ h l.
     (left_reserved h c.args.self.now c.args.payload l
     (sym c.in-None.is ∙ c.refusal.ensures.left h l
     ∙ ap (refusal h.zone (shared_zone h).calls) c.len.ensures.len) c.requires.some)
+
+pub returns-in-None-clause-stores : goal.returns-in-None-clause-stores
+returns-in-None-clause-stores c =
+    ap (λ (x : SharedSeen). stores x) c.seat.ensures.seated ∙ length-append c.args.self.now.region.made _

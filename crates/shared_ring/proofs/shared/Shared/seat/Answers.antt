@@ -1,36 +1,30 @@
 -- A payload seated keeps the zone whole: words, seats and held bytes agree. For `Shared::seat`.
-use Rattle.std.proofs.Common.{◌≡◌, ℕ, ◌+◌, ◌%◌, min, List, [], ◌∷◌, ◌++◌, length, arith, sym, ap, ap₂, ◌∙◌, subst, w32}
-use Rattle.std.specs.Int.{to_le_bytes}
+use Rattle.std.proofs.Common.{◌≡◌, ℕ, ◌+◌, ◌%◌, min, List, [], ◌∷◌, ◌++◌, length, arith, sym, ap, ap₂, ◌∙◌, subst}
 use Rattle.zone_spec.specs.declared.Words.{Words}
-use Rattle.zone_spec.specs.Stores.{put}
-use Rattle.prz_region.specs.CutRegion.{CountedRegion, with_span, stored}
+use Rattle.prz_region.specs.CutRegion.{CutRegion, stored}
 use Rattle.shared_ring.specs.declared.seats.Seat.{Seat}
-use Rattle.shared_ring.specs.Seen.{SharedSeen, bytes_of, words_of, IsWhole, seated}
+use Rattle.shared_ring.specs.Seen.{SharedSeen, words_of, words_store, IsWhole, seated}
 use Rattle.shared_ring.proofs.Wholes.{seated_whole}
 use Rattle.shared_ring.proofs.shared.Shared.seat.Goals as goal
 
 -- a zone whose words were these, after a reservation of so many bytes
 abbrev after : SharedSeen → Words → ℕ → List ℕ → SharedSeen
 after v w n payload = record {
-  region = with_span v.region v.place
-      (put (bytes_of v) 4
-      (to_le_bytes w32 ((w.start + n) % v.zone.cap) ++ to_le_bytes w32 (min v.zone.cap (w.size + n))));
-  stores = v.stores + 1;
+  region = stored v.region v.place
+      (words_store ((w.start + n) % v.zone.cap) (min v.zone.cap (w.size + n)) ∷ []);
   place = v.place;
   zone = v.zone;
   reserved = v.reserved + 1;
   seats = v.seats ++ record { ticket = v.reserved; place = w.start; stored = 0; payload = payload } ∷ [];
 }
 
-left : (v : SharedSeen) (payload : List ℕ) (w : Words) (n size : ℕ) (spans : CountedRegion) (seats : List Seat)
+left : (v : SharedSeen) (payload : List ℕ) (w : Words) (n size : ℕ) (spans : CutRegion) (seats : List Seat)
     → w ≡ words_of v → n ≡ length payload → size ≡ min v.zone.cap (w.size + n)
-    → spans ≡ stored (record { region = v.region; stores = v.stores }) v.place
-    (put (bytes_of v) 4 (to_le_bytes w32 ((w.start + n) % v.zone.cap) ++ to_le_bytes w32 size))
+    → spans ≡ stored v.region v.place (words_store ((w.start + n) % v.zone.cap) size ∷ [])
     → seats ≡ v.seats ++ record { ticket = v.reserved; place = w.start; stored = 0; payload = payload } ∷ []
     → seated v payload
     ≡ record {
-      region = spans.region;
-      stores = spans.stores;
+      region = spans;
       place = v.place;
       zone = v.zone;
       reserved = v.reserved + 1;
@@ -38,23 +32,20 @@ left : (v : SharedSeen) (payload : List ℕ) (w : Words) (n size : ℕ) (spans :
     }
 left v payload w n size spans seats e f g r s =
     ap₂ (λ (x : Words) k. after v x k payload) (sym e) (sym f)
-    ∙ ap₂ (λ (c : CountedRegion) (xs : List Seat). let u : SharedSeen = record {
-      region = c.region;
-      stores = c.stores;
+    ∙ ap₂ (λ (c : CutRegion) (xs : List Seat). let u : SharedSeen = record {
+      region = c;
       place = v.place;
       zone = v.zone;
       reserved = v.reserved + 1;
       seats = xs;
     } in u)
-    (ap (λ k. stored (record { region = v.region; stores = v.stores }) v.place
-    (put (bytes_of v) 4 (to_le_bytes w32 ((w.start + n) % v.zone.cap) ++ to_le_bytes w32 k))) (sym g) ∙ sym r)
+    (ap (λ k. stored v.region v.place (words_store ((w.start + n) % v.zone.cap) k ∷ [])) (sym g) ∙ sym r)
     (sym s)
 
 pub invariant_of-self : goal.invariant_of-self
 invariant_of-self c =
     let v : SharedSeen = record {
-      region = c.self.inside.spans.region;
-      stores = c.self.inside.spans.stores;
+      region = c.self.inside.spans;
       place = c.self.inside.place;
       zone = c.self.inside.zone;
       reserved = c.self.inside.reserved;

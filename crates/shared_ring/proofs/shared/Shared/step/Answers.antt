@@ -1,11 +1,11 @@
 -- A byte stored for an open ticket is the history's step, and for any other ticket nothing is. For
 -- `Shared::step`.
-use Rattle.std.proofs.Common.{◌≡◌, sym, ap, ◌∙◌, subst, Some, None}
+use Rattle.std.proofs.Common.{◌≡◌, sym, ap, ◌∙◌, subst, Some, None, length-append}
 use Rattle.std.specs.Prelude.{position}
 use Rattle.shared_spec.specs.Runs.{StoreNext}
 use Rattle.shared_spec.specs.Histories.{and_then}
 use Rattle.shared_ring.specs.Seats.{is_of}
-use Rattle.shared_ring.specs.Seen.{SharedSeen, IsLeftBy}
+use Rattle.shared_ring.specs.Seen.{SharedSeen, IsLeftBy, stores}
 use Rattle.shared_ring.proofs.Standing.{the_seat}
 use Rattle.shared_ring.proofs.Leaving.{left_stepped, left_idle, step_answers, idle_answers}
 use Rattle.shared_ring.proofs.shared.Shared.step.Goals as goal
@@ -49,4 +49,5 @@ returns-in-Some-clause-stores c =
     ap (λ (x : SharedSeen). position (is_of c.args.ticket) x.seats) (sym c.self.view_is)
     ∙ ap (position (is_of c.args.ticket)) (sym c.deref.ensures.value) ∙ sym c.find.ensures ∙ c.in-Some.is in
     let s = the_seat c.args.ticket c.args.self.now.seats c.in-Some.i e in
-    ap (λ (x : SharedSeen). x.stores) (c.store_next.ensures.stepped s.0 s.1)
+    ap (λ (x : SharedSeen). stores x) (c.store_next.ensures.stepped s.0 s.1)
+    ∙ length-append c.args.self.now.region.made _

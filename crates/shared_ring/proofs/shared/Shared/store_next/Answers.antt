@@ -1,50 +1,38 @@
 -- The byte stored is the seat's next, at its next place, and the zone stays whole. For
 -- `store_next`.
-use Rattle.std.proofs.Common.{◌≡◌, ℕ, ◌+◌, ◌%◌, List, length, set, arith, sym, ap, ap₂, ◌∙◌, subst, Some}
+use Rattle.std.proofs.Common.{◌≡◌, ℕ, ◌+◌, ◌%◌, List, [], ◌∷◌, length, arith, sym, ap, ap₂, ◌∙◌, subst, Some}
 use Rattle.std.specs.Prelude.{slice_get, slice_index}
-use Rattle.prz_region.proofs.Stores.{put-one}
-use Rattle.prz_region.specs.CutRegion.{CountedRegion, with_span, stored}
+use Rattle.prz_region.specs.CutRegion.{CutRegion, stored}
 use Rattle.shared_ring.specs.declared.seats.Seat.{Seat}
 use Rattle.shared_ring.specs.Seats.{seats_stepped}
-use Rattle.shared_ring.specs.Seen.{SharedSeen, IsWhole, bytes_of, stepped}
+use Rattle.shared_ring.specs.Seen.{SharedSeen, IsWhole, byte_store, stepped}
 use Rattle.shared_ring.proofs.SeatLists.{seat_read, is_seat}
 use Rattle.shared_ring.proofs.Wholes.{stepped_whole}
 use Rattle.shared_ring.proofs.shared.Shared.store_next.Goals as goal
 
 -- what the stores of a step leave
-left : (v : SharedSeen) (i place byte : ℕ) (x : Seat) (spans : CountedRegion) (seats : List Seat)
+left : (v : SharedSeen) (i place byte : ℕ) (x : Seat) (spans : CutRegion) (seats : List Seat)
     → place ≡ (x.place + x.stored) % v.zone.cap → byte ≡ slice_index x.payload x.stored
-    → spans ≡ stored (record { region = v.region; stores = v.stores }) v.place (set (bytes_of v) (12 + place) byte)
+    → spans ≡ stored v.region v.place (byte_store place byte ∷ [])
     → seats ≡ seats_stepped v.seats i x
     → stepped v i x
     ≡ record {
-      region = spans.region;
-      stores = spans.stores;
+      region = spans;
       place = v.place;
       zone = v.zone;
       reserved = v.reserved;
       seats = seats;
     }
 left v i place byte x spans seats p b r s =
-    let at : stepped v i x ≡ record {
-      region = with_span v.region v.place (set (bytes_of v) (12 + place) byte);
-      stores = v.stores + 1;
+    ap₂ (λ (m k : ℕ). let w : SharedSeen = record {
+      region = stored v.region v.place (byte_store m k ∷ []);
       place = v.place;
       zone = v.zone;
       reserved = v.reserved;
       seats = seats_stepped v.seats i x;
-    } = ap (λ (bytes : List ℕ). let w : SharedSeen = record {
-      region = with_span v.region v.place bytes;
-      stores = v.stores + 1;
-      place = v.place;
-      zone = v.zone;
-      reserved = v.reserved;
-      seats = seats_stepped v.seats i x;
-    } in w) (put-one (bytes_of v) (12 + (x.place + x.stored) % v.zone.cap) (slice_index x.payload x.stored)
-    ∙ ap₂ (λ p b. set (bytes_of v) (12 + p) b) (sym p) (sym b)) in
-    at ∙ ap₂ (λ (r : CountedRegion) (xs : List Seat). let w : SharedSeen = record {
-      region = r.region;
-      stores = r.stores;
+    } in w) (sym p) (sym b)
+    ∙ ap₂ (λ (r : CutRegion) (xs : List Seat). let w : SharedSeen = record {
+      region = r;
       place = v.place;
       zone = v.zone;
       reserved = v.reserved;
@@ -61,8 +49,7 @@ next_byte-place-requires-clause-seat c =
 pub invariant_of-self : goal.invariant_of-self
 invariant_of-self c =
     let v : SharedSeen = record {
-      region = c.self.inside.spans.region;
-      stores = c.self.inside.spans.stores;
+      region = c.self.inside.spans;
       place = c.self.inside.place;
       zone = c.self.inside.zone;
       reserved = c.self.inside.reserved;
@@ -83,8 +70,7 @@ invariant_of-self c =
 pub returns-clause-stepped : goal.returns-clause-stepped
 returns-clause-stepped c = λ s g.
     let v : SharedSeen = record {
-      region = c.self.inside.spans.region;
-      stores = c.self.inside.spans.stores;
+      region = c.self.inside.spans;
       place = c.self.inside.place;
       zone = c.self.inside.zone;
       reserved = c.self.inside.reserved;

@@ -9,8 +9,9 @@ use Rattle.zone_boot.specs.Handed.{handed, IsRun}
 use Rattle.zone_boot.specs.Left.{part_left}
 use Rattle.zone_boot.specs.Booting.{most_made, IsPlace}
 use Rattle.zone_boot.proofs.Blocks.{block-part, block-inside, block-facts}
-use Rattle.zone_boot.proofs.Leaving.{part-run, left-min, left-end, passed-left, block-given, not-empty}
-use Rattle.zone_boot.proofs.Ending.{gives}
+use Rattle.zone_boot.proofs.Parting.{run-reads}
+use Rattle.zone_boot.proofs.Leaving.{part-run, left-min, left-end, passed-left, block-given, block-counts, not-empty}
+use Rattle.zone_boot.proofs.Ending.{gives, gives-nothing}
 use Rattle.zone_boot.proofs.boots.Boot.fix_block.Goals as goal
 
 pub bytes_at-stands-requires : goal.bytes_at-stands-requires
@@ -20,8 +21,8 @@ bytes_at-stands-requires c =
     let x = c.args.image.now in
     let b : ℕ = s.block in
     let bytes : AreBytes x = (λ k. (c.type_inv.image k).fits) in
-    let reads = c.as_slice-reads.ensures.value ∙ c.read_block-outcome.ensures.data in
-    let p = block-part z x b c.as_slice-reads.result.now c.requires.valid c.requires.size bytes
+    let reads = c.requires.reads in
+    let p = block-part z x b c.args.reads.now c.requires.valid c.requires.size bytes
     (block-inside z.block b s.count z.cap c.requires.kept.count c.requires.block) reads in
     let l = c.requires.size in
     omega (arith, p.3, l)
@@ -33,8 +34,8 @@ set_run-end-requires-clause-same c =
     let x = c.args.image.now in
     let b : ℕ = s.block in
     let bytes : AreBytes x = (λ k. (c.type_inv.image k).fits) in
-    let reads = c.as_slice-reads.ensures.value ∙ c.read_block-outcome.ensures.data in
-    let f = block-facts z x b s.count c.as_slice-reads.result.now c.bytes_at-stands.result.now c.requires.valid
+    let reads = c.requires.reads in
+    let f = block-facts z x b s.count c.args.reads.now c.bytes_at-stands.result.now c.requires.valid
     c.requires.size bytes c.requires.kept.count c.requires.block reads c.bytes_at-stands.ensures in
     f.0
 
@@ -45,8 +46,8 @@ set_run-end-requires-clause-few c =
     let x = c.args.image.now in
     let b : ℕ = s.block in
     let bytes : AreBytes x = (λ k. (c.type_inv.image k).fits) in
-    let reads = c.as_slice-reads.ensures.value ∙ c.read_block-outcome.ensures.data in
-    let f = block-facts z x b s.count c.as_slice-reads.result.now c.bytes_at-stands.result.now c.requires.valid
+    let reads = c.requires.reads in
+    let f = block-facts z x b s.count c.args.reads.now c.bytes_at-stands.result.now c.requires.valid
     c.requires.size bytes c.requires.kept.count c.requires.block reads c.bytes_at-stands.ensures in
     omega (arith, f.0, f.1)
 
@@ -57,8 +58,8 @@ set_run-end-requires-clause-from c =
     let x = c.args.image.now in
     let b : ℕ = s.block in
     let bytes : AreBytes x = (λ k. (c.type_inv.image k).fits) in
-    let reads = c.as_slice-reads.ensures.value ∙ c.read_block-outcome.ensures.data in
-    let f = block-facts z x b s.count c.as_slice-reads.result.now c.bytes_at-stands.result.now c.requires.valid
+    let reads = c.requires.reads in
+    let f = block-facts z x b s.count c.args.reads.now c.bytes_at-stands.result.now c.requires.valid
     c.requires.size bytes c.requires.kept.count c.requires.block reads c.bytes_at-stands.ensures in
     (let m = c.min-from.ensures in omega (arith, f.0, m))
 
@@ -69,12 +70,12 @@ returns-then-is_empty-clause-gives c =
     let x = c.args.image.now in
     let b : ℕ = s.block in
     let bytes : AreBytes x = (λ k. (c.type_inv.image k).fits) in
-    let reads = c.as_slice-reads.ensures.value ∙ c.read_block-outcome.ensures.data in
+    let reads = c.requires.reads in
     let w : ℕ = s.within in
     let from : ℕ = c.min-from.result in
     let end : ℕ = c.set_run-end.result in
     let given : List Store = handed c.set_run-end.new.self in
-    let f = block-facts z x b s.count c.as_slice-reads.result.now c.bytes_at-stands.result.now c.requires.valid
+    let f = block-facts z x b s.count c.args.reads.now c.bytes_at-stands.result.now c.requires.valid
     c.requires.size bytes c.requires.kept.count c.requires.block reads c.bytes_at-stands.ensures in
     let r = c.set_run-end.ensures in
     let m = c.min-from.ensures in
@@ -85,15 +86,15 @@ returns-then-is_empty-clause-gives c =
     let next : z.block * (b + 1) ≡ z.block * b + z.block = grind arith in
     let run : part_left z x (Block b) w ≡ given ++ part_left z x (Block b) end =
     left-min z x (Block b) w from (omega (arith, m, f.5))
-    ∙ part-run z x (Block b) (12 + z.block * b) from end c.bytes_at-stands.result.now c.as_slice-reads.result.now given
+    ∙ part-run z x (Block b) (12 + z.block * b) from end c.bytes_at-stands.result.now c.args.reads.now given
     refl f.4 reads r.stores in
     let inside = r.inside in
     let none : given ≡ [] = c.is_empty.ensures.0 c.if-is_empty.true in
     let last = r.some none in
     let done : part_left z x (Block b) w ≡ [] =
     run ∙ ap₂ (λ (u v : List Store). u ++ v) none (left-end z x (Block b) end (omega (arith, last, f.0, f.5))) in
-    gives s x _ c.set_run-end.new.self [] none
-    (passed-left z x b w s.count s.erasure s.phase c.requires.phase c.requires.block done) refl (omega arith)
+    gives-nothing s x _ c.set_run-end.new.self none
+    (passed-left z x b w s.count s.erasure s.phase c.requires.phase c.requires.block done) refl refl
     (record {
       count = c.requires.kept.count;
       place = subst (λ (p : Phase). IsPlace z (b + 1) 0 s.count p) (sym c.requires.phase)
@@ -110,12 +111,12 @@ returns-else-is_empty-clause-gives c =
     let x = c.args.image.now in
     let b : ℕ = s.block in
     let bytes : AreBytes x = (λ k. (c.type_inv.image k).fits) in
-    let reads = c.as_slice-reads.ensures.value ∙ c.read_block-outcome.ensures.data in
+    let reads = c.requires.reads in
     let w : ℕ = s.within in
     let from : ℕ = c.min-from.result in
     let end : ℕ = c.set_run-end.result in
     let given : List Store = handed c.set_run-end.new.self in
-    let f = block-facts z x b s.count c.as_slice-reads.result.now c.bytes_at-stands.result.now c.requires.valid
+    let f = block-facts z x b s.count c.args.reads.now c.bytes_at-stands.result.now c.requires.valid
     c.requires.size bytes c.requires.kept.count c.requires.block reads c.bytes_at-stands.ensures in
     let r = c.set_run-end.ensures in
     let m = c.min-from.ensures in
@@ -126,7 +127,7 @@ returns-else-is_empty-clause-gives c =
     let next : z.block * (b + 1) ≡ z.block * b + z.block = grind arith in
     let run : part_left z x (Block b) w ≡ given ++ part_left z x (Block b) end =
     left-min z x (Block b) w from (omega (arith, m, f.5))
-    ∙ part-run z x (Block b) (12 + z.block * b) from end c.bytes_at-stands.result.now c.as_slice-reads.result.now given
+    ∙ part-run z x (Block b) (12 + z.block * b) from end c.bytes_at-stands.result.now c.args.reads.now given
     refl f.4 reads r.stores in
     let inside = r.inside in
     let some : 0 < length given = not-empty given
@@ -138,6 +139,9 @@ returns-else-is_empty-clause-gives c =
     gives s x _ c.set_run-end.new.self given refl
     (block-given z x b w s.count s.erasure c.requires.valid (c.requires.size, bytes) given end s.phase c.requires.phase
     c.requires.block (omega (arith, same, m, f.5)) run
+    (subst (λ (v : ℕ). IsRun (part_at z (Block b) + v) (part_at z (Block b) + end) given) same r.run))
+    (block-counts z x b w s.count s.erasure c.requires.valid (c.requires.size, bytes) given end s.phase c.requires.phase
+    c.requires.block (omega (arith, same, m, f.5)) run
     (subst (λ (v : ℕ). IsRun (part_at z (Block b) + v) (part_at z (Block b) + end) given) same r.run)) refl
     (ap (λ (k : ℕ). s.made + k) n)
     (record {
@@ -148,3 +152,54 @@ returns-else-is_empty-clause-gives c =
           (omega (arith, most, n, few, same));
     })
     (omega (arith, inside, f.0, f.3)) r.plain
+
+pub returns-then-is_empty-clause-keeps : goal.returns-then-is_empty-clause-keeps
+returns-then-is_empty-clause-keeps c =
+    let s = c.args.self.now in
+    let z = s.zone in
+    let x = c.args.image.now in
+    let b : ℕ = s.block in
+    let bytes : AreBytes x = (λ k. (c.type_inv.image k).fits) in
+    let from : ℕ = c.min-from.result in
+    let end : ℕ = c.set_run-end.result in
+    let given : List Store = handed c.set_run-end.new.self in
+    let f = block-facts z x b s.count c.args.reads.now c.bytes_at-stands.result.now c.requires.valid
+    c.requires.size bytes c.requires.kept.count c.requires.block c.requires.reads c.bytes_at-stands.ensures in
+    let r = c.set_run-end.ensures in
+    let m = c.min-from.ensures in
+    run-reads z c.requires.valid x (c.requires.size, bytes) (Block b) from end given (omega (arith, m, f.5))
+    (part-run z x (Block b) (12 + z.block * b) from end c.bytes_at-stands.result.now c.args.reads.now given
+    refl f.4 c.requires.reads r.stores) r.run
+
+pub returns-else-is_empty-clause-keeps : goal.returns-else-is_empty-clause-keeps
+returns-else-is_empty-clause-keeps c =
+    let s = c.args.self.now in
+    let z = s.zone in
+    let x = c.args.image.now in
+    let b : ℕ = s.block in
+    let bytes : AreBytes x = (λ k. (c.type_inv.image k).fits) in
+    let from : ℕ = c.min-from.result in
+    let end : ℕ = c.set_run-end.result in
+    let given : List Store = handed c.set_run-end.new.self in
+    let f = block-facts z x b s.count c.args.reads.now c.bytes_at-stands.result.now c.requires.valid
+    c.requires.size bytes c.requires.kept.count c.requires.block c.requires.reads c.bytes_at-stands.ensures in
+    let r = c.set_run-end.ensures in
+    let m = c.min-from.ensures in
+    run-reads z c.requires.valid x (c.requires.size, bytes) (Block b) from end given (omega (arith, m, f.5))
+    (part-run z x (Block b) (12 + z.block * b) from end c.bytes_at-stands.result.now c.args.reads.now given
+    refl f.4 c.requires.reads r.stores) r.run
+
+pub returns-else-is_empty-clause-next : goal.returns-else-is_empty-clause-next
+returns-else-is_empty-clause-next c = λ e. absurd
+    (let t : false ≡ true = sym c.if-is_empty.false ∙ c.is_empty.ensures.1 e in cc)
+
+pub overflow_cast-reads : goal.overflow_cast-reads
+overflow_cast-reads c =
+    let s = c.args.self.now in
+    let z = s.zone in
+    let x = c.args.image.now in
+    let bytes : AreBytes x = (λ k. (c.type_inv.image k).fits) in
+    let p = block-part z x s.block c.args.reads.now c.requires.valid c.requires.size bytes
+    (block-inside z.block s.block s.count z.cap c.requires.kept.count c.requires.block) c.requires.reads in
+    let most = p.1 in
+    omega (arith, most)

@@ -9,7 +9,7 @@ use Rattle.zone_boot.specs.declared.boots.Phase.{Phase}
 use Rattle.zone_boot.specs.declared.boots.Phase.TheVariants.{Parity}
 use Rattle.zone_boot.specs.Handed.{handed}
 use Rattle.zone_boot.specs.Booting.{most_made}
-use Rattle.zone_boot.proofs.Ending.{left-in, left-parity, parity-none, parity-long, gives}
+use Rattle.zone_boot.proofs.Ending.{left-in, left-parity, parity-none, parity-long, counts-parity, gives}
 use Rattle.zone_boot.proofs.boots.Boot.give_parity.Goals as goal
 
 stores : (c : goal.After-self-2-1) → handed c.set_bytes.new.self
@@ -59,7 +59,10 @@ returns-clause-gives c =
     let next : (s.zone.blocks + 1) * s.zone.parity ≡ s.zone.blocks * s.zone.parity + s.zone.parity = grind arith in
     gives s x _ c.set_bytes.new.self (handed c.set_bytes.new.self) refl
     (left-in s.zone x s.block s.within s.count s.erasure s.phase Parity c.requires.phase
-    ∙ left-parity s.zone x s.block s.within s.count s.erasure (handed c.set_bytes.new.self) (stores c)) refl
+    ∙ left-parity s.zone x s.block s.within s.count s.erasure (handed c.set_bytes.new.self) (stores c))
+    (λ m. ap length (left-in s.zone x s.block s.within s.count s.erasure s.phase Parity c.requires.phase)
+    ∙ counts-parity s.zone c.requires.valid x (λ k. (c.type_inv.image k).fits) s.block s.within s.count s.erasure
+    (handed c.set_bytes.new.self) (stores c) l m) refl
     (ap (λ (n : ℕ). s.made + n) c.count.ensures)
     (record {
       count = c.requires.kept.count;

@@ -1,0 +1,59 @@
+-- A line of the report counts if none of its kind was found; the line that ends it, or the end of the text, leaves what
+-- was found. For `heads`.
+use Rattle.std.proofs.Common.{sym, ap, ◌∙◌}
+use Rattle.death_spec.specs.declared.Mark.TheVariants.{Processor, Place, Trace}
+use Rattle.death_spec.specs.Telling.{is_of_oops}
+use Rattle.death_spec.specs.Lines.{lines_from}
+use Rattle.death_spec.specs.Reports.{first_of}
+use Rattle.death.proofs.Listed.{in_report, head_more, head_ended, head_none}
+use Rattle.death.proofs.reports.heads.Goals as goal
+
+pub lines-init : goal.lines-init
+lines-init c = (
+  ap (λ t. first_of c.args.text.now Processor (in_report c.args.text.now t (lines_from c.args.text.now c.args.telling.next)))
+      (sym (c.is_of_oops-is_open.ensures ∙ ap is_of_oops c.kind_by.ensures)),
+  ap (λ t. first_of c.args.text.now Place (in_report c.args.text.now t (lines_from c.args.text.now c.args.telling.next)))
+      (sym (c.is_of_oops-is_open.ensures ∙ ap is_of_oops c.kind_by.ensures)),
+  ap (λ t. first_of c.args.text.now Trace (in_report c.args.text.now t (lines_from c.args.text.now c.args.telling.next)))
+      (sym (c.is_of_oops-is_open.ensures ∙ ap is_of_oops c.kind_by.ensures)),
+)
+
+pub lines-preserved : goal.lines-preserved
+lines-preserved c = (
+  head_more c.args.text.now Processor c.is_of_oops-is_open.result c.lines.at c.in-Some.line c.lines.processor _ c.earlier-processor.result
+      c.kind_by-mark.result c.is_mark.result c.lines.invariant.0 c.in-Some.ensures.line c.kind_by-mark.ensures
+      (sym c.ends_report.ensures ∙ c.if-ends_report.false) c.is_mark.ensures c.earlier-processor.ensures,
+  head_more c.args.text.now Place c.is_of_oops-is_open.result c.lines.at c.in-Some.line c.lines.place _ c.earlier-place.result
+      c.kind_by-mark.result c.is_mark-in-Some.result c.lines.invariant.1 c.in-Some.ensures.line c.kind_by-mark.ensures
+      (sym c.ends_report.ensures ∙ c.if-ends_report.false) c.is_mark-in-Some.ensures c.earlier-place.ensures,
+  head_more c.args.text.now Trace c.is_of_oops-is_open.result c.lines.at c.in-Some.line c.lines.trace _ c.earlier-trace.result
+      c.kind_by-mark.result c.is_mark-in-Some-2.result c.lines.invariant.2 c.in-Some.ensures.line c.kind_by-mark.ensures
+      (sym c.ends_report.ensures ∙ c.if-ends_report.false) c.is_mark-in-Some-2.ensures c.earlier-trace.ensures,
+)
+
+pub returns-then-ends_report-clause-processor : goal.returns-then-ends_report-clause-processor
+returns-then-ends_report-clause-processor c =
+    head_ended c.args.text.now Processor c.is_of_oops-is_open.result c.lines.at c.in-Some.line c.lines.processor _ c.kind_by-mark.result
+    c.lines.invariant.0 c.in-Some.ensures.line c.kind_by-mark.ensures (sym c.ends_report.ensures ∙ c.if-ends_report.true)
+
+pub returns-then-ends_report-clause-place : goal.returns-then-ends_report-clause-place
+returns-then-ends_report-clause-place c =
+    head_ended c.args.text.now Place c.is_of_oops-is_open.result c.lines.at c.in-Some.line c.lines.place _ c.kind_by-mark.result
+    c.lines.invariant.1 c.in-Some.ensures.line c.kind_by-mark.ensures (sym c.ends_report.ensures ∙ c.if-ends_report.true)
+
+pub returns-then-ends_report-clause-trace : goal.returns-then-ends_report-clause-trace
+returns-then-ends_report-clause-trace c =
+    head_ended c.args.text.now Trace c.is_of_oops-is_open.result c.lines.at c.in-Some.line c.lines.trace _ c.kind_by-mark.result
+    c.lines.invariant.2 c.in-Some.ensures.line c.kind_by-mark.ensures (sym c.ends_report.ensures ∙ c.if-ends_report.true)
+
+pub returns-in_default-clause-processor : goal.returns-in_default-clause-processor
+returns-in_default-clause-processor c =
+    head_none c.args.text.now Processor c.is_of_oops-is_open.result c.lines.at c.lines.processor _ c.lines.invariant.0 c.in_default.ensures.none
+
+pub returns-in_default-clause-place : goal.returns-in_default-clause-place
+returns-in_default-clause-place c =
+    head_none c.args.text.now Place c.is_of_oops-is_open.result c.lines.at c.lines.place _ c.lines.invariant.1 c.in_default.ensures.none
+
+pub returns-in_default-clause-trace : goal.returns-in_default-clause-trace
+returns-in_default-clause-trace c =
+    head_none c.args.text.now Trace c.is_of_oops-is_open.result c.lines.at c.lines.trace _ c.lines.invariant.2 c.in_default.ensures.none

@@ -1,0 +1,2 @@
+-- How the code sees the table of words.
+pub mod Rows

@@ -1,0 +1,14 @@
+-- Rows of words as the code borrows them, and the bytes by which they begin
+use Rattle.std.specs.Prelude.{◌≡◌, ℕ, ◌<◌, Bool, false, List, ◌∷◌, map, slice_index_or, None}
+use Rattle.death_spec.specs.declared.Mark.{Mark}
+use Rattle.death_spec.specs.Marks.{front_in}
+use denote.Bor.{Bor}
+
+-- the rows without their borrows
+abbrev pub plain : List (Mark × Bor (List ℕ)) → List (Mark × List ℕ)
+plain rows = map (λ (row : Mark × Bor (List ℕ)). (row.0, row.1.now)) rows
+
+-- a text fits no row if its first byte is not among these
+abbrev pub Covers : List (Mark × List ℕ) → List Bool → Type 0
+Covers rows firsts =
+    (b : ℕ) (bs : List ℕ) → b < 256 → slice_index_or firsts b false ≡ false → front_in rows (b ∷ bs) ≡ None

@@ -1,0 +1,15 @@
+-- A word of the layout is added, a wrong one is the fault, and any other is passed. For `add_words`.
+use Rattle.std.proofs.Common.{rules, subst, ℕ, List}
+use Rattle.kernel_line.specs.Line.{IsWordFault, IsFaultAmong}
+use Rattle.kernel_line.proofs.Among.{one_added, one_refused}
+use Rattle.kernel_line.proofs.layout.add_words.Goals as goal
+
+pub returns-in_err-add_word-clause-err : goal.returns-in_err-add_word-clause-err
+returns-in_err-add_word-clause-err c =
+    let fault : IsWordFault c.word-item.result c.in_err-add_word.field-0.0 =
+    subst (λ (w : List ℕ). IsWordFault w c.in_err-add_word.field-0.0) c.as_slice.ensures
+    c.in_err-add_word.ensures.err in
+    let among : IsFaultAmong c.args.read.now c.in_err-add_word.field-0.0 =
+    one_refused c.args.read.now c.loop-word.word-index c.word-item.result c.in_err-add_word.field-0.0
+    c.loop-word-test.true c.word-item.is fault in
+    search rules

@@ -1,0 +1,109 @@
+-- The words of a kernel's command line (lib/cmdline.c, next_arg; kernel/params.c, parse_args), and of these the ones
+-- that say how ramoops lays its memory out (fs/pstore/ram.c, module_param)
+use Rattle.std.specs.Prelude.{◌≡◌, ℕ, ◌+◌, ◌-◌, ◌%◌, Bool, true, false, not, ◌&&◌, ◌||◌, ◌==◌, nat_eq, nat_le, if◌then◌else◌, List, [], ◌∷◌, ◌++◌, length, take, drop, map, remove, count_by, codes, bytes_eq, IsUtf8, ⊤}
+use Rattle.std.specs.List.{filter, list_any, ends_with, onto_first, take_while, before_first, after_first, position_or_len}
+use Rattle.grammar_spec.specs.Numbers.{begins}
+use Rattle.kernel_line.specs.declared.words.LineFault.{LineFault}
+use Rattle.kernel_line.specs.declared.words.LineFault.TheVariants.{Memory, OpenQuote, NoText}
+
+-- white space: tab to carriage return, the space, and the no-break space of Latin-1 (lib/ctype.c)
+abbrev pub is_white : ℕ → Bool
+is_white b = (nat_le 9 b && nat_le b 13) || b == 32 || b == 160
+
+abbrev pub is_quote : ℕ → Bool
+is_quote b = b == 34
+
+abbrev pub is_equals : ℕ → Bool
+is_equals b = b == 61
+
+-- what stands between white space that is not within quotes; an earlier quote may be open
+unfoldable pub words_from : Bool → List ℕ → List (List ℕ)
+words_from is_within [] = [] ∷ []
+words_from is_within (b ∷ bs) =
+    let words = words_from (if is_quote b then not is_within else is_within) bs in
+    if is_white b && not is_within then [] ∷ words else onto_first b words
+
+-- each quote has its end
+abbrev pub is_closed : List ℕ → Bool
+is_closed line = count_by is_quote line % 2 == 0
+
+abbrev pub is_quoted : List ℕ → Bool
+is_quoted text = begins (34 ∷ []) text
+
+abbrev pub without_last_quote : List ℕ → List ℕ
+without_last_quote text = if ends_with nat_eq text (34 ∷ []) then take (length text - 1) text else text
+
+-- a word without the quote in front of it, and without the one in front of its value
+abbrev pub body_of : List ℕ → List ℕ
+body_of word = if is_quoted word then drop 1 word else word
+
+abbrev pub opened : List ℕ → List ℕ
+opened body = if is_quoted (after_first is_equals body) then remove body (position_or_len is_equals body + 1) else body
+
+-- and then without the one at its end; other quotes stay
+abbrev pub unquoted : List ℕ → List ℕ
+unquoted word =
+    if is_quoted word || is_quoted (after_first is_equals (body_of word))
+    then without_last_quote (opened (body_of word)) else body_of word
+
+-- the kernel's words: what stands behind a word `--` is init's
+abbrev pub kernel_words : List ℕ → List (List ℕ)
+kernel_words line = take_while (λ word. not (bytes_eq word (codes "--"))) (map unquoted (words_from false line))
+
+-- `-` and `_` are alike in a name
+abbrev pub underscored : List ℕ → List ℕ
+underscored word =
+    map (λ b. if b == 45 then 95 else b) (before_first is_equals word) ++ drop (position_or_len is_equals word) word
+
+-- the module's parameters that say nothing of the layout
+abbrev pub others : List (List ℕ)
+others = codes "mem_address" ∷ codes "mem_name" ∷ codes "mem_type" ∷ codes "max_reason" ∷ codes "dump_oops" ∷ []
+
+-- whether a word has the module's prefix and gives none of the other parameters
+abbrev pub is_of_layout : List ℕ → Bool
+is_of_layout word =
+    begins (codes "ramoops.") word
+    && not (list_any (λ other. bytes_eq other (before_first is_equals (drop 8 word))) others)
+
+-- the kernel's words, with `_` in their names
+unfoldable pub line_words : List ℕ → List (List ℕ)
+line_words line = map underscored (kernel_words line)
+
+-- those of the layout
+unfoldable pub layout_words : List ℕ → List (List ℕ)
+layout_words line = filter is_of_layout (line_words line)
+
+-- one of these words is no text
+pub record HasNoTextIn (words : List (List ℕ)) : Type 0 where
+  pub before : List (List ℕ)
+  pub word : List ℕ
+  pub behind : List (List ℕ)
+  pub listed : words ≡ before ++ word ∷ behind
+  pub no_text : ¬ (IsUtf8 word)
+
+abbrev pub HasNoText : List ℕ → Type 0
+HasNoText line = HasNoTextIn (layout_words line)
+
+-- why a word is not added
+abbrev pub IsWordFault : List ℕ → LineFault → Type 0
+IsWordFault word Memory = ⊤
+IsWordFault word OpenQuote = ⊥
+IsWordFault word NoText = (is_of_layout word ≡ true) × ¬ (IsUtf8 word)
+
+-- why one of these words is not added
+abbrev pub IsFaultAmong : List (List ℕ) → LineFault → Type 0
+IsFaultAmong words Memory = ⊤
+IsFaultAmong words OpenQuote = ⊥
+IsFaultAmong words NoText = HasNoTextIn (filter is_of_layout words)
+
+-- why a line has no words
+abbrev pub IsUnread : List ℕ → LineFault → Type 0
+IsUnread line Memory = ⊤
+IsUnread line OpenQuote = is_closed line ≡ false
+IsUnread line NoText = ⊥
+
+-- why a line is not read
+abbrev pub IsLineFault : List ℕ → LineFault → Type 0
+IsLineFault line Memory = ⊤
+IsLineFault line OpenQuote = is_closed line ≡ false
+IsLineFault line NoText = HasNoText line

@@ -1,0 +1,14 @@
+//! A kernel's command line: its words as the kernel reads them, those that lay ramoops' memory out, and where they say
+//! that the memory lies.
+#![tactic(auto)]
+
+pub mod laws;
+mod layout;
+mod line;
+mod region;
+mod words;
+
+pub use layout::add_layout_words;
+pub use line::KernelLine;
+pub use region::long_digits;
+pub use words::LineFault;

@@ -1,0 +1,13 @@
+-- Stores that were made into a region, each with the number of its span
+use Rattle.std.specs.Prelude.{ℕ, List, map}
+use Rattle.zone_spec.specs.Stores.{Store}
+
+-- one store: the number of its span, its place there, and the values that it put
+pub record Write (T : Type 0) : Type 0 where
+  pub span : ℕ
+  pub place : ℕ
+  pub values : List T
+
+-- these stores in the i-th span
+abbrev pub in_span : ℕ → List Store → List (Write ℕ)
+in_span i stores = map (λ (s : Store). record { span = i; place = s.place; values = s.bytes }) stores

@@ -1,8 +1,0 @@
--- The words compute
-use Rattle.std.proofs.Common.{refl}
-use Rattle.report_tool.specs.Cmdline.{words_from, layout_words}
-use Rattle.report_tool.proofs.laws.quotes_go.Goals as goal
-
-pub returns : goal.returns
-unfolding words_from layout_words
-returns c = refl
