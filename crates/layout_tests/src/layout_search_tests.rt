@@ -80,9 +80,10 @@ fn known_words_are_kept(rt: HostRuntime) -> Result<(), Fail> {
 #[test]
 fn two_faults_are_found(rt: HostRuntime) -> Result<(), Fail> {
     let mut image = zones(rt.alloc(), 4, 512, &FRESH_PARITY)?;
-    for at in [100, 200] {
-        image[at] = b'D';
-        image[at + 1] = b'B';
+    for (at, letter) in [(100, b'D'), (101, b'B'), (200, b'D'), (201, b'B')] {
+        if at < image.len() {
+            image[at] = letter;
+        }
     }
     let known = Known {
         ftrace: Some(0),
