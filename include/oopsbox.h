@@ -15,8 +15,16 @@
 #ifndef OOPSBOX_H
 #define OOPSBOX_H
 
+#ifdef __KERNEL__
+#include <linux/types.h>
+#else
 #include <stddef.h>
 #include <stdint.h>
+#endif
+
+#if defined(__SIZEOF_POINTER__) && __SIZEOF_POINTER__ != 8
+#error "the proved code keeps each pointer in a slot of 8 bytes: there is no library for a processor of 32 bits"
+#endif
 
 #ifdef __cplusplus
 extern "C" {
@@ -39,7 +47,8 @@ enum {
 
 /*
  * The most bytes of stack that a call takes, its callees in the library included: each call on the store in place, each
- * of the two calls on a block, and each other call. tools/library-checks measures them on x86-64; no proof says it.
+ * of the two calls on a block, and each other call. tools/library-checks measures them on x86-64 and on 64-bit ARM; no
+ * proof says it.
  */
 #define OOPSBOX_STACK_PLACE 8192
 #define OOPSBOX_STACK_CODES 8192
@@ -184,7 +193,8 @@ struct oopsbox_flight {
 enum { OOPSBOX_WORD = 0, OOPSBOX_LINE = 1, OOPSBOX_PAYLOAD = 2, OOPSBOX_BYTES = 3 };
 
 /* One word, or one run of bytes. It lies at zone[place .. place + len), which is within the zone. A word is one store
-   of four bytes. All else is a store for each byte, at rising places. 152 bytes. */
+   of four bytes; a processor promises that it is one only where the zone begins at a multiple of 4, as place->at tells.
+   All else is a store for each byte, at rising places. 152 bytes. */
 struct oopsbox_store {
 	uint64_t from;      /* LINE, PAYLOAD: the bytes are line[from .. from + len) or payload[from .. from + len) */
 	uint32_t what;      /* OOPSBOX_WORD .. OOPSBOX_BYTES */

@@ -3,6 +3,7 @@
 #define STORE_H
 
 #include <oopsbox.h>
+#include <stdint.h>
 
 /* A number below this bound, by xorshift; the same ones in each run. */
 static inline uint32_t below(uint32_t bound)
@@ -22,13 +23,13 @@ struct zone {
 	struct oopsbox_row table[OOPSBOX_TABLE];
 };
 
-/* A word is one store of four bytes; all else is stored byte by byte. */
+/* A word is one store of four bytes where the zone begins at a multiple of 4; all else is stored byte by byte. */
 static inline void make_store(struct zone *zone, const struct oopsbox_store *store, const uint8_t *line,
 			      const uint8_t *payload)
 {
 	volatile uint8_t *to = zone->bytes + store->place;
 	const uint8_t *from = store->bytes;
-	if (store->what == OOPSBOX_WORD) {
+	if (store->what == OOPSBOX_WORD && (uintptr_t)to % 4 == 0) {
 		__atomic_store_n((uint32_t *)to, store->word, __ATOMIC_RELAXED);
 		return;
 	}

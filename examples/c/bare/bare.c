@@ -1,15 +1,14 @@
 /*
  * A program without an operating system, a C library or an allocator. It writes its console into a ramoops region at a
  * fixed address and resets the machine. After the reset it finds its last words there, and sends them over the serial
- * port. ./run builds it and runs it in QEMU.
+ * port. What depends on the board is in its folder: board.h and start.S. ./run builds it and runs it in QEMU.
  */
 #include <oopsbox.h>
+#include "board.h"
 
-enum { REGION = 0x8000000, SERIAL = 0x3f8, KEYBOARD = 0x64 };
-
-/* mem_size=32768 record_size=4096 console_size=8192 ftrace_size=0 pmsg_size=4096 ecc=1 */
-static const struct oopsbox_params params = {.mem = 32768, .dump = 4096, .console = 8192, .pmsg = 4096, .ecc = 16,
-	.cpus = 1, .block = 128, .ecc_dump = 16, .ecc_console = 16, .ecc_ftrace = 16, .ecc_pmsg = 16};
+/* As Linux calls them: mem_size=32768 record_size=4096 console_size=8192 ftrace_size=0 pmsg_size=4096 ecc=1 */
+static const struct oopsbox_ramoops words = {
+	.mem_size = 32768, .record_size = 4096, .console_size = 8192, .pmsg_size = 4096, .ecc = 1};
 static struct oopsbox_zone_place place;
 static uint8_t *zone;
 
@@ -37,37 +36,28 @@ void *memset(void *to, int byte, size_t count)
 	return to;
 }
 
-static void out(uint16_t port, uint8_t byte)
-{
-	__asm__ volatile("outb %0, %1" : : "a"(byte), "Nd"(port));
-}
-
-static void stop(void)
-{
-	for (;;)
-		__asm__ volatile("cli; hlt");
-}
-
 static void check(uint32_t status)
 {
 	if (status == OOPSBOX_DONE)
 		return;
-	out(SERIAL, '!');
-	stop();
+	board_send('!');
+	board_stop();
 }
 
-/* Makes these stores, with a barrier after each. Where caches do not outlive a reset, flush the line here too. */
+/* Makes these stores, in order: a word is one store, and each byte of a run is one. Each stays before the next is made. */
 static void make_one(const struct oopsbox_store *store, const uint8_t *payload)
 {
 	const uint8_t *from = store->what == OOPSBOX_PAYLOAD ? payload + store->from : store->bytes;
 	volatile uint8_t *to = zone + store->place;
-	if (store->what == OOPSBOX_WORD)
+	if (store->what == OOPSBOX_WORD) {
 		*(volatile uint32_t *)to = store->word;
-	for (uint32_t i = 0; i < store->len && store->what != OOPSBOX_WORD; i++) {
-		to[i] = from[i];
-		__asm__ volatile("sfence");
+		board_keep(to, 4);
+		return;
 	}
-	__asm__ volatile("sfence");
+	for (uint32_t i = 0; i < store->len; i++) {
+		to[i] = from[i];
+		board_keep(to + i, 1);
+	}
 }
 
 static void make(const struct oopsbox_stores *stores, const uint8_t *payload)
@@ -111,27 +101,28 @@ static void send_log(void)
 	for (uint64_t from = 0; got > 0; from += got) {
 		check(oopsbox_zone_log(&place, zone, place.size, NULL, 0, from, piece, sizeof(piece), &got));
 		for (uint64_t i = 0; i < got; i++)
-			out(SERIAL, piece[i]);
+			board_send(piece[i]);
 	}
-	out(SERIAL, '.');
+	board_send('.');
 }
 
 void bare(void)
 {
+	struct oopsbox_params params = oopsbox_params_of(words);
 	struct oopsbox_layout_answer layout;
 	struct oopsbox_zone_answer answer;
 	check(oopsbox_zone_at(&params, OOPSBOX_CONSOLE, 0, &place, &layout));
-	zone = (uint8_t *)(uintptr_t)REGION + place.at;
+	zone = (uint8_t *)(uintptr_t)BOARD_REGION + place.at;
+	board_forget((uint8_t *)(uintptr_t)BOARD_REGION, params.mem);
 	check(oopsbox_zone_read(&place, zone, place.size, NULL, 0, &answer));
 	if (answer.state == OOPSBOX_FOUND) {
 		send_log();
-		stop();
+		board_stop();
 	}
 	boot_zone();
 	say("bare: the console is a ramoops zone\n");
 	say("bare: valve 3 opened\n");
 	say("bare: pressure 9.1 bar, limit 8.0\n");
 	say("bare: giving up, reset\n");
-	out(KEYBOARD, 0xfe);
-	stop();
+	board_reset();
 }
