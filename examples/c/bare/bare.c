@@ -6,9 +6,8 @@
 #include <oopsbox.h>
 #include "board.h"
 
-/* As Linux calls them: mem_size=32768 record_size=4096 console_size=8192 ftrace_size=0 pmsg_size=4096 ecc=1 */
-static const struct oopsbox_ramoops words = {
-	.mem_size = 32768, .record_size = 4096, .console_size = 8192, .pmsg_size = 4096, .ecc = 1};
+/* mem_size=32768 record_size=4096 console_size=8192 ftrace_size=0 pmsg_size=4096 ecc=1 */
+static const struct oopsbox_params params = OOPSBOX_PARAMS(32768, 4096, 8192, 0, 4096, 16);
 static struct oopsbox_zone_place place;
 static uint8_t *zone;
 
@@ -108,7 +107,6 @@ static void send_log(void)
 
 void bare(void)
 {
-	struct oopsbox_params params = oopsbox_params_of(words);
 	struct oopsbox_layout_answer layout;
 	struct oopsbox_zone_answer answer;
 	check(oopsbox_zone_at(&params, OOPSBOX_CONSOLE, 0, &place, &layout));
