@@ -101,7 +101,7 @@ static ssize_t zone_content(struct pstore_record *record, const struct oops_zone
 {
 	record->id = z->place.index;
 	return content(record, z->log + head, z->answer.log - head, z->place.parity, z->corrected,
-		       z->answer.bad);
+		       z->bad);
 }
 
 /* A dump is read where it lies. One without a time line is erased, as ramoops does. */
@@ -167,7 +167,7 @@ static ssize_t read_ftrace(struct pstore_record *record)
 	for (i = 0; i < ftraces; i++) {
 		all += entries(&ftrace[i]);
 		corrected += ftrace[i].log ? ftrace[i].corrected : 0;
-		bad += ftrace[i].log ? ftrace[i].answer.bad : 0;
+		bad += ftrace[i].log ? ftrace[i].bad : 0;
 	}
 	if (!all)
 		return 0;

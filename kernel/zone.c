@@ -185,10 +185,14 @@ int zone_erase(struct oops_zone *z, struct lane *lane)
 	return zone_write(z, lane, OOPSBOX_ERASE, NULL, 0, NULL, 0);
 }
 
-/* Reads the zone, and keeps its log in memory until it is erased or read again. */
+/*
+ * Reads the zone, and keeps its log in memory until it is erased or read again. What was corrected counts once for each
+ * log, as in ramoops: damaged parity stays, and a second reading finds it again.
+ */
 int zone_read(struct oops_zone *z)
 {
 	const struct oopsbox_zone_place *place = &z->place;
+	bool is_known = z->log;
 	u32 status;
 	u64 got = 0;
 
@@ -197,7 +201,11 @@ int zone_read(struct oops_zone *z)
 	status = oopsbox_zone_read(place, z->bytes, place->size, table, rows, &z->answer);
 	if (status != OOPSBOX_DONE)
 		return -EINVAL;
-	z->corrected += z->answer.corrected;
+	if (!z->is_read || (!is_known && z->answer.log)) {
+		z->corrected += z->answer.corrected;
+		z->bad += z->answer.bad;
+	}
+	z->is_read = true;
 	if (z->answer.log == 0)
 		return 0;
 	z->log = vmalloc(z->answer.log);

@@ -27,9 +27,10 @@ struct oops_zone {
 	u8 *bytes;	/* as the calls read them */
 	raw_spinlock_t lock;
 	struct lane *lane;
-	/* What was read, and how many bytes were corrected since the region was mapped. */
+	/* What was read, and how many bytes were corrected, and parts bad, since the region was mapped. */
 	struct oopsbox_zone_answer answer;
-	u32 corrected;
+	u32 corrected, bad;
+	bool is_read;
 	u8 *log;
 };
 
