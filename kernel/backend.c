@@ -334,13 +334,15 @@ static void place_zones(void)
 
 static int find_zones(const struct ramoops_platform_data *data)
 {
-	const struct oopsbox_params params = oopsbox_params_of((struct oopsbox_ramoops){
-		.mem_size = data->mem_size, .record_size = data->record_size,
-		.console_size = data->console_size, .ftrace_size = data->ftrace_size,
-		.pmsg_size = data->pmsg_size, .ecc_size = data->ecc_info.ecc_size,
-		.cpus = is_per_cpu ? nr_cpu_ids : 1, .version = LINUX_VERSION_CODE});
-	int found = find_kind(&params, OOPSBOX_DUMP, data->record_size ? MOST_DUMPS : 0);
+	u64 parity = data->ecc_info.ecc_size;
+	struct oopsbox_params params =
+		OOPSBOX_PARAMS(data->mem_size, data->record_size, data->console_size,
+			       data->ftrace_size, data->pmsg_size, parity);
+	int found;
 
+	params.cpus = is_per_cpu && data->ftrace_size ? nr_cpu_ids : 1;
+	params.ftrace_sig = LINUX_VERSION_CODE;
+	found = find_kind(&params, OOPSBOX_DUMP, data->record_size ? MOST_DUMPS : 0);
 	if (found < 0)
 		return found;
 	dumps = found;
