@@ -1,11 +1,14 @@
 /*
- * What the programs want of the toolchain's C code beside the allocator, which comes for x86-64 alone: their arguments
- * and errno. The contracts stand in the toolchain's os/src/c.rt.
+ * What the programs want of the toolchain's C code beside the allocator, which comes for x86-64 alone: their arguments,
+ * the environment and errno. The contracts stand in the toolchain's os/src/c.rt.
  */
 #include <errno.h>
-#include <stdint.h>
 #include <stddef.h>
+#include <stdint.h>
+#include <stdlib.h>
 #include <sys/types.h>
+
+extern char **environ;
 
 static int count;
 static char **words;
@@ -16,18 +19,38 @@ __attribute__((constructor)) static void keep(int argc, char **argv)
 	words = argv;
 }
 
-/* Copies argument i without its zero: its length, -1 if there is none, -2 if it does not fit. */
-ssize_t rattle_arg(size_t i, uint8_t *to, size_t room)
+/* Copies a text without its zero: its length, -1 if there is none, -2 if it does not fit. */
+static ssize_t copy(const char *text, uint8_t *to, size_t room)
 {
 	size_t length = 0;
-	if (i >= (size_t)count || words[i] == NULL)
+	if (text == NULL)
 		return -1;
-	for (; words[i][length] != 0; length++) {
+	for (; text[length] != 0; length++) {
 		if (length == room)
 			return -2;
-		to[length] = (uint8_t)words[i][length];
+		to[length] = (uint8_t)text[length];
 	}
 	return (ssize_t)length;
+}
+
+ssize_t rattle_arg(size_t i, uint8_t *to, size_t room)
+{
+	return copy(i < (size_t)count ? words[i] : NULL, to, room);
+}
+
+ssize_t rattle_env(const char *name, uint8_t *to, size_t room)
+{
+	return copy(getenv(name), to, room);
+}
+
+ssize_t rattle_env_at(size_t i, uint8_t *to, size_t room)
+{
+	char **entry = environ;
+	while (entry != NULL && *entry != NULL && i > 0) {
+		entry++;
+		i--;
+	}
+	return copy(entry != NULL ? *entry : NULL, to, room);
 }
 
 int rattle_errno(void)
